@@ -1,0 +1,70 @@
+//! What can be wrong with a specification or a script.
+
+/// What a specification has too many of.
+#[derive(Clone, Copy, Debug, PartialEq, Eq)]
+pub enum Counted {
+    Parameters,
+    Events,
+    Handlers,
+    Aliases,
+    Nodes,
+    Nesting,
+    Term,
+    Subformulas,
+    Nonterminals,
+    Productions,
+    Symbols,
+}
+
+/// What is wrong with a specification. A line is that of the first token that offends, counted from 1.
+#[derive(Clone, Copy, Debug, PartialEq, Eq)]
+pub enum SpecFault {
+    TooLong,
+    NotUtf8,
+    OpenText { line: u32 },
+    Syntax { line: u32 },
+    UnsupportedModifier { line: u32 },
+    UnsupportedAdvice { line: u32 },
+    NoProperty,
+    SecondProperty { line: u32 },
+    UnsupportedLogic { line: u32 },
+    DuplicateParameter { line: u32 },
+    DuplicateEvent { line: u32 },
+    DuplicateState { line: u32 },
+    DuplicateTransition { line: u32 },
+    DuplicateHandler { line: u32 },
+    UnknownName { line: u32 },
+    UnknownCategory { line: u32 },
+    NameClash { line: u32 },
+    ReservedName { line: u32 },
+    UnsupportedHandler { line: u32 },
+    TooMany { what: Counted },
+    TooManyStates,
+    DuplicateSpec,
+}
+
+/// Why a specification was not read.
+#[derive(Clone, Copy, Debug, PartialEq, Eq)]
+pub enum SpecError {
+    Bad(SpecFault),
+    NoMemory,
+}
+
+/// What is wrong with a script: the first fault of the first line that has one. Lines are counted from 1.
+#[derive(Clone, Copy, Debug, PartialEq, Eq)]
+pub enum ScriptFault {
+    TooLong,
+    BadLine { line: u32 },
+    UnknownSpec { line: u32 },
+    UnknownEvent { line: u32 },
+    WrongCount { line: u32 },
+    TooManyObjects { line: u32 },
+    TooManyLines { line: u32 },
+}
+
+/// Why a script was not read.
+#[derive(Clone, Copy, Debug, PartialEq, Eq)]
+pub enum ScriptError {
+    Bad(ScriptFault),
+    NoMemory,
+}
