@@ -4,7 +4,13 @@
 #![tactic(auto)]
 
 mod folder;
+mod host;
+mod memory_folder;
+mod memory_sink;
 mod sink;
 
 pub use folder::{Folder, LoadFault};
-pub use sink::{PutFault, Sink};
+pub use host::{HostFault, HostFolder, HostSink};
+pub use memory_folder::{MemoryFolder, SureFolder};
+pub use memory_sink::{MemorySink, SureSink};
+pub use sink::{PutFault, Sink, put_all};

@@ -1,6 +1,6 @@
-ghost use Rattle.std.specs.Prelude.{ℕ, ◌≡◌, ◌<◌, ◌≤◌, List, Option, length, take, IfOk, OnErr};
+ghost use Rattle.std.specs.Prelude.{ℕ, ◌≡◌, ◌<◌, ◌≤◌, List, Option, length, take, IfOk, OnOk, OnErr};
 ghost use Rattle.jm_port.specs.Faults.{HasRisen};
-ghost use Rattle.jm_port.specs.Sinks.{appended};
+ghost use Rattle.jm_port.specs.Sinks.{appended, AppendsPrefix};
 
 /// Why text was not written.
 #[derive(Clone, Copy, Debug, PartialEq, Eq)]
@@ -29,4 +29,19 @@ pub trait Sink {
         ensures err { OnErr result (written self.new ≡ written self.old) }
         ensures failed { result ≡ Err PutFault.Failed → HasRisen (faults self.old) (faults self.new) }
         ensures never_falls { faults self.old ≤ faults self.new };
+}
+
+/// Writes the whole text: a `put` for what is left, until nothing is. Each writes at least one byte, so there are
+/// at most as many puts as bytes. After an `Err`, which is that of the last `put`, a prefix of the text was written.
+pub fn put_all<S: Sink>(out: &mut S, text: &[u8]) -> Result<(), PutFault>
+    ensures ok { OnOk result (S.written out.new ≡ appended (S.written out.old) text.now) }
+    ensures err { OnErr result (AppendsPrefix (S.written out.old) (S.written out.new) text.now) }
+    ensures failed { result ≡ Err PutFault.Failed → HasRisen (S.faults out.old) (S.faults out.new) }
+    ensures never_falls { S.faults out.old ≤ S.faults out.new }
+{
+    let mut done = 0;
+    while done < text.len() {
+        done += out.put(&text[done..])?;
+    }
+    Ok(())
 }
