@@ -1,4 +1,4 @@
-use Rattle.std.proofs.Common.{arith, ◌∙◌, sym}
+use Rattle.std.proofs.Common.{arith, ◌∙◌}
 use Rattle.std.proofs.lemmas.Result.{err_from_is_err_and}
 use Rattle.jm_port.proofs.SinkLemmas.{appended-take, appends_prefix}
 use Rattle.jm_port.proofs.sink.put_all.Goals as goal
@@ -12,5 +12,5 @@ pub loop-done-preserved : goal.loop-done-preserved
 loop-done-preserved g c = record {
   within = omega (arith, c.in_ok-done.ensures.within);
   written = appended-take _ _ _ _ _ _ c.loop-done.invariant.written c.in_ok-done.ensures.ok;
-  counted = omega (arith, c.loop-done.invariant.counted, c.put.ensures.never_falls)
+  counted = omega (arith, c.loop-done.invariant.counted, c.put.ensures.never_falls);
 }

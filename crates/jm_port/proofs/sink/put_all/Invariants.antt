@@ -9,5 +9,5 @@ abbrev pub invariant-loop-done : goal.invariant-loop-done
 invariant-loop-done g l = record {
   within : l.done ≤ length l.text;
   written : g.S.Sink.written l.out ≡ appended (g.S.Sink.written l.initial.out) (take l.done l.text);
-  counted : g.S.Sink.faults l.initial.out ≤ g.S.Sink.faults l.out
+  counted : g.S.Sink.faults l.initial.out ≤ g.S.Sink.faults l.out;
 }
