@@ -1,0 +1,166 @@
+//! Folders whose files are in memory.
+ghost use Rattle.std.specs.Prelude.{ℕ, ◌≡◌, ◌<◌, ◌≤◌, ◌↔◌, ◌⊎◌, ◌≢◌, List, [], true, false, length, Contains, IfOk, IfSome, IsNone, IsErrOf, unwrap_or, option_copied, Some};
+ghost use Rattle.jm_port.specs.Faults.{HasRisen};
+ghost use Rattle.jm_port.specs.Files.{held_by, after_load};
+
+use crate::folder::{Folder, LoadFault};
+use std::alloc::Global;
+use std::marker::Model;
+
+/// Files in memory by their names, seen as a list. The first of a name counts.
+#[derive(Drop)]
+struct Files {
+    list: Vec<(String, Vec<u8>)>,
+}
+
+impl Model for Files {
+    ghost use Rattle.std.specs.Prelude.{List, map, string_bytes};
+    ghost use Rattle.jm_port.specs.Files.{MemoryFile};
+
+    ghost Value = { List MemoryFile };
+
+    ghost view = { λ f. map (λ file. record { name = string_bytes file.0; bytes = file.1.items }) f.list.items };
+}
+
+impl Files {
+    /// The bytes of the first file of a name.
+    fn held(&self, name: &str) -> Option<&[u8]>
+        ensures { option_copied result ≡ held_by self.now name.now }
+    {
+        for file in &self.list {
+            if file.0.as_str() == name {
+                return Some(file.1.as_slice());
+            }
+        }
+        None
+    }
+
+    fn allocator(&self) -> Global {
+        *self.list.allocator()
+    }
+}
+
+/// A copy of the bytes, unless there are more of them than `limit`.
+fn copy_within(alloc: Global, bytes: &[u8], limit: usize) -> Result<Vec<u8>, LoadFault>
+    ensures ok { IfOk result (λ copy. copy.items ≡ bytes.now) }
+    ensures within { IfOk result (λ _. length bytes.now ≤ limit) }
+    ensures too_long { IsErrOf result LoadFault.TooLong ↔ (limit < length bytes.now) }
+    ensures never_fails { result ≢ Err LoadFault.Failed }
+{
+    if bytes.len() > limit {
+        return Err(LoadFault::TooLong);
+    }
+    match bytes.to_vec(alloc) {
+        Ok(copy) => Ok(copy),
+        Err(_) => Err(LoadFault::NoMemory),
+    }
+}
+
+/// Files in memory, some of whose loads fail, so that a caller's failures can be tried.
+#[derive(Drop)]
+pub struct MemoryFolder {
+    files: Files,
+    fail: Vec<u64>,
+    calls: u64,
+    faults: u64,
+}
+
+impl Model for MemoryFolder {
+    ghost use Rattle.jm_port.specs.Files.{MemoryFiles};
+
+    ghost Value = { MemoryFiles };
+
+    ghost view = { λ f. record { files = f.files; fail = f.fail.items; calls = f.calls; faults = f.faults } };
+}
+
+impl MemoryFolder {
+    ghost use Rattle.std.specs.Prelude.{map, string_bytes};
+
+    /// A folder of these files, whose loads fail where their numbers, counted from 0, stand in `fail`. Of two files
+    /// of one name the first counts. A load of a name that isn't there fails, too.
+    pub fn new(files: Vec<(String, Vec<u8>)>, fail: Vec<u64>) -> MemoryFolder
+        ensures files { result.files ≡ map (λ file. record { name = string_bytes file.0; bytes = file.1.items }) files.items }
+        ensures fail { result.fail ≡ fail.items }
+        ensures calls { result.calls ≡ 0 }
+        ensures faults { result.faults ≡ 0 }
+    {
+        MemoryFolder {
+            files: Files { list: files },
+            fail,
+            calls: 0,
+            faults: 0,
+        }
+    }
+}
+
+impl Folder for MemoryFolder {
+    ghost holds = { λ f name. held_by f.files name };
+
+    ghost faults = { λ f. f.faults };
+
+    fn load(&mut self, name: &str, limit: usize) -> Result<Vec<u8>, LoadFault>
+        ensures within { IfOk result (λ bytes. length bytes.items ≤ limit) }
+        ensures whole { IfOk result (λ bytes. IfSome (held_by self.old.files name.now) (λ held. bytes.items ≡ held)) }
+        ensures too_long { result ≡ Err LoadFault.TooLong → IfSome (held_by self.old.files name.now) (λ held. limit < length held) }
+        ensures failed { result ≡ Err LoadFault.Failed → HasRisen self.old.faults self.new.faults }
+        ensures never_falls { self.old.faults ≤ self.new.faults }
+        ensures same { (other : List ℕ) → held_by self.new.files other ≡ held_by self.old.files other }
+
+        ensures fails_where { IsErrOf result LoadFault.Failed
+            ↔ (Contains self.old.fail self.old.calls ⊎ IsNone (held_by self.old.files name.now)) }
+        ensures after_failed { result ≡ Err LoadFault.Failed → self.new ≡ after_load self.old true }
+        ensures after { result ≢ Err LoadFault.Failed → self.new ≡ after_load self.old false }
+    {
+        let call = self.calls;
+        self.calls = call.saturating_add(1);
+        if !self.fail.contains(&call) {
+            if let Some(bytes) = self.files.held(name) {
+                return copy_within(self.files.allocator(), bytes, limit);
+            }
+        }
+        self.faults = self.faults.saturating_add(1);
+        Err(LoadFault::Failed)
+    }
+}
+
+/// Files in memory whose loads never fail: a name that isn't there holds no bytes.
+#[derive(Drop)]
+pub struct SureFolder {
+    files: Files,
+}
+
+impl Model for SureFolder {
+    ghost use Rattle.std.specs.Prelude.{List};
+    ghost use Rattle.jm_port.specs.Files.{MemoryFile};
+
+    ghost Value = { List MemoryFile };
+
+    ghost view = { λ f. f.files };
+}
+
+impl SureFolder {
+    ghost use Rattle.std.specs.Prelude.{map, string_bytes};
+
+    /// A folder of these files. Of two files of one name the first counts.
+    pub fn new(files: Vec<(String, Vec<u8>)>) -> SureFolder
+        ensures { result ≡ map (λ file. record { name = string_bytes file.0; bytes = file.1.items }) files.items }
+    {
+        SureFolder {
+            files: Files { list: files },
+        }
+    }
+}
+
+impl Folder for SureFolder {
+    ghost holds = { λ f name. Some (unwrap_or (held_by f name) []) };
+
+    ghost faults = { λ _. 0 };
+
+    fn load(&mut self, name: &str, limit: usize) -> Result<Vec<u8>, LoadFault> {
+        let alloc = self.files.allocator();
+        match self.files.held(name) {
+            Some(bytes) => copy_within(alloc, bytes, limit),
+            None => Ok(Vec::new(alloc)),
+        }
+    }
+}
