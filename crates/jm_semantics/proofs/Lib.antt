@@ -1,0 +1,10 @@
+pub mod ListLemmas
+pub mod BindingLemmas
+pub mod InstanceLemmas
+pub mod HistoryLemmas
+pub mod MaskLemmas
+pub mod MeaningLemmas
+pub mod LegalityLemmas
+pub mod CutLemmas
+pub mod OrderLemmas
+pub mod ReplyLemmas

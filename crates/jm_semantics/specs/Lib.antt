@@ -1,0 +1,9 @@
+pub mod Traces
+pub mod Instances
+pub mod Histories
+pub mod Answers
+pub mod Disposal
+pub mod Legality
+pub mod Scripts
+pub mod Families
+pub mod Laws
