@@ -17,12 +17,12 @@ use Rattle.jm_semantics.specs.Traces.{ParametricEvent, slice_of}
 use Rattle.jm_semantics.specs.Histories.{accepted_event, trace_of, is_dead, dead_mask, first_dead}
 use Rattle.jm_semantics.specs.Answers.{Fires}
 use Rattle.jm_semantics.specs.Disposal.{IsCut}
-use Rattle.jm_semantics.specs.Legality.{IsReply, IsStepOf, IsLegalAfter, IsLegal, Names}
+use Rattle.jm_semantics.specs.Legality.{IsReply, IsStepOf, IsLegalAfter, Names}
 use Rattle.jm_semantics.specs.Laws.{CutIsFinal}
 use Rattle.jm_semantics.proofs.BindingLemmas.{below-refl}
 use Rattle.jm_semantics.proofs.MaskLemmas.{mask_where-mono, live-apart}
 use Rattle.jm_semantics.proofs.MeaningLemmas.{cut-more_dead, cut-letter, cut-no_hit}
-use Rattle.jm_semantics.proofs.HistoryLemmas.{trace_of-append, trace_of-accepted, trace_of-other, dead-stays, slice_of-above, slice_of-apart}
+use Rattle.jm_semantics.proofs.HistoryLemmas.{trace_of-accepted, trace_of-other, dead-stays, slice_of-above, slice_of-apart}
 use Rattle.jm_semantics.proofs.LegalityLemmas.{IsAccepted, reply-accepted, after-append}
 
 -- ---- an accepted event's letter is available to each instance above it

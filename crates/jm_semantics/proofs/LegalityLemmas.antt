@@ -7,9 +7,9 @@ use Rattle.jm_model.specs.Meanings.{Meaning}
 use Rattle.jm_model.specs.declared.firings.Firing.{Firing}
 use Rattle.jm_model.specs.declared.step.Entry.{Entry}
 use Rattle.jm_model.specs.declared.step.Step.{Step}
-use Rattle.jm_model.specs.declared.step.Step.TheVariants.{Event, Death, Pass}
+use Rattle.jm_model.specs.declared.step.Step.TheVariants.{Event}
 use Rattle.jm_model.specs.declared.step.Outcome.{Outcome}
-use Rattle.jm_model.specs.declared.step.Outcome.TheVariants.{Fired, Refused, Done, Kept, NoMemory}
+use Rattle.jm_model.specs.declared.step.Outcome.TheVariants.{Fired}
 use Rattle.jm_semantics.specs.Traces.{ParametricEvent}
 use Rattle.jm_semantics.specs.Histories.{accepted_event, trace_of, first_dead}
 use Rattle.jm_semantics.specs.Answers.{IsAnswer}

@@ -8,3 +8,12 @@ pub mod LegalityLemmas
 pub mod CutLemmas
 pub mod OrderLemmas
 pub mod ReplyLemmas
+pub mod DecidingLists
+pub mod DecidingAnswers
+pub mod DecidingHistories
+pub mod ExampleLemmas
+pub mod UnsafeIterLemmas
+pub mod ChainLemmas
+pub mod SmallExampleLemmas
+pub mod FamilyLemmas
+pub mod ScriptLemmas

@@ -1,6 +1,6 @@
 -- What the laws use of a hit and a cut, and all that is said here of the inside of a `Meaning`.
 use Rattle.std.proofs.Common.{ℕ, true, false, List, [], ◌∷◌, ◌++◌, refl, subst}
-use Rattle.std.specs.Prelude.{◌≡◌, MatchBool}
+use Rattle.std.specs.Prelude.{MatchBool}
 use Rattle.std.specs.List.{AllByRecursion}
 use Rattle.std.proofs.lemmas.List.{append_assoc}
 use Rattle.jm_model.specs.Meanings.{Meaning, IsHit, IsAvailable, CanHit, IsPropertyCut, IsCutWord}

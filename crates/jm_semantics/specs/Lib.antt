@@ -7,3 +7,8 @@ pub mod Legality
 pub mod Scripts
 pub mod Families
 pub mod Laws
+pub mod ExampleEntries
+pub mod UnsafeIterExamples
+pub mod ChainExamples
+pub mod SmallExamples
+pub mod ScriptExamples

@@ -1,0 +1,22 @@
+use Rattle.std.proofs.Common.{◌≡◌, ℕ, zero, suc, ◌<◌, List, refl, arith, lit<}
+use Rattle.std.specs.Prelude.{Some, map, slice_get, ◌≢◌}
+use Rattle.std.proofs.lemmas.List.Elements.{All-from_recursion}
+use Rattle.jm_model.specs.declared.step.Entry.{Entry}
+use Rattle.jm_model.specs.declared.step.Outcome.TheVariants.{NoMemory}
+use Rattle.jm_semantics.specs.Scripts.{NumberedStep, ScriptLine, projection_of, steps_of, IsInterleaving}
+use Rattle.jm_semantics.specs.ScriptExamples.{scripts, interleaved}
+
+abbrev projections : List (List NumberedStep)
+projections = map (λ (script : List ScriptLine). projection_of script 0) scripts
+
+each-caller : (k : ℕ) → k < 2 → slice_get projections k ≡ Some (steps_of k interleaved)
+each-caller zero h = refl
+each-caller (suc zero) h = refl
+each-caller (suc (suc k)) h = absurd (omega (arith, h))
+
+pub interleaved-lem : IsInterleaving interleaved (map (λ (script : List ScriptLine). projection_of script 0) scripts)
+interleaved-lem = record {
+  callers = All-from_recursion (λ (x : Entry). x.caller < 2) interleaved (lit< tt, (lit< tt, (lit< tt, (lit< tt, tt))));
+  done = All-from_recursion (λ (x : Entry). x.outcome ≢ NoMemory) interleaved ((λ e. cc), ((λ e. cc), ((λ e. cc), ((λ e. cc), tt))));
+  each = each-caller;
+}
