@@ -32,11 +32,13 @@ joins_of-filter p (b ∷ bs) =
       | false ↦ Contains-append_left (joins_of bs) (map (join b) (joins_of bs)) (join_of (filter p bs)) (joins_of-filter p bs)
     ]
 
+-- an instance is the join of some of the seen bindings
 pub instance-among : (trace : List ParametricEvent) (t : Binding) → IsInstance trace t → Contains (joins_of (seen_of trace)) t
 instance-among trace t i =
     subst (Contains (joins_of (seen_of trace))) (sym (instance-join trace t i)) (joins_of-filter (λ b. is_below b t) (seen_of trace))
 
 -- ---- tests of instances
+-- whether t is an instance
 abbrev pub instance_test : List ParametricEvent → Binding → Bool
 instance_test trace t = (length t == 8) && is_below t (join_below trace t)
 
@@ -58,6 +60,7 @@ pub record Tests (m : Meaning) : Type 0 where
   pub holds : (w : List ℕ) (k : ℕ) → test w k ≡ true → m.Holds w k
   pub tested : (w : List ℕ) (k : ℕ) → m.Holds w k → test w k ≡ true
 
+-- whether the list is empty
 abbrev pub is_nil : {X : Type 0} → List X → Bool
 is_nil [] = true
 is_nil (x ∷ xs) = false
@@ -87,6 +90,7 @@ tested-begin creation e (inl none) = rw none
 tested-begin creation e (inr some) =
     or_right (is_nil creation) (list_any (λ c. c == e) creation) (list_any-at (λ c. c == e) creation e some (eq-eqb e e refl))
 
+-- whether handler k is hit
 abbrev pub hit_test : (m : Meaning) → Tests m → List ℕ → ℕ → Bool
 hit_test m d [] k = false
 hit_test m d (e ∷ w) k = may_begin m.creation e && (ltb k m.handlers && d.test (e ∷ w) k)
@@ -134,9 +138,11 @@ tested-fires m d trace a f h =
     (and_from full hit (eq-eqb (bit_and m.must_bind (mask_of f.instance)) m.must_bind h.full) (tested-hit m d (slice_of trace f.instance) f.handler h.hit)))
 
 -- ---- equal bindings and firings
+-- whether two bindings lie below each other
 abbrev pub same_binding : Binding → Binding → Bool
 same_binding b t = is_below b t && is_below t b
 
+-- whether two firings are the same
 abbrev pub same_firing : Firing → Firing → Bool
 same_firing f g = same_binding f.instance g.instance && (f.handler == g.handler)
 
@@ -150,10 +156,12 @@ firing-same f g h =
     let handler = eqb-true f.handler g.handler hs.1 in
     λ i. record { instance = instance i; handler = handler i }
 
--- ---- the answer by computation: each listed pair fires, and each pair that fires is listed
+-- ---- tests of answers
+-- whether each listed pair fires
 abbrev pub all_fire : (m : Meaning) → Tests m → List ParametricEvent → ParametricEvent → List Firing → Bool
 all_fire m d trace a firings = list_all (fires_test m d (trace ++ a ∷ []) a) firings
 
+-- whether each pair that fires is listed
 abbrev pub all_listed : (m : Meaning) → Tests m → List ParametricEvent → ParametricEvent → List Firing → Bool
 all_listed m d trace a firings =
     list_all (λ t. list_all (λ k.

@@ -30,9 +30,11 @@ pub record CutTests (m : Meaning) : Type 0 where
   pub cut : (w : List ℕ) (dead : ℕ) → alive w dead ≡ false → IsCutWord m w dead
   pub uncut : (w : List ℕ) (dead : ℕ) → alive w dead ≡ true → IsCutWord m w dead → ⊥
 
+-- whether t is an instance that isn't cut
 abbrev pub kept_test : (m : Meaning) → CutTests m → List Entry → Binding → Bool
 kept_test m d h t = instance_test (trace_of h) t && d.alive (slice_of (trace_of h) t) (dead_mask h t)
 
+-- the number of the instances that aren't cut
 pub kept-tested : (m : Meaning) (d : CutTests m) (h : List Entry) (kept : List Binding) → IsStrictlySortedBy binding_cmp kept
     → list_all (kept_test m d h) kept ≡ true
     → list_all (λ t. not (kept_test m d h t) || list_any (λ b. same_binding b t) kept) (joins_of (seen_of (trace_of h))) ≡ true
@@ -61,6 +63,7 @@ abbrev pub with_binding : Binding → List Binding → List Binding
 with_binding t [] = t ∷ []
 with_binding t (b ∷ bs) = cond (is_lt (binding_cmp t b)) (t ∷ b ∷ bs) (cond (same_binding t b) (b ∷ bs) (b ∷ with_binding t bs))
 
+-- the bindings in order, each once
 abbrev pub in_order : List Binding → List Binding
 in_order [] = []
 in_order (t ∷ ts) = with_binding t (in_order ts)
@@ -70,37 +73,43 @@ abbrev pub kept_of : (m : Meaning) → CutTests m → List Entry → List Bindin
 kept_of m c h = in_order (filter (kept_test m c h) (joins_of (seen_of (trace_of h))))
 
 module _ (m : Meaning) (d : Tests m) where
-  abbrev pub event_test : List Entry → ℕ → Binding → List Firing → Bool
-  event_test h e b firings =
-      (ltb e m.letters && ((length b == 8) && (mask_of b == m.params e))) && (is_none (first_dead h b)
-      && (sorted_test firing_cmp firings
-      && (all_fire m d (trace_of h) (record { letter = e; binding = b }) firings && all_listed m d (trace_of h) (record { letter = e; binding = b }) firings)))
+  -- whether the letter is one of the specification and the binding has its parameters
+  abbrev pub event_fits : ℕ → Binding → Bool
+  event_fits e b = ltb e m.letters && ((length b == 8) && (mask_of b == m.params e))
 
+  -- whether the event is answered so
+  abbrev pub answer_test : List Entry → ParametricEvent → List Firing → Bool
+  answer_test h a firings =
+      is_none (first_dead h a.binding)
+      && (sorted_test firing_cmp firings && (all_fire m d (trace_of h) a firings && all_listed m d (trace_of h) a firings))
+
+  -- whether the option has this number
   abbrev pub gives : Option ℕ → ℕ → Bool
   gives None o = false
   gives (Some q) o = q == o
 
-  abbrev pub refusal_test : List Entry → ℕ → Binding → ℕ → Bool
-  refusal_test h e b o = (ltb e m.letters && ((length b == 8) && (mask_of b == m.params e))) && gives (first_dead h b) o
-
+  -- whether a pass counts so many
   abbrev pub pass_test : CutTests m → List Entry → ℕ → Bool
   pass_test c h n =
       (n == length (kept_of m c h) % 2 ^ 64) && (sorted_test binding_cmp (kept_of m c h)
       && (list_all (kept_test m c h) (kept_of m c h)
       && list_all (λ t. not (kept_test m c h t) || list_any (λ b. same_binding b t) (kept_of m c h)) (joins_of (seen_of (trace_of h)))))
 
+  -- the same, where the test of the cut may be left out if there is no pass
   abbrev pub pass_if : Option (CutTests m) → List Entry → ℕ → Bool
   pass_if None h n = false
   pass_if (Some c) h n = pass_test c h n
 
+  -- whether a step is one of the specification, and this its reply
   abbrev pub entry_test : Option (CutTests m) → List Entry → Step → Outcome → Bool
-  entry_test c h (Event e b) (Fired firings) = event_test h e.0 b firings
-  entry_test c h (Event e b) (Refused o) = refusal_test h e.0 b o
+  entry_test c h (Event e b) (Fired firings) = event_fits e.0 b && answer_test h (record { letter = e.0; binding = b }) firings
+  entry_test c h (Event e b) (Refused o) = event_fits e.0 b && gives (first_dead h b) o
   entry_test c h (Death o) Done = not (is_dead h o)
   entry_test c h (Death o) (Refused q) = is_dead h o && (q == o)
   entry_test c h Pass (Kept n) = pass_if c h n
   entry_test _ h _ _ = false
 
+  -- whether the entries may follow the history
   abbrev pub legal_test : Option (CutTests m) → List Entry → List Entry → Bool
   legal_test c h [] = true
   legal_test c h (x ∷ g) = entry_test c h x.step x.outcome && legal_test c (h ++ x ∷ []) g
@@ -109,39 +118,26 @@ module _ (m : Meaning) (d : Tests m) where
   none-tested None h = refl
   none-tested (Some q) h = absurd (false≢true h)
 
-  event-tested : (h : List Entry) (e : Letter) (b : Binding) (firings : List Firing) → event_test h e.0 b firings ≡ true → IsStepOf m (Event e b) × IsReply m h (Event e b) (Fired firings)
-  event-tested h e b firings t =
+  event-fits : (e : Letter) (b : Binding) → event_fits e.0 b ≡ true → IsStepOf m (Event e b)
+  event-fits e b t =
+      let one = and_parts (ltb e.0 m.letters) ((length b == 8) && (mask_of b == m.params e.0)) t in
+      let two = and_parts (length b == 8) (mask_of b == m.params e.0) one.1 in
+      (ltb-true e.0 m.letters one.0, eqb-true (length b) 8 two.0, eqb-true (mask_of b) (m.params e.0) two.1)
+
+  event-answered : (h : List Entry) (e : Letter) (b : Binding) (firings : List Firing) → answer_test h (record { letter = e.0; binding = b }) firings ≡ true → IsReply m h (Event e b) (Fired firings)
+  event-answered h e b firings t =
       let a : ParametricEvent = record { letter = e.0; binding = b } in
       let fire = all_fire m d (trace_of h) a firings in
       let listed = all_listed m d (trace_of h) a firings in
       let order = sorted_test firing_cmp firings in
-      let live = is_none (first_dead h b) in
-      let small = ltb e.0 m.letters in
-      let mask = mask_of b == m.params e.0 in
-      let eight = length b == 8 in
-      let one = and_parts (small && (eight && mask)) (live && (order && (fire && listed))) t in
-      let two = and_parts small (eight && mask) one.0 in
-      let shape = and_parts eight mask two.1 in
-      let three = and_parts live (order && (fire && listed)) one.1 in
-      let four = and_parts order (fire && listed) three.1 in
-      let five = and_parts fire listed four.1 in (
-        (ltb-true e.0 m.letters two.0, eqb-true (length b) 8 shape.0, eqb-true (mask_of b) (m.params e.0) shape.1),
-        (none-tested (first_dead h b) three.0, answer-tested m d (trace_of h) a firings (sorted-tested firing_cmp firings four.0) five.0 five.1),
-      )
+      let one = and_parts (is_none (first_dead h b)) (order && (fire && listed)) t in
+      let two = and_parts order (fire && listed) one.1 in
+      let three = and_parts fire listed two.1 in
+      (none-tested (first_dead h b) one.0, answer-tested m d (trace_of h) a firings (sorted-tested firing_cmp firings two.0) three.0 three.1)
 
   gives-tested : (x : Option ℕ) (o : ℕ) → gives x o ≡ true → x ≡ Some o
   gives-tested None o h = absurd (false≢true h)
   gives-tested (Some q) o h = ap Some (eqb-true q o h)
-
-  refusal-tested : (h : List Entry) (e : Letter) (b : Binding) (o : ℕ) → refusal_test h e.0 b o ≡ true → IsStepOf m (Event e b) × IsReply m h (Event e b) (Refused o)
-  refusal-tested h e b o t =
-      let small = ltb e.0 m.letters in
-      let mask = mask_of b == m.params e.0 in
-      let eight = length b == 8 in
-      let one = and_parts (small && (eight && mask)) (gives (first_dead h b) o) t in
-      let two = and_parts small (eight && mask) one.0 in
-      let shape = and_parts eight mask two.1 in
-      ((ltb-true e.0 m.letters two.0, eqb-true (length b) 8 shape.0, eqb-true (mask_of b) (m.params e.0) shape.1), gives-tested (first_dead h b) o one.1)
 
   pass-tested : (c : CutTests m) (h : List Entry) (n : ℕ) → pass_test c h n ≡ true → IsStepOf m Pass × IsReply m h Pass (Kept n)
   pass-tested c h n t =
@@ -156,11 +152,15 @@ module _ (m : Meaning) (d : Tests m) where
       (tt, (length kept, kept-tested m c h kept (sorted-tested binding_cmp kept two.0) three.0 three.1, eqb-true n (length kept % 2 ^ 64) one.0))
 
   entry-tested : (c : Option (CutTests m)) (h : List Entry) (s : Step) (o : Outcome) → entry_test c h s o ≡ true → IsStepOf m s × IsReply m h s o
-  entry-tested c h (Event e b) (Fired firings) t = event-tested h e b firings t
+  entry-tested c h (Event e b) (Fired firings) t =
+      let ts = and_parts (event_fits e.0 b) (answer_test h (record { letter = e.0; binding = b }) firings) t in
+      (event-fits e b ts.0, event-answered h e b firings ts.1)
   entry-tested c h (Death q) Done t = (tt, not-true (is_dead h q) t)
   entry-tested c h (Death q) (Refused o) t = let ts = and_parts (is_dead h q) (o == q) t in (tt, (ts.0, eqb-true o q ts.1))
   entry-tested (Some c) h Pass (Kept n) t = pass-tested c h n t
-  entry-tested c h (Event e b) (Refused o) t = refusal-tested h e b o t
+  entry-tested c h (Event e b) (Refused o) t =
+      let ts = and_parts (event_fits e.0 b) (gives (first_dead h b) o) t in
+      (event-fits e b ts.0, gives-tested (first_dead h b) o ts.1)
   entry-tested None h Pass (Kept n) t = absurd (false≢true t)
   entry-tested _ h (Event e b) Done t = absurd (false≢true t)
   entry-tested _ h (Event e b) (Kept n) t = absurd (false≢true t)

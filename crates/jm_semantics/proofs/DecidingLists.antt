@@ -1,3 +1,4 @@
+-- Facts of lists by tests that compute.
 use Rattle.std.proofs.Common.{◌≡◌, ℕ, zero, suc, ◌<◌, Bool, true, false, inl, inr, List, [], ◌∷◌, refl, sym, ◌∙◌, ap, subst, arith}
 use Rattle.std.specs.Prelude.{Contains, ◌&&◌, ◌||◌, not}
 use Rattle.std.specs.List.{list_any, list_all, AllByRecursion}
@@ -8,7 +9,7 @@ use Rattle.std.specs.List.Sorted.{IsStrictlySortedBy}
 use Rattle.std.proofs.lemmas.Bool.{false≢true, and_parts, or_cases, or_left, or_right, cases_eq}
 use Rattle.jm_semantics.proofs.ListLemmas.{Contains-nil, Contains-head, Contains-cons, Contains-cons_cases}
 
--- Facts of lists by tests that compute.
+-- ---- tests of elements
 module _ {X : Type 0} where
   -- each element passes
   pub list_all-at : (p : X → Bool) (xs : List X) (x : X) → list_all p xs ≡ true → Contains xs x → p x ≡ true
@@ -28,6 +29,7 @@ module _ {X : Type 0} where
         | inr later ↦ let r = list_any-from p xs later in (r.0, Contains-cons y xs r.0 r.1, r.2)
       ]
 
+  -- some element that passes is there
   pub list_any-at : (p : X → Bool) (xs : List X) (x : X) → Contains xs x → p x ≡ true → list_any p xs ≡ true
   list_any-at p [] x h e = absurd (Contains-nil x h)
   list_any-at p (y ∷ xs) x h e =
@@ -37,9 +39,11 @@ module _ {X : Type 0} where
       ]
 
 -- ---- membership
+-- an element is there where the test finds one that is the same
 pub member-tested : {X : Type 0} (same : X → X → Bool) → ((x y : X) → same x y ≡ true → x ≡ y) → (xs : List X) (x : X) → list_any (λ y. same y x) xs ≡ true → Contains xs x
 member-tested same is xs x h = let r = list_any-from (λ y. same y x) xs h in subst (Contains xs) (is r.0 x r.2) r.1
 
+-- an implication that is written as a test
 pub implied : (a b : Bool) → (not a || b) ≡ true → a ≡ true → b ≡ true
 implied true b h e = h
 implied false b h e = absurd (false≢true e)
@@ -50,6 +54,7 @@ abbrev pub sorted_test : {K : Type 0} → (K → K → Ordering) → List K → 
 sorted_test R [] = true
 sorted_test R (x ∷ xs) = list_all (λ y. is_lt (R x y)) xs && sorted_test R xs
 
+-- a strictly increasing list
 lt-Less : (r : Ordering) → is_lt r ≡ true → r ≡ Less
 lt-Less Less h = refl
 lt-Less Equal h = absurd (false≢true h)

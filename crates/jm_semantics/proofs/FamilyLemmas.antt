@@ -60,7 +60,7 @@ update_family-lem = record {
           handler = 0;
           letters = (lit< tt, tt);
           hit = ((λ e. cc), inl refl, lit< tt, refl);
-          is = sym two;
+          params = sym two;
         },
       )
       | inr more ↦ elim (Contains-cons_cases 3 [] mask more) [
@@ -73,7 +73,7 @@ update_family-lem = record {
             handler = 0;
             letters = (lit< tt, (lit< tt, tt));
             hit = ((λ e. cc), inl refl, lit< tt, refl);
-            is = sym three;
+            params = sym three;
           },
         )
         | inr none ↦ absurd (Contains-nil mask none)
@@ -85,8 +85,8 @@ update_family-lem = record {
         iter-rest n.0 (need.next ∷ need.rest)
         (ap is_unsafe_use (sym (append_assoc n.0 (1 ∷ []) (need.next ∷ need.rest))) ∙ need.hit.3) in
         elim (update-params (need.next ∷ need.rest) rest) [
-          | inl two ↦ subst (Contains (2 ∷ 3 ∷ [])) (sym (need.is ∙ two)) (Contains-head 2 (3 ∷ []))
-          | inr three ↦ subst (Contains (2 ∷ 3 ∷ [])) (sym (need.is ∙ three)) (Contains-cons 2 (3 ∷ []) 3 (Contains-head 3 []))
+          | inl two ↦ subst (Contains (2 ∷ 3 ∷ [])) (sym (need.params ∙ two)) (Contains-head 2 (3 ∷ []))
+          | inr three ↦ subst (Contains (2 ∷ 3 ∷ [])) (sym (need.params ∙ three)) (Contains-cons 2 (3 ∷ []) 3 (Contains-head 3 []))
         ]),
   );
 }

@@ -52,6 +52,15 @@ join-instance trace t l e = record {
 pub instances_are_joins-lem : InstancesAreJoins
 instances_are_joins-lem trace t = ((λ i. (i.eight, instance-join trace t i)), λ is. join-instance trace t is.0 is.1)
 
+-- an instance below t that covers the seen bindings below t is their join
+pub covering-join_below : (trace : List ParametricEvent) (s t : Binding) → IsInstance trace s → length t ≡ 8 → is_below s t ≡ true
+    → ((b : Binding) → Contains (seen_of trace) b → is_below b t ≡ true → is_below b s ≡ true) → s ≡ join_below trace t
+covering-join_below trace s t i l below covers =
+    below-antisym s (join_below trace t) (instance-below_join trace s t i l below)
+    (join_of-below (seen_below trace t) s i.eight (λ b h.
+    let from = Contains-from_filter (λ c. is_below c t) (seen_of trace) b h in
+    covers b from.0 from.1))
+
 -- the empty binding is always an instance
 pub empty-instance : (trace : List ParametricEvent) → IsInstance trace empty
 empty-instance trace = record { eight = refl; given = λ p o at. absurd (unbound-gives 8 p o at) }
@@ -84,6 +93,13 @@ module _ (trace : List ParametricEvent) (t : Binding) (l : length t ≡ 8) where
 
 pub slice_of_any_binding-lem : SliceOfAnyBinding
 slice_of_any_binding-lem trace t l = (join_below-instance trace t l, slice-join_below trace t l)
+
+-- the largest instance below t is the join of the seen bindings below t
+pub largest-join_below : (trace : List ParametricEvent) (s t : Binding) → IsInstance trace s → length t ≡ 8 → is_below s t ≡ true
+    → ((r : Binding) → IsInstance trace r → is_below r t ≡ true → is_below r s ≡ true) → s ≡ join_below trace t
+largest-join_below trace s t i l below largest =
+    below-antisym s (join_below trace t) (instance-below_join trace s t i l below)
+    (largest (join_below trace t) (join_below-instance trace t l) (join_below-below trace t l))
 
 -- ---- the instances after one event more
 -- an instance stays one

@@ -2,11 +2,12 @@ use Rattle.std.proofs.Common.{◌≡◌, ℕ, zero, suc, ◌<◌, List, refl, ar
 use Rattle.std.specs.Prelude.{Some, map, slice_get, ◌≢◌}
 use Rattle.std.proofs.lemmas.List.Elements.{All-from_recursion}
 use Rattle.jm_model.specs.declared.step.Entry.{Entry}
+use Rattle.jm_model.specs.declared.step.Step.{Step}
 use Rattle.jm_model.specs.declared.step.Outcome.TheVariants.{NoMemory}
-use Rattle.jm_semantics.specs.Scripts.{NumberedStep, ScriptLine, projection_of, steps_of, IsInterleaving}
+use Rattle.jm_semantics.specs.Scripts.{ScriptLine, projection_of, steps_of, IsInterleaving}
 use Rattle.jm_semantics.specs.ScriptExamples.{scripts, interleaved}
 
-abbrev projections : List (List NumberedStep)
+abbrev projections : List (List (ℕ × Step))
 projections = map (λ (script : List ScriptLine). projection_of script 0) scripts
 
 each-caller : (k : ℕ) → k < 2 → slice_get projections k ≡ Some (steps_of k interleaved)

@@ -8,11 +8,11 @@ use Rattle.jm_semantics.specs.UnsafeIterExamples.{both, create, update, next}
 -- two scripts over UnsafeIter, which is specification 0, with a line for another specification and a death
 abbrev pub scripts : List (List ScriptLine)
 scripts =
-    (record { number = 1; spec = Some 0; step = event_of 0 (both 0 1) } ∷
-    record { number = 2; spec = Some 1; step = Pass } ∷
-    record { number = 3; spec = Some 0; step = event_of 1 (binding (Some 0) None None) } ∷ []) ∷
-    (record { number = 1; spec = Some 0; step = event_of 2 (binding None (Some 1) None) } ∷
-    record { number = 2; spec = None; step = Death 1 } ∷ []) ∷ []
+    (record { line = 1; spec = Some 0; step = event_of 0 (both 0 1) } ∷
+    record { line = 2; spec = Some 1; step = Pass } ∷
+    record { line = 3; spec = Some 0; step = event_of 1 (binding (Some 0) None None) } ∷ []) ∷
+    (record { line = 1; spec = Some 0; step = event_of 2 (binding None (Some 1) None) } ∷
+    record { line = 2; spec = None; step = Death 1 } ∷ []) ∷ []
 
 -- the same entry, of another caller
 abbrev pub of_caller : ℕ → Entry → Entry
