@@ -1,10 +1,9 @@
-use Rattle.std.proofs.Common.{◌≡◌, ℕ, zero, suc, ◌<◌, Bool, true, false, cond, ◌⊎◌, inl, inr, List, [], ◌∷◌, ◌++◌, refl, sym, ◌∙◌, ap, subst}
-use Rattle.std.specs.Prelude.{All, Option, Some, None, find, filter_map, bit_and}
+use Rattle.std.proofs.Common.{◌≡◌, ℕ, ◌<◌, true, ◌⊎◌, inl, inr, List, [], ◌∷◌, ◌++◌, refl, sym, ◌∙◌, ap, subst}
+use Rattle.std.specs.Prelude.{All, Option, Some, None, bit_and}
 use Rattle.std.proofs.lemmas.Bool.{cases_Bool}
-use Rattle.std.proofs.lemmas.Option.{none-some, same_Some}
 use Rattle.std.proofs.lemmas.List.{append-nil, append_assoc}
 use Rattle.std.proofs.lemmas.List.Elements.{All-nil, All-cons}
-use Rattle.jm_model.specs.Bindings.{is_below, object_at, mask_of}
+use Rattle.jm_model.specs.Bindings.{is_below, mask_of}
 use Rattle.jm_model.specs.Meanings.{Meaning, IsHit, IsAvailable, IsCutWord}
 use Rattle.jm_model.specs.declared.binding.Binding.{Binding}
 use Rattle.jm_model.specs.declared.firings.Firing.{Firing}
@@ -22,30 +21,10 @@ use Rattle.jm_semantics.specs.Laws.{CutIsFinal}
 use Rattle.jm_semantics.proofs.BindingLemmas.{below-refl}
 use Rattle.jm_semantics.proofs.MaskLemmas.{mask_where-mono, live-apart}
 use Rattle.jm_semantics.proofs.MeaningLemmas.{cut-more_dead, cut-letter, cut-no_hit}
-use Rattle.jm_semantics.proofs.HistoryLemmas.{trace_of-accepted, trace_of-other, dead-stays, slice_of-above, slice_of-apart}
+use Rattle.jm_semantics.proofs.HistoryLemmas.{trace_of-accepted, trace_of-other, dead-stays, live-object, slice_of-above, slice_of-apart}
 use Rattle.jm_semantics.proofs.LegalityLemmas.{IsAccepted, reply-accepted, after-append}
 
 -- ---- an accepted event's letter is available to each instance above it
-live_first : (test : ℕ → Bool) (q : ℕ) (rest : Option ℕ) → cond (test q) (Some q) rest ≡ None → (test q ≡ false) × (rest ≡ None)
-live_first test q rest n =
-    elim (test q) as (λ v. cond v (Some q) rest ≡ None → (v ≡ false) × (rest ≡ None)) [
-      | true ↦ λ e. absurd (none-some q (sym e))
-      | false ↦ λ e. (refl, e)
-    ] n
-
--- where no object that b binds passes the test, none that it gives to a parameter does
-find-None : (test : ℕ → Bool) (b : Binding) (p o : ℕ) → find test (filter_map (λ x. x) b) ≡ None → object_at b p ≡ Some o → test o ≡ false
-find-None test [] p o n e = absurd (none-some o e)
-find-None test (None ∷ b) zero o n e = absurd (none-some o e)
-find-None test (None ∷ b) (suc p) o n e = find-None test b p o n e
-find-None test (Some q ∷ b) zero o n e =
-    ap test (sym (same_Some q o e)) ∙ (live_first test q (find test (filter_map (λ x. x) b)) n).0
-find-None test (Some q ∷ b) (suc p) o n e = find-None test b p o (live_first test q (find test (filter_map (λ x. x) b)) n).1 e
-
--- an event that names no dead object binds live ones alone
-pub live-object : (h : List Entry) (b : Binding) (p o : ℕ) → first_dead h b ≡ None → object_at b p ≡ Some o → is_dead h o ≡ false
-live-object h b p o n e = find-None (is_dead h) b p o n e
-
 pub event-available : (m : Meaning) (h : List Entry) (e : ℕ) (b t : Binding) → e < m.letters → mask_of b ≡ m.params e → first_dead h b ≡ None → is_below b t ≡ true → IsAvailable m (dead_mask h t) e
 event-available m h e b t is same live above =
     (is, ap (λ n. bit_and n (dead_mask h t)) (sym same) ∙ live-apart (is_dead h) b t above (λ p o at. live-object h b p o live at))
