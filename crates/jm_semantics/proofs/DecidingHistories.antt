@@ -104,6 +104,7 @@ module _ (m : Meaning) (d : Tests m) where
   abbrev pub entry_test : Option (CutTests m) → List Entry → Step → Outcome → Bool
   entry_test c h (Event e b) (Fired firings) = event_fits e.0 b && answer_test h (record { letter = e.0; binding = b }) firings
   entry_test c h (Event e b) (Refused o) = event_fits e.0 b && gives (first_dead h b) o
+  entry_test c h (Event e b) NoMemory = event_fits e.0 b && is_none (first_dead h b)
   entry_test c h (Death o) Done = not (is_dead h o)
   entry_test c h (Death o) (Refused q) = is_dead h o && (q == o)
   entry_test c h Pass (Kept n) = pass_if c h n
@@ -161,10 +162,12 @@ module _ (m : Meaning) (d : Tests m) where
   entry-tested c h (Event e b) (Refused o) t =
       let ts = and_parts (event_fits e.0 b) (gives (first_dead h b) o) t in
       (event-fits e b ts.0, gives-tested (first_dead h b) o ts.1)
+  entry-tested c h (Event e b) NoMemory t =
+      let ts = and_parts (event_fits e.0 b) (is_none (first_dead h b)) t in
+      (event-fits e b ts.0, none-tested (first_dead h b) ts.1)
   entry-tested None h Pass (Kept n) t = absurd (false≢true t)
   entry-tested _ h (Event e b) Done t = absurd (false≢true t)
   entry-tested _ h (Event e b) (Kept n) t = absurd (false≢true t)
-  entry-tested _ h (Event e b) NoMemory t = absurd (false≢true t)
   entry-tested _ h (Death q) (Fired firings) t = absurd (false≢true t)
   entry-tested _ h (Death q) (Kept n) t = absurd (false≢true t)
   entry-tested _ h (Death q) NoMemory t = absurd (false≢true t)

@@ -4,7 +4,7 @@ use Rattle.std.proofs.lemmas.Bool.{false≢true, true≢false, and_parts, and_fr
 use Rattle.jm_model.specs.Meanings.{CanHit, IsCreated, IsPropertyCut, IsCutWord}
 use Rattle.jm_semantics.specs.Legality.{IsLegal}
 use Rattle.jm_semantics.specs.ExampleEntries.{binding, fires}
-use Rattle.jm_semantics.specs.SmallExamples.{tick_params, is_some_word, tick, full_tick, ticking, both_bound, is_not_ab, not_ab, back_again, quiet, silence, is_blind_after, has_next, created_has_next, blind_next, fires_on, fails_with, safe_lock, failing, any_word, any_word_finely, never_failing, is_ab, is_early_b, two_test, two, two_properties}
+use Rattle.jm_semantics.specs.SmallExamples.{tick_params, is_some_word, tick, full_tick, ticking, both_bound, tick_twice, firing_in_order, is_not_ab, not_ab, back_again, quiet, silence, is_blind_after, has_next, created_has_next, blind_next, fires_on, fails_with, safe_lock, failing, any_word, any_word_finely, never_failing, is_ab, is_early_b, two_test, two, two_properties}
 use Rattle.jm_semantics.proofs.ListLemmas.{Contains-nil, Contains-head, Contains-cons_cases}
 use Rattle.jm_semantics.proofs.DecidingAnswers.{Tests}
 use Rattle.jm_semantics.proofs.DecidingHistories.{CutTests, legal-tested}
@@ -19,6 +19,12 @@ full_tick_tests = record { test = λ w k. is_some_word w; holds = λ w k h. h; t
 
 pub full_ticking-legal : IsLegal full_tick (ticking both_bound)
 full_ticking-legal = legal-tested full_tick full_tick_tests None (ticking both_bound) refl
+
+abbrev tick_twice_tests : Tests tick_twice
+tick_twice_tests = record { test = λ w k. is_some_word w; holds = λ w k h. h; tested = λ w k h. h }
+
+pub firing_in_order-legal : IsLegal tick_twice firing_in_order
+firing_in_order-legal = legal-tested tick_twice tick_twice_tests None firing_in_order refl
 
 pub back_again-legal : IsLegal not_ab back_again
 back_again-legal = legal-tested not_ab (one_handler_tests 2 (λ _. 1) is_not_ab) None back_again refl

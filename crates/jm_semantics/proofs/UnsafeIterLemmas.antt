@@ -1,11 +1,11 @@
-use Rattle.std.proofs.Common.{◌≡◌, ℕ, zero, suc, Bool, true, false, List, [], ◌∷◌, ◌++◌, refl, lit<}
+use Rattle.std.proofs.Common.{◌≡◌, ℕ, zero, suc, Bool, true, false, List, [], ◌∷◌, ◌++◌, refl, arith, lit<}
 use Rattle.std.specs.Prelude.{◌&&◌, None, Some}
 use Rattle.std.proofs.lemmas.Bool.{false≢true, and_parts, and_from}
 use Rattle.jm_model.specs.Meanings.{IsAvailable}
 use Rattle.jm_model.specs.declared.firings.Firing.{Firing}
 use Rattle.jm_semantics.specs.Legality.{IsLegal}
 use Rattle.jm_semantics.specs.ExampleEntries.{pass}
-use Rattle.jm_semantics.specs.UnsafeIterExamples.{unsafe_iter, unsafe_iter_params, is_unsafe_use, after_create, after_update, next, unsafe_use, two_iterators, before_second_use, early_use, before_last_pass, use_after_death, before_cut, cut_by_death, refusals}
+use Rattle.jm_semantics.specs.UnsafeIterExamples.{unsafe_iter, unsafe_iter_params, is_unsafe_use, after_create, after_update, next, unsafe_use, two_iterators, before_second_use, early_use, before_last_pass, use_after_death, before_cut, cut_by_death, refusals, forgotten, misfit}
 use Rattle.jm_semantics.proofs.ReplyLemmas.{outcome_is_pinned-lem}
 use Rattle.jm_semantics.proofs.DecidingAnswers.{Tests}
 use Rattle.jm_semantics.proofs.DecidingHistories.{CutTests, legal-tested}
@@ -145,3 +145,9 @@ cut_by_death-only kept l =
 
 pub refusals-legal : IsLegal unsafe_iter refusals
 refusals-legal = legal-tested unsafe_iter unsafe_iter_tests None refusals refl
+
+pub forgotten-legal : IsLegal unsafe_iter forgotten
+forgotten-legal = legal-tested unsafe_iter unsafe_iter_tests None forgotten refl
+
+pub misfit-not : IsLegal unsafe_iter misfit → ⊥
+misfit-not l = let mask : 3 ≡ 1 = l.0.2 in omega (arith, mask)

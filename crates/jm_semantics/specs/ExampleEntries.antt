@@ -4,7 +4,7 @@ use Rattle.jm_model.specs.declared.binding.Binding.{Binding}
 use Rattle.jm_model.specs.declared.firings.Firing.{Firing}
 use Rattle.jm_model.specs.declared.step.Step.{Step}
 use Rattle.jm_model.specs.declared.step.Step.TheVariants.{Event, Death, Pass}
-use Rattle.jm_model.specs.declared.step.Outcome.TheVariants.{Fired, Refused, Done, Kept}
+use Rattle.jm_model.specs.declared.step.Outcome.TheVariants.{Fired, Refused, Done, Kept, NoMemory}
 use Rattle.jm_model.specs.declared.step.Entry.{Entry}
 
 -- the meaning of a specification without creation letters, with one handler, whose category is decided by a test
@@ -28,7 +28,8 @@ binding x y z = x ∷ y ∷ z ∷ replicate 5 None
 abbrev pub event_of : ℕ → Binding → Step
 event_of e b = Event (record { 0 = e }) b
 
--- entries of caller 0, at a line: an event and its answer, a death, a pass and its number, a step that was refused
+-- entries of caller 0, at a line: an event and its answer, a death, a pass and its number, a step that was refused,
+-- one that met want of memory
 abbrev pub event : ℕ → ℕ → Binding → List Firing → Entry
 event line e b firings = record { caller = 0; line = line; step = event_of e b; outcome = Fired firings }
 
@@ -40,6 +41,9 @@ pass line kept = record { caller = 0; line = line; step = Pass; outcome = Kept k
 
 abbrev pub refused : ℕ → Step → ℕ → Entry
 refused line step o = record { caller = 0; line = line; step = step; outcome = Refused o }
+
+abbrev pub out_of_memory : ℕ → Step → Entry
+out_of_memory line step = record { caller = 0; line = line; step = step; outcome = NoMemory }
 
 -- handler 0 runs for this instance
 abbrev pub fires : Binding → Firing

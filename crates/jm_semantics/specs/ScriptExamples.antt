@@ -21,3 +21,7 @@ of_caller k x = record x { caller = k }
 -- a history of both
 abbrev pub interleaved : List Entry
 interleaved = create 1 0 1 [] ∷ of_caller 1 (next 1 1 []) ∷ update 3 0 [] ∷ of_caller 1 (death 2 1) ∷ []
+
+-- the same but for the order of the first caller's two entries
+abbrev pub swapped : List Entry
+swapped = update 3 0 [] ∷ of_caller 1 (next 1 1 []) ∷ create 1 0 1 [] ∷ of_caller 1 (death 2 1) ∷ []

@@ -1,6 +1,7 @@
 -- Specifications over one parameter, one for each rule that they show.
-use Rattle.std.specs.Prelude.{ℕ, zero, suc, ◌≡◌, Bool, true, false, not, List, [], ◌∷◌, None, Some}
+use Rattle.std.specs.Prelude.{ℕ, zero, suc, ◌≡◌, Bool, true, false, not, List, [], ◌∷◌, ◌++◌, None, Some}
 use Rattle.jm_model.specs.Meanings.{Meaning}
+use Rattle.jm_model.specs.declared.binding.Binding.{Binding}
 use Rattle.jm_model.specs.declared.firings.Firing.{Firing}
 use Rattle.jm_model.specs.declared.step.Entry.{Entry}
 use Rattle.jm_semantics.specs.ExampleEntries.{one_handler, binding, event, death, pass, fires}
@@ -35,6 +36,19 @@ ticking answer = on 1 0 0 (fires_on 0) ∷ on 2 0 1 (fires_on 1) ∷ event 3 1 (
 
 abbrev pub both_bound : List Firing
 both_bound = fires (binding (Some 0) None None) ∷ fires (binding (Some 1) None None) ∷ []
+
+-- the same with a second handler, whose category holds of the same words
+abbrev pub tick_twice : Meaning
+tick_twice = record tick { handlers = 2 }
+
+abbrev pub fires_twice : Binding → List Firing
+fires_twice t = record { instance = t; handler = 0 } ∷ record { instance = t; handler = 1 } ∷ []
+
+-- firings lie in the order of their instances, and then of their handlers
+abbrev pub firing_in_order : List Entry
+firing_in_order =
+    on 1 0 0 (fires_twice (binding (Some 0) None None)) ∷
+    event 2 1 (binding None None None) (fires_twice (binding None None None) ++ fires_twice (binding (Some 0) None None)) ∷ []
 
 -- ---- NotAB: every word but `a b` matches
 abbrev pub is_not_ab : List ℕ → Bool

@@ -6,7 +6,7 @@ use Rattle.jm_model.specs.declared.binding.Binding.{Binding}
 use Rattle.jm_model.specs.declared.firings.Firing.{Firing}
 use Rattle.jm_model.specs.declared.step.Step.TheVariants.{Death}
 use Rattle.jm_model.specs.declared.step.Entry.{Entry}
-use Rattle.jm_semantics.specs.ExampleEntries.{one_handler, binding, event_of, event, death, pass, refused, fires}
+use Rattle.jm_semantics.specs.ExampleEntries.{one_handler, binding, event_of, event, death, pass, refused, out_of_memory, fires}
 
 -- whether w is in `update* next`
 abbrev pub after_update : List ℕ → Bool
@@ -85,3 +85,11 @@ cut_by_death kept = before_cut ++ pass 4 kept ∷ []
 -- a dead object is refused, in a death and in an event
 abbrev pub refusals : List Entry
 refusals = death 1 0 ∷ refused 2 (Death 0) 0 ∷ refused 3 (event_of 1 (binding (Some 0) None None)) 0 ∷ []
+
+-- an event that met want of memory is in no slice: the iterator is not known to stem from the collection
+abbrev pub forgotten : List Entry
+forgotten = out_of_memory 1 (event_of 0 (both 0 1)) ∷ update 2 0 [] ∷ next 3 1 [] ∷ []
+
+-- update binds the collection alone
+abbrev pub misfit : List Entry
+misfit = event 1 1 (both 0 1) [] ∷ []

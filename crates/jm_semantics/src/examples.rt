@@ -6,10 +6,10 @@ ghost use Rattle.jm_semantics.specs.Legality.{IsLegal};
 ghost use Rattle.jm_semantics.specs.Scripts.{ScriptLine, projection_of, IsInterleaving};
 ghost use Rattle.jm_semantics.specs.Families.{IsFamily};
 ghost use Rattle.jm_semantics.specs.ExampleEntries.{binding, fires};
-ghost use Rattle.jm_semantics.specs.UnsafeIterExamples.{unsafe_iter, unsafe_use, two_iterators, early_use, use_after_death, cut_by_death, refusals};
+ghost use Rattle.jm_semantics.specs.UnsafeIterExamples.{unsafe_iter, unsafe_use, two_iterators, early_use, use_after_death, cut_by_death, refusals, forgotten, misfit};
 ghost use Rattle.jm_semantics.specs.ChainExamples.{chain, kept_base, disposed_base, no_trace};
-ghost use Rattle.jm_semantics.specs.SmallExamples.{tick, full_tick, ticking, both_bound, not_ab, back_again, quiet, silence, has_next, created_has_next, blind_next, fires_on, safe_lock, failing, any_word, any_word_finely, never_failing, two, two_properties};
-ghost use Rattle.jm_semantics.specs.ScriptExamples.{scripts, interleaved};
+ghost use Rattle.jm_semantics.specs.SmallExamples.{tick, full_tick, ticking, both_bound, tick_twice, firing_in_order, not_ab, back_again, quiet, silence, has_next, created_has_next, blind_next, fires_on, safe_lock, failing, any_word, any_word_finely, never_failing, two, two_properties};
+ghost use Rattle.jm_semantics.specs.ScriptExamples.{scripts, interleaved, swapped};
 
 /// An iterator is used after its collection was changed: the handler runs.
 pub fn unsafe_use()
@@ -44,6 +44,16 @@ pub fn refusals()
     ensures { IsLegal unsafe_iter refusals }
 {}
 
+/// An event that met want of memory leaves no trace.
+pub fn forgotten()
+    ensures { IsLegal unsafe_iter forgotten }
+{}
+
+/// An event binds exactly the parameters of its letter.
+pub fn misfit()
+    ensures { IsLegal unsafe_iter misfit → ⊥ }
+{}
+
 /// The coenable family of `update`: the iterator alone, or both.
 pub fn update_family()
     ensures { IsFamily unsafe_iter 1 (2 ∷ 3 ∷ []) }
@@ -70,6 +80,11 @@ pub fn no_trace()
 pub fn ticking()
     ensures all { IsLegal tick (ticking (fires (binding None None None) ∷ both_bound)) }
     ensures full { IsLegal full_tick (ticking both_bound) }
+{}
+
+/// Firings lie in the order of their instances, and then of their handlers.
+pub fn firing_in_order()
+    ensures { IsLegal tick_twice firing_in_order }
 {}
 
 /// A category is left and entered again.
@@ -110,5 +125,6 @@ pub fn two_properties()
 /// An interleaving of two scripts' projections: a line of another specification is left out, a death is for all.
 pub fn interleaved()
     ensures scripts { IsInterleaving interleaved (map (λ (script : List ScriptLine). projection_of script 0) scripts) }
+    ensures swapped { IsInterleaving swapped (map (λ (script : List ScriptLine). projection_of script 0) scripts) → ⊥ }
     ensures next_place { place_of interleaved ≡ 4 }
 {}
