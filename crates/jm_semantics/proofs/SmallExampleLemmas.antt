@@ -4,7 +4,7 @@ use Rattle.std.proofs.lemmas.Bool.{false≢true, true≢false, and_parts, and_fr
 use Rattle.jm_model.specs.Meanings.{CanHit, IsCreated, IsPropertyCut, IsCutWord}
 use Rattle.jm_semantics.specs.Legality.{IsLegal}
 use Rattle.jm_semantics.specs.ExampleEntries.{binding, fires}
-use Rattle.jm_semantics.specs.SmallExamples.{tick_params, is_some_word, tick, full_tick, ticking, both_bound, tick_twice, firing_in_order, is_not_ab, not_ab, back_again, quiet, silence, is_blind_after, has_next, created_has_next, blind_next, fires_on, fails_with, safe_lock, failing, any_word, any_word_finely, never_failing, is_ab, is_early_b, two_test, two, two_properties}
+use Rattle.jm_semantics.specs.SmallExamples.{tick_params, is_some_word, tick, full_tick, ticking, both_bound, tick_twice, firing_in_order, is_not_ab, not_ab, back_again, quiet, silence, is_blind_after, has_next, created_has_next, blind_next, fires_on, fails_with, safe_lock, failing, any_word, any_word_finely, never_failing, is_ab, is_early_b, two_test, two, two_properties, is_ab_again, again, started_anew}
 use Rattle.jm_semantics.proofs.ListLemmas.{Contains-nil, Contains-head, Contains-cons_cases}
 use Rattle.jm_semantics.proofs.DecidingAnswers.{Tests}
 use Rattle.jm_semantics.proofs.DecidingHistories.{CutTests, legal-tested}
@@ -236,3 +236,7 @@ first_property-cut c =
 
 pub second_property-uncut : IsPropertyCut two (1 ∷ []) 0 1 → ⊥
 second_property-uncut cut = cut (early-can (1 ∷ []) 0 refl refl)
+
+-- ---- Again
+pub started_anew-legal : IsLegal again started_anew
+started_anew-legal = legal-tested again (one_handler_tests 2 (λ _. 1) is_ab_again) None started_anew refl

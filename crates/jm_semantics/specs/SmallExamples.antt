@@ -150,3 +150,17 @@ two_properties =
     pass 4 1 ∷
     on 5 0 1 [] ∷
     on 6 1 1 (fires_on 1) ∷ []
+
+-- ---- Again: `a b` matches, and the handler resets the property, so that its category is asked of what follows
+-- whether what follows the last reset is `a b`
+abbrev pub is_ab_again : List ℕ → Bool
+is_ab_again (zero ∷ suc zero ∷ []) = true
+is_ab_again (zero ∷ suc zero ∷ w) = is_ab_again w
+is_ab_again _ = false
+
+abbrev pub again : Meaning
+again = one_handler 2 (λ _. 1) is_ab_again
+
+-- the handler runs a second time
+abbrev pub started_anew : List Entry
+started_anew = on 1 0 0 [] ∷ on 2 1 0 (fires_on 0) ∷ on 3 0 0 [] ∷ on 4 1 0 (fires_on 0) ∷ []

@@ -8,7 +8,7 @@ ghost use Rattle.jm_semantics.specs.Families.{IsFamily};
 ghost use Rattle.jm_semantics.specs.ExampleEntries.{binding, fires};
 ghost use Rattle.jm_semantics.specs.UnsafeIterExamples.{unsafe_iter, unsafe_use, two_iterators, early_use, use_after_death, cut_by_death, refusals, forgotten, misfit};
 ghost use Rattle.jm_semantics.specs.ChainExamples.{chain, kept_base, disposed_base, no_trace};
-ghost use Rattle.jm_semantics.specs.SmallExamples.{tick, full_tick, ticking, both_bound, tick_twice, firing_in_order, not_ab, back_again, quiet, silence, has_next, created_has_next, blind_next, fires_on, safe_lock, failing, any_word, any_word_finely, never_failing, two, two_properties};
+ghost use Rattle.jm_semantics.specs.SmallExamples.{tick, full_tick, ticking, both_bound, tick_twice, firing_in_order, not_ab, back_again, quiet, silence, has_next, created_has_next, blind_next, fires_on, safe_lock, failing, any_word, any_word_finely, never_failing, two, two_properties, again, started_anew};
 ghost use Rattle.jm_semantics.specs.ScriptExamples.{scripts, interleaved, swapped};
 
 /// An iterator is used after its collection was changed: the handler runs.
@@ -120,6 +120,11 @@ pub fn two_properties()
     ensures legal { IsLegal two two_properties }
     ensures first { IsPropertyCut two (1 ∷ []) 0 0 }
     ensures second { IsPropertyCut two (1 ∷ []) 0 1 → ⊥ }
+{}
+
+/// A handler that resets its property changes of which words its category holds, and nothing else.
+pub fn started_anew()
+    ensures { IsLegal again started_anew }
 {}
 
 /// An interleaving of two scripts' projections: a line of another specification is left out, a death is for all.
