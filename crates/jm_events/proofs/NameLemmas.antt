@@ -1,0 +1,146 @@
+use Rattle.std.proofs.Common.{ℕ, ◌≡◌, ◌≢◌, ◌<◌, ◌+◌, ◌↔◌, ◌⊎◌, inl, inr, suc, zero, Bool, true, false, cond, not, ltb, ◌||◌, List, [], ◌∷◌, ◌++◌, Option, Some, None, IsNone, map, length, get_or, slice_get, position, Contains, String, Result, Ok, Err, OnOk, IfOk, option_map, refl, sym, ap, subst, ◌∙◌, arith}
+use Rattle.std.specs.String.{string_bytes, string_eq}
+use Rattle.indexmap.specs.IndexSet.{insert_key}
+use Rattle.std.specs.List.{IsDistinct, AllByRecursion, list_any, prefix_len, position_or_len}
+use Rattle.std.specs.Str.{bytes_eq}
+use Rattle.std.specs.Cmp.Lexicographic.{nat_list_eq_equiv}
+use Rattle.std.proofs.lemmas.Bool.{false≢true}
+use Rattle.std.proofs.lemmas.Map.Keys.{IsDistinct-head, IsDistinct-tail, IsDistinct-cons, any_passes_from_place}
+use Rattle.std.proofs.lemmas.Bool.Decides.{nat_tests}
+use Rattle.std.proofs.lemmas.List.Quantifiers.{position-Some}
+use Rattle.std.proofs.lemmas.Option.{none-some, same_Some, slice_get_within, get_or_from_slice_get, slice_get-get_or}
+use Rattle.std.proofs.lemmas.List.{map-append}
+use Rattle.std.proofs.lemmas.Slice.Eq.{bytes_eq-Decides}
+use Rattle.jm_events.specs.Names.{number_of, with_name}
+
+-- ---- one element more in front
+
+first_place : (n : ℕ) → cond {A = Option ℕ} (ltb 0 (suc n)) (Some 0) None ≡ Some 0
+first_place n = grind (arith, nat_tests)
+
+later_place : (i n : ℕ) → cond {A = Option ℕ} (ltb (1 + i) (suc n)) (Some (1 + i)) None ≡ option_map suc (cond (ltb i n) (Some i) None)
+later_place i n = grind (arith, nat_tests)
+
+-- the first place that passes, in a list with one element more in front
+position-cons : {X : Type 0} (p : X → Bool) (x : X) (xs : List X) → position p (x ∷ xs) ≡ cond (p x) (Some 0) (option_map suc (position p xs))
+position-cons p x xs =
+    let i = position_or_len p xs in
+    elim (p x) as (λ b. cond {A = Option ℕ} (ltb (cond (not b) (1 + i) 0) (suc (length xs))) (Some (cond (not b) (1 + i) 0)) None ≡ cond b (Some 0) (option_map suc (position p xs)))
+    [ true ↦ first_place (length xs) | false ↦ later_place i (length xs) ]
+
+-- ---- names of texts
+
+pub position-map : {X Y : Type 0} (f : X → Y) (p : Y → Bool) (xs : List X) → position (λ x. p (f x)) xs ≡ position p (map f xs)
+position-map f p [] = refl
+position-map f p (x ∷ xs) = rw (position-cons p (f x) (map f xs), position-cons (λ y. p (f y)) x xs, position-map f p xs) refl
+
+pub list_any-map : {X Y : Type 0} (f : X → Y) (p : Y → Bool) (xs : List X) → list_any (λ x. p (f x)) xs ≡ list_any p (map f xs)
+list_any-map f p [] = refl
+list_any-map f p (x ∷ xs) = ap (λ b. p (f x) || b) (list_any-map f p xs)
+
+AllByRecursion-map : {X Y : Type 0} (f : X → Y) (P : Y → Type 0) (xs : List X) → AllByRecursion (λ x. P (f x)) xs → AllByRecursion P (map f xs)
+AllByRecursion-map f P [] h = h
+AllByRecursion-map f P (x ∷ xs) h = (h.0, AllByRecursion-map f P xs h.1)
+
+-- keys that a test of their images tells apart have distinct images
+pub IsDistinct-map : {X Y : Type 0} (f : X → Y) (e : Y → Y → Bool) (xs : List X) → IsDistinct (λ a b. e (f a) (f b)) xs → IsDistinct e (map f xs)
+unfolding IsDistinct
+IsDistinct-map f e [] h = tt
+IsDistinct-map f e (x ∷ xs) h =
+    IsDistinct-cons e (f x) (map f xs) (AllByRecursion-map f (λ y. e (f x) y ≡ false) xs (IsDistinct-head _ x xs h)) (IsDistinct-map f e xs (IsDistinct-tail _ x xs h))
+
+-- ---- the number of a name
+
+same_name : (a b : List ℕ) → bytes_eq a b ≡ true → a ≡ b
+same_name a b e = (bytes_eq-Decides a b).0 e
+
+is_same_name : (a b : List ℕ) → a ≡ b → bytes_eq a b ≡ true
+is_same_name a b e = (bytes_eq-Decides a b).1 e
+
+at_place : {X : Type 0} (P : X → Type 0) (xs : List X) (k : ℕ) (x : X) → AllByRecursion P xs → slice_get xs k ≡ Some x → P x
+at_place P [] k x all e = absurd (none-some x e)
+at_place P (y ∷ xs) zero x all e = subst P (same_Some y x e) all.0
+at_place P (y ∷ xs) (suc k) x all e = at_place P xs k x all.1 e
+
+-- the name at a place has that place as its number
+number_from_place : (names : List (List ℕ)) (name : List ℕ) (k : ℕ) → IsDistinct bytes_eq names → slice_get names k ≡ Some name → number_of names name ≡ Some k
+number_from_place [] name k distinct e = absurd (none-some name e)
+number_from_place (x ∷ names) name zero distinct e =
+    let here : bytes_eq name x ≡ true = is_same_name name x (sym (same_Some x name e)) in
+    rw (position-cons (bytes_eq name) x names, here) refl
+number_from_place (x ∷ names) name (suc k) distinct e =
+    let apart : bytes_eq x name ≡ false = at_place _ names k name (IsDistinct-head bytes_eq x names distinct) e in
+    let not_here : bytes_eq name x ≡ false = nat_list_eq_equiv.symm name x ∙ apart in
+    rw (position-cons (bytes_eq name) x names, not_here, number_from_place names name k (IsDistinct-tail bytes_eq x names distinct) e) refl
+
+-- a number is the place of the name
+place_from_number : (names : List (List ℕ)) (name : List ℕ) (k : ℕ) → number_of names name ≡ Some k → slice_get names k ≡ Some name
+place_from_number names name k e =
+    let found = position-Some (bytes_eq name) names k name e in
+    slice_get-get_or names k name found.0 ∙ ap Some (sym (same_name name _ found.1))
+
+pub number_of-at : (names : List (List ℕ)) (name : List ℕ) → IsDistinct bytes_eq names → (k : ℕ) → (number_of names name ≡ Some k) ↔ (slice_get names k ≡ Some name)
+number_of-at names name distinct k = (place_from_number names name k, number_from_place names name k distinct)
+
+none_or_some : (o : Option ℕ) → (o ≡ None) ⊎ ((k : ℕ) × (o ≡ Some k))
+none_or_some None = inl refl
+none_or_some (Some k) = inr (k, refl)
+
+place_has : (names : List (List ℕ)) (name : List ℕ) (k : ℕ) → slice_get names k ≡ Some name → Contains names name
+place_has names name k at = (k, slice_get_within names k name at, get_or_from_slice_get names k name name at)
+
+-- there is no number exactly where the name isn't there
+pub number_of-none : (names : List (List ℕ)) (name : List ℕ) → IsDistinct bytes_eq names → IsNone (number_of names name) ↔ ¬ Contains names name
+number_of-none names name distinct =
+    (λ none held.
+        let at = slice_get-get_or names held.0 name held.1 ∙ ap Some held.2 in
+        let number = number_from_place names name held.0 distinct at in
+        absurd (false≢true (sym (rw number at none))),
+     λ absent.
+        elim (none_or_some (number_of names name))
+        [ inl none ↦ rw none refl
+        | inr found ↦ absurd (absent (place_has names name found.0 (place_from_number names name found.0 found.1))) ])
+
+-- what a look-up says of the names
+pub names_say : (names : List (List ℕ)) (name : List ℕ) (r : Option ℕ) → IsDistinct bytes_eq names → r ≡ number_of names name → ((k : ℕ) → (r ≡ Some k) ↔ (slice_get names k ≡ Some name)) × (IsNone r ↔ ¬ Contains names name)
+names_say names name r distinct e = (λ k. rw e (number_of-at names name distinct k), rw e (number_of-none names name distinct))
+
+-- ---- one more mention
+
+-- a name that is there
+pub with_name-known : (names : List (List ℕ)) (name : List ℕ) (k : ℕ) → slice_get names k ≡ Some name → names ≡ with_name names name
+with_name-known names name k at =
+    let known : list_any (bytes_eq name) names ≡ true = any_passes_from_place (bytes_eq name) names k name at (is_same_name name name refl) in
+    rw known refl
+
+no_place : (b : Bool) (o : Option ℕ) → cond b (Some 0) (option_map suc o) ≡ None → (b ≡ false) × (o ≡ None)
+no_place true o e = absurd (none-some 0 (sym e))
+no_place false None e = (refl, refl)
+no_place false (Some k) e = absurd (none-some (suc k) (sym e))
+
+-- a name without a number isn't there
+pub list_any-no_number : (names : List (List ℕ)) (name : List ℕ) → number_of names name ≡ None → list_any (bytes_eq name) names ≡ false
+list_any-no_number [] name e = refl
+list_any-no_number (x ∷ names) name e =
+    let none = no_place (bytes_eq name x) (number_of names name) (rw (position-cons (bytes_eq name) x names) at e) in
+    rw (none.0, list_any-no_number names name none.1) refl
+
+-- a name that isn't there
+pub with_name-new : (names : List (List ℕ)) (name : List ℕ) → number_of names name ≡ None → with_name names name ≡ names ++ name ∷ []
+with_name-new names name e = rw (list_any-no_number names name e) refl
+
+-- the names of the keys after an insertion
+pub map-insert_key : {Z : Type 0} (keys : List (String Z)) (key : String Z) (name : List ℕ) → string_bytes key ≡ name → number_of (map string_bytes keys) name ≡ None → map string_bytes (insert_key string_eq keys key) ≡ map string_bytes keys ++ name ∷ []
+map-insert_key keys key name e none =
+    let new : list_any (string_eq key) keys ≡ false =
+        list_any-map string_bytes (bytes_eq (string_bytes key)) keys ∙ rw e (list_any-no_number (map string_bytes keys) name none) in
+    rw (new, map-append, e) refl
+
+slice_get-end : (names : List (List ℕ)) (name : List ℕ) → slice_get (names ++ name ∷ []) (length names) ≡ Some name
+slice_get-end [] name = refl
+slice_get-end (x ∷ names) name = slice_get-end names name
+
+-- the number of a name that was appended
+pub number_at_end : {E : Type 0} (r : Result ℕ E) (old new : List (List ℕ)) (name : List ℕ) → OnOk r (new ≡ old ++ name ∷ []) → IfOk r (λ n. n ≡ length old) → IfOk r (λ n. slice_get new n ≡ Some name)
+number_at_end (Ok n) old new name e end = rw (end, e) (slice_get-end old name)
+number_at_end (Err x) old new name e end = tt
