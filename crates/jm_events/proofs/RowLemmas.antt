@@ -1,9 +1,9 @@
-use Rattle.std.proofs.Common.{ℕ, ◌≡◌, ◌<◌, ◌≤◌, suc, zero, Bool, ◌||◌, List, [], ◌∷◌, ◌++◌, Option, Some, None, map, length, get_or, set, slice_get, option_map, All, refl, sym, ap, subst, ◌∙◌, arith}
+use Rattle.std.proofs.Common.{ℕ, ◌≡◌, ◌<◌, ◌≤◌, suc, zero, Bool, ◌||◌, List, [], ◌∷◌, ◌++◌, Option, Some, None, map, length, get_or, set, slice_get, option_map, All, refl, sym, ap, subst, ◌∙◌, ◌^◌, arith, length-append}
 use Rattle.std.proofs.lemmas.Option.{none-some, same_Some, slice_get_within, slice_get-map}
-use Rattle.std.proofs.lemmas.List.Elements.{All-get_or}
+use Rattle.std.proofs.lemmas.List.Elements.{All-get_or, All-push}
 use Rattle.jm_events.specs.declared.table.Row.{Row}
 use Rattle.jm_events.specs.Events.{EventDefinition, EventDefinitions}
-use Rattle.jm_events.specs.Rows.{event_of, events_of}
+use Rattle.jm_events.specs.Rows.{event_of, events_of, IsTable}
 
 suc_same : (a b : ℕ) → suc a ≡ suc b → a ≡ b
 suc_same a b e = omega arith
@@ -86,3 +86,12 @@ mention_at names rows k known row creation each at mask was line =
 -- tables with the same parameters, whose events are equal
 pub same_events : (parameters : List (List ℕ)) (xs ys : List EventDefinition) → xs ≡ ys → ◌≡◌ {A = EventDefinitions} (record { parameters = parameters; events = xs }) (record { parameters = parameters; events = ys })
 same_events parameters xs ys e = rw e refl
+
+-- a table with one event more
+pub IsTable-push : (parameters names : List (List ℕ)) (rows : List Row) (name : List ℕ) (row : Row) → IsTable parameters names rows → length names < 32 → row.mask < 2 ^ length parameters → IsTable parameters (names ++ name ∷ []) (rows ++ row ∷ [])
+IsTable-push parameters names rows name row t room bits = record {
+  row_each = omega (arith, length-append rows (row ∷ []), length-append names (name ∷ []), t.row_each);
+  few_parameters = t.few_parameters;
+  few_events = omega (arith, length-append names (name ∷ []));
+  masks = All-push (λ r. r.mask < 2 ^ length parameters) rows row t.masks bits
+}

@@ -9,9 +9,9 @@ use jm_model::{Counted, Letter, NoMemory, SpecError, SpecFault};
 use std::alloc::Global;
 use std::marker::Model;
 
-const MAX_PARAMETERS: u32 = 8;
+const MAX_PARAMETERS: u8 = 8;
 
-const MAX_EVENTS: u32 = 32;
+const MAX_EVENTS: u8 = 32;
 
 /// What is known of an event beside its name.
 #[derive(Clone, Copy)]
@@ -89,7 +89,7 @@ impl EventTable {
         if self.params.find(name).is_some() {
             return Some(SpecFault::DuplicateParameter { line });
         }
-        if self.params.len() == MAX_PARAMETERS {
+        if self.params() == MAX_PARAMETERS {
             let what = Counted::Parameters;
             return Some(SpecFault::TooMany { what });
         }
@@ -168,7 +168,7 @@ impl EventTable {
             self.old.events ++ record { name = name.now; mask = mask; creation = creation; line = line } ∷ [] }) }
         ensures err { OnErr result (self.new ≡ self.old) }
     {
-        if self.events.len() == MAX_EVENTS {
+        if self.letters() == MAX_EVENTS {
             let what = Counted::Events;
             return Err(SpecError::Bad(SpecFault::TooMany { what }));
         }
@@ -177,9 +177,9 @@ impl EventTable {
             creation,
             line,
         };
-        if self.rows.push(row).is_err() {
+        let Ok(()) = self.rows.push(row) else {
             return Err(SpecError::NoMemory);
-        }
+        };
         let Ok(number) = self.events.append(name) else {
             self.rows.pop();
             return Err(SpecError::NoMemory);
@@ -193,6 +193,7 @@ impl EventTable {
         ensures at { (k : ℕ) → (result ≡ Some (record { 0 = k })) ↔ (slice_get (event_names self.now) k ≡ Some name.now) }
         ensures absent { IsNone result ↔ ¬ Contains (event_names self.now) name.now }
         ensures within { IfSome result (λ letter. letter.0 < length self.now.events) }
+        ensures distinct { IsDistinct bytes_eq (event_names self.now) }
     {
         match self.events.find(name) {
             Some(number) => Some(Letter(number as u8)),

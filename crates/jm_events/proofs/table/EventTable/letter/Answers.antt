@@ -25,3 +25,9 @@ returns-in-None-clause-at c =
 
 pub returns-in-None-clause-absent : goal.returns-in-None-clause-absent
 returns-in-None-clause-absent c = rw (← c.self.view_is, names-events_of _ _ c.self.invariant.row_each) c.in-None.ensures.absent
+
+pub returns-in-Some-clause-distinct : goal.returns-in-Some-clause-distinct
+returns-in-Some-clause-distinct c = rw (← c.self.view_is, names-events_of _ _ c.self.invariant.row_each) c.in-Some.ensures.distinct
+
+pub returns-in-None-clause-distinct : goal.returns-in-None-clause-distinct
+returns-in-None-clause-distinct c = rw (← c.self.view_is, names-events_of _ _ c.self.invariant.row_each) c.in-None.ensures.distinct

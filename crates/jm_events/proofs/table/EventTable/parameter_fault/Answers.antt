@@ -8,12 +8,12 @@ pub returns-then-is_some-clause-value : goal.returns-then-is_some-clause-value
 returns-then-is_some-clause-value c =
     rw (← c.self.view_is, list_any-number_of, ← c.find.ensures.value, ← c.is_some.ensures, c.if-is_some.true) refl
 
-pub returns-then-len-eq-MAX_PARAMETERS-clause-value : goal.returns-then-len-eq-MAX_PARAMETERS-clause-value
-returns-then-len-eq-MAX_PARAMETERS-clause-value c =
-    let full : length c.self.inside.params ≡ 8 = omega (arith, c.len.ensures.value) in
+pub returns-then-params-eq-MAX_PARAMETERS-clause-value : goal.returns-then-params-eq-MAX_PARAMETERS-clause-value
+returns-then-params-eq-MAX_PARAMETERS-clause-value c =
+    let full : length c.self.inside.params ≡ 8 = rw (← c.self.view_is) at (sym c.params.ensures.value ∙ c.if-params-eq-MAX_PARAMETERS.true) in
     rw (← c.self.view_is, list_any-number_of, ← c.find.ensures.value, ← c.is_some.ensures, c.if-is_some.false, full) refl
 
 pub returns-clause-value : goal.returns-clause-value
 returns-clause-value c =
-    let room : (length c.self.inside.params == 8) ≡ false = test_false _ _ (omega (arith, c.len.ensures.value)) in
-    rw (← c.self.view_is, list_any-number_of, ← c.find.ensures.value, ← c.is_some.ensures, c.if-is_some.false, room) refl
+    let room : (length c.args.self.now.parameters == 8) ≡ false = test_false _ _ (omega (arith, c.params.ensures.value)) in
+    rw (← c.self.view_is, list_any-number_of, ← c.find.ensures.value, ← c.is_some.ensures, c.if-is_some.false, (rw (← c.self.view_is) at room)) refl
