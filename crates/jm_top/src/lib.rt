@@ -16,3 +16,6 @@ mod words;
 pub use command::jmop;
 pub use status::Status;
 pub use texts::fault_text;
+
+#[cfg(test)]
+mod tests;
