@@ -10,3 +10,6 @@ mod summary;
 
 pub use history::render_history;
 pub use summary::render_summary;
+
+#[cfg(test)]
+mod tests;
