@@ -1,1 +1,9 @@
+pub mod ListLemmas
+pub mod OrderLemmas
+pub mod CandidateLemmas
+pub mod ReachLemmas
+pub mod GrowthLemmas
+pub mod ReportLemmas
+pub mod CommitLemmas
+pub mod StoreLemmas
 pub mod ReplayLemmas
