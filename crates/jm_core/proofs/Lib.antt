@@ -6,4 +6,5 @@ pub mod GrowthLemmas
 pub mod ReportLemmas
 pub mod CommitLemmas
 pub mod StoreLemmas
+pub mod EventLemmas
 pub mod ReplayLemmas

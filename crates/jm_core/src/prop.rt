@@ -87,8 +87,9 @@ impl<M: Monitor> Prop<M> {
         ensures err { OnErr result (ReplayedInPart caller steps.now self.old self.new) }
         ensures legal { IsLegal (M.meaning self.new.definition) self.new.entries }
     {
+        let alloc = self.alloc;
         for (line, step) in steps {
-            let Ok(node) = Node::new(self.alloc, caller, *line, *step) else {
+            let Ok(node) = Node::new(alloc, caller, *line, *step) else {
                 return Err(NoMemory);
             };
             if let Outcome::NoMemory = self.event(node) {

@@ -17,7 +17,7 @@ loop-line-preserved g c =
     subst (λ (s : ℕ × Step). Replayed c.args.caller (take i steps ++ s ∷ []) c.args.self.now (extended c.loop-line.self u c.event.result)) (ap (λ n. (n.line, n.step)) c.in-Ok.ensures) grown in
     let whole : Replayed c.args.caller (take (i + 1) steps) c.args.self.now (extended c.loop-line.self u c.event.result) =
     subst (λ (l : List (ℕ × Step)). Replayed c.args.caller l c.args.self.now (extended c.loop-line.self u c.event.result)) (sym (take_with_item steps i item c.loop-line-test.true c.loop-line-item.is)) at_item in
-    subst (λ (core : Core g.row.M-Definition.Denot). Replayed c.args.caller (take (i + 1) steps) c.args.self.now core) (sym c.event.ensures) whole
+    subst (λ (core : Core g.row.M-Definition.Denot). Replayed c.args.caller (take (i + 1) steps) c.args.self.now core) (sym c.event.ensures.added) whole
 
 pub returns-in_default-clause-err : goal.returns-in_default-clause-err
 returns-in_default-clause-err g c =
@@ -35,4 +35,4 @@ returns-in-NoMemory-clause-err g c =
     (take_is_prefix (i + 1) steps) in
     let stopped = stopped_after c.args.caller (take i steps) steps c.args.self.now c.loop-line.self u (ap (λ n. n.caller) c.in-Ok.ensures) within c.loop-line.invariant in
     subst (λ (core : Core g.row.M-Definition.Denot). ReplayedInPart c.args.caller steps c.args.self.now core)
-    (sym (c.event.ensures ∙ ap (λ o. extended c.loop-line.self u o) c.in-NoMemory.is)) stopped
+    (sym (c.event.ensures.added ∙ ap (λ o. extended c.loop-line.self u o) c.in-NoMemory.is)) stopped

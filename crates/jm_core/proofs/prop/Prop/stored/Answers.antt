@@ -1,19 +1,17 @@
-use Rattle.std.proofs.Common.{rules, ◌≡◌, ◌<◌, [], ◌∷◌, ◌++◌, All, IfOk, OnOk, OnErr, ℕ, ◌+◌, ◌-◌, ◌*◌, ◌≤◌, length, ◌/◌, ◌%◌, Bool, true, false, nat_eq, nat_lt, List, slice_index_or, slice_set, bit_and, bit_or, Fits, w8, w32, w64, Bor, MutBor}
-use Rattle.jm_history.specs.Nodes.{answered}
-use Rattle.jm_semantics.specs.Legality.{IsLegal}
+use Rattle.std.proofs.Common.{◌≡◌, List, sym, ◌∙◌, ap, subst}
+use Rattle.std.proofs.lemmas.List.{take_all}
+use Rattle.jm_model.specs.declared.binding.Binding.{Binding}
+use Rattle.jm_model.specs.declared.step.Entry.{Entry}
 use Rattle.jm_semantics.specs.Histories.{trace_of}
-use Rattle.jm_core.specs.Cores.{IsEventOf, Replayed, ReplayedInPart}
-use Rattle.jm_core.specs.Stores.{AreInstances}
+use Rattle.jm_core.specs.declared.stored.Stored.{Stored}
+use Rattle.jm_core.specs.Stores.{AreInstances, instances_of}
+use Rattle.jm_core.proofs.StoreLemmas.{instances_of_store}
 use Rattle.jm_core.proofs.prop.Prop.stored.Goals as goal
 
--- src/prop.rt:115:9
-pub loop-monitor-init : goal.loop-monitor-init
-loop-monitor-init g c = ?
-
--- src/prop.rt:115:9
-pub loop-monitor-preserved : goal.loop-monitor-preserved
-loop-monitor-preserved g c = ?
-
--- src/prop.rt:110:5
 pub returns-clause-value : goal.returns-clause-value
-returns-clause-value g c = ?
+returns-clause-value g c =
+    let all : c.loop-monitor.instances.items ≡ instances_of c.self.inside.stored.items =
+    c.loop-monitor.invariant ∙ ap (λ (l : List (Stored g.row.M-State.Denot)). instances_of l) (take_all c.loop-monitor.monitor-index c.deref-monitor-items.result.now c.loop-monitor-test.false ∙ c.deref-monitor-items.ensures.value) in
+    subst (λ (h : List Entry). AreInstances (trace_of h) c.loop-monitor.instances.items) (ap (λ core. core.entries) c.self.view_is)
+    (subst (λ (l : List Binding). AreInstances (trace_of c.self.inside.history) l) (sym all)
+    (instances_of_store (g.M.Monitor.StandsFor c.self.inside.rules) (trace_of c.self.inside.history) c.self.inside.stored.items c.self.invariant.store))
