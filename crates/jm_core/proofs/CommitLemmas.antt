@@ -36,9 +36,10 @@ module _ {K : Type 0} (e : K → K → Bool) where
   distinct-append : (xs ys : List K) → IsDistinct e xs → IsDistinct e ys → ((x y : K) → Contains xs x → Contains ys y → e x y ≡ false) → IsDistinct e (xs ++ ys)
   unfolding IsDistinct
   distinct-append [] ys s t h = t
-  distinct-append (x ∷ xs) ys s t h =
-      (both_apart x xs ys s.0 (each_apart x ys (λ y c. h x y (Contains-head x xs) c)),
-      distinct-append xs ys s.1 t (λ z y c d. h z y (Contains-cons x xs z c) d))
+  distinct-append (x ∷ xs) ys s t h = (
+    both_apart x xs ys s.0 (each_apart x ys (λ y c. h x y (Contains-head x xs) c)),
+    distinct-append xs ys s.1 t (λ z y c d. h z y (Contains-cons x xs z c) d),
+  )
 
 is_eq-reverse : (o : Ordering) → is_eq (ordering_reverse o) ≡ is_eq o
 is_eq-reverse Less = refl

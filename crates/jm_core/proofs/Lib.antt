@@ -8,3 +8,4 @@ pub mod CommitLemmas
 pub mod StoreLemmas
 pub mod EventLemmas
 pub mod ReplayLemmas
+pub mod TableLemmas

@@ -44,9 +44,10 @@ module _ {K : Type 0} (R : K → K → Ordering) where
   pub sorted-append : (xs ys : List K) → IsStrictlySortedBy R xs → IsStrictlySortedBy R ys → ((x y : K) → Contains xs x → Contains ys y → R x y ≡ Less) → IsStrictlySortedBy R (xs ++ ys)
   unfolding IsStrictlySortedBy
   sorted-append [] ys s t h = t
-  sorted-append (x ∷ xs) ys s t h =
-      (both_after x xs ys s.0 (each_after x ys (λ y c. h x y (Contains-head x xs) c)),
-      sorted-append xs ys s.1 t (λ z y c d. h z y (Contains-cons x xs z c) d))
+  sorted-append (x ∷ xs) ys s t h = (
+    both_after x xs ys s.0 (each_after x ys (λ y c. h x y (Contains-head x xs) c)),
+    sorted-append xs ys s.1 t (λ z y c d. h z y (Contains-cons x xs z c) d),
+  )
 
   pub sorted-one : (x : K) → IsStrictlySortedBy R (x ∷ [])
   unfolding IsStrictlySortedBy

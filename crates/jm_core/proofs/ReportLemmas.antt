@@ -131,6 +131,14 @@ bit_from_set n k h =
     zero-mul' : (m : ℕ) → 0 * m ≡ 0
     zero-mul' m = omega arith
 
+-- a set bit is one of the number's
+pub bit_below : (n width k : ℕ) → n < 2 ^ width → IsBitSet n k → k < width
+bit_below n width k fits set =
+    elim (cases_lt k width) [
+      | inl lt ↦ lt
+      | inr ge ↦ absurd (omega (arith, bit_from_set n k set, bit_at_above n width k fits ge))
+    ]
+
 set_from_bit : (n k : ℕ) → bit_at n k ≡ 1 → IsBitSet n k
 set_from_bit n k one none =
     let product : bit_at n k * 2 ^ k ≡ 0 = sym (and_pow n k) ∙ none in

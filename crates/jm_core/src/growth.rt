@@ -16,7 +16,11 @@ pub(crate) struct Candidate {
 }
 
 /// The joins of the stored instances with the event's binding, where the two are compatible.
-pub(crate) fn candidates<S>(alloc: Global, stored: &[Stored<S>], binding: &Binding) -> Result<Vec<Candidate>, NoMemory>
+pub(crate) fn candidates<S>(
+    alloc: Global,
+    stored: &[Stored<S>],
+    binding: &Binding,
+) -> Result<Vec<Candidate>, NoMemory>
     ensures { IfOk result (λ candidates. AreCandidates binding.now stored.now candidates.items) }
 {
     let mut candidates = Vec::new(alloc);
@@ -41,7 +45,13 @@ pub(crate) fn arrange(candidates: &mut Vec<Candidate>)
 
 /// A monitor for each instance among the candidates: the next state of its last base. The stored instances lie in
 /// order, so the last base is the largest instance below it, whose slice it has.
-pub(crate) fn reach<M: Monitor>(alloc: Global, rules: &M, letter: Letter, stored: &[Stored<M::State>], candidates: &[Candidate]) -> Result<Vec<Stored<M::State>>, NoMemory>
+pub(crate) fn reach<M: Monitor>(
+    alloc: Global,
+    rules: &M,
+    letter: Letter,
+    stored: &[Stored<M::State>],
+    candidates: &[Candidate],
+) -> Result<Vec<Stored<M::State>>, NoMemory>
     requires letter { letter.0 < (M.meaning (M.definition rules.now)).letters }
     requires ordered { IsSortedBy (λ x y. is_lt (candidate_cmp x y)) candidates.now }
     requires bases { HaveBases (length stored.now) candidates.now }

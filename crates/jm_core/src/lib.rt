@@ -13,3 +13,8 @@ mod report;
 mod stored;
 
 pub use prop::Prop;
+
+#[cfg(test)]
+mod table;
+#[cfg(test)]
+mod tests;

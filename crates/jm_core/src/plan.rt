@@ -19,7 +19,13 @@ pub(crate) struct Plan<S> {
 }
 
 /// Works an event out, and makes room for the monitors that it reaches. The monitors stay as they are.
-pub(crate) fn work_out<M: Monitor>(alloc: Global, rules: &M, stored: &mut Vec<Stored<M::State>>, letter: Letter, binding: &Binding) -> Result<Plan<M::State>, NoMemory>
+pub(crate) fn work_out<M: Monitor>(
+    alloc: Global,
+    rules: &M,
+    stored: &mut Vec<Stored<M::State>>,
+    letter: Letter,
+    binding: &Binding,
+) -> Result<Plan<M::State>, NoMemory>
     requires letter { letter.0 < (M.meaning (M.definition rules.now)).letters }
     requires eight { length binding.now ≡ 8 }
     ensures same { stored.new.items ≡ stored.old.items }

@@ -10,7 +10,11 @@ use std::alloc::Global;
 
 /// The handlers that the monitors' states hit, monitor by monitor and in the order of handlers. A monitor is left out
 /// where its instance doesn't bind what a reported instance has to bind.
-pub(crate) fn report<M: Monitor>(alloc: Global, rules: &M, monitors: &[Stored<M::State>]) -> Result<Firings, NoMemory>
+pub(crate) fn report<M: Monitor>(
+    alloc: Global,
+    rules: &M,
+    monitors: &[Stored<M::State>],
+) -> Result<Firings, NoMemory>
     requires { IsStrictlySortedBy binding_cmp (instances_of monitors.now) }
     ensures { IfOk result (λ firings. IsReport (M.meaning (M.definition rules.now)) (M.StandsFor rules.now) monitors.now firings) }
 {

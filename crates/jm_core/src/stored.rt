@@ -15,7 +15,11 @@ pub(crate) struct Stored<S> {
 
 /// Puts the monitors that an event reached in the place of those above its binding. There is room for them, so that
 /// this takes no memory.
-pub(crate) fn commit<S: Drop>(binding: &Binding, stored: &mut Vec<Stored<S>>, mut reached: Vec<Stored<S>>)
+pub(crate) fn commit<S: Drop>(
+    binding: &Binding,
+    stored: &mut Vec<Stored<S>>,
+    mut reached: Vec<Stored<S>>,
+)
     requires room { vec_len stored.old + vec_len reached ≤ vec_capacity stored.old }
     requires stored { IsStrictlySortedBy binding_cmp (instances_of stored.old.items) }
     requires reached { IsStrictlySortedBy binding_cmp (instances_of reached.items) }
