@@ -106,7 +106,8 @@ impl Monitor for Table {
     ghost StandsFor = { λ t s w. (s.state ≡ state_from t 0 w) × (s.moved ≡ has_letter w) };
 
     fn letters(&self) -> u8 {
-        3
+        let params: &[u8] = &self.params;
+        params.len() as u8
     }
 
     fn params(&self, letter: Letter) -> u8 {
