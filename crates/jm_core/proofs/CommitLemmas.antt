@@ -57,7 +57,7 @@ apart-ties b x y out inside =
       | inr apart ↦ apart
     ]
 
-first_of : {X : Type 0} (xs : List X) → 0 < length xs → X
+pub first_of : {X : Type 0} (xs : List X) → 0 < length xs → X
 first_of [] h = absurd (omega (arith, h))
 first_of (x ∷ xs) h = x
 

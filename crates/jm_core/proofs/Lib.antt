@@ -5,6 +5,7 @@ pub mod ReachLemmas
 pub mod GrowthLemmas
 pub mod ReportLemmas
 pub mod CommitLemmas
+pub mod ReplaceLemmas
 pub mod StoreLemmas
 pub mod EventLemmas
 pub mod ReplayLemmas

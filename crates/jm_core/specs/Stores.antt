@@ -28,6 +28,14 @@ IsAt xs k x = (k < length xs) × (slice_index_or xs k x ≡ x)
 abbrev pub LieAbove : {S : Type 0} → Binding → List (Stored S) → Type 0
 LieAbove {S} b monitors = (s : Stored S) → Contains monitors s → is_below b s.instance ≡ true
 
+-- each stored monitor above b has one of its instance among the reached
+abbrev pub AreCovered : {S : Type 0} → Binding → List (Stored S) → List (Stored S) → Type 0
+AreCovered {S} b stored reached = (s : Stored S) → Contains stored s → is_below b s.instance ≡ true → HasInstance reached s.instance
+
+-- the instance of each reached monitor is stored
+abbrev pub AreStored : {S : Type 0} → List (Stored S) → List (Stored S) → Type 0
+AreStored {S} stored reached = (r : Stored S) → Contains reached r → HasInstance stored r.instance
+
 -- the monitor of an instance of the trace, whose state stands for the slice
 abbrev pub IsMonitorOf : {S : Type 0} → (S → List ℕ → Type 0) → List ParametricEvent → Stored S → Type 0
 IsMonitorOf Stands trace s = IsInstance trace s.instance × Stands s.state (slice_of trace s.instance)

@@ -13,6 +13,8 @@ use Rattle.jm_semantics.specs.Legality.{IsStepOf}
 use Rattle.jm_core.specs.declared.stored.Stored.{Stored}
 use Rattle.jm_core.specs.Cores.{Core, IsCore, IsEventOf}
 use Rattle.jm_core.specs.Stores.{IsCommitted}
+use Rattle.std.specs.Prelude.{Contains}
+use Rattle.jm_semantics.proofs.InstanceLemmas.{instance-append}
 use Rattle.jm_core.proofs.StoreLemmas.{store_from_commit}
 use Rattle.jm_core.proofs.EventLemmas.{core_after, core_forgot}
 use Rattle.jm_core.proofs.prop.Prop.event.Goals as goal
@@ -22,6 +24,15 @@ commit-requires-clause-reached g c = (c.in-Ok.ensures.works (trace_of c.self.ins
 
 pub commit-requires-clause-above : goal.commit-requires-clause-above
 commit-requires-clause-above g c = (c.in-Ok.ensures.works (trace_of c.self.inside.history) c.self.invariant.store).reached.above
+
+pub commit-requires-clause-covered : goal.commit-requires-clause-covered
+commit-requires-clause-covered g c =
+    let store = c.self.invariant.store in
+    let works = c.in-Ok.ensures.works (trace_of c.self.inside.history) store in
+    let a : ParametricEvent = record { letter = c.in-Event.letter.0; binding = c.in-Event.binding } in
+    λ s h above.
+    let there : Contains c.self.inside.stored.items s = subst (λ (l : List (Stored g.row.M-State.Denot)). Contains l s) c.in-Ok.ensures.same h in
+    works.reached.all s.instance (instance-append (trace_of c.self.inside.history) (a ∷ []) s.instance (store.each s there).0) above
 
 pub invariant_of-self : goal.invariant_of-self
 invariant_of-self g c =
