@@ -1,6 +1,6 @@
 -- A core after one event more.
-use Rattle.std.proofs.Common.{◌≡◌, ℕ, false, List, [], ◌∷◌, ◌++◌, length, refl, sym, ◌∙◌, ap, subst}
-use Rattle.std.specs.Prelude.{Some, None, ◌==◌}
+use Rattle.std.proofs.Common.{◌≡◌, ℕ, List, [], ◌∷◌, ◌++◌, refl, sym, ◌∙◌, ap, subst}
+use Rattle.std.specs.Prelude.{None, ◌==◌}
 use Rattle.std.specs.List.{list_any}
 use Rattle.jm_model.specs.Bindings.{empty}
 use Rattle.jm_model.specs.Meanings.{Meaning}

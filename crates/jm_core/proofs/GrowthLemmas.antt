@@ -1,10 +1,10 @@
 -- The monitors that an event reaches are those of the instances above its binding.
-use Rattle.std.proofs.Common.{◌≡◌, ℕ, ◌<◌, ◌≤◌, ◌⊎◌, inl, inr, Bool, true, false, List, [], ◌∷◌, ◌++◌, length, map, get_or, refl, sym, ◌∙◌, ap, subst, arith}
+use Rattle.std.proofs.Common.{◌≡◌, ℕ, ◌<◌, ◌≤◌, inl, inr, true, List, [], ◌∷◌, ◌++◌, length, get_or, refl, sym, ◌∙◌, ap, subst, arith}
 use Rattle.std.specs.Prelude.{Contains}
 use Rattle.std.specs.List.Sorted.{IsStrictlySortedBy}
 use Rattle.std.specs.declared.cmp.Ordering.TheVariants.{Less}
 use Rattle.std.proofs.lemmas.Bool.{cases_lt}
-use Rattle.std.proofs.lemmas.List.{get_or-map, length-map, get_or_default}
+use Rattle.std.proofs.lemmas.List.{get_or-map, length-map}
 use Rattle.std.proofs.lemmas.Map.Keys.{Less-from_sorted}
 use Rattle.jm_model.specs.Bindings.{is_below, is_compatible, join, binding_cmp}
 use Rattle.jm_model.specs.declared.binding.Binding.{Binding}
@@ -15,8 +15,8 @@ use Rattle.jm_semantics.proofs.HistoryLemmas.{slice_of-above}
 use Rattle.jm_semantics.proofs.InstanceLemmas.{instance-below_join, join_below-below, join_below-instance, slice-join_below, instance-above, join_event-instance}
 use Rattle.jm_core.specs.declared.stored.Stored.{Stored}
 use Rattle.jm_core.specs.declared.growth.Candidate.{Candidate}
-use Rattle.jm_core.specs.Stores.{IsAt, HasInstance, instances_of, IsMonitorOf, IsStoreOf, AreMonitorsAbove}
-use Rattle.jm_core.specs.Growth.{IsCandidate, AreCandidates, IsReachedFrom, AreReachedFrom}
+use Rattle.jm_core.specs.Stores.{IsAt, instances_of, IsMonitorOf, IsStoreOf, AreMonitorsAbove}
+use Rattle.jm_core.specs.Growth.{AreCandidates, IsReachedFrom, AreReachedFrom}
 use Rattle.jm_core.proofs.ListLemmas.{at-same}
 use Rattle.jm_core.proofs.OrderLemmas.{not_below_earlier}
 

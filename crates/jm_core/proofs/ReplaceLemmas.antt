@@ -1,9 +1,9 @@
 -- Reached monitors in the place of stored ones, where nothing is new.
-use Rattle.std.proofs.Common.{◌≡◌, ℕ, ◌+◌, ◌<◌, ◌⊎◌, inl, inr, Bool, true, false, cond, List, [], ◌∷◌, ◌++◌, length, map, get_or, set, take, drop, refl, sym, ◌∙◌, ap, subst, append_assoc, arith}
-use Rattle.std.specs.Prelude.{Contains, filter, ◌↔◌}
+use Rattle.std.proofs.Common.{◌≡◌, ℕ, ◌+◌, ◌⊎◌, inl, inr, Bool, true, false, cond, List, [], ◌∷◌, ◌++◌, length, get_or, set, take, drop, refl, sym, ◌∙◌, ap, subst, append_assoc, arith}
+use Rattle.std.specs.Prelude.{Contains, filter}
 use Rattle.std.specs.List.Sorted.{IsStrictlySortedBy}
-use Rattle.std.proofs.lemmas.Bool.{false≢true, cases_Bool}
-use Rattle.std.proofs.lemmas.List.{drop_more, take_more, take_more_set, drop-set-lt}
+use Rattle.std.proofs.lemmas.Bool.{false≢true}
+use Rattle.std.proofs.lemmas.List.{drop_more, take_more_set, drop-set-lt}
 use Rattle.std.proofs.lemmas.List.Kept.{IsStrictlySortedBy-filter}
 use Rattle.std.specs.Prelude.{Result, Ok, Err}
 use Rattle.std.specs.Result.{is_err}
@@ -110,14 +110,14 @@ module _ {S : Type 0} where
       same_from_members binding_cmp_total (filter (is_below b) (instances_of stored)) (instances_of reached) (IsStrictlySortedBy-filter binding_cmp (is_below b) (instances_of stored) up) new
       (λ t. (
         (λ h.
-          let g = Contains-from_filter (is_below b) (instances_of stored) t h in
-          let s = Contains-from_map of stored t g.0 in
-          let r = covered s.0 s.1 (ap (is_below b) s.2 ∙ g.1) in
-          subst (Contains (instances_of reached)) (r.2 ∙ s.2) (Contains-map of reached r.0 r.1)),
+            let g = Contains-from_filter (is_below b) (instances_of stored) t h in
+            let s = Contains-from_map of stored t g.0 in
+            let r = covered s.0 s.1 (ap (is_below b) s.2 ∙ g.1) in
+            subst (Contains (instances_of reached)) (r.2 ∙ s.2) (Contains-map of reached r.0 r.1)),
         (λ h.
-          let r = Contains-from_map of reached t h in
-          let s = known r.0 r.1 in
-          Contains-filter (is_below b) (instances_of stored) t (subst (Contains (instances_of stored)) (s.2 ∙ r.2) (Contains-map of stored s.0 s.1)) (ap (is_below b) (sym r.2) ∙ above r.0 r.1)),
+            let r = Contains-from_map of reached t h in
+            let s = known r.0 r.1 in
+            Contains-filter (is_below b) (instances_of stored) t (subst (Contains (instances_of stored)) (s.2 ∙ r.2) (Contains-map of stored s.0 s.1)) (ap (is_below b) (sym r.2) ∙ above r.0 r.1)),
       ))
 
   pub replaced_committed : (b : Binding) (stored reached : List (Stored S)) → IsStrictlySortedBy binding_cmp (instances_of stored) → IsStrictlySortedBy binding_cmp (instances_of reached)

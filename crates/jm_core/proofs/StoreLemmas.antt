@@ -1,6 +1,6 @@
 -- What a committed event and its report come to.
-use Rattle.std.proofs.Common.{◌≡◌, ℕ, ◌⊎◌, inl, inr, Bool, true, false, List, [], ◌∷◌, ◌++◌, length, map, refl, sym, ◌∙◌, ap, subst, arith}
-use Rattle.std.specs.Prelude.{Contains, ◌↔◌}
+use Rattle.std.proofs.Common.{◌≡◌, ℕ, inl, inr, true, List, [], ◌∷◌, ◌++◌, sym, ◌∙◌, ap, subst}
+use Rattle.std.specs.Prelude.{Contains}
 use Rattle.std.proofs.lemmas.Bool.{cases_Bool}
 use Rattle.jm_model.specs.Bindings.{is_below, empty}
 use Rattle.jm_model.specs.Meanings.{Meaning, IsHit}
@@ -13,7 +13,7 @@ use Rattle.jm_semantics.proofs.ListLemmas.{Contains-map, Contains-head, Contains
 use Rattle.jm_semantics.proofs.HistoryLemmas.{slice_of-apart}
 use Rattle.jm_semantics.proofs.InstanceLemmas.{instance-append, instance-apart, instance-join, empty-instance}
 use Rattle.jm_core.specs.declared.stored.Stored.{Stored}
-use Rattle.jm_core.specs.Stores.{AreInstances, HasInstance, instances_of, IsMonitorOf, IsStoreOf, AreMonitorsAbove, IsCommitted}
+use Rattle.jm_core.specs.Stores.{AreInstances, instances_of, IsMonitorOf, IsStoreOf, AreMonitorsAbove, IsCommitted}
 use Rattle.jm_core.specs.Reports.{IsReport, IsFull}
 use Rattle.jm_core.proofs.ListLemmas.{Contains-from_map, sorted-one}
 

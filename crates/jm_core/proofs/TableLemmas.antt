@@ -1,4 +1,4 @@
-use Rattle.std.proofs.Common.{◌≡◌, ◌≢◌, ℕ, ◌^◌, ◌<◌, List, [], ◌∷◌, ◌++◌, Bool, true, false, refl, sym, ◌∙◌, ap, subst, inl, arith}
+use Rattle.std.proofs.Common.{◌≡◌, ℕ, ◌^◌, ◌<◌, List, [], ◌∷◌, ◌++◌, true, false, refl, sym, subst, inl}
 use Rattle.std.specs.Prelude.{◌↔◌, IsBitSet, slice_index}
 use mathlib.Core.Bool.{true≢false}
 use Rattle.jm_model.specs.Meanings.{IsHit}

@@ -1,5 +1,5 @@
 -- What the tests' monitors mean: tables of states, four letters wide, with a mask of handlers for each state.
-use Rattle.std.specs.Prelude.{ℕ, ◌≡◌, ◌+◌, ◌*◌, List, [], ◌∷◌, Bool, true, false, slice_index, length, IsBitSet}
+use Rattle.std.specs.Prelude.{ℕ, ◌+◌, ◌*◌, List, [], ◌∷◌, Bool, true, false, slice_index, length, IsBitSet}
 use Rattle.jm_model.specs.Meanings.{Meaning}
 
 -- the masks of the letters' parameters, the states that the letters lead to, the handlers that the states hit, and

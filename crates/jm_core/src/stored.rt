@@ -50,11 +50,7 @@ fn all_stored<S>(stored: &[Stored<S>], reached: &[Stored<S>]) -> bool
 }
 
 /// Writes the reached monitors over those above the binding, which are of the same instances.
-fn replace<S: Drop>(
-    binding: &Binding,
-    stored: &mut Vec<Stored<S>>,
-    mut reached: Vec<Stored<S>>,
-)
+fn replace<S: Drop>(binding: &Binding, stored: &mut Vec<Stored<S>>, mut reached: Vec<Stored<S>>)
     requires stored { IsStrictlySortedBy binding_cmp (instances_of stored.old.items) }
     requires reached { IsStrictlySortedBy binding_cmp (instances_of reached.items) }
     requires above { LieAbove binding.now reached.items }

@@ -1,7 +1,7 @@
-use Rattle.std.proofs.Common.{◌≡◌, ◌+◌, not, Vec, Global, List, [], ◌∷◌, ◌++◌, take, sym, ◌∙◌, ap, subst, arith}
+use Rattle.std.proofs.Common.{◌≡◌, ◌+◌, not, Vec, Global, List, [], ◌∷◌, ◌++◌, take, sym, ◌∙◌, ap, subst}
 use Rattle.std.proofs.lemmas.Bool.{cond-true}
 use Rattle.std.proofs.lemmas.List.{take_all}
-use Rattle.jm_model.specs.Bindings.{join, is_compatible}
+use Rattle.jm_model.specs.Bindings.{join}
 use Rattle.jm_core.specs.declared.stored.Stored.{Stored}
 use Rattle.jm_core.specs.declared.growth.Candidate.{Candidate}
 use Rattle.jm_core.specs.Stores.{IsAt}

@@ -1,6 +1,6 @@
-use Rattle.std.proofs.Common.{◌≡◌, ℕ, sym, ◌∙◌, ap, ◌==◌}
+use Rattle.std.proofs.Common.{sym, ◌∙◌, ap, ◌==◌}
 use Rattle.std.specs.Option.{option_copied}
-use Rattle.std.specs.Ordering.{ordering_index, is_eq}
+use Rattle.std.specs.Ordering.{ordering_index}
 use Rattle.std.specs.declared.cmp.Ordering.{Ordering}
 use Rattle.std.proofs.lemmas.Cmp.{is_eq_index}
 use Rattle.jm_model.specs.Bindings.{binding_cmp}

@@ -1,11 +1,10 @@
-use Rattle.std.proofs.Common.{◌≡◌, ◌<◌, ◌+◌, ◌≤◌, ℕ, List, [], ◌∷◌, ◌++◌, IfOk, length, sym, ◌∙◌, ap, subst}
+use Rattle.std.proofs.Common.{List, [], ◌∷◌, ◌++◌, length, sym, ◌∙◌, subst}
 use Rattle.jm_semantics.specs.Traces.{ParametricEvent}
 use Rattle.jm_core.specs.declared.stored.Stored.{Stored}
 use Rattle.jm_core.specs.declared.growth.Candidate.{Candidate}
 use Rattle.jm_core.specs.Growth.{AreCandidates, AreReachedFrom, HaveBases}
-use Rattle.jm_core.specs.Stores.{IsStoreOf, AreMonitorsAbove, instances_of}
+use Rattle.jm_core.specs.Stores.{AreMonitorsAbove}
 use Rattle.jm_core.specs.Reports.{IsReport}
-use Rattle.jm_core.specs.Plans.{IsPlanOf}
 use Rattle.jm_core.proofs.CandidateLemmas.{candidates_permuted, bases_inside}
 use Rattle.jm_core.proofs.GrowthLemmas.{above_from_reached}
 use Rattle.jm_core.proofs.StoreLemmas.{answer_from_report}

@@ -1,4 +1,4 @@
-use Rattle.std.proofs.Common.{◌≡◌, ℕ, ◌+◌, ◌++◌, List, [], ◌∷◌, sym, ◌∙◌, ap, append-nil, append_assoc, arith}
+use Rattle.std.proofs.Common.{◌≡◌, ℕ, ◌++◌, List, [], ◌∷◌, sym, ◌∙◌, ap, append-nil, append_assoc, arith}
 use Rattle.jm_model.specs.declared.firings.Firing.{Firing}
 use Rattle.jm_core.specs.Reports.{firings_below}
 use Rattle.jm_core.proofs.ReportLemmas.{hits_none, hits_more, hits_skip}

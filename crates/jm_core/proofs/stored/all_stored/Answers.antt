@@ -1,4 +1,4 @@
-use Rattle.std.proofs.Common.{◌≡◌, inl, inr, List, sym, ◌∙◌, ap, subst, rules}
+use Rattle.std.proofs.Common.{inl, inr, List, sym, ◌∙◌, subst, rules}
 use Rattle.std.proofs.lemmas.Fn.{always_returns_same}
 use Rattle.std.proofs.lemmas.List.{take_all}
 use Rattle.jm_model.specs.Bindings.{binding_cmp}

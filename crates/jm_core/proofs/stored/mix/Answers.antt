@@ -1,9 +1,7 @@
-use Rattle.std.proofs.Common.{◌≡◌, ◌+◌, ◌++◌, not, List, sym, ◌∙◌, ap, subst, rules, arith, IsPermutation}
+use Rattle.std.proofs.Common.{◌≡◌, ◌++◌, not, List, ◌∙◌, ap, subst, rules, arith, IsPermutation}
 use Rattle.std.specs.Prelude.{filter}
-use Rattle.std.specs.Vec.{vec_len}
 use Rattle.std.specs.Ordering.{is_lt}
 use Rattle.std.proofs.lemmas.Bool.{cond-true}
-use Rattle.std.proofs.lemmas.Cmp.{on_total}
 use Rattle.std.proofs.lemmas.Fn.{filter_same}
 use Rattle.std.proofs.lemmas.List.Sorted.{ranks_by, answers_always}
 use Rattle.jm_model.specs.Bindings.{is_below, binding_cmp}

@@ -31,8 +31,8 @@ loop-at-preserved g c =
           record {
             size = ap (λ (l : Monitors). length l) written ∙ length-set old i r ∙ c.loop-at.invariant.size;
             done = ap (λ (l : Monitors). take (i + 1) l ++ replaced b (drop (i + 1) l) (reverse c.if-le.reached.items)) written
-            ∙ sym (step_write b old i x at r (reverse c.if-le.reached.items) (sym c.le.ensures ∙ w.if-le.true))
-            ∙ sym (ap (λ (l : Monitors). take i old ++ replaced b (drop i old) l) turned) ∙ c.loop-at.invariant.done;
+                ∙ sym (step_write b old i x at r (reverse c.if-le.reached.items) (sym c.le.ensures ∙ w.if-le.true))
+                ∙ sym (ap (λ (l : Monitors). take i old ++ replaced b (drop i old) l) turned) ∙ c.loop-at.invariant.done;
           }
       | then-le+in-None w ↦
           let same : c.if-le.stored.items ≡ old = ap (λ (v : Vec (Stored g.row.S.Denot) Global). v.items) w.stored-is in
@@ -42,8 +42,8 @@ loop-at-preserved g c =
           record {
             size = ap (λ (l : Monitors). length l) same ∙ c.loop-at.invariant.size;
             done = (λ j. take (i + 1) (same j) ++ replaced b (drop (i + 1) (same j)) (reverse (left j)))
-            ∙ sym (step_none b old i x at (sym c.le.ensures ∙ w.if-le.true))
-            ∙ sym (ap (λ (l : Monitors). take i old ++ replaced b (drop i old) (reverse l)) none) ∙ c.loop-at.invariant.done;
+                ∙ sym (step_none b old i x at (sym c.le.ensures ∙ w.if-le.true))
+                ∙ sym (ap (λ (l : Monitors). take i old ++ replaced b (drop i old) (reverse l)) none) ∙ c.loop-at.invariant.done;
           }
       | else-le w ↦
           let same : c.if-le.stored.items ≡ old = ap (λ (v : Vec (Stored g.row.S.Denot) Global). v.items) w.stored-is in
@@ -51,7 +51,7 @@ loop-at-preserved g c =
           record {
             size = ap (λ (l : Monitors). length l) same ∙ c.loop-at.invariant.size;
             done = (λ j. take (i + 1) (same j) ++ replaced b (drop (i + 1) (same j)) (reverse (left j)))
-            ∙ sym (step_keep b old i x at (reverse ms) (sym c.le.ensures ∙ w.if-le.false)) ∙ c.loop-at.invariant.done;
+                ∙ sym (step_keep b old i x at (reverse ms) (sym c.le.ensures ∙ w.if-le.false)) ∙ c.loop-at.invariant.done;
           }
     ]
 

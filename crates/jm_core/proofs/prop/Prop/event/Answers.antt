@@ -1,5 +1,4 @@
 use Rattle.std.proofs.Common.{◌≡◌, ◌++◌, List, [], ◌∷◌, sym, ◌∙◌, ap, subst}
-use Rattle.jm_model.specs.declared.binding.Binding.{Binding}
 use Rattle.jm_model.specs.declared.firings.Firing.{Firing}
 use Rattle.jm_model.specs.declared.step.Step.{Step}
 use Rattle.jm_model.specs.declared.step.Step.TheVariants.{Event}
@@ -9,7 +8,6 @@ use Rattle.jm_history.specs.Nodes.{answered}
 use Rattle.jm_semantics.specs.Traces.{ParametricEvent}
 use Rattle.jm_semantics.specs.Histories.{trace_of}
 use Rattle.jm_semantics.specs.Answers.{IsAnswer}
-use Rattle.jm_semantics.specs.Legality.{IsStepOf}
 use Rattle.jm_core.specs.declared.stored.Stored.{Stored}
 use Rattle.jm_core.specs.Cores.{Core, IsCore, IsEventOf}
 use Rattle.jm_core.specs.Stores.{IsCommitted}

@@ -1,8 +1,7 @@
-use Rattle.std.proofs.Common.{◌≡◌, ◌+◌, ◌++◌, [], ◌∷◌, ℕ, List, take, sym, ◌∙◌, ap, subst}
+use Rattle.std.proofs.Common.{◌+◌, ◌++◌, [], ◌∷◌, ℕ, List, take, sym, ◌∙◌, ap, subst}
 use mathlib.Core.List.{IsPrefix}
 use Rattle.jm_model.specs.declared.step.Step.{Step}
 use Rattle.jm_semantics.specs.Legality.{IsLegal}
-use Rattle.jm_history.specs.Nodes.{answered}
 use Rattle.jm_core.specs.Cores.{Core, Replayed, ReplayedInPart}
 use Rattle.jm_core.proofs.ReplayLemmas.{replayed_none, replayed_more, stopped_before, stopped_after, extended, take_with_item, take_is_prefix}
 use Rattle.jm_core.proofs.prop.Prop.replay.Goals as goal
