@@ -1,11 +1,15 @@
 use Rattle.std.specs.Prelude.{ℕ, ◌≡◌, ◌≢◌, ◌<◌, List, [], ◌∷◌, ◌++◌, map, All, ◌⊎◌}
 use mathlib.Core.List.{IsPrefix}
 use Rattle.jm_model.specs.Meanings.{Meaning}
-use Rattle.jm_model.specs.Bindings.{mask_of}
+use Rattle.jm_model.specs.Bindings.{objects_of}
 use Rattle.jm_model.specs.declared.step.Step.{Step}
 use Rattle.jm_model.specs.declared.step.Step.TheVariants.{Event, Death, Pass}
 use Rattle.jm_model.specs.declared.step.Outcome.TheVariants.{NoMemory}
 use Rattle.jm_model.specs.declared.step.Entry.{Entry}
+use Rattle.jm_semantics.specs.Histories.{trace_of, dead_of}
+use Rattle.jm_semantics.specs.Legality.{IsLegal, IsStepOf}
+use Rattle.jm_core.specs.declared.stored.Stored.{Stored}
+use Rattle.jm_core.specs.Stores.{IsStoreOf}
 
 -- what a core is seen as: what its specification means, as plain data, how many objects there are, and its history
 pub record Core (D : Type 0) : Type 0 where
@@ -13,11 +17,17 @@ pub record Core (D : Type 0) : Type 0 where
   pub objects : ℕ
   pub entries : List Entry
 
--- the step is an event of the specification that binds parameter 0 alone
-abbrev pub IsFirstParameterEvent : Meaning → Step → Type 0
-IsFirstParameterEvent m (Event e b) = (e.0 < m.letters) × (mask_of b ≡ 1)
-IsFirstParameterEvent m (Death o) = ⊥
-IsFirstParameterEvent m Pass = ⊥
+-- the step is an event of the specification, of objects below n
+abbrev pub IsEventOf : Meaning → ℕ → Step → Type 0
+IsEventOf m n (Event e b) = IsStepOf m (Event e b) × All (λ o. o < n) (objects_of b)
+IsEventOf m n (Death o) = ⊥
+IsEventOf m n Pass = ⊥
+
+-- A core's history is legal, its monitors are those of the history, and nothing has died so far.
+pub record IsCore (m : Meaning) {S : Type 0} (Stands : S → List ℕ → Type 0) (entries : List Entry) (stored : List (Stored S)) : Type 0 where
+  pub legal : IsLegal m entries
+  pub store : IsStoreOf Stands (trace_of entries) stored
+  pub no_death : dead_of entries ≡ []
 
 -- an entry's line and step
 abbrev pub line_and_step : Entry → ℕ × Step

@@ -1,62 +1,95 @@
 ghost use Rattle.std.specs.Prelude.{◌≡◌, ◌<◌, [], ◌∷◌, ◌++◌, All, IfOk, OnOk, OnErr};
-ghost use Rattle.jm_core.specs.Cores.{IsFirstParameterEvent, Replayed, ReplayedInPart};
 ghost use Rattle.jm_history.specs.Nodes.{answered};
+ghost use Rattle.jm_semantics.specs.Legality.{IsLegal};
+ghost use Rattle.jm_semantics.specs.Histories.{trace_of};
+ghost use Rattle.jm_core.specs.Cores.{IsEventOf, Replayed, ReplayedInPart};
+ghost use Rattle.jm_core.specs.Stores.{AreInstances};
 
+use crate::plan::work_out;
+use crate::stored::{Stored, commit};
 use jm_history::{History, Node};
-use jm_model::{Binding, Firing, Firings, Letter, Monitor, NoMemory, Outcome, Step};
+use jm_model::{Binding, Monitor, NoMemory, Outcome, Step};
 use std::alloc::Global;
 use std::marker::Model;
-
-/// A monitor of one instance.
-#[derive(Drop)]
-struct Stored<M: Monitor> {
-    instance: Binding,
-    state: M::State,
-}
 
 /// The core of one specification, over a number of objects.
 #[derive(Drop)]
 pub struct Prop<M: Monitor> {
     rules: M,
     objects: u32,
-    /// The monitors, in the order of their instances.
-    stored: Vec<Stored<M>>,
+    /// A monitor for each instance, in the order of instances.
+    stored: Vec<Stored<M::State>>,
     history: History,
     alloc: Global,
 }
 
 impl<M: Monitor> Model for Prop<M> {
-    ghost use Rattle.std.specs.Prelude.{List, ℕ};
-    ghost use Rattle.jm_core.specs.Cores.{Core};
+    ghost use Rattle.jm_core.specs.Cores.{Core, IsCore};
 
     ghost Value = { Core M.Definition };
 
     ghost view = { λ p. record { definition = M.definition p.rules; objects = p.objects; entries = p.history } };
+
+    ghost invariant = { λ p. IsCore (M.meaning (M.definition p.rules)) (M.StandsFor p.rules) p.history p.stored.items };
 }
 
 impl<M: Monitor> Prop<M> {
     /// A core without history. All its objects live.
     pub fn new(alloc: Global, rules: M, objects: u32) -> Result<Prop<M>, NoMemory>
-        ensures { IfOk result (λ prop. prop ≡ record { definition = M.definition rules; objects = objects; entries = [] }) }
+        ensures value { IfOk result (λ prop. prop ≡ record { definition = M.definition rules; objects = objects; entries = [] }) }
+        ensures legal { IfOk result (λ prop. IsLegal (M.meaning prop.definition) prop.entries) }
     {
+        let state = rules.begin()?;
+        let mut stored = Vec::new(alloc);
+        let monitor = Stored {
+            instance: Binding::empty(),
+            state,
+        };
+        if stored.push(monitor).is_err() {
+            return Err(NoMemory);
+        }
         Ok(Prop {
             rules,
             objects,
-            stored: Vec::new(alloc),
+            stored,
             history: History::new(),
             alloc,
         })
     }
 
+    /// Does an event, and records it with the outcome that it answers. At NoMemory all but the history is as before.
+    pub fn event(&mut self, node: Node) -> Outcome
+        requires { IsEventOf (M.meaning self.old.definition) self.old.objects node.step }
+        ensures added { self.new ≡ record self.old { entries = self.old.entries ++ answered node result ∷ [] } }
+        ensures legal { IsLegal (M.meaning self.new.definition) self.new.entries }
+    {
+        let Step::Event { letter, binding } = node.step() else {
+            unreachable!()
+        };
+        match work_out(self.alloc, &self.rules, &mut self.stored, *letter, binding) {
+            Ok(plan) => {
+                commit(binding, &mut self.stored, plan.reached);
+                self.history.push(node, Outcome::Fired(plan.copy));
+                Outcome::Fired(plan.answer)
+            }
+            Err(NoMemory) => {
+                self.history.push(node, Outcome::NoMemory);
+                Outcome::NoMemory
+            }
+        }
+    }
+
     /// Does a caller's steps in order, and records each with its line. It stops at the first that meets want of
-    /// memory. So far the steps are events that bind the first parameter alone.
+    /// memory. So far the steps are events.
     pub fn replay(&mut self, caller: u32, steps: &[(u32, Step)]) -> Result<(), NoMemory>
-        requires { All (λ s. IsFirstParameterEvent (M.meaning self.old.definition) s.1) steps.now }
+        requires { All (λ s. IsEventOf (M.meaning self.old.definition) self.old.objects s.1) steps.now }
         ensures ok { OnOk result (Replayed caller steps.now self.old self.new) }
         ensures err { OnErr result (ReplayedInPart caller steps.now self.old self.new) }
+        ensures legal { IsLegal (M.meaning self.new.definition) self.new.entries }
     {
+        let alloc = self.alloc;
         for (line, step) in steps {
-            let Ok(node) = Node::new(self.alloc, caller, *line, *step) else {
+            let Ok(node) = Node::new(alloc, caller, *line, *step) else {
                 return Err(NoMemory);
             };
             if let Outcome::NoMemory = self.event(node) {
@@ -68,70 +101,23 @@ impl<M: Monitor> Prop<M> {
 
     /// The history.
     pub fn history(&self) -> &History
-        ensures { result.now ≡ self.now.entries }
+        ensures value { result.now ≡ self.now.entries }
+        ensures legal { IsLegal (M.meaning self.now.definition) self.now.entries }
     {
         &self.history
     }
 
-    /// Does an event, and records it with the outcome that it answers.
-    fn event(&mut self, node: Node) -> Outcome
-        requires { IsFirstParameterEvent (M.meaning self.old.definition) node.step }
-        ensures { self.new ≡ record self.old { entries = self.old.entries ++ answered node result ∷ [] } }
+    /// The stored instances: those of the history, in order.
+    pub fn stored(&self) -> Result<Vec<Binding>, NoMemory>
+        ensures value { IfOk result (λ instances. AreInstances (trace_of self.now.entries) instances.items) }
+        ensures legal { IsLegal (M.meaning self.now.definition) self.now.entries }
     {
-        let Step::Event { letter, binding } = node.step() else {
-            unreachable!()
-        };
-        match self.fire(*letter, *binding) {
-            Ok((firings, copy)) => {
-                self.history.push(node, Outcome::Fired(copy));
-                Outcome::Fired(firings)
-            }
-            Err(NoMemory) => {
-                self.history.push(node, Outcome::NoMemory);
-                Outcome::NoMemory
+        let mut instances = Vec::new(self.alloc);
+        for monitor in &self.stored {
+            if instances.push(monitor.instance).is_err() {
+                return Err(NoMemory);
             }
         }
-    }
-
-    /// Moves the monitor of the event's instance, and gives the answer twice.
-    fn fire(&mut self, letter: Letter, instance: Binding) -> Result<(Firings, Firings), NoMemory>
-        requires { letter.0 < (M.meaning self.old.definition).letters }
-        ensures same { self.new ≡ self.old }
-        ensures twice { IfOk result (λ r. r.0 ≡ r.1) }
-    {
-        let found = self
-            .stored
-            .binary_search_by(|monitor| monitor.instance.cmp(&instance));
-        let state = match found {
-            Ok(at) => self.rules.next(&self.stored[at].state, letter)?,
-            Err(_) => self.rules.next(&self.rules.begin()?, letter)?,
-        };
-        let firings = self.firings_of(&state, instance)?;
-        let copy = firings.copy()?;
-        match found {
-            Ok(at) => self.stored[at].state = state,
-            Err(at) => {
-                if self.stored.insert(at, Stored { instance, state }).is_err() {
-                    return Err(NoMemory);
-                }
-            }
-        }
-        Ok((firings, copy))
-    }
-
-    /// The handlers that a state hits, for its instance.
-    fn firings_of(&self, state: &M::State, instance: Binding) -> Result<Firings, NoMemory> {
-        let mut firings = Firings::new(self.alloc);
-        let must_bind = self.rules.must_bind();
-        if instance.mask() & must_bind != must_bind {
-            return Ok(firings);
-        }
-        let hits = self.rules.hits(state);
-        for handler in 0..16 {
-            if (hits >> handler) % 2 == 1 {
-                firings.push(Firing { instance, handler })?;
-            }
-        }
-        Ok(firings)
+        Ok(instances)
     }
 }
