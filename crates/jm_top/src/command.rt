@@ -173,7 +173,7 @@ fn replay(
     machine: Machine,
     script: &PlainScript,
 ) -> Result<String, NoMemory>
-    requires { All (λ s. IsPlainStep machine.letters s.1) script.now.steps.items }
+    requires { All (λ s. IsPlainStep machine.letters (length script.now.objects) s.1) script.now.steps.items }
 {
     let mut prop = Prop::new(alloc, machine, script.objects.len())?;
     prop.replay(0, &script.steps)?;

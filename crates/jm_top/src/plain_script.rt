@@ -28,7 +28,7 @@ pub(crate) fn read_plain_script(
     spec: &PlainSpec<'_>,
 ) -> Result<PlainScript, ScriptError>
     requires { length bytes.now < 2 ^ 32 }
-    ensures { IfOk result (λ script. All (λ s. IsPlainStep (vec_len spec.now.events) s.1) script.steps.items) }
+    ensures { IfOk result (λ script. All (λ s. IsPlainStep (vec_len spec.now.events) (length script.objects) s.1) script.steps.items) }
 {
     let mut script = PlainScript {
         steps: Vec::new(alloc),
@@ -49,8 +49,8 @@ fn read_line(
     spec: &PlainSpec<'_>,
     script: &mut PlainScript,
 ) -> Result<(), ScriptError>
-    requires { All (λ s. IsPlainStep (vec_len spec.now.events) s.1) script.old.steps.items }
-    ensures { OnOk result (All (λ s. IsPlainStep (vec_len spec.now.events) s.1) script.new.steps.items) }
+    requires { All (λ s. IsPlainStep (vec_len spec.now.events) (length script.old.objects) s.1) script.old.steps.items }
+    ensures { OnOk result (All (λ s. IsPlainStep (vec_len spec.now.events) (length script.new.objects) s.1) script.new.steps.items) }
 {
     let line = line.strip_suffix(b"\r").unwrap_or(line);
     let mut words = line
@@ -85,7 +85,10 @@ fn letter_of(word: &[u8], spec: &PlainSpec<'_>) -> Option<Letter>
 }
 
 /// The number of an object, which is new or known.
-fn number_of(word: &[u8], objects: &mut Names) -> Result<u32, ScriptError> {
+fn number_of(word: &[u8], objects: &mut Names) -> Result<u32, ScriptError>
+    ensures number { IfOk result (λ number. number < length objects.new) }
+    ensures grows { length objects.old ≤ length objects.new }
+{
     let is_name = word.len() <= 255
         && word.iter().all(|b| b.is_ascii_alphanumeric()
             || matches!(*b, b'_' | b'$' | b'.' | b'@' | b'-'));
