@@ -11,11 +11,10 @@ use Rattle.jm_turn.specs.declared.rule.View.{View}
 use Rattle.jm_turn.specs.declared.rule.Joined.{Joined}
 use Rattle.jm_turn.specs.Lists.{total, times, entries_by, once_below}
 use Rattle.jm_turn.specs.Views.{joined_numbers, holders_of, number_at, numbers_in}
-use Rattle.jm_turn.specs.Rule.{AllKnow, AllBelow, Fits, RuleHolds}
+use Rattle.jm_turn.specs.Rule.{AllKnow, AllBelow, Fits, Homes, IsInSlot, IsHeld, RuleHolds}
 use Rattle.jm_turn.specs.TableSeats.{HasJoined, IsRecorded, IsValueOf}
 use Rattle.std.specs.Option.{IsSome, option_to_list}
-use Rattle.jm_turn.proofs.Sums.{times_self, total_one, total_two, total_some, once_below_most, once_below_in}
-use Rattle.jm_turn.proofs.TurnSteps.{bit}
+use Rattle.jm_turn.proofs.Sums.{times_self, total_one, total_two, total_some, once_below_most, once_below_in, one_if_true}
 
 -- how many are below m
 abbrev below : ℕ → List ℕ → ℕ
@@ -71,10 +70,6 @@ all_there m xs within long n less = dite (ℕ_discrete (times n xs) 0)
     absurd (omega arith))
     (λ some_there. omega arith)
 
-turned_on : (b : Bool) → bit b ≡ 1 → b ≡ true
-turned_on true e = refl
-turned_on false e = absurd (omega arith)
-
 some_same : {V : Type 0} (x y : V) → Some x ≡ Some y → x ≡ y
 some_same x y e = cc (e)
 
@@ -113,9 +108,9 @@ module _ {V E F : Type 0} (entries : V → List E) (caller : E → ℕ) (part : 
       let less : r.count ≤ most = omega arith in
       let there = all_there most (numbers_in v) (λ n. let a = total_one (number_at n) s.views id v at in let b = r.numbers n in let k = once_below_mono n r.count most less in omega arith) all_numbers in
       ⊎_elim
-      (λ (home : (y : V) × (s.homes ≡ some (Some y) ∷ []) × (entries y ≡ r.history) × (part y ≡ f) × (total holders_of s.views ≡ 0)). (
+      (λ (home : IsInSlot entries part f r.history s.homes (total holders_of s.views)). (
         home.0,
-        final.4 0 (Some home.0) (ap (λ (hs : List (mathlib.Core.Option.Option (Option V))). get_elem? hs 0) home.1),
+        final.4 0 (Some home.0) (ap (λ (hs : Homes V). get_elem? hs 0) home.1),
         record {
           fixed = home.3;
           seen = λ n h is. subst (λ (l : List E). IsPrefix h l) (sym home.2) (recorded_known r.history r.count v o n h is).0;
@@ -126,10 +121,10 @@ module _ {V E F : Type 0} (entries : V → List E) (caller : E → ℕ) (part : 
               there (caller e) (omega arith);
         },
       ))
-      (λ (busy : (s.homes ≡ none ∷ []) × (total holders_of s.views ≡ 1)).
+      (λ (busy : IsHeld s.homes (total holders_of s.views)).
       let holder = total_some holders_of s.views busy.1 in
       let j = holder.0 in let u = holder.1 in
-      let on : u.holder ≡ true = turned_on u.holder holder.3 in
+      let on : u.holder ≡ true = one_if_true u.holder holder.3 in
       let p = r.each j u holder.2 in
       let numbered = ticket_needs u.number u.ticket (length r.history) p.ticketed (p.served on) in
       let n = numbered.0 in

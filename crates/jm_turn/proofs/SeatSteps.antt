@@ -11,16 +11,16 @@ use lib.Seq.{set-get_or}
 use Rattle.atomic_table.specs.Table.{State, Me, step, keeps, Allows, Splits, Joins, opening}
 use Rattle.atomic_table.proofs.Lists.{at_snoc, set_else}
 use Rattle.jm_turn.specs.declared.rule.View.{View}
-use Rattle.jm_turn.specs.Lists.{total, times, entries_by, once_within, longer_of}
+use Rattle.jm_turn.specs.Lists.{total, one_if, times, entries_by, once_within, longer_of}
 use Rattle.jm_turn.specs.Views.{maker, idle_seat, plain_note, spent_view, with_one_fewer, new_maker, note_view_of, without_news, news, news_of, with_news, with_joined, joined_of, joined_numbers, ticket_at, tickets_of, holders_of, number_at, numbers_of, unnumbered_of, reserved_at, with_number, with_longer}
 use Rattle.jm_turn.specs.Rule.{Knows, Fits, RuleHolds}
 use Rattle.jm_turn.specs.Steps.{IsOneHistory, TakesNumber, Compares}
 use Rattle.std.specs.Option.{option_to_list}
 use Rattle.jm_turn.proofs.Sums.{times-append, total_set, total_same, total_one, total_two, total_fork, total_join, number_given, right_used, right_cut, no_right, no_parts, first_right, once_within_most}
 use Rattle.jm_turn.proofs.Prefixes.{all_know_append, all_below_more, entries_by_none, knows_longer, joined_numbers-append}
-use Rattle.jm_turn.proofs.TurnSteps.{others_stay, home_same, keep, bit}
+use Rattle.jm_turn.proofs.TurnSteps.{others_stay, home_same, keep}
 
-no_turns : (b : Bool) → b ≡ false → bit b ≡ 0
+no_turns : (b : Bool) → b ≡ false → one_if b ≡ 0
 no_turns true e = absurd (cc (e))
 no_turns false e = refl
 

@@ -1,5 +1,5 @@
 -- The steps of one turn keep the rule.
-use Rattle.std.proofs.Common.{◌≡◌, ℕ, ◌+◌, ◌%◌, ◌^◌, ◌<◌, ◌≤◌, ◌≢◌, Bool, true, false, cond, List, [], ◌∷◌, ◌++◌, length, get_or, set, Option, Some, None, sym, refl, ap, ◌∙◌, subst, inl, inr, ⊎_elim, arith, le_refl, length-append}
+use Rattle.std.proofs.Common.{◌≡◌, ℕ, ◌+◌, ◌%◌, ◌^◌, ◌<◌, ◌≤◌, ◌≢◌, ◌⊎◌, Bool, true, false, cond, List, [], ◌∷◌, ◌++◌, length, get_or, set, Option, Some, None, sym, refl, ap, ◌∙◌, subst, inl, inr, ⊎_elim, arith, le_refl, length-append}
 use Rattle.std.proofs.Math.Nat.{add-mod}
 use mathlib.Core.Logic.{dite}
 use mathlib.Core.Option.{some, none, some-injective}
@@ -12,14 +12,11 @@ use Rattle.atomic_table.proofs.Lists.{at_set, one_turn, set_again}
 use Rattle.jm_turn.specs.declared.rule.View.{View}
 use Rattle.jm_turn.specs.Lists.{total, times, entries_by, once_within}
 use Rattle.jm_turn.specs.Views.{idle_seat, joined_numbers, ticket_at, tickets_of, holders_of, number_at, numbers_of, unnumbered_of, reserved_at, with_ticket, waiting_seat, holding_seat}
-use Rattle.jm_turn.specs.Rule.{Knows, Fits, IsHome, RuleHolds}
+use Rattle.jm_turn.specs.Rule.{Knows, Fits, Homes, IsInSlot, IsHeld, RuleHolds}
 use Rattle.jm_turn.specs.Steps.{Draws, Looks, PassesOn}
 use Rattle.std.specs.Option.{option_to_list}
-use Rattle.jm_turn.proofs.Sums.{times-append, total_set, total_same, total_one, total_two, total_some, total_le, ticket_drawn, ticket_back, once_within_most, once_within_in, once_below_most, once_below_in, times_self}
+use Rattle.jm_turn.proofs.Sums.{times-append, total_set, total_same, total_one, total_two, total_some, total_le, ticket_drawn, ticket_back, once_within_most, once_within_in, once_below_most, once_below_in, times_self, one_if_true}
 use Rattle.jm_turn.proofs.Prefixes.{prefix_self, knows_more, all_know_more, all_below_snoc}
-
-abbrev pub bit : Bool → ℕ
-bit b = cond b 1 0
 
 abbrev some_or : {V : Type 0} → V → Option V → V
 some_or d None = d
@@ -35,19 +32,16 @@ module _ {A : Type 0} where
   others_stay P views id w mine others j v e = ⊎_elim (λ (t : (j ≡ id) × (w ≡ v)). subst P t.1 mine) (λ (t : (j ≢ id) × (get_elem? views j ≡ some v)). others j v t.0 t.1) (at_set views id j w v e)
 
 module _ {V E F : Type 0} (entries : V → List E) (caller : E → ℕ) (part : V → F) (f : F) (most : ℕ) where
-  abbrev pub St : Type 0
-  St = State (Option V) (View E F)
-
   abbrev pub Rule : State (Option V) (View E F) → Type 0
   Rule = RuleHolds entries caller part f most
 
-  pub home_same : (history : List E) (homes : List (mathlib.Core.Option.Option (Option V))) (m n : ℕ) → n ≡ m → IsHome entries part f history homes m → IsHome entries part f history homes n
-  home_same history homes m n same h = subst (IsHome entries part f history homes) (sym same) h
+  pub home_same : (history : List E) (homes : Homes V) (m n : ℕ) → n ≡ m → IsInSlot entries part f history homes m ⊎ IsHeld homes m → IsInSlot entries part f history homes n ⊎ IsHeld homes n
+  home_same history homes m n same h = subst (λ (k : ℕ). IsInSlot entries part f history homes k ⊎ IsHeld homes k) (sym same) h
 
   -- a step after which the sums, but that of the turns, are as before
-  pub keep : (s : State (Option V) (View E F)) (r : RuleHolds entries caller part f most s) (id : ℕ) (v w : View E F) → get_elem? s.views id ≡ some v → (homes : List (mathlib.Core.Option.Option (Option V)))
+  pub keep : (s : State (Option V) (View E F)) (r : RuleHolds entries caller part f most s) (id : ℕ) (v w : View E F) → get_elem? s.views id ≡ some v → (homes : Homes V)
       → Fits caller f r.history r.count w → ((t : ℕ) → ticket_at t w ≡ ticket_at t v) → tickets_of w ≡ tickets_of v → ((m : ℕ) → number_at m w ≡ number_at m v) → numbers_of w ≡ numbers_of v → unnumbered_of w ≡ unnumbered_of v → w.next_number ≡ v.next_number
-      → IsHome entries part f r.history homes (total holders_of (set s.views id w)) → RuleHolds entries caller part f most record { words = s.words; homes = homes; views = set s.views id w }
+      → IsInSlot entries part f r.history homes (total holders_of (set s.views id w)) ⊎ IsHeld homes (total holders_of (set s.views id w)) → RuleHolds entries caller part f most record { words = s.words; homes = homes; views = set s.views id w }
   keep s r id v w at homes fits a b c d e due home = record {
     history = r.history;
     next = r.next;
@@ -65,15 +59,11 @@ module _ {V E F : Type 0} (entries : V → List E) (caller : E → ℕ) (part : 
     home = home;
   }
 
-  pub turn_true : (b : Bool) → bit b ≡ 1 → b ≡ true
-  turn_true true e = refl
-  turn_true false e = absurd (omega arith)
-
   -- no seat has the first ticket but the one whose turn has with_turn
   two_turns : {s : State (Option V) (View E F)} (r : RuleHolds entries caller part f most s) (id n t : ℕ) (h : List E) → get_elem? s.views id ≡ some (waiting_seat n t h f) → length r.history ≡ t
       → (j : ℕ) (u : View E F) → get_elem? s.views j ≡ some u → holders_of u ≡ 1 → ⊥
   two_turns {s} r id n t h at mine j u there turn =
-      let on : u.holder ≡ true = turn_true u.holder turn in
+      let on : u.holder ≡ true = one_if_true u.holder turn in
       let theirs : u.ticket ≡ Some t = (r.each j u there).served on ∙ ap Some mine in
       let same : ticket_at t u ≡ times t (t ∷ []) = ap (λ (o : Option ℕ). times t (option_to_list o)) theirs in
       dite (ℕ_discrete id j)
@@ -137,11 +127,11 @@ module _ {V E F : Type 0} (entries : V → List E) (caller : E → ℕ) (part : 
       let low = within.0 in let high = within.1 in
       let mine : length r.history ≡ t = one_turn (length r.history) t (2 ^ 64) low (omega arith) (sym serving ∙ hit) in
       ⊎_elim
-      (λ (home : (y : V) × (s.homes ≡ some (Some y) ∷ []) × (entries y ≡ r.history) × (part y ≡ f) × (total holders_of s.views ≡ 0)).
+      (λ (home : IsInSlot entries part f r.history s.homes (total holders_of s.views)).
       let y : V = home.0 in let w : View E F = holding_seat n t (entries y) f in (
         w,
         takes 0 (Some y),
-        subst (λ (hs : List (mathlib.Core.Option.Option (Option V))). get_elem? hs 0 ≡ some (some (Some y))) (sym home.1) refl,
+        subst (λ (hs : Homes V). get_elem? hs 0 ≡ some (some (Some y))) (sym home.1) refl,
         subst (λ (ws : List ℕ). Rule record { words = ws; homes = set s.homes 0 none; views = set s.views id w }) (sym (set-get_or s.words 1 0))
             (keep s r id v w at (set s.homes 0 none)
             (record {
@@ -155,7 +145,7 @@ module _ {V E F : Type 0} (entries : V → List E) (caller : E → ℕ) (part : 
               fixed = inl refl;
             })
             (λ _. refl) refl (λ _. refl) refl refl refl
-            (inr (ap (λ (hs : List (mathlib.Core.Option.Option (Option V))). set hs 0 none) home.1, (let k = total_set holders_of s.views id v w at in let z = home.4 in omega arith)))),
+            (inr (ap (λ (hs : Homes V). set hs 0 none) home.1, (let k = total_set holders_of s.views id v w at in let z = home.4 in omega arith)))),
         λ t' same.
             let e : t ≡ t' = cc in (
               (λ miss. absurd (miss (hit ∙ ap (λ (x : ℕ). x % 2 ^ 64) e))),
@@ -168,7 +158,7 @@ module _ {V E F : Type 0} (entries : V → List E) (caller : E → ℕ) (part : 
               )),
             ),
       ))
-      (λ (busy : (s.homes ≡ none ∷ []) × (total holders_of s.views ≡ 1)).
+      (λ (busy : IsHeld s.homes (total holders_of s.views)).
       let holder = total_some holders_of s.views busy.1 in
       absurd (two_turns r id n t h at mine holder.0 holder.1 holder.2 holder.3))
       r.home)
@@ -240,11 +230,11 @@ module _ {V E F : Type 0} (entries : V → List E) (caller : E → ℕ) (part : 
       let is_n = r.numbers n in
       let below : n < r.count = once_below_in n r.count (omega arith) in
       let one_turn_out : total holders_of s.views ≡ 1 = ⊎_elim
-      (λ (home : (y : V) × (s.homes ≡ some (Some y) ∷ []) × (entries y ≡ r.history) × (part y ≡ f) × (total holders_of s.views ≡ 0)). let z = home.4 in let k = total_one holders_of s.views id v at in absurd (omega arith))
-      (λ (busy : (s.homes ≡ none ∷ []) × (total holders_of s.views ≡ 1)). busy.1) r.home in
+      (λ (home : IsInSlot entries part f r.history s.homes (total holders_of s.views)). let z = home.4 in let k = total_one holders_of s.views id v at in absurd (omega arith))
+      (λ (busy : IsHeld s.homes (total holders_of s.views)). busy.1) r.home in
       let home' : set s.homes 0 (some (Some y)) ≡ some (Some y) ∷ [] = ⊎_elim
-      (λ (home : (y : V) × (s.homes ≡ some (Some y) ∷ []) × (entries y ≡ r.history) × (part y ≡ f) × (total holders_of s.views ≡ 0)). ap (λ (hs : List (mathlib.Core.Option.Option (Option V))). set hs 0 (some (Some y))) home.1)
-      (λ (busy : (s.homes ≡ none ∷ []) × (total holders_of s.views ≡ 1)). ap (λ (hs : List (mathlib.Core.Option.Option (Option V))). set hs 0 (some (Some y))) busy.0) r.home in (
+      (λ (home : IsInSlot entries part f r.history s.homes (total holders_of s.views)). ap (λ (hs : Homes V). set hs 0 (some (Some y))) home.1)
+      (λ (busy : IsHeld s.homes (total holders_of s.views)). ap (λ (hs : Homes V). set hs 0 (some (Some y))) busy.0) r.home in (
         w,
         gives,
         tt,

@@ -40,7 +40,7 @@ pub fn await_turn<V: Kept, R: Wait>(
 }
 
 // Takes the value out of the slot, runs the act on it, and gives it back.
-pub fn run_act<V: Kept, A: Act<V>>(
+pub fn run_act<V: Kept + Drop, A: Act<V>>(
     table: &SharedTable<V>,
     place: &mut TableSeat<V>,
     act: A,
