@@ -1,4 +1,4 @@
-use Rattle.std.proofs.Common.{◌≡◌, ◌+◌, ◌-◌, [], length, ap, ◌∙◌, arith}
+use Rattle.std.proofs.Common.{◌≡◌, ◌+◌, ◌-◌, [], ap, ◌∙◌, arith}
 use Rattle.jm_turn.specs.Views.{given_part, maker}
 use Rattle.jm_turn.specs.Seats.{lock_model, newcomer}
 use Rattle.jm_turn.proofs.Newcomers.{newcomers_more}
