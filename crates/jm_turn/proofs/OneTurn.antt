@@ -1,10 +1,11 @@
 -- The steps of one turn, put together.
 use Rattle.std.proofs.Common.{◌≡◌, ℕ, List, [], ◌∷◌, ◌++◌, Option, Some, sym, ap, ◌∙◌}
 use Rattle.atomic_table.specs.Table.{Me}
+use Rattle.atomic_table.specs.declared.shared.Seat.{Seat}
 use Rattle.jm_turn.specs.declared.rule.View.{View}
 use Rattle.jm_turn.specs.Views.{idle_seat, with_ticket, with_turn, waiting_seat, holding_seat, seat_view, note_view, plain_note}
 use Rattle.jm_turn.specs.Steps.{TurnComes}
-use Rattle.jm_turn.specs.TableSeats.{IsSeatAtRest, HasRun}
+use Rattle.jm_turn.specs.TableSeats.{IsSeatAtRest, HasRun, HasActed}
 use Rattle.jm_turn.specs.Seats.{LockId, SeatModel, LockModel, NoteModel, id_of, IsSeatOf, IsNoteOf}
 use Rattle.atomic_table.specs.Seated.{TableId}
 use Rattle.jm_turn.proofs.TurnSteps.{first_value}
@@ -20,21 +21,30 @@ module _ {V E F : Type 0} (entries : V → List E) (caller : E → ℕ) (part : 
   came me me1 me2 e d c = let one = drew me me1 e d in
       (c.1 ∙ ap (λ (m : Me (Option V) (View E F)). (with_turn (entries c.0) m.0, (0, Some c.0) ∷ m.1)) one, c.3 f (ap (λ (m : Me (Option V) (View E F)). m.0.fixed) one))
 
-  module _ (relates : F → List E → List E → Type 0) (me me1 me2 me3 : Me (Option V) (View E F)) (e : me ≡ (idle_seat n me.0.seen f, [])) (d : me1 ≡ (with_ticket t me.0, [])) (c : TurnComes entries caller part me1 me2)
-      (y : V) (out : me2.1 ≡ (0, Some y) ∷ []) (k : ℕ) (same : k ≡ n) (ran : HasRun entries caller part k y (relates (part y)) me2 me3) where
-    is_y : c.0 ≡ y
-    is_y = ap (first_value c.0) (sym (ap (λ (m : Me (Option V) (View E F)). m.1) (came me me1 me2 e d c).0) ∙ out)
+  -- after the act the seat can pass the turn on
+  module _ {R : Type 0} (relates : F → List E → R → List E → Type 0) (answer : R) (k : ℕ) (me me1 me2 me3 : Me (Option V) (View E F)) (e : me ≡ (idle_seat n me.0.seen f, [])) (d : me1 ≡ (with_ticket t me.0, []))
+      (c : TurnComes entries caller part me1 me2) (same : k ≡ n) (ran : HasRun entries caller part k relates answer me2 me3) where
+    is_value : c.0 ≡ ran.before
+    is_value = ap (first_value c.0) (sym (ap (λ (m : Me (Option V) (View E F)). m.1) (came me me1 me2 e d c).0) ∙ ran.held)
 
-    pub held : me3 ≡ (holding_seat n t (entries y) f, (0, Some ran.0) ∷ [])
-    held = ran.2 ∙ ap (λ (m : Me (Option V) (View E F)). (m.0, (0, Some ran.0) ∷ [])) (came me me1 me2 e d c).0 ∙ ap (λ (z : V). (holding_seat n t (entries z) f, (0, Some ran.0) ∷ [])) is_y
+    held : me3 ≡ (holding_seat n t (entries ran.before) f, (0, Some ran.after) ∷ [])
+    held = ran.holds ∙ ap (λ (m : Me (Option V) (View E F)). (m.0, (0, Some ran.after) ∷ [])) (came me me1 me2 e d c).0 ∙ ap (λ (z : V). (holding_seat n t (entries z) f, (0, Some ran.after) ∷ [])) is_value
 
-    pub done : (me3 ≡ (holding_seat n t me3.0.seen f, (0, Some ran.0) ∷ [])) × (entries ran.0 ≡ me3.0.seen ++ ran.1 ∷ []) × (caller ran.1 ≡ n) × (part ran.0 ≡ f)
-    done = let seen : me3.0.seen ≡ entries y = ap (λ (m : Me (Option V) (View E F)). m.0.seen) held in (
-      held ∙ ap (λ (l : List E). (holding_seat n t l f, (0, Some ran.0) ∷ [])) (sym seen),
-      ran.3 ∙ ap (λ (l : List E). l ++ ran.1 ∷ []) (sym seen),
-      ran.4 ∙ same,
-      ran.5 ∙ (ap part (sym is_y) ∙ (came me me1 me2 e d c).1),
-    )
+    pub acts : (lock : LockModel F) (p : Seat (Option V) (View E F)) → p.me ≡ me3 → p.table_id ≡ lock.table → lock.fixed ≡ f → HasActed entries caller part lock p
+    acts lock p is table fixed =
+        let seen : me3.0.seen ≡ entries ran.before = ap (λ (m : Me (Option V) (View E F)). m.0.seen) held in
+        let whole : me3 ≡ (holding_seat n t me3.0.seen f, (0, Some ran.after) ∷ []) = held ∙ ap (λ (l : List E). (holding_seat n t l f, (0, Some ran.after) ∷ [])) (sym seen) in
+        record {
+          number = n;
+          ticket = t;
+          entry = ran.entry;
+          value = ran.after;
+          table = table;
+          holds = is ∙ (whole ∙ (λ i. (holding_seat n t (sym is i).0.seen (sym fixed i), (0, Some ran.after) ∷ [])));
+          longer = ran.longer ∙ ap (λ (l : List E). l ++ ran.entry ∷ []) (sym seen ∙ ap (λ (m : Me (Option V) (View E F)). m.0.seen) (sym is));
+          mine = ran.mine ∙ same;
+          fixed = ran.fixed ∙ (ap part (sym is_value) ∙ ((came me me1 me2 e d c).1 ∙ sym fixed));
+        }
 
 -- a seat of a lock that was opened
 pub opens : {V E F : Type 0} (n : ℕ) (me : Me (Option V) (View E F)) (z y : TableId) (m : ℕ) (f : F) (seat : SeatModel E F) (lock : LockModel F) → IsSeatAtRest n me

@@ -2,9 +2,7 @@
 use Rattle.std.specs.Prelude.{◌≡◌, ℕ, List, [], ◌∷◌, ◌++◌, Option, Some, slice_get}
 use mathlib.Core.List.{IsPrefix}
 use Rattle.atomic_table.specs.Seated.{TableId}
-use Rattle.jm_turn.specs.declared.rule.Given.{Given}
 use Rattle.jm_turn.specs.Lists.{entries_by}
-use Rattle.jm_turn.specs.Views.{given_part}
 
 -- which lock it is, and the fixed part of its value; no seat and no note of a lock lacks the second
 pub record LockId (F : Type 0) : Type 0 where
@@ -27,10 +25,6 @@ pub record SeatModel (E F : Type 0) : Type 0 where
 pub record NoteModel (E F : Type 0) : Type 0 where
   pub lock : LockId F
   pub seen : List E
-
--- the lock over this table that was given this
-abbrev pub lock_model : {V F : Type 0} → (V → F) → TableId → Given V → LockModel F
-lock_model part z given = record { table = z; seats = given.seats; fixed = given_part part given }
 
 -- what its seats and notes know of the lock
 abbrev pub id_of : {F : Type 0} → LockModel F → LockId F
@@ -64,7 +58,8 @@ module _ {E F : Type 0} where
 abbrev pub HaveOneHistory : {E : Type 0} → List E → List E → Type 0
 HaveOneHistory {E} xs ys = (all : List E) × IsPrefix xs all × IsPrefix ys all
 
--- One turn: the act found a list that goes on from what the seat had seen, gave this answer, and left the list with one entry more, the seat's. The seat has seen that list, and the entry is one more of its own
+-- One turn. The act found a list that goes on from what the seat had seen, gave this answer, and left
+-- the list with one entry more, the seat's. The seat has seen that list, and the entry is one more of its own
 pub record TakesTurn {E F R : Type 0} (caller : E → ℕ) (relates : List E → R → List E → Type 0) (answer : R) (before after : SeatModel E F) : Type 0 where
   pub found : List E
   pub entry : E

@@ -1,8 +1,7 @@
 //! The making of the seats. Each is split off a seat without a number, and then takes the next one.
 ghost use Rattle.std.specs.Prelude.{◌≡◌, ℕ, ◌+◌, ◌-◌, ◌<◌, ◌≤◌, [], IfOk, vec_len};
-ghost use Rattle.jm_turn.specs.Views.{given_part, maker, news};
-ghost use Rattle.jm_turn.specs.TableSeats.{IsShaped, IsMaker};
-ghost use Rattle.jm_turn.specs.Seats.{AreNewcomers, lock_model, newcomer};
+ghost use Rattle.jm_turn.specs.TableSeats.{IsMaker, IsNews, IsShaped, lock_over};
+ghost use Rattle.jm_turn.specs.Seats.{AreNewcomers, newcomer};
 
 use crate::kept::Kept;
 use crate::rule::{SEATS, SharedTable, TableSeat};
@@ -14,9 +13,9 @@ use std::alloc::Global;
 // Numbers a seat: it has the next number. The news of it are for the seat that made it.
 fn take_number<V: Kept>(table: &SharedTable<V>, mut place: TableSeat<V>) -> (Seat<V>, TableSeat<V>)
     requires shape { IsShaped table.now.table_id }
-    requires maker { IsMaker table.now.table_id (given_part V.fixed_part table.now.key) 1 place.me.0.next_number place }
-    ensures seat { result.0 ≡ newcomer (lock_model V.fixed_part table.now.table_id table.now.key) place.me.0.next_number }
-    ensures news { (result.1.table_id ≡ table.now.table_id) × (result.1.me ≡ (news (place.me.0.next_number + 1) (given_part V.fixed_part table.now.key), [])) }
+    requires maker { IsMaker (lock_over V.fixed_part table.now) 1 place.me.0.next_number place }
+    ensures seat { result.0 ≡ newcomer (lock_over V.fixed_part table.now) place.me.0.next_number }
+    ensures news { IsNews (lock_over V.fixed_part table.now) (place.me.0.next_number + 1) result.1 }
 {
     let number = table.fetch_add::<Number>(&mut place, SEATS, 1);
     let news = table.split_seat::<Tell>(&mut place);
@@ -26,10 +25,12 @@ fn take_number<V: Kept>(table: &SharedTable<V>, mut place: TableSeat<V>) -> (Sea
 // Makes a seat.
 fn make_seat<V: Kept>(table: &SharedTable<V>, from: &mut TableSeat<V>) -> Seat<V>
     requires shape { IsShaped table.now.table_id }
-    requires maker { IsMaker table.now.table_id (given_part V.fixed_part table.now.key) from.old.me.0.unnumbered from.old.me.0.next_number from.old }
+    requires maker { IsMaker (lock_over V.fixed_part table.now)
+        from.old.me.0.unnumbered from.old.me.0.next_number from.old }
     requires one { 0 < from.old.me.0.unnumbered }
-    ensures maker { IsMaker table.now.table_id (given_part V.fixed_part table.now.key) (from.old.me.0.unnumbered - 1) (from.old.me.0.next_number + 1) from.new }
-    ensures seat { result ≡ newcomer (lock_model V.fixed_part table.now.table_id table.now.key) from.old.me.0.next_number }
+    ensures maker { IsMaker (lock_over V.fixed_part table.now)
+        (from.old.me.0.unnumbered - 1) (from.old.me.0.next_number + 1) from.new }
+    ensures seat { result ≡ newcomer (lock_over V.fixed_part table.now) from.old.me.0.next_number }
 {
     let place = table.split_seat::<MakeSeat>(from);
     let (seat, news) = take_number(table, place);
@@ -45,9 +46,10 @@ pub fn make_seats<V: Kept>(
     seats: u32,
 ) -> Result<Vec<Seat<V>>, NoMemory>
     requires shape { IsShaped table.now.table_id }
-    requires maker { IsMaker table.now.table_id (given_part V.fixed_part table.now.key) seats 0 first }
+    requires maker { IsMaker (lock_over V.fixed_part table.now) seats 0 first }
     requires one { 1 ≤ seats }
-    ensures { IfOk result (λ all. (vec_len all ≡ seats) × AreNewcomers (lock_model V.fixed_part table.now.table_id table.now.key) all.items) }
+    ensures len { IfOk result (λ all. vec_len all ≡ seats) }
+    ensures seats { IfOk result (λ all. AreNewcomers (lock_over V.fixed_part table.now) all.items) }
 {
     let Ok(mut all) = Vec::with_capacity(alloc, seats as usize) else {
         return Err(NoMemory);

@@ -1,9 +1,8 @@
 //! The steps of one turn: the seat draws a ticket, waits until it is served, acts on the value, and
 //! passes the turn on.
 ghost use Rattle.std.specs.Prelude.{◌≡◌, ℕ, [], ◌∷◌, Some};
-ghost use Rattle.jm_turn.specs.Views.{given_part};
 ghost use Rattle.jm_turn.specs.Steps.{TurnComes};
-ghost use Rattle.jm_turn.specs.TableSeats.{IsShaped, IsSameSeat, IsIdle, IsWaiting, HasDrawn, Holds, HasRun, HasActed, HasPassedOn};
+ghost use Rattle.jm_turn.specs.TableSeats.{HasActed, HasDrawn, HasPassedOn, HasRun, Holds, IsIdle, IsSameSeat, IsShaped, IsWaiting, lock_over};
 
 use crate::kept::{Act, Kept};
 use crate::rule::{SERVING, SharedTable, TICKET, TableSeat, VALUE};
@@ -14,8 +13,9 @@ use std::thread;
 // Draws a ticket: the word has the next one, modulo 2^64.
 pub fn draw<V: Kept>(table: &SharedTable<V>, place: &mut TableSeat<V>) -> u64
     requires shape { IsShaped table.now.table_id }
-    requires idle { IsIdle table.now.table_id (given_part V.fixed_part table.now.key) place.old }
-    ensures { IsSameSeat place.old place.new × HasDrawn result place.old.me place.new.me }
+    requires idle { IsIdle (lock_over V.fixed_part table.now) place.old }
+    ensures same { IsSameSeat place.old place.new }
+    ensures ticket { HasDrawn result place.old.me place.new.me }
 {
     table.fetch_add::<Draw>(place, TICKET, 1)
 }
@@ -28,8 +28,9 @@ pub fn await_turn<V: Kept, R: Wait>(
     ticket: u64,
 )
     requires shape { IsShaped table.now.table_id }
-    requires waiting { IsWaiting table.now.table_id (given_part V.fixed_part table.now.key) ticket place.old }
-    ensures { IsSameSeat place.old place.new × TurnComes V.entries V.caller_of V.fixed_part place.old.me place.new.me }
+    requires waiting { IsWaiting (lock_over V.fixed_part table.now) ticket place.old }
+    ensures same { IsSameSeat place.old place.new }
+    ensures turn { TurnComes V.entries V.caller_of V.fixed_part place.old.me place.new.me }
 {
     for _ in rt.forever() {
         if table.load::<Look>(place, SERVING) == ticket {
@@ -46,8 +47,11 @@ pub fn run_act<V: Kept + Drop, A: Act<V>>(
     act: A,
 ) -> A::Answer
     requires shape { IsShaped table.now.table_id }
-    requires holder { (place.old.table_id ≡ table.now.table_id) × ((y : V) × Holds place.old.me y × A.suits act (V.fixed_part y)) }
-    ensures { IsSameSeat place.old place.new × ((y : V) × Holds place.old.me y × HasRun V.entries V.caller_of V.fixed_part (A.number act) y (λ before after. A.relates act (V.fixed_part y) before result after) place.old.me place.new.me) }
+    requires seat { place.old.table_id ≡ table.now.table_id }
+    requires holder { (y : V) × Holds place.old.me y × A.suits act (V.fixed_part y) }
+    ensures same { IsSameSeat place.old place.new }
+    ensures run { HasRun V.entries V.caller_of V.fixed_part (A.number act) (A.relates act) result
+        place.old.me place.new.me }
 {
     let Some(mut value) = table.exchange(place, VALUE, None) else {
         unreachable!()
@@ -63,8 +67,9 @@ pub fn run_act<V: Kept + Drop, A: Act<V>>(
 // Passes the turn on to the next ticket.
 pub fn pass_on<V: Kept>(table: &SharedTable<V>, place: &mut TableSeat<V>)
     requires shape { IsShaped table.now.table_id }
-    requires acted { HasActed V.entries V.caller_of V.fixed_part table.now.table_id (given_part V.fixed_part table.now.key) place.old }
-    ensures { IsSameSeat place.old place.new × HasPassedOn V.entries place.old.me place.new.me }
+    requires acted { HasActed V.entries V.caller_of V.fixed_part (lock_over V.fixed_part table.now) place.old }
+    ensures same { IsSameSeat place.old place.new }
+    ensures passed { HasPassedOn V.entries place.old.me place.new.me }
 {
     table.fetch_add::<PassOn>(place, SERVING, 1);
 }

@@ -1,12 +1,13 @@
 use Rattle.std.proofs.Common.{◌≡◌, ◌+◌, ◌-◌, [], ap, ◌∙◌, arith}
 use Rattle.jm_turn.specs.Views.{given_part, maker}
-use Rattle.jm_turn.specs.Seats.{lock_model, newcomer}
+use Rattle.jm_turn.specs.Seats.{newcomer}
+use Rattle.jm_turn.specs.TableSeats.{lock_over}
 use Rattle.jm_turn.proofs.Newcomers.{newcomers_more}
 use Rattle.jm_turn.proofs.seating.make_seats.Goals as goal
 
 pub loop-made-preserved : goal.loop-made-preserved
 loop-made-preserved g c =
-    let f = given_part g.V.Kept.fixed_part c.args.table.now.key in let lock = lock_model g.V.Kept.fixed_part c.args.table.now.table_id c.args.table.now.key in
+    let f = given_part g.V.Kept.fixed_part c.args.table.now.key in let lock = lock_over g.V.Kept.fixed_part c.args.table.now in
     let i = c.loop-made.invariant in let m = c.make_seat.ensures in let p = c.push_reserved.ensures in
     let unnumbered : c.loop-made.first.me.0.unnumbered ≡ c.args.seats - c.loop-made.made = ap (λ m. m.0.unnumbered) i.maker.1 in
     let next : c.loop-made.first.me.0.next_number ≡ c.loop-made.made = ap (λ m. m.0.next_number) i.maker.1 in
@@ -19,12 +20,13 @@ loop-made-preserved g c =
       newcomers = rw p.items (newcomers_more lock c.loop-made.all.items c.make_seat.result c.loop-made.made (omega arith) i.newcomers (m.seat ∙ ap (newcomer lock) next));
     }
 
-pub returns : goal.returns
-returns g c =
-    let lock = lock_model g.V.Kept.fixed_part c.args.table.now.table_id c.args.table.now.key in
+pub returns-clause-len : goal.returns-clause-len
+returns-clause-len g c = let count = c.loop-made.invariant.count in let len = c.push_reserved-2.ensures.len in omega arith
+
+pub returns-clause-seats : goal.returns-clause-seats
+returns-clause-seats g c =
+    let lock = lock_over g.V.Kept.fixed_part c.args.table.now in
     let i = c.loop-made.invariant in let m = c.take_number-seat.ensures in let p = c.push_reserved-2.ensures in
     let next : c.loop-made.first.me.0.next_number ≡ c.loop-made.made = ap (λ m. m.0.next_number) i.maker.1 in
-    let count = i.count in let len = p.len in let all = c.loop-made.all.ok in (
-      omega arith,
-      rw p.items (newcomers_more lock c.loop-made.all.items c.take_number-seat.result.0 c.loop-made.made (omega arith) i.newcomers (m.seat ∙ ap (newcomer lock) next)),
-    )
+    let count = i.count in let all = c.loop-made.all.ok in
+    rw p.items (newcomers_more lock c.loop-made.all.items c.take_number-seat.result.0 c.loop-made.made (omega arith) i.newcomers (m.seat ∙ ap (newcomer lock) next))

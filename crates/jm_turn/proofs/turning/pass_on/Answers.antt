@@ -4,8 +4,8 @@ use Rattle.jm_turn.proofs.turning.pass_on.Goals as goal
 
 pub fetch_add-requires : goal.fetch_add-requires
 fetch_add-requires g c =
-    let s = c.requires.shape in let k = c.requires.acted.1 in (
-      c.requires.acted.0,
+    let s = c.requires.shape in let a = c.requires.acted in (
+      a.table,
       omega arith,
-      passes_at _ _ _ _ _ _ _ k.0 k.1 _ _ _ k.2 k.3 _ (omega arith) (omega arith) k.4 k.5 k.6 k.7,
+      passes_at _ _ _ _ _ _ _ a.number a.ticket _ _ _ a.entry a.value _ (omega arith) (omega arith) a.holds a.longer a.mine a.fixed,
     )

@@ -6,4 +6,4 @@ only_one : {V : Type 0} (l : List (ℕ × V)) (x : ℕ × V) → l ≡ x ∷ [] 
 only_one l x e = e ∙ ap (λ r. x ∷ r) (sym (ap rest e))
 
 pub exchange-requires : goal.exchange-requires
-exchange-requires g c = let k = c.requires.holder.1 in (c.requires.holder.0, (Some k.0, only_one _ _ k.1))
+exchange-requires g c = let k = c.requires.holder in (c.requires.seat, (Some k.0, only_one _ _ k.1))
