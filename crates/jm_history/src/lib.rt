@@ -8,3 +8,6 @@ mod node;
 pub use history::History;
 pub use jm_model::Entry;
 pub use node::Node;
+
+#[cfg(test)]
+mod tests;

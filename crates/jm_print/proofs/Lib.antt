@@ -1,2 +1,4 @@
 pub mod PairLemmas
 pub mod CountLemmas
+pub mod Cutting
+pub mod BindingsTold

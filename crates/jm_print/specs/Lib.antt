@@ -1,3 +1,4 @@
 pub mod Lexicons
 pub mod Texts
 pub mod Summaries
+pub mod Told

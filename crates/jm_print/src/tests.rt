@@ -57,3 +57,88 @@ fn all() -> Binding
     let half = pair().bind(2, 1).bind(3, 1).bind(4, 1);
     half.bind(5, 1).bind(6, 1).bind(7, 0)
 }
+
+fn none() -> Binding
+    ensures { result ≡ None ∷ None ∷ None ∷ None ∷ None ∷ None ∷ None ∷ None ∷ [] }
+{
+    Binding::empty()
+}
+
+/// The answer of two handlers, for an instance of eight parameters and for the empty one.
+fn answer(alloc: Global) -> Result<Firings, NoMemory>
+    ensures { IfOk result (λ f. f ≡
+        record { instance = None ∷ None ∷ None ∷ None ∷ None ∷ None ∷ None ∷ None ∷ []; handler = 1 }
+        ∷ record { instance = Some 0 ∷ Some 1 ∷ Some 1 ∷ Some 1 ∷ Some 1 ∷ Some 1 ∷ Some 1 ∷ Some 0 ∷ []; handler = 0 } ∷ []) }
+{
+    let mut firings = Firings::new(alloc);
+    firings.push(Firing {
+        instance: none(),
+        handler: 1,
+    })?;
+    firings.push(Firing {
+        instance: all(),
+        handler: 0,
+    })?;
+    Ok(firings)
+}
+
+fn add(
+    history: &mut History,
+    alloc: Global,
+    line: u32,
+    step: Step,
+    outcome: Outcome,
+) -> Result<(), NoMemory>
+    ensures { OnOk result (history.new ≡ history.old ++ record { caller = 0; line = line; step = step; outcome = outcome } ∷ []) }
+{
+    let node = Node::new(alloc, 0, line, step)?;
+    history.push(node, outcome);
+    Ok(())
+}
+
+/// An entry for each kind of row.
+fn history(alloc: Global) -> Result<History, NoMemory>
+    ensures { IfOk result (λ h. AllByRecursion (λ x. IsPrintable shop x) h) }
+{
+    let mut history = History::new();
+    let answer = answer(alloc)?;
+    let create = Step::Event {
+        letter: Letter(0),
+        binding: pair(),
+    };
+    let tick = Step::Event {
+        letter: Letter(1),
+        binding: none(),
+    };
+    add(&mut history, alloc, 1, create, Outcome::Fired(answer))?;
+    add(
+        &mut history,
+        alloc,
+        3_000_000_000,
+        tick,
+        Outcome::Fired(Firings::new(alloc)),
+    )?;
+    add(
+        &mut history,
+        alloc,
+        4,
+        Step::Death { object: 0 },
+        Outcome::Done,
+    )?;
+    add(&mut history, alloc, 5, create, Outcome::Refused(0))?;
+    add(
+        &mut history,
+        alloc,
+        6,
+        Step::Death { object: 0 },
+        Outcome::Refused(0),
+    )?;
+    add(
+        &mut history,
+        alloc,
+        7,
+        Step::Pass,
+        Outcome::Kept(12_345_678_901),
+    )?;
+    Ok(history)
+}
