@@ -29,9 +29,10 @@ kept_other n i k lt other = rw (and_pow (bit_or n (1 * 2 ^ i % 2 ^ 32)) k, and_p
 
 row_other : (rows : List Row) (i k : ℕ) → k ≢ i → slice_get (take (i + 1) rows) k ≡ slice_get (take i rows) k
 row_other rows i k other =
-    elim (cases_lt k i)
-    [ inl lt ↦ slice_get-take (i + 1) k rows (omega arith) ∙ sym (slice_get-take i k rows lt)
-    | inr le ↦ slice_get-take_past (i + 1) k rows (omega arith) ∙ sym (slice_get-take_past i k rows le) ]
+    elim (cases_lt k i) [
+      | inl lt ↦ slice_get-take (i + 1) k rows (omega arith) ∙ sym (slice_get-take i k rows lt)
+      | inr le ↦ slice_get-take_past (i + 1) k rows (omega arith) ∙ sym (slice_get-take_past i k rows le)
+    ]
 
 row_here : (rows : List Row) (i : ℕ) (d : Row) → i < length rows → slice_get (take (i + 1) rows) i ≡ Some (get_or rows i d)
 row_here rows i d lt = slice_get-take (i + 1) i rows (omega arith) ∙ slice_get-get_or rows i d lt
@@ -39,17 +40,19 @@ row_here rows i d lt = slice_get-take (i + 1) i rows (omega arith) ∙ slice_get
 -- a creation event more
 pub marks_more : (rows : List Row) (letters i : ℕ) (d : Row) → i < length rows → i < 32 → (get_or rows i d).creation ≡ true → ((k : ℕ) → IsBitSet letters k ↔ IsMarked (take i rows) k) → (k : ℕ) → IsBitSet (bit_or letters (1 * 2 ^ i % 2 ^ 32)) k ↔ IsMarked (take (i + 1) rows) k
 marks_more rows letters i d lt few marked before k =
-    elim (eqb_tells k i)
-    [ inl same ↦ rw (same.1, row_here rows i d lt) (λ _. marked, λ _. set_here letters i few)
-    | inr other ↦ rw (row_other rows i k other.1, kept_other letters i k few other.1) (before k) ]
+    elim (eqb_tells k i) [
+      | inl same ↦ rw (same.1, row_here rows i d lt) (λ _. marked, λ _. set_here letters i few)
+      | inr other ↦ rw (row_other rows i k other.1, kept_other letters i k few other.1) (before k)
+    ]
 
 -- another event more
 pub marks_same : (rows : List Row) (letters i : ℕ) (d : Row) → i < length rows → (get_or rows i d).creation ≡ false → ((k : ℕ) → IsBitSet letters k ↔ IsMarked (take i rows) k) → (k : ℕ) → IsBitSet letters k ↔ IsMarked (take (i + 1) rows) k
 marks_same rows letters i d lt unmarked before k =
-    elim (eqb_tells k i)
-    [ inl same ↦ rw (same.1, row_here rows i d lt)
-        (λ set. absurd (rw (slice_get-take_past i i rows (omega arith)) at ((before i).0 set)), λ marked. absurd (false≢true (sym unmarked ∙ marked)))
-    | inr other ↦ rw (row_other rows i k other.1) (before k) ]
+    elim (eqb_tells k i) [
+      | inl same ↦ rw (same.1, row_here rows i d lt)
+          (λ set. absurd (rw (slice_get-take_past i i rows (omega arith)) at ((before i).0 set)), λ marked. absurd (false≢true (sym unmarked ∙ marked)))
+      | inr other ↦ rw (row_other rows i k other.1) (before k)
+    ]
 
 -- ---- the events of the rows
 
@@ -67,7 +70,7 @@ some_true f (Some x) = (λ h. h, λ h. h)
 pub creation-events_of : (names : List (List ℕ)) (rows : List Row) (k : ℕ) → length rows ≡ length names → IsMarked rows k ↔ IsSomeAnd (slice_get (events_of names rows) k) (λ e. IsTrue e.creation)
 creation-events_of names rows k each =
     let same : option_map (λ row. row.creation) (slice_get rows k) ≡ option_map (λ e. e.creation) (slice_get (events_of names rows) k) =
-        sym (slice_get-map (λ row. row.creation) rows k) ∙ ap (λ bs. slice_get bs k) (sym (creations-events_of names rows each)) ∙ slice_get-map (λ e. e.creation) (events_of names rows) k in
+    sym (slice_get-map (λ row. row.creation) rows k) ∙ ap (λ bs. slice_get bs k) (sym (creations-events_of names rows each)) ∙ slice_get-map (λ e. e.creation) (events_of names rows) k in
     let of_row = some_true (λ (row : Row). row.creation) (slice_get rows k) in
     let of_event = some_true (λ (e : EventDefinition). e.creation) (slice_get (events_of names rows) k) in
     (λ h. of_event.1 (rw same at (of_row.0 h)), λ h. of_row.1 (rw (← same) at (of_event.0 h)))

@@ -145,10 +145,11 @@ pub known_letter : (t : EventDefinitions) (e known : EventDefinition) (letter : 
 known_letter t e known letter r new is refused accepted ok =
     let changed : EventDefinition = record known { creation = known.creation || e.creation } in
     let named : slice_get (map (λ x. x.name) (set t.events letter.0 changed)) letter.0 ≡ Some e.name =
-        name_of_later (set t.events letter.0 changed) letter.0 changed e.name (slice_get-set t.events letter.0 changed known is.here) is.same in
-    elim (eqb_tells known.mask e.mask)
-    [ inl equal ↦ rw (accepted equal.1, (rw (accepted equal.1) at ok)) named
-    | inr other ↦ rw (refused other.1) tt ]
+    name_of_later (set t.events letter.0 changed) letter.0 changed e.name (slice_get-set t.events letter.0 changed known is.here) is.same in
+    elim (eqb_tells known.mask e.mask) [
+      | inl equal ↦ rw (accepted equal.1, (rw (accepted equal.1) at ok)) named
+      | inr other ↦ rw (refused other.1) tt
+    ]
 
 pub new_letter : (t : EventDefinitions) (e : EventDefinition) (r : Result Letter SpecError) (new : EventDefinitions) → IfOk r (λ l. l.0 ≡ length t.events) → OnOk r (new ≡ record t { events = t.events ++ e ∷ [] }) → IfOk r (λ l. slice_get (event_names new) l.0 ≡ Some e.name)
 new_letter t e (Ok l) new place ok = rw (ok, place) (name_of_later (t.events ++ e ∷ []) (length t.events) e e.name (slice_get-last t.events e) refl)

@@ -91,15 +91,17 @@ place_has names name k at = (k, slice_get_within names k name at, get_or_from_sl
 
 -- there is no number exactly where the name isn't there
 pub number_of-none : (names : List (List ℕ)) (name : List ℕ) → IsDistinct bytes_eq names → IsNone (number_of names name) ↔ ¬ Contains names name
-number_of-none names name distinct =
-    (λ none held.
-        let at = slice_get-get_or names held.0 name held.1 ∙ ap Some held.2 in
-        let number = number_from_place names name held.0 distinct at in
-        absurd (false≢true (sym (rw number at none))),
-     λ absent.
-        elim (none_or_some (number_of names name))
-        [ inl none ↦ rw none refl
-        | inr found ↦ absurd (absent (place_has names name found.0 (place_from_number names name found.0 found.1))) ])
+number_of-none names name distinct = (
+  λ none held.
+      let at = slice_get-get_or names held.0 name held.1 ∙ ap Some held.2 in
+      let number = number_from_place names name held.0 distinct at in
+      absurd (false≢true (sym (rw number at none))),
+  λ absent.
+      elim (none_or_some (number_of names name)) [
+        | inl none ↦ rw none refl
+        | inr found ↦ absurd (absent (place_has names name found.0 (place_from_number names name found.0 found.1)))
+      ],
+)
 
 -- what a look-up says of the names
 pub names_say : (names : List (List ℕ)) (name : List ℕ) (r : Option ℕ) → IsDistinct bytes_eq names → r ≡ number_of names name → ((k : ℕ) → (r ≡ Some k) ↔ (slice_get names k ≡ Some name)) × (IsNone r ↔ ¬ Contains names name)
@@ -133,7 +135,7 @@ with_name-new names name e = rw (list_any-no_number names name e) refl
 pub map-insert_key : {Z : Type 0} (keys : List (String Z)) (key : String Z) (name : List ℕ) → string_bytes key ≡ name → number_of (map string_bytes keys) name ≡ None → map string_bytes (insert_key string_eq keys key) ≡ map string_bytes keys ++ name ∷ []
 map-insert_key keys key name e none =
     let new : list_any (string_eq key) keys ≡ false =
-        list_any-map string_bytes (bytes_eq (string_bytes key)) keys ∙ rw e (list_any-no_number (map string_bytes keys) name none) in
+    list_any-map string_bytes (bytes_eq (string_bytes key)) keys ∙ rw e (list_any-no_number (map string_bytes keys) name none) in
     rw (new, map-append, e) refl
 
 slice_get-end : (names : List (List ℕ)) (name : List ℕ) → slice_get (names ++ name ∷ []) (length names) ≡ Some name
@@ -184,14 +186,15 @@ slice_get-take_past (suc n) (suc k) (x ∷ xs) le = slice_get-take_past n k xs (
 -- no name before place n is the one there
 pub number_of-take : (names : List (List ℕ)) (name : List ℕ) (n : ℕ) → IsDistinct bytes_eq names → slice_get names n ≡ Some name → number_of (take n names) name ≡ None
 number_of-take names name n distinct at =
-    elim (none_or_some (number_of (take n names) name))
-    [ inl none ↦ none
-    | inr found ↦
-        let here = place_from_number (take n names) name found.0 found.1 in
-        let before = earlier n found.0 names name here in
-        let number = number_from_place names name found.0 distinct (sym (slice_get-take n found.0 names before) ∙ here) in
-        let same : found.0 ≡ n = same_Some found.0 n (sym number ∙ number_from_place names name n distinct at) in
-        absurd (omega arith) ]
+    elim (none_or_some (number_of (take n names) name)) [
+      | inl none ↦ none
+      | inr found ↦
+          let here = place_from_number (take n names) name found.0 found.1 in
+          let before = earlier n found.0 names name here in
+          let number = number_from_place names name found.0 distinct (sym (slice_get-take n found.0 names before) ∙ here) in
+          let same : found.0 ≡ n = same_Some found.0 n (sym number ∙ number_from_place names name n distinct at) in
+          absurd (omega arith)
+    ]
   where
     earlier : (n k : ℕ) (names : List (List ℕ)) (name : List ℕ) → slice_get (take n names) k ≡ Some name → k < n
     earlier n k names name here = elim (cases_lt k n) [ inl lt ↦ lt | inr le ↦ absurd (none-some name (sym (slice_get-take_past n k names le) ∙ here)) ]

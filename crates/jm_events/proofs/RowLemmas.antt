@@ -93,5 +93,5 @@ IsTable-push parameters names rows name row t room bits = record {
   row_each = omega (arith, length-append rows (row ∷ []), length-append names (name ∷ []), t.row_each);
   few_parameters = t.few_parameters;
   few_events = omega (arith, length-append names (name ∷ []));
-  masks = All-push (λ r. r.mask < 2 ^ length parameters) rows row t.masks bits
+  masks = All-push (λ r. r.mask < 2 ^ length parameters) rows row t.masks bits;
 }
