@@ -1,6 +1,5 @@
-use Rattle.std.proofs.Common.{ℕ, ◌≡◌, ◌≢◌, ◌<◌, ◌↔◌, ◌==◌, suc, zero, Bool, true, false, cond, ◌||◌, List, [], ◌∷◌, ◌++◌, Option, Some, None, Result, Ok, Err, IfOk, OnOk, IsOkUnless, inl, inr, IsNone, IfSome, IfNone, map, length, set, slice_get, find, option_map, Contains, refl, sym, ap, ◌∙◌, arith}
+use Rattle.std.proofs.Common.{ℕ, ◌≡◌, ◌≢◌, ◌↔◌, suc, zero, Bool, true, false, ◌||◌, List, [], ◌∷◌, ◌++◌, Option, Some, None, Result, Ok, Err, IfOk, OnOk, IsOkUnless, inl, inr, IfSome, IfNone, map, length, set, slice_get, find, option_map, refl, sym, ap, ◌∙◌}
 use Rattle.std.specs.List.{IsDistinct, AllByRecursion, list_any}
-use Rattle.std.specs.Option.{option_map_or}
 use Rattle.std.specs.Str.{bytes_eq}
 use Rattle.std.specs.Cmp.Lexicographic.{nat_list_eq_equiv}
 use Rattle.std.proofs.lemmas.Map.Keys.{IsDistinct-head, IsDistinct-tail}
@@ -14,7 +13,7 @@ use Rattle.jm_model.specs.declared.fault.SpecFault.TheVariants.{DuplicateEvent, 
 use Rattle.jm_model.specs.declared.step.Letter.{Letter}
 use Rattle.jm_events.specs.Names.{number_of}
 use Rattle.jm_events.specs.Events.{EventDefinition, EventDefinitions, event_names, event_named, event_fault, after_mention, with_event}
-use Rattle.jm_events.proofs.NameLemmas.{at_place, same_name, is_same_name, list_any-no_number, list_any-place}
+use Rattle.jm_events.proofs.NameLemmas.{at_place, is_same_name, list_any-no_number, list_any-place}
 
 -- ---- letters
 

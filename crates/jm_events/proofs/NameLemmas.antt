@@ -1,7 +1,7 @@
-use Rattle.std.proofs.Common.{ℕ, ◌≡◌, ◌≢◌, ◌==◌, ◌<◌, ◌≤◌, ◌+◌, ◌↔◌, ◌⊎◌, inl, inr, suc, zero, Bool, true, false, cond, not, ltb, ◌||◌, List, [], ◌∷◌, ◌++◌, Option, Some, None, IsNone, map, length, get_or, take, slice_get, position, Contains, String, Result, Ok, Err, OnOk, IfOk, is_some, option_map, refl, sym, ap, subst, ◌∙◌, arith}
+use Rattle.std.proofs.Common.{ℕ, ◌≡◌, ◌≢◌, ◌==◌, ◌<◌, ◌≤◌, ◌+◌, ◌↔◌, ◌⊎◌, inl, inr, suc, zero, Bool, true, false, cond, not, ltb, ◌||◌, List, [], ◌∷◌, ◌++◌, Option, Some, None, IsNone, map, length, take, slice_get, position, Contains, String, Result, Ok, Err, OnOk, IfOk, is_some, option_map, refl, sym, ap, subst, ◌∙◌, arith}
 use Rattle.std.specs.String.{string_bytes, string_eq}
 use Rattle.indexmap.specs.IndexSet.{insert_key}
-use Rattle.std.specs.List.{IsDistinct, AllByRecursion, list_any, prefix_len, position_or_len}
+use Rattle.std.specs.List.{IsDistinct, AllByRecursion, list_any, position_or_len}
 use Rattle.std.specs.Str.{bytes_eq}
 use Rattle.std.specs.Cmp.Lexicographic.{nat_list_eq_equiv}
 use Rattle.std.proofs.lemmas.Bool.{false≢true, cases_lt}

@@ -1,4 +1,4 @@
-use Rattle.std.proofs.Common.{ℕ, ◌≡◌, ◌<◌, ◌≤◌, suc, zero, Bool, ◌||◌, List, [], ◌∷◌, ◌++◌, Option, Some, None, map, length, get_or, set, slice_get, option_map, All, refl, sym, ap, subst, ◌∙◌, ◌^◌, arith, length-append}
+use Rattle.std.proofs.Common.{ℕ, ◌≡◌, ◌<◌, suc, zero, Bool, ◌||◌, List, [], ◌∷◌, ◌++◌, Option, Some, map, length, get_or, set, slice_get, option_map, All, refl, sym, ap, subst, ◌∙◌, ◌^◌, arith, length-append}
 use Rattle.std.proofs.lemmas.Option.{none-some, same_Some, slice_get_within, slice_get-map}
 use Rattle.std.proofs.lemmas.List.Elements.{All-get_or, All-push}
 use Rattle.jm_events.specs.declared.table.Row.{Row}

@@ -21,6 +21,7 @@ struct Row {
     line: u32,
 }
 
+/// Puts a row in the place of that of a letter.
 fn set_row(rows: &mut Vec<Row>, letter: Letter, row: Row)
     requires { letter.0 < vec_len rows.old }
     ensures { rows.new.items ≡ slice_set rows.old.items letter.0 row }

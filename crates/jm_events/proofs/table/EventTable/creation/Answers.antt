@@ -1,4 +1,4 @@
-use Rattle.std.proofs.Common.{◌≡◌, ◌<◌, length, take, ◌∙◌, sym, ap, arith}
+use Rattle.std.proofs.Common.{◌≡◌, take, ◌∙◌, arith}
 use Rattle.std.proofs.lemmas.List.{take_all}
 use Rattle.jm_events.proofs.CreationLemmas.{marks_more, marks_same, creation-events_of}
 use Rattle.jm_events.proofs.table.EventTable.creation.Goals as goal
