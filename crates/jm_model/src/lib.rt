@@ -1,5 +1,8 @@
-//! What the compiler and the runtime speak of together: bindings, steps, outcomes, and the trait
-//! `Monitor`, in which the two meet.
+//! What the compiler and the runtime speak of together.
+//!
+//! `Binding` gives objects to parameters; `Step`, `Outcome` and `Entry` are what a history consists of; `Monitor` is the
+//! one trait in which the two sides meet, with the meaning that a specification has; and the faults are what can be wrong
+//! with a specification or a script. The definitions that the contracts cite stand in `specs`.
 #![tactic(auto)]
 
 mod binding;
@@ -13,3 +16,6 @@ pub use fault::{Counted, ScriptError, ScriptFault, SpecError, SpecFault};
 pub use firings::{Firing, Firings};
 pub use monitor::Monitor;
 pub use step::{Entry, Letter, NoMemory, Outcome, Step};
+
+#[cfg(test)]
+mod tests;

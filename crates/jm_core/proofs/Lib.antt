@@ -1,0 +1,12 @@
+pub mod ListLemmas
+pub mod OrderLemmas
+pub mod CandidateLemmas
+pub mod ReachLemmas
+pub mod GrowthLemmas
+pub mod ReportLemmas
+pub mod CommitLemmas
+pub mod ReplaceLemmas
+pub mod StoreLemmas
+pub mod EventLemmas
+pub mod ReplayLemmas
+pub mod TableLemmas

@@ -1,0 +1,6 @@
+pub mod Cores
+pub mod Stores
+pub mod Growth
+pub mod Reports
+pub mod Plans
+pub mod Tables

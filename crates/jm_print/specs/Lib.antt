@@ -1,0 +1,3 @@
+pub mod Lexicons
+pub mod Texts
+pub mod Summaries

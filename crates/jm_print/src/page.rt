@@ -1,0 +1,56 @@
+//! A text that grows.
+ghost use Rattle.std.specs.Prelude.{◌≡◌, ◌++◌, [], ◌∷◌, decimal, OnOk};
+
+use itoa::Buffer;
+use jm_model::NoMemory;
+use std::alloc::Global;
+use std::marker::Model;
+
+/// The bytes that were written so far. Its memory grows geometrically.
+#[derive(Drop)]
+pub(crate) struct Page {
+    bytes: Vec<u8>,
+}
+
+impl Model for Page {
+    ghost use Rattle.std.specs.Prelude.{List, ℕ};
+
+    ghost Value = { List ℕ };
+
+    ghost view = { λ p. p.bytes.items };
+}
+
+impl Page {
+    pub(crate) fn new(alloc: Global) -> Page
+        ensures { result ≡ [] }
+    {
+        Page {
+            bytes: Vec::new(alloc),
+        }
+    }
+
+    /// Writes a text.
+    pub(crate) fn text(&mut self, text: &str) -> Result<(), NoMemory>
+        ensures { OnOk result (self.new ≡ self.old ++ text.now) }
+    {
+        match self.bytes.extend_from_slice(text.as_bytes()) {
+            Ok(()) => Ok(()),
+            Err(_) => Err(NoMemory),
+        }
+    }
+
+    /// Writes a number, without leading zeros.
+    pub(crate) fn number(&mut self, number: u64) -> Result<(), NoMemory>
+        ensures { OnOk result (self.new ≡ self.old ++ decimal number) }
+    {
+        let mut buffer = Buffer::new();
+        self.text(buffer.format(number))
+    }
+
+    pub(crate) fn into_bytes(self) -> Vec<u8>
+        ensures { result.items ≡ self }
+    {
+        let Page { bytes } = self;
+        bytes
+    }
+}

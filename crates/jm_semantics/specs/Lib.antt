@@ -1,0 +1,14 @@
+pub mod Traces
+pub mod Instances
+pub mod Histories
+pub mod Answers
+pub mod Disposal
+pub mod Legality
+pub mod Scripts
+pub mod Families
+pub mod Laws
+pub mod ExampleEntries
+pub mod UnsafeIterExamples
+pub mod ChainExamples
+pub mod SmallExamples
+pub mod ScriptExamples

@@ -1,0 +1,4 @@
+pub mod Pieces
+pub mod Spans
+pub mod Tokens
+pub mod Texts

@@ -1,0 +1,23 @@
+-- What a command leaves on its two sinks.
+use Rattle.std.specs.Prelude.{ℕ, ◌≡◌, List, Option, ◌⊎◌}
+use Rattle.jm_port.specs.Faults.{HasRisen}
+use Rattle.jm_port.specs.Sinks.{appended, AppendsPrefix}
+use Rattle.jm_top.specs.FaultTexts.{fault_text_of}
+use Rattle.jm_top.specs.declared.status.Status.{Status}
+use Rattle.jm_top.specs.declared.status.Status.TheVariants.{Done, WriteFailed, NoMemory}
+
+-- What the sink holds: at `Done` the text was written whole, where the writing failed or memory was short a prefix of it,
+-- and else nothing.
+abbrev pub Writes : Status → Option (List ℕ) → Option (List ℕ) → List ℕ → Type 0
+Writes Done before after text = after ≡ appended before text
+Writes WriteFailed before after text = AppendsPrefix before after text
+Writes NoMemory before after text = AppendsPrefix before after text
+Writes _ before after text = after ≡ before
+
+-- What the error sink holds: nothing at `Done`, and else the text of the status, of which a prefix may be missing only
+-- where a fault of the error sink was counted. Where memory was short it is a prefix of the text of this status, or of the
+-- one in whose place it came.
+abbrev pub Reports : Status → (ℕ × Option (List ℕ)) → (ℕ × Option (List ℕ)) → Type 0
+Reports Done before after = after.1 ≡ before.1
+Reports NoMemory before after = (meant : Status) × AppendsPrefix before.1 after.1 (fault_text_of meant)
+Reports status before after = (after.1 ≡ appended before.1 (fault_text_of status)) ⊎ (HasRisen before.0 after.0 × AppendsPrefix before.1 after.1 (fault_text_of status))
