@@ -16,17 +16,20 @@ IsMarked rows k = IsSomeAnd (slice_get rows k) (λ row. IsTrue row.creation)
 
 -- ---- one bit more
 
+-- the bit that was set
 set_here : (n i : ℕ) → i < 32 → IsBitSet (bit_or n (1 * 2 ^ i % 2 ^ 32)) i
 set_here n i lt = λ e.
     let one : bit_at (bit_or n (1 * 2 ^ i % 2 ^ 32)) i ≡ 1 = bit_at_set_same w32 n i lt in
     let power : 1 * 2 ^ i ≡ 0 = rw (and_pow (bit_or n (1 * 2 ^ i % 2 ^ 32)) i, one) at e in
     omega (arith, pow_pos i)
 
+-- another bit stays
 kept_other : (n i k : ℕ) → i < 32 → k ≢ i → bit_and (bit_or n (1 * 2 ^ i % 2 ^ 32)) (2 ^ k) ≡ bit_and n (2 ^ k)
 kept_other n i k lt other = rw (and_pow (bit_or n (1 * 2 ^ i % 2 ^ 32)) k, and_pow n k, bit_at_set_other w32 n i lt k other) refl
 
 -- ---- one row more
 
+-- one more row is no other row
 row_other : (rows : List Row) (i k : ℕ) → k ≢ i → slice_get (take (i + 1) rows) k ≡ slice_get (take i rows) k
 row_other rows i k other =
     elim (cases_lt k i) [
@@ -34,6 +37,7 @@ row_other rows i k other =
       | inr le ↦ slice_get-take_past (i + 1) k rows (omega arith) ∙ sym (slice_get-take_past i k rows le)
     ]
 
+-- the last of the first rows
 row_here : (rows : List Row) (i : ℕ) (d : Row) → i < length rows → slice_get (take (i + 1) rows) i ≡ Some (get_or rows i d)
 row_here rows i d lt = slice_get-take (i + 1) i rows (omega arith) ∙ slice_get-get_or rows i d lt
 
@@ -56,12 +60,14 @@ marks_same rows letters i d lt unmarked before k =
 
 -- ---- the events of the rows
 
+-- the creation events are those of the rows
 creations-events_of : (names : List (List ℕ)) (rows : List Row) → length rows ≡ length names → map (λ e. e.creation) (events_of names rows) ≡ map (λ row. row.creation) rows
 creations-events_of [] [] e = refl
 creations-events_of [] (row ∷ rows) e = absurd (omega arith)
 creations-events_of (name ∷ names) [] e = refl
 creations-events_of (name ∷ names) (row ∷ rows) e = ap (λ bs. row.creation ∷ bs) (creations-events_of names rows (omega arith))
 
+-- a test of a value that is there
 some_true : {X : Type 0} (f : X → Bool) (o : Option X) → IsSomeAnd o (λ x. IsTrue (f x)) ↔ IsSomeAnd (option_map f o) IsTrue
 some_true f None = (λ h. h, λ h. h)
 some_true f (Some x) = (λ h. h, λ h. h)

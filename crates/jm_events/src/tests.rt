@@ -1,5 +1,6 @@
 use crate::{EventTable, Names};
 use jm_model::{Counted, SpecError, SpecFault};
+use std::process::Abort;
 use std::test::Fail;
 
 #[test]
@@ -57,7 +58,7 @@ fn keeps_events(rt: HostRuntime) -> Result<(), Fail> {
     Ok(())
 }
 
-fn check_table(rt: &impl std::process::Abort, table: &EventTable) {
+fn check_table(rt: &impl Abort, table: &EventTable) {
     assert_eq!(rt; table.params(), 3);
     assert_eq!(rt; table.param("i"), Some(2));
     assert_eq!(rt; table.param("use"), None);
