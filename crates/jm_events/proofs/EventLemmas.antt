@@ -1,6 +1,5 @@
-use Rattle.std.proofs.Common.{ℕ, ◌≡◌, ◌≢◌, ◌<◌, ◌↔◌, ◌==◌, suc, zero, Bool, true, false, cond, ◌||◌, List, [], ◌∷◌, ◌++◌, Option, Some, None, Result, Ok, Err, IfOk, OnOk, IsOkUnless, inl, inr, IsNone, IfSome, IfNone, map, length, set, slice_get, find, option_map, Contains, refl, sym, ap, ◌∙◌, arith}
+use Rattle.std.proofs.Common.{ℕ, ◌≡◌, ◌≢◌, ◌↔◌, suc, zero, Bool, true, false, ◌||◌, List, [], ◌∷◌, ◌++◌, Option, Some, None, Result, Ok, Err, IfOk, OnOk, IsOkUnless, inl, inr, IfSome, IfNone, map, length, set, slice_get, find, option_map, refl, sym, ap, ◌∙◌}
 use Rattle.std.specs.List.{IsDistinct, AllByRecursion, list_any}
-use Rattle.std.specs.Option.{option_map_or}
 use Rattle.std.specs.Str.{bytes_eq}
 use Rattle.std.specs.Cmp.Lexicographic.{nat_list_eq_equiv}
 use Rattle.std.proofs.lemmas.Map.Keys.{IsDistinct-head, IsDistinct-tail}
@@ -14,13 +13,15 @@ use Rattle.jm_model.specs.declared.fault.SpecFault.TheVariants.{DuplicateEvent, 
 use Rattle.jm_model.specs.declared.step.Letter.{Letter}
 use Rattle.jm_events.specs.Names.{number_of}
 use Rattle.jm_events.specs.Events.{EventDefinition, EventDefinitions, event_names, event_named, event_fault, after_mention, with_event}
-use Rattle.jm_events.proofs.NameLemmas.{at_place, same_name, is_same_name, list_any-no_number, list_any-place}
+use Rattle.jm_events.proofs.NameLemmas.{slice_get-end, at_place, is_same_name, list_any-no_number, list_any-place}
 
 -- ---- letters
 
+-- the letter of a number
 letter_of : ℕ → Letter
 letter_of n = record { 0 = n }
 
+-- a letter has one number
 number_from_letter : (r : Option ℕ) (k : ℕ) → option_map (λ n. letter_of n) r ≡ Some (letter_of k) → r ≡ Some k
 unfolding letter_of
 number_from_letter None k e = absurd (none-some (letter_of k) e)
@@ -38,6 +39,7 @@ later_name : (x : List ℕ) (names : List (List ℕ)) (k : ℕ) (name : List ℕ
 later_name x names k name distinct at =
     nat_list_eq_equiv.symm name x ∙ at_place (λ y. bytes_eq x y ≡ false) names k name (IsDistinct-head bytes_eq x names distinct) at
 
+-- the event of a name is the one at its place
 pub find_at : (events : List EventDefinition) (name : List ℕ) (k : ℕ) (known : EventDefinition) → IsDistinct bytes_eq (map (λ e. e.name) events) → slice_get events k ≡ Some known → known.name ≡ name → find (λ e. bytes_eq name e.name) events ≡ Some known
 find_at [] name k known distinct at same = absurd (none-some known at)
 find_at (x ∷ events) name zero known distinct at same =
@@ -47,10 +49,12 @@ find_at (x ∷ events) name (suc k) known distinct at same =
     let other : bytes_eq name x.name ≡ false = later_name x.name (map (λ e. e.name) events) k name distinct (slice_get-map (λ e. e.name) events k ∙ ap (λ o. option_map (λ e. e.name) o) at ∙ ap Some same) in
     rw other (find_at events name k known (IsDistinct-tail bytes_eq x.name _ distinct) at same)
 
+-- neither of two tests passes
 both_false : (b c : Bool) → b || c ≡ false → (b ≡ false) × (c ≡ false)
 both_false true c e = absurd (false≢true (sym e))
 both_false false c e = (refl, e)
 
+-- there is no event of a name that is not there
 pub find-none : (events : List EventDefinition) (name : List ℕ) → list_any (bytes_eq name) (map (λ e. e.name) events) ≡ false → find (λ e. bytes_eq name e.name) events ≡ None
 find-none [] name e = refl
 find-none (x ∷ events) name e =
@@ -64,6 +68,7 @@ map-after_mention_other : (e : EventDefinition) (events : List EventDefinition) 
 map-after_mention_other e [] others = refl
 map-after_mention_other e (x ∷ events) others = rw (others.0, map-after_mention_other e events others.1) refl
 
+-- the name at a place
 name_of_later : (events : List EventDefinition) (k : ℕ) (known : EventDefinition) (name : List ℕ) → slice_get events k ≡ Some known → known.name ≡ name → slice_get (map (λ e. e.name) events) k ≡ Some name
 name_of_later events k known name at same = slice_get-map (λ e. e.name) events k ∙ ap (λ o. option_map (λ e. e.name) o) at ∙ ap Some same
 
@@ -87,6 +92,7 @@ pub record IsKnown (t : EventDefinitions) (e : EventDefinition) (k : ℕ) (known
   pub here : slice_get t.events k ≡ Some known
   pub same : known.name ≡ e.name
 
+-- the event at the place of a name
 pub known_from_name : (t : EventDefinitions) (e : EventDefinition) (k : ℕ) → IsDistinct bytes_eq (event_names t) → slice_get (event_names t) k ≡ Some e.name → (known : EventDefinition) × IsKnown t e k known
 known_from_name t e k distinct at = from (slice_get t.events k) refl (sym (slice_get-map (λ x. x.name) t.events k) ∙ at)
   where
@@ -94,62 +100,70 @@ known_from_name t e k distinct at = from (slice_get t.events k) refl (sym (slice
     from None here named = absurd (none-some e.name named)
     from (Some known) here named = (known, record { distinct = distinct; here = here; same = same_Some known.name e.name named })
 
+-- the event of the name
 event_named-known : (t : EventDefinitions) (e : EventDefinition) (k : ℕ) (known : EventDefinition) → IsKnown t e k known → event_named t e.name ≡ Some known
 event_named-known t e k known is = find_at t.events e.name k known is.distinct is.here is.same
 
+-- a mention with another mask is refused
 pub known_refused : (t : EventDefinitions) (e : EventDefinition) (k : ℕ) (known : EventDefinition) (r : Result Letter SpecError) → IsKnown t e k known → (known.mask ≢ e.mask → r ≡ Err (Bad (DuplicateEvent e.line))) → IfSome (event_fault t e) (λ fault. r ≡ Err (Bad fault))
 known_refused t e k known r is refused =
     rw (event_named-known t e k known is)
     (elim (eqb_tells known.mask e.mask) [ inl equal ↦ rw (equal.0) tt | inr other ↦ rw (other.0) (refused other.1) ])
 
+-- a mention with the same mask is accepted
 pub known_accepted : (t : EventDefinitions) (e : EventDefinition) (k : ℕ) (known : EventDefinition) (r : Result Letter SpecError) (letter : Letter) → IsKnown t e k known → (known.mask ≡ e.mask → r ≡ Ok letter) → IfNone (event_fault t e) (IsOkUnless r NoMemory)
 known_accepted t e k known r letter is accepted =
     rw (event_named-known t e k known is)
     (elim (eqb_tells known.mask e.mask) [ inl equal ↦ rw (equal.0, accepted equal.1) tt | inr other ↦ rw (other.0) tt ])
 
+-- what a mention changes
 pub with_event-known : (t : EventDefinitions) (e : EventDefinition) (k : ℕ) (known : EventDefinition) → IsKnown t e k known → with_event t e ≡ record t { events = set t.events k (record known { creation = known.creation || e.creation }) }
 with_event-known t e k known is =
     rw (list_any-place (event_names t) e.name k (name_of_later t.events k known e.name is.here is.same), map-after_mention e t.events k known is.distinct is.here is.same) refl
 
 -- ---- `add_event` of a new event
 
+-- there is no event of the name
 event_named-new : (t : EventDefinitions) (e : EventDefinition) → number_of (event_names t) e.name ≡ None → event_named t e.name ≡ None
 event_named-new t e new = find-none t.events e.name (list_any-no_number (event_names t) e.name new)
 
+-- a new event past the 32nd is refused
 pub new_refused : (t : EventDefinitions) (e : EventDefinition) (r : Result Letter SpecError) → number_of (event_names t) e.name ≡ None → (length t.events ≡ 32 → r ≡ Err (Bad (TooMany Events))) → IfSome (event_fault t e) (λ fault. r ≡ Err (Bad fault))
 new_refused t e r new refused =
     rw (event_named-new t e new)
     (elim (eqb_tells (length t.events) 32) [ inl full ↦ rw (full.0) (refused full.1) | inr room ↦ rw (room.0) tt ])
 
+-- any other new event is accepted
 pub new_accepted : (t : EventDefinitions) (e : EventDefinition) (r : Result Letter SpecError) → number_of (event_names t) e.name ≡ None → (length t.events ≢ 32 → IsOkUnless r NoMemory) → IfNone (event_fault t e) (IsOkUnless r NoMemory)
 new_accepted t e r new accepted =
     rw (event_named-new t e new)
     (elim (eqb_tells (length t.events) 32) [ inl full ↦ rw (full.0) tt | inr room ↦ rw (room.0) (accepted room.1) ])
 
+-- a new event goes last
 pub with_event-new : (t : EventDefinitions) (e : EventDefinition) → number_of (event_names t) e.name ≡ None → with_event t e ≡ record t { events = t.events ++ e ∷ [] }
 with_event-new t e new = rw (list_any-no_number (event_names t) e.name new) refl
 
 -- ---- the letter that `add_event` answers
 
+-- the event at a place after a write there
 slice_get-set : (events : List EventDefinition) (k : ℕ) (e known : EventDefinition) → slice_get events k ≡ Some known → slice_get (set events k e) k ≡ Some e
 slice_get-set [] k e known at = absurd (none-some known at)
 slice_get-set (x ∷ events) zero e known at = refl
 slice_get-set (x ∷ events) (suc k) e known at = slice_get-set events k e known at
 
-slice_get-last : (events : List EventDefinition) (e : EventDefinition) → slice_get (events ++ e ∷ []) (length events) ≡ Some e
-slice_get-last [] e = refl
-slice_get-last (x ∷ events) e = slice_get-last events e
-
+-- the letter of an event that is there has its name
 pub known_letter : (t : EventDefinitions) (e known : EventDefinition) (letter : Letter) (r : Result Letter SpecError) (new : EventDefinitions) → IsKnown t e letter.0 known → (known.mask ≢ e.mask → r ≡ Err (Bad (DuplicateEvent e.line))) → (known.mask ≡ e.mask → r ≡ Ok letter)
     → OnOk r (new ≡ record t { events = set t.events letter.0 (record known { creation = known.creation || e.creation }) }) → IfOk r (λ l. slice_get (event_names new) l.0 ≡ Some e.name)
 known_letter t e known letter r new is refused accepted ok =
     let changed : EventDefinition = record known { creation = known.creation || e.creation } in
     let named : slice_get (map (λ x. x.name) (set t.events letter.0 changed)) letter.0 ≡ Some e.name =
-        name_of_later (set t.events letter.0 changed) letter.0 changed e.name (slice_get-set t.events letter.0 changed known is.here) is.same in
-    elim (eqb_tells known.mask e.mask)
-    [ inl equal ↦ rw (accepted equal.1, (rw (accepted equal.1) at ok)) named
-    | inr other ↦ rw (refused other.1) tt ]
+    name_of_later (set t.events letter.0 changed) letter.0 changed e.name (slice_get-set t.events letter.0 changed known is.here) is.same in
+    elim (eqb_tells known.mask e.mask) [
+      | inl equal ↦ rw (accepted equal.1, (rw (accepted equal.1) at ok)) named
+      | inr other ↦ rw (refused other.1) tt
+    ]
 
+-- the letter of a new event has its name
 pub new_letter : (t : EventDefinitions) (e : EventDefinition) (r : Result Letter SpecError) (new : EventDefinitions) → IfOk r (λ l. l.0 ≡ length t.events) → OnOk r (new ≡ record t { events = t.events ++ e ∷ [] }) → IfOk r (λ l. slice_get (event_names new) l.0 ≡ Some e.name)
-new_letter t e (Ok l) new place ok = rw (ok, place) (name_of_later (t.events ++ e ∷ []) (length t.events) e e.name (slice_get-last t.events e) refl)
+new_letter t e (Ok l) new place ok = rw (ok, place) (name_of_later (t.events ++ e ∷ []) (length t.events) e e.name (slice_get-end t.events e) refl)
 new_letter t e (Err x) new place ok = tt

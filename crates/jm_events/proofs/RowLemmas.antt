@@ -1,10 +1,11 @@
-use Rattle.std.proofs.Common.{ℕ, ◌≡◌, ◌<◌, ◌≤◌, suc, zero, Bool, ◌||◌, List, [], ◌∷◌, ◌++◌, Option, Some, None, map, length, get_or, set, slice_get, option_map, All, refl, sym, ap, subst, ◌∙◌, ◌^◌, arith, length-append}
+use Rattle.std.proofs.Common.{ℕ, ◌≡◌, ◌<◌, suc, zero, Bool, ◌||◌, List, [], ◌∷◌, ◌++◌, Option, Some, map, length, get_or, set, slice_get, option_map, All, refl, sym, ap, subst, ◌∙◌, ◌^◌, arith, length-append}
 use Rattle.std.proofs.lemmas.Option.{none-some, same_Some, slice_get_within, slice_get-map}
 use Rattle.std.proofs.lemmas.List.Elements.{All-get_or, All-push}
 use Rattle.jm_events.specs.declared.table.Row.{Row}
 use Rattle.jm_events.specs.Events.{EventDefinition, EventDefinitions}
 use Rattle.jm_events.specs.Rows.{event_of, events_of, IsTable}
 
+-- two lengths that are equal one element later
 suc_same : (a b : ℕ) → suc a ≡ suc b → a ≡ b
 suc_same a b e = omega arith
 
@@ -15,6 +16,7 @@ names-events_of [] (row ∷ rows) e = refl
 names-events_of (name ∷ names) [] e = absurd (omega arith)
 names-events_of (name ∷ names) (row ∷ rows) e = ap (λ ns. name ∷ ns) (names-events_of names rows (suc_same _ _ e))
 
+-- there are as many events as names
 pub length-events_of : (names : List (List ℕ)) (rows : List Row) → length rows ≡ length names → length (events_of names rows) ≡ length names
 length-events_of [] [] e = refl
 length-events_of [] (row ∷ rows) e = refl
@@ -42,6 +44,7 @@ events_of-set (n ∷ names) [] k name row at = refl
 events_of-set (n ∷ names) (r ∷ rows) zero name row at = rw (same_Some n name at) refl
 events_of-set (n ∷ names) (r ∷ rows) (suc k) name row at = ap (λ es. event_of n r ∷ es) (events_of-set names rows k name row at)
 
+-- there is an element at each place within
 slice_get_here : {X : Type 0} (xs : List X) (k : ℕ) → k < length xs → (x : X) × (slice_get xs k ≡ Some x)
 slice_get_here [] k lt = absurd (omega arith)
 slice_get_here (x ∷ xs) zero lt = (x, refl)
@@ -68,6 +71,7 @@ within_rows names rows k each lt = rw each (rw (length-events_of names rows each
 pub mask_at : (n : ℕ) (rows : List Row) (k : ℕ) (row : Row) → All (λ r. r.mask < n) rows → k < length rows → row ≡ get_or rows k row → row.mask < n
 mask_at n rows k row all lt e = subst (λ (r : Row). r.mask < n) (sym e) (All-get_or (λ r. r.mask < n) rows k row lt all)
 
+-- the image of a value that is there
 pub option_map-at : {X Y : Type 0} (f : X → Y) (o : Option X) (x : X) (y : Y) → o ≡ Some x → option_map f o ≡ Some y → f x ≡ y
 option_map-at f o x y e m = same_Some (f x) y (rw e at m)
 
@@ -93,5 +97,5 @@ IsTable-push parameters names rows name row t room bits = record {
   row_each = omega (arith, length-append rows (row ∷ []), length-append names (name ∷ []), t.row_each);
   few_parameters = t.few_parameters;
   few_events = omega (arith, length-append names (name ∷ []));
-  masks = All-push (λ r. r.mask < 2 ^ length parameters) rows row t.masks bits
+  masks = All-push (λ r. r.mask < 2 ^ length parameters) rows row t.masks bits;
 }

@@ -7,3 +7,6 @@ mod table;
 
 pub use names::Names;
 pub use table::EventTable;
+
+#[cfg(test)]
+mod tests;

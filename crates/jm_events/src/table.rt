@@ -21,6 +21,7 @@ struct Row {
     line: u32,
 }
 
+/// Puts a row in the place of that of a letter.
 fn set_row(rows: &mut Vec<Row>, letter: Letter, row: Row)
     requires { letter.0 < vec_len rows.old }
     ensures { rows.new.items ≡ slice_set rows.old.items letter.0 row }
@@ -138,8 +139,10 @@ impl EventTable {
         ensures accepted { (known : EventDefinition) → slice_get self.old.events letter.0 ≡ Some known →
             known.mask ≡ mask → result ≡ Ok letter }
         ensures ok { (known : EventDefinition) → slice_get self.old.events letter.0 ≡ Some known →
-            OnOk result (self.new ≡ record self.old { events =
-                slice_set self.old.events letter.0 (record known { creation = known.creation || creation }) }) }
+            OnOk result (self.new ≡ record self.old {
+              events =
+                  slice_set self.old.events letter.0 (record known { creation = known.creation || creation });
+            }) }
         ensures err { OnErr result (self.new ≡ self.old) }
     {
         let row = self.row(letter);
@@ -164,8 +167,10 @@ impl EventTable {
         ensures refused { length self.old.events ≡ 32 → result ≡ Err (SpecError.Bad (SpecFault.TooMany Counted.Events)) }
         ensures accepted { length self.old.events ≢ 32 → IsOkUnless result SpecError.NoMemory }
         ensures letter { IfOk result (λ letter. letter.0 ≡ length self.old.events) }
-        ensures ok { OnOk result (self.new ≡ record self.old { events =
-            self.old.events ++ record { name = name.now; mask = mask; creation = creation; line = line } ∷ [] }) }
+        ensures ok { OnOk result (self.new ≡ record self.old {
+          events =
+              self.old.events ++ record { name = name.now; mask = mask; creation = creation; line = line } ∷ [];
+        }) }
         ensures err { OnErr result (self.new ≡ self.old) }
     {
         if self.letters() == MAX_EVENTS {

@@ -1,7 +1,5 @@
-use Rattle.std.proofs.Common.{◌≡◌, Some, None, string_bytes, ◌∙◌}
+use Rattle.std.proofs.Common.{string_bytes, ◌∙◌}
 use Rattle.std.specs.Str.{bytes_eq}
-use Rattle.std.specs.List.{IsDistinct}
-use Rattle.jm_events.specs.Names.{number_of}
 use Rattle.jm_events.proofs.NameLemmas.{IsDistinct-map, position-map, names_say}
 use Rattle.jm_events.proofs.names.Names.find.Goals as goal
 

@@ -1,4 +1,4 @@
-use Rattle.std.proofs.Common.{◌≡◌, Some, None, List, ℕ, Bool, refl, sym, ◌∙◌}
+use Rattle.std.proofs.Common.{List, ℕ, Bool, refl, sym, ◌∙◌}
 use Rattle.std.proofs.lemmas.Result.{on_ok_weaker}
 use Rattle.jm_events.specs.Events.{EventDefinition}
 use Rattle.jm_events.proofs.EventLemmas.{known_from_name, known_refused, known_accepted, known_letter, with_event-known, new_refused, new_accepted, new_letter, with_event-new}

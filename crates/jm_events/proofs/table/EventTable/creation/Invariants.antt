@@ -1,4 +1,4 @@
-use Rattle.std.proofs.Common.{ℕ, ◌≡◌, ◌<◌, ◌≤◌, ◌↔◌, take}
+use Rattle.std.proofs.Common.{ℕ, ◌↔◌, take}
 use Rattle.std.specs.Prelude.{IsBitSet, IsSomeAnd, IsTrue, slice_get}
 use Rattle.jm_events.proofs.table.EventTable.creation.Given as goal
 

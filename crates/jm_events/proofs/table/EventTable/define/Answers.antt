@@ -1,10 +1,10 @@
-use Rattle.std.proofs.Common.{◌≡◌, ◌<◌, ◌∙◌, sym, true, false, refl, length, ◌==◌, arith}
+use Rattle.std.proofs.Common.{◌<◌, length, arith}
 use Rattle.jm_events.proofs.RowLemmas.{names-events_of, length-events_of, events_of-push, same_events, IsTable-push}
 use Rattle.jm_events.proofs.table.EventTable.define.Goals as goal
 
 pub invariant_of-self-in-Ok-append : goal.invariant_of-self-in-Ok-append
 invariant_of-self-in-Ok-append c =
-    let room : length c.self.inside.events < 32 = omega (arith, c.letters.ensures.value, c.letters.ensures.few, c.append.ensures.number, rw (← c.self.view_is, length-events_of _ _ c.self.invariant.row_each) at c.letters.ensures.value) in
+    let room : length c.self.inside.events < 32 = omega (arith, c.letters.ensures.value, c.letters.ensures.few, rw (← c.self.view_is, length-events_of _ _ c.self.invariant.row_each) at c.letters.ensures.value) in
     rw (c.in-Ok-append.ensures.ok, c.in-Ok.ensures.items)
     (IsTable-push _ _ _ _ _ c.self.invariant room (rw (← c.self.view_is) at c.requires.bits))
 

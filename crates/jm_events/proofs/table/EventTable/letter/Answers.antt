@@ -1,4 +1,4 @@
-use Rattle.std.proofs.Common.{ℕ, ◌≡◌, ◌∙◌, sym, Some, None, slice_get, length, arith}
+use Rattle.std.proofs.Common.{◌≡◌, Some, None, slice_get}
 use Rattle.jm_events.proofs.RowLemmas.{names-events_of, length-events_of}
 use Rattle.jm_events.proofs.EventLemmas.{letter_at}
 use Rattle.jm_events.proofs.table.EventTable.letter.Goals as goal

@@ -1,4 +1,4 @@
-use Rattle.std.proofs.Common.{◌≡◌, ◌∙◌, sym, true, false, refl, length, ◌==◌, arith}
+use Rattle.std.proofs.Common.{◌≡◌, arith}
 use Rattle.jm_events.proofs.RowLemmas.{within_rows, option_map-at, mention_at, same_events}
 use Rattle.jm_events.proofs.table.EventTable.mention.Goals as goal
 

@@ -1,6 +1,4 @@
-use Rattle.std.proofs.Common.{◌≡◌, ◌∙◌, sym, true, false, refl, length, ◌==◌, arith}
-use Rattle.std.specs.List.{list_any}
-use Rattle.std.specs.Str.{bytes_eq}
+use Rattle.std.proofs.Common.{◌≡◌, ◌∙◌, sym, false, refl, length, ◌==◌, arith}
 use Rattle.jm_events.proofs.NameLemmas.{list_any-number_of, test_false}
 use Rattle.jm_events.proofs.table.EventTable.parameter_fault.Goals as goal
 
