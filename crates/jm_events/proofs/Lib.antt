@@ -1,1 +1,4 @@
 pub mod NameLemmas
+pub mod RowLemmas
+pub mod EventLemmas
+pub mod CreationLemmas

@@ -1,15 +1,15 @@
-use Rattle.std.proofs.Common.{ℕ, ◌≡◌, ◌≢◌, ◌<◌, ◌+◌, ◌↔◌, ◌⊎◌, inl, inr, suc, zero, Bool, true, false, cond, not, ltb, ◌||◌, List, [], ◌∷◌, ◌++◌, Option, Some, None, IsNone, map, length, get_or, slice_get, position, Contains, String, Result, Ok, Err, OnOk, IfOk, option_map, refl, sym, ap, subst, ◌∙◌, arith}
+use Rattle.std.proofs.Common.{ℕ, ◌≡◌, ◌≢◌, ◌==◌, ◌<◌, ◌≤◌, ◌+◌, ◌↔◌, ◌⊎◌, inl, inr, suc, zero, Bool, true, false, cond, not, ltb, ◌||◌, List, [], ◌∷◌, ◌++◌, Option, Some, None, IsNone, map, length, get_or, take, slice_get, position, Contains, String, Result, Ok, Err, OnOk, IfOk, is_some, option_map, refl, sym, ap, subst, ◌∙◌, arith}
 use Rattle.std.specs.String.{string_bytes, string_eq}
 use Rattle.indexmap.specs.IndexSet.{insert_key}
 use Rattle.std.specs.List.{IsDistinct, AllByRecursion, list_any, prefix_len, position_or_len}
 use Rattle.std.specs.Str.{bytes_eq}
 use Rattle.std.specs.Cmp.Lexicographic.{nat_list_eq_equiv}
-use Rattle.std.proofs.lemmas.Bool.{false≢true}
+use Rattle.std.proofs.lemmas.Bool.{false≢true, cases_lt}
 use Rattle.std.proofs.lemmas.Map.Keys.{IsDistinct-head, IsDistinct-tail, IsDistinct-cons, any_passes_from_place}
-use Rattle.std.proofs.lemmas.Bool.Decides.{nat_tests}
+use Rattle.std.proofs.lemmas.Bool.Decides.{nat_tests, eqb_tells}
 use Rattle.std.proofs.lemmas.List.Quantifiers.{position-Some}
 use Rattle.std.proofs.lemmas.Option.{none-some, same_Some, slice_get_within, get_or_from_slice_get, slice_get-get_or}
-use Rattle.std.proofs.lemmas.List.{map-append}
+use Rattle.std.proofs.lemmas.List.{map-append, take_more}
 use Rattle.std.proofs.lemmas.Slice.Eq.{bytes_eq-Decides}
 use Rattle.jm_events.specs.Names.{number_of, with_name}
 
@@ -51,13 +51,13 @@ IsDistinct-map f e (x ∷ xs) h =
 
 -- ---- the number of a name
 
-same_name : (a b : List ℕ) → bytes_eq a b ≡ true → a ≡ b
+pub same_name : (a b : List ℕ) → bytes_eq a b ≡ true → a ≡ b
 same_name a b e = (bytes_eq-Decides a b).0 e
 
-is_same_name : (a b : List ℕ) → a ≡ b → bytes_eq a b ≡ true
+pub is_same_name : (a b : List ℕ) → a ≡ b → bytes_eq a b ≡ true
 is_same_name a b e = (bytes_eq-Decides a b).1 e
 
-at_place : {X : Type 0} (P : X → Type 0) (xs : List X) (k : ℕ) (x : X) → AllByRecursion P xs → slice_get xs k ≡ Some x → P x
+pub at_place : {X : Type 0} (P : X → Type 0) (xs : List X) (k : ℕ) (x : X) → AllByRecursion P xs → slice_get xs k ≡ Some x → P x
 at_place P [] k x all e = absurd (none-some x e)
 at_place P (y ∷ xs) zero x all e = subst P (same_Some y x e) all.0
 at_place P (y ∷ xs) (suc k) x all e = at_place P xs k x all.1 e
@@ -144,3 +144,58 @@ slice_get-end (x ∷ names) name = slice_get-end names name
 pub number_at_end : {E : Type 0} (r : Result ℕ E) (old new : List (List ℕ)) (name : List ℕ) → OnOk r (new ≡ old ++ name ∷ []) → IfOk r (λ n. n ≡ length old) → IfOk r (λ n. slice_get new n ≡ Some name)
 number_at_end (Ok n) old new name e end = rw (end, e) (slice_get-end old name)
 number_at_end (Err x) old new name e end = tt
+
+-- a name that stands somewhere is there
+pub list_any-place : (names : List (List ℕ)) (name : List ℕ) (k : ℕ) → slice_get names k ≡ Some name → list_any (bytes_eq name) names ≡ true
+list_any-place names name k at = any_passes_from_place (bytes_eq name) names k name at (is_same_name name name refl)
+
+is_some-map : {X Y : Type 0} (f : X → Y) (o : Option X) → is_some (option_map f o) ≡ is_some o
+is_some-map f None = refl
+is_some-map f (Some x) = refl
+
+known_or_later : (b c : Bool) (o : Option ℕ) → c ≡ is_some o → b || c ≡ is_some (cond b (Some 0) (option_map suc o))
+known_or_later true c o e = refl
+known_or_later false c o e = e ∙ sym (is_some-map suc o)
+
+-- a name is there exactly where it has a number
+pub list_any-number_of : (names : List (List ℕ)) (name : List ℕ) → list_any (bytes_eq name) names ≡ is_some (number_of names name)
+list_any-number_of [] name = refl
+list_any-number_of (x ∷ names) name =
+    rw position-cons (known_or_later (bytes_eq name x) (list_any (bytes_eq name) names) (number_of names name) (list_any-number_of names name))
+
+-- a test of two numbers that differ
+pub test_false : (a b : ℕ) → a ≢ b → (a == b) ≡ false
+test_false a b differ = elim (eqb_tells a b) [ inl same ↦ absurd (differ same.1) | inr other ↦ other.0 ]
+
+-- ---- a copy of the names
+
+pub slice_get-take : {X : Type 0} (n k : ℕ) (xs : List X) → k < n → slice_get (take n xs) k ≡ slice_get xs k
+slice_get-take zero k xs lt = absurd (omega arith)
+slice_get-take (suc n) k [] lt = refl
+slice_get-take (suc n) zero (x ∷ xs) lt = refl
+slice_get-take (suc n) (suc k) (x ∷ xs) lt = slice_get-take n k xs (omega arith)
+
+pub slice_get-take_past : {X : Type 0} (n k : ℕ) (xs : List X) → n ≤ k → slice_get (take n xs) k ≡ None
+slice_get-take_past zero k xs le = refl
+slice_get-take_past (suc n) k [] le = refl
+slice_get-take_past (suc n) zero (x ∷ xs) le = absurd (omega arith)
+slice_get-take_past (suc n) (suc k) (x ∷ xs) le = slice_get-take_past n k xs (omega arith)
+
+-- no name before place n is the one there
+pub number_of-take : (names : List (List ℕ)) (name : List ℕ) (n : ℕ) → IsDistinct bytes_eq names → slice_get names n ≡ Some name → number_of (take n names) name ≡ None
+number_of-take names name n distinct at =
+    elim (none_or_some (number_of (take n names) name))
+    [ inl none ↦ none
+    | inr found ↦
+        let here = place_from_number (take n names) name found.0 found.1 in
+        let before = earlier n found.0 names name here in
+        let number = number_from_place names name found.0 distinct (sym (slice_get-take n found.0 names before) ∙ here) in
+        let same : found.0 ≡ n = same_Some found.0 n (sym number ∙ number_from_place names name n distinct at) in
+        absurd (omega arith) ]
+  where
+    earlier : (n k : ℕ) (names : List (List ℕ)) (name : List ℕ) → slice_get (take n names) k ≡ Some name → k < n
+    earlier n k names name here = elim (cases_lt k n) [ inl lt ↦ lt | inr le ↦ absurd (none-some name (sym (slice_get-take_past n k names le) ∙ here)) ]
+
+-- one name more
+pub take-name : (names : List (List ℕ)) (name : List ℕ) (n : ℕ) → slice_get names n ≡ Some name → take (n + 1) names ≡ take n names ++ name ∷ []
+take-name names name n at = take_more names n name (slice_get_within names n name at) ∙ ap (λ x. take n names ++ x ∷ []) (get_or_from_slice_get names n name name at)

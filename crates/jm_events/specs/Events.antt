@@ -1,4 +1,4 @@
-use Rattle.std.specs.Prelude.{ℕ, ◌==◌, Bool, true, ◌||◌, List, [], ◌∷◌, ◌++◌, Option, Some, None, IsTrue, IsSomeAnd, map, length, find, slice_get, if◌then◌else◌}
+use Rattle.std.specs.Prelude.{ℕ, ◌==◌, Bool, ◌||◌, List, [], ◌∷◌, ◌++◌, Option, Some, None, IsTrue, IsSomeAnd, map, length, find, slice_get, if◌then◌else◌}
 use Rattle.std.specs.List.{list_any}
 use Rattle.std.specs.Option.{option_map_or}
 use Rattle.std.specs.Str.{bytes_eq}
@@ -37,19 +37,19 @@ abbrev pub with_parameter : EventDefinitions → List ℕ → EventDefinitions
 with_parameter t name = record t { parameters = t.parameters ++ name ∷ [] }
 
 -- the event of a name
-abbrev pub event_of : EventDefinitions → List ℕ → Option EventDefinition
-event_of t name = find (λ e. bytes_eq name e.name) t.events
+abbrev pub event_named : EventDefinitions → List ℕ → Option EventDefinition
+event_named t name = find (λ e. bytes_eq name e.name) t.events
 
 -- what is wrong with a mention of an event: its name is there with another set of parameters, or it is new and 32
 -- are there
 abbrev pub event_fault : EventDefinitions → EventDefinition → Option SpecFault
 event_fault t e =
-    option_map_or (λ known. if known.mask == e.mask then None else Some (DuplicateEvent e.line)) (event_of t e.name)
+    option_map_or (λ known. if known.mask == e.mask then None else Some (DuplicateEvent e.line)) (event_named t e.name)
     (if length t.events == 32 then Some (TooMany Events) else None)
 
--- an event after a mention of e: it is a creation event, too, if it is e and the mention says so
+-- what a known event is after a mention of e: if it is that event and the mention says so, a creation event
 abbrev pub after_mention : EventDefinition → EventDefinition → EventDefinition
-after_mention e other = if bytes_eq e.name other.name then record other { creation = other.creation || e.creation } else other
+after_mention e known = if bytes_eq e.name known.name then record known { creation = known.creation || e.creation } else known
 
 -- the definitions after a mention of an event: a new one goes last
 abbrev pub with_event : EventDefinitions → EventDefinition → EventDefinitions

@@ -13,7 +13,7 @@ events_of _ _ = []
 
 -- a row for each event, no more parameters and events than there may be, and only parameters that are there
 pub record IsTable (parameters events : List (List ℕ)) (rows : List Row) : Type 0 where
-  pub rows : length rows ≡ length events
+  pub row_each : length rows ≡ length events
   pub few_parameters : length parameters ≤ 8
   pub few_events : length events ≤ 32
   pub masks : All (λ row. row.mask < 2 ^ length parameters) rows

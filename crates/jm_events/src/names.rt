@@ -50,7 +50,7 @@ impl Names {
     }
 
     /// Adds a new name at the end.
-    fn append(&mut self, name: &str) -> Result<u32, NoMemory>
+    pub(crate) fn append(&mut self, name: &str) -> Result<u32, NoMemory>
         requires room { length self.old < 2 ^ 32 - 1 }
         requires absent { number_of self.old name.now ≡ None }
         ensures ok { OnOk result (self.new ≡ self.old ++ name.now ∷ []) }
@@ -95,5 +95,16 @@ impl Names {
         ensures distinct { IsDistinct bytes_eq self.now }
     {
         self.set.len() as u32
+    }
+
+    /// The same names.
+    pub(crate) fn copy(&self) -> Result<Names, NoMemory>
+        ensures { IfOk result (λ names. names ≡ self.now) }
+    {
+        let mut copy = Names::new(*self.set.allocator());
+        for number in 0..self.len() {
+            copy.append(self.name(number))?;
+        }
+        Ok(copy)
     }
 }
