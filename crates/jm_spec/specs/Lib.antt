@@ -1,0 +1,5 @@
+pub mod Brackets
+pub mod Runs
+pub mod Reading
+pub mod Rules
+pub mod Answers
