@@ -3,3 +3,5 @@ pub mod Runs
 pub mod Reading
 pub mod Rules
 pub mod Answers
+pub mod Faults
+pub mod Trees
