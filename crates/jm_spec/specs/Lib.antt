@@ -5,3 +5,4 @@ pub mod Rules
 pub mod Answers
 pub mod Faults
 pub mod Trees
+pub mod Balance

@@ -9,12 +9,14 @@ mod events;
 mod frame;
 mod head;
 mod items;
+mod laws;
 mod property;
 mod reader;
 mod runs;
 mod spec;
 mod tree;
 
+pub use laws::{member_ends, one_reading};
 pub use property::HandlerText;
 pub use spec::read_spec;
 pub use tree::{Logic, SpecTree};
