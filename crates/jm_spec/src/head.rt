@@ -210,9 +210,15 @@ fn modifier_of(bytes: &[u8], tokens: &[Token]) -> Modifier
     requires { LieWithin bytes.now tokens.now }
     ensures { result ≡ modifier_of bytes.now tokens.now }
 {
-    if tokens.len() == 1 && (is_word_at(bytes, tokens, 0, b"unsynchronized") || is_word_at(bytes, tokens, 0, b"decentralized")) {
+    if tokens.len() == 1
+        && (is_word_at(bytes, tokens, 0, b"unsynchronized")
+            || is_word_at(bytes, tokens, 0, b"decentralized"))
+    {
         Modifier::NoEffect
-    } else if tokens.len() == 3 && is_word_at(bytes, tokens, 0, b"full") && is_word_at(bytes, tokens, 2, b"binding") {
+    } else if tokens.len() == 3
+        && is_word_at(bytes, tokens, 0, b"full")
+        && is_word_at(bytes, tokens, 2, b"binding")
+    {
         Modifier::FullBinding
     } else {
         Modifier::Unsupported(line_of(0, tokens))

@@ -30,52 +30,89 @@ full-binding UnsafeMapIterator(Map<K, V> m, Collection<V> c, Iterator i) {
 }
 ";
 
-/// What a specification says, or its fault: the name, `full` where it is full-binding, the parameters, each event
-/// with its mask, `+` where it is a creation event and its line, the logic with its line, the formula, and each handler with its text.
-fn shown(alloc: Global, bytes: &[u8]) -> Result<String, Fail> {
-    let mut out = String::new(alloc);
+/// The tokens of a file, and its tree.
+#[derive(Drop)]
+struct Parsed {
+    all: Vec<Token>,
+    tree: SpecTree,
+}
+
+fn read(alloc: Global, bytes: &[u8]) -> Result<Parsed, SpecError> {
     if bytes.len() > 100_000 {
-        return Ok(out);
+        return Err(SpecError::NoMemory);
     }
-    let all = match tokens(alloc, bytes) {
-        Ok(all) => all,
-        Err(fault) => return Ok(format!(in alloc; "{fault:?}")?),
-    };
+    let all = tokens(alloc, bytes)?;
     if all.len() > 100_000 {
-        return Ok(out);
+        return Err(SpecError::NoMemory);
     }
-    let tree = match read_spec(alloc, bytes, all.as_slice()) {
-        Ok(tree) => tree,
-        Err(fault) => return Ok(format!(in alloc; "{fault:?}")?),
-    };
-    out.push_str(format!(in alloc; "{} ", said(bytes, tree.name))?.as_str())?;
-    if tree.full_binding {
+    let tree = read_spec(alloc, bytes, all.as_slice())?;
+    Ok(Parsed { all, tree })
+}
+
+/// What a specification says, or its fault: the name, `full` where it is full-binding, the parameters, each event with
+/// its mask, its line and a `+` where it is a creation event, the logic with its line, the formula, and each handler
+/// with its text.
+fn shown(alloc: Global, bytes: &[u8]) -> Result<String, Fail> {
+    match read(alloc, bytes) {
+        Ok(read) => tree_text(alloc, bytes, &read),
+        Err(fault) => Ok(format!(in alloc; "{fault:?}")?),
+    }
+}
+
+fn tree_text(alloc: Global, bytes: &[u8], read: &Parsed) -> Result<String, Fail> {
+    let mut out = format!(in alloc; "{} ", said(bytes, read.tree.name))?;
+    if read.tree.full_binding {
         out.push_str("full ")?;
     }
-    for p in 0..tree.table.params() {
-        out.push_str(format!(in alloc; "{} ", tree.table.param_name(p))?.as_str())?;
-    }
-    for k in 0..tree.table.letters() {
-        let letter = Letter(k);
-        let name = tree.table.event_name(letter);
-        let mask = tree.table.mask(letter);
-        let line = tree.table.event_line(letter);
-        let creation = if tree.table.creation() >> k & 1 == 1 { "+" } else { "" };
-        out.push_str(format!(in alloc; "{creation}{name}/{mask}/{line} ")?.as_str())?;
-    }
-    let logic = tree.logic;
-    let line = tree.logic_line;
+    put_params(alloc, &mut out, &read.tree)?;
+    put_events(alloc, &mut out, &read.tree)?;
+    let logic = read.tree.logic;
+    let line = read.tree.logic_line;
     out.push_str(format!(in alloc; "{logic:?}/{line}:")?.as_str())?;
-    put_range(alloc, &mut out, bytes, all.as_slice(), tree.first, tree.last)?;
-    for handler in &tree.handlers {
-        out.push_str(format!(in alloc; " @{}:", said(bytes, handler.category))?.as_str())?;
-        put_range(alloc, &mut out, bytes, all.as_slice(), handler.first, handler.last)?;
-    }
+    put_range(
+        &mut out,
+        bytes,
+        read.all.as_slice(),
+        read.tree.first,
+        read.tree.last,
+    )?;
+    put_handlers(alloc, &mut out, bytes, read)?;
     Ok(out)
 }
 
+fn put_params(alloc: Global, out: &mut String, tree: &SpecTree) -> Result<(), Fail> {
+    for p in 0..tree.table.params() {
+        let name = tree.table.param_name(p);
+        out.push_str(format!(in alloc; "{name} ")?.as_str())?;
+    }
+    Ok(())
+}
+
+fn put_events(alloc: Global, out: &mut String, tree: &SpecTree) -> Result<(), Fail> {
+    for k in 0..tree.table.letters() {
+        let creation = if tree.table.creation() >> k & 1 == 1 {
+            "+"
+        } else {
+            ""
+        };
+        let name = tree.table.event_name(Letter(k));
+        let mask = tree.table.mask(Letter(k));
+        let line = tree.table.event_line(Letter(k));
+        out.push_str(format!(in alloc; "{creation}{name}/{mask}/{line} ")?.as_str())?;
+    }
+    Ok(())
+}
+
+fn put_handlers(alloc: Global, out: &mut String, bytes: &[u8], read: &Parsed) -> Result<(), Fail> {
+    for handler in &read.tree.handlers {
+        let name = said(bytes, handler.category);
+        out.push_str(format!(in alloc; " @{name}:")?.as_str())?;
+        put_range(out, bytes, read.all.as_slice(), handler.first, handler.last)?;
+    }
+    Ok(())
+}
+
 fn put_range(
-    alloc: Global,
     out: &mut String,
     bytes: &[u8],
     all: &[Token],
@@ -123,7 +160,10 @@ fn reads(rt: HostRuntime) -> Result<(), Fail> {
             "S(A a, B b){event e before(B b, X x, A a):;\n creation event e after(B b)returning throwing(A a):{} static event g before():; ; @match{} int event(){return {};} creation int x; ere:e}",
             "S a b +e/3/1 Ere/2:e,",
         ),
-        ("S(A a){event e after() returning(A a) throwing:(*) [*];ere:}", "S a e/1/1 Ere/1:"),
+        (
+            "S(A a){event e after() returning(A a) throwing:(*) [*];ere:}",
+            "S a e/1/1 Ere/1:",
+        ),
     ];
     for (text, wanted) in rows {
         let all = shown(rt.alloc(), text.as_bytes())?;
@@ -141,7 +181,10 @@ fn refuses(rt: HostRuntime) -> Result<(), Fail> {
         ("S(A a){event : a}", "Bad(UnsupportedLogic { line: 1 })"),
         ("S(A a){}", "Bad(NoProperty)"),
         ("S(A a){ere:a\nere:b}", "Bad(SecondProperty { line: 2 })"),
-        ("\nperthread S(A a){}", "Bad(UnsupportedModifier { line: 2 })"),
+        (
+            "\nperthread S(A a){}",
+            "Bad(UnsupportedModifier { line: 2 })",
+        ),
         (
             "full\n-unsynchronized S(A a){}",
             "Bad(UnsupportedModifier { line: 1 })",
@@ -158,10 +201,7 @@ fn refuses(rt: HostRuntime) -> Result<(), Fail> {
             "S(A a,A a){event e around(A a):x{} ere: ltl:}",
             "Bad(UnsupportedAdvice { line: 1 })",
         ),
-        (
-            "S(A a,\nB\na){ere:}",
-            "Bad(DuplicateParameter { line: 3 })",
-        ),
+        ("S(A a,\nB\na){ere:}", "Bad(DuplicateParameter { line: 3 })"),
         (
             "S(A a,A a){event e before(A a):; event e before():;\nere:}",
             "Bad(DuplicateParameter { line: 1 })",
@@ -199,47 +239,43 @@ fn refuses(rt: HostRuntime) -> Result<(), Fail> {
 #[test]
 fn refuses_each_prefix(rt: HostRuntime) {
     let bytes = MAP.as_bytes();
-    assert!(rt; 2 < bytes.len() && bytes.len() < 4000);
+    assert!(rt; 2 < bytes.len());
     for end in 0..bytes.len() - 2 {
-        let front = &bytes[..end];
-        let refused = match tokens(rt.alloc(), front) {
-            Err(SpecError::Bad(SpecFault::OpenText { line })) => line > 0,
-            Err(_) => false,
-            Ok(all) => {
-                assert!(rt; all.len() < 4000);
-                match read_spec(rt.alloc(), front, all.as_slice()) {
-                    Err(SpecError::Bad(SpecFault::Syntax { line })) => {
-                        line == all.last().map_or(1, |token| token.line)
-                    }
-                    _ => false,
-                }
-            }
+        let refused = match read(rt.alloc(), &bytes[..end]) {
+            Err(SpecError::Bad(SpecFault::OpenText { .. } | SpecFault::Syntax { .. })) => true,
+            _ => false,
         };
         assert!(rt; refused, "{end}");
     }
 }
 
+/// A specification of so many parameters and events, of which the first is mentioned again.
+fn of_size(alloc: Global, params: u32, events: u32) -> Result<String, Fail> {
+    let mut text = String::from_str(alloc, "S(A q")?;
+    for p in 1..params {
+        text.push_str(format!(in alloc; ",A p{p}")?.as_str())?;
+    }
+    text.push_str("){")?;
+    for e in 0..events {
+        text.push_str(format!(in alloc; "event e{e} before(A p7):;")?.as_str())?;
+    }
+    text.push_str("event e0 after(A p7):;fsm:}")?;
+    Ok(text)
+}
+
 #[test]
 fn counts(rt: HostRuntime) -> Result<(), Fail> {
-    for (params, events) in [(8, 32), (9, 33), (8, 33)] {
-        let mut text = String::from_str(rt.alloc(), "S(")?;
-        for p in 0..params {
-            let comma = if p == 0 { "" } else { "," };
-            text.push_str(format!(in rt.alloc(); "{comma}A p{p}")?.as_str())?;
-        }
-        text.push_str("){")?;
-        for e in 0..events {
-            text.push_str(format!(in rt.alloc(); "event e{e} before(A p7):;")?.as_str())?;
-        }
-        text.push_str("event e0 after(A p7):;fsm:}")?;
+    let rows = [
+        (8, 32, " e31/128/1 Fsm/1:"),
+        (9, 33, "Bad(TooMany { what: Parameters })"),
+        (8, 33, "Bad(TooMany { what: Events })"),
+    ];
+    for (params, events, wanted) in rows {
+        let text = of_size(rt.alloc(), params, events)?;
         let all = shown(rt.alloc(), text.as_bytes())?;
-        if params == 9 {
-            assert_eq!(rt; all.as_str(), "Bad(TooMany { what: Parameters })");
-        } else if events == 33 {
-            assert_eq!(rt; all.as_str(), "Bad(TooMany { what: Events })");
-        } else {
-            assert!(rt; all.as_str().ends_with(" e31/128/1 Fsm/1:"));
-        }
+        assert!(rt; all.as_str().ends_with(wanted), "{params} {events}");
     }
+    one_reading();
+    member_ends();
     Ok(())
 }

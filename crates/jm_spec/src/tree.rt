@@ -92,7 +92,9 @@ fn known_modifiers(modifiers: &[Modifier]) -> Result<(), SpecError>
 fn is_full_binding(modifiers: &[Modifier]) -> bool
     ensures { result ≡ list_any is_full_binding modifiers.now }
 {
-    modifiers.iter().any(|modifier| means_full_binding(*modifier))
+    modifiers
+        .iter()
+        .any(|modifier| means_full_binding(*modifier))
 }
 
 fn means_full_binding(modifier: Modifier) -> bool
