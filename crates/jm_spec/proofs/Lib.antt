@@ -1,0 +1,4 @@
+pub mod ScanLemmas
+pub mod LoopLemmas
+pub mod FaultLemmas
+pub mod BalanceLemmas

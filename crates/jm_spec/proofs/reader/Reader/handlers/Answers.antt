@@ -1,0 +1,23 @@
+use Rattle.std.proofs.Common.{refl, ◌∙◌}
+use Rattle.std.proofs.lemmas.Result.{err_from_is_err_and}
+use Rattle.jm_spec.specs.Rules.{begins_handler, handler_at, handlers_at}
+use Rattle.jm_spec.proofs.LoopLemmas.{items_begin, read_one, read_all, read_none}
+use Rattle.jm_spec.proofs.reader.Reader.handlers.Goals as goal
+
+pub loop-self-init : goal.loop-self-init
+loop-self-init c = record { same_bytes = refl; same_total = refl; items = items_begin _ _ }
+
+pub loop-self-preserved : goal.loop-self-preserved
+loop-self-preserved c = record {
+  same_bytes = c.handler.ensures.bytes ∙ c.loop-self.invariant.same_bytes;
+  same_total = c.handler.ensures.total ∙ c.loop-self.invariant.same_total;
+  items = read_one begins_handler handler_at c.args.self.now.bytes.now c.loop-self.self.bytes.now c.args.self.now.total c.loop-self.self.total c.args.handlers.now c.args.self.now.rest.now c.loop-self.handlers c.loop-self.self.rest.now c.loop-self.invariant.same_bytes c.loop-self.invariant.same_total c.loop-self.invariant.items _ _ c.loop-self-test.ensures c.in_ok-handler.ensures.reads c.in_ok-handler.ensures.left;
+}
+
+pub returns-in_err-handler-clause-reads : goal.returns-in_err-handler-clause-reads
+unfolding handlers_at
+returns-in_err-handler-clause-reads c = let p = err_from_is_err_and c.from_residual.result c.from_residual.ensures.1 in rw (p.1, p.2) (read_none begins_handler handler_at c.args.self.now.bytes.now c.loop-self.self.bytes.now c.args.self.now.total c.loop-self.self.total c.args.handlers.now c.args.self.now.rest.now c.loop-self.handlers c.loop-self.self.rest.now c.loop-self.invariant.same_bytes c.loop-self.invariant.same_total c.loop-self.invariant.items _ c.loop-self-test.ensures c.in_err-handler.ensures.reads)
+
+pub returns-clause-reads : goal.returns-clause-reads
+unfolding handlers_at
+returns-clause-reads c = read_all begins_handler handler_at c.args.self.now.bytes.now c.loop-self.self.bytes.now c.args.self.now.total c.loop-self.self.total c.args.handlers.now c.args.self.now.rest.now c.loop-self.handlers c.loop-self.self.rest.now c.loop-self.invariant.same_bytes c.loop-self.invariant.same_total c.loop-self.invariant.items c.loop-self-test.ensures

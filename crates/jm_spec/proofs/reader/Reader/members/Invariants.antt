@@ -1,0 +1,14 @@
+use Rattle.std.proofs.Common.{◌≡◌, length}
+use Rattle.jm_spec.specs.Rules.{begins_member, member_at}
+use Rattle.jm_spec.proofs.LoopLemmas.{ItemsLeft}
+use Rattle.jm_spec.proofs.reader.Reader.members.Given as goal
+
+abbrev pub invariant-loop-self : goal.invariant-loop-self
+invariant-loop-self l = record {
+  same_bytes : l.self.bytes.now ≡ l.initial.self.bytes.now;
+  same_total : l.self.total ≡ l.initial.self.total;
+  items : ItemsLeft (begins_member l.initial.self.bytes.now) (member_at l.initial.self.bytes.now) l.initial.events l.initial.self.rest.now l.events l.self.rest.now;
+}
+
+abbrev pub decreases-loop-self : goal.decreases-loop-self
+decreases-loop-self l = length l.self.rest.now

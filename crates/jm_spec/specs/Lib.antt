@@ -1,0 +1,8 @@
+pub mod Brackets
+pub mod Runs
+pub mod Reading
+pub mod Rules
+pub mod Answers
+pub mod Faults
+pub mod Trees
+pub mod Balance

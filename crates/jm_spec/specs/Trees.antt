@@ -1,0 +1,66 @@
+-- The tree of a frame, and what a reader of a specification answers.
+use Rattle.std.specs.Prelude.{ℕ, ◌≡◌, Bool, true, false, List, [], ◌∷◌, Option, Some, None, Result, Ok, Err}
+use Rattle.std.specs.List.{list_any}
+use Rattle.jm_model.specs.declared.fault.SpecError.{SpecError}
+use Rattle.jm_model.specs.declared.fault.SpecError.TheVariants.{Bad, NoMemory}
+use Rattle.jm_model.specs.declared.fault.SpecFault.{SpecFault}
+use Rattle.jm_model.specs.declared.fault.SpecFault.TheVariants.{Syntax}
+use Rattle.jm_text.specs.declared.token.Token.{Token}
+use Rattle.jm_events.specs.Events.{EventDefinitions}
+use Rattle.jm_spec.specs.declared.head.Modifier.{Modifier}
+use Rattle.jm_spec.specs.declared.head.Modifier.TheVariants.{FullBinding}
+use Rattle.jm_spec.specs.declared.property.Property.{Property}
+use Rattle.jm_spec.specs.declared.frame.Frame.{Frame}
+use Rattle.jm_spec.specs.declared.tree.SpecTree.{SpecTree}
+use Rattle.jm_spec.specs.Rules.{frame_of}
+use Rattle.jm_spec.specs.Faults.{logic_of, table_of, frame_fault}
+
+abbrev pub is_full_binding : Modifier → Bool
+is_full_binding FullBinding = true
+is_full_binding _ = false
+
+-- the tree has what the property says
+pub record TellsProperty (bytes : List ℕ) (p : Property) (tree : SpecTree) : Type 0 where
+  pub logic : logic_of bytes p.logic ≡ Some tree.logic
+  pub logic_line : tree.logic_line ≡ p.logic.line
+  pub first : tree.first ≡ p.first
+  pub last : tree.last ≡ p.last
+  pub handlers : tree.handlers.items ≡ p.handlers
+
+-- the tree has what the one property says
+abbrev pub TellsProperties : List ℕ → List Property → SpecTree → Type 0
+TellsProperties bytes (p ∷ []) tree = TellsProperty bytes p tree
+TellsProperties bytes _ tree = ⊥
+
+-- the tree is that of the frame
+pub record IsTreeOf (bytes : List ℕ) (frame : Frame) (tree : SpecTree) : Type 0 where
+  pub name : tree.name ≡ frame.name
+  pub full_binding : tree.full_binding ≡ list_any is_full_binding frame.modifiers
+  pub table : table_of bytes frame.params frame.events ≡ Ok tree.table
+  pub property : TellsProperties bytes frame.properties tree
+
+-- a call refuses with the fault, if there is one, unless memory is short
+abbrev pub Refuses : Option SpecFault → SpecError → Type 0
+Refuses fault NoMemory = Unit {0}
+Refuses fault (Bad f) = fault ≡ Some f
+
+-- it answers where there is no fault
+abbrev pub Checks : {X : Type 0} → Result X SpecError → Option SpecFault → Type 0
+Checks (Ok x) fault = fault ≡ None
+Checks (Err e) fault = Refuses fault e
+
+-- it makes this table, or refuses with its fault
+abbrev pub Makes : {X : Type 0} → Result X SpecError → EventDefinitions → Result EventDefinitions SpecFault → Type 0
+Makes (Ok x) new made = made ≡ Ok new
+Makes (Err NoMemory) new made = Unit {0}
+Makes (Err (Bad f)) new made = made ≡ Err f
+
+-- the tokens spell a frame without a fault, whose tree this is
+abbrev pub IsTreeOfTokens : List ℕ → List Token → SpecTree → Type 0
+IsTreeOfTokens bytes tokens tree = (frame : Frame) × (frame_of bytes tokens ≡ Some frame) × (frame_fault bytes frame ≡ None) × IsTreeOf bytes frame tree
+
+-- the grammar spells no frame, or one with this first fault, unless memory is short
+abbrev pub IsFaultOfTokens : List ℕ → List Token → SpecError → Type 0
+IsFaultOfTokens bytes tokens NoMemory = Unit {0}
+IsFaultOfTokens bytes tokens (Bad (Syntax line)) = frame_of bytes tokens ≡ None
+IsFaultOfTokens bytes tokens (Bad fault) = (frame : Frame) × (frame_of bytes tokens ≡ Some frame) × (frame_fault bytes frame ≡ Some fault)

@@ -1,0 +1,25 @@
+//! The reader of a specification.
+ghost use Rattle.std.specs.Prelude.{◌<◌, ◌^◌, length, IfOk, IfErr};
+ghost use Rattle.jm_text.specs.Spans.{LieWithin};
+ghost use Rattle.jm_spec.specs.Trees.{IsTreeOfTokens, IsFaultOfTokens};
+
+use crate::reader::Reader;
+use crate::tree::{SpecTree, tree_of};
+use jm_model::SpecError;
+use jm_text::Token;
+use std::alloc::Global;
+
+/// The frame of the file whose tokens these are, fewer than 2^32.
+///
+/// The line of `Syntax` is that of the first token that can't go on, or of the last token at the end, and 1 in a file
+/// without tokens.
+pub fn read_spec(alloc: Global, bytes: &[u8], tokens: &[Token]) -> Result<SpecTree, SpecError>
+    requires within { LieWithin bytes.now tokens.now }
+    requires few { length tokens.now < 2 ^ 32 }
+    ensures ok { IfOk result (IsTreeOfTokens bytes.now tokens.now) }
+    ensures err { IfErr result (IsFaultOfTokens bytes.now tokens.now) }
+{
+    let mut reader = Reader::new(alloc, bytes, tokens);
+    let frame = reader.file()?;
+    tree_of(alloc, bytes, frame)
+}
