@@ -1,8 +1,8 @@
-use Rattle.std.proofs.Common.{ℕ, zero, suc, All, ◌≡◌, ◌≢◌, ◌<◌, ◌≤◌, ◌+◌, ◌%◌, ◌⊎◌, inl, inr, List, [], ◌∷◌, ◌++◌, Some, length, map, get_or, slice_get, Contains, refl, sym, ap, subst, ◌∙◌, arith, length-append, set}
+use Rattle.std.proofs.Common.{ℕ, zero, suc, All, ◌≡◌, ◌≢◌, ◌<◌, ◌⊎◌, inl, inr, List, [], ◌∷◌, ◌++◌, Some, length, map, get_or, slice_get, Contains, refl, sym, ap, subst, ◌∙◌, arith, length-append, set}
 use Rattle.std.proofs.lemmas.List.{length-map}
 use Rattle.std.proofs.lemmas.List.{map-set, get_or-set_same, get_or-set_other, get_or_default}
 use Rattle.std.proofs.lemmas.List.Elements.{All-head, All-tail, Contains-get_or, Contains-push, Contains-push_cases, Contains-append_left}
-use Rattle.std.proofs.lemmas.Option.{slice_get_within, none-some}
+use Rattle.std.proofs.lemmas.Option.{none-some}
 use Rattle.jm_table.proofs.PlaceLemmas.{slice_get-push_cases, place-Contains}
 use Rattle.jm_table.specs.Buckets.{bucket_of, IsIndex}
 
@@ -20,16 +20,19 @@ module _ {D : Type 0} (key : D → ℕ) where
       → ((q : ℕ) → (bucket_of after q ≡ bucket_of buckets q) ⊎ (bucket_of after q ≡ bucket_of buckets q ++ number ∷ []))
       → IsIndex key (found ++ d ∷ []) after
   index_more found buckets after d number is_last index here others = record {
-    each = λ k e h. elim (slice_get-push_cases found d k e h)
-      [ inl before ↦ elim (others (key e))
-          [ inl same ↦ subst (λ bucket. Contains bucket k) (sym same) (index.each k e before)
-          | inr more ↦ subst (λ bucket. Contains bucket k) (sym more) (Contains-append_left (bucket_of buckets (key e)) (number ∷ []) k (index.each k e before)) ]
+    each = λ k e h. elim (slice_get-push_cases found d k e h) [
+      | inl before ↦ elim (others (key e)) [
+        | inl same ↦ subst (λ bucket. Contains bucket k) (sym same) (index.each k e before)
+        | inr more ↦ subst (λ bucket. Contains bucket k) (sym more) (Contains-append_left (bucket_of buckets (key e)) (number ∷ []) k (index.each k e before))
+      ]
       | inr last ↦ subst (λ x. Contains (bucket_of after (key x)) k) last.1
-          (subst (λ bucket. Contains bucket k) (sym here) (subst (λ n. Contains (bucket_of buckets (key d) ++ number ∷ []) n) (is_last ∙ sym last.0) (Contains-push (bucket_of buckets (key d)) number))) ];
-    within = λ q k h. let long = length-append found (d ∷ []) in elim (others q)
-      [ inl same ↦ let old : Contains (bucket_of buckets q) k = subst (λ bucket. Contains bucket k) same h in omega (arith, long, index.within q k old)
+          (subst (λ bucket. Contains bucket k) (sym here) (subst (λ n. Contains (bucket_of buckets (key d) ++ number ∷ []) n) (is_last ∙ sym last.0) (Contains-push (bucket_of buckets (key d)) number)))
+    ];
+    within = λ q k h. let long = length-append found (d ∷ []) in elim (others q) [
+      | inl same ↦ let old : Contains (bucket_of buckets q) k = subst (λ bucket. Contains bucket k) same h in omega (arith, long, index.within q k old)
       | inr more ↦ let new : Contains (bucket_of buckets q ++ number ∷ []) k = subst (λ bucket. Contains bucket k) more h in
-          elim (Contains-push_cases (bucket_of buckets q) number k new) [ inl old ↦ omega (arith, long, index.within q k old) | inr e ↦ omega (arith, long, e, is_last) ] ];
+          elim (Contains-push_cases (bucket_of buckets q) number k new) [ inl old ↦ omega (arith, long, index.within q k old) | inr e ↦ omega (arith, long, e, is_last) ]
+    ];
   }
 
   -- each number of a bucket is one of data that was found

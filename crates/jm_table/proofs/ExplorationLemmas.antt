@@ -1,4 +1,4 @@
-use Rattle.std.proofs.Common.{ℕ, ◌≡◌, ◌≢◌, ◌==◌, ◌<◌, ◌≤◌, ◌+◌, ◌-◌, ◌*◌, ◌/◌, ◌%◌, ◌⊎◌, inl, inr, suc, zero, cond, List, [], ◌∷◌, ◌++◌, Option, Some, None, Result, Ok, Err, MatchOption, All, Contains, fold, length, slice_get, slice_index, get_or, refl, sym, ap, subst, ◌∙◌, arith, length-append}
+use Rattle.std.proofs.Common.{ℕ, ◌≡◌, ◌≢◌, ◌<◌, ◌≤◌, ◌+◌, ◌-◌, ◌*◌, ◌/◌, ◌%◌, ◌⊎◌, inl, inr, suc, zero, List, [], ◌∷◌, ◌++◌, Option, Some, None, Result, Ok, Err, MatchOption, All, Contains, length, slice_get, slice_index, refl, sym, ap, subst, ◌∙◌, arith, length-append}
 use Rattle.jm_model.specs.declared.fault.SpecError.{SpecError}
 use Rattle.jm_model.specs.declared.fault.SpecError.TheVariants.{Bad, NoMemory}
 use Rattle.jm_model.specs.declared.fault.SpecFault.{SpecFault}
@@ -9,9 +9,9 @@ use Rattle.std.proofs.Math.Nat.{le_refl}
 use Rattle.std.proofs.lemmas.Nat.{le-div, mod_below, mul-le, div-mul-add, mod-mul-add, mul-add-lt}
 use Rattle.std.proofs.lemmas.List.{get_or_append_left, get_or_push}
 use Rattle.std.proofs.lemmas.List.Elements.{All-push, All-nil, All-contains}
-use Rattle.std.proofs.lemmas.Option.{none-some, same_Some, slice_get_past, slice_get_within}
-use Rattle.jm_table.proofs.PlaceLemmas.{fold_push, slice_get-append, slice_get-push, slice_get-push_cases, Contains-place}
-use Rattle.jm_table.specs.Graphs.{GraphMeaning, step_from, reached_by, IsReached}
+use Rattle.std.proofs.lemmas.Option.{slice_get_past, slice_get_within}
+use Rattle.jm_table.proofs.PlaceLemmas.{fold_push, slice_get-append, slice_get-push_cases, Contains-place}
+use Rattle.jm_table.specs.Graphs.{GraphMeaning, step_from, IsReached}
 use Rattle.jm_table.specs.Explorations.{IsWithoutRepeats, Finds, Works, first_found, IsFoundIn, IsExplored, LeadsTo, IsInWork, IfBad, IsMet, IsCrowded}
 
 ok-err : {T : Type 0} (a : T) (f : SpecFault) → ◌≡◌ {A = Result T SpecFault} (Ok a) (Err f) → ⊥
@@ -69,19 +69,22 @@ module _ {D : Type 0} where
     unfolding IsFoundIn
     done_stays found n zero m pos le e h = subst (λ i. IsFoundIn g letters i (Ok found)) (omega arith) h
     done_stays found n (suc k) zero pos le e h = absurd (omega arith)
-    done_stays found n (suc k) (suc m) pos le e h =
-        (Ok found, done_stays found n k m pos le (omega arith) h,
-         idle (slice_get found (m / letters)) found (λ d. Finds found (g.step d (m % letters)) (Ok found))
-            (slice_get_past found (m / letters) (le-div (length found) m letters pos (omega arith))))
+    done_stays found n (suc k) (suc m) pos le e h = (
+      Ok found,
+      done_stays found n k m pos le (omega arith) h,
+      idle (slice_get found (m / letters)) found (λ d. Finds found (g.step d (m % letters)) (Ok found))
+          (slice_get_past found (m / letters) (le-div (length found) m letters pos (omega arith))),
+    )
 
     pub explored_fault : (n : ℕ) (f : SpecFault) → n ≤ 1024 * letters → IsFoundIn g letters n (Err f) → IsExplored g letters (Err f)
     explored_fault n f le h = error_stays n (1024 * letters - n) (1024 * letters) f (omega arith) h
 
     pub explored_all : (found : List D) → length found ≤ 1024 → IsFoundIn g letters (length found * letters) (Ok found) → IsExplored g letters (Ok found)
     explored_all found few h =
-        elim (cases_lt 0 letters)
-        [ inl pos ↦ done_stays found (length found * letters) (1024 * letters - length found * letters) (1024 * letters) pos (omega arith) (omega (arith, mul-le (length found) letters 1024 letters few (le_refl letters))) h
-        | inr none ↦ let e : letters ≡ 0 = omega arith in subst (λ i. IsFoundIn g letters i (Ok found)) (rw e (omega arith)) h ]
+        elim (cases_lt 0 letters) [
+          | inl pos ↦ done_stays found (length found * letters) (1024 * letters - length found * letters) (1024 * letters) pos (omega arith) (omega (arith, mul-le (length found) letters 1024 letters few (le_refl letters))) h
+          | inr none ↦ let e : letters ≡ 0 = omega arith in subst (λ i. IsFoundIn g letters i (Ok found)) (rw e (omega arith)) h
+        ]
 
     -- ---- what a step finds
 
@@ -93,9 +96,10 @@ module _ {D : Type 0} where
     finds_ok old found (Err f) h = absurd (ok-err found f h)
     finds_ok old found (Ok e) (inl known) = inl (same_Ok found old known.1)
     finds_ok old found (Ok e) (inr fresh) =
-        elim (eqb_tells (length old) 1024)
-        [ inl full ↦ absurd (ok-err found TooManyStates (rw (full.0) at fresh.1))
-        | inr room ↦ inr (e, refl, fresh.0, room.1, same_Ok found (old ++ e ∷ []) (rw (room.0) at fresh.1)) ]
+        elim (eqb_tells (length old) 1024) [
+          | inl full ↦ absurd (ok-err found TooManyStates (rw (full.0) at fresh.1))
+          | inr room ↦ inr (e, refl, fresh.0, room.1, same_Ok found (old ++ e ∷ []) (rw (room.0) at fresh.1))
+        ]
 
     -- ---- what is true of what is found
 
@@ -108,19 +112,24 @@ module _ {D : Type 0} where
 
     -- a letter more reaches what its step leads to
     reached_more : (d e : D) (letter : ℕ) → letter < letters → g.step d letter ≡ Ok e → IsReached g letters d → IsReached g letters e
-    reached_more d e letter lt leads h =
-        (h.0 ++ letter ∷ [], All-push (λ a. a < letters) h.0 letter h.1 lt,
-         fold_push (step_from g) g.start h.0 letter ∙ ap (λ r. step_from g r letter) h.2 ∙ leads)
+    reached_more d e letter lt leads h = (
+      h.0 ++ letter ∷ [],
+      All-push (λ a. a < letters) h.0 letter h.1 lt,
+      fold_push (step_from g) g.start h.0 letter ∙ ap (λ r. step_from g r letter) h.2 ∙ leads,
+    )
 
     distinct_push : (found : List D) (e : D) → IsWithoutRepeats found → (Contains found e → ⊥) → IsWithoutRepeats (found ++ e ∷ [])
     distinct_push found e distinct fresh j k d hj hk =
-        elim (slice_get-push_cases found e j d hj)
-        [ inl inside ↦ elim (slice_get-push_cases found e k d hk)
-            [ inl also ↦ distinct j k d inside also
-            | inr last ↦ absurd (fresh (Contains-place found j e (inside ∙ ap (λ x. Some x) (sym last.1)))) ]
-        | inr last ↦ elim (slice_get-push_cases found e k d hk)
-            [ inl inside ↦ absurd (fresh (Contains-place found k e (inside ∙ ap (λ x. Some x) (sym last.1))))
-            | inr also ↦ last.0 ∙ sym also.0 ] ]
+        elim (slice_get-push_cases found e j d hj) [
+          | inl inside ↦ elim (slice_get-push_cases found e k d hk) [
+            | inl also ↦ distinct j k d inside also
+            | inr last ↦ absurd (fresh (Contains-place found j e (inside ∙ ap (λ x. Some x) (sym last.1))))
+          ]
+          | inr last ↦ elim (slice_get-push_cases found e k d hk) [
+            | inl inside ↦ absurd (fresh (Contains-place found k e (inside ∙ ap (λ x. Some x) (sym last.1))))
+            | inr also ↦ last.0 ∙ sym also.0
+          ]
+        ]
 
     sound_first : (s : Result D SpecFault) (found : List D) → Ok found ≡ first_found s → (d : D) × (s ≡ Ok d) × (found ≡ d ∷ [])
     sound_first (Ok d) found h = (d, refl, same_Ok found (d ∷ []) h)
@@ -141,15 +150,16 @@ module _ {D : Type 0} where
 
     sound_more : (n : ℕ) (old found : List D) (d : D) → 0 < letters → slice_get old (n / letters) ≡ Some d → IsSound old → Finds old (g.step d (n % letters)) (Ok found) → IsSound found
     sound_more n old found d pos at sound h =
-        elim (finds_ok old found (g.step d (n % letters)) h)
-        [ inl same ↦ subst IsSound (sym same) sound
-        | inr fresh ↦ subst IsSound (sym fresh.4) (record {
+        elim (finds_ok old found (g.step d (n % letters)) h) [
+          | inl same ↦ subst IsSound (sym same) sound
+          | inr fresh ↦ subst IsSound (sym fresh.4) (record {
             first = (sound.first.0, sound.first.1, slice_get-append old (fresh.0 ∷ []) 0 sound.first.0 sound.first.2);
             each = All-push (IsReached g letters) old fresh.0 sound.each
                 (reached_more d fresh.0 (n % letters) (mod_below n letters pos) fresh.1 (All-contains (IsReached g letters) old d sound.each (Contains-place old (n / letters) d at)));
             distinct = distinct_push old fresh.0 sound.distinct fresh.2;
             few = omega (arith, sound.few, fresh.3, length-append old (fresh.0 ∷ []));
-          }) ]
+          })
+        ]
 
     -- a step from what is found: either nothing was done, or a state's letter was taken
     works_ok : (o : Option D) (old found : List D) (F : D → Type 0) → MatchOption o (◌≡◌ {A = Result (List D) SpecFault} (Ok found) (Ok old)) F → (found ≡ old) ⊎ ((d : D) × (o ≡ Some d) × F d)
@@ -159,9 +169,10 @@ module _ {D : Type 0} where
     sound_step : (n : ℕ) (before : Result (List D) SpecFault) (found : List D) → 0 < letters → ((old : List D) → before ≡ Ok old → IsSound old) → Works g letters n before (Ok found) → IsSound found
     sound_step n (Err f) found pos sound h = absurd (ok-err found f h)
     sound_step n (Ok old) found pos sound h =
-        elim (works_ok (slice_get old (n / letters)) old found (λ d. Finds old (g.step d (n % letters)) (Ok found)) h)
-        [ inl same ↦ subst IsSound (sym same) (sound old refl)
-        | inr taken ↦ sound_more n old found taken.0 pos taken.1 (sound old refl) taken.2 ]
+        elim (works_ok (slice_get old (n / letters)) old found (λ d. Finds old (g.step d (n % letters)) (Ok found)) h) [
+          | inl same ↦ subst IsSound (sym same) (sound old refl)
+          | inr taken ↦ sound_more n old found taken.0 pos taken.1 (sound old refl) taken.2
+        ]
 
     pub found_is_sound : (n : ℕ) (found : List D) → n ≤ 1024 * letters → IsFoundIn g letters n (Ok found) → IsSound found
     unfolding IsFoundIn
@@ -208,15 +219,20 @@ module _ {D : Type 0} where
       steps = (Ok old, work.steps, at_state (slice_get old (n / letters)) d (Ok found ≡ Ok old) (λ x. Finds old (g.step x (n % letters)) (Ok found)) at finds);
       few = still_few old found (g.step d (n % letters)) finds work.few;
       count = omega (arith, length-append next (target ∷ []), work.count);
-      each = λ m lt. elim (cases_lt m n)
-        [ inl before ↦ let old_step = work.each m before in
-            let same : slice_index (next ++ target ∷ []) m ≡ slice_index next m = get_or_append_left next (target ∷ []) 0 m (omega (arith, work.count)) in
-            (old_step.0, old_step.1, kept_place old found (g.step d (n % letters)) (m / letters) old_step.0 finds old_step.2, old_step.3,
-             subst (λ (t : ℕ). slice_get found t ≡ Some old_step.1) (sym same) (kept_place old found (g.step d (n % letters)) (slice_index next m) old_step.1 finds old_step.4))
+      each = λ m lt. elim (cases_lt m n) [
+        | inl before ↦ let old_step = work.each m before in
+            let same : slice_index (next ++ target ∷ []) m ≡ slice_index next m = get_or_append_left next (target ∷ []) 0 m (omega (arith, work.count)) in (
+              old_step.0,
+              old_step.1,
+              kept_place old found (g.step d (n % letters)) (m / letters) old_step.0 finds old_step.2,
+              old_step.3,
+              subst (λ (t : ℕ). slice_get found t ≡ Some old_step.1) (sym same) (kept_place old found (g.step d (n % letters)) (slice_index next m) old_step.1 finds old_step.4),
+            )
         | inr last ↦ let here : m ≡ n = omega arith in
             let same : slice_index (next ++ target ∷ []) n ≡ target = get_or_push next target 0 n work.count in
             subst (λ (i : ℕ). LeadsTo g letters found i (slice_index (next ++ target ∷ []) i)) (sym here)
-                (d, e, kept_place old found (g.step d (n % letters)) (n / letters) d finds at, leads, subst (λ (t : ℕ). slice_get found t ≡ Some e) (sym same) there) ];
+            (d, e, kept_place old found (g.step d (n % letters)) (n / letters) d finds at, leads, subst (λ (t : ℕ). slice_get found t ≡ Some e) (sym same) there)
+      ];
     }
 
     -- a fault of a step
@@ -245,7 +261,7 @@ module _ {D : Type 0} where
           let column : place % letters ≡ letter = mod-mul-add state letters letter lt in
           subst (λ (n : ℕ). IsInWork g letters n found (next ++ target ∷ [])) (omega arith)
           (in_work_more place old found next d e target work (ap (λ k. slice_get old k) row ∙ at)
-              (subst (λ (a : ℕ). Finds old (g.step d a) (Ok found)) (sym column) finds) (ap (λ a. g.step d a) column ∙ leads) there)
+          (subst (λ (a : ℕ). Finds old (g.step d a) (Ok found)) (sym column) finds) (ap (λ a. g.step d a) column ∙ leads) there)
 
       pub step_failed : (old : List D) (next : List ℕ) (d : D) (error : SpecError) → letter < letters → IsInWork g letters (state * letters + letter) old next → slice_get old state ≡ Some d
           → IfBad error (λ f. Finds old (g.step d letter) (Err f)) → IfBad error (λ f. IsExplored g letters (Err f))
@@ -283,9 +299,10 @@ module _ {D : Type 0} where
     finds_err old (Err h) f finds = inl (ap (λ x. Err x) (sym (same_Err {T = List D} f h finds)))
     finds_err old (Ok e) f (inl known) = absurd (ok-err old f (sym known.1))
     finds_err old (Ok e) f (inr fresh) =
-        elim (eqb_tells (length old) 1024)
-        [ inl full ↦ inr (e, refl, fresh.0, full.1, same_Err {T = List D} f TooManyStates (rw (full.0) at fresh.1))
-        | inr room ↦ absurd (ok-err (old ++ e ∷ []) f (sym (rw (room.0) at fresh.1))) ]
+        elim (eqb_tells (length old) 1024) [
+          | inl full ↦ inr (e, refl, fresh.0, full.1, same_Err {T = List D} f TooManyStates (rw (full.0) at fresh.1))
+          | inr room ↦ absurd (ok-err (old ++ e ∷ []) f (sym (rw (room.0) at fresh.1)))
+        ]
 
     met_start : (s : Result D SpecFault) (f : SpecFault) → Err f ≡ first_found s → s ≡ Err f
     met_start (Ok d) f h = absurd (ok-err (d ∷ []) f (sym h))
@@ -302,14 +319,18 @@ module _ {D : Type 0} where
     caused_at n old d f pos at sound finds =
         let lt = mod_below n letters pos in
         let way = All-contains (IsReached g letters) old d sound.each (Contains-place old (n / letters) d at) in
-        elim (finds_err old (g.step d (n % letters)) f finds)
-        [ inl leads ↦ inl (met_more d (n % letters) f lt leads way)
-        | inr fresh ↦ inr (fresh.4, record {
-            found = old ++ fresh.0 ∷ [];
-            many = omega (arith, length-append old (fresh.0 ∷ []), fresh.3);
-            each = All-push (IsReached g letters) old fresh.0 sound.each (reached_more d fresh.0 (n % letters) lt fresh.1 way);
-            distinct = distinct_push old fresh.0 sound.distinct fresh.2;
-          }) ]
+        elim (finds_err old (g.step d (n % letters)) f finds) [
+          | inl leads ↦ inl (met_more d (n % letters) f lt leads way)
+          | inr fresh ↦ inr (
+            fresh.4,
+            record {
+              found = old ++ fresh.0 ∷ [];
+              many = omega (arith, length-append old (fresh.0 ∷ []), fresh.3);
+              each = All-push (IsReached g letters) old fresh.0 sound.each (reached_more d fresh.0 (n % letters) lt fresh.1 way);
+              distinct = distinct_push old fresh.0 sound.distinct fresh.2;
+            },
+          )
+        ]
 
     works_err : (o : Option D) (old : List D) (f : SpecFault) (F : D → Type 0) → MatchOption o (Err f ≡ Ok old) F → (d : D) × (o ≡ Some d) × F d
     works_err None old f F h = absurd (ok-err old f (sym h))

@@ -1,11 +1,11 @@
-use Rattle.std.proofs.Common.{ℕ, ◌≡◌, ◌<◌, ◌≤◌, ◌+◌, ◌*◌, ◌/◌, ◌%◌, suc, zero, List, [], ◌∷◌, Option, Some, Result, Ok, Err, All, fold, length, slice_get, slice_index, get_or, refl, sym, ap, subst, ◌∙◌, arith}
+use Rattle.std.proofs.Common.{ℕ, ◌≡◌, ◌<◌, ◌≤◌, ◌+◌, ◌*◌, List, [], ◌∷◌, Some, Result, Ok, All, fold, length, slice_get, get_or, refl, sym, ap, subst, ◌∙◌, arith}
 use Rattle.jm_model.specs.declared.fault.SpecFault.{SpecFault}
 use Rattle.std.proofs.lemmas.Nat.{div-mul-add, mod-mul-add, mul-add-lt, mul-le}
 use Rattle.std.proofs.Math.Nat.{le_refl}
 use Rattle.std.proofs.lemmas.List.Elements.{All-from_get_or, All-head, All-tail, All-get_or}
 use Rattle.std.proofs.lemmas.Option.{same_Some, slice_get_within, slice_get-get_or}
 use Rattle.jm_table.specs.Graphs.{GraphMeaning, step_from, reached_by, IsReached}
-use Rattle.jm_table.specs.Explorations.{IsWithoutRepeats, IsFoundIn, IsExplored, LeadsTo, IsInWork}
+use Rattle.jm_table.specs.Explorations.{IsExplored, IsInWork}
 use Rattle.jm_table.specs.Tables.{Transitions, next_of, state_from, state_after_of, IsTable, IsWord, Follows}
 use Rattle.jm_table.proofs.ExplorationLemmas.{IsSound, found_is_sound, explored_all}
 
@@ -65,10 +65,11 @@ module _ {D : Type 0} (g : GraphMeaning D) (letters : ℕ) (found : List D) (nex
   -- the work is done: the table is whole, it follows the graph, and what was found is what the order of work finds
   pub finished : (states state : ℕ) → states ≡ length found → state ≡ length found → letters ≤ 32 → IsInWork g letters (state * letters) found next
       → (IsTable (record { states = states; letters = letters; next = next; groups = [] }))
-        × (Follows g (record { states = states; letters = letters; next = next; groups = [] }) found) × (IsExplored g letters (Ok found))
+      × (Follows g (record { states = states; letters = letters; next = next; groups = [] }) found) × (IsExplored g letters (Ok found))
   finished states state all done few so_far =
       let work : IsInWork g letters (length found * letters) found next = subst (λ k. IsInWork g letters (k * letters) found next) done so_far in
-      let sound = found_is_sound g letters (length found * letters) found (mul-le (length found) letters 1024 letters work.few (le_refl letters)) work.steps in
-      (subst (λ k. IsTable (record { states = k; letters = letters; next = next; groups = [] })) (sym all) (is_table work sound few),
-       subst (λ k. Follows g (record { states = k; letters = letters; next = next; groups = [] }) found) (sym all) (follows work sound few),
-       explored_all g letters found work.few work.steps)
+      let sound = found_is_sound g letters (length found * letters) found (mul-le (length found) letters 1024 letters work.few (le_refl letters)) work.steps in (
+        subst (λ k. IsTable (record { states = k; letters = letters; next = next; groups = [] })) (sym all) (is_table work sound few),
+        subst (λ k. Follows g (record { states = k; letters = letters; next = next; groups = [] }) found) (sym all) (follows work sound few),
+        explored_all g letters found work.few work.steps,
+      )

@@ -1,4 +1,4 @@
-use Rattle.std.proofs.Common.{ℕ, ◌≡◌, ◌<◌, ◌+◌, ◌↔◌, ◌⊎◌, inl, inr, List, [], ◌∷◌, ◌++◌, map, take, length, get_or, Contains, refl, sym, ap, subst, ◌∙◌, arith}
+use Rattle.std.proofs.Common.{ℕ, ◌≡◌, ◌<◌, ◌+◌, ◌↔◌, ◌⊎◌, inl, inr, List, [], ◌∷◌, ◌++◌, map, take, length, get_or, Contains, sym, ap, subst, ◌∙◌}
 use Rattle.std.proofs.lemmas.List.{map_more, take_more}
 use Rattle.std.proofs.lemmas.List.Elements.{Contains-push, Contains-push_cases, Contains-append_left}
 use Rattle.jm_model.specs.declared.step.Letter.{Letter}
@@ -17,8 +17,10 @@ word_more t word i d before after lt so_far step =
 pub members_more : (states : List ℕ) (i : ℕ) (before after : List ℕ) → i < length states → ((s : ℕ) → Contains before s ↔ Contains (take i states) s)
     → ((s : ℕ) → Contains after s ↔ (Contains before s ⊎ (s ≡ get_or states i 0))) → (s : ℕ) → Contains after s ↔ Contains (take (i + 1) states) s
 members_more states i before after lt so_far step s =
-    rw (take_more states i 0 lt)
-    (λ h. elim ((step s).0 h)
-        [ inl old ↦ Contains-append_left (take i states) (get_or states i 0 ∷ []) s ((so_far s).0 old)
-        | inr new ↦ subst (λ x. Contains (take i states ++ get_or states i 0 ∷ []) x) (sym new) (Contains-push (take i states) (get_or states i 0)) ],
-     λ h. elim (Contains-push_cases (take i states) (get_or states i 0) s h) [ inl old ↦ (step s).1 (inl ((so_far s).1 old)) | inr new ↦ (step s).1 (inr (sym new)) ])
+    rw (take_more states i 0 lt) (
+      λ h. elim ((step s).0 h) [
+        | inl old ↦ Contains-append_left (take i states) (get_or states i 0 ∷ []) s ((so_far s).0 old)
+        | inr new ↦ subst (λ x. Contains (take i states ++ get_or states i 0 ∷ []) x) (sym new) (Contains-push (take i states) (get_or states i 0))
+      ],
+      λ h. elim (Contains-push_cases (take i states) (get_or states i 0) s h) [ inl old ↦ (step s).1 (inl ((so_far s).1 old)) | inr new ↦ (step s).1 (inr (sym new)) ],
+    )

@@ -1,4 +1,4 @@
-use Rattle.std.specs.Prelude.{ℕ, ◌≡◌, ◌<◌, List, All, Option, Some, Result, Ok, Err, fold}
+use Rattle.std.specs.Prelude.{ℕ, ◌≡◌, ◌<◌, List, All, Result, Ok, Err, fold}
 use Rattle.jm_model.specs.declared.fault.SpecFault.{SpecFault}
 use Rattle.jm_model.specs.declared.fault.SpecError.{SpecError}
 use Rattle.jm_model.specs.declared.fault.SpecError.TheVariants.{Bad, NoMemory}

@@ -1,4 +1,4 @@
-use Rattle.std.specs.Prelude.{ℕ, ◌≡◌, ◌<◌, ◌≤◌, ◌+◌, ◌*◌, List, [], length, All, Contains, Some, Ok, IsSomeAnd, slice_get, slice_index, fold}
+use Rattle.std.specs.Prelude.{ℕ, ◌≡◌, ◌<◌, ◌≤◌, ◌+◌, ◌*◌, List, length, All, Contains, Some, Ok, IsSomeAnd, slice_get, slice_index, fold}
 use Rattle.jm_table.specs.Graphs.{GraphMeaning, reached_by}
 use Rattle.jm_table.specs.Explorations.{IsWithoutRepeats}
 

@@ -1,6 +1,5 @@
-use Rattle.std.proofs.Common.{◌≡◌, [], ◌∷◌, ◌++◌, map, length, sym, ap, ◌∙◌, arith}
+use Rattle.std.proofs.Common.{[], ◌∷◌, map, sym, ◌∙◌}
 use Rattle.std.proofs.lemmas.List.{length-map, map-append}
-use Rattle.jm_table.specs.Buckets.{bucket_of}
 use Rattle.jm_table.proofs.BucketLemmas.{index_more}
 use Rattle.jm_table.proofs.exploration.append.Goals as goal
 
@@ -12,4 +11,4 @@ returns-clause-index g c =
     let here = rw c.key.ensures at c.in-Ok.ensures.here in
     rw (c.in-Ok-push.ensures.items, map-append data_of nodes.items (c.args.node ∷ []))
     (index_more key (map data_of nodes.items) c.args.work.now.known c.add.new.self (data_of c.args.node) _
-        (c.len-number.ensures ∙ nodes.ok.0 ∙ sym (length-map nodes.items data_of)) c.requires.index here c.in-Ok.ensures.others)
+    (c.len-number.ensures ∙ nodes.ok.0 ∙ sym (length-map nodes.items data_of)) c.requires.index here c.in-Ok.ensures.others)

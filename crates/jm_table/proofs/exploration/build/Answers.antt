@@ -1,4 +1,4 @@
-use Rattle.std.proofs.Common.{ℕ, ◌≡◌, ◌<◌, ◌≤◌, ◌*◌, ◌⊎◌, inl, inr, [], Ok, Err, map, length, refl, sym, ap, subst, ◌∙◌, arith}
+use Rattle.std.proofs.Common.{ℕ, ◌≡◌, inl, inr, Err, map, length, sym, ap, subst, arith}
 use Rattle.std.proofs.lemmas.List.{length-map}
 use Rattle.std.proofs.lemmas.Result.{err_from_is_err_and}
 use Rattle.jm_table.specs.Explorations.{IsInWork}
@@ -23,7 +23,7 @@ returns-in_err-work-clause-refused g c = λ fault also.
     let meaning = g.G.Graph.meaning c.args.graph.now in
     rw (p.1, p.2)
     (elim (refused_by meaning c.args.letters c.in_err-work.field-0.0 (bad_start meaning c.args.letters _ c.in_err-work.ensures.fault) fault also)
-     [ inl e ↦ inl (ap (λ x. Err x) e) | inr e ↦ inr (ap (λ x. Err x) e) ])
+    [ inl e ↦ inl (ap (λ x. Err x) e) | inr e ↦ inr (ap (λ x. Err x) e) ])
 
 pub returns-in_err-work-clause-accepted : goal.returns-in_err-work-clause-accepted
 returns-in_err-work-clause-accepted g c = λ found also.
@@ -53,7 +53,7 @@ returns-in_err-expand-clause-refused g c = λ fault also.
     let p = err_from_is_err_and c.from_residual-in_err-expand.result c.from_residual-in_err-expand.ensures.1 in
     rw (p.1, p.2)
     (elim (refused_by (g.G.Graph.meaning c.args.graph.now) c.args.letters c.in_err-expand.field-0.0 c.in_err-expand.ensures.fault fault also)
-     [ inl e ↦ inl (ap (λ x. Err x) e) | inr e ↦ inr (ap (λ x. Err x) e) ])
+    [ inl e ↦ inl (ap (λ x. Err x) e) | inr e ↦ inr (ap (λ x. Err x) e) ])
 
 pub returns-in_err-expand-clause-accepted : goal.returns-in_err-expand-clause-accepted
 returns-in_err-expand-clause-accepted g c = λ found also.

@@ -1,4 +1,4 @@
-use Rattle.std.proofs.Common.{ℕ, ◌≡◌, [], length, All}
+use Rattle.std.proofs.Common.{◌≡◌, [], length, All}
 use Rattle.jm_table.proofs.known.Known.new.Given as goal
 
 abbrev pub invariant-loop-made : goal.invariant-loop-made

@@ -1,4 +1,4 @@
-use Rattle.std.proofs.Common.{ℕ, ◌≡◌, ◌<◌, ◌↔◌, List, [], ◌∷◌, ◌++◌, take, Contains, ap, subst, ◌∙◌, arith}
+use Rattle.std.proofs.Common.{ℕ, ◌↔◌, List, [], ◌∷◌, ◌++◌, Contains, ap, subst, ◌∙◌, arith}
 use Rattle.std.proofs.lemmas.List.{take_all}
 use Rattle.jm_table.specs.Tables.{Transitions}
 use Rattle.jm_table.proofs.WordLemmas.{members_more}
@@ -18,8 +18,9 @@ loop-state-preserved c =
 pub returns-clause-ok : goal.returns-clause-ok
 returns-clause-ok c =
     let t = c.self.inside in
-    let members = c.loop-state.members in
-    (members,
-     ap (λ (groups : List (List ℕ)). record { states = t.states; letters = t.letters; next = t.next.items; groups = groups }) c.in-Ok.ensures.items
-     ∙ ap (λ (table : Transitions). record table { groups = table.groups ++ members ∷ [] }) c.self.view_is,
-     λ s. subst (λ (l : List ℕ). Contains members s ↔ Contains l s) (take_all c.loop-state.state-index c.args.states.now c.loop-state-test.false) (c.loop-state.invariant s))
+    let members = c.loop-state.members in (
+      members,
+      ap (λ (groups : List (List ℕ)). record { states = t.states; letters = t.letters; next = t.next.items; groups = groups }) c.in-Ok.ensures.items
+          ∙ ap (λ (table : Transitions). record table { groups = table.groups ++ members ∷ [] }) c.self.view_is,
+      λ s. subst (λ (l : List ℕ). Contains members s ↔ Contains l s) (take_all c.loop-state.state-index c.args.states.now c.loop-state-test.false) (c.loop-state.invariant s),
+    )
