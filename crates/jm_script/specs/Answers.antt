@@ -8,12 +8,16 @@ use Rattle.jm_script.specs.Meanings.{LineMeaning, ScriptMeaning}
 use Rattle.jm_script.specs.declared.script.Target.{Target}
 use Rattle.jm_script.specs.declared.script.ScriptLine.{ScriptLine}
 
--- a line is read by its meaning: its target and the names then; or its fault, and the names stay as they were; where
--- memory is short, there may be new names at the end
+-- why a line wasn't read: its fault, and the names stay as they were; where memory is short, there may be new names at
+-- the end
+abbrev pub IsStoppedBy : Result LineMeaning ScriptFault → List (List ℕ) → ScriptError → List (List ℕ) → Type 0
+IsStoppedBy meaning old (Bad fault) new = (meaning ≡ Err fault) × (new ≡ old)
+IsStoppedBy meaning old NoMemory new = IsExtension old new
+
+-- a line is read by its meaning: its target, and the names then
 abbrev pub IsReadAs : Result LineMeaning ScriptFault → List (List ℕ) → Result (Option Target) ScriptError → List (List ℕ) → Type 0
 IsReadAs meaning old (Ok target) new = meaning ≡ Ok (record { target = target; names = new })
-IsReadAs meaning old (Err (Bad fault)) new = (meaning ≡ Err fault) × (new ≡ old)
-IsReadAs meaning old (Err NoMemory) new = IsExtension old new
+IsReadAs meaning old (Err error) new = IsStoppedBy meaning old error new
 
 -- a script is read by its meaning: no line has a fault, these are its steps, the names and how many steps there are then
 pub record IsWhole (meaning : ScriptMeaning) (count : ℕ) (script : List ScriptLine) (names : List (List ℕ)) (count_then : ℕ) : Type 0 where

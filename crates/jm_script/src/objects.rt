@@ -1,8 +1,9 @@
 //! The objects of a line.
-ghost use Rattle.std.specs.Prelude.{◌≡◌, ◌<◌, ◌≤◌, nat_le, ◌++◌, length, map, take, IfOk, OnOk, OnErr, IsTrue};
+ghost use Rattle.std.specs.Prelude.{◌≡◌, ◌<◌, ◌≤◌, nat_le, ◌++◌, ◌-◌, ◌^◌, length, map, take, IfOk, OnOk, OnErr, IsTrue};
 ghost use Rattle.std.specs.List.{list_all};
+ghost use Rattle.jm_events.specs.Names.{with_name};
 ghost use Rattle.jm_script.specs.Statements.{is_object};
-ghost use Rattle.jm_script.specs.Objects.{mentioned, numbers_of, IsExtension};
+ghost use Rattle.jm_script.specs.Objects.{mentioned, number_at_mention, numbers_of, IsExtension};
 
 use crate::words::{is_object, text};
 use jm_events::Names;
@@ -66,7 +67,22 @@ pub fn mention(objects: &[&[u8]], names: &mut Names) -> Result<[u32; 8], NoMemor
 {
     let mut numbers = [0; 8];
     for (i, object) in objects.iter().enumerate() {
-        numbers[i] = names.add(text(object))?;
+        numbers[i] = mention_one(object, names)?;
     }
     Ok(numbers)
+}
+
+/// Mentions an object, and gives its number.
+fn mention_one(object: &[u8], names: &mut Names) -> Result<u32, NoMemory>
+    requires object { IsTrue (is_object object.now) }
+    requires room { length names.old < 2 ^ 32 - 1 }
+    ensures ok { OnOk result (names.new ≡ with_name names.old object.now) }
+    ensures number { IfOk result (λ number. number ≡ number_at_mention names.old object.now) }
+    ensures err { OnErr result (names.new ≡ names.old) }
+{
+    let name = text(object);
+    match names.find(name) {
+        Some(number) => Ok(number),
+        None => names.add(name),
+    }
 }

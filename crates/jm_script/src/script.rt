@@ -86,11 +86,12 @@ pub fn project(alloc: Global, script: &Script, spec: u8) -> Result<Vec<(u32, Ste
 {
     let mut steps = Vec::new(alloc);
     for line in script.lines() {
-        if let Some(step) = line.target.step_for(spec) {
-            let Ok(()) = steps.push((line.line, step)) else {
-                return Err(NoMemory);
-            };
-        }
+        let Some(step) = line.target.step_for(spec) else {
+            continue;
+        };
+        let Ok(()) = steps.push((line.line, step)) else {
+            return Err(NoMemory);
+        };
     }
     Ok(steps)
 }

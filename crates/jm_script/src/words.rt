@@ -15,9 +15,12 @@ pub fn read_words<'a>(line: &'a [u8], words: &mut Vec<&'a [u8]>) -> Result<(), N
 {
     words.clear();
     for word in content(line).split(|b| is_blank(*b)) {
-        if !word.is_empty() && words.push(word).is_err() {
-            return Err(NoMemory);
+        if word.is_empty() {
+            continue;
         }
+        let Ok(()) = words.push(word) else {
+            return Err(NoMemory);
+        };
     }
     Ok(())
 }

@@ -1,0 +1,5 @@
+pub mod CatalogLemmas
+pub mod NameLemmas
+pub mod WordLemmas
+pub mod ObjectLemmas
+pub mod EventLemmas
