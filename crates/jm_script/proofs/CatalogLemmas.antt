@@ -1,5 +1,6 @@
 -- A catalog as the list of its specifications.
-use Rattle.std.proofs.Common.{ℕ, zero, suc, ◌≡◌, ◌<◌, ◌+◌, List, [], ◌∷◌, ◌++◌, map, length, get_or, slice_get, Option, Some, None, option_map, is_some, true, false, IsSome, refl, sym, ap, absurd, arith}
+use Rattle.std.proofs.Common.{ℕ, zero, suc, ◌≡◌, ◌<◌, ◌≤◌, ◌+◌, List, [], ◌∷◌, ◌++◌, map, length, get_or, slice_get, Option, Some, None, option_map, refl, ap, arith}
+use Rattle.std.proofs.lemmas.List.{length_push}
 use Rattle.jm_events.specs.Events.{EventDefinitions}
 use Rattle.jm_script.specs.Catalogs.{CatalogEntry, spec_names, entries_of}
 
@@ -27,3 +28,9 @@ table-entries_of [] tables k d e lt = absurd (omega arith)
 table-entries_of (name ∷ names) [] k d e lt = absurd (omega arith)
 table-entries_of (name ∷ names) (table ∷ tables) zero d e lt = refl
 table-entries_of (name ∷ names) (table ∷ tables) (suc k) d e lt = table-entries_of names tables k d (omega arith) (omega arith)
+
+-- one specification more has room
+pub room_more : (names : List (List ℕ)) (tables : List EventDefinitions) (name : List ℕ) (table : EventDefinitions) → length tables ≡ length names → length (entries_of names tables) < 16 → (length (tables ++ table ∷ []) ≡ length (names ++ name ∷ [])) × (length (names ++ name ∷ []) ≤ 16)
+room_more names tables name table e room =
+    let here = length-entries_of names tables e in
+    (omega (arith, length_push tables table, length_push names name), omega (arith, length_push names name))

@@ -3,3 +3,4 @@ pub mod NameLemmas
 pub mod WordLemmas
 pub mod ObjectLemmas
 pub mod EventLemmas
+pub mod ProjectionLemmas

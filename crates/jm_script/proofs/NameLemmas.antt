@@ -1,5 +1,5 @@
 -- Names in order of first mention.
-use Rattle.std.proofs.Common.{ℕ, zero, suc, ◌≡◌, ◌<◌, ◌≤◌, ◌+◌, Bool, true, false, cond, not, ltb, ◌||◌, List, [], ◌∷◌, ◌++◌, length, slice_get, position, Option, Some, None, option_map, is_some, IsSome, unwrap_or, refl, sym, ap, ◌∙◌, absurd, arith, rules}
+use Rattle.std.proofs.Common.{ℕ, zero, suc, ◌≡◌, ◌<◌, ◌≤◌, ◌+◌, Bool, true, false, cond, not, ltb, ◌||◌, List, [], ◌∷◌, ◌++◌, length, slice_get, position, Option, Some, None, option_map, is_some, IsSome, refl, sym, ap, ◌∙◌, arith}
 use Rattle.std.specs.List.{list_any, position_or_len}
 use Rattle.std.specs.Str.{bytes_eq}
 use Rattle.std.proofs.lemmas.Bool.{false≢true}
@@ -87,3 +87,11 @@ number-new names new name k e known at =
 pub is_there : (o : Option ℕ) → is_some o ≡ true → o ≡ None → ⊥
 is_there None e n = false≢true e
 is_there (Some k) e n = none-some k (sym n)
+
+pub is_not_there : (o : Option ℕ) → is_some o ≡ false → IsSome o → ⊥
+is_not_there None e some = false≢true some
+is_not_there (Some k) e some = false≢true (sym e)
+
+pub not_some : (o : Option ℕ) → is_some o ≡ false → o ≡ None
+not_some None e = refl
+not_some (Some k) e = absurd (false≢true (sym e))

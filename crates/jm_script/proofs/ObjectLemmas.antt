@@ -1,36 +1,50 @@
 -- Mentions of objects, one after another.
-use Rattle.std.proofs.Common.{◌≡◌, ℕ, zero, suc, ◌<◌, ◌≤◌, ◌+◌, Bool, true, false, ◌&&◌, ◌||◌, cond, List, [], ◌∷◌, ◌++◌, map, length, get_or, drop, take, Option, Some, None, is_some, refl, sym, ap, ◌∙◌, append_assoc, arith, length-append, subst}
+use Rattle.std.proofs.Common.{◌≡◌, ℕ, zero, suc, ◌<◌, ◌≤◌, ◌+◌, Bool, true, false, ◌&&◌, ◌||◌, cond, List, [], ◌∷◌, ◌++◌, map, length, get_or, drop, Option, Some, None, is_some, Result, Ok, Err, OnOk, IfOk, IsTrue, slice_get, refl, sym, ap, ◌∙◌, append_assoc, arith, length-append}
+use Rattle.std.specs.Prelude.{nat_le}
+use Rattle.std.proofs.lemmas.Bool.Decides.{nat_tests}
+use Rattle.jm_model.specs.declared.step.NoMemory.{NoMemory}
 use Rattle.std.specs.List.{list_all, list_any}
-use Rattle.std.specs.Str.{bytes_eq, IsUtf8}
+use Rattle.std.specs.Str.{bytes_eq}
 use Rattle.std.specs.Borrow.{Bor}
-use Rattle.std.proofs.lemmas.List.{at_drop_more, drop_all}
+use Rattle.std.proofs.lemmas.List.{drop_more}
 use Rattle.std.proofs.lemmas.List.Folds.{list_any-append}
 use Rattle.jm_events.specs.Names.{number_of, with_name}
 use Rattle.jm_script.specs.Objects.{mentioned, number_at_mention, numbers_of, IsExtension}
 use Rattle.jm_script.specs.Statements.{is_object}
-use Rattle.jm_script.proofs.NameLemmas.{list_any-number_of, with_name-new}
-use Rattle.jm_script.proofs.WordLemmas.{both_left, both_right, object_utf8}
+use Rattle.jm_script.proofs.NameLemmas.{list_any-number_of, number-new}
+use Rattle.jm_script.proofs.WordLemmas.{both_left, both_right}
 
 -- the texts of words
 abbrev pub texts : List (Bor (List ℕ)) → List (List ℕ)
 texts words = map (λ w. w.now) words
 
--- the word at a place, and what follows it
-pub texts_more : (words : List (Bor (List ℕ))) (i : ℕ) (w : Bor (List ℕ)) → i < length words → w ≡ get_or words i w → drop i (texts words) ≡ w.now ∷ drop (i + 1) (texts words)
-texts_more [] i w lt at = absurd (omega arith)
-texts_more (x ∷ words) zero w lt at = ap (λ (y : Bor (List ℕ)). y.now ∷ texts words) (sym at)
-texts_more (x ∷ words) (suc i) w lt at = texts_more words i w (omega arith) at
+pub length-texts : (words : List (Bor (List ℕ))) → length (texts words) ≡ length words
+length-texts [] = refl
+length-texts (x ∷ words) = ap suc (length-texts words)
 
-pub texts_end : (words : List (Bor (List ℕ))) (i : ℕ) → length words ≤ i → drop i (texts words) ≡ []
-texts_end [] i le = drop_all i [] (omega arith)
-texts_end (x ∷ words) zero le = absurd (omega arith)
-texts_end (x ∷ words) (suc i) le = texts_end words i (omega arith)
+text_at : (words : List (Bor (List ℕ))) (i : ℕ) (d : Bor (List ℕ)) → get_or (texts words) i d.now ≡ (get_or words i d).now
+text_at [] i d = refl
+text_at (x ∷ words) zero d = refl
+text_at (x ∷ words) (suc i) d = text_at words i d
+
+-- the word at a place, and what follows it
+pub texts_more : (words : List (Bor (List ℕ))) (i : ℕ) (d : Bor (List ℕ)) → i < length words → drop i (texts words) ≡ (get_or words i d).now ∷ drop (i + 1) (texts words)
+texts_more words i d lt =
+    let inside : i < length (texts words) = omega (arith, length-texts words) in
+    drop_more (texts words) i d.now inside ∙ ap (λ w. w ∷ drop (i + 1) (texts words)) (text_at words i d)
 
 -- each of the words is an object
-pub object_at : (words : List (Bor (List ℕ))) (i : ℕ) (w : Bor (List ℕ)) → i < length words → w ≡ get_or words i w → list_all is_object (texts words) ≡ true → is_object w.now ≡ true
-object_at [] i w lt at h = absurd (omega arith)
-object_at (x ∷ words) zero w lt at h = ap (λ (y : Bor (List ℕ)). is_object y.now) at ∙ both_left _ _ h
-object_at (x ∷ words) (suc i) w lt at h = object_at words i w (omega arith) at (both_right (is_object x.now) _ h)
+pub object_at : (words : List (Bor (List ℕ))) (i : ℕ) (d : Bor (List ℕ)) → i < length words → IsTrue (list_all is_object (texts words)) → is_object (get_or words i d).now ≡ true
+object_at [] i d lt h = absurd (omega arith)
+object_at (x ∷ words) zero d lt h = both_left _ _ h
+object_at (x ∷ words) (suc i) d lt h = object_at words i d (omega arith) (both_right (is_object x.now) _ h)
+
+-- the word at a place is an object, or isn't
+pub one_fails : (words : List (Bor (List ℕ))) (i : ℕ) (d : Bor (List ℕ)) (whole : Bool) → i < length words → whole ≡ list_all is_object (drop i (texts words)) → is_object (get_or words i d).now ≡ false → false ≡ whole
+one_fails words i d whole lt before e = sym (before ∙ ap (list_all is_object) (texts_more words i d lt) ∙ rw e refl)
+
+pub one_passes : (words : List (Bor (List ℕ))) (i : ℕ) (d : Bor (List ℕ)) (whole : Bool) → i < length words → whole ≡ list_all is_object (drop i (texts words)) → is_object (get_or words i d).now ≡ true → whole ≡ list_all is_object (drop (i + 1) (texts words))
+one_passes words i d whole lt before e = before ∙ ap (list_all is_object) (texts_more words i d lt) ∙ rw e refl
 
 -- a mention adds at most one name
 pub length-with_name : (names : List (List ℕ)) (name : List ℕ) → length (with_name names name) ≤ length names + 1
@@ -82,3 +96,27 @@ with_name-before names new name k e =
     let known : list_any (bytes_eq name) names ≡ true = list_any-number_of names name ∙ ap is_some e in
     let among : list_any (bytes_eq name) (names ++ new) ≡ true = list_any-append (bytes_eq name) names new ∙ ap (λ b. b || list_any (bytes_eq name) new) known in
     rw among refl
+
+-- the number of a new name
+pub number_of_new : (r : Result ℕ NoMemory) (names new : List (List ℕ)) (name : List ℕ) → None ≡ number_of names name → OnOk r (new ≡ with_name names name) → IfOk r (λ n. slice_get new n ≡ Some name) → IfOk r (λ n. n ≡ number_at_mention names name)
+number_of_new (Ok n) names new name none known at = number-new names new name n (sym none) known at
+number_of_new (Err e) names new name none known at = tt
+
+-- one mention more
+pub numbered_more : (taken : List ℕ) (names : List (List ℕ)) (word : List ℕ) (words : List (List ℕ)) (whole : List ℕ) (number : ℕ) → number ≡ number_at_mention names word → taken ++ numbers_of names (word ∷ words) ≡ whole → (taken ++ number ∷ []) ++ numbers_of (with_name names word) words ≡ whole
+numbered_more taken names word words whole number e before =
+    append_assoc taken (number ∷ []) (numbers_of (with_name names word) words) ∙ ap (λ n. taken ++ n ∷ numbers_of (with_name names word) words) e ∙ before
+
+pub left_new : (names new : List (List ℕ)) (word : List ℕ) (words whole : List (List ℕ)) → number_of names word ≡ None → mentioned (names ++ new) (word ∷ words) ≡ whole → mentioned (names ++ with_name new word) words ≡ whole
+left_new names new word words whole none before = ap (λ l. mentioned l words) (sym (with_name-behind names new word none)) ∙ before
+
+pub left_known : (names new : List (List ℕ)) (word : List ℕ) (words whole : List (List ℕ)) (o : Option ℕ) → o ≡ number_of names word → is_some o ≡ true → mentioned (names ++ new) (word ∷ words) ≡ whole → mentioned (names ++ new) words ≡ whole
+left_known names new word words whole None e some before = cc
+left_known names new word words whole (Some k) e some before = ap (λ l. mentioned l words) (sym (with_name-before names new word k (sym e))) ∙ before
+
+pub none_is : (o : Option ℕ) → is_some o ≡ false → o ≡ None
+none_is None e = refl
+none_is (Some k) e = cc
+
+pub le_true : (a b : ℕ) → a ≤ b → true ≡ nat_le a b
+le_true a b le = grind (arith, nat_tests)

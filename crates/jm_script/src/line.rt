@@ -1,4 +1,8 @@
 //! What a line means.
+ghost use Rattle.std.specs.Prelude.{◌≤◌, length};
+ghost use Rattle.jm_script.specs.Meanings.{line_meaning};
+ghost use Rattle.jm_script.specs.Answers.{IsReadAs};
+
 use crate::catalog::Catalog;
 use crate::script::Target;
 use crate::statement::{Place, death_line, event_line, pass_line};
