@@ -1,5 +1,5 @@
 -- The event that a line names, and a binding of objects to its parameters.
-use Rattle.std.proofs.Common.{◌≡◌, ℕ, zero, suc, ◌+◌, ◌*◌, ◌/◌, ◌%◌, cond, true, false, List, [], ◌∷◌, length, Option, Some, None, Result, Ok, Err, option_map, slice_get, refl, sym, ap, ◌∙◌, arith}
+use Rattle.std.proofs.Common.{◌≡◌, ◌≢◌, ℕ, zero, suc, ◌+◌, ◌*◌, ◌/◌, ◌%◌, cond, true, false, List, [], ◌∷◌, length, Option, Some, None, Result, Ok, Err, option_map, slice_get, refl, sym, ap, ◌∙◌, arith}
 use Rattle.std.specs.Prelude.{filter_map, ◌==◌, count_ones}
 use Rattle.std.specs.Option.{option_map_or}
 use Rattle.std.proofs.lemmas.Bool.Decides.{nat_tests}
@@ -69,3 +69,6 @@ spread_of (Some o ∷ b) = bound (mask_of b) (objects_of b) b (spread_of b)
 -- the binding of these objects to a set of parameters
 pub spread_is : (b : List (Option ℕ)) (mask : ℕ) (objects : List ℕ) → length b ≡ 8 → mask_of b ≡ mask → objects_of b ≡ objects → b ≡ spread 8 mask objects
 spread_is b mask objects eight masked bound = sym (rw (← eight, ← masked, ← bound) (spread_of b))
+
+pub differs : (a b : ℕ) → a ≢ b → (a == b) ≡ false
+differs a b ne = grind (arith, nat_tests)

@@ -4,3 +4,5 @@ pub mod WordLemmas
 pub mod ObjectLemmas
 pub mod EventLemmas
 pub mod ProjectionLemmas
+pub mod MeaningLemmas
+pub mod ReadingLemmas

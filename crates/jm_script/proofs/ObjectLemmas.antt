@@ -1,12 +1,12 @@
 -- Mentions of objects, one after another.
-use Rattle.std.proofs.Common.{◌≡◌, ℕ, zero, suc, ◌<◌, ◌≤◌, ◌+◌, Bool, true, false, ◌&&◌, ◌||◌, cond, List, [], ◌∷◌, ◌++◌, map, length, get_or, drop, Option, Some, None, is_some, Result, Ok, Err, OnOk, IfOk, IsTrue, slice_get, refl, sym, ap, ◌∙◌, append_assoc, arith, length-append}
+use Rattle.std.proofs.Common.{◌≡◌, ℕ, zero, suc, ◌<◌, ◌≤◌, ◌+◌, ◌-◌, Bool, true, false, ◌&&◌, ◌||◌, cond, List, [], ◌∷◌, ◌++◌, map, length, get_or, drop, take, Option, Some, None, is_some, Result, Ok, Err, OnOk, IfOk, IsTrue, slice_get, refl, sym, ap, ◌∙◌, append_assoc, arith, length-append}
 use Rattle.std.specs.Prelude.{nat_le}
 use Rattle.std.proofs.lemmas.Bool.Decides.{nat_tests}
 use Rattle.jm_model.specs.declared.step.NoMemory.{NoMemory}
 use Rattle.std.specs.List.{list_all, list_any}
 use Rattle.std.specs.Str.{bytes_eq}
 use Rattle.std.specs.Borrow.{Bor}
-use Rattle.std.proofs.lemmas.List.{drop_more}
+use Rattle.std.proofs.lemmas.List.{drop_more, take_all}
 use Rattle.std.proofs.lemmas.List.Folds.{list_any-append}
 use Rattle.jm_events.specs.Names.{number_of, with_name}
 use Rattle.jm_script.specs.Objects.{mentioned, number_at_mention, numbers_of, IsExtension}
@@ -120,3 +120,14 @@ none_is (Some k) e = cc
 
 pub le_true : (a b : ℕ) → a ≤ b → true ≡ nat_le a b
 le_true a b le = grind (arith, nat_tests)
+
+-- a list of words is empty, or has a first word
+pub texts_none : (words : List (Bor (List ℕ))) → length words < 1 → [] ≡ texts words
+texts_none [] lt = refl
+texts_none (x ∷ words) lt = absurd (omega arith)
+
+pub texts_split : (words : List (Bor (List ℕ))) (d : Bor (List ℕ)) → 1 ≤ length words → (get_or words 0 d).now ∷ texts (take (length words - 1) (drop 1 words)) ≡ texts words
+texts_split [] d le = absurd (omega arith)
+texts_split (x ∷ words) d le =
+    let rest : take (suc (length words) - 1) words ≡ words = take_all (suc (length words) - 1) words (omega arith) in
+    ap (λ ws. x.now ∷ texts ws) rest

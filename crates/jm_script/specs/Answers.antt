@@ -41,3 +41,8 @@ pub record IsAbandoned (count : ℕ) (old new : List (List ℕ)) (count_then : �
 abbrev pub IsLeft : ScriptMeaning → ℕ → List (List ℕ) → ScriptError → List (List ℕ) → ℕ → Type 0
 IsLeft meaning count old (Bad fault) new count_then = IsRefused meaning count fault new count_then
 IsLeft meaning count old NoMemory new count_then = IsAbandoned count old new count_then
+
+-- how many steps count after an error: a fault leaves those of the lines before it
+abbrev pub count_left : ScriptError → ℕ → ℕ → ℕ
+count_left (Bad fault) steps before = steps
+count_left NoMemory steps before = before

@@ -1,6 +1,7 @@
 //! What a line means.
-ghost use Rattle.std.specs.Prelude.{◌≤◌, length};
-ghost use Rattle.jm_script.specs.Meanings.{line_meaning};
+ghost use Rattle.std.specs.Prelude.{◌≤◌, length, map};
+ghost use Rattle.jm_script.specs.Statements.{statement_of};
+ghost use Rattle.jm_script.specs.Meanings.{statement_meaning, line_meaning};
 ghost use Rattle.jm_script.specs.Answers.{IsReadAs};
 
 use crate::catalog::Catalog;
@@ -19,13 +20,31 @@ pub fn read_line<'a>(
     line: &'a [u8],
     words: &mut Vec<&'a [u8]>,
     names: &mut Names,
-) -> Result<Option<Target>, ScriptError> {
-    if read_words(line, words).is_err() {
+) -> Result<Option<Target>, ScriptError>
+    requires { length names.old ≤ 65536 }
+    ensures { IsReadAs (line_meaning catalog.now place.count place.line line.now names.old) names.old result names.new }
+{
+    let Ok(()) = read_words(line, words) else {
         return Err(ScriptError::NoMemory);
-    }
-    let Some((word, rest)) = words.as_slice().split_first() else {
-        return Ok(None);
     };
+    match words.as_slice() {
+        [] => Ok(None),
+        [word, rest @ ..] => words_line(alloc, catalog, place, word, rest, names),
+    }
+}
+
+/// The same of a line with words, by its first word and the rest.
+fn words_line(
+    alloc: Global,
+    catalog: &Catalog,
+    place: Place,
+    word: &[u8],
+    rest: &[&[u8]],
+    names: &mut Names,
+) -> Result<Option<Target>, ScriptError>
+    requires { length names.old ≤ 65536 }
+    ensures { IsReadAs (statement_meaning catalog.now place.count place.line names.old (statement_of word.now (map (λ w. w.now) rest.now))) names.old result names.new }
+{
     if is_word(word, b"death") {
         death_line(alloc, place, rest, names)
     } else if is_word(word, b"pass") {

@@ -1,7 +1,7 @@
 //! Reading a whole script.
 ghost use Rattle.std.specs.Prelude.{◌≡◌, ◌<◌, ◌≤◌, ◌^◌, ◌-◌, length, IfOk, IfErr};
 ghost use Rattle.jm_script.specs.Meanings.{script_meaning};
-ghost use Rattle.jm_script.specs.Answers.{IsWhole, IsLeft};
+ghost use Rattle.jm_script.specs.Answers.{IsWhole, IsLeft, count_left};
 
 use crate::catalog::Catalog;
 use crate::line::read_line;
@@ -38,26 +38,34 @@ pub fn read_script(
             line: number,
             count: *count + lines.len() as u32,
         };
-        match read_line(alloc, catalog, place, line, &mut words, objects) {
-            Ok(None) => {}
-            Ok(Some(target)) => {
-                if lines
-                    .push(ScriptLine {
-                        line: number,
-                        target,
-                    })
-                    .is_err()
-                {
-                    return Err(ScriptError::NoMemory);
-                }
+        let target = match read_line(alloc, catalog, place, line, &mut words, objects) {
+            Ok(target) => target,
+            Err(error) => {
+                *count = count_left(error, place.count, *count);
+                return Err(error);
             }
-            Err(ScriptError::Bad(fault)) => {
-                *count = place.count;
-                return Err(ScriptError::Bad(fault));
-            }
-            Err(ScriptError::NoMemory) => return Err(ScriptError::NoMemory),
-        }
+        };
+        let Some(target) = target else {
+            continue;
+        };
+        let line = ScriptLine {
+            line: number,
+            target,
+        };
+        let Ok(()) = lines.push(line) else {
+            return Err(ScriptError::NoMemory);
+        };
     }
     *count += lines.len() as u32;
     Ok(Script::of(lines))
+}
+
+/// How many steps count after an error: a fault leaves those of the lines before it.
+fn count_left(error: ScriptError, steps: u32, before: u32) -> u32
+    ensures { result ≡ count_left error steps before }
+{
+    match error {
+        ScriptError::Bad(_) => steps,
+        ScriptError::NoMemory => before,
+    }
 }

@@ -72,7 +72,10 @@ pub fn event_line(
         Ok(event) => event,
         Err(fault) => return Err(ScriptError::Bad(fault)),
     };
-    let numbers = numbers(alloc, place, objects, names)?;
+    let numbers = match numbers(alloc, place, objects, names) {
+        Ok(numbers) => numbers,
+        Err(error) => return Err(error),
+    };
     let binding = Binding::of(event.mask, &numbers[..objects.len()]);
     Ok(Some(Target::Event {
         spec: event.spec,
@@ -142,7 +145,10 @@ pub fn death_line(
     if place.is_full() {
         return Err(place.too_many_lines());
     }
-    let numbers = numbers(alloc, place, words, names)?;
+    let numbers = match numbers(alloc, place, words, names) {
+        Ok(numbers) => numbers,
+        Err(error) => return Err(error),
+    };
     Ok(Some(Target::Death { object: numbers[0] }))
 }
 
