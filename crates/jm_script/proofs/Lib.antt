@@ -6,3 +6,4 @@ pub mod EventLemmas
 pub mod ProjectionLemmas
 pub mod MeaningLemmas
 pub mod ReadingLemmas
+pub mod SpellingLemmas

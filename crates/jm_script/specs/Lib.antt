@@ -6,3 +6,4 @@ pub mod Events
 pub mod Meanings
 pub mod Answers
 pub mod Projections
+pub mod Spelling

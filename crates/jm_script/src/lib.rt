@@ -6,6 +6,7 @@
 
 mod catalog;
 mod event;
+mod laws;
 mod line;
 mod objects;
 mod reader;
@@ -14,6 +15,7 @@ mod statement;
 mod words;
 
 pub use catalog::Catalog;
+pub use laws::one_reading;
 pub use reader::read_script;
 pub use script::{Script, ScriptLine, Target, project};
 

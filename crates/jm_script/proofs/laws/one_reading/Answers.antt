@@ -1,0 +1,8 @@
+use Rattle.jm_script.proofs.SpellingLemmas.{spelled_is_read, one_reading}
+use Rattle.jm_script.proofs.laws.one_reading.Goals as goal
+
+pub returns-clause-read : goal.returns-clause-read
+returns-clause-read c = spelled_is_read
+
+pub returns-clause-one : goal.returns-clause-one
+returns-clause-one c = one_reading
