@@ -5,7 +5,7 @@ use Rattle.jm_model.specs.declared.fault.ScriptFault.{ScriptFault}
 use Rattle.jm_script.specs.Lines.{lines_of}
 use Rattle.jm_script.specs.Objects.{IsExtension}
 use Rattle.jm_script.specs.Catalogs.{CatalogEntry}
-use Rattle.jm_script.specs.Meanings.{LineMeaning, ScriptMeaning, line_meaning, led_by, lines_meaning, script_meaning}
+use Rattle.jm_script.specs.Meanings.{LineMeaning, ScriptMeaning, line_meaning, with_line, steps_of, led_by, lines_meaning, script_meaning, RisesFrom}
 use Rattle.jm_model.specs.declared.fault.ScriptError.{ScriptError}
 use Rattle.jm_model.specs.declared.fault.ScriptError.TheVariants.{Bad, NoMemory}
 use Rattle.jm_script.specs.Answers.{IsStoppedBy, IsWhole, IsLeft, count_left}
@@ -85,3 +85,26 @@ module _ (catalog : List CatalogEntry) (bytes : List ℕ) (meaning : ScriptMeani
       let whole : record { lines = steps; names = names; fault = None } ≡ meaning =
       ap (λ ls. record { lines = ls; names = names; fault = None }) (sym (append_none steps)) ∙ (rw none at before.left) in
       record { sound = sym (ap (λ m. m.fault) whole); lines = ap (λ m. m.lines) whole; named = ap (λ m. m.names) whole; counted = refl }
+
+-- ---- the lines rise
+
+rises_before : (n : ℕ) (ls : List ScriptLine) → RisesFrom (n + 1) ls → RisesFrom n ls
+rises_before n [] h = tt
+rises_before n (l ∷ ls) h = let le : n ≤ l.line = omega (arith, h.0) in (le, h.1)
+
+rises_behind : (line count : ℕ) (names : List (List ℕ)) (r : Result LineMeaning ScriptFault) (rest : ℕ → List (List ℕ) → ScriptMeaning) → ((c : ℕ) (o : List (List ℕ)) → RisesFrom (line + 1) (rest c o).lines) → RisesFrom line (led_by line count names r rest).lines
+rises_behind line count names (Err fault) rest h = tt
+rises_behind line count names (Ok m) rest h = by_target m.target
+  where
+    by_target : (t : Option Target) → RisesFrom line (with_line line t (rest (count + steps_of m.target) m.names)).lines
+    by_target None = rises_before line _ (h (count + steps_of m.target) m.names)
+    by_target (Some target) = (omega arith, h (count + steps_of m.target) m.names)
+
+lines_rise : (catalog : List CatalogEntry) (count line : ℕ) (names lines : List (List ℕ)) → RisesFrom line (lines_meaning catalog count line names lines).lines
+lines_rise catalog count line names [] = tt
+lines_rise catalog count line names (bytes ∷ lines) =
+    rises_behind line count names (line_meaning catalog count line bytes names) (λ c o. lines_meaning catalog c (line + 1) o lines) (λ c o. lines_rise catalog c (line + 1) o lines)
+
+pub script_rises : (catalog : List CatalogEntry) (count : ℕ) (bytes : List ℕ) (names : List (List ℕ)) → RisesFrom 1 (script_meaning catalog count bytes names).lines
+unfolding script_meaning
+script_rises catalog count bytes names = lines_rise catalog count 1 names (lines_of bytes)

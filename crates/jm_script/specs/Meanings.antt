@@ -1,5 +1,5 @@
 -- What the lines of a script mean.
-use Rattle.std.specs.Prelude.{ℕ, ◌+◌, nat_le, nat_lt, List, [], ◌∷◌, length, Option, Some, None, Result, Ok, Err, slice_index, if◌then◌else◌}
+use Rattle.std.specs.Prelude.{ℕ, ◌+◌, ◌≤◌, nat_le, nat_lt, List, [], ◌∷◌, length, Option, Some, None, Result, Ok, Err, slice_index, if◌then◌else◌}
 use Rattle.jm_model.specs.declared.fault.ScriptFault.{ScriptFault}
 use Rattle.jm_model.specs.declared.fault.ScriptFault.TheVariants.{BadLine, TooManyLines, UnknownSpec, TooManyObjects}
 use Rattle.jm_events.specs.Names.{number_of}
@@ -90,3 +90,8 @@ lines_meaning catalog count line names (bytes ∷ lines) =
 -- what a script means, after `count` steps of the scripts before it; lines are counted from 1
 unfoldable pub script_meaning : List CatalogEntry → ℕ → List ℕ → List (List ℕ) → ScriptMeaning
 script_meaning catalog count bytes names = lines_meaning catalog count 1 names (lines_of bytes)
+
+-- the numbers of the lines rise, from this one on
+abbrev pub RisesFrom : ℕ → List ScriptLine → Type 0
+RisesFrom n [] = Unit {0}
+RisesFrom n (l ∷ ls) = (n ≤ l.line) × RisesFrom (l.line + 1) ls

@@ -29,3 +29,7 @@ SpelledIsRead = (word : List ℕ) (words : List (List ℕ)) (statement : Stateme
 -- the words of a line spell at most one statement
 abbrev pub OneReading : Type 0
 OneReading = (word : List ℕ) (words : List (List ℕ)) (statement other : Statement) → Spells word words statement → Spells word words other → statement ≡ other
+
+-- what is read is spelled so
+abbrev pub ReadIsSpelled : Type 0
+ReadIsSpelled = (word : List ℕ) (words : List (List ℕ)) (statement : Statement) → statement_of word words ≡ Some statement → Spells word words statement

@@ -1,6 +1,6 @@
 //! Reading a whole script.
 ghost use Rattle.std.specs.Prelude.{◌≡◌, ◌<◌, ◌≤◌, ◌^◌, ◌-◌, length, IfOk, IfErr};
-ghost use Rattle.jm_script.specs.Meanings.{script_meaning};
+ghost use Rattle.jm_script.specs.Meanings.{RisesFrom, script_meaning};
 ghost use Rattle.jm_script.specs.Answers.{IsWhole, IsLeft, count_left};
 
 use crate::catalog::Catalog;
@@ -27,6 +27,7 @@ pub fn read_script(
     requires few_steps { count.old ≤ 200000 }
     requires few_objects { length objects.old ≤ 65536 }
     ensures ok { IfOk result (λ script. IsWhole (script_meaning catalog.now count.old bytes.now objects.old) count.old script objects.new count.new) }
+    ensures rising { IfOk result (λ script. RisesFrom 1 script) }
     ensures err { IfErr result (λ error. IsLeft (script_meaning catalog.now count.old bytes.now objects.old) count.old objects.old error objects.new count.new) }
 {
     let mut lines = Vec::new(alloc);

@@ -62,6 +62,7 @@ fn shown(alloc: Global, script: &Script) -> Result<String, Fail> {
 fn reads(rt: HostRuntime) -> Result<(), Fail> {
     let alloc = rt.alloc();
     let catalog = catalog(alloc)?;
+    one_reading();
     assert_eq!(rt; catalog.len(), 2);
     let rows = [
         ("", "", 0),

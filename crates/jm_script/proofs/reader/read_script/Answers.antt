@@ -4,7 +4,7 @@ use Rattle.std.proofs.lemmas.Iterator.Splits.{YieldsList-from_slice_split}
 use Rattle.std.proofs.lemmas.Iterator.Consumers.{YieldsList-turn, YieldsList-end}
 use Rattle.jm_script.specs.Lines.{is_line_feed}
 use Rattle.jm_script.proofs.ObjectLemmas.{IsExtension-none}
-use Rattle.jm_script.proofs.ReadingLemmas.{read_nothing, no_step, one_step, abandoned, ended, all_read}
+use Rattle.jm_script.proofs.ReadingLemmas.{read_nothing, no_step, one_step, abandoned, ended, all_read, script_rises}
 use Rattle.jm_script.proofs.reader.read_script.Goals as goal
 
 pub loop-line-init : goal.loop-line-init
@@ -61,3 +61,9 @@ returns-clause-ok c =
     let t = YieldsList-end (YieldsList-from_slice_split _ is_line_feed c.args.bytes.now (cc) (cc) refl (λ x b q k. search (rules, tests))) c.loop-line.yielded _ c.loop-line.yielded_by _ _ c.in-None.is c.next.ensures.steps in
     let steps : c.loop-line.count + c.len-2.result ≡ c.args.count.now + length c.loop-line.lines.items = omega arith in
     rw (c.of.ensures, steps) (all_read c.args.catalog.now c.args.bytes.now _ c.args.count.now c.args.objects.now c.loop-line.lines.items c.loop-line.objects c.loop-line.number c.loop-line.invariant.read (c.loop-line.invariant.numbered ∙ t.1))
+
+pub returns-clause-rising : goal.returns-clause-rising
+returns-clause-rising c =
+    let t = YieldsList-end (YieldsList-from_slice_split _ is_line_feed c.args.bytes.now (cc) (cc) refl (λ x b q k. search (rules, tests))) c.loop-line.yielded _ c.loop-line.yielded_by _ _ c.in-None.is c.next.ensures.steps in
+    let whole = (all_read c.args.catalog.now c.args.bytes.now _ c.args.count.now c.args.objects.now c.loop-line.lines.items c.loop-line.objects c.loop-line.number c.loop-line.invariant.read (c.loop-line.invariant.numbered ∙ t.1)) in
+    rw (c.of.ensures, whole.lines) (script_rises c.args.catalog.now c.args.count.now c.args.bytes.now c.args.objects.now)
