@@ -1,0 +1,28 @@
+-- One line more of a projection.
+use Rattle.std.proofs.Common.{ℕ, ◌≡◌, ◌<◌, ◌+◌, Bool, true, false, cond, List, [], ◌∷◌, ◌++◌, length, get_or, drop, Option, Some, None, refl, sym, ap, ◌∙◌, append_assoc}
+use Rattle.std.proofs.lemmas.List.{drop_more}
+use Rattle.jm_model.specs.declared.step.Step.{Step}
+use Rattle.jm_semantics.specs.Scripts.{projection_of, is_for}
+use Rattle.jm_script.specs.declared.script.ScriptLine.{ScriptLine}
+use Rattle.jm_script.specs.Projections.{script_of, spec_of, step_of}
+
+pub taken : {X : Type 0} (b : Bool) (x y : X) → Some x ≡ cond b (Some y) None → (b ≡ true) × (x ≡ y)
+taken true x y e = (refl, cc)
+taken false x y e = cc
+
+pub skipped : {X : Type 0} (b : Bool) (y : X) → None ≡ cond b (Some y) None → b ≡ false
+skipped true y e = cc
+skipped false y e = refl
+
+module _ (lines : List ScriptLine) (i s : ℕ) (d : ScriptLine) (steps whole : List (ℕ × Step)) (lt : i < length lines) (before : steps ++ projection_of (script_of (drop i lines)) s ≡ whole) where
+  there : steps ++ projection_of (script_of (get_or lines i d ∷ drop (i + 1) lines)) s ≡ whole
+  there = ap (λ ls. steps ++ projection_of (script_of ls) s) (sym (drop_more lines i d lt)) ∙ before
+
+  pub skip_more : is_for s (spec_of (get_or lines i d).target) ≡ false → steps ++ projection_of (script_of (drop (i + 1) lines)) s ≡ whole
+  skip_more e = rw e at there
+
+  pub step_more : (step : Step) → is_for s (spec_of (get_or lines i d).target) ≡ true → step ≡ step_of (get_or lines i d).target → (steps ++ ((get_or lines i d).line, step) ∷ []) ++ projection_of (script_of (drop (i + 1) lines)) s ≡ whole
+  step_more step e same =
+      append_assoc steps (((get_or lines i d).line, step) ∷ []) (projection_of (script_of (drop (i + 1) lines)) s)
+      ∙ ap (λ x. steps ++ ((get_or lines i d).line, x) ∷ projection_of (script_of (drop (i + 1) lines)) s) same
+      ∙ (rw e at there)

@@ -1,0 +1,7 @@
+use Rattle.std.proofs.Common.{◌≡◌, true, drop, take, map}
+use Rattle.std.specs.List.{list_all}
+use Rattle.jm_script.specs.Statements.{is_object}
+use Rattle.jm_script.proofs.objects.are_objects.Given as goal
+
+abbrev pub invariant-loop-word : goal.invariant-loop-word
+invariant-loop-word l = list_all is_object (map (λ w. w.now) l.words) ≡ list_all is_object (drop l.word-index (map (λ w. w.now) l.words))

@@ -1,0 +1,31 @@
+-- The lines of a script, and the words of a line.
+use Rattle.std.specs.Prelude.{ℕ, Bool, not, ◌||◌, ◌==◌, List, length, filter}
+use Rattle.std.specs.List.{slice_split, before_first}
+use Rattle.std.specs.Str.Lines.{strip_carriage_return}
+
+-- the byte that ends a line
+abbrev pub is_line_feed : ℕ → Bool
+is_line_feed b = b == 10
+
+-- `#`, from which on a line is comment
+abbrev pub is_hash : ℕ → Bool
+is_hash b = b == 35
+
+-- space and tab
+abbrev pub is_blank : ℕ → Bool
+is_blank b = b == 32 || b == 9
+
+-- the lines of a script; what stands behind the last line feed is a line too
+abbrev pub lines_of : List ℕ → List (List ℕ)
+lines_of bytes = slice_split is_line_feed bytes
+
+-- what counts of a line: without a carriage return at its end, and without its comment
+abbrev pub content_of : List ℕ → List ℕ
+content_of line = before_first is_hash (strip_carriage_return line)
+
+abbrev pub is_some_word : List ℕ → Bool
+is_some_word word = not (length word == 0)
+
+-- the words of a line: what stands between its blanks
+abbrev pub words_of : List ℕ → List (List ℕ)
+words_of line = filter is_some_word (slice_split is_blank (content_of line))

@@ -1,0 +1,55 @@
+//! What a line means.
+ghost use Rattle.std.specs.Prelude.{◌≤◌, length, map};
+ghost use Rattle.jm_script.specs.Statements.{statement_of};
+ghost use Rattle.jm_script.specs.Meanings.{statement_meaning, line_meaning};
+ghost use Rattle.jm_script.specs.Answers.{IsReadAs};
+
+use crate::catalog::Catalog;
+use crate::script::Target;
+use crate::statement::{Place, death_line, event_line, pass_line};
+use crate::words::{is_word, read_words};
+use jm_events::Names;
+use jm_model::ScriptError;
+use std::alloc::Global;
+
+/// The target of a line, if it is a step. The words are room for those of the line.
+pub fn read_line<'a>(
+    alloc: Global,
+    catalog: &Catalog,
+    place: Place,
+    line: &'a [u8],
+    words: &mut Vec<&'a [u8]>,
+    names: &mut Names,
+) -> Result<Option<Target>, ScriptError>
+    requires { length names.old ≤ 65536 }
+    ensures { IsReadAs (line_meaning catalog.now place.count place.line line.now names.old) names.old result names.new }
+{
+    let Ok(()) = read_words(line, words) else {
+        return Err(ScriptError::NoMemory);
+    };
+    match words.as_slice() {
+        [] => Ok(None),
+        [word, rest @ ..] => words_line(alloc, catalog, place, word, rest, names),
+    }
+}
+
+/// The same of a line with words, by its first word and the rest.
+fn words_line(
+    alloc: Global,
+    catalog: &Catalog,
+    place: Place,
+    word: &[u8],
+    rest: &[&[u8]],
+    names: &mut Names,
+) -> Result<Option<Target>, ScriptError>
+    requires { length names.old ≤ 65536 }
+    ensures { IsReadAs (statement_meaning catalog.now place.count place.line names.old (statement_of word.now (map (λ w. w.now) rest.now))) names.old result names.new }
+{
+    if is_word(word, b"death") {
+        death_line(alloc, place, rest, names)
+    } else if is_word(word, b"pass") {
+        pass_line(catalog, place, rest)
+    } else {
+        event_line(alloc, catalog, place, word, rest, names)
+    }
+}

@@ -1,0 +1,88 @@
+//! The objects of a line.
+ghost use Rattle.std.specs.Prelude.{◌≡◌, ◌<◌, ◌≤◌, nat_le, ◌++◌, ◌-◌, ◌^◌, length, map, take, IfOk, OnOk, OnErr, IsTrue};
+ghost use Rattle.std.specs.List.{list_all};
+ghost use Rattle.jm_events.specs.Names.{with_name};
+ghost use Rattle.jm_script.specs.Statements.{is_object};
+ghost use Rattle.jm_script.specs.Objects.{mentioned, number_at_mention, numbers_of, IsExtension};
+
+use crate::words::{is_object, text};
+use jm_events::Names;
+use jm_model::NoMemory;
+use std::alloc::Global;
+
+const MOST_OBJECTS: usize = 65_536;
+
+/// Whether each of the words may name an object.
+pub fn are_objects(words: &[&[u8]]) -> bool
+    ensures { result ≡ list_all is_object (map (λ w. w.now) words.now) }
+{
+    for word in words {
+        if !is_object(word) {
+            return false;
+        }
+    }
+    true
+}
+
+/// Whether there are not too many objects once these are mentioned.
+pub fn have_room(alloc: Global, objects: &[&[u8]], names: &Names) -> Result<bool, NoMemory>
+    requires objects { IsTrue (list_all is_object (map (λ w. w.now) objects.now)) }
+    requires few { length objects.now ≤ 8 }
+    requires room { length names.now ≤ 65536 }
+    ensures { IfOk result (λ b. b ≡ nat_le (length (mentioned names.now (map (λ w. w.now) objects.now))) 65536) }
+{
+    let known = names.len() as usize;
+    if known + objects.len() <= MOST_OBJECTS {
+        return Ok(true);
+    }
+    let new = new_names(alloc, objects, names)?;
+    Ok(known + new.len() as usize <= MOST_OBJECTS)
+}
+
+/// The names of the objects that are new.
+fn new_names(alloc: Global, objects: &[&[u8]], names: &Names) -> Result<Names, NoMemory>
+    requires objects { IsTrue (list_all is_object (map (λ w. w.now) objects.now)) }
+    requires few { length objects.now ≤ 8 }
+    ensures few { IfOk result (λ new. length new ≤ 8) }
+    ensures value { IfOk result (λ new. mentioned names.now (map (λ w. w.now) objects.now) ≡ names.now ++ new) }
+{
+    let mut new = Names::new(alloc);
+    for object in objects {
+        let name = text(object);
+        if names.find(name).is_none() {
+            new.add(name)?;
+        }
+    }
+    Ok(new)
+}
+
+/// Mentions the objects in order, and gives their numbers, at most eight.
+pub fn mention(objects: &[&[u8]], names: &mut Names) -> Result<[u32; 8], NoMemory>
+    requires objects { IsTrue (list_all is_object (map (λ w. w.now) objects.now)) }
+    requires few { length objects.now ≤ 8 }
+    requires room { length names.old ≤ 65536 }
+    ensures ok { OnOk result (names.new ≡ mentioned names.old (map (λ w. w.now) objects.now)) }
+    ensures numbers { IfOk result (λ numbers. take (length objects.now) numbers ≡ numbers_of names.old (map (λ w. w.now) objects.now)) }
+    ensures err { OnErr result (IsExtension names.old names.new) }
+{
+    let mut numbers = [0; 8];
+    for (i, object) in objects.iter().enumerate() {
+        numbers[i] = mention_one(object, names)?;
+    }
+    Ok(numbers)
+}
+
+/// Mentions an object, and gives its number.
+fn mention_one(object: &[u8], names: &mut Names) -> Result<u32, NoMemory>
+    requires object { IsTrue (is_object object.now) }
+    requires room { length names.old < 2 ^ 32 - 1 }
+    ensures ok { OnOk result (names.new ≡ with_name names.old object.now) }
+    ensures number { IfOk result (λ number. number ≡ number_at_mention names.old object.now) }
+    ensures err { OnErr result (names.new ≡ names.old) }
+{
+    let name = text(object);
+    match names.find(name) {
+        Some(number) => Ok(number),
+        None => names.add(name),
+    }
+}

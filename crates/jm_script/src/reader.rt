@@ -1,0 +1,72 @@
+//! Reading a whole script.
+ghost use Rattle.std.specs.Prelude.{◌≡◌, ◌<◌, ◌≤◌, ◌^◌, ◌-◌, length, IfOk, IfErr};
+ghost use Rattle.jm_script.specs.Meanings.{RisesFrom, script_meaning};
+ghost use Rattle.jm_script.specs.Answers.{IsWhole, IsLeft, count_left};
+
+use crate::catalog::Catalog;
+use crate::line::read_line;
+use crate::script::{Script, ScriptLine};
+use crate::statement::Place;
+use jm_events::Names;
+use jm_model::ScriptError;
+use std::alloc::Global;
+
+/// Reads a script: adds the names of its new objects, and its number of steps to the count of all scripts.
+///
+/// The fault is the first of the first line that has one, in this order: `BadLine` where the line has none of the three
+/// shapes, `TooManyLines` at the 200,001st step of all scripts, `UnknownSpec`, `UnknownEvent`, `WrongCount` where the
+/// event has another number of parameters than the line has objects, and `TooManyObjects` at a 65,537th name.
+pub fn read_script(
+    alloc: Global,
+    bytes: &[u8],
+    catalog: &Catalog,
+    objects: &mut Names,
+    count: &mut u32,
+) -> Result<Script, ScriptError>
+    requires small { length bytes.now < 2 ^ 32 - 1 }
+    requires few_steps { count.old ≤ 200000 }
+    requires few_objects { length objects.old ≤ 65536 }
+    ensures ok { IfOk result (λ script. IsWhole (script_meaning catalog.now count.old bytes.now objects.old) count.old script objects.new count.new) }
+    ensures rising { IfOk result (λ script. RisesFrom 1 script) }
+    ensures err { IfErr result (λ error. IsLeft (script_meaning catalog.now count.old bytes.now objects.old) count.old objects.old error objects.new count.new) }
+{
+    let mut lines = Vec::new(alloc);
+    let mut words = Vec::new(alloc);
+    let mut number = 0;
+    for line in bytes.split(|b| *b == b'\n') {
+        number += 1;
+        let place = Place {
+            line: number,
+            count: *count + lines.len() as u32,
+        };
+        let target = match read_line(alloc, catalog, place, line, &mut words, objects) {
+            Ok(target) => target,
+            Err(error) => {
+                *count = count_left(error, place.count, *count);
+                return Err(error);
+            }
+        };
+        let Some(target) = target else {
+            continue;
+        };
+        let line = ScriptLine {
+            line: number,
+            target,
+        };
+        let Ok(()) = lines.push(line) else {
+            return Err(ScriptError::NoMemory);
+        };
+    }
+    *count += lines.len() as u32;
+    Ok(Script::of(lines))
+}
+
+/// How many steps count after an error: a fault leaves those of the lines before it.
+fn count_left(error: ScriptError, steps: u32, before: u32) -> u32
+    ensures { result ≡ count_left error steps before }
+{
+    match error {
+        ScriptError::Bad(_) => steps,
+        ScriptError::NoMemory => before,
+    }
+}

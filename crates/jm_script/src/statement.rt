@@ -1,0 +1,185 @@
+//! The three shapes of a line: an event with its objects, a death and a disposal pass.
+ghost use Rattle.std.specs.Prelude.{◌≡◌, ◌<◌, ◌≤◌, ◌==◌, ◌&&◌, ℕ, ◌+◌, List, drop, length, map, take, nat_le, not, IsTrue, OnOk, IfOk, IfErr};
+ghost use Rattle.std.specs.List.{list_all};
+ghost use Rattle.jm_script.specs.declared.script.Target.{Target};
+ghost use Rattle.jm_script.specs.Statements.{is_name, is_object, event_statement, death_statement, pass_statement};
+ghost use Rattle.jm_script.specs.Catalogs.{CatalogEntry};
+ghost use Rattle.jm_script.specs.Objects.{mentioned, numbers_of};
+ghost use Rattle.jm_script.specs.Meanings.{mentioning, statement_meaning};
+ghost use Rattle.jm_script.specs.Answers.{IsStoppedBy, IsReadAs};
+
+use crate::catalog::Catalog;
+use crate::event::named_event;
+use crate::objects::{are_objects, have_room, mention};
+use crate::script::Target;
+use crate::words::{dot_place, is_name, text};
+use jm_events::Names;
+use jm_model::{Binding, ScriptError, ScriptFault};
+use std::alloc::Global;
+
+const MOST_STEPS: u32 = 200_000;
+
+/// Where a line stands: its number, and how many steps stand before it in all scripts.
+#[derive(Clone, Copy)]
+pub struct Place {
+    pub line: u32,
+    pub count: u32,
+}
+
+impl Place {
+    /// Whether one step more would be too many.
+    fn is_full(self) -> bool
+        ensures { result ≡ nat_le 200000 self.count }
+    {
+        self.count >= MOST_STEPS
+    }
+
+    fn bad_line(self) -> ScriptError
+        ensures { result ≡ ScriptError.Bad (ScriptFault.BadLine self.line) }
+    {
+        ScriptError::Bad(ScriptFault::BadLine { line: self.line })
+    }
+
+    fn too_many_lines(self) -> ScriptError
+        ensures { result ≡ ScriptError.Bad (ScriptFault.TooManyLines self.line) }
+    {
+        ScriptError::Bad(ScriptFault::TooManyLines { line: self.line })
+    }
+}
+
+/// A line `SPEC.EVENT OBJECT..`, by its first word and its objects.
+pub fn event_line(
+    alloc: Global,
+    catalog: &Catalog,
+    place: Place,
+    word: &[u8],
+    objects: &[&[u8]],
+    names: &mut Names,
+) -> Result<Option<Target>, ScriptError>
+    requires { length names.old ≤ 65536 }
+    ensures { IsReadAs (statement_meaning catalog.now place.count place.line names.old (event_statement word.now (map (λ w. w.now) objects.now))) names.old result names.new }
+{
+    let dot = dot_place(word);
+    let spec = &word[..dot];
+    let event = behind(word, dot);
+    if !is_event_line(spec, event, objects) {
+        return Err(place.bad_line());
+    }
+    if place.is_full() {
+        return Err(place.too_many_lines());
+    }
+    let event = match named_event(catalog, place.line, spec, event, objects.len()) {
+        Ok(event) => event,
+        Err(fault) => return Err(ScriptError::Bad(fault)),
+    };
+    let numbers = match numbers(alloc, place, objects, names) {
+        Ok(numbers) => numbers,
+        Err(error) => return Err(error),
+    };
+    let binding = Binding::of(event.mask, &numbers[..objects.len()]);
+    Ok(Some(Target::Event {
+        spec: event.spec,
+        letter: event.letter,
+        binding,
+    }))
+}
+
+/// What stands behind a place of a word, if anything does.
+fn behind(word: &[u8], place: usize) -> &[u8]
+    requires { place ≤ length word.now }
+    ensures { result.now ≡ drop (place + 1) word.now }
+{
+    if place == word.len() {
+        return &[];
+    }
+    &word[place + 1..]
+}
+
+fn is_event_line(spec: &[u8], event: &[u8], objects: &[&[u8]]) -> bool
+    ensures { result ≡ (is_name spec.now && is_name event.now && list_all is_object (map (λ w. w.now) objects.now)) }
+{
+    is_name(spec) && is_name(event) && are_objects(objects)
+}
+
+/// The numbers of the objects that a line mentions.
+fn numbers(
+    alloc: Global,
+    place: Place,
+    objects: &[&[u8]],
+    names: &mut Names,
+) -> Result<[u32; 8], ScriptError>
+    requires objects { IsTrue (list_all is_object (map (λ w. w.now) objects.now)) }
+    requires few { length objects.now ≤ 8 }
+    requires room { length names.old ≤ 65536 }
+    ensures room { OnOk result (length (mentioned names.old (map (λ w. w.now) objects.now)) ≤ 65536) }
+    ensures ok { OnOk result (names.new ≡ mentioned names.old (map (λ w. w.now) objects.now)) }
+    ensures numbers { IfOk result (λ numbers. take (length objects.now) numbers ≡ numbers_of names.old (map (λ w. w.now) objects.now)) }
+    ensures err { (target_of : List ℕ → Target) → IfErr result (λ error. IsStoppedBy (mentioning place.line names.old (map (λ w. w.now) objects.now) target_of) names.old error names.new) }
+{
+    let Ok(room) = have_room(alloc, objects, names) else {
+        return Err(ScriptError::NoMemory);
+    };
+    if !room {
+        let line = place.line;
+        return Err(ScriptError::Bad(ScriptFault::TooManyObjects { line }));
+    }
+    match mention(objects, names) {
+        Ok(numbers) => Ok(numbers),
+        Err(_) => Err(ScriptError::NoMemory),
+    }
+}
+
+/// A line `death OBJECT`, by the words behind the first.
+pub fn death_line(
+    alloc: Global,
+    place: Place,
+    words: &[&[u8]],
+    names: &mut Names,
+) -> Result<Option<Target>, ScriptError>
+    requires { length names.old ≤ 65536 }
+    ensures { (catalog : List CatalogEntry) → IsReadAs (statement_meaning catalog place.count place.line names.old (death_statement (map (λ w. w.now) words.now))) names.old result names.new }
+{
+    if !is_one_object(words) {
+        return Err(place.bad_line());
+    }
+    if place.is_full() {
+        return Err(place.too_many_lines());
+    }
+    let numbers = match numbers(alloc, place, words, names) {
+        Ok(numbers) => numbers,
+        Err(error) => return Err(error),
+    };
+    Ok(Some(Target::Death { object: numbers[0] }))
+}
+
+fn is_one_object(words: &[&[u8]]) -> bool
+    ensures { result ≡ (length words.now == 1 && list_all is_object (map (λ w. w.now) words.now)) }
+{
+    words.len() == 1 && are_objects(words)
+}
+
+/// A line `pass SPEC`, by the words behind the first.
+pub fn pass_line(
+    catalog: &Catalog,
+    place: Place,
+    words: &[&[u8]],
+) -> Result<Option<Target>, ScriptError>
+    ensures { (names : List (List ℕ)) → IsReadAs (statement_meaning catalog.now place.count place.line names (pass_statement (map (λ w. w.now) words.now))) names result names }
+{
+    let [spec] = words else {
+        return Err(place.bad_line());
+    };
+    if !is_name(spec) {
+        return Err(place.bad_line());
+    }
+    if place.is_full() {
+        return Err(place.too_many_lines());
+    }
+    match catalog.find(text(spec)) {
+        Some(spec) => Ok(Some(Target::Pass { spec })),
+        None => {
+            let line = place.line;
+            Err(ScriptError::Bad(ScriptFault::UnknownSpec { line }))
+        }
+    }
+}

@@ -1,0 +1,250 @@
+ghost use Rattle.std.specs.Prelude.{◌<◌, ◌^◌, ◌-◌, length};
+
+use super::*;
+use jm_events::{EventTable, Names};
+use jm_model::{Binding, ScriptError, ScriptFault, Step};
+use std::alloc::Global;
+use std::test::Fail;
+
+/// `Iter` with the events `create(c, i)`, `next(i)` and `reset()`, and `Lock` with the event `take(l)`.
+fn catalog(alloc: Global) -> Result<Catalog, Fail> {
+    let mut iter = EventTable::new(alloc);
+    iter.add_param("c", 1)?;
+    iter.add_param("i", 1)?;
+    iter.add_event("create", 3, true, 2)?;
+    iter.add_event("next", 2, false, 3)?;
+    iter.add_event("reset", 0, false, 4)?;
+    let mut lock = EventTable::new(alloc);
+    lock.add_param("l", 1)?;
+    lock.add_event("take", 1, true, 2)?;
+    let mut catalog = Catalog::new(alloc);
+    catalog.add("Iter", iter)?;
+    catalog.add("Lock", lock)?;
+    Ok(catalog)
+}
+
+/// The objects of a binding.
+fn bound(alloc: Global, binding: &Binding) -> Result<String, Fail> {
+    let mut out = String::new(alloc);
+    for p in 0..8 {
+        if let Some(object) = binding.get(p) {
+            let one = format!(in alloc; " {p}={object}")?;
+            out.push_str(one.as_str())?;
+        }
+    }
+    Ok(out)
+}
+
+/// The steps of a script.
+fn shown(alloc: Global, script: &Script) -> Result<String, Fail> {
+    let mut out = String::new(alloc);
+    for line in script.lines() {
+        let number = line.line;
+        let one = match line.target {
+            Target::Event {
+                spec,
+                letter,
+                binding,
+            } => {
+                let letter = letter.0;
+                let objects = bound(alloc, &binding)?;
+                format!(in alloc; "{number}:{spec}.{letter}{objects};")?
+            }
+            Target::Death { object } => format!(in alloc; "{number}:death {object};")?,
+            Target::Pass { spec } => format!(in alloc; "{number}:pass {spec};")?,
+        };
+        out.push_str(one.as_str())?;
+    }
+    Ok(out)
+}
+
+#[test]
+fn reads(rt: HostRuntime) -> Result<(), Fail> {
+    let alloc = rt.alloc();
+    let catalog = catalog(alloc)?;
+    one_reading();
+    assert_eq!(rt; catalog.len(), 2);
+    let rows = [
+        ("", "", 0),
+        ("\n# only a comment\n  \t \n", "", 0),
+        (
+            "Iter.create a b\nIter.next b",
+            "1:0.0 0=0 1=1;2:0.1 1=1;",
+            2,
+        ),
+        (
+            "Iter.create a a#x\r\n\r\nIter.reset\r\n",
+            "1:0.0 0=0 1=0;3:0.2;",
+            1,
+        ),
+        (
+            "\tLock.take \t x # \u{e9}\ndeath y\npass Lock\r",
+            "1:1.0 0=0;2:death 1;3:pass 1;",
+            2,
+        ),
+        (
+            "death a.b@c-d$_9\ndeath death\ndeath pass",
+            "1:death 0;2:death 1;3:death 2;",
+            3,
+        ),
+    ];
+    for (text, wanted, known) in rows {
+        assert!(rt; text.len() < 1000);
+        let mut names = Names::new(alloc);
+        let mut count = 0;
+        let script = read_script(alloc, text.as_bytes(), &catalog, &mut names, &mut count)?;
+        assert_eq!(rt; shown(alloc, &script)?.as_str(), wanted);
+        assert_eq!(rt; names.len(), known);
+        assert_eq!(rt; count as usize, script.lines().len());
+    }
+    Ok(())
+}
+
+#[test]
+fn refuses(rt: HostRuntime) -> Result<(), Fail> {
+    let alloc = rt.alloc();
+    let catalog = catalog(alloc)?;
+    let rows: [(&[u8], ScriptFault, u32, u32); 18] = [
+        (b"\xff", ScriptFault::BadLine { line: 1 }, 0, 0),
+        (b"death a\ndeath", ScriptFault::BadLine { line: 2 }, 1, 1),
+        (b"death a b", ScriptFault::BadLine { line: 1 }, 0, 0),
+        (b"pass", ScriptFault::BadLine { line: 1 }, 0, 0),
+        (b"pass Iter Lock", ScriptFault::BadLine { line: 1 }, 0, 0),
+        (b"pass 1ter", ScriptFault::BadLine { line: 1 }, 0, 0),
+        (b"Iter", ScriptFault::BadLine { line: 1 }, 0, 0),
+        (b"Iter.next.b c", ScriptFault::BadLine { line: 1 }, 0, 0),
+        (b".next c", ScriptFault::BadLine { line: 1 }, 0, 0),
+        (b"Iter. c", ScriptFault::BadLine { line: 1 }, 0, 0),
+        (b"\nIter.next a+b", ScriptFault::BadLine { line: 2 }, 0, 0),
+        (
+            b"Iter.next a\xc3\xa9",
+            ScriptFault::BadLine { line: 1 },
+            0,
+            0,
+        ),
+        (b"Iter.next a\r\r\n", ScriptFault::BadLine { line: 1 }, 0, 0),
+        (b"pass None", ScriptFault::UnknownSpec { line: 1 }, 0, 0),
+        (b"None.next", ScriptFault::UnknownSpec { line: 1 }, 0, 0),
+        (
+            b"death a\nIter.take",
+            ScriptFault::UnknownEvent { line: 2 },
+            1,
+            1,
+        ),
+        (b"Iter.next\n", ScriptFault::WrongCount { line: 1 }, 0, 0),
+        (
+            b"Iter.next a b c d e f g h i j",
+            ScriptFault::WrongCount { line: 1 },
+            0,
+            0,
+        ),
+    ];
+    for (bytes, fault, known, steps) in rows {
+        assert!(rt; bytes.len() < 1000);
+        let mut names = Names::new(alloc);
+        let mut count = 0;
+        let answer = read_script(alloc, bytes, &catalog, &mut names, &mut count);
+        assert_eq!(rt; answer.err(), Some(ScriptError::Bad(fault)));
+        assert_eq!(rt; names.len(), known);
+        assert_eq!(rt; count, steps);
+    }
+    Ok(())
+}
+
+/// So many lines `death PREFIX0`, `death PREFIX1` and so on, or all of one object.
+fn deaths(alloc: Global, prefix: &str, lines: u32, distinct: bool) -> Result<String, Fail> {
+    let mut out = String::new(alloc);
+    for k in 0..lines {
+        let number = if distinct { k } else { 0 };
+        let one = format!(in alloc; "death {prefix}{number}\n")?;
+        out.push_str(one.as_str())?;
+    }
+    Ok(out)
+}
+
+/// Reads one more script.
+fn read(
+    alloc: Global,
+    text: &str,
+    names: &mut Names,
+    count: &mut u32,
+) -> Result<Option<ScriptError>, Fail> {
+    let catalog = catalog(alloc)?;
+    if text.len() >= 4_194_304 || *count > 200_000 || names.len() > 65_536 {
+        return Ok(None);
+    }
+    Ok(read_script(alloc, text.as_bytes(), &catalog, names, count).err())
+}
+
+#[test]
+fn keeps_the_limits(rt: HostRuntime) -> Result<(), Fail> {
+    let alloc = rt.alloc();
+    let mut names = Names::new(alloc);
+    let mut count = 0;
+    let long = "death abcdefghijklmnopqrstuvwxyz0123456789";
+    for (length, error) in [
+        (255, None),
+        (
+            256,
+            Some(ScriptError::Bad(ScriptFault::BadLine { line: 1 })),
+        ),
+    ] {
+        let mut text = String::from_str(alloc, long)?;
+        for _ in 36..length {
+            text.push('x')?;
+        }
+        assert_eq!(rt; read(alloc, text.as_str(), &mut names, &mut count)?, error);
+    }
+    assert_eq!(rt; (names.len(), count), (1, 1));
+    let many = deaths(alloc, "n", 65_534, true)?;
+    assert_eq!(rt; read(alloc, many.as_str(), &mut names, &mut count)?, None);
+    let full = "Iter.create n0 y\nIter.create z z\n";
+    assert_eq!(rt; (names.len(), count), (65_535, 65_535));
+    let error = ScriptError::Bad(ScriptFault::TooManyObjects { line: 1 });
+    assert_eq!(rt;
+        read(alloc, "Iter.create y z", &mut names, &mut count)?,
+        Some(error)
+    );
+    assert_eq!(rt; (names.len(), count), (65_535, 65_535));
+    let error = ScriptError::Bad(ScriptFault::TooManyObjects { line: 2 });
+    assert_eq!(rt; read(alloc, full, &mut names, &mut count)?, Some(error));
+    assert_eq!(rt; (names.len(), count), (65_536, 65_536));
+    let more = deaths(alloc, "n", 134_464, false)?;
+    assert_eq!(rt; read(alloc, more.as_str(), &mut names, &mut count)?, None);
+    assert_eq!(rt; count, 200_000);
+    let error = ScriptError::Bad(ScriptFault::TooManyLines { line: 2 });
+    assert_eq!(rt;
+        read(alloc, "#\npass None", &mut names, &mut count)?,
+        Some(error)
+    );
+    let error = ScriptError::Bad(ScriptFault::BadLine { line: 1 });
+    assert_eq!(rt; read(alloc, "pass", &mut names, &mut count)?, Some(error));
+    Ok(())
+}
+
+#[test]
+fn projects(rt: HostRuntime) -> Result<(), Fail> {
+    let alloc = rt.alloc();
+    let catalog = catalog(alloc)?;
+    let mut names = Names::new(alloc);
+    let mut count = 0;
+    let text = b"Iter.next a\nLock.take b\ndeath a\npass Iter\n\npass Lock";
+    let script = read_script(alloc, text, &catalog, &mut names, &mut count)?;
+    let rows: [(u8, [(u32, u8); 3]); 2] = [
+        (0, [(1, 0), (3, 1), (4, 2)]),
+        (1, [(2, 0), (3, 1), (6, 2)]),
+    ];
+    for (spec, wanted) in rows {
+        let steps = project(alloc, &script, spec)?;
+        assert_eq!(rt; steps.len(), 3);
+        for ((line, step), (wanted_line, kind)) in steps.iter().zip(&wanted) {
+            let found = match step {
+                Step::Event { .. } => 0,
+                Step::Death { .. } => 1,
+                Step::Pass => 2,
+            };
+            assert_eq!(rt; (*line, found), (*wanted_line, *kind));
+        }
+    }
+    Ok(())
+}
