@@ -76,8 +76,8 @@ pairs_cases l p (Some o ∷ b) names =
 same_first : (l : Lexicon) (p q : ℕ) (s t : List ℕ) → HasNames l → p < length l.parameters → q < length l.parameters → name_of l.parameters p ++ 61 ∷ s ≡ name_of l.parameters q ++ 61 ∷ t → (p ≡ q) × (s ≡ t)
 same_first l p q s t h here there same =
     let parts = cut 61 (name_of l.parameters p) (name_of l.parameters q) s t
-        (name-lacks_equals (name_of l.parameters p) (name-plain l.parameters p h.parameters here))
-        (name-lacks_equals (name_of l.parameters q) (name-plain l.parameters q h.parameters there)) same in
+    (name-lacks_equals (name_of l.parameters p) (name-plain l.parameters p h.parameters here))
+    (name-lacks_equals (name_of l.parameters q) (name-plain l.parameters q h.parameters there)) same in
     (name-same l.parameters p q h.parameters here there parts.0, parts.1)
 
 -- a pair and what stands behind it
@@ -85,11 +85,11 @@ pair-same : (l : Lexicon) (p o q : ℕ) (r s : List ℕ) → HasNames l → p < 
     → pair_text l p o ++ r ≡ pair_text l p q ++ s → (o ≡ q) × (r ≡ s)
 pair-same l p o q r s h named one other i j same =
     let plain : name_of l.parameters p ++ 61 ∷ (name_of l.objects o ++ r) ≡ name_of l.parameters p ++ 61 ∷ (name_of l.objects q ++ s) =
-        sym (pair_text-cons l p o r) ∙ same ∙ pair_text-cons l p q s in
+    sym (pair_text-cons l p o r) ∙ same ∙ pair_text-cons l p q s in
     let objects = same_first l p p (name_of l.objects o ++ r) (name_of l.objects q ++ s) h named named plain in
     let parts = cut_tail (name_of l.objects o) (name_of l.objects q) r s
-        (name-lacks_comma (name_of l.objects o) (name-plain l.objects o h.objects one))
-        (name-lacks_comma (name_of l.objects q) (name-plain l.objects q h.objects other)) i j objects.1 in
+    (name-lacks_comma (name_of l.objects o) (name-plain l.objects o h.objects one))
+    (name-lacks_comma (name_of l.objects q) (name-plain l.objects q h.objects other)) i j objects.1 in
     (name-same l.objects o q h.objects one other parts.0, parts.1)
 
 -- a pair of a parameter past p isn't a pair of p

@@ -2,3 +2,4 @@ pub mod PairLemmas
 pub mod CountLemmas
 pub mod Cutting
 pub mod BindingsTold
+pub mod HistoriesTold

@@ -1,5 +1,5 @@
 -- What a text has to know of its names and its entries to be read back.
-use Rattle.std.specs.Prelude.{ℕ, ◌≡◌, ◌≢◌, ◌<◌, ◌^◌, Bool, List, [], ◌∷◌, length, slice_get, Option, Some, None}
+use Rattle.std.specs.Prelude.{ℕ, ◌≡◌, ◌≢◌, ◌<◌, ◌^◌, ◌++◌, List, [], ◌∷◌, length, slice_get, Option, Some, None}
 use Rattle.jm_model.specs.declared.binding.Binding.{Binding}
 use Rattle.jm_model.specs.declared.firings.Firing.{Firing}
 use Rattle.jm_model.specs.declared.step.Step.{Step}
@@ -8,7 +8,7 @@ use Rattle.jm_model.specs.declared.step.Outcome.{Outcome}
 use Rattle.jm_model.specs.declared.step.Outcome.TheVariants.{Fired, Refused, Done, Kept, NoMemory}
 use Rattle.jm_model.specs.declared.step.Entry.{Entry}
 use Rattle.jm_print.specs.Lexicons.{Lexicon}
-use Rattle.jm_print.specs.Texts.{IsPrintable}
+use Rattle.jm_print.specs.Texts.{IsPrintable, history_text}
 
 -- a byte that stands in no name: none of line feed, space, `,` and `=`
 abbrev pub IsNameByte : ℕ → Type 0
@@ -60,3 +60,20 @@ pub record IsTold (l : Lexicon) (x : Entry) : Type 0 where
 abbrev pub AreTold : Lexicon → List Entry → Type 0
 AreTold l [] = Unit {0}
 AreTold l (x ∷ h) = IsTold l x × AreTold l h
+
+-- ---- several specifications
+-- the parameters, events, handlers and objects of each lexicon are names
+abbrev pub HaveNames : List Lexicon → Type 0
+HaveNames [] = Unit {0}
+HaveNames (l ∷ ls) = HasNames l × HaveNames ls
+
+-- a history for each lexicon, each told by its text
+abbrev pub AreToldBy : List Lexicon → List (List Entry) → Type 0
+AreToldBy [] [] = Unit {0}
+AreToldBy (l ∷ ls) (h ∷ hs) = AreTold l h × AreToldBy ls hs
+AreToldBy _ _ = ⊥
+
+-- the texts of these histories, one after another
+abbrev pub texts_of : List Lexicon → List (List Entry) → List ℕ
+texts_of (l ∷ ls) (h ∷ hs) = history_text l h ++ texts_of ls hs
+texts_of _ _ = []

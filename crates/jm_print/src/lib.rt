@@ -5,10 +5,12 @@
 #![tactic(auto)]
 
 mod history;
+mod laws;
 mod page;
 mod summary;
 
 pub use history::render_history;
+pub use laws::{text_determines_history, texts_split_in_one_way};
 pub use summary::render_summary;
 
 #[cfg(test)]

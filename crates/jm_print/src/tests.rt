@@ -1,4 +1,6 @@
-ghost use Rattle.std.specs.Prelude.{◌≡◌, [], ◌∷◌, codes, IfOk, false, Some, None};
+ghost use Rattle.std.specs.Prelude.{◌≡◌, ◌++◌, [], ◌∷◌, codes, All, IfOk, OnOk, false, Some, None};
+ghost use Rattle.jm_print.specs.Lexicons.{Lexicon};
+ghost use Rattle.jm_print.specs.Texts.{IsPrintable};
 
 use super::*;
 use jm_events::{EventTable, Names};
@@ -96,26 +98,43 @@ fn add(
     Ok(())
 }
 
+fn create() -> Step
+    ensures { result ≡ Step.Event (record { 0 = 0 }) (Some 0 ∷ Some 1 ∷ None ∷ None ∷ None ∷ None ∷ None ∷ None ∷ []) }
+{
+    Step::Event {
+        letter: Letter(0),
+        binding: pair(),
+    }
+}
+
+fn tick() -> Step
+    ensures { result ≡ Step.Event (record { 0 = 1 }) (None ∷ None ∷ None ∷ None ∷ None ∷ None ∷ None ∷ None ∷ []) }
+{
+    Step::Event {
+        letter: Letter(1),
+        binding: none(),
+    }
+}
+
 /// An entry for each kind of row.
 fn history(alloc: Global) -> Result<History, NoMemory>
-    ensures { IfOk result (λ h. AllByRecursion (λ x. IsPrintable shop x) h) }
+    ensures { let shop : Lexicon = record {
+      specification = codes "Shop";
+      parameters = codes "c" ∷ codes "i" ∷ codes "p2" ∷ codes "p3" ∷ codes "p4" ∷ codes "p5" ∷ codes "p6" ∷ codes "p7" ∷ [];
+      events = codes "create" ∷ codes "tick" ∷ [];
+      handlers = codes "match" ∷ codes "fail" ∷ [];
+      objects = codes "c1" ∷ codes "i-1" ∷ [];
+    } in
+        IfOk result (λ h. All (IsPrintable shop) h) }
 {
     let mut history = History::new();
     let answer = answer(alloc)?;
-    let create = Step::Event {
-        letter: Letter(0),
-        binding: pair(),
-    };
-    let tick = Step::Event {
-        letter: Letter(1),
-        binding: none(),
-    };
-    add(&mut history, alloc, 1, create, Outcome::Fired(answer))?;
+    add(&mut history, alloc, 1, create(), Outcome::Fired(answer))?;
     add(
         &mut history,
         alloc,
         3_000_000_000,
-        tick,
+        tick(),
         Outcome::Fired(Firings::new(alloc)),
     )?;
     add(
@@ -125,7 +144,7 @@ fn history(alloc: Global) -> Result<History, NoMemory>
         Step::Death { object: 0 },
         Outcome::Done,
     )?;
-    add(&mut history, alloc, 5, create, Outcome::Refused(0))?;
+    add(&mut history, alloc, 5, create(), Outcome::Refused(0))?;
     add(
         &mut history,
         alloc,
@@ -141,4 +160,30 @@ fn history(alloc: Global) -> Result<History, NoMemory>
         Outcome::Kept(12_345_678_901),
     )?;
     Ok(history)
+}
+
+#[test]
+fn each_kind_of_row(rt: HostRuntime) -> Result<(), Fail> {
+    let alloc = rt.alloc();
+    let table = table(alloc)?;
+    let objects = objects(alloc)?;
+    let categories = categories(alloc)?;
+    let history = history(alloc)?;
+    let text = render_history(alloc, "Shop", &history, &table, &categories, &objects)?;
+    let wanted = "spec Shop
+0:1 create c=c1,i=i-1 fired 2
+  @fail -
+  @match c=c1,i=i-1,p2=i-1,p3=i-1,p4=i-1,p5=i-1,p6=i-1,p7=c1
+0:3000000000 tick - fired 0
+0:4 death c1 done
+0:5 create c=c1,i=i-1 refused c1
+0:6 death c1 refused c1
+0:7 pass kept 12345678901
+end 6
+";
+    assert_eq!(rt; text.as_slice(), wanted.as_bytes());
+    let summary = render_summary(alloc, "Shop", &history)?;
+    let line = "spec Shop events 3 fired 2 refused 2 deaths 2 passes 1\n";
+    assert_eq!(rt; summary.as_slice(), line.as_bytes());
+    Ok(())
 }

@@ -100,54 +100,61 @@ fn reads(rt: HostRuntime) -> Result<(), Fail> {
     Ok(())
 }
 
-#[test]
-fn refuses(rt: HostRuntime) -> Result<(), Fail> {
-    let alloc = rt.alloc();
+/// How the reading of a script ends, and how many names and steps it leaves.
+fn ending(alloc: Global, bytes: &[u8]) -> Result<(Option<ScriptError>, u32, u32), Fail> {
     let catalog = catalog(alloc)?;
-    let rows: [(&[u8], ScriptFault, u32, u32); 18] = [
-        (b"\xff", ScriptFault::BadLine { line: 1 }, 0, 0),
-        (b"death a\ndeath", ScriptFault::BadLine { line: 2 }, 1, 1),
-        (b"death a b", ScriptFault::BadLine { line: 1 }, 0, 0),
-        (b"pass", ScriptFault::BadLine { line: 1 }, 0, 0),
-        (b"pass Iter Lock", ScriptFault::BadLine { line: 1 }, 0, 0),
-        (b"pass 1ter", ScriptFault::BadLine { line: 1 }, 0, 0),
-        (b"Iter", ScriptFault::BadLine { line: 1 }, 0, 0),
-        (b"Iter.next.b c", ScriptFault::BadLine { line: 1 }, 0, 0),
-        (b".next c", ScriptFault::BadLine { line: 1 }, 0, 0),
-        (b"Iter. c", ScriptFault::BadLine { line: 1 }, 0, 0),
-        (b"\nIter.next a+b", ScriptFault::BadLine { line: 2 }, 0, 0),
-        (
-            b"Iter.next a\xc3\xa9",
-            ScriptFault::BadLine { line: 1 },
-            0,
-            0,
-        ),
-        (b"Iter.next a\r\r\n", ScriptFault::BadLine { line: 1 }, 0, 0),
-        (b"pass None", ScriptFault::UnknownSpec { line: 1 }, 0, 0),
-        (b"None.next", ScriptFault::UnknownSpec { line: 1 }, 0, 0),
-        (
-            b"death a\nIter.take",
-            ScriptFault::UnknownEvent { line: 2 },
-            1,
-            1,
-        ),
-        (b"Iter.next\n", ScriptFault::WrongCount { line: 1 }, 0, 0),
-        (
-            b"Iter.next a b c d e f g h i j",
-            ScriptFault::WrongCount { line: 1 },
-            0,
-            0,
-        ),
-    ];
-    for (bytes, fault, known, steps) in rows {
-        assert!(rt; bytes.len() < 1000);
-        let mut names = Names::new(alloc);
-        let mut count = 0;
-        let answer = read_script(alloc, bytes, &catalog, &mut names, &mut count);
-        assert_eq!(rt; answer.err(), Some(ScriptError::Bad(fault)));
-        assert_eq!(rt; names.len(), known);
-        assert_eq!(rt; count, steps);
+    let mut names = Names::new(alloc);
+    let mut count = 0;
+    if bytes.len() >= 1000 {
+        return Ok((None, 0, 0));
     }
+    let answer = read_script(alloc, bytes, &catalog, &mut names, &mut count);
+    Ok((answer.err(), names.len(), count))
+}
+
+#[test]
+fn refuses_lines_of_no_shape(rt: HostRuntime) -> Result<(), Fail> {
+    let rows: [&[u8]; 11] = [
+        b"\xff",
+        b"death a b",
+        b"pass",
+        b"pass Iter Lock",
+        b"pass 1ter",
+        b"Iter",
+        b"Iter.next.b c",
+        b".next c",
+        b"Iter. c",
+        b"Iter.next a\xc3\xa9",
+        b"Iter.next a\r\r\n",
+    ];
+    let error = Some(ScriptError::Bad(ScriptFault::BadLine { line: 1 }));
+    for bytes in rows {
+        assert_eq!(rt; ending(rt.alloc(), bytes)?, (error, 0, 0));
+    }
+    Ok(())
+}
+
+#[test]
+fn refuses_at_the_line(rt: HostRuntime) -> Result<(), Fail> {
+    let alloc = rt.alloc();
+    let shape = Some(ScriptError::Bad(ScriptFault::BadLine { line: 2 }));
+    assert_eq!(rt; ending(alloc, b"death a\ndeath")?, (shape, 1, 1));
+    assert_eq!(rt; ending(alloc, b"\nIter.next a+b")?, (shape, 0, 0));
+    let event = Some(ScriptError::Bad(ScriptFault::UnknownEvent { line: 2 }));
+    assert_eq!(rt; ending(alloc, b"death a\nIter.take")?, (event, 1, 1));
+    let spec = Some(ScriptError::Bad(ScriptFault::UnknownSpec { line: 1 }));
+    assert_eq!(rt; ending(alloc, b"pass None")?, (spec, 0, 0));
+    assert_eq!(rt; ending(alloc, b"None.next")?, (spec, 0, 0));
+    Ok(())
+}
+
+#[test]
+fn refuses_another_number_of_objects(rt: HostRuntime) -> Result<(), Fail> {
+    let alloc = rt.alloc();
+    let count = Some(ScriptError::Bad(ScriptFault::WrongCount { line: 1 }));
+    assert_eq!(rt; ending(alloc, b"Iter.next\n")?, (count, 0, 0));
+    let ten = b"Iter.next a b c d e f g h i j";
+    assert_eq!(rt; ending(alloc, ten)?, (count, 0, 0));
     Ok(())
 }
 
@@ -162,63 +169,70 @@ fn deaths(alloc: Global, prefix: &str, lines: u32, distinct: bool) -> Result<Str
     Ok(out)
 }
 
-/// Reads one more script.
-fn read(
+/// Reads one more script: how that ends, and how many names and steps it leaves.
+fn next(
     alloc: Global,
     text: &str,
     names: &mut Names,
     count: &mut u32,
-) -> Result<Option<ScriptError>, Fail> {
+) -> Result<(Option<ScriptError>, u32, u32), Fail> {
     let catalog = catalog(alloc)?;
     if text.len() >= 4_194_304 || *count > 200_000 || names.len() > 65_536 {
-        return Ok(None);
+        return Ok((None, 0, 0));
     }
-    Ok(read_script(alloc, text.as_bytes(), &catalog, names, count).err())
+    let answer = read_script(alloc, text.as_bytes(), &catalog, names, count);
+    Ok((answer.err(), names.len(), *count))
 }
 
 #[test]
-fn keeps_the_limits(rt: HostRuntime) -> Result<(), Fail> {
+fn an_object_has_at_most_255_characters(rt: HostRuntime) -> Result<(), Fail> {
+    let alloc = rt.alloc();
+    let mut text = String::from_str(alloc, "death ")?;
+    for _ in 0..255 {
+        text.push('x')?;
+    }
+    assert_eq!(rt; ending(alloc, text.as_bytes())?, (None, 1, 1));
+    text.push('x')?;
+    let error = Some(ScriptError::Bad(ScriptFault::BadLine { line: 1 }));
+    assert_eq!(rt; ending(alloc, text.as_bytes())?, (error, 0, 0));
+    Ok(())
+}
+
+#[test]
+fn there_are_at_most_65536_objects(rt: HostRuntime) -> Result<(), Fail> {
     let alloc = rt.alloc();
     let mut names = Names::new(alloc);
     let mut count = 0;
-    let long = "death abcdefghijklmnopqrstuvwxyz0123456789";
-    for (length, error) in [
-        (255, None),
-        (
-            256,
-            Some(ScriptError::Bad(ScriptFault::BadLine { line: 1 })),
-        ),
-    ] {
-        let mut text = String::from_str(alloc, long)?;
-        for _ in 36..length {
-            text.push('x')?;
-        }
-        assert_eq!(rt; read(alloc, text.as_str(), &mut names, &mut count)?, error);
-    }
-    assert_eq!(rt; (names.len(), count), (1, 1));
-    let many = deaths(alloc, "n", 65_534, true)?;
-    assert_eq!(rt; read(alloc, many.as_str(), &mut names, &mut count)?, None);
+    let many = deaths(alloc, "n", 65_535, true)?;
+    let end = next(alloc, many.as_str(), &mut names, &mut count)?;
+    assert_eq!(rt; end, (None, 65_535, 65_535));
+    let end = next(alloc, "Iter.create y z", &mut names, &mut count)?;
+    let error = Some(ScriptError::Bad(ScriptFault::TooManyObjects { line: 1 }));
+    assert_eq!(rt; end, (error, 65_535, 65_535));
     let full = "Iter.create n0 y\nIter.create z z\n";
-    assert_eq!(rt; (names.len(), count), (65_535, 65_535));
-    let error = ScriptError::Bad(ScriptFault::TooManyObjects { line: 1 });
-    assert_eq!(rt;
-        read(alloc, "Iter.create y z", &mut names, &mut count)?,
-        Some(error)
-    );
-    assert_eq!(rt; (names.len(), count), (65_535, 65_535));
-    let error = ScriptError::Bad(ScriptFault::TooManyObjects { line: 2 });
-    assert_eq!(rt; read(alloc, full, &mut names, &mut count)?, Some(error));
-    assert_eq!(rt; (names.len(), count), (65_536, 65_536));
+    let end = next(alloc, full, &mut names, &mut count)?;
+    let error = Some(ScriptError::Bad(ScriptFault::TooManyObjects { line: 2 }));
+    assert_eq!(rt; end, (error, 65_536, 65_536));
+    Ok(())
+}
+
+#[test]
+fn there_are_at_most_200000_steps(rt: HostRuntime) -> Result<(), Fail> {
+    let alloc = rt.alloc();
+    let mut names = Names::new(alloc);
+    let mut count = 0;
+    let one = deaths(alloc, "n", 65_536, false)?;
+    let end = next(alloc, one.as_str(), &mut names, &mut count)?;
+    assert_eq!(rt; end, (None, 1, 65_536));
     let more = deaths(alloc, "n", 134_464, false)?;
-    assert_eq!(rt; read(alloc, more.as_str(), &mut names, &mut count)?, None);
-    assert_eq!(rt; count, 200_000);
-    let error = ScriptError::Bad(ScriptFault::TooManyLines { line: 2 });
-    assert_eq!(rt;
-        read(alloc, "#\npass None", &mut names, &mut count)?,
-        Some(error)
-    );
-    let error = ScriptError::Bad(ScriptFault::BadLine { line: 1 });
-    assert_eq!(rt; read(alloc, "pass", &mut names, &mut count)?, Some(error));
+    let end = next(alloc, more.as_str(), &mut names, &mut count)?;
+    assert_eq!(rt; end, (None, 1, 200_000));
+    let end = next(alloc, "#\npass None", &mut names, &mut count)?;
+    let error = Some(ScriptError::Bad(ScriptFault::TooManyLines { line: 2 }));
+    assert_eq!(rt; end, (error, 1, 200_000));
+    let end = next(alloc, "pass", &mut names, &mut count)?;
+    let error = Some(ScriptError::Bad(ScriptFault::BadLine { line: 1 }));
+    assert_eq!(rt; end, (error, 1, 200_000));
     Ok(())
 }
 
