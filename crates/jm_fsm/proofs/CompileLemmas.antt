@@ -1,12 +1,11 @@
-use Rattle.std.proofs.Common.{ℕ, ◌≡◌, ◌<◌, ◌≤◌, ◌+◌, ◌↔◌, ◌⊎◌, inl, inr, suc, zero, List, [], ◌∷◌, ◌++◌, Option, Some, None, Ok, Err, Result, IsSomeAnd, All, Contains, map, fold, length, slice_get, refl, sym, ap, subst, ◌∙◌, arith, length-append}
+use Rattle.std.proofs.Common.{ℕ, ◌≡◌, ◌<◌, ◌+◌, ◌↔◌, inl, inr, suc, zero, List, [], ◌∷◌, ◌++◌, Option, Some, Ok, Result, IsSomeAnd, All, Contains, map, fold, length, slice_get, refl, sym, ap, subst, ◌∙◌, arith, length-append}
 use Rattle.std.proofs.lemmas.Bool.{cases_lt}
-use Rattle.std.proofs.lemmas.Option.{same_Some}
 use Rattle.jm_model.specs.declared.fault.SpecFault.{SpecFault}
 use Rattle.jm_table.specs.Graphs.{GraphMeaning, step_from, reached_by}
-use Rattle.jm_table.specs.Tables.{Transitions, IsInGroup, IsWord, state_after_of, Follows}
+use Rattle.jm_table.specs.Tables.{Transitions, state_after_of, Follows}
 use Rattle.jm_fsm.specs.declared.machine.Target.{Target}
-use Rattle.jm_fsm.specs.declared.machine.Target.TheVariants.{State, Fail}
-use Rattle.jm_fsm.specs.Machines.{StateMachine, IsMember, HasGroups, IsCompiled, FsmHolds, category_count, next_target, fsm_state_after}
+use Rattle.jm_fsm.specs.declared.machine.Target.TheVariants.{State}
+use Rattle.jm_fsm.specs.Machines.{StateMachine, IsMember, HasGroups, IsCompiled, category_count, next_target, fsm_state_after}
 
 -- a machine as a graph
 abbrev pub graph_of : StateMachine → GraphMeaning Target

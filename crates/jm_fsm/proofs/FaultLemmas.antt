@@ -1,5 +1,5 @@
-use Rattle.std.proofs.Common.{ℕ, ◌≡◌, ◌≢◌, ◌==◌, ◌<◌, ◌≤◌, ◌+◌, ◌⊎◌, inl, inr, suc, zero, true, false, List, [], ◌∷◌, Option, Some, None, Ok, Err, Result, All, Contains, map, fold, find, option_map, unwrap_or, length, get_or, slice_get, refl, sym, ap, subst, ◌∙◌, arith}
-use Rattle.std.specs.List.{IsDistinct, list_any, position_or_len, AllByRecursion}
+use Rattle.std.proofs.Common.{ℕ, ◌≡◌, ◌==◌, ◌<◌, ◌≤◌, ◌+◌, ◌⊎◌, inl, inr, suc, zero, false, List, [], ◌∷◌, Option, Some, None, Ok, Err, Result, All, Contains, map, fold, find, option_map, unwrap_or, length, get_or, slice_get, refl, sym, ap, subst, ◌∙◌, arith}
+use Rattle.std.specs.List.{IsDistinct, position_or_len}
 use Rattle.std.proofs.lemmas.Bool.Decides.{eqb_tells}
 use Rattle.std.proofs.lemmas.Bool.{eqb-true}
 use Rattle.std.proofs.Math.Dec.{eqb}
@@ -10,7 +10,6 @@ use Rattle.std.proofs.lemmas.Map.Keys.{IsDistinct-cons}
 use Rattle.std.proofs.lemmas.Map.Views.{Contains-from_any}
 use Rattle.std.proofs.lemmas.Map.Steps.{length-le_from_distinct_below}
 use Rattle.std.proofs.lemmas.Option.{slice_get_within, slice_get-get_or, get_or_from_slice_get}
-use Rattle.jm_model.specs.declared.step.Letter.{Letter}
 use Rattle.jm_model.specs.declared.fault.SpecFault.{SpecFault}
 use Rattle.jm_model.specs.declared.fault.SpecFault.TheVariants.{TooManyStates}
 use Rattle.jm_model.specs.declared.fault.SpecError.{SpecError}
@@ -88,13 +87,14 @@ numbers_differ n (a ∷ found) each distinct =
     let rest = All-tail (IsTarget n) a found each in
     let head = All-head (IsTarget n) a found each in
     let apart : All (λ (b : Target). eqb (number_of n a) (number_of n b) ≡ false) found = λ k d lt.
-        let b = get_or found k d in
-        elim (eqb_tells (number_of n a) (number_of n b))
-        [ inl same ↦
-            let one = number_tells n a b head (rest k d lt) same.1 in
-            let place : zero ≡ suc k = distinct zero (suc k) b (ap (λ x. Some x) one) (slice_get-get_or found k d lt) in
-            absurd (omega (arith, place))
-        | inr other ↦ other.0 ] in
+    let b = get_or found k d in
+    elim (eqb_tells (number_of n a) (number_of n b)) [
+      | inl same ↦
+          let one = number_tells n a b head (rest k d lt) same.1 in
+          let place : zero ≡ suc k = distinct zero (suc k) b (ap (λ x. Some x) one) (slice_get-get_or found k d lt) in
+          absurd (omega (arith, place))
+      | inr other ↦ other.0
+    ] in
     IsDistinct-cons eqb (number_of n a) (map (number_of n) found)
     (recursion_from_All (λ y. eqb (number_of n a) y ≡ false) (map (number_of n) found) (All-map (λ y. eqb (number_of n a) y ≡ false) (number_of n) found apart))
     (numbers_differ n found rest (λ j k d hj hk. let e : suc j ≡ suc k = distinct (suc j) (suc k) d hj hk in omega (arith, e)))
@@ -104,7 +104,7 @@ few_targets n found each distinct =
     let numbers = map (number_of n) found in
     let below : All (λ y. y < n + 1) numbers = All-map (λ y. y < n + 1) (number_of n) found (All-weaker (IsTarget n) (λ a. number_of n a < n + 1) (number_below n) found each) in
     let few = length-le_from_distinct_below numbers (n + 1) (numbers_differ n found each distinct)
-        (λ q passes. All-contains (λ y. y < n + 1) numbers q below (Contains-from_any (λ x y e. eqb-true x y e) q numbers passes)) in
+    (λ q passes. All-contains (λ y. y < n + 1) numbers q below (Contains-from_any (λ x y e. eqb-true x y e) q numbers passes)) in
     omega (arith, few, length-map found (number_of n))
 
 -- ---- and the work on a machine has no fault
@@ -116,5 +116,9 @@ no_fault m letters machine (Bad fault) (inl met) =
     absurd (let e : ◌≡◌ {A = Result Target SpecFault} (Ok (fsm_state_after m met.word)) (Err fault) = sym (reached_is m met.word) ∙ met.meets in cc)
 no_fault m letters machine (Bad fault) (inr many) =
     let crowd = many.1 in
-    absurd (omega (arith, crowd.many, machine.few_states,
-        few_targets (length m.states) crowd.found (All-weaker (IsReached (graph_of m) letters) (IsTarget (length m.states)) (reached_is_target m machine letters) crowd.found crowd.each) crowd.distinct))
+    absurd (omega (
+      arith,
+      crowd.many,
+      machine.few_states,
+      few_targets (length m.states) crowd.found (All-weaker (IsReached (graph_of m) letters) (IsTarget (length m.states)) (reached_is_target m machine letters) crowd.found crowd.each) crowd.distinct,
+    ))

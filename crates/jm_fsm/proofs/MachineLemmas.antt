@@ -1,9 +1,9 @@
-use Rattle.std.proofs.Common.{ℕ, ◌≡◌, ◌<◌, ◌≤◌, ◌+◌, ◌↔◌, ◌⊎◌, inl, inr, All, ◌-◌, List, [], ◌∷◌, ◌++◌, Option, Some, None, IsSomeAnd, Contains, length, take, get_or, slice_get, refl, sym, ap, subst, ◌∙◌, arith}
+use Rattle.std.proofs.Common.{ℕ, ◌≡◌, ◌<◌, ◌≤◌, ◌+◌, ◌↔◌, inl, inr, All, ◌-◌, List, [], ◌∷◌, ◌++◌, Option, Some, IsSomeAnd, Contains, length, get_or, slice_get, sym, ap, subst, ◌∙◌, arith}
 use Rattle.std.proofs.lemmas.Bool.{cases_lt}
-use Rattle.std.proofs.lemmas.Option.{slice_get_past, slice_get_within, slice_get-get_or, get_or_from_slice_get}
+use Rattle.std.proofs.lemmas.Option.{slice_get_past, slice_get_within, slice_get-get_or}
 use Rattle.std.proofs.lemmas.List.Elements.{Contains-get_or, Contains-push, Contains-push_cases, Contains-append_left}
 use Rattle.jm_fsm.specs.declared.machine.Target.{Target}
-use Rattle.jm_fsm.specs.declared.machine.Target.TheVariants.{State, Fail}
+use Rattle.jm_fsm.specs.declared.machine.Target.TheVariants.{Fail}
 use Rattle.jm_fsm.specs.Machines.{StateMachine, AliasDefinition, IsMember, category_count}
 
 module _ {X : Type 0} where

@@ -1,4 +1,4 @@
-use Rattle.std.proofs.Common.{ℕ, ◌≡◌, ◌↔◌, List, Contains, length, sym, subst, ◌∙◌, arith}
+use Rattle.std.proofs.Common.{ℕ, ◌↔◌, List, Contains, subst, ◌∙◌}
 use Rattle.jm_fsm.specs.Machines.{IsMember}
 use Rattle.jm_fsm.proofs.MachineLemmas.{members_within}
 use Rattle.jm_fsm.proofs.CompileLemmas.{group_more}
