@@ -1,0 +1,16 @@
+use Rattle.std.proofs.Common.{ℕ, ◌↔◌, List, Contains, subst, ◌∙◌}
+use Rattle.jm_fsm.specs.Machines.{IsMember}
+use Rattle.jm_fsm.proofs.MachineLemmas.{members_within}
+use Rattle.jm_fsm.proofs.CompileLemmas.{group_more}
+use Rattle.jm_fsm.proofs.machine.Fsm.group.Goals as goal
+
+pub add_group-requires-clause-states : goal.add_group-requires-clause-states
+add_group-requires-clause-states c =
+    rw c.as_slice.ensures.value
+    (members_within (IsMember c.args.self.now c.loop-category.category) c.args.nodes.now _ _ (c.loop-category.invariant.states ∙ c.requires.states) c.in_ok-members.ensures.members)
+
+pub loop-category-preserved : goal.loop-category-preserved
+loop-category-preserved c =
+    let added = c.in-Ok.ensures.ok in
+    group_more c.args.self.now c.args.nodes.now c.loop-category.category c.args.table.now c.loop-category.table c.add_group.new.self added.0 c.in_ok-members.members.items c.loop-category.invariant added.1
+    (subst (λ (l : List ℕ). (s : ℕ) → Contains added.0 s ↔ Contains l s) c.as_slice.ensures.value added.2) c.in_ok-members.ensures.members

@@ -1,0 +1,84 @@
+use Rattle.std.specs.Prelude.{ℕ, ◌≡◌, ◌==◌, ◌<◌, ◌≤◌, ◌+◌, ◌⊎◌, ◌↔◌, List, [], ◌∷◌, ◌++◌, length, map, fold, find, All, Contains, Option, Some, IsSomeAnd, option_map, unwrap_or, slice_get, codes}
+use Rattle.jm_table.specs.Tables.{Transitions, IsInGroup, IsWord, state_after_of}
+use Rattle.jm_fsm.specs.declared.machine.Target.{Target}
+use Rattle.jm_fsm.specs.declared.machine.Target.TheVariants.{State, Fail}
+use Rattle.jm_fsm.specs.declared.machine.Transition.{Transition}
+
+-- a state: its name, the transitions that it lists, and where the letters lead that it doesn't list
+pub record StateDefinition : Type 0 where
+  pub name : List ℕ
+  pub transitions : List Transition
+  pub fallback : Option Target
+
+-- an alias: its name, and its members
+pub record AliasDefinition : Type 0 where
+  pub name : List ℕ
+  pub members : List Target
+
+-- A state machine: its states, of which the first is the start, and its aliases. Beside these it has the state `fail`.
+pub record StateMachine : Type 0 where
+  pub states : List StateDefinition
+  pub aliases : List AliasDefinition
+
+-- where a letter leads from a state: the listed target, else the `default`, else `fail`
+abbrev pub target_of : StateDefinition → ℕ → Target
+target_of s letter = unwrap_or (option_map (λ t. t.target) (find (λ t. t.letter.0 == letter) s.transitions)) (unwrap_or s.fallback Fail)
+
+-- where a letter leads; `fail` is never left
+abbrev pub next_target : StateMachine → Target → ℕ → Target
+next_target m Fail letter = Fail
+next_target m (State k) letter = unwrap_or (option_map (λ s. target_of s letter) (slice_get m.states k)) Fail
+
+-- where the path of a word ends that begins in the first state
+abbrev pub fsm_state_after : StateMachine → List ℕ → Target
+fsm_state_after m word = fold (next_target m) (State 0) word
+
+-- How the categories are numbered: the states, then the aliases, then `fail`.
+
+-- the names of the categories
+abbrev pub category_names : StateMachine → List (List ℕ)
+category_names m = map (λ s. s.name) m.states ++ (map (λ a. a.name) m.aliases ++ codes "fail" ∷ [])
+
+-- how many categories there are
+abbrev pub category_count : StateMachine → ℕ
+category_count m = length m.states + length m.aliases + 1
+
+-- the states that are members of a category
+abbrev pub IsMember : StateMachine → ℕ → Target → Type 0
+IsMember m category target =
+    ((category < length m.states) × (target ≡ State category))
+    ⊎ (((j : ℕ) × (category ≡ length m.states + j) × IsSomeAnd (slice_get m.aliases j) (λ a. Contains a.members target))
+    ⊎ ((category ≡ length m.states + length m.aliases) × (target ≡ Fail)))
+
+-- the category holds of the word: its path ends in a member
+abbrev pub FsmHolds : StateMachine → ℕ → List ℕ → Type 0
+FsmHolds m category word = IsMember m category (fsm_state_after m word)
+
+-- the target is one of so many states, or `fail`
+abbrev pub IsTarget : ℕ → Target → Type 0
+IsTarget states Fail = Unit {0}
+IsTarget states (State k) = k < states
+
+-- At least one state; with `fail` there are at most 1,024, and at most 256 aliases; and each target and member is one of
+-- the states, or `fail`.
+pub record IsMachine (m : StateMachine) : Type 0 where
+  pub some_states : 0 < length m.states
+  pub few_states : length m.states ≤ 1023
+  pub few_aliases : length m.aliases ≤ 256
+  pub listed : All (λ s. All (λ t. IsTarget (length m.states) t.target) s.transitions) m.states
+  pub fallen : All (λ s. (target : Target) → s.fallback ≡ Some target → IsTarget (length m.states) target) m.states
+  pub members : All (λ a. All (IsTarget (length m.states)) a.members) m.aliases
+
+-- The table after has that many groups more than the table before, which had none: the states of the group of a
+-- category are the places of the list at which its members stand.
+pub record HasGroups (m : StateMachine) (nodes : List Target) (count : ℕ) (before after : Transitions) : Type 0 where
+  pub states : after.states ≡ before.states
+  pub letters : after.letters ≡ before.letters
+  pub next : after.next ≡ before.next
+  pub many : length after.groups ≡ count
+  pub each : (category : ℕ) → category < count → (state : ℕ) → IsInGroup after state category ↔ IsSomeAnd (slice_get nodes state) (IsMember m category)
+
+-- after each word of the table's letters the groups of the state are the categories that hold of the word
+abbrev pub IsCompiled : StateMachine → Transitions → Type 0
+IsCompiled m t =
+    (word : List ℕ) → IsWord t word → (category : ℕ) → category < category_count m → IsInGroup t (state_after_of t word) category ↔ FsmHolds m category word
