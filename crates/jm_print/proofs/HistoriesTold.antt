@@ -60,8 +60,8 @@ firing-same l f g s t h m n eight other e =
     let inner : F ++ 32 ∷ (B ++ 10 ∷ s) ≡ G ++ 32 ∷ (C ++ 10 ∷ t) = cc in
     let handlers = cut 32 F G (B ++ 10 ∷ s) (C ++ 10 ∷ t) (name-lacks_space F (name-plain l.handlers f.handler h.handlers m.0)) (name-lacks_space G (name-plain l.handlers g.handler h.handlers n.0)) inner in
     let instances = cut 10 B C s t
-        (lacks_pairs 10 l 0 f.instance (apart 61 10 refl) (apart 44 10 refl) (apart 45 10 refl) name-lacks_line_feed h m.1)
-        (lacks_pairs 10 l 0 g.instance (apart 61 10 refl) (apart 44 10 refl) (apart 45 10 refl) name-lacks_line_feed h n.1) handlers.1 in
+    (lacks_pairs 10 l 0 f.instance (apart 61 10 refl) (apart 44 10 refl) (apart 45 10 refl) name-lacks_line_feed h m.1)
+    (lacks_pairs 10 l 0 g.instance (apart 61 10 refl) (apart 44 10 refl) (apart 45 10 refl) name-lacks_line_feed h n.1) handlers.1 in
     let handler = name-same l.handlers f.handler g.handler h.handlers m.0 n.0 handlers.0 in
     let instance = pairs-same l 0 f.instance g.instance h m.1 n.1 (eight ∙ sym other) instances.0 in
     ((λ j. record { instance = instance j; handler = handler j }), instances.1)
@@ -300,11 +300,11 @@ step-same l x y s t h m n e =
     let r = row_of l x.step x.outcome m.printable in
     let q = row_of l y.step y.outcome n.printable in
     let at_row : (z : Entry) (w : Row) → z.step ≡ step_of w → z.outcome ≡ outcome_of w → IsTold l z → IsRow l w =
-        λ z w i j told. ((subst (λ (p : Step × Outcome). IsPrintableStep l p.0 p.1) (λ k. (i k, j k)) told.printable), (subst (λ (p : Step × Outcome). FitsStep p.0 p.1) (λ k. (i k, j k)) told.fits)) in
+    λ z w i j told. ((subst (λ (p : Step × Outcome). IsPrintableStep l p.0 p.1) (λ k. (i k, j k)) told.printable), (subst (λ (p : Step × Outcome). FitsStep p.0 p.1) (λ k. (i k, j k)) told.fits)) in
     let one = at_row x r.0 r.1 r.2 m in
     let two = at_row y q.0 q.1 q.2 n in
     let rows : step_text l (step_of r.0) (outcome_of r.0) ++ s ≡ step_text l (step_of q.0) (outcome_of q.0) ++ t =
-        (λ k. step_text l (sym r.1 k) (sym r.2 k) ++ s) ∙ e ∙ (λ k. step_text l (q.1 k) (q.2 k) ++ t) in
+    (λ k. step_text l (sym r.1 k) (sym r.2 k) ++ s) ∙ e ∙ (λ k. step_text l (q.1 k) (q.2 k) ++ t) in
     let same = row-same l r.0 q.0 s t h one two (rows_alike l r.0 q.0 s t h one two rows) in
     (r.1 ∙ ap step_of same.0 ∙ sym q.1, r.2 ∙ ap outcome_of same.0 ∙ sym q.2, same.1)
 
