@@ -1,11 +1,11 @@
 -- The text of a binding tells the binding.
-use Rattle.std.proofs.Common.{◌≡◌, ◌≢◌, ℕ, zero, suc, ◌+◌, ◌<◌, ◌≤◌, List, [], ◌∷◌, ◌++◌, length, refl, sym, ◌∙◌, ap, subst, inl, inr, arith, append_assoc, append-nil}
-use Rattle.std.specs.Prelude.{Option, Some, None, codes, ◌⊎◌, slice_get, unwrap_or}
+use Rattle.std.proofs.Common.{◌≡◌, ◌≢◌, ℕ, zero, suc, ◌+◌, ◌<◌, ◌≤◌, List, [], ◌∷◌, ◌++◌, length, refl, sym, ◌∙◌, ap, inl, inr, arith, append_assoc}
+use Rattle.std.specs.Prelude.{Some, None, ◌⊎◌, slice_get}
 use Rattle.jm_model.specs.declared.binding.Binding.{Binding}
 use Rattle.jm_print.specs.Lexicons.{Lexicon, name_of}
 use Rattle.jm_print.specs.Texts.{pair_text, later_pairs_text, pairs_text, HasNamesFrom}
 use Rattle.jm_print.specs.Told.{IsName, AreNames, HasNames, BindsSome}
-use Rattle.jm_print.proofs.Cutting.{Lacks, cut, Lacks-append, name-lacks_line_feed, name-lacks_space, name-lacks_comma, name-lacks_equals}
+use Rattle.jm_print.proofs.Cutting.{Lacks, cut, Lacks-append, name-lacks_comma, name-lacks_equals}
 
 -- ---- names
 name-at : (names : List (List ℕ)) (k : ℕ) → k < length names → slice_get names k ≡ Some (name_of names k)

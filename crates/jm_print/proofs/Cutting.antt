@@ -1,8 +1,8 @@
 -- Texts are cut where a byte stands that the parts before it don't have.
-use Rattle.std.proofs.Common.{◌≡◌, ◌≢◌, ℕ, ◌+◌, ◌<◌, ◌≤◌, ◌^◌, ◌%◌, ◌/◌, List, [], ◌∷◌, ◌++◌, length, refl, sym, ◌∙◌, ap, arith}
-use Rattle.std.specs.Prelude.{codes, decimal, ◌⊎◌}
-use Rattle.std.proofs.lemmas.Fmt.{decimal_by_steps, decimal_injective}
-use Rattle.jm_print.specs.Told.{IsNameByte, IsName}
+use Rattle.std.proofs.Common.{◌≡◌, ◌≢◌, ℕ, ◌+◌, ◌<◌, ◌≤◌, ◌^◌, ◌%◌, List, [], ◌∷◌, ◌++◌, refl, sym, arith}
+use Rattle.std.specs.Prelude.{decimal, ◌⊎◌}
+use Rattle.std.proofs.lemmas.Fmt.{decimal_by_steps}
+use Rattle.jm_print.specs.Told.{IsName}
 
 -- no byte of the text is d
 abbrev pub Lacks : ℕ → List ℕ → Type 0

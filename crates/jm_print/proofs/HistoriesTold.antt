@@ -1,5 +1,5 @@
 -- The text of a history tells the history.
-use Rattle.std.proofs.Common.{◌≡◌, ◌≢◌, ℕ, zero, suc, ◌+◌, ◌<◌, ◌≤◌, ◌^◌, Bool, true, false, List, [], ◌∷◌, ◌++◌, length, refl, sym, ◌∙◌, ap, subst, inl, inr, arith, append_assoc}
+use Rattle.std.proofs.Common.{◌≡◌, ◌≢◌, ℕ, suc, ◌<◌, ◌≤◌, ◌^◌, false, List, [], ◌∷◌, ◌++◌, length, refl, sym, ◌∙◌, ap, subst, inl, inr, arith, append_assoc}
 use Rattle.std.specs.Prelude.{codes, decimal, ◌⊎◌, ◌==◌, All}
 use Rattle.std.specs.List.{flat_map}
 use mathlib.Core.Bool.{true≢false}
@@ -14,7 +14,7 @@ use Rattle.jm_model.specs.declared.step.Outcome.{Outcome}
 use Rattle.jm_model.specs.declared.step.Outcome.TheVariants.{Fired, Refused, Done, Kept, NoMemory}
 use Rattle.jm_model.specs.declared.step.Entry.{Entry}
 use Rattle.jm_print.specs.Lexicons.{Lexicon, name_of}
-use Rattle.jm_print.specs.Texts.{pairs_text, binding_text, firing_text, step_text, entry_text, history_text, HasNamesFrom, IsPrintableFiring, IsPrintableStep, IsPrintable}
+use Rattle.jm_print.specs.Texts.{binding_text, firing_text, step_text, entry_text, history_text, HasNamesFrom, IsPrintableFiring, IsPrintableStep}
 use Rattle.jm_print.specs.Told.{IsName, AreNames, HasNames, BindsSome, HaveEight, FitsStep, IsTold, AreTold, HaveNames, AreToldBy, texts_of}
 use Rattle.jm_print.proofs.Cutting.{Lacks, cut, name-lacks_line_feed, name-lacks_space, name-lacks_equals, AreDigits, decimal-digits, digits-lack}
 use Rattle.jm_print.proofs.BindingsTold.{name-plain, name-same, pairs-same, pairs_cases, lacks_pairs, no_name}

@@ -1,6 +1,6 @@
 -- The pairs of a binding, printed parameter by parameter.
-use Rattle.std.proofs.Common.{◌≡◌, ◌≢◌, ℕ, zero, suc, ◌+◌, ◌*◌, ◌<◌, ◌≤◌, Bool, true, false, List, [], ◌∷◌, ◌++◌, length, get_or, drop, take, map, refl, sym, ◌∙◌, ap, subst, arith, append_assoc, append-nil}
-use Rattle.std.specs.Prelude.{Option, Some, None, codes, if◌then◌else◌, slice_get, option_and_then}
+use Rattle.std.proofs.Common.{◌≡◌, ◌≢◌, ℕ, ◌+◌, ◌<◌, ◌≤◌, Bool, true, false, List, [], ◌∷◌, ◌++◌, length, get_or, drop, take, refl, sym, ◌∙◌, ap, subst, arith, append_assoc, append-nil}
+use Rattle.std.specs.Prelude.{Option, Some, None, codes, if◌then◌else◌, option_and_then}
 use Rattle.std.specs.List.{flat_map}
 use Rattle.std.proofs.lemmas.List.{drop_more, drop_all, take_more}
 use Rattle.std.proofs.lemmas.Option.{slice_get-get_or}
@@ -8,7 +8,7 @@ use Rattle.std.proofs.lemmas.Grind.{flat_map-append}
 use Rattle.jm_model.specs.declared.binding.Binding.{Binding}
 use Rattle.jm_model.specs.Bindings.{object_at, mask_of}
 use Rattle.jm_print.specs.Lexicons.{Lexicon}
-use Rattle.jm_print.specs.Texts.{pair_text, later_pairs_text, pairs_text, binding_text, HasNamesFrom}
+use Rattle.jm_print.specs.Texts.{pair_text, later_pairs_text, pairs_text, HasNamesFrom}
 
 -- what is still to be printed of the parameters from p on
 abbrev pub rest_text : Bool → Lexicon → ℕ → Binding → List ℕ

@@ -1,11 +1,11 @@
 -- What a text has to know of its names and its entries to be read back.
-use Rattle.std.specs.Prelude.{ℕ, ◌≡◌, ◌≢◌, ◌<◌, ◌^◌, ◌++◌, List, [], ◌∷◌, length, slice_get, Option, Some, None}
+use Rattle.std.specs.Prelude.{ℕ, ◌≡◌, ◌≢◌, ◌<◌, ◌^◌, ◌++◌, List, [], ◌∷◌, length, slice_get, Some, None}
 use Rattle.jm_model.specs.declared.binding.Binding.{Binding}
 use Rattle.jm_model.specs.declared.firings.Firing.{Firing}
 use Rattle.jm_model.specs.declared.step.Step.{Step}
-use Rattle.jm_model.specs.declared.step.Step.TheVariants.{Event, Death, Pass}
+use Rattle.jm_model.specs.declared.step.Step.TheVariants.{Event, Pass}
 use Rattle.jm_model.specs.declared.step.Outcome.{Outcome}
-use Rattle.jm_model.specs.declared.step.Outcome.TheVariants.{Fired, Refused, Done, Kept, NoMemory}
+use Rattle.jm_model.specs.declared.step.Outcome.TheVariants.{Fired, Refused, Kept}
 use Rattle.jm_model.specs.declared.step.Entry.{Entry}
 use Rattle.jm_print.specs.Lexicons.{Lexicon}
 use Rattle.jm_print.specs.Texts.{IsPrintable, history_text}

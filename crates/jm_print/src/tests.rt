@@ -187,3 +187,18 @@ end 6
     assert_eq!(rt; summary.as_slice(), line.as_bytes());
     Ok(())
 }
+
+#[test]
+fn a_history_without_entries(rt: HostRuntime) -> Result<(), Fail> {
+    let alloc = rt.alloc();
+    let table = table(alloc)?;
+    let objects = Names::new(alloc);
+    let categories = categories(alloc)?;
+    let history = History::new();
+    let text = render_history(alloc, "HasNext", &history, &table, &categories, &objects)?;
+    assert_eq!(rt; text.as_slice(), b"spec HasNext\nend 0\n".as_slice());
+    let summary = render_summary(alloc, "HasNext", &history)?;
+    let line = "spec HasNext events 0 fired 0 refused 0 deaths 0 passes 0\n";
+    assert_eq!(rt; summary.as_slice(), line.as_bytes());
+    Ok(())
+}

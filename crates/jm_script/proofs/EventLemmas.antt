@@ -1,5 +1,5 @@
 -- The event that a line names, and a binding of objects to its parameters.
-use Rattle.std.proofs.Common.{◌≡◌, ◌≢◌, ℕ, zero, suc, ◌+◌, ◌*◌, ◌/◌, ◌%◌, cond, true, false, List, [], ◌∷◌, length, Option, Some, None, Result, Ok, Err, option_map, slice_get, refl, sym, ap, ◌∙◌, arith}
+use Rattle.std.proofs.Common.{◌≡◌, ◌≢◌, ℕ, zero, suc, ◌<◌, ◌+◌, ◌*◌, ◌/◌, ◌%◌, cond, true, false, List, [], ◌∷◌, length, Option, Some, None, Result, Ok, Err, option_map, slice_get, refl, sym, ap, ◌∙◌, arith}
 use Rattle.std.specs.Prelude.{filter_map, ◌==◌, count_ones}
 use Rattle.std.specs.Option.{option_map_or}
 use Rattle.std.proofs.lemmas.Bool.Decides.{nat_tests}
@@ -10,6 +10,7 @@ use Rattle.jm_events.specs.Names.{number_of}
 use Rattle.jm_events.specs.Events.{EventDefinitions, event_names}
 use Rattle.jm_script.specs.Catalogs.{CatalogEntry, spec_names, table_of}
 use Rattle.jm_script.specs.Events.{mask_at, counted, event_in, event_at, named_event, spread}
+use Rattle.jm_script.specs.Fitting.{HasEvent}
 use Rattle.jm_script.specs.declared.event.NamedEvent.{NamedEvent}
 
 -- an option that is there, read with a default
@@ -38,6 +39,9 @@ module _ (catalog : List CatalogEntry) (line : ℕ) (spec event : List ℕ) (cou
 
     is_counted : named_event catalog line spec event count ≡ counted line count (record { spec = s; letter = record { 0 = letter }; mask = mask })
     is_counted = in_table ∙ rw (known, mask_is) refl
+
+    pub has_event : s < length catalog → letter < length table.events → HasEvent catalog s letter mask
+    has_event inside below = record { specification = inside; event = rw table_is below; parameters = rw table_is (sym mask_is) }
 
     pub wrong_count : (count_ones mask == count) ≡ false → Err (WrongCount line) ≡ named_event catalog line spec event count
     wrong_count differ = sym (is_counted ∙ rw differ refl)

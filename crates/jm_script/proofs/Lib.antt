@@ -7,3 +7,4 @@ pub mod ProjectionLemmas
 pub mod MeaningLemmas
 pub mod ReadingLemmas
 pub mod SpellingLemmas
+pub mod FittingLemmas

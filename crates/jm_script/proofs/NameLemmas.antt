@@ -5,6 +5,7 @@ use Rattle.std.specs.Str.{bytes_eq}
 use Rattle.std.proofs.lemmas.Bool.{false≢true}
 use Rattle.std.proofs.lemmas.Bool.Decides.{nat_tests}
 use Rattle.std.proofs.lemmas.Option.{none-some, same_Some}
+use Rattle.std.proofs.lemmas.List.{length_push}
 use Rattle.std.proofs.lemmas.Slice.Eq.{bytes_eq-Decides}
 use Rattle.jm_events.specs.Names.{number_of, with_name}
 use Rattle.jm_script.specs.Objects.{number_at_mention}
@@ -82,6 +83,21 @@ number-new names new name k e known at =
     let pushed : new ≡ names ++ name ∷ [] = known ∙ with_name-new names name e in
     let last : k ≡ length names = place_of-push names name k e (ap (λ l. slice_get l k) (sym pushed) ∙ at) in
     rw (with_name-new names name e, number_of-push names name e) last
+
+found_below : (i n k : ℕ) → cond {A = Option ℕ} (ltb i n) (Some i) None ≡ Some k → k < n
+found_below i n k e = grind (arith, nat_tests)
+
+-- a number is one of a name
+pub number_of-below : (names : List (List ℕ)) (name : List ℕ) (k : ℕ) → number_of names name ≡ Some k → k < length names
+number_of-below names name k e = found_below (position_or_len (bytes_eq name) names) (length names) k e
+
+-- and so is that of a mention
+pub number_at_mention-below : (names : List (List ℕ)) (name : List ℕ) → number_at_mention names name < length (with_name names name)
+number_at_mention-below names name = by_case (number_of names name) refl
+  where
+    by_case : (o : Option ℕ) → number_of names name ≡ o → number_at_mention names name < length (with_name names name)
+    by_case None e = rw (with_name-new names name e, number_of-push names name e) (omega (arith, length_push names name))
+    by_case (Some k) e = rw (with_name-known names name k e, e) (number_of-below names name k e)
 
 -- a look-up that answered
 pub is_there : (o : Option ℕ) → is_some o ≡ true → o ≡ None → ⊥

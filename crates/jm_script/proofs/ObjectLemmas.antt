@@ -80,6 +80,9 @@ IsExtension-mentioned old names (word ∷ words) h = IsExtension-mentioned old (
 pub IsExtension-trans : (a b c : List (List ℕ)) → IsExtension a b → IsExtension b c → IsExtension a c
 IsExtension-trans a b c h k = record { added = h.added ++ k.added; at_end = k.at_end ∙ ap (λ l. l ++ k.added) h.at_end ∙ append_assoc a h.added k.added }
 
+pub length-IsExtension : (old new : List (List ℕ)) → IsExtension old new → length old ≤ length new
+length-IsExtension old new h = omega (arith, ap length h.at_end, length-append old h.added)
+
 -- a word that isn't among the names is mentioned behind them
 pub with_name-behind : (names new : List (List ℕ)) (name : List ℕ) → number_of names name ≡ None → with_name (names ++ new) name ≡ names ++ with_name new name
 with_name-behind names new name e =

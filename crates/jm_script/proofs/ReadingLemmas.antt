@@ -9,7 +9,7 @@ use Rattle.jm_script.specs.Meanings.{LineMeaning, ScriptMeaning, line_meaning, w
 use Rattle.jm_model.specs.declared.fault.ScriptError.{ScriptError}
 use Rattle.jm_model.specs.declared.fault.ScriptError.TheVariants.{Bad, NoMemory}
 use Rattle.jm_script.specs.Answers.{IsStoppedBy, IsWhole, IsLeft, count_left}
-use Rattle.jm_script.proofs.ObjectLemmas.{IsExtension-trans}
+use Rattle.jm_script.proofs.ObjectLemmas.{IsExtension-trans, length-IsExtension}
 use Rattle.jm_script.proofs.MeaningLemmas.{line_keeps}
 use Rattle.jm_script.specs.declared.script.Target.{Target}
 use Rattle.jm_script.specs.declared.script.ScriptLine.{ScriptLine}
@@ -40,6 +40,12 @@ module _ (catalog : List CatalogEntry) (bytes : List ℕ) (meaning : ScriptMeani
   module _ (line : List ℕ) (lt : n < length (lines_of bytes)) (here : line ≡ get_or (lines_of bytes) n line) where
     there : behind steps (led_by (n + 1) (count + length steps) names (line_meaning catalog (count + length steps) (n + 1) line names) (λ c o. lines_meaning catalog c (n + 1 + 1) o (drop (n + 1) (lines_of bytes)))) ≡ meaning
     there = ap (λ ls. behind steps (lines_meaning catalog (count + length steps) (n + 1) names ls)) (sym (drop_more (lines_of bytes) n line lt ∙ ap (λ l. l ∷ drop (n + 1) (lines_of bytes)) (sym here))) ∙ before.left
+
+    -- a line leaves the names that are there
+    pub more_names : (target : Option Target) (new : List (List ℕ)) → line_meaning catalog (count + length steps) (n + 1) line names ≡ Ok (record { target = target; names = new }) → length names ≤ length new
+    more_names target new e =
+        let kept = line_keeps catalog (count + length steps) (n + 1) line names (record { target = target; names = new }) before.few_names before.few_steps e in
+        length-IsExtension names new kept.extended
 
     -- a line that is no step
     pub no_step : (new : List (List ℕ)) → line_meaning catalog (count + length steps) (n + 1) line names ≡ Ok (record { target = None; names = new }) → HasRead catalog bytes meaning count old steps new (n + 1)

@@ -7,3 +7,4 @@ pub mod Meanings
 pub mod Answers
 pub mod Projections
 pub mod Spelling
+pub mod Fitting

@@ -1,6 +1,7 @@
 //! The event that a line names.
 ghost use Rattle.std.specs.Prelude.{◌≡◌, ◌<◌, ◌≤◌, length, count_ones, IfOk, OnOk, IsUtf8};
 ghost use Rattle.jm_script.specs.Events.{named_event};
+ghost use Rattle.jm_script.specs.Fitting.{HasEvent};
 
 use crate::catalog::Catalog;
 use crate::words::text;
@@ -25,6 +26,7 @@ pub fn named_event(
     requires spec_text { IsUtf8 spec.now }
     requires event_text { IsUtf8 event.now }
     ensures value { result ≡ named_event catalog.now line spec.now event.now count }
+    ensures there { IfOk result (λ e. HasEvent catalog.now e.spec e.letter.0 e.mask) }
     ensures few { OnOk result (count ≤ 8) }
     ensures counted { IfOk result (λ e. count ≡ count_ones e.mask) }
 {

@@ -1,8 +1,9 @@
 //! What a line means.
-ghost use Rattle.std.specs.Prelude.{◌≤◌, length, map};
+ghost use Rattle.std.specs.Prelude.{◌≤◌, length, map, IfOk, IfSome};
 ghost use Rattle.jm_script.specs.Statements.{statement_of};
 ghost use Rattle.jm_script.specs.Meanings.{statement_meaning, line_meaning};
 ghost use Rattle.jm_script.specs.Answers.{IsReadAs};
+ghost use Rattle.jm_script.specs.Fitting.{FitsTarget};
 
 use crate::catalog::Catalog;
 use crate::script::Target;
@@ -22,7 +23,8 @@ pub fn read_line<'a>(
     names: &mut Names,
 ) -> Result<Option<Target>, ScriptError>
     requires { length names.old ≤ 65536 }
-    ensures { IsReadAs (line_meaning catalog.now place.count place.line line.now names.old) names.old result names.new }
+    ensures fits { IfOk result (λ target. IfSome target (FitsTarget catalog.now (length names.new))) }
+    ensures read { IsReadAs (line_meaning catalog.now place.count place.line line.now names.old) names.old result names.new }
 {
     let Ok(()) = read_words(line, words) else {
         return Err(ScriptError::NoMemory);
@@ -43,7 +45,8 @@ fn words_line(
     names: &mut Names,
 ) -> Result<Option<Target>, ScriptError>
     requires { length names.old ≤ 65536 }
-    ensures { IsReadAs (statement_meaning catalog.now place.count place.line names.old (statement_of word.now (map (λ w. w.now) rest.now))) names.old result names.new }
+    ensures fits { IfOk result (λ target. IfSome target (FitsTarget catalog.now (length names.new))) }
+    ensures read { IsReadAs (statement_meaning catalog.now place.count place.line names.old (statement_of word.now (map (λ w. w.now) rest.now))) names.old result names.new }
 {
     if is_word(word, b"death") {
         death_line(alloc, place, rest, names)

@@ -1,5 +1,5 @@
 //! The three shapes of a line: an event with its objects, a death and a disposal pass.
-ghost use Rattle.std.specs.Prelude.{◌≡◌, ◌<◌, ◌≤◌, ◌==◌, ◌&&◌, ℕ, ◌+◌, List, drop, length, map, take, nat_le, not, IsTrue, OnOk, IfOk, IfErr};
+ghost use Rattle.std.specs.Prelude.{◌≡◌, ◌<◌, ◌≤◌, ◌==◌, ◌&&◌, ℕ, ◌+◌, List, drop, length, map, take, nat_le, not, IsTrue, OnOk, IfOk, IfErr, IfSome};
 ghost use Rattle.std.specs.List.{list_all};
 ghost use Rattle.jm_script.specs.declared.script.Target.{Target};
 ghost use Rattle.jm_script.specs.Statements.{is_name, is_object, event_statement, death_statement, pass_statement};
@@ -7,6 +7,7 @@ ghost use Rattle.jm_script.specs.Catalogs.{CatalogEntry};
 ghost use Rattle.jm_script.specs.Objects.{mentioned, numbers_of};
 ghost use Rattle.jm_script.specs.Meanings.{mentioning, statement_meaning};
 ghost use Rattle.jm_script.specs.Answers.{IsStoppedBy, IsReadAs};
+ghost use Rattle.jm_script.specs.Fitting.{FitsTarget};
 
 use crate::catalog::Catalog;
 use crate::event::named_event;
@@ -57,7 +58,8 @@ pub fn event_line(
     names: &mut Names,
 ) -> Result<Option<Target>, ScriptError>
     requires { length names.old ≤ 65536 }
-    ensures { IsReadAs (statement_meaning catalog.now place.count place.line names.old (event_statement word.now (map (λ w. w.now) objects.now))) names.old result names.new }
+    ensures fits { IfOk result (λ target. IfSome target (FitsTarget catalog.now (length names.new))) }
+    ensures read { IsReadAs (statement_meaning catalog.now place.count place.line names.old (event_statement word.now (map (λ w. w.now) objects.now))) names.old result names.new }
 {
     let dot = dot_place(word);
     let spec = &word[..dot];
@@ -137,7 +139,8 @@ pub fn death_line(
     names: &mut Names,
 ) -> Result<Option<Target>, ScriptError>
     requires { length names.old ≤ 65536 }
-    ensures { (catalog : List CatalogEntry) → IsReadAs (statement_meaning catalog place.count place.line names.old (death_statement (map (λ w. w.now) words.now))) names.old result names.new }
+    ensures fits { (catalog : List CatalogEntry) → IfOk result (λ target. IfSome target (FitsTarget catalog (length names.new))) }
+    ensures read { (catalog : List CatalogEntry) → IsReadAs (statement_meaning catalog place.count place.line names.old (death_statement (map (λ w. w.now) words.now))) names.old result names.new }
 {
     if !is_one_object(words) {
         return Err(place.bad_line());
@@ -164,7 +167,8 @@ pub fn pass_line(
     place: Place,
     words: &[&[u8]],
 ) -> Result<Option<Target>, ScriptError>
-    ensures { (names : List (List ℕ)) → IsReadAs (statement_meaning catalog.now place.count place.line names (pass_statement (map (λ w. w.now) words.now))) names result names }
+    ensures fits { (names : ℕ) → IfOk result (λ target. IfSome target (FitsTarget catalog.now names)) }
+    ensures read { (names : List (List ℕ)) → IsReadAs (statement_meaning catalog.now place.count place.line names (pass_statement (map (λ w. w.now) words.now))) names result names }
 {
     let [spec] = words else {
         return Err(place.bad_line());

@@ -102,13 +102,21 @@ fn reads(rt: HostRuntime) -> Result<(), Fail> {
 
 /// How the reading of a script ends, and how many names and steps it leaves.
 fn ending(alloc: Global, bytes: &[u8]) -> Result<(Option<ScriptError>, u32, u32), Fail> {
-    let catalog = catalog(alloc)?;
+    ending_over(alloc, &catalog(alloc)?, bytes)
+}
+
+/// The same over this catalog.
+fn ending_over(
+    alloc: Global,
+    catalog: &Catalog,
+    bytes: &[u8],
+) -> Result<(Option<ScriptError>, u32, u32), Fail> {
     let mut names = Names::new(alloc);
     let mut count = 0;
     if bytes.len() >= 1000 {
         return Ok((None, 0, 0));
     }
-    let answer = read_script(alloc, bytes, &catalog, &mut names, &mut count);
+    let answer = read_script(alloc, bytes, catalog, &mut names, &mut count);
     Ok((answer.err(), names.len(), count))
 }
 
@@ -260,5 +268,151 @@ fn projects(rt: HostRuntime) -> Result<(), Fail> {
             assert_eq!(rt; (*line, found), (*wanted_line, *kind));
         }
     }
+    Ok(())
+}
+
+/// `HasNext` with the events `hasnext(i)` and `next(i)`.
+fn has_next(alloc: Global) -> Result<EventTable, Fail> {
+    let mut table = EventTable::new(alloc);
+    table.add_param("i", 1)?;
+    table.add_event("hasnext", 1, false, 2)?;
+    table.add_event("next", 1, false, 3)?;
+    Ok(table)
+}
+
+/// `UnsafeIter` with the events `create(c, i)`, `update(c)` and `next(i)`.
+fn unsafe_iter(alloc: Global) -> Result<EventTable, Fail> {
+    let mut table = EventTable::new(alloc);
+    table.add_param("c", 1)?;
+    table.add_param("i", 1)?;
+    table.add_event("create", 3, false, 2)?;
+    table.add_event("update", 1, false, 4)?;
+    table.add_event("next", 2, false, 5)?;
+    Ok(table)
+}
+
+/// One specification.
+fn alone(alloc: Global, name: &str, table: EventTable) -> Result<Catalog, Fail> {
+    let mut catalog = Catalog::new(alloc);
+    catalog.add(name, table)?;
+    Ok(catalog)
+}
+
+/// `HasNext` and `UnsafeIter`.
+fn iterators(alloc: Global) -> Result<Catalog, Fail> {
+    let mut catalog = Catalog::new(alloc);
+    catalog.add("HasNext", has_next(alloc)?)?;
+    catalog.add("UnsafeIter", unsafe_iter(alloc)?)?;
+    Ok(catalog)
+}
+
+/// The steps of a script that are for a specification.
+fn projected(alloc: Global, script: &Script, spec: u8) -> Result<String, Fail> {
+    let mut out = String::new(alloc);
+    for (number, step) in &project(alloc, script, spec)? {
+        let one = match step {
+            Step::Event { letter, binding } => {
+                let letter = letter.0;
+                let objects = bound(alloc, binding)?;
+                format!(in alloc; "{number}:{letter}{objects};")?
+            }
+            Step::Death { object } => format!(in alloc; "{number}:death {object};")?,
+            Step::Pass => format!(in alloc; "{number}:pass;")?,
+        };
+        out.push_str(one.as_str())?;
+    }
+    Ok(out)
+}
+
+#[test]
+fn reads_and_projects_scripts_on_iterators(rt: HostRuntime) -> Result<(), Fail> {
+    let alloc = rt.alloc();
+    let catalog = iterators(alloc)?;
+    let rows = [
+        (
+            "UnsafeIter.create c1 i1\nUnsafeIter.update c1\nUnsafeIter.next i1\n",
+            "1:1.0 0=0 1=1;2:1.1 0=0;3:1.2 1=1;",
+            "",
+            "1:0 0=0 1=1;2:1 0=0;3:2 1=1;",
+        ),
+        (
+            "death c1\ndeath c1\nUnsafeIter.update c1\n",
+            "1:death 0;2:death 0;3:1.1 0=0;",
+            "1:death 0;2:death 0;",
+            "1:death 0;2:death 0;3:1 0=0;",
+        ),
+        (
+            "UnsafeIter.create c1 i1\nHasNext.next i1\ndeath c1\npass HasNext\n",
+            "1:1.0 0=0 1=1;2:0.1 0=1;3:death 0;4:pass 0;",
+            "2:1 0=1;3:death 0;4:pass;",
+            "1:0 0=0 1=1;3:death 0;",
+        ),
+    ];
+    for (text, whole, has_next, unsafe_iter) in rows {
+        assert!(rt; text.len() < 1000);
+        let mut names = Names::new(alloc);
+        let mut count = 0;
+        let script = read_script(alloc, text.as_bytes(), &catalog, &mut names, &mut count)?;
+        assert_eq!(rt; shown(alloc, &script)?.as_str(), whole);
+        assert_eq!(rt; projected(alloc, &script, 0)?.as_str(), has_next);
+        assert_eq!(rt; projected(alloc, &script, 1)?.as_str(), unsafe_iter);
+    }
+    Ok(())
+}
+
+#[test]
+fn refuses_faulty_scripts_on_unsafe_iter(rt: HostRuntime) -> Result<(), Fail> {
+    let alloc = rt.alloc();
+    let catalog = alone(alloc, "UnsafeIter", unsafe_iter(alloc)?)?;
+    let rows: [(&[u8], ScriptFault, u32); 3] = [
+        (
+            b"UnsafeIter.create c1\n",
+            ScriptFault::WrongCount { line: 1 },
+            0,
+        ),
+        (
+            b"UnsafeIter.close c1\n",
+            ScriptFault::UnknownEvent { line: 1 },
+            0,
+        ),
+        (
+            b"UnsafeIter.update c1\nHasNext.close\n",
+            ScriptFault::UnknownSpec { line: 2 },
+            1,
+        ),
+    ];
+    for (bytes, fault, left) in rows {
+        let error = Some(ScriptError::Bad(fault));
+        assert_eq!(rt; ending_over(alloc, &catalog, bytes)?, (error, left, left));
+    }
+    Ok(())
+}
+
+#[test]
+fn refuses_an_event_without_its_specification(rt: HostRuntime) -> Result<(), Fail> {
+    let alloc = rt.alloc();
+    let catalog = alone(alloc, "HasNext", has_next(alloc)?)?;
+    let error = Some(ScriptError::Bad(ScriptFault::BadLine { line: 2 }));
+    let end = ending_over(alloc, &catalog, b"HasNext.next i1\nnext i1\n")?;
+    assert_eq!(rt; end, (error, 1, 1));
+    Ok(())
+}
+
+#[test]
+fn numbers_objects_over_two_scripts(rt: HostRuntime) -> Result<(), Fail> {
+    let alloc = rt.alloc();
+    let catalog = iterators(alloc)?;
+    let mut names = Names::new(alloc);
+    let mut count = 0;
+    let first = b"UnsafeIter.create c1 i1 # \xff\r\n";
+    let script = read_script(alloc, first, &catalog, &mut names, &mut count)?;
+    assert_eq!(rt; shown(alloc, &script)?.as_str(), "1:1.0 0=0 1=1;");
+    assert!(rt; count < 1000 && names.len() < 1000);
+    let second = b"\t\nHasNext.next i2\r\nUnsafeIter.create c1 c1\ndeath i1";
+    let script = read_script(alloc, second, &catalog, &mut names, &mut count)?;
+    let wanted = "2:0.1 0=2;3:1.0 0=0 1=0;4:death 1;";
+    assert_eq!(rt; shown(alloc, &script)?.as_str(), wanted);
+    assert_eq!(rt; (names.len(), count), (3, 4));
+    assert_eq!(rt; names.name(2), "i2");
     Ok(())
 }

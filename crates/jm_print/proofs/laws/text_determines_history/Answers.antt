@@ -1,5 +1,4 @@
-use Rattle.std.proofs.Common.{◌≡◌, ◌++◌, ℕ, List, [], sym, ◌∙◌, ap}
-use Rattle.jm_print.specs.Texts.{history_text}
+use Rattle.std.proofs.Common.{◌++◌, ℕ, List, [], ap}
 use Rattle.jm_print.proofs.HistoriesTold.{histories_are_told}
 use Rattle.jm_print.proofs.laws.text_determines_history.Goals as goal
 

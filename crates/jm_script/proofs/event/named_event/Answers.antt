@@ -2,7 +2,7 @@ use Rattle.std.proofs.Common.{sym, ap, ◌∙◌, option_map, eq-eqb}
 use Rattle.jm_events.specs.Names.{number_of}
 use Rattle.jm_events.specs.Events.{event_names}
 use Rattle.jm_script.specs.Catalogs.{spec_names}
-use Rattle.jm_script.proofs.EventLemmas.{unknown_spec, unknown_event, wrong_count, event_found, differs}
+use Rattle.jm_script.proofs.EventLemmas.{unknown_spec, unknown_event, wrong_count, has_event, event_found, differs}
 use Rattle.jm_script.proofs.event.named_event.Goals as goal
 
 pub returns-in_default-clause-value : goal.returns-in_default-clause-value
@@ -29,3 +29,10 @@ returns-clause-value c =
     let known = ap (number_of (event_names c.table-table.result.now)) (sym c.text-2.ensures) ∙ sym c.in-Some-letter.ensures.value in
     event_found c.args.catalog.now c.args.line c.args.spec.now c.args.event.now c.args.count c.in-Some.spec c.table-table.result.now found c.table-table.ensures
     c.in-Some-letter.letter.0 c.mask-mask.result known c.mask-mask.ensures.value (eq-eqb _ _ c.if-mask-count.false)
+
+pub returns-clause-there : goal.returns-clause-there
+returns-clause-there c =
+    let found = ap (number_of (spec_names c.args.catalog.now)) (sym c.text.ensures) ∙ sym c.in-Some.ensures.value in
+    let known = ap (number_of (event_names c.table-table.result.now)) (sym c.text-2.ensures) ∙ sym c.in-Some-letter.ensures.value in
+    has_event c.args.catalog.now c.args.line c.args.spec.now c.args.event.now c.args.count c.in-Some.spec c.table-table.result.now found c.table-table.ensures
+    c.in-Some-letter.letter.0 c.mask-mask.result known c.mask-mask.ensures.value c.in-Some.ensures.within c.in-Some-letter.ensures.within

@@ -1,3 +1,4 @@
+use Rattle.std.proofs.Common.{length}
 use Rattle.jm_script.proofs.line.words_line.Goals as goal
 
 pub death_line-requires : goal.death_line-requires
@@ -5,3 +6,9 @@ death_line-requires c = c.requires
 
 pub event_line-requires : goal.event_line-requires
 event_line-requires c = c.requires
+
+pub returns-then-is_word-clause-fits : goal.returns-then-is_word-clause-fits
+returns-then-is_word-clause-fits c = c.death_line.ensures.fits c.args.catalog.now
+
+pub returns-then-is_word-2-clause-fits : goal.returns-then-is_word-2-clause-fits
+returns-then-is_word-2-clause-fits c = c.pass_line.ensures.fits (length c.args.names.now)

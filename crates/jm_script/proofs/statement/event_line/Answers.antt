@@ -4,6 +4,7 @@ use Rattle.jm_script.specs.declared.script.Target.TheVariants as target
 use Rattle.jm_script.proofs.WordLemmas.{both_left, both_right, name_utf8}
 use Rattle.jm_script.proofs.ObjectLemmas.{texts, length-texts}
 use Rattle.jm_script.proofs.EventLemmas.{spread_is}
+use Rattle.jm_script.proofs.FittingLemmas.{numbers_of-below}
 use Rattle.jm_script.proofs.MeaningLemmas.{event_steps, mentions, stopped}
 use Rattle.jm_script.proofs.statement.event_line.Goals as goal
 
@@ -13,8 +14,8 @@ named_event-requires-clause-spec_text c = name_utf8 _ (both_left _ _ (both_left 
 pub named_event-requires-clause-event_text : goal.named_event-requires-clause-event_text
 named_event-requires-clause-event_text c = name_utf8 _ (both_right _ _ (both_left _ _ (sym c.is_event_line.ensures ∙ c.if-not-is_event_line.false)))
 
-pub returns-in-Err-numbers : goal.returns-in-Err-numbers
-returns-in-Err-numbers c =
+pub returns-in-Err-numbers-clause-read : goal.returns-in-Err-numbers-clause-read
+returns-in-Err-numbers-clause-read c =
     stopped _ _ _ _ _
     (event_steps c.args.catalog.now c.args.place.count c.args.place.line c.args.names.now c.args.word.now _ _ (texts c.args.objects.now) (length c.args.objects.now) c.in-Ok.event
     (ap (λ n. take n c.args.word.now) c.dot_place-dot.ensures.value)
@@ -25,8 +26,15 @@ returns-in-Err-numbers c =
     c.in-Ok.ensures.value)
     (c.in-Err-numbers.ensures.err (λ numbers. target.Event c.in-Ok.event.spec c.in-Ok.event.letter (spread 8 c.in-Ok.event.mask numbers)))
 
-pub returns : goal.returns
-returns c =
+pub returns-clause-fits : goal.returns-clause-fits
+returns-clause-fits c = record {
+  event = rw c.of-binding.ensures.mask c.in-Ok.ensures.there;
+  eight = c.of-binding.ensures.eight;
+  named = rw (c.of-binding.ensures.objects, c.in-Ok-numbers.ensures.numbers, c.in-Ok-numbers.ensures.ok) (numbers_of-below c.args.names.now (texts c.args.objects.now));
+}
+
+pub returns-clause-read : goal.returns-clause-read
+returns-clause-read c =
     mentions _ c.args.place.line c.args.names.now (texts c.args.objects.now) _ (λ numbers. target.Event c.in-Ok.event.spec c.in-Ok.event.letter (spread 8 c.in-Ok.event.mask numbers)) _
     (event_steps c.args.catalog.now c.args.place.count c.args.place.line c.args.names.now c.args.word.now _ _ (texts c.args.objects.now) (length c.args.objects.now) c.in-Ok.event
     (ap (λ n. take n c.args.word.now) c.dot_place-dot.ensures.value)

@@ -1,4 +1,4 @@
-use Rattle.std.proofs.Common.{◌≡◌, ◌≢◌, ◌++◌, drop, length, true}
+use Rattle.std.proofs.Common.{◌≡◌, ◌≢◌, ◌++◌, drop, true}
 use Rattle.jm_model.specs.Bindings.{mask_of}
 use Rattle.jm_print.specs.Texts.{binding_text, HasNamesFrom}
 use Rattle.jm_print.proofs.PairLemmas.{rest_text}

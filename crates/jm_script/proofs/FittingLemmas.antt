@@ -1,0 +1,55 @@
+-- Targets fit the specifications and the names that there are.
+use Rattle.std.proofs.Common.{◌≡◌, ℕ, zero, suc, ◌<◌, ◌≤◌, true, List, [], ◌∷◌, take, length, get_or, refl, ap, ◌∙◌, arith}
+use Rattle.std.specs.Prelude.{All, ◌==◌}
+use Rattle.std.proofs.lemmas.Bool.Decides.{nat_tests}
+use Rattle.std.proofs.lemmas.List.Elements.{All-nil, All-cons, All-weaker}
+use Rattle.jm_model.specs.Bindings.{objects_of}
+use Rattle.jm_events.specs.Names.{with_name}
+use Rattle.jm_script.specs.Objects.{mentioned, number_at_mention, numbers_of}
+use Rattle.jm_script.specs.Catalogs.{CatalogEntry}
+use Rattle.jm_script.specs.Fitting.{FitsEvent, FitsTarget, FitsCatalog}
+use Rattle.jm_script.specs.declared.script.Target.{Target}
+use Rattle.jm_script.specs.declared.script.Target.TheVariants.{Event, Death, Pass}
+use Rattle.jm_script.specs.declared.script.ScriptLine.{ScriptLine}
+use Rattle.jm_script.proofs.NameLemmas.{number_at_mention-below}
+use Rattle.jm_script.proofs.ObjectLemmas.{IsExtension-none, IsExtension-mentioned, length-IsExtension}
+
+-- each number of a mention is one of a name
+pub numbers_of-below : (names words : List (List ℕ)) → All (λ n. n < length (mentioned names words)) (numbers_of names words)
+numbers_of-below names [] = All-nil (λ n. n < length names)
+numbers_of-below names (word ∷ words) =
+    let then = with_name names word in
+    let more = length-IsExtension then (mentioned then words) (IsExtension-mentioned then then words (IsExtension-none then)) in
+    let first : number_at_mention names word < length (mentioned then words) = omega (arith, more, number_at_mention-below names word) in
+    All-cons (λ n. n < length (mentioned then words)) (number_at_mention names word) (numbers_of then words) first (numbers_of-below then words)
+
+head_is : (x : ℕ) (numbers : List ℕ) → take 1 numbers ≡ x ∷ [] → get_or numbers 0 0 ≡ x
+head_is x [] e = cc
+head_is x (y ∷ numbers) e = cc
+
+-- and so is that of a single word
+pub first_below : (names words : List (List ℕ)) (numbers : List ℕ) (n : ℕ) → n ≡ length words → (n == 1) ≡ true → take n numbers ≡ numbers_of names words → get_or numbers 0 0 < length (mentioned names words)
+first_below names [] numbers n e one here = absurd (not_one n e one)
+  where
+    not_one : (n : ℕ) → n ≡ 0 → (n == 1) ≡ true → ⊥
+    not_one n e one = grind (arith, nat_tests)
+first_below names (word ∷ []) numbers n e one here =
+    let single : n ≡ 1 = e in
+    let first = head_is (number_at_mention names word) numbers (rw single at here) in
+    rw first (number_at_mention-below names word)
+first_below names (word ∷ other ∷ words) numbers n e one here = absurd (not_one n (length words) e one)
+  where
+    not_one : (n k : ℕ) → n ≡ suc (suc k) → (n == 1) ≡ true → ⊥
+    not_one n k e one = grind (arith, nat_tests)
+
+-- with more names a target still fits
+pub FitsTarget-more : (catalog : List CatalogEntry) (m n : ℕ) → m ≤ n → (t : Target) → FitsTarget catalog m t → FitsTarget catalog n t
+FitsTarget-more catalog m n le (Event spec letter binding) h =
+    let below : (o : ℕ) → o < m → o < n = λ o lt. omega arith in
+    record { event = h.event; eight = h.eight; named = All-weaker (λ o. o < m) (λ o. o < n) below (objects_of binding) h.named }
+FitsTarget-more catalog m n le (Death object) h = omega arith
+FitsTarget-more catalog m n le (Pass spec) h = h
+
+pub FitsCatalog-more : (catalog : List CatalogEntry) (m n : ℕ) → m ≤ n → (script : List ScriptLine) → FitsCatalog catalog m script → FitsCatalog catalog n script
+FitsCatalog-more catalog m n le script h =
+    All-weaker (λ l. FitsTarget catalog m l.target) (λ l. FitsTarget catalog n l.target) (λ l fits. FitsTarget-more catalog m n le l.target fits) script h
