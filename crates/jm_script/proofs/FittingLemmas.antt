@@ -1,13 +1,17 @@
 -- Targets fit the specifications and the names that there are.
-use Rattle.std.proofs.Common.{◌≡◌, ℕ, zero, suc, ◌<◌, ◌≤◌, true, List, [], ◌∷◌, take, length, get_or, refl, ap, ◌∙◌, arith}
+use Rattle.std.proofs.Common.{◌≡◌, ℕ, zero, suc, ◌<◌, ◌≤◌, Bool, true, false, cond, List, [], ◌∷◌, ◌++◌, map, filter, take, drop, length, get_or, refl, sym, ap, ◌∙◌, arith}
 use Rattle.std.specs.Prelude.{All, ◌==◌}
 use Rattle.std.proofs.lemmas.Bool.Decides.{nat_tests}
-use Rattle.std.proofs.lemmas.List.Elements.{All-nil, All-cons, All-weaker}
+use Rattle.std.proofs.lemmas.List.{drop_all}
+use Rattle.std.proofs.lemmas.List.Elements.{All-nil, All-cons, All-head, All-tail, All-weaker}
 use Rattle.jm_model.specs.Bindings.{objects_of}
 use Rattle.jm_events.specs.Names.{with_name}
+use Rattle.jm_model.specs.declared.step.Step.{Step}
+use Rattle.jm_semantics.specs.Scripts.{projection_of, is_for}
+use Rattle.jm_script.specs.Projections.{script_of, spec_of, step_of, line_of}
 use Rattle.jm_script.specs.Objects.{mentioned, number_at_mention, numbers_of}
 use Rattle.jm_script.specs.Catalogs.{CatalogEntry}
-use Rattle.jm_script.specs.Fitting.{FitsEvent, FitsTarget, FitsCatalog}
+use Rattle.jm_script.specs.Fitting.{FitsEvent, FitsTarget, FitsCatalog, FitsSpecification}
 use Rattle.jm_script.specs.declared.script.Target.{Target}
 use Rattle.jm_script.specs.declared.script.Target.TheVariants.{Event, Death, Pass}
 use Rattle.jm_script.specs.declared.script.ScriptLine.{ScriptLine}
@@ -53,3 +57,32 @@ FitsTarget-more catalog m n le (Pass spec) h = h
 pub FitsCatalog-more : (catalog : List CatalogEntry) (m n : ℕ) → m ≤ n → (script : List ScriptLine) → FitsCatalog catalog m script → FitsCatalog catalog n script
 FitsCatalog-more catalog m n le script h =
     All-weaker (λ l. FitsTarget catalog m l.target) (λ l. FitsTarget catalog n l.target) (λ l fits. FitsTarget-more catalog m n le l.target fits) script h
+
+for_same : (q s : ℕ) → (q == s) ≡ true → q ≡ s
+for_same q s e = grind (arith, nat_tests)
+
+-- the step of a target that is for a specification fits it
+step_fits : (catalog : List CatalogEntry) (names spec : ℕ) (t : Target) → is_for spec (spec_of t) ≡ true → FitsTarget catalog names t → FitsSpecification catalog names spec (step_of t)
+step_fits catalog names spec (Event s letter binding) e h = rw (for_same s spec e) at h
+step_fits catalog names spec (Death object) e h = h
+step_fits catalog names spec (Pass s) e h = tt
+
+-- and so do the steps of a projection
+projection_fits : (catalog : List CatalogEntry) (names spec : ℕ) (ls : List ScriptLine) → FitsCatalog catalog names ls → All (λ (s : ℕ × Step). FitsSpecification catalog names spec s.1) (projection_of (script_of ls) spec)
+projection_fits catalog names spec [] h = All-nil (λ (s : ℕ × Step). FitsSpecification catalog names spec s.1)
+projection_fits catalog names spec (l ∷ ls) h = by_case (is_for spec (spec_of l.target)) refl (projection_fits catalog names spec ls (All-tail (λ l. FitsTarget catalog names l.target) l ls h))
+  where
+    by_case : (b : Bool) → is_for spec (spec_of l.target) ≡ b → All (λ (s : ℕ × Step). FitsSpecification catalog names spec s.1) (projection_of (script_of ls) spec) → All (λ (s : ℕ × Step). FitsSpecification catalog names spec s.1) (map (λ l. (l.line, l.step)) (cond b (line_of l ∷ filter (λ l. is_for spec l.spec) (script_of ls)) (filter (λ l. is_for spec l.spec) (script_of ls))))
+    by_case true e rest = All-cons (λ (s : ℕ × Step). FitsSpecification catalog names spec s.1) (l.line, step_of l.target) (projection_of (script_of ls) spec) (step_fits catalog names spec l.target e (All-head (λ l. FitsTarget catalog names l.target) l ls h)) rest
+    by_case false e rest = rest
+
+append_none : {A : Type 0} (xs : List A) → xs ++ [] ≡ xs
+append_none [] = refl
+append_none (x ∷ xs) = ap (λ rest. x ∷ rest) (append_none xs)
+
+-- also as they are listed: no line is left
+pub projected_fits : (catalog : List CatalogEntry) (names spec : ℕ) (ls : List ScriptLine) (steps : List (ℕ × Step)) (i : ℕ) → length ls ≤ i → steps ++ projection_of (script_of (drop i ls)) spec ≡ projection_of (script_of ls) spec → FitsCatalog catalog names ls → All (λ (s : ℕ × Step). FitsSpecification catalog names spec s.1) steps
+projected_fits catalog names spec ls steps i all e h =
+    let none : drop i ls ≡ [] = drop_all i ls all in
+    let whole : steps ≡ projection_of (script_of ls) spec = sym (append_none steps) ∙ (rw none at e) in
+    rw whole (projection_fits catalog names spec ls h)

@@ -2,6 +2,8 @@
 use Rattle.std.specs.Prelude.{ℕ, ◌≡◌, ◌<◌, List, length, All}
 use Rattle.jm_model.specs.declared.binding.Binding.{Binding}
 use Rattle.jm_model.specs.Bindings.{mask_of, objects_of}
+use Rattle.jm_model.specs.declared.step.Step.{Step}
+use Rattle.jm_model.specs.declared.step.Step.TheVariants.{Event as EventStep, Death as DeathStep, Pass as PassStep}
 use Rattle.jm_script.specs.Catalogs.{CatalogEntry, table_of}
 use Rattle.jm_script.specs.Events.{mask_at}
 use Rattle.jm_script.specs.declared.script.Target.{Target}
@@ -29,3 +31,9 @@ FitsTarget catalog names (Pass spec) = spec < length catalog
 -- each step of a script has such a target
 abbrev pub FitsCatalog : List CatalogEntry → ℕ → List ScriptLine → Type 0
 FitsCatalog catalog names script = All (λ l. FitsTarget catalog names l.target) script
+
+-- a step for the specification of this number: its event is one of it, and its objects have names
+abbrev pub FitsSpecification : List CatalogEntry → ℕ → ℕ → Step → Type 0
+FitsSpecification catalog names spec (EventStep letter binding) = FitsEvent catalog names spec letter.0 binding
+FitsSpecification catalog names spec (DeathStep object) = object < names
+FitsSpecification catalog names spec PassStep = Unit {0}

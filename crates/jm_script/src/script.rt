@@ -1,7 +1,9 @@
 //! A script that was read, and its projections.
-ghost use Rattle.std.specs.Prelude.{◌≡◌, IfOk, Some, None, if◌then◌else◌};
+ghost use Rattle.std.specs.Prelude.{◌≡◌, ℕ, List, All, IfOk, Some, None, if◌then◌else◌};
 ghost use Rattle.jm_semantics.specs.Scripts.{projection_of, is_for};
 ghost use Rattle.jm_script.specs.Projections.{script_of, spec_of, step_of};
+ghost use Rattle.jm_script.specs.Catalogs.{CatalogEntry};
+ghost use Rattle.jm_script.specs.Fitting.{FitsCatalog, FitsSpecification};
 
 use jm_model::{Binding, Letter, NoMemory, Step};
 use std::alloc::Global;
@@ -82,7 +84,8 @@ impl Script {
 /// The steps of a script that are for a specification, with the numbers of their lines: its events and passes, and all
 /// deaths.
 pub fn project(alloc: Global, script: &Script, spec: u8) -> Result<Vec<(u32, Step)>, NoMemory>
-    ensures { IfOk result (λ steps. steps.items ≡ projection_of (script_of script.now) spec) }
+    ensures value { IfOk result (λ steps. steps.items ≡ projection_of (script_of script.now) spec) }
+    ensures fitting { (catalog : List CatalogEntry) (names : ℕ) → FitsCatalog catalog names script.now → IfOk result (λ steps. All (λ s. FitsSpecification catalog names spec s.1) steps.items) }
 {
     let mut steps = Vec::new(alloc);
     for line in script.lines() {
