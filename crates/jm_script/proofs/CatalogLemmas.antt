@@ -1,8 +1,8 @@
 -- A catalog as the list of its specifications.
-use Rattle.std.proofs.Common.{ℕ, zero, suc, ◌≡◌, ◌<◌, ◌≤◌, ◌+◌, List, [], ◌∷◌, ◌++◌, map, length, get_or, slice_get, Option, Some, None, option_map, refl, ap, arith}
+use Rattle.std.proofs.Common.{ℕ, zero, suc, ◌≡◌, ◌<◌, ◌≤◌, List, [], ◌∷◌, ◌++◌, length, get_or, slice_get, Some, option_map, refl, ap, arith}
 use Rattle.std.proofs.lemmas.List.{length_push}
 use Rattle.jm_events.specs.Events.{EventDefinitions}
-use Rattle.jm_script.specs.Catalogs.{CatalogEntry, spec_names, entries_of}
+use Rattle.jm_script.specs.Catalogs.{spec_names, entries_of}
 
 -- the names of the specifications are the names
 pub names-entries_of : (names : List (List ℕ)) (tables : List EventDefinitions) → length tables ≡ length names → spec_names (entries_of names tables) ≡ names

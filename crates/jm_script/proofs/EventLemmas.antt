@@ -1,17 +1,15 @@
 -- The event that a line names, and a binding of objects to its parameters.
-use Rattle.std.proofs.Common.{◌≡◌, ◌≢◌, ℕ, zero, suc, ◌<◌, ◌+◌, ◌*◌, ◌/◌, ◌%◌, cond, true, false, List, [], ◌∷◌, length, Option, Some, None, Result, Ok, Err, option_map, slice_get, refl, sym, ap, ◌∙◌, arith}
-use Rattle.std.specs.Prelude.{filter_map, ◌==◌, count_ones}
+use Rattle.std.proofs.Common.{◌≡◌, ◌≢◌, ℕ, suc, ◌<◌, ◌+◌, ◌*◌, ◌/◌, ◌%◌, true, false, List, [], ◌∷◌, length, Option, Some, None, Ok, Err, option_map, slice_get, refl, sym, ap, ◌∙◌, arith}
+use Rattle.std.specs.Prelude.{◌==◌, count_ones}
 use Rattle.std.specs.Option.{option_map_or}
 use Rattle.std.proofs.lemmas.Bool.Decides.{nat_tests}
 use Rattle.jm_model.specs.Bindings.{mask_of, objects_of}
-use Rattle.jm_model.specs.declared.fault.ScriptFault.{ScriptFault}
 use Rattle.jm_model.specs.declared.fault.ScriptFault.TheVariants.{UnknownSpec, UnknownEvent, WrongCount}
 use Rattle.jm_events.specs.Names.{number_of}
 use Rattle.jm_events.specs.Events.{EventDefinitions, event_names}
 use Rattle.jm_script.specs.Catalogs.{CatalogEntry, spec_names, table_of}
-use Rattle.jm_script.specs.Events.{mask_at, counted, event_in, event_at, named_event, spread}
+use Rattle.jm_script.specs.Events.{mask_at, counted, event_in, named_event, spread}
 use Rattle.jm_script.specs.Fitting.{HasEvent}
-use Rattle.jm_script.specs.declared.event.NamedEvent.{NamedEvent}
 
 -- an option that is there, read with a default
 pub read_there : {X Y : Type 0} (f : X → Y) (o : Option X) (d y : Y) → option_map f o ≡ Some y → option_map_or f o d ≡ y

@@ -1,5 +1,5 @@
 -- Targets fit the specifications and the names that there are.
-use Rattle.std.proofs.Common.{◌≡◌, ℕ, zero, suc, ◌<◌, ◌≤◌, Bool, true, false, cond, List, [], ◌∷◌, ◌++◌, map, filter, take, drop, length, get_or, refl, sym, ap, ◌∙◌, arith}
+use Rattle.std.proofs.Common.{◌≡◌, ℕ, suc, ◌<◌, ◌≤◌, Bool, true, false, cond, List, [], ◌∷◌, ◌++◌, map, filter, take, drop, length, get_or, refl, sym, ap, ◌∙◌, arith}
 use Rattle.std.specs.Prelude.{All, ◌==◌}
 use Rattle.std.proofs.lemmas.Bool.Decides.{nat_tests}
 use Rattle.std.proofs.lemmas.List.{drop_all}
@@ -11,7 +11,7 @@ use Rattle.jm_semantics.specs.Scripts.{projection_of, is_for}
 use Rattle.jm_script.specs.Projections.{script_of, spec_of, step_of, line_of}
 use Rattle.jm_script.specs.Objects.{mentioned, number_at_mention, numbers_of}
 use Rattle.jm_script.specs.Catalogs.{CatalogEntry}
-use Rattle.jm_script.specs.Fitting.{FitsEvent, FitsTarget, FitsCatalog, FitsSpecification}
+use Rattle.jm_script.specs.Fitting.{FitsTarget, FitsCatalog, FitsSpecification}
 use Rattle.jm_script.specs.declared.script.Target.{Target}
 use Rattle.jm_script.specs.declared.script.Target.TheVariants.{Event, Death, Pass}
 use Rattle.jm_script.specs.declared.script.ScriptLine.{ScriptLine}

@@ -1,12 +1,12 @@
 -- What is spelled is read.
-use Rattle.std.proofs.Common.{◌≡◌, ℕ, zero, suc, ◌+◌, Bool, true, false, not, ◌&&◌, ◌||◌, ◌==◌, cond, List, [], ◌∷◌, ◌++◌, length, take, drop, Option, Some, None, refl, sym, ap, subst, ◌∙◌, arith}
+use Rattle.std.proofs.Common.{◌≡◌, ℕ, suc, ◌+◌, Bool, true, false, ◌&&◌, ◌||◌, cond, List, [], ◌∷◌, ◌++◌, Some, None, refl, sym, ap, subst, ◌∙◌, arith}
 use Rattle.std.specs.List.{list_all, list_any, position_or_len, before_first, after_first}
 use Rattle.std.specs.Str.{bytes_eq}
 use Rattle.std.proofs.lemmas.Bool.{false≢true, eqb-true}
 use Rattle.std.proofs.lemmas.Bool.Decides.{nat_tests}
 use Rattle.std.proofs.lemmas.List.Folds.{list_any-append}
 use Rattle.std.proofs.lemmas.Slice.Eq.{bytes_eq-Decides}
-use Rattle.jm_script.specs.Statements.{Statement, Event, Death, Pass, death_word, pass_word, is_dot, is_name_byte, is_name, is_object, event_statement, death_statement, pass_statement, statement_of}
+use Rattle.jm_script.specs.Statements.{Statement, Event, Death, Pass, death_word, pass_word, is_dot, is_name_byte, is_name, is_object, event_statement, death_statement, pass_statement}
 use Rattle.jm_script.specs.Spelling.{Spells, SpelledIsRead, OneReading, ReadIsSpelled}
 use Rattle.jm_script.proofs.WordLemmas.{both_left, both_right}
 

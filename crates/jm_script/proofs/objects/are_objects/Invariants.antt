@@ -1,4 +1,4 @@
-use Rattle.std.proofs.Common.{◌≡◌, true, drop, take, map}
+use Rattle.std.proofs.Common.{◌≡◌, drop, map}
 use Rattle.std.specs.List.{list_all}
 use Rattle.jm_script.specs.Statements.{is_object}
 use Rattle.jm_script.proofs.objects.are_objects.Given as goal

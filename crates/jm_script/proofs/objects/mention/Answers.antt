@@ -1,7 +1,7 @@
-use Rattle.std.proofs.Common.{ℕ, ◌<◌, ◌≡◌, [], length, sym, ap, ◌∙◌, arith}
+use Rattle.std.proofs.Common.{ℕ, ◌<◌, [], length, sym, ap, ◌∙◌, arith}
 use Rattle.std.proofs.Math.ListN.{length-set}
 use Rattle.std.proofs.lemmas.List.{take_more_set}
-use Rattle.jm_script.specs.Objects.{mentioned, numbers_of}
+use Rattle.jm_script.specs.Objects.{mentioned}
 use Rattle.jm_script.proofs.ObjectLemmas.{texts_more, object_at, length-with_name, IsExtension-with_name, numbered_more}
 use Rattle.jm_script.proofs.objects.mention.Goals as goal
 

@@ -1,4 +1,4 @@
-use Rattle.std.proofs.Common.{ℕ, ◌+◌, ◌<◌, ◌≡◌, [], length, not, get_or, drop, sym, ap, ◌∙◌, arith}
+use Rattle.std.proofs.Common.{◌+◌, ◌<◌, [], length, not, get_or, drop, sym, ap, ◌∙◌, arith}
 use Rattle.jm_events.specs.Names.{number_of}
 use Rattle.jm_script.specs.Objects.{mentioned}
 use Rattle.jm_script.proofs.WordLemmas.{object_utf8}

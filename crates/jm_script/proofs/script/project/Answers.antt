@@ -1,4 +1,4 @@
-use Rattle.std.proofs.Common.{◌≤◌, length, arith}
+use Rattle.std.proofs.Common.{◌≤◌, length}
 use Rattle.jm_script.proofs.FittingLemmas.{projected_fits}
 use Rattle.jm_script.proofs.script.project.Goals as goal
 

@@ -1,4 +1,3 @@
-use Rattle.std.proofs.Common.{arith}
 use Rattle.jm_script.proofs.CatalogLemmas.{names-entries_of, length-entries_of}
 use Rattle.jm_script.proofs.catalog.Catalog.find.Goals as goal
 
