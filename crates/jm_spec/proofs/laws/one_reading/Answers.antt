@@ -8,6 +8,10 @@ use Rattle.jm_spec.specs.declared.tree.SpecTree.{SpecTree}
 use Rattle.jm_spec.specs.Rules.{frame_of}
 use Rattle.jm_spec.specs.Faults.{frame_fault}
 use Rattle.jm_spec.specs.Trees.{IsTreeOfTokens, IsFaultOfTokens}
+use Rattle.jm_spec.proofs.TokenLemmas.{never_both}
+use Rattle.jm_spec.proofs.RepeatLemmas.{append-nil}
+use Rattle.jm_spec.proofs.EndLemmas.{member_sound}
+use Rattle.jm_spec.proofs.SoundLemmas.{mark_sound}
 use Rattle.jm_spec.proofs.laws.one_reading.Goals as goal
 
 one_frame : (read : Option Frame) (frame other : Frame) → read ≡ Some frame → read ≡ Some other → frame ≡ other
