@@ -18,8 +18,9 @@ use Rattle.jm_spec.specs.declared.frame.Frame.{Frame}
 use Rattle.jm_spec.specs.Runs.{one_more, clause_length, member_length, parameter_length, begins_property, ends_formula, formula_length}
 use Rattle.jm_spec.specs.Reading.{◌>>=◌, is_mark_at, is_word_at, is_name_at, place, mark_at, name_at, word_at, passed, at_most, step_at_most}
 use Rattle.jm_spec.specs.Rules.{begins_clause, clause_at, clauses_at, more_word_at, begins_more_word, more_words_at, modifier_of, modifier_at, begins_modifier, modifiers_at, named_at, param_at, more_param_at, begins_more_param, more_params_at, params_at, inner_params_at, list_at, run_at, pointcut_at, before_at, optional_list_at, outcome_at, after_at, other_at, advice_at, creation_at, begins_event, event_at, member_at, begins_member, members_at, block_at, handler_at, begins_handler, handlers_at, property_at, goes_on, properties_at, at_end, frame_at, frame_of}
+use Rattle.jm_spec.specs.Balance.{open_after}
 use Rattle.jm_spec.specs.Spelling.{IsMark, IsWord, IsAnyWord, IsName, Repeats, Spelled, SpelledAnywhere, BeginsClause, SpellsClause, clause, SpellsMoreWord, more_word, SpellsModifier, modifier, open_in_list, Holds, IsType, SpellsParam, param, SpellsMoreParam, more_param, SpellsParams, no_params, some_params, SpellsList, list, RunsToEnd, SpellsOutcome, missing, alone, with_list, BeginsOther, SpellsAdvice, before, after, other, SpellsEvent, event, creation_event, SpellsMember, declaration, an_event, SpellsHandler, handler, IsFormula, SpellsProperty, property, BeginsNoClause, SpellsHead, head, SpellsBody, body, Spells, file}
-use Rattle.jm_spec.proofs.TokenLemmas.{never_both, and_left, and_right, no_mark, no_word, word_kind, name_kind, word_sign}
+use Rattle.jm_spec.proofs.TokenLemmas.{never_both, and_left, and_right, no_mark, no_word, no_other_word, word_kind, name_kind, word_sign}
 use Rattle.jm_spec.proofs.RepeatLemmas.{append-nil, never_some, same_some, first_gives, both_give, Fronts, Adds, steps_sound, items_sound}
 use Rattle.jm_spec.proofs.BalanceLemmas.{nothing_ends}
 use Rattle.jm_spec.proofs.EndLemmas.{passed_sound, clause_sound, clause_word_sound, member_sound, formula_sound, IsHeld, TakesParameter, parameter_sound, IsBlock, block_sound, TakesClause}
@@ -359,3 +360,296 @@ advice_is bytes tokens a rest h = given (is_word_at bytes tokens 0 (codes "befor
     given true k g e h = before_is bytes tokens a rest g h
     given false true g e h = after_is bytes tokens a rest e h
     given false false g e h = other_is bytes tokens a rest g e h
+
+-- events and declarations
+
+-- behind the words that begin an event
+abbrev event_tail : List ℕ → List Mention → Bool → List Token → Option (List Mention × List Token)
+event_tail bytes events creation mid = name_at bytes mid >>= λ name. advice_at bytes name.1 >>= λ advice. Some (events ++ record { creation = creation; name = name.0; advice = advice.0 } ∷ [], advice.1)
+
+event_is : (bytes : List ℕ) (events : List Mention) (tokens : List Token) (out : List Mention) (rest : List Token) → begins_event bytes tokens ≡ true → event_at bytes events tokens ≡ Some (out, rest) → Adds (SpellsMember bytes) tokens events out rest
+unfolding event_at creation_at
+event_is bytes events tokens out rest begins h = given (is_word_at bytes tokens 0 (codes "creation")) refl h
+  where
+    tail : (creation : Bool) (fronts : List Token) (mid : List Token) → tokens ≡ fronts ++ mid → ((name : Token) (said : List Token) (a : Advice) → IsName bytes name → SpellsAdvice bytes said a → SpellsEvent bytes (fronts ++ name ∷ said) (record { creation = creation; name = name; advice = a })) → event_tail bytes events creation mid ≡ Some (out, rest) → Adds (SpellsMember bytes) tokens events out rest
+    tail creation fronts mid split said h =
+        let q = first_gives (name_at bytes mid) _ (out, rest) h in
+        let r = first_gives (advice_at bytes q.0.1) _ (out, rest) q.2 in
+        let n = name_sound bytes mid q.0.0 q.0.1 q.1 in
+        let a = advice_is bytes q.0.1 r.0.0 r.0.1 r.1 in
+        let e = same_some r.2 in
+        record {
+          front = fronts ++ q.0.0 ∷ a.front;
+          values = record { creation = creation; name = q.0.0; advice = r.0.0 } ∷ [];
+          split = split ∙ ap (λ xs. fronts ++ xs) (n.0 ∙ ap (λ xs. q.0.0 ∷ xs) (a.split ∙ ap (λ x. a.front ++ x.1) e)) ∙ sym (append_assoc fronts (q.0.0 ∷ a.front) rest);
+          all = sym (ap (λ x. x.0) e);
+          said = an_event (fronts ++ q.0.0 ∷ a.front) (record { creation = creation; name = q.0.0; advice = r.0.0 }) (said q.0.0 a.front r.0.0 n.1 a.said);
+        }
+    plain_word : (ts : List Token) → begins_event bytes ts ≡ true → is_word_at bytes ts 0 (codes "creation") ≡ false → is_word_at bytes ts 0 (codes "event") ≡ true
+    plain_word ts b no_creation = and_left (is_word_at bytes ts 0 (codes "event")) _ (only _ _ no_creation b)
+      where
+        only : (x y : Bool) → is_word_at bytes ts 0 (codes "creation") ≡ false → x || is_word_at bytes ts 0 (codes "creation") && y && is_name_at bytes ts 2 ≡ true → x ≡ true
+        only true y g h = refl
+        only false y g h = absurd (never_both _ (and_left _ _ (and_left _ _ h)) g)
+    word_behind : (ts us : List Token) (t : Token) → begins_event bytes ts ≡ true → ts ≡ t ∷ us → is_word bytes t (codes "creation") ≡ true → is_word_at bytes us 0 (codes "event") ≡ true
+    word_behind ts us t b split is = second (is_word bytes t (codes "event")) _ _ _ (no_other_word bytes t (codes "creation") (codes "event") is refl) (sym (ap (begins_event bytes) split) ∙ b)
+      where
+        second : (v n w m : Bool) → v ≡ false → v && n || is_word bytes t (codes "creation") && w && m ≡ true → w ≡ true
+        second true n w m g h = absurd (never_both true refl g)
+        second false n w m g h = and_right _ _ (and_left _ _ h)
+    given : (g : Bool) → is_word_at bytes tokens 0 (codes "creation") ≡ g → ((cond {A = Option (Bool × List Token)} g (word_at tokens >>= λ rest. Some (true, rest)) (Some (false, tokens))) >>= λ creation. word_at creation.1 >>= λ mid. event_tail bytes events creation.0 mid) ≡ Some (out, rest) → Adds (SpellsMember bytes) tokens events out rest
+    given false g h =
+        let p = first_gives (word_at tokens) _ (out, rest) h in
+        let w = word_sound tokens p.0 p.1 in
+        tail false (w.0 ∷ []) p.0 w.1 (λ name said a. event w.0 name said a (seen bytes (codes "event") tokens w.0 p.0 (plain_word tokens begins g) w.1)) p.2
+    given true g h =
+        let o = first_gives (word_at tokens >>= λ rest. Some (true, rest)) _ (out, rest) h in
+        let k = first_gives (word_at tokens) _ o.0 o.1 in
+        let c = word_sound tokens k.0 k.1 in
+        let same = same_some k.2 in
+        let p = first_gives (word_at o.0.1) _ (out, rest) o.2 in
+        let w = word_sound o.0.1 p.0 p.1 in
+        let is = seen bytes (codes "creation") tokens c.0 k.0 g c.1 in
+        let second : k.0 ≡ w.0 ∷ p.0 = ap (λ x. x.1) same ∙ w.1 in
+        let is_event : IsWord bytes (codes "event") w.0 = seen bytes (codes "event") k.0 w.0 p.0 (word_behind tokens k.0 c.0 begins c.1 is) second in
+        tail true (c.0 ∷ w.0 ∷ []) p.0 (c.1 ∙ ap (λ xs. c.0 ∷ xs) second) (λ name said a. creation_event c.0 w.0 name said a is is_event) (ap (λ b. event_tail bytes events b p.0) (ap (λ x. x.0) same) ∙ p.2)
+
+-- a front begins no event and no property where the whole doesn't
+event_front : (bytes : List ℕ) (run rest : List Token) → begins_event bytes (run ++ rest) ≡ false → begins_event bytes run ≡ false
+event_front bytes [] rest h = refl
+event_front bytes (a ∷ []) rest h = none (is_word bytes a (codes "event")) (is_word bytes a (codes "creation"))
+  where
+    none : (x y : Bool) → x && false || y && false && false ≡ false
+    none true true = refl
+    none true false = refl
+    none false true = refl
+    none false false = refl
+event_front bytes (a ∷ b ∷ []) rest h = less (is_word bytes a (codes "event") && is_name bytes b) (is_word bytes a (codes "creation") && is_word bytes b (codes "event")) _ h
+  where
+    less : (x y z : Bool) → x || y && z ≡ false → x || y && false ≡ false
+    less true y z h = h
+    less false true z h = refl
+    less false false z h = refl
+event_front bytes (a ∷ b ∷ c ∷ more) rest h = h
+
+property_front : (bytes : List ℕ) (run rest : List Token) → begins_property bytes (run ++ rest) ≡ false → begins_property bytes run ≡ false
+property_front bytes [] rest h = refl
+property_front bytes (a ∷ []) rest h = refl
+property_front bytes (a ∷ b ∷ more) rest h = h
+
+member_is : (bytes : List ℕ) (events : List Mention) (tokens : List Token) (out : List Mention) (rest : List Token) → begins_member bytes tokens ≡ true → member_at bytes events tokens ≡ Some (out, rest) → Adds (SpellsMember bytes) tokens events out rest
+unfolding member_at
+member_is bytes events tokens out rest begins h = given (begins_event bytes tokens) refl h
+  where
+    no_property : (x y : Bool) → not (x || y) ≡ true → y ≡ false
+    no_property true y h = absurd (never_both false h refl)
+    no_property false true h = absurd (never_both false h refl)
+    no_property false false h = refl
+    given : (g : Bool) → begins_event bytes tokens ≡ g → cond {A = Option (List Mention × List Token)} g (event_at bytes events tokens) (run_at bytes tokens >>= λ rest. Some (events, rest)) ≡ Some (out, rest) → Adds (SpellsMember bytes) tokens events out rest
+    given true g h = event_is bytes events tokens out rest g h
+    given false g h =
+        let p = first_gives (run_at bytes tokens) _ (out, rest) h in
+        let r = run_is bytes tokens p.0 p.1 in
+        let e = same_some p.2 in
+        record {
+          front = r.front;
+          values = [];
+          split = r.split ∙ ap (λ x. r.front ++ x.1) e;
+          all = sym (ap (λ x. x.0) e) ∙ sym (append-nil events);
+          said = declaration r.front r.said (event_front bytes r.front p.0 (ap (begins_event bytes) (sym r.split) ∙ g)) (property_front bytes r.front p.0 (ap (begins_property bytes) (sym r.split) ∙ no_property (is_mark_at bytes tokens 0 (codes "}")) _ begins));
+        }
+
+members_are : (bytes : List ℕ) (tokens : List Token) (out : List Mention) (rest : List Token) → members_at bytes [] tokens ≡ Some (out, rest) → Adds (SpelledAnywhere (SpellsMember bytes)) tokens [] out rest
+unfolding members_at
+members_are bytes tokens out rest h =
+    (items_sound (length tokens) (λ _. SpellsMember bytes) (begins_member bytes) (member_at bytes) (λ at xs ts ys r _ begins. member_is bytes xs ts ys r begins) (length tokens) 0 [] tokens out rest (omega arith) h).0
+
+-- properties
+
+record HasBlock (bytes : List ℕ) (total : ℕ) (tokens : List Token) (range : ℕ × ℕ) (rest : List Token) : Type 0 where
+  opening : Token
+  inside : List Token
+  closing : Token
+  split : tokens ≡ (opening ∷ inside ++ closing ∷ []) ++ rest
+  opens : IsMark bytes (codes "{") opening
+  balanced : open_after bytes [] inside ≡ Some []
+  closes : IsMark bytes (codes "}") closing
+  first : range.0 ≡ place total tokens + 1
+  last : range.1 ≡ place total rest - 1
+
+block_is : (bytes : List ℕ) (total : ℕ) (tokens : List Token) (range : ℕ × ℕ) (rest : List Token) → block_at bytes total tokens ≡ Some (range, rest) → HasBlock bytes total tokens range rest
+unfolding block_at
+block_is bytes total tokens range rest h = given (is_mark_at bytes tokens 0 (codes "{")) refl h
+  where
+    begun : (front : List Token) (mid : List Token) → is_mark_at bytes tokens 0 (codes "{") ≡ true → tokens ≡ front ++ mid → RunsToEnd bytes front → ◌≡◌ {A = (ℕ × ℕ) × List Token} ((place total tokens + 1, place total mid - 1), mid) (range, rest) → HasBlock bytes total tokens range rest
+    begun [] mid opens split ends e = absurd (nothing_ends bytes [] ends.ends)
+    begun (t ∷ more) mid opens split ends e =
+        let is : IsMark bytes (codes "{") t = sym (ap (λ ts. is_mark_at bytes ts 0 (codes "{")) split) ∙ opens in
+        let b = block_sound bytes t more is ends in
+        record {
+          opening = t;
+          inside = b.inside;
+          closing = b.closing;
+          split = split ∙ ap (λ xs. t ∷ xs ++ mid) b.split ∙ ap (λ x. t ∷ b.inside ++ b.closing ∷ [] ++ x.1) e;
+          opens = is;
+          balanced = b.balanced;
+          closes = b.closes;
+          first = sym (ap (λ x. x.0.0) e);
+          last = sym (ap (λ x. x.0.1) e) ∙ ap (λ x. place total x.1 - 1) e;
+        }
+    given : (g : Bool) → is_mark_at bytes tokens 0 (codes "{") ≡ g → cond {A = Option ((ℕ × ℕ) × List Token)} g (run_at bytes tokens >>= λ rest. Some ((place total tokens + 1, place total rest - 1), rest)) None ≡ Some (range, rest) → HasBlock bytes total tokens range rest
+    given false g h = absurd (never_some h)
+    given true g h =
+        let p = first_gives (run_at bytes tokens) _ (range, rest) h in
+        let r = run_is bytes tokens p.0 p.1 in
+        begun r.front p.0 g r.split r.said (same_some p.2)
+
+handler_is : (bytes : List ℕ) (total at : ℕ) (handlers : List HandlerText) (tokens : List Token) (out : List HandlerText) (rest : List Token) → at + length tokens ≡ total → handler_at bytes total handlers tokens ≡ Some (out, rest) → Adds (SpellsHandler bytes at) tokens handlers out rest
+unfolding handler_at
+handler_is bytes total at handlers tokens out rest same h =
+    let p = first_gives (mark_at bytes (codes "@") tokens) _ (out, rest) h in
+    let q = first_gives (name_at bytes p.0) _ (out, rest) p.2 in
+    let r = first_gives (block_at bytes total q.0.1) _ (out, rest) q.2 in
+    let m = mark_sound bytes (codes "@") tokens p.0 p.1 in
+    let n = name_sound bytes p.0 q.0.0 q.0.1 q.1 in
+    let b = block_is bytes total q.0.1 r.0.0 r.0.1 r.1 in
+    let e = same_some r.2 in
+    let behind : tokens ≡ m.0 ∷ q.0.0 ∷ q.0.1 = m.1 ∙ ap (λ xs. m.0 ∷ xs) n.0 in
+    let whole : tokens ≡ (m.0 ∷ q.0.0 ∷ b.opening ∷ b.inside ++ b.closing ∷ []) ++ r.0.1 = behind ∙ ap (λ xs. m.0 ∷ q.0.0 ∷ xs) b.split in
+    let counted : length tokens ≡ length b.inside + 4 + length r.0.1 = omega (arith, ap length whole, length-append (m.0 ∷ q.0.0 ∷ b.opening ∷ b.inside ++ b.closing ∷ []) r.0.1, length-append b.inside (b.closing ∷ [])) in
+    let two : length tokens ≡ length q.0.1 + 2 = omega (arith, ap length behind) in
+    let first : r.0.0.0 ≡ at + 3 = b.first ∙ omega arith in
+    let last : r.0.0.1 ≡ at + 3 + length b.inside = b.last ∙ omega arith in
+    record {
+      front = m.0 ∷ q.0.0 ∷ b.opening ∷ b.inside ++ b.closing ∷ [];
+      values = record { category = q.0.0; first = at + 3; last = at + 3 + length b.inside } ∷ [];
+      split = whole ∙ ap (λ x. (m.0 ∷ q.0.0 ∷ b.opening ∷ b.inside ++ b.closing ∷ []) ++ x.1) e;
+      all = sym (ap (λ x. x.0) e) ∙ (λ i. handlers ++ record { category = q.0.0; first = first i; last = last i } ∷ []);
+      said = handler m.0 q.0.0 b.opening b.inside b.closing m.2 n.1 b.opens b.balanced b.closes;
+    }
+
+handlers_are : (bytes : List ℕ) (total at : ℕ) (tokens : List Token) (out : List HandlerText) (rest : List Token) → at + length tokens ≡ total → handlers_at bytes total [] tokens ≡ Some (out, rest) → Adds (Spelled (SpellsHandler bytes) at) tokens [] out rest
+unfolding handlers_at
+handlers_are bytes total at tokens out rest same h =
+    (items_sound total (SpellsHandler bytes) (begins_handler bytes) (handler_at bytes total) (λ there xs ts ys r s _. handler_is bytes total there xs ts ys r s) (length tokens) at [] tokens out rest same h).0
+
+property_is : (bytes : List ℕ) (total at : ℕ) (properties : List Property) (tokens : List Token) (out : List Property) (rest : List Token) → at + length tokens ≡ total → property_at bytes total properties tokens ≡ Some (out, rest) → Adds (SpellsProperty bytes at) tokens properties out rest
+unfolding property_at
+property_is bytes total at properties tokens out rest same h =
+    let p = first_gives (name_at bytes tokens) _ (out, rest) h in
+    let q = first_gives (mark_at bytes (codes ":") p.0.1) _ (out, rest) p.2 in
+    let r = first_gives (passed q.0 (formula_length bytes q.0)) _ (out, rest) q.2 in
+    let s = first_gives (handlers_at bytes total [] r.0) _ (out, rest) r.2 in
+    let n = name_sound bytes tokens p.0.0 p.0.1 p.1 in
+    let m = mark_sound bytes (codes ":") p.0.1 q.0 q.1 in
+    let k = passed_sound q.0 (formula_length bytes q.0) r.0 r.1 in
+    let formula : List Token = take k.0 q.0 in
+    let behind : tokens ≡ p.0.0 ∷ m.0 ∷ q.0 = n.0 ∙ ap (λ xs. p.0.0 ∷ xs) m.1 in
+    let two : length tokens ≡ length q.0 + 2 = omega (arith, ap length behind) in
+    let counted : length q.0 ≡ length (take k.0 q.0) + length r.0 = ap length k.2 ∙ length-append (take k.0 q.0) r.0 in
+    let there : at + 2 + length (take k.0 q.0) + length r.0 ≡ total = omega arith in
+    let hs = handlers_are bytes total (at + 2 + length (take k.0 q.0)) r.0 s.0.0 s.0.1 there s.1 in
+    let e = same_some s.2 in
+    let first : place total q.0 ≡ at + 2 = omega arith in
+    let last : place total r.0 ≡ at + 2 + length (take k.0 q.0) = omega arith in
+    record {
+      front = p.0.0 ∷ m.0 ∷ take k.0 q.0 ++ hs.front;
+      values = record { logic = p.0.0; first = at + 2; last = at + 2 + length (take k.0 q.0); handlers = hs.values } ∷ [];
+      split = behind ∙ ap (λ xs. p.0.0 ∷ m.0 ∷ xs) (k.2 ∙ ap (λ xs. take k.0 q.0 ++ xs) (hs.split ∙ ap (λ x. hs.front ++ x.1) e) ∙ sym (append_assoc (take k.0 q.0) hs.front rest));
+      all = sym (ap (λ x. x.0) e) ∙ (λ i. properties ++ record { logic = p.0.0; first = first i; last = last i; handlers = hs.all i } ∷ []);
+      said = property p.0.0 m.0 (take k.0 q.0) hs.front hs.values n.1 m.2 (formula_sound bytes q.0 k.0 k.1) hs.said;
+    }
+
+properties_are : (bytes : List ℕ) (total at : ℕ) (tokens : List Token) (out : List Property) (rest : List Token) → at + length tokens ≡ total → properties_at bytes total [] tokens ≡ Some (out, rest) → Adds (Spelled (SpellsProperty bytes) at) tokens [] out rest
+unfolding properties_at
+properties_are bytes total at tokens out rest same h =
+    (items_sound total (SpellsProperty bytes) (goes_on bytes) (property_at bytes total) (λ there xs ts ys r s _. property_is bytes total there xs ts ys r s) (length tokens) at [] tokens out rest same h).0
+
+-- the file
+
+begins_none : (bytes : List ℕ) (front : List Token) (name : Token) (more : List Token) → begins_clause bytes (front ++ name ∷ more) ≡ false → BeginsNoClause bytes (front ++ name ∷ [])
+begins_none bytes front name more h = first front h
+  where
+    not_this : (t : Token) → is_word bytes t (codes "package") || is_word bytes t (codes "import") ≡ false → BeginsClause bytes t → ⊥
+    not_this t h (inl is) = never_both true refl (sym (ap (λ b. b || is_word bytes t (codes "import")) is) ∙ h)
+    not_this t h (inr is) = never_both _ (or_second (is_word bytes t (codes "package")) _ is) h
+      where
+        or_second : (a b : Bool) → b ≡ true → a || b ≡ true
+        or_second true b h = refl
+        or_second false b h = h
+    first : (xs : List Token) → begins_clause bytes (xs ++ name ∷ more) ≡ false → BeginsNoClause bytes (xs ++ name ∷ [])
+    first [] h = not_this name h
+    first (x ∷ xs) h = not_this x h
+
+at_end_sound : {X : Type 0} (x y : X) (tokens : List Token) → at_end x tokens ≡ Some y → (tokens ≡ []) × (x ≡ y)
+at_end_sound x y [] h = (refl, same_some h)
+at_end_sound x y (t ∷ ts) h = absurd (never_some h)
+
+record HasHead (bytes : List ℕ) (tokens : List Token) (modifiers : List Modifier) (name : Token) (params : List Token) (rest : List Token) : Type 0 where
+  front : List Token
+  split : tokens ≡ front ++ rest
+  said : SpellsHead bytes front modifiers name params
+
+head_of : (bytes : List ℕ) (tokens : List Token) (modifiers : List Modifier) (b : List Token) (name : Token) (c names d : List Token) → begins_clause bytes tokens ≡ false → Adds (SpelledAnywhere (SpellsModifier bytes)) tokens [] modifiers b → b ≡ name ∷ c → IsName bytes name → Adds (SpellsList bytes) c [] names d → HasHead bytes tokens modifiers name names d
+head_of bytes tokens modifiers b name c names d no_clause ms n is_name ps = record {
+  front = ms.front ++ name ∷ ps.front;
+  split = ms.split ∙ ap (λ xs. ms.front ++ xs) (n ∙ ap (λ xs. name ∷ xs) ps.split) ∙ sym (append_assoc ms.front (name ∷ ps.front) d);
+  said = subst (λ x. SpellsHead bytes (ms.front ++ name ∷ ps.front) x name names) (sym ms.all) (subst (λ x. SpellsHead bytes (ms.front ++ name ∷ ps.front) ms.values name x) (sym ps.all) (head ms.front ms.values name ps.front ps.values ms.said is_name ps.said (begins_none bytes ms.front name c (sym (ap (begins_clause bytes) (ms.split ∙ ap (λ xs. ms.front ++ xs) n)) ∙ no_clause))));
+}
+
+body_of : (bytes : List ℕ) (at : ℕ) (tokens f : List Token) (opening : Token) (events : List Mention) (g : List Token) (k : List Token) (closing : Token) (ps : List Property) (es : Adds (SpelledAnywhere (SpellsMember bytes)) f [] events g) → tokens ≡ opening ∷ f → IsMark bytes (codes "{") opening → Adds (Spelled (SpellsProperty bytes) (at + 1 + length es.front)) g [] ps k → k ≡ closing ∷ [] → IsMark bytes (codes "}") closing → SpellsBody bytes at tokens events ps
+body_of bytes at tokens f opening events g k closing ps es o opens ss c closes =
+    let split : tokens ≡ opening ∷ es.front ++ ss.front ++ closing ∷ [] = o ∙ ap (λ xs. opening ∷ xs) (es.split ∙ ap (λ xs. es.front ++ xs) (ss.split ∙ ap (λ xs. ss.front ++ xs) c) ∙ sym (append_assoc es.front ss.front (closing ∷ []))) in
+    let said = body opening es.front es.values ss.front ss.values closing opens es.said ss.said closes in
+    subst (λ ts. SpellsBody bytes at ts events ps) (sym split) (subst (λ x. SpellsBody bytes at (opening ∷ es.front ++ ss.front ++ closing ∷ []) x ps) (sym es.all) (subst (λ x. SpellsBody bytes at (opening ∷ es.front ++ ss.front ++ closing ∷ []) es.values x) (sym ss.all) said))
+
+joins : (bytes : List ℕ) (tokens a d : List Token) (ms : List Modifier) (name : Token) (ps : List Token) (es : List Mention) (qs : List Property) (cs : Fronts (Repeats (SpellsClause bytes)) tokens a) (h : HasHead bytes a ms name ps d) → SpellsBody bytes (length cs.front + length h.front) d es qs → Spells bytes tokens (record { modifiers = ms; name = name; params = ps; events = es; properties = qs })
+joins bytes tokens a d ms name ps es qs cs h b =
+    let split : tokens ≡ cs.front ++ h.front ++ d = cs.split ∙ ap (λ xs. cs.front ++ xs) h.split ∙ sym (append_assoc cs.front h.front d) in
+    subst (λ ts. Spells bytes ts (record { modifiers = ms; name = name; params = ps; events = es; properties = qs })) (sym split) (file cs.front h.front ms name ps d es qs cs.said h.said b)
+
+-- how many tokens stand before the properties
+counted : (bytes : List ℕ) (tokens a d f g : List Token) (ms : List Modifier) (name : Token) (ps : List Token) (es : List Mention) (opening : Token) (cs : Fronts (Repeats (SpellsClause bytes)) tokens a) (h : HasHead bytes a ms name ps d) → d ≡ opening ∷ f → (m : Adds (SpelledAnywhere (SpellsMember bytes)) f [] es g) → length cs.front + length h.front + 1 + length m.front + length g ≡ length tokens
+counted bytes tokens a d f g ms name ps es opening cs h o m =
+    let one : length tokens ≡ length cs.front + length a = ap length cs.split ∙ length-append cs.front a in
+    let two : length a ≡ length h.front + length d = ap length h.split ∙ length-append h.front d in
+    let three : length d ≡ suc (length f) = ap length o in
+    let four : length f ≡ length m.front + length g = ap length m.split ∙ length-append m.front g in
+    omega arith
+
+frame_body : (bytes : List ℕ) (tokens a d f g : List Token) (ms : List Modifier) (name : Token) (ps : List Token) (es : List Mention) (opening : Token) (qs : List Property) (k : List Token) (closing : Token) → Fronts (Repeats (SpellsClause bytes)) tokens a → HasHead bytes a ms name ps d → d ≡ opening ∷ f → IsMark bytes (codes "{") opening → Adds (SpelledAnywhere (SpellsMember bytes)) f [] es g → properties_at bytes (length tokens) [] g ≡ Some (qs, k) → k ≡ closing ∷ [] → IsMark bytes (codes "}") closing → Spells bytes tokens (record { modifiers = ms; name = name; params = ps; events = es; properties = qs })
+frame_body bytes tokens a d f g ms name ps es opening qs k closing cs h o opens m q c closes =
+    joins bytes tokens a d ms name ps es qs cs h
+    (body_of bytes (length cs.front + length h.front) d f opening es g k closing qs m o opens
+    (properties_are bytes (length tokens) (length cs.front + length h.front + 1 + length m.front) g qs k (counted bytes tokens a d f g ms name ps es opening cs h o m) q)
+    c closes)
+
+-- the rule of the file, step by step
+abbrev file_tail : List ℕ → ℕ → List Modifier → Token → List Token → List Token → Option Frame
+file_tail bytes total ms name ps d =
+    mark_at bytes (codes "{") d >>= λ body. members_at bytes [] body >>= λ events. properties_at bytes total [] events.1 >>= λ properties. mark_at bytes (codes "}") properties.1 >>= λ behind. at_end (record { modifiers = ms; name = name; params = ps; events = events.0; properties = properties.0 }) behind
+
+tail_is_spelled : (bytes : List ℕ) (tokens a d : List Token) (ms : List Modifier) (name : Token) (ps : List Token) (frame : Frame) → Fronts (Repeats (SpellsClause bytes)) tokens a → HasHead bytes a ms name ps d → file_tail bytes (length tokens) ms name ps d ≡ Some frame → Spells bytes tokens frame
+tail_is_spelled bytes tokens a d ms name ps frame cs h is =
+    let f = first_gives (mark_at bytes (codes "{") d) _ frame is in
+    let g = first_gives (members_at bytes [] f.0) _ frame f.2 in
+    let k = first_gives (properties_at bytes (length tokens) [] g.0.1) _ frame g.2 in
+    let l = first_gives (mark_at bytes (codes "}") k.0.1) _ frame k.2 in
+    let z = at_end_sound _ frame l.0 l.2 in
+    let o = mark_sound bytes (codes "{") d f.0 f.1 in
+    let c = mark_sound bytes (codes "}") k.0.1 l.0 l.1 in
+    subst (λ x. Spells bytes tokens x) z.1
+    (frame_body bytes tokens a d f.0 g.0.1 ms name ps g.0.0 o.0 k.0.0 k.0.1 c.0 cs h o.1 o.2 (members_are bytes f.0 g.0.0 g.0.1 g.1) k.1 (c.1 ∙ ap (λ xs. c.0 ∷ xs) z.0) c.2)
+
+pub frame_is_spelled : (bytes : List ℕ) (tokens : List Token) (frame : Frame) → frame_of bytes tokens ≡ Some frame → Spells bytes tokens frame
+unfolding frame_at
+frame_is_spelled bytes tokens frame is =
+    let a = first_gives (clauses_at bytes tokens) _ frame is in
+    let b = first_gives (modifiers_at bytes [] a.0) _ frame a.2 in
+    let c = first_gives (name_at bytes b.0.1) _ frame b.2 in
+    let d = first_gives (list_at bytes [] c.0.1) _ frame c.2 in
+    let cs = clauses_are bytes tokens a.0 a.1 in
+    let n = name_sound bytes b.0.1 c.0.0 c.0.1 c.1 in
+    tail_is_spelled bytes tokens a.0 d.0.1 b.0.0 c.0.0 d.0.0 frame cs.0
+    (head_of bytes a.0 b.0.0 b.0.1 c.0.0 c.0.1 d.0.0 d.0.1 cs.1 (modifiers_are bytes a.0 b.0.0 b.0.1 b.1) n.0 n.1 (list_is bytes [] c.0.1 d.0.0 d.0.1 d.1))
+    d.2
