@@ -6,3 +6,4 @@ pub mod TokenLemmas
 pub mod RepeatLemmas
 pub mod EndLemmas
 pub mod SoundLemmas
+pub mod CompleteLemmas

@@ -12,6 +12,7 @@ use Rattle.jm_spec.proofs.TokenLemmas.{never_both}
 use Rattle.jm_spec.proofs.RepeatLemmas.{append-nil}
 use Rattle.jm_spec.proofs.EndLemmas.{member_sound}
 use Rattle.jm_spec.proofs.SoundLemmas.{mark_sound}
+use Rattle.jm_spec.proofs.CompleteLemmas.{mark_read}
 use Rattle.jm_spec.proofs.laws.one_reading.Goals as goal
 
 one_frame : (read : Option Frame) (frame other : Frame) → read ≡ Some frame → read ≡ Some other → frame ≡ other
