@@ -28,6 +28,7 @@ use Rattle.jm_spec.specs.Spelling.{IsMark, IsWord, IsAnyWord, IsName, Repeats, n
 use Rattle.jm_spec.proofs.TokenLemmas.{never_both, and_left, and_right, and_both, no_mark, no_word, no_name, no_other_word, no_other_mark, word_kind, name_kind, word_sign, mark_sign}
 use Rattle.jm_spec.proofs.RepeatLemmas.{append-nil, never_some, same_some, first_gives, both_give, steps_complete, items_complete}
 use Rattle.jm_spec.proofs.BalanceLemmas.{nothing_ends}
+use Rattle.jm_spec.proofs.SoundLemmas.{file_tail}
 use Rattle.jm_spec.proofs.EndLemmas.{passed_complete, clause_complete, clause_goes_on, member_complete, formula_complete, StopsFormula, IsHeld, parameter_complete, block_complete}
 
 pub mark_read : (bytes mark : List ℕ) (t : Token) (rest : List Token) → IsMark bytes mark t → mark_at bytes mark (t ∷ rest) ≡ Some rest
@@ -545,3 +546,56 @@ properties_read : (bytes : List ℕ) (total at : ℕ) (front : List Token) (xs :
 unfolding properties_at
 properties_read bytes total at front xs closing r c same =
     items_complete total (SpellsProperty bytes) (goes_on bytes) (property_at bytes total) (StopsProperty bytes) (property_filled bytes) (property_read bytes total) (length (front ++ closing ∷ [])) at front xs [] (closing ∷ []) r (closing_stops bytes closing [] c) (ap (λ g. not g) c) same (omega arith)
+
+-- the file
+
+stops_members : (bytes : List ℕ) (rest : List Token) → StopsProperty bytes rest → begins_member bytes rest ≡ false
+stops_members bytes [] p = absurd (never_both false p.formula.ends refl)
+stops_members bytes (t ∷ ts) p = stopped (is_mark bytes t (codes "@")) (is_mark bytes t (codes "}")) _ p.no_handler p.formula.ends
+  where
+    stopped : (x y z : Bool) → x ≡ false → x || y || z ≡ true → not (y || z) ≡ false
+    stopped true y z h k = absurd (never_both true refl h)
+    stopped false y z h k = ap (λ g. not g) k
+
+body_read : (bytes : List ℕ) (total at : ℕ) (ms : List Modifier) (name : Token) (names within : List Token) (es : List Mention) (ps : List Property) → SpellsBody bytes at within es ps → at + length within ≡ total → file_tail bytes total ms name names within ≡ Some (record { modifiers = ms; name = name; params = names; events = es; properties = ps })
+body_read bytes total at ms name names within es ps (body opening members events stating properties closing o m p c) same =
+    let e = append_assoc members stating (closing ∷ []) in
+    let counted = length-append (members ++ stating) (closing ∷ []) in
+    let both = length-append members stating in
+    let behind = length-append stating (closing ∷ []) in
+    let there : at + 1 + length members + length (stating ++ closing ∷ []) ≡ total = omega arith in
+    let r = properties_read bytes total (at + 1 + length members) stating properties closing p c there in
+    both_give (mark_at bytes (codes "{") (opening ∷ members ++ stating ++ closing ∷ [])) _ (members ++ stating ++ closing ∷ []) _ (mark_read bytes (codes "{") opening _ o)
+    (both_give (members_at bytes [] (members ++ stating ++ closing ∷ [])) _ (events, stating ++ closing ∷ []) _ (ap (members_at bytes []) e ∙ members_read bytes members events (stating ++ closing ∷ []) m (stops_members bytes (stating ++ closing ∷ []) r.1))
+    (both_give (properties_at bytes total [] (stating ++ closing ∷ [])) _ (properties, closing ∷ []) _ r.0
+    (both_give (mark_at bytes (codes "}") (closing ∷ [])) _ [] _ (mark_read bytes (codes "}") closing [] c) refl)))
+
+no_clause_begins : (bytes : List ℕ) (front : List Token) (name : Token) (more : List Token) → BeginsNoClause bytes (front ++ name ∷ []) → begins_clause bytes (front ++ name ∷ more) ≡ false
+no_clause_begins bytes front name more h = first front h
+  where
+    neither : (t : Token) (x y : Bool) → is_word bytes t (codes "package") ≡ x → is_word bytes t (codes "import") ≡ y → (BeginsClause bytes t → ⊥) → x || y ≡ false
+    neither t true y g k h = absurd (h (inl g))
+    neither t false true g k h = absurd (h (inr k))
+    neither t false false g k h = refl
+    first : (xs : List Token) → BeginsNoClause bytes (xs ++ name ∷ []) → begins_clause bytes (xs ++ name ∷ more) ≡ false
+    first [] h = neither name (is_word bytes name (codes "package")) (is_word bytes name (codes "import")) refl refl h
+    first (x ∷ xs) h = neither x (is_word bytes x (codes "package")) (is_word bytes x (codes "import")) refl refl h
+
+head_read : (bytes : List ℕ) (total : ℕ) (clauses heading : List Token) (ms : List Modifier) (name : Token) (names d : List Token) → Repeats (SpellsClause bytes) clauses → SpellsHead bytes heading ms name names → frame_at bytes total (clauses ++ (heading ++ d)) ≡ file_tail bytes total ms name names d
+unfolding frame_at
+head_read bytes total clauses heading ms name names d cs (head modifying modifiers title params titles m n l no_clause) =
+    let e = append_assoc modifying (title ∷ params) d in
+    let r = modifiers_read bytes modifying modifiers (title ∷ params ++ d) m (name_kind bytes title n) (ap (λ g. not g) (list_begins bytes params titles d l)) in
+    both_give (clauses_at bytes (clauses ++ ((modifying ++ title ∷ params) ++ d))) _ ((modifying ++ title ∷ params) ++ d) _ (clauses_read bytes clauses ((modifying ++ title ∷ params) ++ d) cs (ap (begins_clause bytes) e ∙ no_clause_begins bytes modifying title (params ++ d) no_clause))
+    (both_give (modifiers_at bytes [] ((modifying ++ title ∷ params) ++ d)) _ (modifiers, title ∷ params ++ d) _ (ap (modifiers_at bytes []) e ∙ r.0)
+    (both_give (name_at bytes (title ∷ params ++ d)) _ (title, params ++ d) _ (name_read bytes title (params ++ d) n)
+    (both_give (list_at bytes [] (params ++ d)) _ (titles, d) _ (list_read bytes [] params titles d l) refl)))
+
+pub spelled_is_frame : (bytes : List ℕ) (tokens : List Token) (frame : Frame) → Spells bytes tokens frame → frame_of bytes tokens ≡ Some frame
+spelled_is_frame bytes tokens frame (file clauses heading modifiers name params within events properties cs h b) =
+    let e = append_assoc clauses heading within in
+    let counted = length-append (clauses ++ heading) within in
+    let both = length-append clauses heading in
+    ap (frame_at bytes (length (clauses ++ heading ++ within))) e
+    ∙ head_read bytes (length (clauses ++ heading ++ within)) clauses heading modifiers name params within cs h
+    ∙ body_read bytes (length (clauses ++ heading ++ within)) (length clauses + length heading) modifiers name params within events properties b (omega arith)

@@ -625,7 +625,7 @@ frame_body bytes tokens a d f g ms name ps es opening qs k closing cs h o opens 
     c closes)
 
 -- the rule of the file, step by step
-abbrev file_tail : List ℕ → ℕ → List Modifier → Token → List Token → List Token → Option Frame
+abbrev pub file_tail : List ℕ → ℕ → List Modifier → Token → List Token → List Token → Option Frame
 file_tail bytes total ms name ps d =
     mark_at bytes (codes "{") d >>= λ body. members_at bytes [] body >>= λ events. properties_at bytes total [] events.1 >>= λ properties. mark_at bytes (codes "}") properties.1 >>= λ behind. at_end (record { modifiers = ms; name = name; params = ps; events = events.0; properties = properties.0 }) behind
 
