@@ -1,17 +1,15 @@
 -- What is spelled is read so.
-use Rattle.std.proofs.Common.{◌≡◌, ◌≢◌, ℕ, zero, suc, ◌+◌, ◌-◌, ◌<◌, ◌≤◌, Bool, true, false, cond, List, [], ◌∷◌, ◌++◌, length, take, drop, Option, Some, None, ◌⊎◌, inl, inr, refl, sym, ap, ◌∙◌, subst, arith, append_assoc, length-append, add-one}
+use Rattle.std.proofs.Common.{◌≡◌, ◌≢◌, ℕ, ◌+◌, ◌-◌, ◌<◌, ◌≤◌, Bool, true, false, cond, List, [], ◌∷◌, ◌++◌, length, take, drop, Option, Some, None, ◌⊎◌, inl, inr, refl, sym, ap, ◌∙◌, arith, append_assoc, length-append}
 use Rattle.std.proofs.Math.Seq.{take-append_seam, drop-append_seam}
 use Rattle.std.proofs.lemmas.Bool.Decides.{nat_tests}
-use Rattle.std.specs.Prelude.{not, ◌&&◌, ◌||◌, ◌==◌, nat_lt, codes, slice_get, option_and_then, option_map}
+use Rattle.std.specs.Prelude.{not, ◌&&◌, ◌||◌, nat_lt, codes, slice_get, option_and_then}
 use Rattle.std.specs.Option.{option_map_or}
 use Rattle.std.specs.Str.{bytes_eq}
 use Rattle.jm_text.specs.declared.token.Token.{Token}
 use Rattle.jm_text.specs.Spans.{text_of}
 use Rattle.jm_text.specs.Texts.{is_mark, is_word, is_name, is_name_text, is_word_kind}
 use Rattle.jm_spec.specs.declared.brackets.Bracket.{Bracket}
-use Rattle.jm_spec.specs.declared.brackets.Bracket.TheVariants.{Round, Curly}
-use Rattle.jm_spec.specs.declared.brackets.Sign.{Sign}
-use Rattle.jm_spec.specs.declared.brackets.Sign.TheVariants.{Close, Comma, Plain}
+use Rattle.jm_spec.specs.declared.brackets.Sign.TheVariants.{Comma, Plain}
 use Rattle.jm_spec.specs.declared.head.Modifier.{Modifier}
 use Rattle.jm_spec.specs.declared.events.Advice.{Advice}
 use Rattle.jm_spec.specs.declared.events.Advice.TheVariants.{Known, Other}
@@ -20,12 +18,12 @@ use Rattle.jm_spec.specs.declared.property.HandlerText.{HandlerText}
 use Rattle.jm_spec.specs.declared.property.Property.{Property}
 use Rattle.jm_spec.specs.declared.frame.Frame.{Frame}
 use Rattle.jm_spec.specs.Brackets.{sign_of, after_sign, without_angles}
-use Rattle.jm_spec.specs.Runs.{one_more, may_end, parts, clause_length, member_length, parameter_length, begins_property, ends_formula, formula_length}
-use Rattle.jm_spec.specs.Reading.{◌>>=◌, is_mark_at, is_word_at, is_name_at, place, mark_at, name_at, word_at, passed, at_most, step_at_most}
-use Rattle.jm_spec.specs.Rules.{begins_clause, clause_at, clauses_at, more_word_at, begins_more_word, more_words_at, modifier_of, modifier_at, begins_modifier, modifiers_at, named_at, param_at, more_param_at, begins_more_param, more_params_at, params_at, inner_params_at, list_at, run_at, pointcut_at, before_at, optional_list_at, outcome_at, after_at, other_at, advice_at, creation_at, begins_event, event_at, member_at, begins_member, members_at, block_at, handler_at, begins_handler, handlers_at, property_at, goes_on, properties_at, at_end, frame_at, frame_of}
-use Rattle.jm_spec.specs.Balance.{member_sign, open_after, may_end_after, EndsMember}
-use Rattle.jm_spec.specs.Spelling.{IsMark, IsWord, IsAnyWord, IsName, Repeats, nothing, one_more as another, Spelled, SpelledAnywhere, BeginsClause, SpellsClause, clause, SpellsMoreWord, more_word, SpellsModifier, modifier, open_in_list, Holds, IsType, SpellsParam, param, SpellsMoreParam, more_param, SpellsParams, no_params, some_params, SpellsList, list, RunsToEnd, SpellsOutcome, missing, alone, with_list, BeginsOther, SpellsAdvice, before, after, other, SpellsEvent, event, creation_event, SpellsMember, declaration, an_event, SpellsHandler, handler, IsFormula, SpellsProperty, property, BeginsNoClause, SpellsHead, head, SpellsBody, body, Spells, file}
-use Rattle.jm_spec.proofs.TokenLemmas.{never_both, and_left, and_right, and_both, no_mark, no_word, no_name, no_other_word, no_other_mark, word_kind, name_kind, word_sign, mark_sign}
+use Rattle.jm_spec.specs.Runs.{may_end, parts, clause_length, parameter_length, begins_property, formula_length}
+use Rattle.jm_spec.specs.Reading.{◌>>=◌, is_mark_at, is_word_at, is_name_at, place, mark_at, name_at, word_at, passed}
+use Rattle.jm_spec.specs.Rules.{begins_clause, clause_at, clauses_at, more_word_at, begins_more_word, more_words_at, modifier_of, modifier_at, begins_modifier, modifiers_at, named_at, param_at, more_param_at, begins_more_param, more_params_at, params_at, inner_params_at, list_at, run_at, pointcut_at, before_at, optional_list_at, outcome_at, after_at, other_at, advice_at, creation_at, begins_event, event_at, member_at, begins_member, members_at, block_at, handler_at, begins_handler, handlers_at, property_at, goes_on, properties_at, frame_at, frame_of}
+use Rattle.jm_spec.specs.Balance.{member_sign, open_after}
+use Rattle.jm_spec.specs.Spelling.{IsMark, IsWord, IsAnyWord, IsName, Repeats, nothing, one_more as another, Spelled, SpelledAnywhere, BeginsClause, SpellsClause, clause, SpellsMoreWord, more_word, SpellsModifier, modifier, open_in_list, Holds, IsType, SpellsParam, param, SpellsMoreParam, more_param, SpellsParams, no_params, some_params, SpellsList, list, RunsToEnd, SpellsOutcome, missing, alone, with_list, BeginsOther, SpellsAdvice, before, after, other, SpellsEvent, event, creation_event, SpellsMember, declaration, an_event, SpellsHandler, handler, SpellsProperty, property, BeginsNoClause, SpellsHead, head, SpellsBody, body, Spells, file}
+use Rattle.jm_spec.proofs.TokenLemmas.{never_both, no_mark, no_word, no_other_word, no_other_mark, word_kind, name_kind, word_sign, mark_sign}
 use Rattle.jm_spec.proofs.RepeatLemmas.{append-nil, never_some, same_some, first_gives, both_give, steps_complete, items_complete}
 use Rattle.jm_spec.proofs.BalanceLemmas.{nothing_ends}
 use Rattle.jm_spec.proofs.SoundLemmas.{file_tail}
@@ -110,12 +108,13 @@ front_of front rest =
 
 modifier_read : (bytes : List ℕ) (front : List Token) (xs had : List Modifier) (behind : List Token) → SpellsModifier bytes front xs → BeginsWord behind → (begins_modifier bytes (front ++ behind) ≡ true) × (modifier_at bytes had (front ++ behind) ≡ Some (had ++ xs, behind)) × BeginsWord (front ++ behind)
 unfolding modifier_at
-modifier_read bytes front xs had behind (modifier word more w r) b =
-    (ap (λ g. not g) (no_list_behind bytes more behind r b),
-    both_give (word_at (word ∷ more ++ behind)) _ (more ++ behind) _ (word_read word (more ++ behind) w)
-    (both_give (more_words_at bytes (more ++ behind)) _ behind _ (more_words_read bytes more behind r b)
-    (ap (λ ts. Some (had ++ modifier_of bytes ts ∷ [], behind)) (front_of (word ∷ more) behind))),
-    w)
+modifier_read bytes front xs had behind (modifier word more w r) b = (
+  ap (λ g. not g) (no_list_behind bytes more behind r b),
+  both_give (word_at (word ∷ more ++ behind)) _ (more ++ behind) _ (word_read word (more ++ behind) w)
+      (both_give (more_words_at bytes (more ++ behind)) _ behind _ (more_words_read bytes more behind r b)
+      (ap (λ ts. Some (had ++ modifier_of bytes ts ∷ [], behind)) (front_of (word ∷ more) behind))),
+  w,
+)
 
 modifiers_read : (bytes : List ℕ) (front : List Token) (xs : List Modifier) (behind : List Token) → SpelledAnywhere (SpellsModifier bytes) front xs → BeginsWord behind → begins_modifier bytes behind ≡ false → (modifiers_at bytes [] (front ++ behind) ≡ Some (xs, behind)) × BeginsWord (front ++ behind)
 unfolding modifiers_at
@@ -183,12 +182,15 @@ named_read bytes names type name rest filled n = passes (nat_lt (length (type ++
   where
     two : 2 ≤ length (type ++ name ∷ [])
     two = let h = filled_length type filled in omega (arith, length-append type (name ∷ []))
+
     here : slice_get ((type ++ name ∷ []) ++ rest) (length (type ++ name ∷ []) - 1) ≡ Some name
     here =
         let count : length (type ++ name ∷ []) - 1 ≡ length type = omega (arith, length-append type (name ∷ [])) in
         (λ i. slice_get (append_assoc type (name ∷ []) rest i) (count i)) ∙ got type name rest
+
     named : is_name_at bytes ((type ++ name ∷ []) ++ rest) (length (type ++ name ∷ []) - 1) ≡ true
     named = ap (λ o. option_map_or (λ t. is_name bytes t) o false) here ∙ n
+
     passes : (short unnamed : Bool) → short ≡ false → unnamed ≡ true → cond {A = Option (List Token × List Token)} (short || not unnamed) None (option_and_then {U = List Token × List Token} (λ t. Some (names ++ t ∷ [], drop (length (type ++ name ∷ [])) ((type ++ name ∷ []) ++ rest))) (slice_get ((type ++ name ∷ []) ++ rest) (length (type ++ name ∷ []) - 1))) ≡ Some (names ++ name ∷ [], rest)
     passes true unnamed h k = absurd (never_both true refl h)
     passes false false h k = absurd (never_both false k refl)
@@ -223,6 +225,7 @@ no_round bytes front added behind (param type name is_type is_name) = first type
     unbalanced : (t : Token) (ts : List Token) (g : Bool) → is_mark bytes t (codes ")") ≡ g → open_in_list bytes [] (t ∷ ts) ≡ Some [] → g ≡ false
     unbalanced t ts false h balanced = refl
     unbalanced t ts true h balanced = absurd (never_some (sym (ap (λ sign. option_and_then (λ next. open_in_list bytes next ts) (after_sign [] sign)) (mark_sign bytes t 41 h)) ∙ balanced))
+
     first : (xs : List Token) → IsType bytes xs → is_mark_at bytes (xs ++ name ∷ [] ++ behind) 0 (codes ")") ≡ false
     first [] is = absurd (is.filled refl)
     first (t ∷ ts) is = unbalanced t ts (is_mark bytes t (codes ")")) refl is.balanced
@@ -257,7 +260,6 @@ pointcut_read : (bytes : List ℕ) (colon : Token) (run rest : List Token) → I
 unfolding pointcut_at
 pointcut_read bytes colon run rest c r = both_give (mark_at bytes (codes ":") (colon ∷ run ++ rest)) (run_at bytes) (run ++ rest) _ (mark_read bytes (codes ":") colon (run ++ rest) c) (run_read bytes run rest r)
 
-
 outcome_read : (bytes word : List ℕ) (had front xs rest : List Token) → SpellsOutcome bytes word front xs → is_word_at bytes rest 0 word ≡ false → is_mark_at bytes rest 0 (codes "(") ≡ false → outcome_at bytes word had (front ++ rest) ≡ Some (had ++ xs, rest)
 unfolding outcome_at optional_list_at
 outcome_read bytes word had front xs rest missing no_word no_list =
@@ -289,10 +291,11 @@ before_read bytes word params names colon run rest w l c r =
 -- where an `after` goes on behind its list
 after_tail : (bytes : List ℕ) (names returned results thrown errors : List Token) (colon : Token) (run rest : List Token) → SpellsOutcome bytes (codes "returning") returned results → SpellsOutcome bytes (codes "throwing") thrown errors → IsMark bytes (codes ":") colon → RunsToEnd bytes run → (outcome_at bytes (codes "returning") names (returned ++ (thrown ++ (colon ∷ run ++ rest))) ≡ Some (names ++ results, thrown ++ (colon ∷ run ++ rest))) × (outcome_at bytes (codes "throwing") (names ++ results) (thrown ++ (colon ∷ run ++ rest)) ≡ Some (names ++ results ++ errors, colon ∷ run ++ rest)) × (pointcut_at bytes (colon ∷ run ++ rest) ≡ Some rest)
 after_tail bytes names returned results thrown errors colon run rest u v c r =
-    let b = errors_begin bytes thrown errors colon (run ++ rest) v c in
-    (outcome_read bytes (codes "returning") names returned results (thrown ++ (colon ∷ run ++ rest)) u b.0 b.1,
-    outcome_read bytes (codes "throwing") (names ++ results) thrown errors (colon ∷ run ++ rest) v (no_word bytes colon (codes ":") (codes "throwing") c) (no_other_mark bytes colon (codes ":") (codes "(") c refl),
-    pointcut_read bytes colon run rest c r)
+    let b = errors_begin bytes thrown errors colon (run ++ rest) v c in (
+      outcome_read bytes (codes "returning") names returned results (thrown ++ (colon ∷ run ++ rest)) u b.0 b.1,
+      outcome_read bytes (codes "throwing") (names ++ results) thrown errors (colon ∷ run ++ rest) v (no_word bytes colon (codes ":") (codes "throwing") c) (no_other_mark bytes colon (codes ":") (codes "(") c refl),
+      pointcut_read bytes colon run rest c r,
+    )
 
 regrouped : (a b c d rest : List Token) → (a ++ b ++ c ++ d) ++ rest ≡ a ++ (b ++ (c ++ (d ++ rest)))
 regrouped a b c d rest = simp append_assoc
@@ -393,20 +396,23 @@ no_closing bytes (t ∷ ts) rest r = given (is_mark bytes t (codes "}")) refl
 
 event_begins : (bytes : List ℕ) (front : List Token) (e : Mention) (rest : List Token) → SpellsEvent bytes front e → (begins_event bytes (front ++ rest) ≡ true) × (begins_member bytes (front ++ rest) ≡ true)
 event_begins bytes front e rest (event word name said a w n s) =
-    let k = word_kind bytes word (codes "event") w in
-    ((λ i. w i && n i || is_word bytes word (codes "creation") && is_word bytes name (codes "event") && is_name_at bytes (said ++ rest) 0),
-    (λ i. not (no_mark bytes word (codes "}") k i || is_name bytes word && no_mark bytes name (codes ":") (name_kind bytes name n) i)) ∙ ap (λ g. not g) (and_none (is_name bytes word)))
+    let k = word_kind bytes word (codes "event") w in (
+      (λ i. w i && n i || is_word bytes word (codes "creation") && is_word bytes name (codes "event") && is_name_at bytes (said ++ rest) 0),
+      (λ i. not (no_mark bytes word (codes "}") k i || is_name bytes word && no_mark bytes name (codes ":") (name_kind bytes name n) i)) ∙ ap (λ g. not g) (and_none (is_name bytes word)),
+    )
   where
     and_none : (g : Bool) → g && false ≡ false
     and_none true = refl
     and_none false = refl
-event_begins bytes front e rest (creation_event creates word name said a k w n s) =
-    ((λ i. is_word bytes creates (codes "event") && is_name bytes word || k i && w i && n i) ∙ or_true _,
-    (λ i. not (no_mark bytes creates (codes "}") (word_kind bytes creates (codes "creation") k) i || is_name bytes creates && no_mark bytes word (codes ":") (word_kind bytes word (codes "event") w) i)) ∙ ap (λ g. not g) (and_none (is_name bytes creates)))
+event_begins bytes front e rest (creation_event creates word name said a k w n s) = (
+  (λ i. is_word bytes creates (codes "event") && is_name bytes word || k i && w i && n i) ∙ or_true _,
+  (λ i. not (no_mark bytes creates (codes "}") (word_kind bytes creates (codes "creation") k) i || is_name bytes creates && no_mark bytes word (codes ":") (word_kind bytes word (codes "event") w) i)) ∙ ap (λ g. not g) (and_none (is_name bytes creates)),
+)
   where
     and_none : (g : Bool) → g && false ≡ false
     and_none true = refl
     and_none false = refl
+
     or_true : (g : Bool) → g || true ≡ true
     or_true true = refl
     or_true false = refl
@@ -425,11 +431,12 @@ member_filled bytes at front xs (an_event tokens e s) = event_filled tokens e s
 
 member_read : (bytes : List ℕ) (front : List Token) (xs had : List Mention) (rest : List Token) → SpellsMember bytes front xs → Unit {0} → (begins_member bytes (front ++ rest) ≡ true) × (member_at bytes had (front ++ rest) ≡ Some (had ++ xs, rest)) × Unit {0}
 unfolding member_at
-member_read bytes front xs had rest (declaration run r e p) u =
-    ((λ i. not (no_closing bytes run rest r i || no_property_whole bytes run rest r p i)),
-    ap (λ g. cond {A = Option (List Mention × List Token)} g (event_at bytes had (run ++ rest)) (run_at bytes (run ++ rest) >>= λ behind. Some (had, behind))) (no_event_whole bytes run rest r e)
-    ∙ both_give (run_at bytes (run ++ rest)) _ rest _ (run_read bytes run rest r) (ap (λ ys. Some (ys, rest)) (sym (append-nil had))),
-    tt)
+member_read bytes front xs had rest (declaration run r e p) u = (
+  (λ i. not (no_closing bytes run rest r i || no_property_whole bytes run rest r p i)),
+  ap (λ g. cond {A = Option (List Mention × List Token)} g (event_at bytes had (run ++ rest)) (run_at bytes (run ++ rest) >>= λ behind. Some (had, behind))) (no_event_whole bytes run rest r e)
+      ∙ both_give (run_at bytes (run ++ rest)) _ rest _ (run_read bytes run rest r) (ap (λ ys. Some (ys, rest)) (sym (append-nil had))),
+  tt,
+)
 member_read bytes front xs had rest (an_event tokens e s) u =
     let b = event_begins bytes tokens e rest s in
     (b.1, ap (λ g. cond {A = Option (List Mention × List Token)} g (event_at bytes had (tokens ++ rest)) (run_at bytes (tokens ++ rest) >>= λ behind. Some (had, behind))) b.0 ∙ event_read bytes had tokens e rest s, tt)
@@ -469,13 +476,14 @@ unfolding handler_at
 handler_read bytes total at front xs had rest (handler sign category opening inside closing s n o b c) p same =
     let there : at + 2 + length ((opening ∷ inside ++ closing ∷ []) ++ rest) ≡ total = omega arith in
     let first : at + 2 + 1 ≡ at + 3 = omega arith in
-    let last : at + 2 + 1 + length inside ≡ at + 3 + length inside = omega arith in
-    (s,
-    both_give (mark_at bytes (codes "@") (sign ∷ category ∷ (opening ∷ inside ++ closing ∷ []) ++ rest)) _ (category ∷ (opening ∷ inside ++ closing ∷ []) ++ rest) _ (mark_read bytes (codes "@") sign _ s)
-    (both_give (name_at bytes (category ∷ (opening ∷ inside ++ closing ∷ []) ++ rest)) _ (category, (opening ∷ inside ++ closing ∷ []) ++ rest) _ (name_read bytes category _ n)
-    (both_give (block_at bytes total ((opening ∷ inside ++ closing ∷ []) ++ rest)) _ ((at + 2 + 1, at + 2 + 1 + length inside), rest) _ (block_read bytes total (at + 2) opening inside closing rest o b c there)
-    (λ i. Some (had ++ record { category = category; first = first i; last = last i } ∷ [], rest)))),
-    sign_stops bytes sign (category ∷ (opening ∷ inside ++ closing ∷ []) ++ rest) s)
+    let last : at + 2 + 1 + length inside ≡ at + 3 + length inside = omega arith in (
+      s,
+      both_give (mark_at bytes (codes "@") (sign ∷ category ∷ (opening ∷ inside ++ closing ∷ []) ++ rest)) _ (category ∷ (opening ∷ inside ++ closing ∷ []) ++ rest) _ (mark_read bytes (codes "@") sign _ s)
+          (both_give (name_at bytes (category ∷ (opening ∷ inside ++ closing ∷ []) ++ rest)) _ (category, (opening ∷ inside ++ closing ∷ []) ++ rest) _ (name_read bytes category _ n)
+          (both_give (block_at bytes total ((opening ∷ inside ++ closing ∷ []) ++ rest)) _ ((at + 2 + 1, at + 2 + 1 + length inside), rest) _ (block_read bytes total (at + 2) opening inside closing rest o b c there)
+          (λ i. Some (had ++ record { category = category; first = first i; last = last i } ∷ [], rest)))),
+      sign_stops bytes sign (category ∷ (opening ∷ inside ++ closing ∷ []) ++ rest) s,
+    )
 
 handlers_read : (bytes : List ℕ) (total at : ℕ) (front : List Token) (xs : List HandlerText) (rest : List Token) → Spelled (SpellsHandler bytes) at front xs → StopsFormula bytes rest → begins_handler bytes rest ≡ false → at + length (front ++ rest) ≡ total → (handlers_at bytes total [] (front ++ rest) ≡ Some (xs, rest)) × StopsFormula bytes (front ++ rest)
 unfolding handlers_at
@@ -502,6 +510,7 @@ property_stops bytes logic colon rest n c = record {
     and_none : (g : Bool) → g && false ≡ false
     and_none true = refl
     and_none false = refl
+
     or_true : (g : Bool) → g || true ≡ true
     or_true true = refl
     or_true false = refl
@@ -518,6 +527,7 @@ closing_stops bytes closing rest c = record {
     and_none : (g : Bool) → g && false ≡ false
     and_none true = refl
     and_none false = refl
+
     or_true : (g k : Bool) → g || true || k ≡ true
     or_true true k = refl
     or_true false k = refl
@@ -532,15 +542,16 @@ property_read bytes total at front xs had rest (property logic colon formula han
     let h = handlers_read bytes total (at + 2 + length formula) handling handlers rest hs p.formula p.no_handler there in
     let e = append_assoc formula handling rest in
     let first : place total ((formula ++ handling) ++ rest) ≡ at + 2 = omega arith in
-    let last : place total (handling ++ rest) ≡ at + 2 + length formula = omega arith in
-    (ap (λ g. not g) (no_mark bytes logic (codes "}") (name_kind bytes logic n)),
-    both_give (name_at bytes (logic ∷ colon ∷ (formula ++ handling) ++ rest)) _ (logic, colon ∷ (formula ++ handling) ++ rest) _ (name_read bytes logic _ n)
-    (both_give (mark_at bytes (codes ":") (colon ∷ (formula ++ handling) ++ rest)) _ ((formula ++ handling) ++ rest) _ (mark_read bytes (codes ":") colon _ c)
-    (both_give (passed ((formula ++ handling) ++ rest) (formula_length bytes ((formula ++ handling) ++ rest))) _ (handling ++ rest) _
-      (ap (λ ts. passed ts (formula_length bytes ts)) e ∙ passed_complete formula (handling ++ rest) _ (formula_complete bytes formula (handling ++ rest) f h.1))
-    (both_give (handlers_at bytes total [] (handling ++ rest)) _ (handlers, rest) _ h.0
-    (λ i. Some (had ++ record { logic = logic; first = first i; last = last i; handlers = handlers } ∷ [], rest))))),
-    property_stops bytes logic colon ((formula ++ handling) ++ rest) n c)
+    let last : place total (handling ++ rest) ≡ at + 2 + length formula = omega arith in (
+      ap (λ g. not g) (no_mark bytes logic (codes "}") (name_kind bytes logic n)),
+      both_give (name_at bytes (logic ∷ colon ∷ (formula ++ handling) ++ rest)) _ (logic, colon ∷ (formula ++ handling) ++ rest) _ (name_read bytes logic _ n)
+          (both_give (mark_at bytes (codes ":") (colon ∷ (formula ++ handling) ++ rest)) _ ((formula ++ handling) ++ rest) _ (mark_read bytes (codes ":") colon _ c)
+          (both_give (passed ((formula ++ handling) ++ rest) (formula_length bytes ((formula ++ handling) ++ rest))) _ (handling ++ rest) _
+          (ap (λ ts. passed ts (formula_length bytes ts)) e ∙ passed_complete formula (handling ++ rest) _ (formula_complete bytes formula (handling ++ rest) f h.1))
+          (both_give (handlers_at bytes total [] (handling ++ rest)) _ (handlers, rest) _ h.0
+          (λ i. Some (had ++ record { logic = logic; first = first i; last = last i; handlers = handlers } ∷ [], rest))))),
+      property_stops bytes logic colon ((formula ++ handling) ++ rest) n c,
+    )
 
 properties_read : (bytes : List ℕ) (total at : ℕ) (front : List Token) (xs : List Property) (closing : Token) → Spelled (SpellsProperty bytes) at front xs → IsMark bytes (codes "}") closing → at + length (front ++ closing ∷ []) ≡ total → (properties_at bytes total [] (front ++ closing ∷ []) ≡ Some (xs, closing ∷ [])) × StopsProperty bytes (front ++ closing ∷ [])
 unfolding properties_at
@@ -577,6 +588,7 @@ no_clause_begins bytes front name more h = first front h
     neither t true y g k h = absurd (h (inl g))
     neither t false true g k h = absurd (h (inr k))
     neither t false false g k h = refl
+
     first : (xs : List Token) → BeginsNoClause bytes (xs ++ name ∷ []) → begins_clause bytes (xs ++ name ∷ more) ≡ false
     first [] h = neither name (is_word bytes name (codes "package")) (is_word bytes name (codes "import")) refl refl h
     first (x ∷ xs) h = neither x (is_word bytes x (codes "package")) (is_word bytes x (codes "import")) refl refl h

@@ -1,17 +1,17 @@
 -- How far the runs go, and what they spell.
-use Rattle.std.proofs.Common.{◌≡◌, ◌≢◌, ℕ, zero, suc, ◌+◌, ◌-◌, ◌<◌, ◌≤◌, Bool, true, false, cond, List, [], ◌∷◌, ◌++◌, length, take, drop, Option, Some, None, ◌⊎◌, inl, inr, refl, sym, ap, ◌∙◌, subst, arith, append_assoc, length-append, add-one}
+use Rattle.std.proofs.Common.{◌≡◌, ℕ, zero, suc, ◌+◌, ◌-◌, ◌<◌, ◌≤◌, Bool, true, false, cond, List, [], ◌∷◌, ◌++◌, length, take, Option, Some, None, ◌⊎◌, inl, inr, refl, sym, ap, ◌∙◌, subst, arith, length-append}
 use Rattle.std.proofs.Math.Seq.{take-append_seam, drop-append_seam}
 use Rattle.std.proofs.lemmas.List.{take-append-drop, take-append-le, take-take, length-take}
-use Rattle.std.specs.Prelude.{not, ◌&&◌, ◌||◌, codes, option_and_then, option_map}
+use Rattle.std.specs.Prelude.{not, ◌||◌, codes, option_and_then, option_map}
 use Rattle.std.specs.List.{list_any}
 use Rattle.jm_text.specs.declared.token.Token.{Token}
-use Rattle.jm_text.specs.Texts.{is_mark, is_name}
+use Rattle.jm_text.specs.Texts.{is_mark}
 use Rattle.jm_spec.specs.declared.brackets.Bracket.{Bracket}
 use Rattle.jm_spec.specs.declared.brackets.Bracket.TheVariants.{Round, Square, Curly, Angle}
 use Rattle.jm_spec.specs.declared.brackets.Sign.{Sign}
 use Rattle.jm_spec.specs.declared.brackets.Sign.TheVariants.{Open, Close, Comma, Semicolon, Plain}
 use Rattle.jm_spec.specs.Brackets.{sign_of_byte, sign_of, closed, after_sign, hold_commas, without_angles, is_same}
-use Rattle.jm_spec.specs.Runs.{one_more, may_end, clause_length, member_rest, member_length, is_none_open, parts, parameter_behind, parameter_rest, parameter_length, begins_property, ends_formula, formula_length}
+use Rattle.jm_spec.specs.Runs.{one_more, may_end, clause_length, member_length, is_none_open, parts, parameter_rest, begins_property, ends_formula, formula_length}
 use Rattle.jm_spec.specs.Reading.{passed}
 use Rattle.jm_spec.specs.Balance.{member_sign, open_after, may_end_after, EndsFrom, EndsMember}
 use Rattle.jm_spec.specs.Spelling.{IsMark, RunsToEnd, IsFormula, open_in_list, Holds}
@@ -81,6 +81,7 @@ member_sound bytes tokens n h = record { ends = found.0; first = earlier }
   where
     found : EndsFrom bytes [] (take n tokens) × ((k : ℕ) → k < n → EndsFrom bytes [] (take k tokens) → ⊥)
     found = member_found bytes tokens n h
+
     earlier : (k : ℕ) → k < length (take n tokens) → EndsMember bytes (take k (take n tokens)) → ⊥
     earlier k less e =
         let within : k < n = omega (arith, length-take n tokens) in
@@ -95,6 +96,7 @@ member_cases bytes run rest (Some n) r is = decide (cases_of n (length run))
   where
     found : EndsFrom bytes [] (take n (run ++ rest)) × ((k : ℕ) → k < n → EndsFrom bytes [] (take k (run ++ rest)) → ⊥)
     found = member_found bytes (run ++ rest) n is
+
     decide : (n < length run) ⊎ ((n ≡ length run) ⊎ (length run < n)) → Some n ≡ Some (length run)
     decide (inl less) = absurd (r.first n less (subst (λ ts. EndsMember bytes ts) (take-append-le n run rest (omega arith)) found.0))
     decide (inr (inl same)) = ap (λ (x : ℕ). Some x) same
@@ -213,15 +215,15 @@ parameter_ends : (bytes : List ℕ) (stack : List Bracket) (t : Token) (ts : Lis
 parameter_ends bytes stack t ts false n parting is h = absurd (never_some h)
 parameter_ends bytes stack t ts true n parting is h =
     let e = none_open stack is in record {
-  front = [];
-  behind = t;
-  rest = ts;
-  split = refl;
-  count = sym (same_some h);
-  balanced = ap (λ (s : List Bracket). Some s) e;
-  held = λ front behind comma. no_tokens front behind comma;
-  parts_here = sym (ap (λ s. parts s (sign_of bytes t)) e) ∙ parting;
-}
+      front = [];
+      behind = t;
+      rest = ts;
+      split = refl;
+      count = sym (same_some h);
+      balanced = ap (λ (s : List Bracket). Some s) e;
+      held = λ front behind comma. no_tokens front behind comma;
+      parts_here = sym (ap (λ s. parts s (sign_of bytes t)) e) ∙ parting;
+    }
 
 parameter_turn : (bytes : List ℕ) (stack : List Bracket) (t : Token) (ts : List Token) (g : Bool) (n : ℕ) → ((inner : List Bracket) (m : ℕ) → parameter_rest bytes inner ts ≡ Some m → TakesParameter bytes inner ts m) → parts stack (sign_of bytes t) ≡ g → cond g (cond (is_none_open stack) (Some 0) None) (option_and_then (λ inner. one_more (parameter_rest bytes inner ts)) (after_sign stack (sign_of bytes t))) ≡ Some n → TakesParameter bytes stack (t ∷ ts) n
 parameter_turn bytes stack t ts true n more g h = parameter_ends bytes stack t ts (is_none_open stack) n g refl h
@@ -309,14 +311,19 @@ block_complete bytes opening inside closing opens balanced closes = record { end
   where
     opened : after_sign [] (member_sign bytes opening) ≡ Some (Curly ∷ [])
     opened = ap (after_sign []) (member_of_mark bytes opening 123 opens)
+
     under : open_after bytes (Curly ∷ []) inside ≡ Some (Curly ∷ [])
     under = open_after-deeper bytes Curly inside [] [] balanced
+
     shut : open_after bytes (Curly ∷ []) (closing ∷ []) ≡ Some []
     shut = ap (λ sign. option_and_then (λ next. open_after bytes next []) (after_sign (Curly ∷ []) sign)) (member_of_mark bytes closing 125 closes)
+
     whole : open_after bytes [] (opening ∷ inside ++ closing ∷ []) ≡ Some []
     whole = both_give (after_sign [] (member_sign bytes opening)) (λ next. open_after bytes next (inside ++ closing ∷ [])) (Curly ∷ []) _ opened (open_after-append bytes inside (closing ∷ []) (Curly ∷ []) (Curly ∷ []) under ∙ shut)
+
     last : may_end_after bytes (opening ∷ inside ++ closing ∷ []) ≡ true
     last = may_end-last bytes (opening ∷ inside) closing ∙ ap may_end (member_of_mark bytes closing 125 closes)
+
     earlier : (k : ℕ) → k < length (opening ∷ inside ++ closing ∷ []) → EndsMember bytes (take k (opening ∷ inside ++ closing ∷ [])) → ⊥
     earlier zero less e = nothing_ends bytes [] e
     earlier (suc j) less e =
@@ -406,5 +413,6 @@ block_sound bytes opening more opens r = record { inside = b.inside; closing = b
   where
     opened : after_sign [] (member_sign bytes opening) ≡ Some (Curly ∷ [])
     opened = ap (after_sign []) (member_of_mark bytes opening 123 opens)
+
     b : TakesBlock bytes [] more
     b = block_inside bytes more [] (sym (behind bytes [] (Curly ∷ []) opening more opened) ∙ r.ends.closed) (first_behind bytes [] (Curly ∷ []) opening more opened r.first)

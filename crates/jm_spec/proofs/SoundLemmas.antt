@@ -1,7 +1,7 @@
 -- What the rules read is spelled so.
-use Rattle.std.proofs.Common.{◌≡◌, ◌≢◌, ℕ, zero, suc, ◌+◌, ◌-◌, ◌<◌, ◌≤◌, Bool, true, false, cond, List, [], ◌∷◌, ◌++◌, length, take, drop, Option, Some, None, ◌⊎◌, inl, inr, refl, sym, ap, ◌∙◌, subst, arith, append_assoc, length-append, add-one}
+use Rattle.std.proofs.Common.{◌≡◌, ◌≢◌, ℕ, suc, ◌+◌, ◌-◌, ◌≤◌, Bool, true, false, cond, List, [], ◌∷◌, ◌++◌, length, take, drop, Option, Some, None, ◌⊎◌, inl, inr, refl, sym, ap, ◌∙◌, subst, arith, append_assoc, length-append}
 use Rattle.std.proofs.Math.Seq.{take-append_seam, drop-append_seam}
-use Rattle.std.specs.Prelude.{not, ◌&&◌, ◌||◌, ◌==◌, nat_lt, codes, slice_get, option_and_then, option_map}
+use Rattle.std.specs.Prelude.{not, ◌&&◌, ◌||◌, nat_lt, codes, slice_get, option_and_then}
 use Rattle.jm_text.specs.declared.token.Token.{Token}
 use Rattle.jm_text.specs.Texts.{is_mark, is_word, is_name, is_word_kind}
 use Rattle.std.specs.Option.{option_map_or}
@@ -15,15 +15,15 @@ use Rattle.jm_spec.specs.declared.events.Mention.{Mention}
 use Rattle.jm_spec.specs.declared.property.HandlerText.{HandlerText}
 use Rattle.jm_spec.specs.declared.property.Property.{Property}
 use Rattle.jm_spec.specs.declared.frame.Frame.{Frame}
-use Rattle.jm_spec.specs.Runs.{one_more, clause_length, member_length, parameter_length, begins_property, ends_formula, formula_length}
-use Rattle.jm_spec.specs.Reading.{◌>>=◌, is_mark_at, is_word_at, is_name_at, place, mark_at, name_at, word_at, passed, at_most, step_at_most}
+use Rattle.jm_spec.specs.Runs.{clause_length, member_length, parameter_length, begins_property, formula_length}
+use Rattle.jm_spec.specs.Reading.{◌>>=◌, is_mark_at, is_word_at, is_name_at, place, mark_at, name_at, word_at, passed}
 use Rattle.jm_spec.specs.Rules.{begins_clause, clause_at, clauses_at, more_word_at, begins_more_word, more_words_at, modifier_of, modifier_at, begins_modifier, modifiers_at, named_at, param_at, more_param_at, begins_more_param, more_params_at, params_at, inner_params_at, list_at, run_at, pointcut_at, before_at, optional_list_at, outcome_at, after_at, other_at, advice_at, creation_at, begins_event, event_at, member_at, begins_member, members_at, block_at, handler_at, begins_handler, handlers_at, property_at, goes_on, properties_at, at_end, frame_at, frame_of}
 use Rattle.jm_spec.specs.Balance.{open_after}
-use Rattle.jm_spec.specs.Spelling.{IsMark, IsWord, IsAnyWord, IsName, Repeats, Spelled, SpelledAnywhere, BeginsClause, SpellsClause, clause, SpellsMoreWord, more_word, SpellsModifier, modifier, open_in_list, Holds, IsType, SpellsParam, param, SpellsMoreParam, more_param, SpellsParams, no_params, some_params, SpellsList, list, RunsToEnd, SpellsOutcome, missing, alone, with_list, BeginsOther, SpellsAdvice, before, after, other, SpellsEvent, event, creation_event, SpellsMember, declaration, an_event, SpellsHandler, handler, IsFormula, SpellsProperty, property, BeginsNoClause, SpellsHead, head, SpellsBody, body, Spells, file}
-use Rattle.jm_spec.proofs.TokenLemmas.{never_both, and_left, and_right, no_mark, no_word, no_other_word, word_kind, name_kind, word_sign}
+use Rattle.jm_spec.specs.Spelling.{IsMark, IsWord, IsAnyWord, IsName, Repeats, Spelled, SpelledAnywhere, BeginsClause, SpellsClause, clause, SpellsMoreWord, more_word, SpellsModifier, modifier, open_in_list, IsType, SpellsParam, param, SpellsMoreParam, more_param, SpellsParams, no_params, some_params, SpellsList, list, RunsToEnd, SpellsOutcome, missing, alone, with_list, BeginsOther, SpellsAdvice, before, after, other, SpellsEvent, event, creation_event, SpellsMember, declaration, an_event, SpellsHandler, handler, SpellsProperty, property, BeginsNoClause, SpellsHead, head, SpellsBody, body, Spells, file}
+use Rattle.jm_spec.proofs.TokenLemmas.{never_both, and_left, and_right, no_mark, no_other_word, word_kind, name_kind, word_sign}
 use Rattle.jm_spec.proofs.RepeatLemmas.{append-nil, never_some, same_some, first_gives, both_give, Fronts, Adds, steps_sound, items_sound}
 use Rattle.jm_spec.proofs.BalanceLemmas.{nothing_ends}
-use Rattle.jm_spec.proofs.EndLemmas.{passed_sound, clause_sound, clause_word_sound, member_sound, formula_sound, IsHeld, TakesParameter, parameter_sound, IsBlock, block_sound, TakesClause}
+use Rattle.jm_spec.proofs.EndLemmas.{passed_sound, clause_sound, clause_word_sound, member_sound, formula_sound, IsHeld, TakesParameter, parameter_sound, block_sound}
 
 -- one token and the rest
 pub mark_sound : (bytes mark : List ℕ) (tokens rest : List Token) → mark_at bytes mark tokens ≡ Some rest → (t : Token) × (tokens ≡ t ∷ rest) × IsMark bytes mark t
@@ -186,6 +186,7 @@ param_is bytes names tokens out rest h = given (parameter_sound bytes tokens [] 
   where
     p : (n : ℕ) × (parameter_length bytes tokens ≡ Some n) × (named_at bytes names tokens n ≡ Some (out, rest))
     p = first_gives (parameter_length bytes tokens) (named_at bytes names tokens) (out, rest) h
+
     given : TakesParameter bytes [] tokens p.0 → Adds (SpellsParam bytes) tokens names out rest
     given r =
         let read : named_at bytes names (r.front ++ r.behind ∷ r.rest) (length r.front) ≡ Some (out, rest) = (λ i. named_at bytes names (sym r.split i) (sym r.count i)) ∙ p.2 in
@@ -302,6 +303,7 @@ outcome_is bytes word names tokens out rest h = given (is_word_at bytes tokens 0
     optional : (t : Token) (mid : List Token) (g : Bool) → IsWord bytes word t → cond {A = Option (List Token × List Token)} g (list_at bytes names mid) (Some (names, mid)) ≡ Some (out, rest) → Adds (SpellsOutcome bytes word) (t ∷ mid) names out rest
     optional t mid true is h = let l = list_is bytes names mid out rest h in record { front = t ∷ l.front; values = l.values; split = ap (λ xs. t ∷ xs) l.split; all = l.all; said = with_list t l.front l.values is l.said }
     optional t mid false is h = let e = same_some h in record { front = t ∷ []; values = []; split = ap (λ x. t ∷ x.1) e; all = sym (ap (λ x. x.0) e) ∙ sym (append-nil names); said = alone t is }
+
     given : (g : Bool) → is_word_at bytes tokens 0 word ≡ g → cond {A = Option (List Token × List Token)} g (word_at tokens >>= optional_list_at bytes names) (Some (names, tokens)) ≡ Some (out, rest) → Adds (SpellsOutcome bytes word) tokens names out rest
     given false g h = let e = same_some h in record { front = []; values = []; split = ap (λ x. x.1) e; all = sym (ap (λ x. x.0) e) ∙ sym (append-nil names); said = missing }
     given true g h =
@@ -343,6 +345,7 @@ other_is bytes (t ∷ ts) a rest not_before not_after h = given (is_mark bytes t
     first (f ∷ front) is split b ends =
         let same : t ≡ f = cc in
         record { front = f ∷ front; split = split; said = subst (λ x. SpellsAdvice bytes (f ∷ front) (Other x.line)) (sym same) (other f front (subst (BeginsOther bytes) same b) ends) }
+
     given : (g k : Bool) → is_mark bytes t (codes ";") ≡ g → is_mark bytes t (codes "{") ≡ k → cond {A = Option (Advice × List Token)} (g || k) None (run_at bytes (t ∷ ts) >>= λ rest. Some (Other t.line, rest)) ≡ Some (a, rest) → Says (SpellsAdvice bytes) (t ∷ ts) a rest
     given true k g e h = absurd (never_some h)
     given false true g e h = absurd (never_some h)
@@ -385,18 +388,21 @@ event_is bytes events tokens out rest begins h = given (is_word_at bytes tokens 
           all = sym (ap (λ x. x.0) e);
           said = an_event (fronts ++ q.0.0 ∷ a.front) (record { creation = creation; name = q.0.0; advice = r.0.0 }) (said q.0.0 a.front r.0.0 n.1 a.said);
         }
+
     plain_word : (ts : List Token) → begins_event bytes ts ≡ true → is_word_at bytes ts 0 (codes "creation") ≡ false → is_word_at bytes ts 0 (codes "event") ≡ true
     plain_word ts b no_creation = and_left (is_word_at bytes ts 0 (codes "event")) _ (only _ _ no_creation b)
       where
         only : (x y : Bool) → is_word_at bytes ts 0 (codes "creation") ≡ false → x || is_word_at bytes ts 0 (codes "creation") && y && is_name_at bytes ts 2 ≡ true → x ≡ true
         only true y g h = refl
         only false y g h = absurd (never_both _ (and_left _ _ (and_left _ _ h)) g)
+
     word_behind : (ts us : List Token) (t : Token) → begins_event bytes ts ≡ true → ts ≡ t ∷ us → is_word bytes t (codes "creation") ≡ true → is_word_at bytes us 0 (codes "event") ≡ true
     word_behind ts us t b split is = second (is_word bytes t (codes "event")) _ _ _ (no_other_word bytes t (codes "creation") (codes "event") is refl) (sym (ap (begins_event bytes) split) ∙ b)
       where
         second : (v n w m : Bool) → v ≡ false → v && n || is_word bytes t (codes "creation") && w && m ≡ true → w ≡ true
         second true n w m g h = absurd (never_both true refl g)
         second false n w m g h = and_right _ _ (and_left _ _ h)
+
     given : (g : Bool) → is_word_at bytes tokens 0 (codes "creation") ≡ g → ((cond {A = Option (Bool × List Token)} g (word_at tokens >>= λ rest. Some (true, rest)) (Some (false, tokens))) >>= λ creation. word_at creation.1 >>= λ mid. event_tail bytes events creation.0 mid) ≡ Some (out, rest) → Adds (SpellsMember bytes) tokens events out rest
     given false g h =
         let p = first_gives (word_at tokens) _ (out, rest) h in
@@ -445,6 +451,7 @@ member_is bytes events tokens out rest begins h = given (begins_event bytes toke
     no_property true y h = absurd (never_both false h refl)
     no_property false true h = absurd (never_both false h refl)
     no_property false false h = refl
+
     given : (g : Bool) → begins_event bytes tokens ≡ g → cond {A = Option (List Mention × List Token)} g (event_at bytes events tokens) (run_at bytes tokens >>= λ rest. Some (events, rest)) ≡ Some (out, rest) → Adds (SpellsMember bytes) tokens events out rest
     given true g h = event_is bytes events tokens out rest g h
     given false g h =
@@ -497,6 +504,7 @@ block_is bytes total tokens range rest h = given (is_mark_at bytes tokens 0 (cod
           first = sym (ap (λ x. x.0.0) e);
           last = sym (ap (λ x. x.0.1) e) ∙ ap (λ x. place total x.1 - 1) e;
         }
+
     given : (g : Bool) → is_mark_at bytes tokens 0 (codes "{") ≡ g → cond {A = Option ((ℕ × ℕ) × List Token)} g (run_at bytes tokens >>= λ rest. Some ((place total tokens + 1, place total rest - 1), rest)) None ≡ Some (range, rest) → HasBlock bytes total tokens range rest
     given false g h = absurd (never_some h)
     given true g h =
@@ -577,6 +585,7 @@ begins_none bytes front name more h = first front h
         or_second : (a b : Bool) → b ≡ true → a || b ≡ true
         or_second true b h = refl
         or_second false b h = h
+
     first : (xs : List Token) → begins_clause bytes (xs ++ name ∷ more) ≡ false → BeginsNoClause bytes (xs ++ name ∷ [])
     first [] h = not_this name h
     first (x ∷ xs) h = not_this x h

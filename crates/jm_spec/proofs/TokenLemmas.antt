@@ -1,6 +1,6 @@
 -- What one token can be.
-use Rattle.std.proofs.Common.{◌≡◌, ℕ, Bool, true, false, cond, List, [], ◌∷◌, refl, sym, ap, ◌∙◌, eq-eqb}
-use Rattle.std.specs.Prelude.{◌&&◌, ◌||◌, ◌==◌, codes}
+use Rattle.std.proofs.Common.{◌≡◌, ℕ, Bool, true, false, cond, List, [], ◌∷◌, refl, ap, ◌∙◌}
+use Rattle.std.specs.Prelude.{◌&&◌, ◌==◌, codes}
 use Rattle.std.specs.Str.{bytes_eq}
 use Rattle.std.proofs.lemmas.Slice.Eq.{bytes_eq-Decides}
 use Rattle.jm_text.specs.declared.token.Token.{Token}
@@ -8,9 +8,9 @@ use Rattle.jm_text.specs.declared.token.TokenKind.{TokenKind}
 use Rattle.jm_text.specs.declared.token.TokenKind.TheVariants.{Word, Mark}
 use Rattle.jm_text.specs.Spans.{text_of}
 use Rattle.jm_text.specs.Texts.{is_word_kind, is_mark_kind, is_word, is_mark, is_name}
-use Rattle.jm_spec.specs.declared.brackets.Bracket.TheVariants.{Round, Square, Curly, Angle}
+use Rattle.jm_spec.specs.declared.brackets.Bracket.TheVariants.{Curly}
 use Rattle.jm_spec.specs.declared.brackets.Sign.{Sign}
-use Rattle.jm_spec.specs.declared.brackets.Sign.TheVariants.{Open, Close, Comma, Semicolon, Plain}
+use Rattle.jm_spec.specs.declared.brackets.Sign.TheVariants.{Close, Plain}
 use Rattle.jm_spec.specs.Brackets.{sign_of_byte, sign_of_text, sign_of}
 
 pub never_both : (b : Bool) → b ≡ true → b ≡ false → ⊥

@@ -1,5 +1,5 @@
 -- The grammar of a frame: which tokens spell what. Each rule stands above what says it.
-use Rattle.std.specs.Prelude.{ℕ, ◌+◌, ◌<◌, ◌≡◌, ◌≢◌, ◌⊎◌, Bool, true, false, List, [], ◌∷◌, ◌++◌, length, take, Option, Some, None, codes, option_and_then}
+use Rattle.std.specs.Prelude.{ℕ, ◌+◌, ◌<◌, ◌≡◌, ◌≢◌, ◌⊎◌, true, false, List, [], ◌∷◌, ◌++◌, length, take, Option, Some, None, codes, option_and_then}
 use Rattle.std.specs.List.{list_any}
 use Rattle.jm_text.specs.declared.token.Token.{Token}
 use Rattle.jm_text.specs.Texts.{is_name, is_word, is_mark, is_word_kind}
@@ -51,10 +51,10 @@ BeginsClause bytes t = IsWord bytes (codes "package") t ⊎ IsWord bytes (codes 
 
 pub data SpellsClause (bytes : List ℕ) : List Token → Type 0 where
   clause : (word : Token) (run : List Token) (semicolon : Token)
-    → BeginsClause bytes word
-    → list_any (λ t. is_mark bytes t (codes ";")) run ≡ false
-    → IsMark bytes (codes ";") semicolon
-    → SpellsClause bytes (word ∷ run ++ semicolon ∷ [])
+      → BeginsClause bytes word
+      → list_any (λ t. is_mark bytes t (codes ";")) run ≡ false
+      → IsMark bytes (codes ";") semicolon
+      → SpellsClause bytes (word ∷ run ++ semicolon ∷ [])
 
 -- Modifier = Word { "-" Word }
 pub data SpellsMoreWord (bytes : List ℕ) : List Token → Type 0 where
@@ -62,9 +62,9 @@ pub data SpellsMoreWord (bytes : List ℕ) : List Token → Type 0 where
 
 pub data SpellsModifier (bytes : List ℕ) : List Token → List Modifier → Type 0 where
   modifier : (word : Token) (more : List Token)
-    → IsAnyWord word
-    → Repeats (SpellsMoreWord bytes) more
-    → SpellsModifier bytes (word ∷ more) (modifier_of bytes (word ∷ more) ∷ [])
+      → IsAnyWord word
+      → Repeats (SpellsMoreWord bytes) more
+      → SpellsModifier bytes (word ∷ more) (modifier_of bytes (word ∷ more) ∷ [])
 
 -- the brackets that are open behind a run of a list of parameters, where angle brackets are brackets too, if they match
 abbrev pub open_in_list : List ℕ → List Bracket → List Token → Option (List Bracket)
@@ -89,23 +89,23 @@ pub data SpellsParam (bytes : List ℕ) : List Token → List Token → Type 0 w
 -- List = "(" [ Param { "," Param } ] ")"
 pub data SpellsMoreParam (bytes : List ℕ) : List Token → List Token → Type 0 where
   more_param : (comma : Token) (run : List Token) (names : List Token)
-    → IsMark bytes (codes ",") comma
-    → SpellsParam bytes run names
-    → SpellsMoreParam bytes (comma ∷ run) names
+      → IsMark bytes (codes ",") comma
+      → SpellsParam bytes run names
+      → SpellsMoreParam bytes (comma ∷ run) names
 
 pub data SpellsParams (bytes : List ℕ) : List Token → List Token → Type 0 where
   no_params : SpellsParams bytes [] []
   some_params : (first more names others : List Token)
-    → SpellsParam bytes first names
-    → SpelledAnywhere (SpellsMoreParam bytes) more others
-    → SpellsParams bytes (first ++ more) (names ++ others)
+      → SpellsParam bytes first names
+      → SpelledAnywhere (SpellsMoreParam bytes) more others
+      → SpellsParams bytes (first ++ more) (names ++ others)
 
 pub data SpellsList (bytes : List ℕ) : List Token → List Token → Type 0 where
   list : (opening : Token) (params : List Token) (closing : Token) (names : List Token)
-    → IsMark bytes (codes "(") opening
-    → SpellsParams bytes params names
-    → IsMark bytes (codes ")") closing
-    → SpellsList bytes (opening ∷ params ++ closing ∷ []) names
+      → IsMark bytes (codes "(") opening
+      → SpellsParams bytes params names
+      → IsMark bytes (codes ")") closing
+      → SpellsList bytes (opening ∷ params ++ closing ∷ []) names
 
 -- a balanced run up to and with its first `;` or its first Block outside brackets: a Declaration, and so a Pointcut with
 -- its End, and an Other with its End
@@ -131,34 +131,34 @@ pub record BeginsOther (bytes : List ℕ) (t : Token) : Type 0 where
 --        | Other End
 pub data SpellsAdvice (bytes : List ℕ) : List Token → Advice → Type 0 where
   before : (word : Token) (params names : List Token) (colon : Token) (run : List Token)
-    → IsWord bytes (codes "before") word
-    → SpellsList bytes params names
-    → IsMark bytes (codes ":") colon
-    → RunsToEnd bytes run
-    → SpellsAdvice bytes (word ∷ params ++ colon ∷ run) (Known names)
+      → IsWord bytes (codes "before") word
+      → SpellsList bytes params names
+      → IsMark bytes (codes ":") colon
+      → RunsToEnd bytes run
+      → SpellsAdvice bytes (word ∷ params ++ colon ∷ run) (Known names)
   after : (word : Token) (params names returned results thrown errors : List Token) (colon : Token) (run : List Token)
-    → IsWord bytes (codes "after") word
-    → SpellsList bytes params names
-    → SpellsOutcome bytes (codes "returning") returned results
-    → SpellsOutcome bytes (codes "throwing") thrown errors
-    → IsMark bytes (codes ":") colon
-    → RunsToEnd bytes run
-    → SpellsAdvice bytes (word ∷ params ++ returned ++ thrown ++ colon ∷ run) (Known (names ++ results ++ errors))
+      → IsWord bytes (codes "after") word
+      → SpellsList bytes params names
+      → SpellsOutcome bytes (codes "returning") returned results
+      → SpellsOutcome bytes (codes "throwing") thrown errors
+      → IsMark bytes (codes ":") colon
+      → RunsToEnd bytes run
+      → SpellsAdvice bytes (word ∷ params ++ returned ++ thrown ++ colon ∷ run) (Known (names ++ results ++ errors))
   other : (first : Token) (more : List Token) → BeginsOther bytes first → RunsToEnd bytes (first ∷ more) → SpellsAdvice bytes (first ∷ more) (Other first.line)
 
 -- Event = [ "creation" ] "event" NAME Advice
 pub data SpellsEvent (bytes : List ℕ) : List Token → Mention → Type 0 where
   event : (word name : Token) (said : List Token) (a : Advice)
-    → IsWord bytes (codes "event") word
-    → IsName bytes name
-    → SpellsAdvice bytes said a
-    → SpellsEvent bytes (word ∷ name ∷ said) (record { creation = false; name = name; advice = a })
+      → IsWord bytes (codes "event") word
+      → IsName bytes name
+      → SpellsAdvice bytes said a
+      → SpellsEvent bytes (word ∷ name ∷ said) (record { creation = false; name = name; advice = a })
   creation_event : (creates word name : Token) (said : List Token) (a : Advice)
-    → IsWord bytes (codes "creation") creates
-    → IsWord bytes (codes "event") word
-    → IsName bytes name
-    → SpellsAdvice bytes said a
-    → SpellsEvent bytes (creates ∷ word ∷ name ∷ said) (record { creation = true; name = name; advice = a })
+      → IsWord bytes (codes "creation") creates
+      → IsWord bytes (codes "event") word
+      → IsName bytes name
+      → SpellsAdvice bytes said a
+      → SpellsEvent bytes (creates ∷ word ∷ name ∷ said) (record { creation = true; name = name; advice = a })
 
 -- Declaration | Event: what begins as an event or as a property is no Declaration
 pub data SpellsMember (bytes : List ℕ) : List Token → List Mention → Type 0 where
@@ -168,12 +168,12 @@ pub data SpellsMember (bytes : List ℕ) : List Token → List Mention → Type 
 -- Handler = "@" NAME Block, where a Block is a balanced run in `{` and `}`. It is kept where the inside begins and ends.
 pub data SpellsHandler (bytes : List ℕ) (at : ℕ) : List Token → List HandlerText → Type 0 where
   handler : (sign category opening : Token) (inside : List Token) (closing : Token)
-    → IsMark bytes (codes "@") sign
-    → IsName bytes category
-    → IsMark bytes (codes "{") opening
-    → open_after bytes [] inside ≡ Some []
-    → IsMark bytes (codes "}") closing
-    → SpellsHandler bytes at (sign ∷ category ∷ opening ∷ inside ++ closing ∷ []) (record { category = category; first = at + 3; last = at + 3 + length inside } ∷ [])
+      → IsMark bytes (codes "@") sign
+      → IsName bytes category
+      → IsMark bytes (codes "{") opening
+      → open_after bytes [] inside ≡ Some []
+      → IsMark bytes (codes "}") closing
+      → SpellsHandler bytes at (sign ∷ category ∷ opening ∷ inside ++ closing ∷ []) (record { category = category; first = at + 3; last = at + 3 + length inside } ∷ [])
 
 -- a Formula: nothing in it is a `@` or a `}`, or begins a property
 abbrev pub IsFormula : List ℕ → List Token → Type 0
@@ -183,11 +183,11 @@ IsFormula bytes (t ∷ ts) = (ends_formula bytes (t ∷ ts) ≡ false) × IsForm
 -- Property = NAME ":" Formula, and its handlers. It is kept where the formula begins and ends.
 pub data SpellsProperty (bytes : List ℕ) (at : ℕ) : List Token → List Property → Type 0 where
   property : (logic colon : Token) (formula handling : List Token) (handlers : List HandlerText)
-    → IsName bytes logic
-    → IsMark bytes (codes ":") colon
-    → IsFormula bytes formula
-    → Spelled (SpellsHandler bytes) (at + 2 + length formula) handling handlers
-    → SpellsProperty bytes at (logic ∷ colon ∷ formula ++ handling) (record { logic = logic; first = at + 2; last = at + 2 + length formula; handlers = handlers } ∷ [])
+      → IsName bytes logic
+      → IsMark bytes (codes ":") colon
+      → IsFormula bytes formula
+      → Spelled (SpellsHandler bytes) (at + 2 + length formula) handling handlers
+      → SpellsProperty bytes at (logic ∷ colon ∷ formula ++ handling) (record { logic = logic; first = at + 2; last = at + 2 + length formula; handlers = handlers } ∷ [])
 
 -- no clause begins so
 abbrev pub BeginsNoClause : List ℕ → List Token → Type 0
@@ -197,25 +197,25 @@ BeginsNoClause bytes (t ∷ ts) = BeginsClause bytes t → ⊥
 -- Head = { Modifier } NAME List, which doesn't begin as a clause does
 pub data SpellsHead (bytes : List ℕ) : List Token → List Modifier → Token → List Token → Type 0 where
   head : (modifying : List Token) (modifiers : List Modifier) (name : Token) (params names : List Token)
-    → SpelledAnywhere (SpellsModifier bytes) modifying modifiers
-    → IsName bytes name
-    → SpellsList bytes params names
-    → BeginsNoClause bytes (modifying ++ name ∷ [])
-    → SpellsHead bytes (modifying ++ name ∷ params) modifiers name names
+      → SpelledAnywhere (SpellsModifier bytes) modifying modifiers
+      → IsName bytes name
+      → SpellsList bytes params names
+      → BeginsNoClause bytes (modifying ++ name ∷ [])
+      → SpellsHead bytes (modifying ++ name ∷ params) modifiers name names
 
 -- Body = "{" { Declaration | Event } { Property { Handler } } "}"
 pub data SpellsBody (bytes : List ℕ) (at : ℕ) : List Token → List Mention → List Property → Type 0 where
   body : (opening : Token) (members : List Token) (events : List Mention) (stating : List Token) (properties : List Property) (closing : Token)
-    → IsMark bytes (codes "{") opening
-    → SpelledAnywhere (SpellsMember bytes) members events
-    → Spelled (SpellsProperty bytes) (at + 1 + length members) stating properties
-    → IsMark bytes (codes "}") closing
-    → SpellsBody bytes at (opening ∷ members ++ stating ++ closing ∷ []) events properties
+      → IsMark bytes (codes "{") opening
+      → SpelledAnywhere (SpellsMember bytes) members events
+      → Spelled (SpellsProperty bytes) (at + 1 + length members) stating properties
+      → IsMark bytes (codes "}") closing
+      → SpellsBody bytes at (opening ∷ members ++ stating ++ closing ∷ []) events properties
 
 -- File = { Clause } Head Body
 pub data Spells (bytes : List ℕ) : List Token → Frame → Type 0 where
   file : (clauses heading : List Token) (modifiers : List Modifier) (name : Token) (params : List Token) (within : List Token) (events : List Mention) (properties : List Property)
-    → Repeats (SpellsClause bytes) clauses
-    → SpellsHead bytes heading modifiers name params
-    → SpellsBody bytes (length clauses + length heading) within events properties
-    → Spells bytes (clauses ++ heading ++ within) (record { modifiers = modifiers; name = name; params = params; events = events; properties = properties })
+      → Repeats (SpellsClause bytes) clauses
+      → SpellsHead bytes heading modifiers name params
+      → SpellsBody bytes (length clauses + length heading) within events properties
+      → Spells bytes (clauses ++ heading ++ within) (record { modifiers = modifiers; name = name; params = params; events = events; properties = properties })
