@@ -11,7 +11,7 @@ use Rattle.jm_spec.specs.Balance.{member_sign, open_after, may_end_after, EndsFr
 not_both : (b : Bool) → b ≡ true → b ≡ false → ⊥
 not_both b h k = cc
 
-nothing_ends : (bytes : List ℕ) (stack : List Bracket) → EndsFrom bytes stack [] → ⊥
+pub nothing_ends : (bytes : List ℕ) (stack : List Bracket) → EndsFrom bytes stack [] → ⊥
 nothing_ends bytes stack e = let h : false ≡ true = e.ended in cc
 
 -- what ends a member leaves no bracket open
@@ -19,7 +19,7 @@ none_open : (stack : List Bracket) (sign : Sign) → ends_member stack sign ≡ 
 none_open [] sign h = (refl, h)
 none_open (b ∷ bs) sign h = absurd (not_both false h refl)
 
-longer_end : (bytes : List ℕ) (t : Token) (ts : List Token) → may_end_after bytes ts ≡ true → may_end_after bytes (t ∷ ts) ≡ true
+pub longer_end : (bytes : List ℕ) (t : Token) (ts : List Token) → may_end_after bytes ts ≡ true → may_end_after bytes (t ∷ ts) ≡ true
 longer_end bytes t [] h = absurd (not_both false h refl)
 longer_end bytes t (u ∷ ts) h = h
 
@@ -30,7 +30,7 @@ shorter bytes (b ∷ bs) t [] goes_on closed ended = absurd (let h : Some (b ∷
 shorter bytes inner t (u ∷ run) goes_on closed ended = record { closed = closed; ended = ended }
 
 -- the brackets behind the first token
-behind : (bytes : List ℕ) (stack inner : List Bracket) (t : Token) (run : List Token) → after_sign stack (member_sign bytes t) ≡ Some inner → open_after bytes stack (t ∷ run) ≡ open_after bytes inner run
+pub behind : (bytes : List ℕ) (stack inner : List Bracket) (t : Token) (run : List Token) → after_sign stack (member_sign bytes t) ≡ Some inner → open_after bytes stack (t ∷ run) ≡ open_after bytes inner run
 behind bytes stack inner t run is = ap (option_and_then (λ next. open_after bytes next run)) is
 
 unmatched : (bytes : List ℕ) (stack : List Bracket) (t : Token) (run : List Token) → after_sign stack (member_sign bytes t) ≡ None → EndsFrom bytes stack (t ∷ run) → ⊥

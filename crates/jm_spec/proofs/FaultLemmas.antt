@@ -19,7 +19,7 @@ use Rattle.jm_spec.specs.declared.events.Mention.{Mention}
 use Rattle.jm_spec.specs.declared.property.Property.{Property}
 use Rattle.jm_spec.specs.declared.frame.Frame.{Frame}
 use Rattle.jm_spec.specs.declared.tree.Logic.{Logic}
-use Rattle.jm_spec.specs.Rules.{frame_of}
+use Rattle.jm_spec.specs.Spelling.{Spells}
 use Rattle.jm_spec.specs.Faults.{modifier_fault, advice_or, advice_fault, property_fault, name_of, unless_known, logic_of, logic_fault, ◌>>>◌, unless, with_param, with_params, with_names, with_mention, with_advice, with_events, table_of, table_fault, or_else, frame_fault}
 use Rattle.jm_spec.specs.Trees.{Refuses, IsFaultOfTokens}
 
@@ -108,10 +108,10 @@ other_fault bytes frame =
     (other_behind (with_params bytes (record { parameters = []; events = [] }) frame.params) (λ t. with_events bytes t frame.events) (other_params bytes _ frame.params) (λ t. other_events bytes t frame.events)))))
 
 -- a fault of a frame is one of its tokens
-refused : (bytes : List ℕ) (tokens : List Token) (frame : Frame) (fault : Option SpecFault) (e : SpecError) → frame_of bytes tokens ≡ Some frame → frame_fault bytes frame ≡ fault → IsOther fault → Refuses fault e → IsFaultOfTokens bytes tokens e
+refused : (bytes : List ℕ) (tokens : List Token) (frame : Frame) (fault : Option SpecFault) (e : SpecError) → Spells bytes tokens frame → frame_fault bytes frame ≡ fault → IsOther fault → Refuses fault e → IsFaultOfTokens bytes tokens e
 refused bytes tokens frame fault NoMemory spelled is other h = tt
 refused bytes tokens frame fault (Bad (Syntax line)) spelled is other h = let bad : IsOther (Some (Syntax line)) = subst IsOther h other in absurd bad
 refused bytes tokens frame fault (Bad _) spelled is other h = (frame, spelled, is ∙ h)
 
-pub refused_as : (bytes : List ℕ) (tokens : List Token) (frame : Frame) (e : SpecError) → frame_of bytes tokens ≡ Some frame → Refuses (frame_fault bytes frame) e → IsFaultOfTokens bytes tokens e
+pub refused_as : (bytes : List ℕ) (tokens : List Token) (frame : Frame) (e : SpecError) → Spells bytes tokens frame → Refuses (frame_fault bytes frame) e → IsFaultOfTokens bytes tokens e
 refused_as bytes tokens frame e spelled h = refused bytes tokens frame (frame_fault bytes frame) e spelled refl (other_fault bytes frame) h

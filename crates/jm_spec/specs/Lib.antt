@@ -6,3 +6,4 @@ pub mod Answers
 pub mod Faults
 pub mod Trees
 pub mod Balance
+pub mod Spelling

@@ -12,7 +12,7 @@ use Rattle.jm_spec.specs.declared.head.Modifier.TheVariants.{FullBinding}
 use Rattle.jm_spec.specs.declared.property.Property.{Property}
 use Rattle.jm_spec.specs.declared.frame.Frame.{Frame}
 use Rattle.jm_spec.specs.declared.tree.SpecTree.{SpecTree}
-use Rattle.jm_spec.specs.Rules.{frame_of}
+use Rattle.jm_spec.specs.Spelling.{Spells}
 use Rattle.jm_spec.specs.Faults.{logic_of, table_of, frame_fault}
 
 abbrev pub is_full_binding : Modifier → Bool
@@ -57,10 +57,10 @@ Makes (Err (Bad f)) new made = made ≡ Err f
 
 -- the tokens spell a frame without a fault, whose tree this is
 abbrev pub IsTreeOfTokens : List ℕ → List Token → SpecTree → Type 0
-IsTreeOfTokens bytes tokens tree = (frame : Frame) × (frame_of bytes tokens ≡ Some frame) × (frame_fault bytes frame ≡ None) × IsTreeOf bytes frame tree
+IsTreeOfTokens bytes tokens tree = (frame : Frame) × Spells bytes tokens frame × (frame_fault bytes frame ≡ None) × IsTreeOf bytes frame tree
 
--- the grammar spells no frame, or one with this first fault, unless memory is short
+-- the tokens spell no frame, or one with this first fault, unless memory is short
 abbrev pub IsFaultOfTokens : List ℕ → List Token → SpecError → Type 0
 IsFaultOfTokens bytes tokens NoMemory = Unit {0}
-IsFaultOfTokens bytes tokens (Bad (Syntax line)) = frame_of bytes tokens ≡ None
-IsFaultOfTokens bytes tokens (Bad fault) = (frame : Frame) × (frame_of bytes tokens ≡ Some frame) × (frame_fault bytes frame ≡ Some fault)
+IsFaultOfTokens bytes tokens (Bad (Syntax line)) = (frame : Frame) → Spells bytes tokens frame → ⊥
+IsFaultOfTokens bytes tokens (Bad fault) = (frame : Frame) × Spells bytes tokens frame × (frame_fault bytes frame ≡ Some fault)

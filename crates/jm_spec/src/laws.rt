@@ -6,14 +6,14 @@ ghost use Rattle.jm_spec.specs.declared.frame.Frame.{Frame};
 ghost use Rattle.jm_spec.specs.declared.tree.SpecTree.{SpecTree};
 ghost use Rattle.jm_spec.specs.Runs.{member_length};
 ghost use Rattle.jm_spec.specs.Balance.{EndsMember};
-ghost use Rattle.jm_spec.specs.Rules.{frame_of};
+ghost use Rattle.jm_spec.specs.Spelling.{Spells};
 ghost use Rattle.jm_spec.specs.Trees.{IsTreeOfTokens, IsFaultOfTokens};
 
 use jm_model::SpecError;
 
-/// One reading: no tokens say two frames, or have a tree and a fault.
+/// One reading: no tokens spell two frames, or have a tree and a fault.
 pub fn one_reading()
-    ensures frame { (bytes : List ℕ) (tokens : List Token) (frame other : Frame) → frame_of bytes tokens ≡ Some frame → frame_of bytes tokens ≡ Some other → frame ≡ other }
+    ensures frame { (bytes : List ℕ) (tokens : List Token) (frame other : Frame) → Spells bytes tokens frame → Spells bytes tokens other → frame ≡ other }
     ensures never_both { (bytes : List ℕ) (tokens : List Token) (tree : SpecTree) (fault : SpecFault) → IsTreeOfTokens bytes tokens tree → IsFaultOfTokens bytes tokens (SpecError.Bad fault) → ⊥ }
 {}
 

@@ -224,6 +224,11 @@ fn refuses(rt: HostRuntime) -> Result<(), Fail> {
         ("S(){ere:\n@x;}", "Bad(Syntax { line: 2 })"),
         ("S(){ere:@x{}\nint x;}", "Bad(Syntax { line: 2 })"),
         ("S(){ere:}\n\n}", "Bad(Syntax { line: 3 })"),
+        ("S(A a){ltl:a\n@b}", "Bad(Syntax { line: 2 })"),
+        (
+            "S(A a){event e before(A a):x]{}ere:}",
+            "Bad(Syntax { line: 1 })",
+        ),
         ("S(){\n\"}", "Bad(OpenText { line: 2 })"),
         ("S(){/*}", "Bad(OpenText { line: 1 })"),
     ];
@@ -239,8 +244,8 @@ fn refuses(rt: HostRuntime) -> Result<(), Fail> {
 #[test]
 fn refuses_each_prefix(rt: HostRuntime) {
     let bytes = MAP.as_bytes();
-    assert!(rt; 2 < bytes.len());
-    for end in 0..bytes.len() - 2 {
+    assert!(rt; 1 < bytes.len());
+    for end in 0..bytes.len() - 1 {
         let refused = match read(rt.alloc(), &bytes[..end]) {
             Err(SpecError::Bad(SpecFault::OpenText { .. } | SpecFault::Syntax { .. })) => true,
             _ => false,
