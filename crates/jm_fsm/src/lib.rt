@@ -5,11 +5,20 @@
 //! apart from any table: the path that a word spells from the first state.
 #![tactic(auto)]
 
+mod build;
 mod compile;
+mod faults;
+mod formula;
 mod graph;
+mod items;
+mod laws;
 mod machine;
+mod reader;
+mod reading;
 
-pub use machine::{Alias, Fsm, State, Target, Transition};
+pub use laws::one_reading;
+pub use machine::{Fsm, Target};
+pub use reading::read;
 
 #[cfg(test)]
 mod tests;
