@@ -1,6 +1,5 @@
 -- The names of the events, one after the other.
-use Rattle.std.proofs.Common.{ℕ, zero, suc, ◌≡◌, ◌+◌, true, false, List, [], ◌∷◌, Option, Some, map, drop, slice_get, option_map, refl, sym, ap, ◌∙◌}
-use Rattle.jm_model.specs.declared.fault.SpecFault.{SpecFault}
+use Rattle.std.proofs.Common.{ℕ, zero, suc, ◌≡◌, true, false, List, [], ◌∷◌, Some, map, drop, slice_get, option_map, refl, ap, ◌∙◌}
 use Rattle.jm_model.specs.declared.fault.SpecFault.TheVariants.{ReservedName}
 use Rattle.jm_events.specs.Events.{EventDefinition}
 use Rattle.jm_fsm.specs.Faults.{is_grammar_word, event_name_fault}

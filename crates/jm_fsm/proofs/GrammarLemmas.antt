@@ -1,5 +1,5 @@
 -- The grammar's rules, as a reader goes by them, spell what the grammar spells.
-use Rattle.std.proofs.Common.{◌≡◌, ℕ, zero, suc, ◌+◌, ◌<◌, ◌≤◌, Bool, true, false, not, ◌&&◌, List, [], ◌∷◌, ◌++◌, length, Option, Some, None, refl, sym, ap, subst, ◌∙◌, inl, inr, ◌⊎◌, cond, arith, append_assoc, append-nil, length-append}
+use Rattle.std.proofs.Common.{◌≡◌, ℕ, zero, suc, ◌<◌, ◌≤◌, Bool, true, false, not, ◌&&◌, List, [], ◌∷◌, ◌++◌, length, Option, Some, None, refl, sym, ap, subst, ◌∙◌, inl, inr, ◌⊎◌, cond, arith, append_assoc, append-nil, length-append}
 use Rattle.std.specs.Prelude.{codes}
 use Rattle.std.specs.List.{list_any}
 use Rattle.std.specs.Str.{bytes_eq}
@@ -12,7 +12,7 @@ use Rattle.jm_fsm.specs.declared.formula.TransitionText.{TransitionText}
 use Rattle.jm_fsm.specs.declared.formula.TransitionText.TheVariants.{On, Fallback}
 use Rattle.jm_fsm.specs.declared.formula.Part.{Part}
 use Rattle.jm_fsm.specs.declared.formula.Part.TheVariants.{Declaration, Alias}
-use Rattle.jm_fsm.specs.Reading.{◌>>=◌, is_mark_at, is_word_at, is_left, mark_at, name_at, word_at, at_most}
+use Rattle.jm_fsm.specs.Reading.{◌>>=◌, is_mark_at, is_left, mark_at, name_at, word_at, at_most}
 use Rattle.jm_fsm.specs.Rules.{fallback_at, listed_at, begins_fallback, transition_at, comma_at, entry_at, is_inside, entries_at, declaration_at, more_member_at, begins_more_member, more_members_at, alias_at, begins_alias, one_part_at, part_at, parts_at, with_a_state, formula_at}
 use Rattle.jm_fsm.specs.Formulas.{IsName, IsMark, IsWord, SpellsTransition, SpellsComma, SpellsEntry, SpellsEach, SpellsMoreMember, SpellsMembers, SpellsPart, is_state, Spells}
 

@@ -1,7 +1,7 @@
 -- The machine of a formula without a fault.
-use Rattle.std.proofs.Common.{ℕ, zero, suc, ◌≡◌, ◌+◌, ◌<◌, ◌≤◌, Bool, true, false, cond, ◌||◌, List, [], ◌∷◌, ◌++◌, Option, Some, None, Result, Ok, Err, All, map, length, get_or, option_map, refl, sym, ap, subst, ◌∙◌, arith, inl, inr, ◌⊎◌, append_assoc, append-nil, length-append, drop, drop-cons}
+use Rattle.std.proofs.Common.{ℕ, suc, ◌≡◌, ◌+◌, ◌<◌, ◌≤◌, Bool, true, false, cond, ◌||◌, List, [], ◌∷◌, ◌++◌, Option, Some, None, Result, Ok, Err, All, map, length, get_or, option_map, refl, sym, ap, subst, ◌∙◌, arith, append_assoc, append-nil, length-append, drop, drop-cons}
 use Rattle.std.specs.Prelude.{codes, count_by}
-use Rattle.std.specs.List.{list_any, sum_by}
+use Rattle.std.specs.List.{list_any}
 use Rattle.std.specs.Option.{ok_or}
 use Rattle.std.specs.Str.{bytes_eq}
 use Rattle.std.proofs.lemmas.Bool.{ltb-false}
@@ -11,7 +11,6 @@ use Rattle.std.proofs.lemmas.List.Elements.{All-push}
 use Rattle.std.proofs.lemmas.List.Quantifiers.{position-Some}
 use Rattle.std.proofs.lemmas.Slice.Eq.{bytes_eq-Decides}
 use Rattle.jm_model.specs.declared.fault.SpecFault.{SpecFault}
-use Rattle.jm_model.specs.declared.fault.SpecFault.TheVariants.{UnknownName}
 use Rattle.jm_text.specs.declared.token.Token.{Token}
 use Rattle.jm_events.specs.Names.{number_of, with_name}
 use Rattle.jm_fsm.specs.declared.machine.Target.{Target}
@@ -24,7 +23,7 @@ use Rattle.jm_fsm.specs.declared.formula.Part.TheVariants.{Declaration, Alias}
 use Rattle.jm_fsm.specs.Machines.{StateDefinition, AliasDefinition, StateMachine, IsTarget, IsMachine, AreDistinct, category_names}
 use Rattle.jm_fsm.specs.Formulas.{is_state}
 use Rattle.jm_fsm.specs.Names.{is_among}
-use Rattle.jm_fsm.specs.Faults.{name_of, is_alias, name_token, aliases_fault, is_reserved, part_name_fault, duplicate_state_fault, states_fault, state_names, target_named, ◌>>>◌, target_said, letter_said, with_listed, with_transition, with_transitions, state_said, with_member, with_members, alias_said, with_part, with_parts, machine_of}
+use Rattle.jm_fsm.specs.Faults.{name_of, is_alias, aliases_fault, is_reserved, part_name_fault, duplicate_state_fault, states_fault, state_names, target_named, ◌>>>◌, target_said, letter_said, with_listed, with_transition, with_transitions, state_said, with_member, with_members, alias_said, with_part, with_parts}
 
 -- ---- counts of names
 

@@ -1,22 +1,20 @@
 -- What a reader of a formula answers.
-use Rattle.std.proofs.Common.{ℕ, ◌≡◌, Bool, true, false, cond, List, [], ◌∷◌, Option, Some, None, Result, Ok, Err, IfOk, IfErr, sym, ap, subst, ◌∙◌}
+use Rattle.std.proofs.Common.{ℕ, ◌≡◌, Bool, true, false, cond, List, [], ◌∷◌, Option, Some, None, Result, Ok, Err, IfOk, IfErr, subst}
 use Rattle.jm_model.specs.declared.fault.SpecError.{SpecError}
 use Rattle.jm_model.specs.declared.fault.SpecError.TheVariants.{Bad, NoMemory}
 use Rattle.jm_model.specs.declared.fault.SpecFault.{SpecFault}
 use Rattle.jm_model.specs.declared.fault.SpecFault.TheVariants.{Syntax, UnknownName}
 use Rattle.std.specs.Option.{ok_or}
 use Rattle.jm_text.specs.declared.token.Token.{Token}
-use Rattle.jm_events.specs.Names.{with_name, number_of}
+use Rattle.jm_events.specs.Names.{with_name}
 use Rattle.jm_events.specs.Events.{EventDefinitions, EventDefinition, event_names}
 use Rattle.jm_fsm.specs.declared.formula.TransitionText.{TransitionText}
 use Rattle.jm_fsm.specs.declared.formula.TransitionText.TheVariants.{On, Fallback}
 use Rattle.jm_fsm.specs.declared.formula.Part.{Part}
 use Rattle.jm_fsm.specs.declared.formula.Part.TheVariants.{Declaration, Alias}
 use Rattle.jm_fsm.specs.Machines.{StateDefinition, AliasDefinition, StateMachine}
-use Rattle.jm_fsm.specs.Names.{is_among}
-use Rattle.jm_fsm.specs.Faults.{name_of, name_token, or_else, event_name_fault, part_name_fault, duplicate_state_fault, duplicate_transition_fault, part_transitions_fault, transitions_fault, target_named, ◌>>>◌, target_said, letter_said, with_transition, with_transitions, with_member, with_members, with_part, with_parts, state_names, machine_of, machine_fault, first_fault}
+use Rattle.jm_fsm.specs.Faults.{name_of, name_token, or_else, event_name_fault, part_name_fault, duplicate_state_fault, duplicate_transition_fault, part_transitions_fault, transitions_fault, ◌>>>◌, target_said, letter_said, with_transition, with_transitions, with_member, with_members, with_part, with_parts, state_names, machine_of, machine_fault, first_fault}
 use Rattle.jm_fsm.specs.Rules.{formula_at}
-use Rattle.jm_fsm.specs.Formulas.{Spells}
 use Rattle.jm_fsm.specs.Answers.{FailsAt}
 use Rattle.jm_fsm.specs.Trees.{Checks, Refuses, IsReadFrom, IsRefused}
 use Rattle.jm_fsm.proofs.GrammarLemmas.{formula_sound, formula_none}

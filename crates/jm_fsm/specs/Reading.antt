@@ -1,5 +1,5 @@
 -- Reading from the front of a list of tokens: a rule gives what it reads and the tokens behind it, or nothing.
-use Rattle.std.specs.Prelude.{ℕ, zero, suc, Bool, true, false, List, [], ◌∷◌, ◌++◌, length, drop, Option, Some, None, option_and_then, slice_get, if◌then◌else◌}
+use Rattle.std.specs.Prelude.{ℕ, zero, suc, Bool, true, false, List, [], ◌∷◌, Option, Some, None, option_and_then, slice_get, if◌then◌else◌}
 use Rattle.std.specs.Option.{option_map_or}
 use Rattle.jm_text.specs.declared.token.Token.{Token}
 use Rattle.jm_text.specs.Texts.{is_name, is_word, is_mark}

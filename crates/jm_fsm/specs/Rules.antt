@@ -1,5 +1,5 @@
 -- What each rule of the grammar reads at the front of a list of tokens, where the next token or two decide.
-use Rattle.std.specs.Prelude.{ℕ, Bool, true, false, not, ◌&&◌, List, [], ◌∷◌, ◌++◌, length, Option, Some, None, codes, if◌then◌else◌}
+use Rattle.std.specs.Prelude.{ℕ, Bool, not, ◌&&◌, List, [], ◌∷◌, ◌++◌, length, Option, Some, None, codes, if◌then◌else◌}
 use Rattle.std.specs.List.{list_any}
 use Rattle.jm_text.specs.declared.token.Token.{Token}
 use Rattle.jm_fsm.specs.declared.formula.TransitionText.{TransitionText}

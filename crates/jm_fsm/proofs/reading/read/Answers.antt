@@ -1,4 +1,3 @@
-use Rattle.std.proofs.Common.{ℕ, List, Option, Some, ◌≡◌, ap, sym, ◌∙◌, subst}
 use Rattle.std.proofs.lemmas.Result.{err_from_is_err_and}
 use Rattle.jm_fsm.proofs.ReadLemmas.{read_err, read_ok, read_none}
 use Rattle.jm_fsm.proofs.reading.read.Goals as goal
