@@ -1,4 +1,5 @@
-use Rattle.std.specs.Prelude.{ℕ, ◌≡◌, ◌==◌, ◌<◌, ◌≤◌, ◌+◌, ◌⊎◌, ◌↔◌, List, [], ◌∷◌, ◌++◌, length, map, fold, find, All, Contains, Option, Some, IsSomeAnd, option_map, unwrap_or, slice_get, codes}
+use Rattle.std.specs.Prelude.{ℕ, ◌≡◌, ◌==◌, ◌<◌, ◌≤◌, ◌+◌, ◌⊎◌, ◌↔◌, List, [], ◌∷◌, ◌++◌, length, map, fold, find, All, Contains, Option, Some, IsSomeAnd, option_map, unwrap_or, slice_get, codes, count_by}
+use Rattle.std.specs.Str.{bytes_eq}
 use Rattle.jm_table.specs.Tables.{Transitions, IsInGroup, IsWord, state_after_of}
 use Rattle.jm_fsm.specs.declared.machine.Target.{Target}
 use Rattle.jm_fsm.specs.declared.machine.Target.TheVariants.{State, Fail}
@@ -39,6 +40,10 @@ fsm_state_after m word = fold (next_target m) (State 0) word
 abbrev pub category_names : StateMachine → List (List ℕ)
 category_names m = map (λ s. s.name) m.states ++ (map (λ a. a.name) m.aliases ++ codes "fail" ∷ [])
 
+-- no name stands twice
+abbrev pub AreDistinct : List (List ℕ) → Type 0
+AreDistinct names = (name : List ℕ) → count_by (bytes_eq name) names ≤ 1
+
 -- how many categories there are
 abbrev pub category_count : StateMachine → ℕ
 category_count m = length m.states + length m.aliases + 1
@@ -59,8 +64,8 @@ abbrev pub IsTarget : ℕ → Target → Type 0
 IsTarget states Fail = Unit {0}
 IsTarget states (State k) = k < states
 
--- At least one state; with `fail` there are at most 1,024, and at most 256 aliases; and each target and member is one of
--- the states, or `fail`.
+-- At least one state; with `fail` there are at most 1,024, and at most 256 aliases; each target and member is one of the
+-- states, or `fail`; and no name is that of two categories.
 pub record IsMachine (m : StateMachine) : Type 0 where
   pub some_states : 0 < length m.states
   pub few_states : length m.states ≤ 1023
@@ -68,6 +73,7 @@ pub record IsMachine (m : StateMachine) : Type 0 where
   pub listed : All (λ s. All (λ t. IsTarget (length m.states) t.target) s.transitions) m.states
   pub fallen : All (λ s. (target : Target) → s.fallback ≡ Some target → IsTarget (length m.states) target) m.states
   pub members : All (λ a. All (IsTarget (length m.states)) a.members) m.aliases
+  pub distinct : AreDistinct (category_names m)
 
 -- The table after has that many groups more than the table before, which had none: the states of the group of a
 -- category are the places of the list at which its members stand.

@@ -1,15 +1,25 @@
 //! State machines, one of the four logics.
 //!
-//! A machine is a tree `Fsm`: states with transitions on events, and aliases of states. `compile` makes a table of
-//! states with a group for each category that a handler may be written for. What a machine means stands in `specs`,
-//! apart from any table: the path that a word spells from the first state.
+//! `read` reads a machine, an `Fsm`, from the tokens of a formula: states with transitions on events, and aliases of
+//! states. `Fsm::categories` names what handlers may be written for, and `Fsm::compile` makes a table of states with a
+//! group for each of these. What the tokens spell and what a machine means stands in `specs`, apart from the reader and
+//! from any table: the grammar as a relation, and the path that a word spells from the first state.
 #![tactic(auto)]
 
+mod build;
 mod compile;
+mod faults;
+mod formula;
 mod graph;
+mod items;
+mod laws;
 mod machine;
+mod reader;
+mod reading;
 
-pub use machine::{Alias, Fsm, State, Target, Transition};
+pub use laws::one_reading;
+pub use machine::{Fsm, Target};
+pub use reading::read;
 
 #[cfg(test)]
 mod tests;

@@ -1,7 +1,10 @@
-ghost use Rattle.std.specs.Prelude.{ℕ, ◌≡◌, ◌<◌, ◌↔◌, length, IsTrue, Contains, string_bytes};
-ghost use Rattle.jm_fsm.specs.Machines.{target_of, next_target, IsMember, IsMachine, category_count};
+ghost use Rattle.std.specs.Prelude.{ℕ, ◌≡◌, ◌<◌, ◌+◌, ◌-◌, ◌^◌, ◌↔◌, false, [], ◌∷◌, ◌++◌, length, map, IsTrue, Contains, OnOk, IfOk, IfErr, string_bytes};
+ghost use Rattle.jm_fsm.specs.Machines.{target_of, next_target, IsMember, IsMachine, AreDistinct, category_names, category_count};
+ghost use Rattle.jm_fsm.specs.Names.{is_among};
 
-use jm_model::Letter;
+use jm_events::Names;
+use jm_model::{Letter, NoMemory, SpecError};
+use std::alloc::Global;
 use std::marker::Model;
 
 /// Where a transition leads, or what is a member of an alias.
@@ -49,15 +52,43 @@ impl Model for State {
 }
 
 impl State {
-    /// A state of this name, with the transitions that it lists, and where the letters lead that it doesn't list.
-    pub fn new(name: String, transitions: Vec<Transition>, fallback: Option<Target>) -> State
-        ensures { result ≡ record { name = string_bytes name; transitions = transitions.items; fallback = fallback } }
+    /// A state of this name that lists no transition.
+    pub(crate) fn new(alloc: Global, name: &str) -> Result<State, SpecError>
+        ensures ok { IfOk result (λ s. s ≡ record { name = name.now; transitions = []; fallback = None }) }
+        ensures err { IfErr result (λ e. e ≡ SpecError.NoMemory) }
     {
-        State {
+        let Ok(name) = String::from_str(alloc, name) else {
+            return Err(SpecError::NoMemory);
+        };
+        Ok(State {
             name,
-            transitions,
-            fallback,
+            transitions: Vec::new(alloc),
+            fallback: None,
+        })
+    }
+
+    fn name(&self) -> &str
+        ensures { result.now ≡ self.now.name }
+    {
+        self.name.as_str()
+    }
+
+    /// Lists one more transition.
+    pub(crate) fn list(&mut self, transition: Transition) -> Result<(), SpecError>
+        ensures ok { OnOk result (self.new ≡ record self.old { transitions = self.old.transitions ++ transition ∷ [] }) }
+        ensures err { IfErr result (λ e. e ≡ SpecError.NoMemory) }
+    {
+        if self.transitions.push(transition).is_err() {
+            return Err(SpecError::NoMemory);
         }
+        Ok(())
+    }
+
+    /// Leads the letters there that it doesn't list.
+    pub(crate) fn fall_back(&mut self, target: Target)
+        ensures { self.new ≡ record self.old { fallback = Some target } }
+    {
+        self.fallback = Some(target);
     }
 
     /// Where a letter leads.
@@ -90,11 +121,35 @@ impl Model for Alias {
 }
 
 impl Alias {
-    /// An alias of this name.
-    pub fn new(name: String, members: Vec<Target>) -> Alias
-        ensures { result ≡ record { name = string_bytes name; members = members.items } }
+    /// An alias of this name without members.
+    pub(crate) fn new(alloc: Global, name: &str) -> Result<Alias, SpecError>
+        ensures ok { IfOk result (λ a. a ≡ record { name = name.now; members = [] }) }
+        ensures err { IfErr result (λ e. e ≡ SpecError.NoMemory) }
     {
-        Alias { name, members }
+        let Ok(name) = String::from_str(alloc, name) else {
+            return Err(SpecError::NoMemory);
+        };
+        Ok(Alias {
+            name,
+            members: Vec::new(alloc),
+        })
+    }
+
+    fn name(&self) -> &str
+        ensures { result.now ≡ self.now.name }
+    {
+        self.name.as_str()
+    }
+
+    /// Adds a member.
+    pub(crate) fn add(&mut self, member: Target) -> Result<(), SpecError>
+        ensures ok { OnOk result (self.new ≡ record self.old { members = self.old.members ++ member ∷ [] }) }
+        ensures err { IfErr result (λ e. e ≡ SpecError.NoMemory) }
+    {
+        if self.members.push(member).is_err() {
+            return Err(SpecError::NoMemory);
+        }
+        Ok(())
     }
 
     /// Whether a state is a member.
@@ -107,6 +162,64 @@ impl Alias {
             }
         }
         false
+    }
+}
+
+/// The states and aliases of a machine that is being made. Contracts see it as a `StateMachine`.
+#[derive(Drop)]
+pub struct Draft {
+    states: Vec<State>,
+    aliases: Vec<Alias>,
+}
+
+impl Model for Draft {
+    ghost use Rattle.jm_fsm.specs.Machines.{StateMachine};
+
+    ghost Value = { StateMachine };
+
+    ghost view = { λ m. record { states = m.states.items; aliases = m.aliases.items } };
+}
+
+impl Draft {
+    /// No state and no alias.
+    pub(crate) fn new(alloc: Global) -> Draft
+        ensures { result ≡ record { states = []; aliases = [] } }
+    {
+        Draft {
+            states: Vec::new(alloc),
+            aliases: Vec::new(alloc),
+        }
+    }
+
+    /// Adds a state.
+    pub(crate) fn add_state(&mut self, state: State) -> Result<(), SpecError>
+        ensures ok { OnOk result (self.new ≡ record self.old { states = self.old.states ++ state ∷ [] }) }
+        ensures err { IfErr result (λ e. e ≡ SpecError.NoMemory) }
+    {
+        if self.states.push(state).is_err() {
+            return Err(SpecError::NoMemory);
+        }
+        Ok(())
+    }
+
+    /// Adds an alias.
+    pub(crate) fn add_alias(&mut self, alias: Alias) -> Result<(), SpecError>
+        ensures ok { OnOk result (self.new ≡ record self.old { aliases = self.old.aliases ++ alias ∷ [] }) }
+        ensures err { IfErr result (λ e. e ≡ SpecError.NoMemory) }
+    {
+        if self.aliases.push(alias).is_err() {
+            return Err(SpecError::NoMemory);
+        }
+        Ok(())
+    }
+
+    /// The machine.
+    pub(crate) fn finish(self) -> Fsm
+        requires { IsMachine self }
+        ensures { result ≡ self }
+    {
+        let Draft { states, aliases } = self;
+        Fsm { states, aliases }
     }
 }
 
@@ -128,12 +241,17 @@ impl Model for Fsm {
 }
 
 impl Fsm {
-    /// A machine of these states and aliases.
-    pub(crate) fn new(states: Vec<State>, aliases: Vec<Alias>) -> Fsm
-        requires { IsMachine (record { states = states.items; aliases = aliases.items }) }
-        ensures { result ≡ record { states = states.items; aliases = aliases.items } }
+    /// The names of the categories: of the states, of the aliases, and `fail`. The number of a name is the category's group
+    /// in the compiled table.
+    pub fn categories(&self, alloc: Global) -> Result<Names, NoMemory>
+        ensures value { IfOk result (λ names. names ≡ category_names self.now) }
+        ensures count { IfOk result (λ names. length names ≡ category_count self.now) }
     {
-        Fsm { states, aliases }
+        let mut names = Names::new(alloc);
+        add_states(&mut names, self.states.as_slice())?;
+        add_aliases(&mut names, self.aliases.as_slice())?;
+        add_name(&mut names, "fail")?;
+        Ok(names)
     }
 
     /// Where a letter leads.
@@ -171,4 +289,38 @@ impl Fsm {
         }
         target.is_fail()
     }
+}
+
+/// Adds a name that isn't among others.
+fn add_name(names: &mut Names, name: &str) -> Result<(), NoMemory>
+    requires other { is_among names.old name.now ≡ false }
+    requires room { length names.old < 2 ^ 32 - 1 }
+    ensures { OnOk result (names.new ≡ names.old ++ name.now ∷ []) }
+{
+    names.add(name)?;
+    Ok(())
+}
+
+/// Adds the names of states.
+fn add_states(names: &mut Names, states: &[State]) -> Result<(), NoMemory>
+    requires distinct { AreDistinct (names.old ++ map (λ s. s.name) states.now) }
+    requires room { length names.old + length states.now < 2 ^ 32 - 1 }
+    ensures { OnOk result (names.new ≡ names.old ++ map (λ s. s.name) states.now) }
+{
+    for state in states {
+        add_name(names, state.name())?;
+    }
+    Ok(())
+}
+
+/// Adds the names of aliases.
+fn add_aliases(names: &mut Names, aliases: &[Alias]) -> Result<(), NoMemory>
+    requires distinct { AreDistinct (names.old ++ map (λ a. a.name) aliases.now) }
+    requires room { length names.old + length aliases.now < 2 ^ 32 - 1 }
+    ensures { OnOk result (names.new ≡ names.old ++ map (λ a. a.name) aliases.now) }
+{
+    for alias in aliases {
+        add_name(names, alias.name())?;
+    }
+    Ok(())
 }

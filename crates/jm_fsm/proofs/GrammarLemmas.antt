@@ -1,0 +1,521 @@
+-- The grammar's rules, as a reader goes by them, spell what the grammar spells.
+use Rattle.std.proofs.Common.{◌≡◌, ℕ, zero, suc, ◌<◌, ◌≤◌, Bool, true, false, not, ◌&&◌, List, [], ◌∷◌, ◌++◌, length, Option, Some, None, refl, sym, ap, subst, ◌∙◌, inl, inr, ◌⊎◌, cond, arith, append_assoc, append-nil, length-append}
+use Rattle.std.specs.Prelude.{codes}
+use Rattle.std.specs.List.{list_any}
+use Rattle.std.specs.Str.{bytes_eq}
+use Rattle.std.proofs.lemmas.Slice.Eq.{bytes_eq-Decides}
+use Rattle.jm_text.specs.declared.token.Token.{Token}
+use Rattle.jm_text.specs.declared.token.TokenKind.{TokenKind}
+use Rattle.jm_text.specs.declared.token.TokenKind.TheVariants.{Word, Text, Mark}
+use Rattle.jm_text.specs.Texts.{is_name, is_word, is_mark, is_word_kind, is_mark_kind}
+use Rattle.jm_fsm.specs.declared.formula.TransitionText.{TransitionText}
+use Rattle.jm_fsm.specs.declared.formula.TransitionText.TheVariants.{On, Fallback}
+use Rattle.jm_fsm.specs.declared.formula.Part.{Part}
+use Rattle.jm_fsm.specs.declared.formula.Part.TheVariants.{Declaration, Alias}
+use Rattle.jm_fsm.specs.Reading.{◌>>=◌, is_mark_at, is_left, mark_at, name_at, word_at, at_most}
+use Rattle.jm_fsm.specs.Rules.{fallback_at, listed_at, begins_fallback, transition_at, comma_at, entry_at, is_inside, entries_at, declaration_at, more_member_at, begins_more_member, more_members_at, alias_at, begins_alias, one_part_at, part_at, parts_at, with_a_state, formula_at}
+use Rattle.jm_fsm.specs.Formulas.{IsName, IsMark, IsWord, SpellsTransition, SpellsComma, SpellsEntry, SpellsEach, SpellsMoreMember, SpellsMembers, SpellsPart, is_state, Spells}
+
+-- ---- a token is of one kind
+
+true_or_false : (b : Bool) → b ≡ true → b ≡ false → ⊥
+true_or_false b h k = cc
+
+no_mark_of : (kind : TokenKind) (a b : Bool) → (is_word_kind kind && a) ≡ true → (is_mark_kind kind && b) ≡ false
+no_mark_of Word a b h = refl
+no_mark_of Text a b h = absurd (cc)
+no_mark_of Mark a b h = absurd (cc)
+
+name_no_mark : (bytes mark : List ℕ) (t : Token) → IsName bytes t → is_mark bytes t mark ≡ false
+name_no_mark bytes mark t h = no_mark_of t.kind _ _ h
+
+word_no_mark : (bytes word mark : List ℕ) (t : Token) → IsWord bytes word t → is_mark bytes t mark ≡ false
+word_no_mark bytes word mark t h = no_mark_of t.kind _ _ h
+
+-- ---- what the small rules read
+
+module _ (bytes : List ℕ) where
+  mark_is : (mark : List ℕ) (t : Token) (ts : List Token) → IsMark bytes mark t → mark_at bytes mark (t ∷ ts) ≡ Some ts
+  unfolding mark_at
+  mark_is mark t ts h = rw h refl
+
+  name_is : (t : Token) (ts : List Token) → IsName bytes t → name_at bytes (t ∷ ts) ≡ Some (t, ts)
+  unfolding name_at
+  name_is t ts h = rw h refl
+
+  word_is : (word : List ℕ) (t : Token) (ts : List Token) → IsWord bytes word t → word_at bytes word (t ∷ ts) ≡ Some (t, ts)
+  unfolding word_at
+  word_is word t ts h = rw h refl
+
+-- what was read, if something was
+module _ {X : Type 0} where
+  if_some : (b : Bool) (x y : X) → cond b (Some x) None ≡ Some y → (b ≡ true) × (x ≡ y)
+  if_some true x y h = (refl, cc)
+  if_some false x y h = absurd (cc)
+
+-- the token at the front, and those behind it
+record Front (P : Token → Type 0) (tokens : List Token) (behind : List Token) : Type 0 where
+  token : Token
+  is : P token
+  cut : tokens ≡ token ∷ behind
+
+module _ (bytes : List ℕ) where
+  mark_read : (mark : List ℕ) (tokens behind : List Token) → mark_at bytes mark tokens ≡ Some behind → Front (IsMark bytes mark) tokens behind
+  unfolding mark_at
+  mark_read mark [] behind h = absurd (cc)
+  mark_read mark (t ∷ ts) behind h = let p = if_some (is_mark bytes t mark) ts behind h in record { token = t; is = p.0; cut = ap (λ (l : List Token). t ∷ l) p.1 }
+
+  name_read : (tokens behind : List Token) (name : Token) → name_at bytes tokens ≡ Some (name, behind) → (tokens ≡ name ∷ behind) × IsName bytes name
+  unfolding name_at
+  name_read [] behind name h = absurd (cc)
+  name_read (t ∷ ts) behind name h = let p = if_some (is_name bytes t) (t, ts) (name, behind) h in
+      let e : t ≡ name = ap (λ (x : Token × List Token). x.0) p.1 in
+      let f : ts ≡ behind = ap (λ (x : Token × List Token). x.1) p.1 in
+      (cc, subst (λ (x : Token). IsName bytes x) e p.0)
+
+  word_read : (word : List ℕ) (tokens behind : List Token) (t : Token) → word_at bytes word tokens ≡ Some (t, behind) → (tokens ≡ t ∷ behind) × IsWord bytes word t
+  unfolding word_at
+  word_read word [] behind name h = absurd (cc)
+  word_read word (t ∷ ts) behind name h = let p = if_some (is_word bytes t word) (t, ts) (name, behind) h in
+      let e : t ≡ name = ap (λ (x : Token × List Token). x.0) p.1 in
+      let f : ts ≡ behind = ap (λ (x : Token × List Token). x.1) p.1 in
+      (cc, subst (λ (x : Token). IsWord bytes word x) e p.0)
+
+-- ---- steps of a rule
+
+module _ {B : Type 0} where
+  step_of : {A : Type 0} (o : Option A) (f : A → Option B) (b : B) → (o >>= f) ≡ Some b → (a : A) × (o ≡ Some a) × (f a ≡ Some b)
+  step_of None f b h = absurd (cc)
+  step_of (Some a) f b h = (a, refl, h)
+
+  one_of : (b : Bool) (x y : Option B) (z : B) → cond b x y ≡ Some z → ((b ≡ true) × (x ≡ Some z)) ⊎ ((b ≡ false) × (y ≡ Some z))
+  one_of true x y z h = inl (refl, h)
+  one_of false x y z h = inr (refl, h)
+
+-- ---- items one behind the other, both ways
+
+module _ {X : Type 0} (goes_on : List Token → Bool) (item : List X → List Token → Option (List X × List Token)) (SpellsOne : List Token → X → Type 0) where
+  -- an item reads one more, which its tokens spell
+  abbrev IsSound : Type 0
+  IsSound = (xs ys : List X) (tokens behind : List Token) → item xs tokens ≡ Some (ys, behind)
+      → (first : List Token) × (x : X) × (tokens ≡ first ++ behind) × (ys ≡ xs ++ x ∷ []) × SpellsOne first x
+
+  -- what is read, and the tokens behind it
+  record Spelled (xs ys : List X) (tokens behind : List Token) : Type 0 where
+    inner : List Token
+    more : List X
+    cut : tokens ≡ inner ++ behind
+    added : ys ≡ xs ++ more
+    spelled : SpellsEach SpellsOne inner more
+    ended : goes_on behind ≡ false
+
+  stop_or : (b : Bool) (xs ys : List X) (tokens behind : List Token) (o : Option (List X × List Token)) → cond b o (Some (xs, tokens)) ≡ Some (ys, behind)
+      → ((b ≡ true) × (o ≡ Some (ys, behind))) ⊎ ((b ≡ false) × (xs ≡ ys) × (tokens ≡ behind))
+  stop_or true xs ys tokens behind o h = inl (refl, h)
+  stop_or false xs ys tokens behind o h =
+      let e : ◌≡◌ {A = List X × List Token} (xs, tokens) (ys, behind) = cc in
+      inr (refl, ap (λ (x : List X × List Token). x.0) e, ap (λ (x : List X × List Token). x.1) e)
+
+  none_more : (xs ys : List X) (tokens behind : List Token) → goes_on tokens ≡ false → xs ≡ ys → tokens ≡ behind → Spelled xs ys tokens behind
+  none_more xs ys tokens behind h e f = record {
+    inner = [];
+    more = [];
+    cut = f;
+    added = sym e ∙ sym (append-nil xs);
+    spelled = refl;
+    ended = subst (λ (l : List Token). goes_on l ≡ false) f h;
+  }
+
+  one_more : (xs zs ys : List X) (tokens rest behind first : List Token) (x : X) → tokens ≡ first ++ rest → zs ≡ xs ++ x ∷ [] → SpellsOne first x → Spelled zs ys rest behind → Spelled xs ys tokens behind
+  one_more xs zs ys tokens rest behind first x cut is spelled more = record {
+    inner = first ++ more.inner;
+    more = x ∷ more.more;
+    cut = cut ∙ ap (λ (l : List Token). first ++ l) more.cut ∙ sym (append_assoc first more.inner behind);
+    added = more.added ∙ ap (λ (l : List X). l ++ more.more) is ∙ append_assoc xs (x ∷ []) more.more;
+    spelled = (first, more.inner, refl, spelled, more.spelled);
+    ended = more.ended;
+  }
+
+  module _ (sound : IsSound) where
+    each_read : (n : ℕ) (xs ys : List X) (tokens behind : List Token) → at_most goes_on item n xs tokens ≡ Some (ys, behind) → Spelled xs ys tokens behind
+    each_read zero xs ys tokens behind h = elim (stop_or (goes_on tokens) xs ys tokens behind None h) [
+      | inl more ↦ absurd (cc (more.1))
+      | inr end ↦ none_more xs ys tokens behind end.0 end.1 end.2
+    ]
+    each_read (suc n) xs ys tokens behind h = elim (stop_or (goes_on tokens) xs ys tokens behind (item xs tokens >>= λ x. at_most goes_on item n x.0 x.1) h) [
+      | inl more ↦
+          let step = step_of (item xs tokens) (λ x. at_most goes_on item n x.0 x.1) (ys, behind) more.1 in
+          let one = sound xs step.0.0 tokens step.0.1 step.1 in
+          one_more xs step.0.0 ys tokens step.0.1 behind one.0 one.1 one.2 one.3 one.4 (each_read n step.0.0 ys step.0.1 behind step.2)
+      | inr end ↦ none_more xs ys tokens behind end.0 end.1 end.2
+    ]
+
+  stopped : (n : ℕ) (xs : List X) (tokens : List Token) → goes_on tokens ≡ false → at_most goes_on item n xs tokens ≡ Some (xs ++ [], tokens)
+  stopped zero xs tokens h = rw h (ap (λ (l : List X). Some (l, tokens)) (sym (append-nil xs)))
+  stopped (suc n) xs tokens h = rw h (ap (λ (l : List X). Some (l, tokens)) (sym (append-nil xs)))
+
+  went : (n : ℕ) (xs ys : List X) (tokens behind : List Token) → goes_on tokens ≡ true → item xs tokens ≡ Some (ys, behind) → at_most goes_on item (suc n) xs tokens ≡ at_most goes_on item n ys behind
+  went n xs ys tokens behind h some = rw (h, some) refl
+
+  -- the items' tokens are read, where what follows begins as it must
+  record IsComplete (Follows : List Token → Type 0) : Type 0 where
+    reads : (xs : List X) (first behind : List Token) (x : X) → SpellsOne first x → Follows behind → item xs (first ++ behind) ≡ Some (xs ++ x ∷ [], behind)
+    goes : (first behind : List Token) (x : X) → SpellsOne first x → goes_on (first ++ behind) ≡ true
+    follows : (first behind : List Token) (x : X) → SpellsOne first x → Follows behind → Follows (first ++ behind)
+    some : (first : List Token) (x : X) → SpellsOne first x → 0 < length first
+
+  module _ (Follows : List Token → Type 0) (complete : IsComplete Follows) where
+    after_each : (inner behind : List Token) (xs : List X) → SpellsEach SpellsOne inner xs → Follows behind → Follows (inner ++ behind)
+    after_each inner behind [] h f = subst (λ (l : List Token). Follows (l ++ behind)) (sym h) f
+    after_each inner behind (x ∷ xs) h f =
+        let whole : (h.0 ++ h.1) ++ behind ≡ h.0 ++ (h.1 ++ behind) = append_assoc h.0 h.1 behind in
+        let inside = complete.follows h.0 (h.1 ++ behind) x h.3 (after_each h.1 behind xs h.4 f) in
+        subst (λ (l : List Token). Follows (l ++ behind)) (sym h.2) (subst (λ (l : List Token). Follows l) (sym whole) inside)
+
+    read_each : (n : ℕ) (ys : List X) (inner behind : List Token) (xs : List X) → SpellsEach SpellsOne inner xs → Follows behind → goes_on behind ≡ false → length (inner ++ behind) ≤ n → at_most goes_on item n ys (inner ++ behind) ≡ Some (ys ++ xs, behind)
+    read_each n ys inner behind [] h f end few = subst (λ (l : List Token). at_most goes_on item n ys (l ++ behind) ≡ Some (ys ++ [], behind)) (sym h) (stopped n ys behind end)
+    read_each zero ys inner behind (x ∷ xs) h f end few = absurd (omega (arith, few, length-append inner behind, ap (λ (l : List Token). length l) h.2, length-append h.0 h.1, complete.some h.0 x h.3))
+    read_each (suc n) ys inner behind (x ∷ xs) h f end few =
+        let whole : inner ++ behind ≡ h.0 ++ (h.1 ++ behind) = ap (λ (l : List Token). l ++ behind) h.2 ∙ append_assoc h.0 h.1 behind in
+        let fewer : length (h.1 ++ behind) ≤ n = omega (arith, few, ap (λ (l : List Token). length l) whole, length-append h.0 (h.1 ++ behind), complete.some h.0 x h.3) in
+        subst (λ (l : List Token). at_most goes_on item (suc n) ys l ≡ Some (ys ++ x ∷ xs, behind)) (sym whole)
+        (went n ys (ys ++ x ∷ []) (h.0 ++ (h.1 ++ behind)) (h.1 ++ behind) (complete.goes h.0 (h.1 ++ behind) x h.3) (complete.reads ys h.0 (h.1 ++ behind) x h.3 (after_each h.1 behind xs h.4 f))
+        ∙ read_each n (ys ++ x ∷ []) h.1 behind xs h.4 f end fewer
+        ∙ ap (λ (l : List X). Some (l, behind)) (append_assoc ys (x ∷ []) xs))
+
+module _ (bytes : List ℕ) where
+  -- ---- what a rule reads, its tokens spell
+
+  fallback_sound : (tokens behind : List Token) (t : TransitionText) → fallback_at bytes tokens ≡ Some (t, behind) → (first : List Token) × (tokens ≡ first ++ behind) × SpellsTransition bytes first t
+  unfolding fallback_at
+  fallback_sound tokens behind t h =
+      let a = step_of (word_at bytes (codes "default") tokens) _ _ h in
+      let word = word_read bytes (codes "default") tokens a.0.1 a.0.0 a.1 in
+      let b = step_of (name_at bytes a.0.1) _ _ a.2 in
+      let target = name_read bytes a.0.1 b.0.1 b.0.0 b.1 in
+      let e : ◌≡◌ {A = TransitionText × List Token} (Fallback a.0.0 b.0.0, b.0.1) (t, behind) = cc (b.2) in (
+        a.0.0 ∷ b.0.0 ∷ [],
+        word.0 ∙ ap (λ (l : List Token). a.0.0 ∷ l) target.0 ∙ ap (λ (x : TransitionText × List Token). a.0.0 ∷ b.0.0 ∷ x.1) e,
+        subst (λ (x : TransitionText). SpellsTransition bytes (a.0.0 ∷ b.0.0 ∷ []) x) (ap (λ (x : TransitionText × List Token). x.0) e) (refl, word.1, target.1),
+      )
+
+  listed_sound : (tokens behind : List Token) (t : TransitionText) → listed_at bytes tokens ≡ Some (t, behind) → (first : List Token) × (tokens ≡ first ++ behind) × SpellsTransition bytes first t
+  unfolding listed_at
+  listed_sound tokens behind t h =
+      let a = step_of (name_at bytes tokens) _ _ h in
+      let event = name_read bytes tokens a.0.1 a.0.0 a.1 in
+      let b = step_of (mark_at bytes (codes "->") a.0.1) _ _ a.2 in
+      let arrow = mark_read bytes (codes "->") a.0.1 b.0 b.1 in
+      let d = step_of (name_at bytes b.0) _ _ b.2 in
+      let target = name_read bytes b.0 d.0.1 d.0.0 d.1 in
+      let e : ◌≡◌ {A = TransitionText × List Token} (On a.0.0 d.0.0, d.0.1) (t, behind) = cc (d.2) in (
+        a.0.0 ∷ arrow.token ∷ d.0.0 ∷ [],
+        event.0 ∙ ap (λ (l : List Token). a.0.0 ∷ l) arrow.cut ∙ ap (λ (l : List Token). a.0.0 ∷ arrow.token ∷ l) target.0 ∙ ap (λ (x : TransitionText × List Token). a.0.0 ∷ arrow.token ∷ d.0.0 ∷ x.1) e,
+        subst (λ (x : TransitionText). SpellsTransition bytes (a.0.0 ∷ arrow.token ∷ d.0.0 ∷ []) x) (ap (λ (x : TransitionText × List Token). x.0) e) (arrow.token, refl, event.1, arrow.is, target.1),
+      )
+
+  transition_sound : (tokens behind : List Token) (t : TransitionText) → transition_at bytes tokens ≡ Some (t, behind) → (first : List Token) × (tokens ≡ first ++ behind) × SpellsTransition bytes first t
+  unfolding transition_at
+  transition_sound tokens behind t h = elim (one_of (begins_fallback bytes tokens) (fallback_at bytes tokens) (listed_at bytes tokens) (t, behind) h) [
+    | inl fall ↦ fallback_sound tokens behind t fall.1
+    | inr list ↦ listed_sound tokens behind t list.1
+  ]
+
+  comma_sound : (tokens behind : List Token) → comma_at bytes tokens ≡ Some behind → (first : List Token) × (tokens ≡ first ++ behind) × SpellsComma bytes first
+  unfolding comma_at
+  comma_sound tokens behind h = elim (one_of (is_mark_at bytes tokens 0 (codes ",")) (mark_at bytes (codes ",") tokens) (Some tokens) behind h) [
+    | inl some ↦ let c = mark_read bytes (codes ",") tokens behind some.1 in (c.token ∷ [], c.cut, inr (c.token, refl, c.is))
+    | inr none ↦ ([], cc (none.1), inl refl)
+  ]
+
+  entry_sound : IsSound (is_inside bytes) (entry_at bytes) (SpellsEntry bytes)
+  unfolding entry_at
+  entry_sound xs ys tokens behind h =
+      let a = step_of (transition_at bytes tokens) _ _ h in
+      let t = transition_sound tokens a.0.1 a.0.0 a.1 in
+      let b = step_of (comma_at bytes a.0.1) _ _ a.2 in
+      let c = comma_sound a.0.1 b.0 b.1 in
+      let e : ◌≡◌ {A = List TransitionText × List Token} (xs ++ a.0.0 ∷ [], b.0) (ys, behind) = cc (b.2) in
+      let f : b.0 ≡ behind = ap (λ (x : List TransitionText × List Token). x.1) e in (
+        t.0 ++ c.0,
+        a.0.0,
+        t.1 ∙ ap (λ (l : List Token). t.0 ++ l) c.1 ∙ sym (append_assoc t.0 c.0 b.0) ∙ ap (λ (l : List Token). (t.0 ++ c.0) ++ l) f,
+        sym (ap (λ (x : List TransitionText × List Token). x.0) e),
+        (t.0, c.0, refl, t.2, c.2),
+      )
+
+  entries_sound : (xs ys : List TransitionText) (tokens behind : List Token) → entries_at bytes xs tokens ≡ Some (ys, behind) → Spelled (is_inside bytes) (entry_at bytes) (SpellsEntry bytes) xs ys tokens behind
+  unfolding entries_at
+  entries_sound xs ys tokens behind h = each_read (is_inside bytes) (entry_at bytes) (SpellsEntry bytes) entry_sound (length tokens) xs ys tokens behind h
+
+  declaration_sound : (tokens behind : List Token) (p : Part) → declaration_at bytes tokens ≡ Some (p, behind) → (first : List Token) × (tokens ≡ first ++ behind) × SpellsPart bytes first p
+  unfolding declaration_at
+  declaration_sound tokens behind p h =
+      let a = step_of (name_at bytes tokens) _ _ h in
+      let name = name_read bytes tokens a.0.1 a.0.0 a.1 in
+      let b = step_of (mark_at bytes (codes "[") a.0.1) _ _ a.2 in
+      let opening = mark_read bytes (codes "[") a.0.1 b.0 b.1 in
+      let d = step_of (entries_at bytes [] b.0) _ _ b.2 in
+      let inner = entries_sound [] d.0.0 b.0 d.0.1 d.1 in
+      let k = step_of (mark_at bytes (codes "]") d.0.1) _ _ d.2 in
+      let closing = mark_read bytes (codes "]") d.0.1 k.0 k.1 in
+      let e : ◌≡◌ {A = Part × List Token} (Declaration a.0.0 d.0.0, k.0) (p, behind) = cc (k.2) in
+      let f : k.0 ≡ behind = ap (λ (x : Part × List Token). x.1) e in
+      let whole = a.0.0 ∷ opening.token ∷ (inner.inner ++ closing.token ∷ []) in (
+        whole,
+        name.0 ∙ ap (λ (l : List Token). a.0.0 ∷ l) opening.cut ∙ ap (λ (l : List Token). a.0.0 ∷ opening.token ∷ l) (inner.cut ∙ ap (λ (l : List Token). inner.inner ++ l) (closing.cut ∙ ap (λ (l : List Token). closing.token ∷ l) f) ∙ sym (append_assoc inner.inner (closing.token ∷ []) behind)),
+        subst (λ (x : Part). SpellsPart bytes whole x) (ap (λ (x : Part × List Token). x.0) e)
+            (opening.token, closing.token, inner.inner, refl, name.1, opening.is, subst (λ (l : List TransitionText). SpellsEach (SpellsEntry bytes) inner.inner l) (sym inner.added) inner.spelled, closing.is),
+      )
+
+  more_member_sound : IsSound (begins_more_member bytes) (more_member_at bytes) (SpellsMoreMember bytes)
+  unfolding more_member_at
+  more_member_sound xs ys tokens behind h =
+      let a = step_of (mark_at bytes (codes ",") tokens) _ _ h in
+      let comma = mark_read bytes (codes ",") tokens a.0 a.1 in
+      let b = step_of (name_at bytes a.0) _ _ a.2 in
+      let name = name_read bytes a.0 b.0.1 b.0.0 b.1 in
+      let e : ◌≡◌ {A = List Token × List Token} (xs ++ b.0.0 ∷ [], b.0.1) (ys, behind) = cc (b.2) in
+      let f : b.0.1 ≡ behind = ap (λ (x : List Token × List Token). x.1) e in (
+        comma.token ∷ b.0.0 ∷ [],
+        b.0.0,
+        comma.cut ∙ ap (λ (l : List Token). comma.token ∷ l) name.0 ∙ ap (λ (l : List Token). comma.token ∷ b.0.0 ∷ l) f,
+        sym (ap (λ (x : List Token × List Token). x.0) e),
+        (comma.token, refl, comma.is, name.1),
+      )
+
+  more_members_sound : (xs ys tokens behind : List Token) → more_members_at bytes xs tokens ≡ Some (ys, behind) → Spelled (begins_more_member bytes) (more_member_at bytes) (SpellsMoreMember bytes) xs ys tokens behind
+  unfolding more_members_at
+  more_members_sound xs ys tokens behind h = each_read (begins_more_member bytes) (more_member_at bytes) (SpellsMoreMember bytes) more_member_sound (length tokens) xs ys tokens behind h
+
+  alias_sound : (tokens behind : List Token) (p : Part) → alias_at bytes tokens ≡ Some (p, behind) → (first : List Token) × (tokens ≡ first ++ behind) × SpellsPart bytes first p
+  unfolding alias_at
+  alias_sound tokens behind p h =
+      let a = step_of (word_at bytes (codes "alias") tokens) _ _ h in
+      let word = word_read bytes (codes "alias") tokens a.0.1 a.0.0 a.1 in
+      let b = step_of (name_at bytes a.0.1) _ _ a.2 in
+      let name = name_read bytes a.0.1 b.0.1 b.0.0 b.1 in
+      let d = step_of (mark_at bytes (codes "=") b.0.1) _ _ b.2 in
+      let equals = mark_read bytes (codes "=") b.0.1 d.0 d.1 in
+      let g = step_of (name_at bytes d.0) _ _ d.2 in
+      let first = name_read bytes d.0 g.0.1 g.0.0 g.1 in
+      let k = step_of (more_members_at bytes ([] ++ g.0.0 ∷ []) g.0.1) _ _ g.2 in
+      let more = more_members_sound ([] ++ g.0.0 ∷ []) k.0.0 g.0.1 k.0.1 k.1 in
+      let e : ◌≡◌ {A = Part × List Token} (Alias b.0.0 k.0.0, k.0.1) (p, behind) = cc (k.2) in
+      let f : k.0.1 ≡ behind = ap (λ (x : Part × List Token). x.1) e in
+      let whole = a.0.0 ∷ b.0.0 ∷ equals.token ∷ g.0.0 ∷ more.inner in (
+        whole,
+        word.0 ∙ ap (λ (l : List Token). a.0.0 ∷ l) name.0 ∙ ap (λ (l : List Token). a.0.0 ∷ b.0.0 ∷ l) equals.cut ∙ ap (λ (l : List Token). a.0.0 ∷ b.0.0 ∷ equals.token ∷ l) first.0
+            ∙ ap (λ (l : List Token). a.0.0 ∷ b.0.0 ∷ equals.token ∷ g.0.0 ∷ l) (more.cut ∙ ap (λ (l : List Token). more.inner ++ l) f),
+        subst (λ (x : Part). SpellsPart bytes whole x) (ap (λ (x : Part × List Token). x.0) e)
+            (a.0.0, equals.token, g.0.0 ∷ more.inner, refl, word.1, name.1, equals.is, subst (λ (l : List Token). SpellsMembers bytes (g.0.0 ∷ more.inner) l) (sym more.added) (more.inner, refl, first.1, more.spelled)),
+      )
+
+  part_sound : IsSound (is_left bytes) (part_at bytes) (SpellsPart bytes)
+  unfolding part_at one_part_at
+  part_sound xs ys tokens behind h =
+      let a = step_of (one_part_at bytes tokens) _ _ h in
+      let one : (first : List Token) × (tokens ≡ first ++ a.0.1) × SpellsPart bytes first a.0.0 = elim (one_of (begins_alias bytes tokens) (alias_at bytes tokens) (declaration_at bytes tokens) a.0 a.1) [
+        | inl alias ↦ alias_sound tokens a.0.1 a.0.0 alias.1
+        | inr state ↦ declaration_sound tokens a.0.1 a.0.0 state.1
+      ] in
+      let e : ◌≡◌ {A = List Part × List Token} (xs ++ a.0.0 ∷ [], a.0.1) (ys, behind) = cc (a.2) in
+      (one.0, a.0.0, one.1 ∙ ap (λ (x : List Part × List Token). one.0 ++ x.1) e, sym (ap (λ (x : List Part × List Token). x.0) e), one.2)
+
+  nothing_left : (tokens : List Token) → is_left bytes tokens ≡ false → tokens ≡ []
+  nothing_left [] h = refl
+  nothing_left (t ∷ ts) h = absurd (cc)
+
+  with_state_read : (parts read : List Part) → with_a_state parts ≡ Some read → (parts ≡ read) × (list_any is_state read ≡ true)
+  with_state_read parts read h = let p = if_some (list_any is_state parts) parts read h in (p.1, ap (λ (l : List Part). list_any is_state l) (sym p.1) ∙ p.0)
+
+  -- what is read of a whole formula, its tokens spell
+  pub formula_sound : (tokens : List Token) (parts : List Part) → formula_at bytes tokens ≡ Some parts → Spells bytes tokens parts
+  unfolding formula_at parts_at Spells
+  formula_sound tokens parts h =
+      let a = step_of (parts_at bytes [] tokens) _ _ h in
+      let all = each_read (is_left bytes) (part_at bytes) (SpellsPart bytes) part_sound (length tokens) [] a.0.0 tokens a.0.1 a.1 in
+      let with_state = with_state_read a.0.0 parts a.2 in
+      let cut : tokens ≡ all.inner = all.cut ∙ ap (λ (l : List Token). all.inner ++ l) (nothing_left a.0.1 all.ended) ∙ append-nil all.inner in
+      let is : all.more ≡ parts = sym all.added ∙ with_state.0 in
+      (subst (λ (l : List Part). SpellsEach (SpellsPart bytes) tokens l) is (subst (λ (l : List Token). SpellsEach (SpellsPart bytes) l all.more) (sym cut) all.spelled), with_state.1)
+
+-- ---- and what the grammar spells, the rules read
+
+and_true : (a b : Bool) → a ≡ true → b ≡ true → (a && b) ≡ true
+and_true true b h k = k
+and_true false b h k = absurd (cc)
+
+and_false : (a b : Bool) → b ≡ false → (a && b) ≡ false
+and_false true b h = h
+and_false false b h = refl
+
+not_true : (b : Bool) → b ≡ true → not b ≡ false
+not_true b h = rw h refl
+
+not_false : (b : Bool) → b ≡ false → not b ≡ true
+not_false b h = rw h refl
+
+first_of_two : {X : Type 0} (b : Bool) (x y : X) → b ≡ true → cond b x y ≡ x
+first_of_two b x y h = rw h refl
+
+second_of_two : {X : Type 0} (b : Bool) (x y : X) → b ≡ false → cond b x y ≡ y
+second_of_two b x y h = rw h refl
+
+other_text : (kind : TokenKind) (text a b : List ℕ) → (is_mark_kind kind && bytes_eq text a) ≡ true → bytes_eq a b ≡ false → (is_mark_kind kind && bytes_eq text b) ≡ false
+other_text Mark text a b h k = subst (λ (l : List ℕ). bytes_eq l b ≡ false) (sym ((bytes_eq-Decides text a).0 h)) k
+other_text Word text a b h k = refl
+other_text Text text a b h k = refl
+
+other_mark : (bytes a b : List ℕ) (t : Token) → IsMark bytes a t → bytes_eq a b ≡ false → is_mark bytes t b ≡ false
+other_mark bytes a b t h k = other_text t.kind _ a b h k
+
+module _ (bytes : List ℕ) where
+  fallback_is : (word target : Token) (behind : List Token) → IsWord bytes (codes "default") word → IsName bytes target → fallback_at bytes (word ∷ target ∷ behind) ≡ Some (Fallback word target, behind)
+  unfolding fallback_at
+  fallback_is word target behind h k = rw (word_is bytes (codes "default") word (target ∷ behind) h, name_is bytes target behind k) refl
+
+  listed_is : (event arrow target : Token) (behind : List Token) → IsName bytes event → IsMark bytes (codes "->") arrow → IsName bytes target → listed_at bytes (event ∷ arrow ∷ target ∷ behind) ≡ Some (On event target, behind)
+  unfolding listed_at
+  listed_is event arrow target behind h a k = rw (name_is bytes event (arrow ∷ target ∷ behind) h, mark_is bytes (codes "->") arrow (target ∷ behind) a, name_is bytes target behind k) refl
+
+  transition_complete : (first behind : List Token) (t : TransitionText) → SpellsTransition bytes first t → transition_at bytes (first ++ behind) ≡ Some (t, behind)
+  unfolding transition_at
+  transition_complete first behind (On event target) h =
+      subst (λ (l : List Token). transition_at bytes (l ++ behind) ≡ Some (On event target, behind)) (sym h.1)
+      (second_of_two _ _ _ (and_false _ _ (not_true _ h.3)) ∙ listed_is event h.0 target behind h.2 h.3 h.4)
+  transition_complete first behind (Fallback word target) h =
+      subst (λ (l : List Token). transition_at bytes (l ++ behind) ≡ Some (Fallback word target, behind)) (sym h.0)
+      (first_of_two _ _ _ (and_true _ _ h.1 (not_false _ (name_no_mark bytes (codes "->") target h.2))) ∙ fallback_is word target behind h.1 h.2)
+
+  -- no comma stands in front
+  abbrev NoComma : List Token → Type 0
+  NoComma tokens = is_mark_at bytes tokens 0 (codes ",") ≡ false
+
+  comma_complete : (first behind : List Token) → SpellsComma bytes first → NoComma behind → comma_at bytes (first ++ behind) ≡ Some behind
+  unfolding comma_at
+  comma_complete first behind (inl none) h = subst (λ (l : List Token). comma_at bytes (l ++ behind) ≡ Some behind) (sym none) (second_of_two _ _ _ h)
+  comma_complete first behind (inr some) h =
+      subst (λ (l : List Token). comma_at bytes (l ++ behind) ≡ Some behind) (sym some.1)
+      (first_of_two _ _ _ some.2 ∙ mark_is bytes (codes ",") some.0 behind some.2)
+
+  entry_reads : (xs : List TransitionText) (tokens rest behind : List Token) (t : TransitionText) → transition_at bytes tokens ≡ Some (t, rest) → comma_at bytes rest ≡ Some behind → entry_at bytes xs tokens ≡ Some (xs ++ t ∷ [], behind)
+  unfolding entry_at
+  entry_reads xs tokens rest behind t h k = rw (h, k) refl
+
+  no_mark_first : (first behind : List Token) (t : TransitionText) (mark : List ℕ) → SpellsTransition bytes first t → is_mark_at bytes (first ++ behind) 0 mark ≡ false
+  no_mark_first first behind (On event target) mark h = subst (λ (l : List Token). is_mark_at bytes (l ++ behind) 0 mark ≡ false) (sym h.1) (name_no_mark bytes mark event h.2)
+  no_mark_first first behind (Fallback word target) mark h = subst (λ (l : List Token). is_mark_at bytes (l ++ behind) 0 mark ≡ false) (sym h.0) (word_no_mark bytes (codes "default") mark word h.1)
+
+  some_tokens : (first : List Token) (t : TransitionText) → SpellsTransition bytes first t → 0 < length first
+  some_tokens first (On event target) h = omega (arith, ap (λ (l : List Token). length l) h.1)
+  some_tokens first (Fallback word target) h = omega (arith, ap (λ (l : List Token). length l) h.0)
+
+  no_mark_entry : (first behind : List Token) (t : TransitionText) (mark : List ℕ) → SpellsEntry bytes first t → is_mark_at bytes (first ++ behind) 0 mark ≡ false
+  no_mark_entry first behind t mark h =
+      let whole : first ++ behind ≡ h.0 ++ (h.1 ++ behind) = ap (λ (l : List Token). l ++ behind) h.2 ∙ append_assoc h.0 h.1 behind in
+      subst (λ (l : List Token). is_mark_at bytes l 0 mark ≡ false) (sym whole) (no_mark_first h.0 (h.1 ++ behind) t mark h.3)
+
+  entry_complete : IsComplete (is_inside bytes) (entry_at bytes) (SpellsEntry bytes) NoComma
+  entry_complete = record {
+    reads = λ xs first behind t h follows.
+        let whole : first ++ behind ≡ h.0 ++ (h.1 ++ behind) = ap (λ (l : List Token). l ++ behind) h.2 ∙ append_assoc h.0 h.1 behind in
+        subst (λ (l : List Token). entry_at bytes xs l ≡ Some (xs ++ t ∷ [], behind)) (sym whole)
+        (entry_reads xs (h.0 ++ (h.1 ++ behind)) (h.1 ++ behind) behind t (transition_complete h.0 (h.1 ++ behind) t h.3) (comma_complete h.1 behind h.4 follows));
+    goes = λ first behind t h. not_false _ (no_mark_entry first behind t (codes "]") h);
+    follows = λ first behind t h follows. no_mark_entry first behind t (codes ",") h;
+    some = λ first t h. omega (arith, ap (λ (l : List Token). length l) h.2, length-append h.0 h.1, some_tokens h.0 t h.3);
+  }
+
+  entries_complete : (inner behind : List Token) (ts : List TransitionText) → SpellsEach (SpellsEntry bytes) inner ts → NoComma behind → is_inside bytes behind ≡ false → entries_at bytes [] (inner ++ behind) ≡ Some (ts, behind)
+  unfolding entries_at
+  entries_complete inner behind ts h follows end = read_each (is_inside bytes) (entry_at bytes) (SpellsEntry bytes) NoComma entry_complete (length (inner ++ behind)) [] inner behind ts h follows end (omega arith)
+
+  declaration_reads : (name opening closing : Token) (tokens behind : List Token) (ts : List TransitionText) → IsName bytes name → IsMark bytes (codes "[") opening → IsMark bytes (codes "]") closing → entries_at bytes [] tokens ≡ Some (ts, closing ∷ behind) → declaration_at bytes (name ∷ opening ∷ tokens) ≡ Some (Declaration name ts, behind)
+  unfolding declaration_at
+  declaration_reads name opening closing tokens behind ts n o c e = rw (name_is bytes name (opening ∷ tokens) n, mark_is bytes (codes "[") opening tokens o, e, mark_is bytes (codes "]") closing behind c) refl
+
+  more_member_is : (xs : List Token) (comma name : Token) (behind : List Token) → IsMark bytes (codes ",") comma → IsName bytes name → more_member_at bytes xs (comma ∷ name ∷ behind) ≡ Some (xs ++ name ∷ [], behind)
+  unfolding more_member_at
+  more_member_is xs comma name behind c n = rw (mark_is bytes (codes ",") comma (name ∷ behind) c, name_is bytes name behind n) refl
+
+  more_member_complete : IsComplete (begins_more_member bytes) (more_member_at bytes) (SpellsMoreMember bytes) (λ _. Unit {0})
+  more_member_complete = record {
+    reads = λ xs first behind name h follows. subst (λ (l : List Token). more_member_at bytes xs (l ++ behind) ≡ Some (xs ++ name ∷ [], behind)) (sym h.1) (more_member_is xs h.0 name behind h.2 h.3);
+    goes = λ first behind name h. subst (λ (l : List Token). begins_more_member bytes (l ++ behind) ≡ true) (sym h.1) h.2;
+    follows = λ first behind name h follows. tt;
+    some = λ first name h. omega (arith, ap (λ (l : List Token). length l) h.1);
+  }
+
+  more_members_complete : (xs inner behind names : List Token) → SpellsEach (SpellsMoreMember bytes) inner names → NoComma behind → more_members_at bytes xs (inner ++ behind) ≡ Some (xs ++ names, behind)
+  unfolding more_members_at
+  more_members_complete xs inner behind names h end = read_each (begins_more_member bytes) (more_member_at bytes) (SpellsMoreMember bytes) (λ _. Unit {0}) more_member_complete (length (inner ++ behind)) xs inner behind names h tt end (omega arith)
+
+  alias_reads : (word name equals first : Token) (tokens behind members : List Token) → IsWord bytes (codes "alias") word → IsName bytes name → IsMark bytes (codes "=") equals → IsName bytes first → more_members_at bytes ([] ++ first ∷ []) tokens ≡ Some (members, behind) → alias_at bytes (word ∷ name ∷ equals ∷ first ∷ tokens) ≡ Some (Alias name members, behind)
+  unfolding alias_at
+  alias_reads word name equals first tokens behind members w n e f m = rw (word_is bytes (codes "alias") word (name ∷ equals ∷ first ∷ tokens) w, name_is bytes name (equals ∷ first ∷ tokens) n, mark_is bytes (codes "=") equals (first ∷ tokens) e, name_is bytes first tokens f, m) refl
+
+  one_part_complete : (first behind : List Token) (p : Part) → SpellsPart bytes first p → NoComma behind → one_part_at bytes (first ++ behind) ≡ Some (p, behind)
+  unfolding one_part_at
+  one_part_complete first behind (Declaration name ts) h follows =
+      let whole : first ++ behind ≡ name ∷ h.0 ∷ (h.2 ++ h.1 ∷ behind) = ap (λ (l : List Token). l ++ behind) h.3 ∙ ap (λ (l : List Token). name ∷ h.0 ∷ l) (append_assoc h.2 (h.1 ∷ []) behind) in
+      let entries = entries_complete h.2 (h.1 ∷ behind) ts h.6 (other_mark bytes (codes "]") (codes ",") h.1 h.7 refl) (not_true _ h.7) in
+      subst (λ (l : List Token). one_part_at bytes l ≡ Some (Declaration name ts, behind)) (sym whole)
+      (second_of_two _ _ _ (and_false _ _ (not_true _ h.5)) ∙ declaration_reads name h.0 h.1 (h.2 ++ h.1 ∷ behind) behind ts h.4 h.5 h.7 entries)
+  one_part_complete first behind (Alias name []) h follows = absurd h.7
+  one_part_complete first behind (Alias name (m ∷ ms)) h follows =
+      let members = h.7 in
+      let whole : first ++ behind ≡ h.0 ∷ name ∷ h.1 ∷ m ∷ (members.0 ++ behind) = ap (λ (l : List Token). l ++ behind) (h.3 ∙ ap (λ (l : List Token). h.0 ∷ name ∷ h.1 ∷ l) members.1) in
+      subst (λ (l : List Token). one_part_at bytes l ≡ Some (Alias name (m ∷ ms), behind)) (sym whole)
+      (first_of_two _ _ _ (and_true _ _ h.4 (not_false _ (name_no_mark bytes (codes "[") name h.5)))
+      ∙ alias_reads h.0 name h.1 m (members.0 ++ behind) behind (m ∷ ms) h.4 h.5 h.6 members.2 (more_members_complete ([] ++ m ∷ []) members.0 behind ms members.3 follows))
+
+  part_reads : (xs : List Part) (tokens behind : List Token) (p : Part) → one_part_at bytes tokens ≡ Some (p, behind) → part_at bytes xs tokens ≡ Some (xs ++ p ∷ [], behind)
+  unfolding part_at
+  part_reads xs tokens behind p h = rw h refl
+
+  no_comma_part : (first behind : List Token) (p : Part) → SpellsPart bytes first p → NoComma (first ++ behind)
+  no_comma_part first behind (Declaration name ts) h = subst (λ (l : List Token). NoComma (l ++ behind)) (sym h.3) (name_no_mark bytes (codes ",") name h.4)
+  no_comma_part first behind (Alias name members) h = subst (λ (l : List Token). NoComma (l ++ behind)) (sym h.3) (word_no_mark bytes (codes "alias") (codes ",") h.0 h.4)
+
+  part_left : (first behind : List Token) (p : Part) → SpellsPart bytes first p → is_left bytes (first ++ behind) ≡ true
+  part_left first behind (Declaration name ts) h = subst (λ (l : List Token). is_left bytes (l ++ behind) ≡ true) (sym h.3) refl
+  part_left first behind (Alias name members) h = subst (λ (l : List Token). is_left bytes (l ++ behind) ≡ true) (sym h.3) refl
+
+  part_tokens : (first : List Token) (p : Part) → SpellsPart bytes first p → 0 < length first
+  part_tokens first (Declaration name ts) h = omega (arith, ap (λ (l : List Token). length l) h.3)
+  part_tokens first (Alias name members) h = omega (arith, ap (λ (l : List Token). length l) h.3)
+
+  part_complete : IsComplete (is_left bytes) (part_at bytes) (SpellsPart bytes) NoComma
+  part_complete = record {
+    reads = λ xs first behind p h follows. part_reads xs (first ++ behind) behind p (one_part_complete first behind p h follows);
+    goes = part_left;
+    follows = λ first behind p h follows. no_comma_part first behind p h;
+    some = part_tokens;
+  }
+
+  parts_complete : (tokens : List Token) (parts : List Part) → SpellsEach (SpellsPart bytes) tokens parts → parts_at bytes [] tokens ≡ Some (parts, [])
+  unfolding parts_at
+  parts_complete tokens parts h =
+      subst (λ (l : List Token). parts_at bytes [] l ≡ Some (parts, [])) (append-nil tokens)
+      (read_each (is_left bytes) (part_at bytes) (SpellsPart bytes) NoComma part_complete (length (tokens ++ [])) [] tokens [] parts h refl refl (omega arith))
+
+  formula_reads : (tokens : List Token) (parts : List Part) → parts_at bytes [] tokens ≡ Some (parts, []) → list_any is_state parts ≡ true → formula_at bytes tokens ≡ Some parts
+  unfolding formula_at
+  formula_reads tokens parts h k = rw (h, k) refl
+
+  -- the formula that the tokens spell is read
+  pub formula_complete : (tokens : List Token) (parts : List Part) → Spells bytes tokens parts → formula_at bytes tokens ≡ Some parts
+  unfolding Spells
+  formula_complete tokens parts h = formula_reads tokens parts (parts_complete tokens parts h.0) h.1
+
+  -- where nothing is read, nothing is spelled
+  pub formula_none : (tokens : List Token) (parts : List Part) → formula_at bytes tokens ≡ None → Spells bytes tokens parts → ⊥
+  formula_none tokens parts none h = let k = formula_complete tokens parts h in absurd (cc)
+
+  one_read : (read : Option (List Part)) (parts other : List Part) → read ≡ Some parts → read ≡ Some other → parts ≡ other
+  one_read read parts other h k = cc
+
+-- no tokens spell two formulas
+pub one_formula : (bytes : List ℕ) (tokens : List Token) (parts other : List Part) → Spells bytes tokens parts → Spells bytes tokens other → parts ≡ other
+one_formula bytes tokens parts other h k = one_read bytes (formula_at bytes tokens) parts other (formula_complete bytes tokens parts h) (formula_complete bytes tokens other k)

@@ -1,0 +1,129 @@
+-- What a reader of a formula answers.
+use Rattle.std.proofs.Common.{ℕ, ◌≡◌, Bool, true, false, cond, List, [], ◌∷◌, Option, Some, None, Result, Ok, Err, IfOk, IfErr, subst}
+use Rattle.jm_model.specs.declared.fault.SpecError.{SpecError}
+use Rattle.jm_model.specs.declared.fault.SpecError.TheVariants.{Bad, NoMemory}
+use Rattle.jm_model.specs.declared.fault.SpecFault.{SpecFault}
+use Rattle.jm_model.specs.declared.fault.SpecFault.TheVariants.{Syntax, UnknownName}
+use Rattle.std.specs.Option.{ok_or}
+use Rattle.jm_text.specs.declared.token.Token.{Token}
+use Rattle.jm_events.specs.Names.{with_name}
+use Rattle.jm_events.specs.Events.{EventDefinitions, EventDefinition, event_names}
+use Rattle.jm_fsm.specs.declared.formula.TransitionText.{TransitionText}
+use Rattle.jm_fsm.specs.declared.formula.TransitionText.TheVariants.{On, Fallback}
+use Rattle.jm_fsm.specs.declared.formula.Part.{Part}
+use Rattle.jm_fsm.specs.declared.formula.Part.TheVariants.{Declaration, Alias}
+use Rattle.jm_fsm.specs.Machines.{StateDefinition, AliasDefinition, StateMachine}
+use Rattle.jm_fsm.specs.Faults.{name_of, name_token, or_else, event_name_fault, part_name_fault, duplicate_state_fault, duplicate_transition_fault, part_transitions_fault, transitions_fault, ◌>>>◌, target_said, letter_said, with_transition, with_transitions, with_member, with_members, with_part, with_parts, state_names, machine_of, machine_fault, first_fault}
+use Rattle.jm_fsm.specs.Rules.{formula_at}
+use Rattle.jm_fsm.specs.Answers.{FailsAt}
+use Rattle.jm_fsm.specs.Trees.{Checks, Refuses, IsReadFrom, IsRefused}
+use Rattle.jm_fsm.proofs.GrammarLemmas.{formula_sound, formula_none}
+
+-- no fault, or another than the grammar's
+abbrev IsOther : Option SpecFault → Type 0
+IsOther (Some (Syntax line)) = ⊥
+IsOther _ = Unit {0}
+
+abbrev FailsOther : {X : Type 0} → Result X SpecFault → Type 0
+FailsOther (Ok x) = Unit {0}
+FailsOther (Err fault) = IsOther (Some fault)
+
+other_or : (a b : Option SpecFault) → IsOther a → IsOther b → IsOther (or_else a b)
+other_or None b h k = k
+other_or (Some fault) b h k = h
+
+other_if : (b : Bool) (fault : SpecFault) (o : Option SpecFault) → IsOther (Some fault) → IsOther o → IsOther (cond b (Some fault) o)
+other_if true fault o h k = h
+other_if false fault o h k = k
+
+other_event : (es : List EventDefinition) → IsOther (event_name_fault es)
+other_event [] = tt
+other_event (e ∷ es) = other_if _ _ _ tt (other_event es)
+
+other_part : (bytes : List ℕ) (ps : List Part) → IsOther (part_name_fault bytes ps)
+other_part bytes [] = tt
+other_part bytes (p ∷ ps) = other_if _ _ _ tt (other_part bytes ps)
+
+other_state : (bytes : List ℕ) (names : List (List ℕ)) (ps : List Part) → IsOther (duplicate_state_fault bytes names ps)
+other_state bytes names [] = tt
+other_state bytes names (p ∷ ps) = other_if _ _ _ tt (other_state bytes (with_name names (name_of bytes (name_token p))) ps)
+
+other_transition : (bytes : List ℕ) (events : List (List ℕ)) (b : Bool) (ts : List TransitionText) → IsOther (duplicate_transition_fault bytes events b ts)
+other_transition bytes events b [] = tt
+other_transition bytes events b (On event target ∷ ts) = other_if _ _ _ tt (other_transition bytes (with_name events (name_of bytes event)) b ts)
+other_transition bytes events b (Fallback word target ∷ ts) = other_if _ _ _ tt (other_transition bytes events true ts)
+
+other_transitions_of : (bytes : List ℕ) (p : Part) → IsOther (part_transitions_fault bytes p)
+other_transitions_of bytes (Declaration name ts) = other_transition bytes [] false ts
+other_transitions_of bytes (Alias name ms) = tt
+
+other_transitions : (bytes : List ℕ) (ps : List Part) → IsOther (transitions_fault bytes ps)
+other_transitions bytes [] = tt
+other_transitions bytes (p ∷ ps) = other_or _ _ (other_transitions_of bytes p) (other_transitions bytes ps)
+
+other_then : {A B : Type 0} (r : Result A SpecFault) (f : A → Result B SpecFault) → FailsOther r → ((a : A) → FailsOther (f a)) → FailsOther (r >>> f)
+other_then (Ok a) f h k = k a
+other_then (Err e) f h k = h
+
+other_name : {X : Type 0} (o : Option X) (line : ℕ) → FailsOther (ok_or o (UnknownName line))
+other_name None line = tt
+other_name (Some x) line = tt
+
+module _ (bytes : List ℕ) (events states : List (List ℕ)) where
+  other_one : (s : StateDefinition) (t : TransitionText) → FailsOther (with_transition bytes events states s t)
+  other_one s (On event target) = other_then (letter_said bytes events event) _ (other_name _ event.line) (λ letter. other_then (target_said bytes states target) _ (other_name _ target.line) (λ to. tt))
+  other_one s (Fallback word target) = other_then (target_said bytes states target) _ (other_name _ target.line) (λ to. tt)
+
+  other_all : (s : StateDefinition) (ts : List TransitionText) → FailsOther (with_transitions bytes events states s ts)
+  other_all s [] = tt
+  other_all s (t ∷ ts) = other_then (with_transition bytes events states s t) _ (other_one s t) (λ more. other_all more ts)
+
+  other_members : (a : AliasDefinition) (ts : List Token) → FailsOther (with_members bytes states a ts)
+  other_members a [] = tt
+  other_members a (t ∷ ts) = other_then (with_member bytes states a t) _ (other_then (target_said bytes states t) _ (other_name _ t.line) (λ to. tt)) (λ more. other_members more ts)
+
+  other_in : (m : StateMachine) (p : Part) → FailsOther (with_part bytes events states m p)
+  other_in m (Declaration name ts) = other_then (with_transitions bytes events states _ ts) _ (other_all _ ts) (λ s. tt)
+  other_in m (Alias name ms) = other_then (with_members bytes states _ ms) _ (other_members _ ms) (λ a. tt)
+
+  other_parts : (m : StateMachine) (ps : List Part) → FailsOther (with_parts bytes events states m ps)
+  other_parts m [] = tt
+  other_parts m (p ∷ ps) = other_then (with_part bytes events states m p) _ (other_in m p) (λ more. other_parts more ps)
+
+other_machine : (r : Result StateMachine SpecFault) → FailsOther r → IsOther (machine_fault r)
+other_machine (Ok m) h = tt
+other_machine (Err e) h = h
+
+other_fault : (bytes : List ℕ) (table : EventDefinitions) (parts : List Part) → IsOther (first_fault bytes table parts)
+unfolding first_fault machine_of
+other_fault bytes table parts =
+    other_or _ _ (other_if _ _ None tt tt)
+    (other_or _ _ (other_event table.events)
+    (other_or _ _ (other_part bytes parts)
+    (other_or _ _ (other_state bytes [] parts)
+    (other_or _ _ (other_transitions bytes parts)
+    (other_or _ _ (other_if _ _ None tt tt)
+    (other_machine _ (other_parts bytes (event_names table) (state_names bytes parts) (record { states = []; aliases = [] }) parts)))))))
+
+never : (o : Option SpecFault) (line : ℕ) → IsOther o → o ≡ Some (Syntax line) → ⊥
+never o line h e = subst IsOther e h
+
+module _ (bytes : List ℕ) (tokens : List Token) (table : EventDefinitions) (parts : List Part) (spelled : formula_at bytes tokens ≡ Some parts) where
+  refused_as : (e : SpecError) → Refuses (first_fault bytes table parts) e → IsRefused bytes tokens table e
+  refused_as NoMemory h = tt
+  refused_as (Bad (Syntax line)) h = absurd (never (first_fault bytes table parts) line (other_fault bytes table parts) h)
+  refused_as (Bad _) h = (parts, formula_sound bytes tokens parts spelled, h)
+
+  pub read_err : (r : Result StateMachine SpecError) → Checks r (first_fault bytes table parts) → IfErr r (IsRefused bytes tokens table)
+  read_err (Ok m) h = tt
+  read_err (Err e) h = refused_as e h
+
+  pub read_ok : (r : Result StateMachine SpecError) → IfOk r (λ m. machine_of bytes table parts ≡ Ok m) → Checks r (first_fault bytes table parts) → IfOk r (IsReadFrom bytes tokens table)
+  read_ok (Ok m) made h = (parts, formula_sound bytes tokens parts spelled, h, made)
+  read_ok (Err e) made h = tt
+
+-- nothing was read
+pub read_none : (bytes : List ℕ) (tokens : List Token) (table : EventDefinitions) (e : SpecError) → FailsAt e (formula_at bytes tokens) → IsRefused bytes tokens table e
+read_none bytes tokens table NoMemory h = tt
+read_none bytes tokens table (Bad (Syntax line)) h = λ parts spelled. formula_none bytes tokens parts h spelled
+read_none bytes tokens table (Bad _) h = absurd h

@@ -1,0 +1,22 @@
+use Rattle.std.proofs.Common.{refl, ◌∙◌}
+use Rattle.std.proofs.lemmas.Result.{err_from_is_err_and}
+use Rattle.jm_fsm.specs.Rules.{is_inside, entry_at, entries_at}
+use Rattle.jm_fsm.proofs.LoopLemmas.{items_begin, read_one, read_all, read_none}
+use Rattle.jm_fsm.proofs.reader.Reader.entries.Goals as goal
+
+pub loop-self-init : goal.loop-self-init
+loop-self-init c = record { same_bytes = refl; items = items_begin _ _ }
+
+pub loop-self-preserved : goal.loop-self-preserved
+loop-self-preserved c = record {
+  same_bytes = c.entry.ensures.bytes ∙ c.loop-self.invariant.same_bytes;
+  items = read_one is_inside entry_at c.args.self.now.bytes.now c.loop-self.self.bytes.now c.args.transitions.now c.args.self.now.rest.now c.loop-self.transitions c.loop-self.self.rest.now c.loop-self.invariant.same_bytes c.loop-self.invariant.items _ _ c.loop-self-test.ensures c.in_ok-entry.ensures.reads c.in_ok-entry.ensures.left;
+}
+
+pub returns-in_err-entry-clause-reads : goal.returns-in_err-entry-clause-reads
+unfolding entries_at
+returns-in_err-entry-clause-reads c = let p = err_from_is_err_and c.from_residual.result c.from_residual.ensures.1 in rw (p.1, p.2) (read_none is_inside entry_at c.args.self.now.bytes.now c.loop-self.self.bytes.now c.args.transitions.now c.args.self.now.rest.now c.loop-self.transitions c.loop-self.self.rest.now c.loop-self.invariant.same_bytes c.loop-self.invariant.items _ c.loop-self-test.ensures c.in_err-entry.ensures.reads)
+
+pub returns-clause-reads : goal.returns-clause-reads
+unfolding entries_at
+returns-clause-reads c = read_all is_inside entry_at c.args.self.now.bytes.now c.loop-self.self.bytes.now c.args.transitions.now c.args.self.now.rest.now c.loop-self.transitions c.loop-self.self.rest.now c.loop-self.invariant.same_bytes c.loop-self.invariant.items c.loop-self-test.ensures

@@ -1,0 +1,48 @@
+-- Reading from the front of a list of tokens: a rule gives what it reads and the tokens behind it, or nothing.
+use Rattle.std.specs.Prelude.{ℕ, zero, suc, Bool, true, false, List, [], ◌∷◌, Option, Some, None, option_and_then, slice_get, if◌then◌else◌}
+use Rattle.std.specs.Option.{option_map_or}
+use Rattle.jm_text.specs.declared.token.Token.{Token}
+use Rattle.jm_text.specs.Texts.{is_name, is_word, is_mark}
+
+infixl 10 ◌>>=◌
+abbrev pub ◌>>=◌ : {A B : Type 0} → Option A → (A → Option B) → Option B
+o >>= f = option_and_then f o
+
+-- the token so far on is this mark, or this word
+abbrev pub is_mark_at : List ℕ → List Token → ℕ → List ℕ → Bool
+is_mark_at bytes tokens k mark = option_map_or (λ t. is_mark bytes t mark) (slice_get tokens k) false
+
+abbrev pub is_word_at : List ℕ → List Token → ℕ → List ℕ → Bool
+is_word_at bytes tokens k word = option_map_or (λ t. is_word bytes t word) (slice_get tokens k) false
+
+-- a token is left
+abbrev pub is_left : List ℕ → List Token → Bool
+is_left bytes [] = false
+is_left bytes (t ∷ ts) = true
+
+-- the line of the next token, or the last line at the end
+abbrev pub line_of : ℕ → List Token → ℕ
+line_of last_line [] = last_line
+line_of last_line (t ∷ ts) = t.line
+
+-- a mark
+unfoldable pub mark_at : List ℕ → List ℕ → List Token → Option (List Token)
+mark_at bytes mark [] = None
+mark_at bytes mark (t ∷ ts) = if is_mark bytes t mark then Some ts else None
+
+-- a name
+unfoldable pub name_at : List ℕ → List Token → Option (Token × List Token)
+name_at bytes [] = None
+name_at bytes (t ∷ ts) = if is_name bytes t then Some (t, ts) else None
+
+-- a word
+unfoldable pub word_at : List ℕ → List ℕ → List Token → Option (Token × List Token)
+word_at bytes word [] = None
+word_at bytes word (t ∷ ts) = if is_word bytes t word then Some (t, ts) else None
+
+-- The items of a rule one after the other, as long as the tokens go on so: each adds to what was read before, at first
+-- these. There are at most so many.
+module _ {X : Type 0} (goes_on : List Token → Bool) (item : X → List Token → Option (X × List Token)) where
+  abbrev pub at_most : ℕ → X → List Token → Option (X × List Token)
+  at_most zero xs tokens = if goes_on tokens then None else Some (xs, tokens)
+  at_most (suc n) xs tokens = if goes_on tokens then (item xs tokens >>= λ x. at_most n x.0 x.1) else Some (xs, tokens)

@@ -1,0 +1,207 @@
+//! What is wrong with a formula, step by step.
+ghost use Rattle.std.specs.Prelude.{◌≡◌, [], ◌∷◌, ◌++◌, false, List, count_by, OnOk, IfOk, IfErr};
+ghost use Rattle.jm_events.specs.Names.{with_name};
+ghost use Rattle.jm_fsm.specs.Formulas.{is_state};
+ghost use Rattle.jm_fsm.specs.Names.{is_among};
+ghost use Rattle.jm_fsm.specs.Faults.{name_of, is_alias, name_token, aliases_fault, is_grammar_word, event_name_fault, is_reserved, part_name_fault, duplicate_state_fault, duplicate_transition_fault, part_transitions_fault, transitions_fault, states_fault};
+ghost use Rattle.jm_fsm.specs.Trees.{Checks, Refuses};
+ghost use Rattle.jm_fsm.specs.declared.formula.TransitionText.{TransitionText};
+
+use crate::formula::{Part, TransitionText};
+use jm_events::{EventTable, Names};
+use jm_model::{Counted, Letter, SpecError, SpecFault};
+use jm_text::{Token, name};
+use std::alloc::Global;
+
+const MAX_ALIASES: usize = 256;
+
+/// With `fail` there are 1,024 states.
+const MAX_STATES: usize = 1023;
+
+/// The name that a token says, if it says one.
+#[tactic(auto, unfolding(crate::specs::Faults::name_of))]
+pub fn name_of<'a>(bytes: &'a [u8], token: Token) -> &'a str
+    ensures { result.now ≡ name_of bytes.now token }
+{
+    if token.start <= token.end && token.end as usize <= bytes.len() {
+        name(bytes, token).unwrap_or("")
+    } else {
+        ""
+    }
+}
+
+/// There are at most 256 aliases.
+pub fn few_aliases(parts: &[Part]) -> Result<(), SpecError>
+    ensures { Checks result (aliases_fault parts.now) }
+{
+    if parts.iter().filter(|part| part.is_alias()).count() > MAX_ALIASES {
+        let what = Counted::Aliases;
+        return Err(SpecError::Bad(SpecFault::TooMany { what }));
+    }
+    Ok(())
+}
+
+/// With `fail` there are at most 1,024 states.
+pub fn few_states(parts: &[Part]) -> Result<(), SpecError>
+    ensures { Checks result (states_fault parts.now) }
+{
+    if parts.iter().filter(|part| part.is_state()).count() > MAX_STATES {
+        return Err(SpecError::Bad(SpecFault::TooManyStates));
+    }
+    Ok(())
+}
+
+fn is_grammar_word(name: &str) -> bool
+    ensures { result ≡ is_grammar_word name.now }
+{
+    name == "alias" || name == "default"
+}
+
+fn is_reserved(name: &str) -> bool
+    ensures { result ≡ is_reserved name.now }
+{
+    name == "fail" || is_grammar_word(name)
+}
+
+/// No event is named by a word of the grammar.
+pub fn event_names(table: &EventTable) -> Result<(), SpecError>
+    ensures { Checks result (event_name_fault table.now.events) }
+{
+    for letter in 0..table.letters() {
+        let letter = Letter(letter);
+        if is_grammar_word(table.event_name(letter)) {
+            let line = table.event_line(letter);
+            return Err(SpecError::Bad(SpecFault::ReservedName { line }));
+        }
+    }
+    Ok(())
+}
+
+/// No state or alias is named by a word of the grammar, or `fail`.
+pub fn part_names(bytes: &[u8], parts: &[Part]) -> Result<(), SpecError>
+    ensures { Checks result (part_name_fault bytes.now parts.now) }
+{
+    for part in parts {
+        let name = part.name_token();
+        if is_reserved(name_of(bytes, name)) {
+            let line = name.line;
+            return Err(SpecError::Bad(SpecFault::ReservedName { line }));
+        }
+    }
+    Ok(())
+}
+
+/// Whether a name is among others.
+fn is_among(names: &Names, name: &str) -> bool
+    ensures { result ≡ is_among names.now name.now }
+{
+    names.find(name).is_some()
+}
+
+/// Adds a name to others, where there are fewer than 2^32 - 1.
+fn add(names: &mut Names, name: &str) -> Result<(), SpecError>
+    ensures ok { OnOk result (names.new ≡ with_name names.old name.now) }
+    ensures err { IfErr result (λ e. e ≡ SpecError.NoMemory) }
+{
+    if names.len() == u32::MAX {
+        return Err(SpecError::NoMemory);
+    }
+    match names.add(name) {
+        Ok(_) => Ok(()),
+        Err(_) => Err(SpecError::NoMemory),
+    }
+}
+
+/// Adds a name that isn't among others, where there are fewer than 2^32 - 1.
+pub fn add_new(names: &mut Names, name: &str) -> Result<(), SpecError>
+    requires { is_among names.old name.now ≡ false }
+    ensures ok { OnOk result (names.new ≡ names.old ++ name.now ∷ []) }
+    ensures err { IfErr result (λ e. e ≡ SpecError.NoMemory) }
+{
+    add(names, name)
+}
+
+/// No state or alias has the name of an earlier one.
+pub fn duplicate_states(alloc: Global, bytes: &[u8], parts: &[Part]) -> Result<(), SpecError>
+    ensures { Checks result (duplicate_state_fault bytes.now [] parts.now) }
+{
+    let mut names = Names::new(alloc);
+    for part in parts {
+        let token = part.name_token();
+        let name = name_of(bytes, token);
+        if is_among(&names, name) {
+            let line = token.line;
+            return Err(SpecError::Bad(SpecFault::DuplicateState { line }));
+        }
+        add(&mut names, name)?;
+    }
+    Ok(())
+}
+
+/// In a state no transition is on the event of an earlier one, and at most one is a `default`.
+fn duplicate_transition(
+    alloc: Global,
+    bytes: &[u8],
+    transitions: &[TransitionText],
+) -> Result<(), SpecError>
+    ensures { Checks result (duplicate_transition_fault bytes.now [] false transitions.now) }
+{
+    let mut events = Names::new(alloc);
+    let mut fallen = false;
+    for transition in transitions {
+        fallen = new_transition(bytes, &mut events, fallen, *transition)?;
+    }
+    Ok(())
+}
+
+/// A transition that is on none of these events, and is no `default` beside another. It answers whether there is a
+/// `default` now.
+fn new_transition(
+    bytes: &[u8],
+    events: &mut Names,
+    fallen: bool,
+    transition: TransitionText,
+) -> Result<bool, SpecError>
+    ensures ok { (rest : List TransitionText) → IfOk result (λ next. duplicate_transition_fault bytes.now events.old fallen (transition ∷ rest) ≡ duplicate_transition_fault bytes.now events.new next rest) }
+    ensures err { (rest : List TransitionText) → IfErr result (Refuses (duplicate_transition_fault bytes.now events.old fallen (transition ∷ rest))) }
+{
+    match transition {
+        TransitionText::On { event, .. } => {
+            let name = name_of(bytes, event);
+            if is_among(events, name) {
+                let line = event.line;
+                return Err(SpecError::Bad(SpecFault::DuplicateTransition { line }));
+            }
+            add(events, name)?;
+            Ok(fallen)
+        }
+        TransitionText::Fallback { word, .. } => {
+            if fallen {
+                let line = word.line;
+                return Err(SpecError::Bad(SpecFault::DuplicateTransition { line }));
+            }
+            Ok(true)
+        }
+    }
+}
+
+fn part_transitions(alloc: Global, bytes: &[u8], part: &Part) -> Result<(), SpecError>
+    ensures { Checks result (part_transitions_fault bytes.now part.now) }
+{
+    match part {
+        Part::Declaration { transitions, .. } => {
+            duplicate_transition(alloc, bytes, transitions.as_slice())
+        }
+        Part::Alias { .. } => Ok(()),
+    }
+}
+
+/// In no state is a transition on the event of an earlier one, or a second `default`.
+pub fn duplicate_transitions(alloc: Global, bytes: &[u8], parts: &[Part]) -> Result<(), SpecError>
+    ensures { Checks result (transitions_fault bytes.now parts.now) }
+{
+    for part in parts {
+        part_transitions(alloc, bytes, part)?;
+    }
+    Ok(())
+}
