@@ -1,2 +1,4 @@
 pub mod EndingLemmas
 pub mod MachineLemmas
+pub mod PrintLemmas
+pub mod ReplayLemmas

@@ -3,16 +3,29 @@ use Rattle.std.specs.Prelude.{ℕ, ◌≡◌, List, Option, ◌⊎◌}
 use Rattle.jm_port.specs.Faults.{HasRisen}
 use Rattle.jm_port.specs.Sinks.{appended, AppendsPrefix}
 use Rattle.jm_top.specs.FaultTexts.{fault_text_of}
+use Rattle.jm_top.specs.Replays.{IsReplayText}
 use Rattle.jm_top.specs.declared.status.Status.{Status}
 use Rattle.jm_top.specs.declared.status.Status.TheVariants.{Done, WriteFailed, NoMemory}
 
--- What the sink holds: at `Done` the text was written whole, where the writing failed or memory was short a prefix of it,
--- and else nothing.
-abbrev pub Writes : Status → Option (List ℕ) → Option (List ℕ) → List ℕ → Type 0
-Writes Done before after text = after ≡ appended before text
-Writes WriteFailed before after text = AppendsPrefix before after text
-Writes NoMemory before after text = AppendsPrefix before after text
-Writes _ before after text = after ≡ before
+-- how the writing of a text ends: at `Done` it was appended whole, and where the sink failed or memory was short a prefix
+-- of it
+abbrev pub WritesText : Status → Option (List ℕ) → Option (List ℕ) → List ℕ → Type 0
+WritesText Done before after text = after ≡ appended before text
+WritesText WriteFailed before after text = AppendsPrefix before after text
+WritesText NoMemory before after text = AppendsPrefix before after text
+WritesText _ before after text = ⊥
+
+-- a prefix of the text of a replay was appended
+abbrev pub AppendsReplayPrefix : Option (List ℕ) → Option (List ℕ) → Type 0
+AppendsReplayPrefix before after = (text : List ℕ) × IsReplayText text × AppendsPrefix before after text
+
+-- What the sink holds: at `Done` the text of the replay was appended whole, where the writing failed a prefix of it. Where
+-- memory was short it was a prefix or nothing, and at every other status nothing.
+abbrev pub Writes : Status → Option (List ℕ) → Option (List ℕ) → Type 0
+Writes Done before after = (text : List ℕ) × IsReplayText text × (after ≡ appended before text)
+Writes WriteFailed before after = AppendsReplayPrefix before after
+Writes NoMemory before after = (after ≡ before) ⊎ AppendsReplayPrefix before after
+Writes _ before after = after ≡ before
 
 -- What the error sink holds: nothing at `Done`, and else the text of the status, of which a prefix may be missing only
 -- where a fault of the error sink was counted. Where memory was short it is a prefix of the text of this status, or of the

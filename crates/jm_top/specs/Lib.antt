@@ -5,3 +5,4 @@ pub mod Words
 pub mod Endings
 pub mod Refusals
 pub mod Plain
+pub mod Replays

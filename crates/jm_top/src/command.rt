@@ -1,21 +1,22 @@
 //! The commands, from the words to the status.
-ghost use Rattle.std.specs.Prelude.{◌≡◌, ◌≤◌, ◌⊎◌, ℕ, List, length, map, string_bytes, None, All, IfOk, IfErr};
+ghost use Rattle.std.specs.Prelude.{◌≡◌, ◌≤◌, ◌⊎◌, ℕ, length, map, string_bytes, None, All, IfOk, IfErr};
 ghost use Rattle.jm_port.specs.Faults.{HasRisen};
 ghost use Rattle.jm_top.specs.Words.{replay_names};
-ghost use Rattle.jm_top.specs.Endings.{Writes, Reports};
+ghost use Rattle.jm_top.specs.Endings.{Writes, WritesText, Reports};
 ghost use Rattle.jm_top.specs.Refusals.{IsEarlyRefusal, IsBeforeWriting};
 ghost use Rattle.jm_top.specs.Plain.{IsPlainStep};
+ghost use Rattle.jm_top.specs.Replays.{IsReplayText};
 
 use crate::machine::Machine;
 use crate::plain_script::{PlainScript, read_plain_script};
 use crate::plain_spec::{PlainSpec, read_plain_spec};
-use crate::print::render;
 use crate::status::Status;
 use crate::texts::fault_text;
 use crate::words::replay_names;
 use jm_core::Prop;
 use jm_model::{NoMemory, ScriptError, ScriptFault, SpecError, SpecFault};
 use jm_port::{Folder, LoadFault, PutFault, Sink, put_all};
+use jm_print::render_history;
 use std::alloc::Global;
 
 /// The most bytes that a file may have.
@@ -51,7 +52,7 @@ pub fn jmop<F: Folder, S: Sink, E: Sink>(
     ensures read_failed { (file : ℕ) → result ≡ Status.ReadFailed file → HasRisen (F.faults files.old) (F.faults files.new) }
     ensures write_failed { result ≡ Status.WriteFailed → HasRisen (S.faults out.old) (S.faults out.new) }
 
-    ensures written { (text : List ℕ) × Writes result (S.written out.old) (S.written out.new) text }
+    ensures written { Writes result (S.written out.old) (S.written out.new) }
     ensures reported { Reports result (E.faults err.old, E.written err.old) (E.faults err.new, E.written err.new) }
 {
     let status = carry_out(alloc, words, files, out);
@@ -71,7 +72,7 @@ fn carry_out<F: Folder, S: Sink>(
     ensures refused { IsEarlyRefusal result }
     ensures read_failed { (file : ℕ) → result ≡ Status.ReadFailed file → HasRisen (F.faults files.old) (F.faults files.new) }
     ensures write_failed { result ≡ Status.WriteFailed → HasRisen (S.faults out.old) (S.faults out.new) }
-    ensures written { (text : List ℕ) × Writes result (S.written out.old) (S.written out.new) text }
+    ensures written { Writes result (S.written out.old) (S.written out.new) }
 {
     let Some((spec, script)) = replay_names(words) else {
         return Status::Usage;
@@ -80,7 +81,15 @@ fn carry_out<F: Folder, S: Sink>(
         Ok(text) => text,
         Err(status) => return status,
     };
-    match put_all(out, text.as_bytes()) {
+    write(out, text.as_slice())
+}
+
+/// Gives the text to the sink.
+fn write<S: Sink>(out: &mut S, text: &[u8]) -> Status
+    ensures write_failed { result ≡ Status.WriteFailed → HasRisen (S.faults out.old) (S.faults out.new) }
+    ensures written { WritesText result (S.written out.old) (S.written out.new) text.now }
+{
+    match put_all(out, text) {
         Ok(()) => Status::Done,
         Err(PutFault::Failed) => Status::WriteFailed,
         Err(PutFault::NoMemory) => Status::NoMemory,
@@ -111,7 +120,8 @@ fn make_text<F: Folder>(
     spec: &str,
     script: &str,
     files: &mut F,
-) -> Result<String, Status>
+) -> Result<Vec<u8>, Status>
+    ensures made { IfOk result (λ text. IsReplayText text.items) }
     ensures before { IfErr result IsBeforeWriting }
     ensures refused { IfErr result IsEarlyRefusal }
     ensures read_failed { (file : ℕ) → result ≡ Err (Status.ReadFailed file) → HasRisen (F.faults files.old) (F.faults files.new) }
@@ -172,10 +182,19 @@ fn replay(
     spec: &PlainSpec<'_>,
     machine: Machine,
     script: &PlainScript,
-) -> Result<String, NoMemory>
-    requires { All (λ s. IsPlainStep machine.letters (length script.now.objects) s.1) script.now.steps.items }
+) -> Result<Vec<u8>, NoMemory>
+    requires letters { machine.letters ≡ length spec.now.table.events }
+    requires plain { All (λ s. IsPlainStep machine.letters (length script.now.objects) s.1) script.now.steps.items }
+    ensures { IfOk result (λ text. IsReplayText text.items) }
 {
     let mut prop = Prop::new(alloc, machine, script.objects.len())?;
     prop.replay(0, &script.steps)?;
-    render(alloc, spec, prop.history(), &script.objects)
+    render_history(
+        alloc,
+        spec.name,
+        prop.history(),
+        &spec.table,
+        &spec.handlers,
+        &script.objects,
+    )
 }

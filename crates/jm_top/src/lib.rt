@@ -8,7 +8,6 @@ mod command;
 mod machine;
 mod plain_script;
 mod plain_spec;
-mod print;
 mod status;
 mod texts;
 mod words;

@@ -1,5 +1,5 @@
 //! A reader of plain scripts: event lines of one specification, each with one object.
-ghost use Rattle.std.specs.Prelude.{◌<◌, ◌≤◌, ◌^◌, length, vec_len, All, IfOk, OnOk, IfSome};
+ghost use Rattle.std.specs.Prelude.{◌<◌, ◌≤◌, ◌^◌, length, All, IfOk, OnOk, IfSome};
 ghost use Rattle.jm_top.specs.Plain.{IsPlainStep};
 
 use crate::plain_spec::PlainSpec;
@@ -28,7 +28,7 @@ pub(crate) fn read_plain_script(
     spec: &PlainSpec<'_>,
 ) -> Result<PlainScript, ScriptError>
     requires { length bytes.now < 2 ^ 32 }
-    ensures { IfOk result (λ script. All (λ s. IsPlainStep (vec_len spec.now.events) (length script.objects) s.1) script.steps.items) }
+    ensures { IfOk result (λ script. All (λ s. IsPlainStep (length spec.now.table.events) (length script.objects) s.1) script.steps.items) }
 {
     let mut script = PlainScript {
         steps: Vec::new(alloc),
@@ -49,8 +49,8 @@ fn read_line(
     spec: &PlainSpec<'_>,
     script: &mut PlainScript,
 ) -> Result<(), ScriptError>
-    requires { All (λ s. IsPlainStep (vec_len spec.now.events) (length script.old.objects) s.1) script.old.steps.items }
-    ensures { OnOk result (All (λ s. IsPlainStep (vec_len spec.now.events) (length script.new.objects) s.1) script.new.steps.items) }
+    requires { All (λ s. IsPlainStep (length spec.now.table.events) (length script.old.objects) s.1) script.old.steps.items }
+    ensures { OnOk result (All (λ s. IsPlainStep (length spec.now.table.events) (length script.new.objects) s.1) script.new.steps.items) }
 {
     let line = line.strip_suffix(b"\r").unwrap_or(line);
     let mut words = line
@@ -77,11 +77,13 @@ fn read_line(
 
 /// The letter of an event of the specification.
 fn letter_of(word: &[u8], spec: &PlainSpec<'_>) -> Option<Letter>
-    ensures { IfSome result (λ letter. letter.0 < vec_len spec.now.events) }
+    ensures { IfSome result (λ letter. letter.0 < length spec.now.table.events) }
 {
     let event = word.strip_prefix(spec.name.as_bytes())?.strip_prefix(b".")?;
-    let place = spec.events.iter().position(|e| e.as_bytes() == event)?;
-    Some(Letter(place as u8))
+    match from_utf8(event) {
+        Ok(event) => spec.table.letter(event),
+        Err(_) => None,
+    }
 }
 
 /// The number of an object, which is new or known.

@@ -1,26 +1,27 @@
 //! A reader of plain specifications: one parameter, one whole state machine with one alias, and a handler for it.
-ghost use Rattle.std.specs.Prelude.{◌≡◌, ◌<◌, ◌≤◌, ◌^◌, length, vec_len, IfOk};
+ghost use Rattle.std.specs.Prelude.{◌≡◌, ◌<◌, ◌≤◌, ◌^◌, length, IfOk};
 
 use crate::machine::Machine;
-use jm_model::{SpecError, SpecFault};
+use jm_events::{EventTable, Names};
+use jm_model::{NoMemory, SpecError, SpecFault};
 use jm_text::{Token, TokenKind, tokens};
 use std::alloc::{AllocError, AllocFailed, Global};
 use std::str::from_utf8;
 
 const NOT_PLAIN: SpecError = SpecError::Bad(SpecFault::UnsupportedLogic { line: 1 });
 
-const MOST_EVENTS: usize = 32;
+const MOST_EVENTS: u8 = 32;
 
 const MOST_STATES: usize = 1023;
 
-/// The names of a plain specification.
+/// The names of a plain specification: its own, those of its one parameter and its events, and that of its one handler.
 #[derive(Drop)]
 pub(crate) struct PlainSpec<'a> {
     pub name: &'a str,
-    pub parameter: &'a str,
-    pub events: Vec<&'a str>,
-    pub category: &'a str,
-    ghost few: { vec_len events ≤ 32 },
+    pub table: EventTable,
+    pub handlers: Names,
+    ghost one_parameter: { length table.parameters ≡ 1 },
+    ghost one_handler: { length handlers ≡ 1 },
 }
 
 /// The states of a machine, and its transitions: the place of each in the table, and the name of its target.
@@ -44,7 +45,7 @@ pub(crate) fn read_plain_spec(
     bytes: &[u8],
 ) -> Result<(PlainSpec<'_>, Machine), SpecError>
     requires { length bytes.now < 2 ^ 32 }
-    ensures { IfOk result (λ r. r.1.letters ≡ vec_len r.0.events) }
+    ensures { IfOk result (λ r. r.1.letters ≡ length r.0.table.events) }
 {
     if bytes
         .iter()
@@ -68,17 +69,45 @@ pub(crate) fn read_plain_spec(
 impl<'a, 't> Reader<'a, 't> {
     /// The whole file.
     fn file(&mut self, alloc: Global) -> Result<(PlainSpec<'a>, Machine), SpecError>
-        ensures { IfOk result (λ r. r.1.letters ≡ vec_len r.0.events) }
+        ensures { IfOk result (λ r. r.1.letters ≡ length r.0.table.events) }
     {
         let name = self.name()?;
+        let table = self.table(alloc)?;
+        let (handlers, machine) = self.property(alloc, &table)?;
+        let spec = PlainSpec {
+            name,
+            table,
+            handlers,
+        };
+        Ok((spec, machine))
+    }
+
+    /// The parameter, and the events up to the property.
+    fn table(&mut self, alloc: Global) -> Result<EventTable, SpecError>
+        ensures { IfOk result (λ table. length table.parameters ≡ 1) }
+    {
         let parameter = self.parameter()?;
         self.mark(b"{")?;
-        let events = self.events(alloc, parameter)?;
+        self.events(alloc, parameter)
+    }
+
+    /// The property with its handler, and the end of the file: the handler's name, and the machine.
+    fn property(&mut self, alloc: Global, table: &EventTable) -> Result<(Names, Machine), SpecError>
+        ensures one { IfOk result (λ r. length r.0 ≡ 1) }
+        ensures letters { IfOk result (λ r. r.1.letters ≡ length table.now.events) }
+    {
         self.word(b"fsm")?;
         self.mark(b":")?;
-        let states = self.states(alloc, &events)?;
+        let states = self.states(alloc, table)?;
         let (category, member) = self.alias(&states)?;
-        let machine = machine_of(alloc, &events, &states, member)?;
+        let machine = machine_of(alloc, table, &states, member)?;
+        self.handler(category)?;
+        let handlers = one_name(alloc, category)?;
+        Ok((handlers, machine))
+    }
+
+    /// The handler of a category, with an empty block, and the end of the file.
+    fn handler(&mut self, category: &str) -> Result<(), SpecError> {
         self.mark(b"@")?;
         if self.name()? != category {
             return Err(NOT_PLAIN);
@@ -89,13 +118,7 @@ impl<'a, 't> Reader<'a, 't> {
         if self.at != self.tokens.len() {
             return Err(NOT_PLAIN);
         }
-        let spec = PlainSpec {
-            name,
-            parameter,
-            events,
-            category,
-        };
-        Ok((spec, machine))
+        Ok(())
     }
 
     /// One parameter with its type, in parentheses.
@@ -108,24 +131,26 @@ impl<'a, 't> Reader<'a, 't> {
     }
 
     /// The events.
-    fn events(&mut self, alloc: Global, parameter: &str) -> Result<Vec<&'a str>, SpecError>
-        ensures { IfOk result (λ events. vec_len events ≤ MOST_EVENTS) }
+    fn events(&mut self, alloc: Global, parameter: &str) -> Result<EventTable, SpecError>
+        ensures { IfOk result (λ table. length table.parameters ≡ 1) }
     {
-        let mut events = Vec::new(alloc);
+        let mut table = EventTable::new(alloc);
+        table.add_param(parameter, self.line())?;
         for _ in 0..self.tokens.len() {
             if !self.is_word(b"event") {
                 break;
             }
+            let line = self.line();
             let name = self.event(alloc, parameter)?;
-            if events.len() >= MOST_EVENTS || is_reserved(name) || events.contains(&name) {
+            if table.letters() == MOST_EVENTS || is_reserved(name) || table.letter(name).is_some() {
                 return Err(NOT_PLAIN);
             }
-            events.push(name).map_err(no_memory)?;
+            table.add_event(name, 1, false, line)?;
         }
-        if events.is_empty() {
+        if table.letters() == 0 {
             return Err(NOT_PLAIN);
         }
-        Ok(events)
+        Ok(table)
     }
 
     /// One event, which binds the parameter.
@@ -168,7 +193,7 @@ impl<'a, 't> Reader<'a, 't> {
     }
 
     /// The states with their transitions.
-    fn states(&mut self, alloc: Global, events: &[&'a str]) -> Result<States<'a>, SpecError> {
+    fn states(&mut self, alloc: Global, table: &EventTable) -> Result<States<'a>, SpecError> {
         let mut states = States {
             names: Vec::new(alloc),
             transitions: Vec::new(alloc),
@@ -185,7 +210,7 @@ impl<'a, 't> Reader<'a, 't> {
                 return Err(NOT_PLAIN);
             }
             self.mark(b"[")?;
-            self.transitions(events, &mut states)?;
+            self.transitions(table, &mut states)?;
             states.names.push(name).map_err(no_memory)?;
         }
         Ok(states)
@@ -194,7 +219,7 @@ impl<'a, 't> Reader<'a, 't> {
     /// The transitions of the next state, up to and with its bracket.
     fn transitions(
         &mut self,
-        events: &[&'a str],
+        table: &EventTable,
         states: &mut States<'a>,
     ) -> Result<(), SpecError> {
         for _ in 0..self.tokens.len() {
@@ -207,9 +232,13 @@ impl<'a, 't> Reader<'a, 't> {
             if self.is_word(b",") {
                 self.step();
             }
-            let letter = place_of(events, event).ok_or(NOT_PLAIN)?;
-            let place = (32 * states.names.len().min(MOST_STATES)).saturating_add(letter);
-            let mut last = states.transitions.iter().rev().take(MOST_EVENTS);
+            let letter = table.letter(event).ok_or(NOT_PLAIN)?;
+            let place = 32 * states.names.len().min(MOST_STATES) + usize::from(letter.0);
+            let mut last = states
+                .transitions
+                .iter()
+                .rev()
+                .take(usize::from(MOST_EVENTS));
             if last.any(|t| t.0 == place) {
                 return Err(NOT_PLAIN);
             }
@@ -238,6 +267,14 @@ impl<'a, 't> Reader<'a, 't> {
                 .get(token.start as usize..token.end as usize)
                 .unwrap_or(b""),
             None => b"",
+        }
+    }
+
+    /// The line of the next token, and 0 at the end.
+    fn line(&self) -> u32 {
+        match self.tokens.get(self.at) {
+            Some(token) => token.line,
+            None => 0,
         }
     }
 
@@ -281,12 +318,11 @@ impl<'a, 't> Reader<'a, 't> {
 /// The table of a machine. An event that a state doesn't list leads to a last state, which is never left.
 fn machine_of(
     alloc: Global,
-    events: &[&str],
+    table: &EventTable,
     states: &States<'_>,
     member: usize,
 ) -> Result<Machine, SpecError>
-    requires { length events.now ≤ MOST_EVENTS }
-    ensures { IfOk result (λ machine. machine.letters ≡ length events.now) }
+    ensures { IfOk result (λ machine. machine.letters ≡ length table.now.events) }
 {
     let fail = states.names.len().min(MOST_STATES);
     let mut places = Vec::new(alloc);
@@ -299,7 +335,18 @@ fn machine_of(
             *cell = next.min(fail) as u16;
         }
     }
-    Ok(Machine::new(events.len() as u8, places, member.min(fail) as u16))
+    Ok(Machine::new(table.letters(), places, member.min(fail) as u16))
+}
+
+/// A list of one name.
+fn one_name(alloc: Global, name: &str) -> Result<Names, SpecError>
+    ensures { IfOk result (λ names. length names ≡ 1) }
+{
+    let mut names = Names::new(alloc);
+    match names.add(name) {
+        Ok(_) => Ok(names),
+        Err(NoMemory) => Err(SpecError::NoMemory),
+    }
 }
 
 fn place_of(names: &[&str], name: &str) -> Option<usize> {

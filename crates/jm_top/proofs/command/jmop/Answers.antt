@@ -8,9 +8,8 @@ pub returns-clause-written : goal.returns-clause-written
 returns-clause-written g c =
     let before = g.S.Sink.written c.args.out.now in
     let after = g.S.Sink.written c.carry_out-status.new.out in
-    let made = c.carry_out-status.ensures.written in
     elim c.report.ensures.kept [
-      | inl same ↦ (made.0, subst (λ (s : Status). Writes s before after made.0) (sym same) made.1)
+      | inl same ↦ subst (λ (s : Status). Writes s before after) (sym same) c.carry_out-status.ensures.written
       | inr short ↦
-          (made.0, subst (λ (s : Status). Writes s before after made.0) (sym short) (writes_then_no_memory c.carry_out-status.result before after made.0 made.1))
+          subst (λ (s : Status). Writes s before after) (sym short) (writes_then_no_memory c.carry_out-status.result before after c.carry_out-status.ensures.written)
     ]

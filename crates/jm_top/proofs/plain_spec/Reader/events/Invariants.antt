@@ -1,5 +1,5 @@
-use Rattle.std.proofs.Common.{◌≤◌, vec_len}
+use Rattle.std.proofs.Common.{◌≡◌, length}
 use Rattle.jm_top.proofs.plain_spec.Reader.events.Given as goal
 
 abbrev pub invariant-loop : goal.invariant-loop
-invariant-loop l = vec_len l.events ≤ 32
+invariant-loop l = length l.table.parameters ≡ 1
