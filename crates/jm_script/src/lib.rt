@@ -5,6 +5,7 @@
 #![tactic(auto)]
 
 mod catalog;
+mod disposal;
 mod event;
 mod laws;
 mod line;
@@ -15,7 +16,8 @@ mod statement;
 mod words;
 
 pub use catalog::Catalog;
-pub use laws::one_reading;
+pub use disposal::disposal_line;
+pub use laws::{events_alone, one_reading};
 pub use reader::read_script;
 pub use script::{Script, ScriptLine, Target, project};
 

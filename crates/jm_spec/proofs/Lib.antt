@@ -7,3 +7,4 @@ pub mod RepeatLemmas
 pub mod EndLemmas
 pub mod SoundLemmas
 pub mod CompleteLemmas
+pub mod RangeLemmas

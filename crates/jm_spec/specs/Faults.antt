@@ -140,3 +140,10 @@ frame_fault bytes frame =
     (or_else (property_fault frame.properties)
     (or_else (logic_fault bytes frame.properties)
     (table_fault (table_of bytes frame.params frame.events)))))
+
+-- the same of the steps up to the logic alone
+unfoldable pub head_fault : List ℕ → Frame → Option SpecFault
+head_fault bytes frame =
+    or_else (modifier_fault frame.modifiers)
+    (or_else (advice_fault frame.events)
+    (or_else (property_fault frame.properties) (logic_fault bytes frame.properties)))

@@ -1,5 +1,5 @@
 -- The tree of a frame, and what a reader of a specification answers.
-use Rattle.std.specs.Prelude.{ℕ, ◌≡◌, Bool, true, false, List, [], ◌∷◌, Option, Some, None, Result, Ok, Err}
+use Rattle.std.specs.Prelude.{ℕ, ◌≡◌, ◌<◌, ◌≤◌, Bool, true, false, List, [], ◌∷◌, Option, Some, None, Result, Ok, Err}
 use Rattle.std.specs.List.{list_any}
 use Rattle.jm_model.specs.declared.fault.SpecError.{SpecError}
 use Rattle.jm_model.specs.declared.fault.SpecError.TheVariants.{Bad, NoMemory}
@@ -11,6 +11,7 @@ use Rattle.jm_spec.specs.declared.head.Modifier.{Modifier}
 use Rattle.jm_spec.specs.declared.head.Modifier.TheVariants.{FullBinding}
 use Rattle.jm_spec.specs.declared.property.Property.{Property}
 use Rattle.jm_spec.specs.declared.frame.Frame.{Frame}
+use Rattle.jm_spec.specs.declared.tree.Logic.{Logic}
 use Rattle.jm_spec.specs.declared.tree.SpecTree.{SpecTree}
 use Rattle.jm_spec.specs.Spelling.{Spells}
 use Rattle.jm_spec.specs.Faults.{logic_of, table_of, frame_fault}
@@ -26,6 +27,16 @@ pub record TellsProperty (bytes : List ℕ) (p : Property) (tree : SpecTree) : T
   pub first : tree.first ≡ p.first
   pub last : tree.last ≡ p.last
   pub handlers : tree.handlers.items ≡ p.handlers
+
+-- the logic of the one property, and the line of its word
+abbrev pub HasLogic : List ℕ → List Property → Logic × ℕ → Type 0
+HasLogic bytes (p ∷ []) logic = (logic_of bytes p.logic ≡ Some logic.0) × (logic.1 ≡ p.logic.line)
+HasLogic bytes _ logic = ⊥
+
+-- the word of the logic of the one property
+abbrev pub IsLogicWord : List Property → Token → Type 0
+IsLogicWord (p ∷ []) word = word ≡ p.logic
+IsLogicWord _ word = ⊥
 
 -- the tree has what the one property says
 abbrev pub TellsProperties : List ℕ → List Property → SpecTree → Type 0
@@ -58,6 +69,16 @@ Makes (Err (Bad f)) new made = made ≡ Err f
 -- the tokens spell a frame without a fault, whose tree this is
 abbrev pub IsTreeOfTokens : List ℕ → List Token → SpecTree → Type 0
 IsTreeOfTokens bytes tokens tree = (frame : Frame) × Spells bytes tokens frame × (frame_fault bytes frame ≡ None) × IsTreeOf bytes frame tree
+
+-- the tokens spell no frame, unless memory is short
+abbrev pub IsUnspelled : List ℕ → List Token → SpecError → Type 0
+IsUnspelled bytes tokens NoMemory = Unit {0}
+IsUnspelled bytes tokens (Bad (Syntax line)) = (frame : Frame) → Spells bytes tokens frame → ⊥
+IsUnspelled bytes tokens (Bad _) = ⊥
+
+-- of so many tokens, the formula's tokens are some, behind at least one
+abbrev pub HasRange : ℕ → Property → Type 0
+HasRange n p = (0 < p.first) × (p.first ≤ p.last) × (p.last ≤ n)
 
 -- the tokens spell no frame, or one with this first fault, unless memory is short
 abbrev pub IsFaultOfTokens : List ℕ → List Token → SpecError → Type 0

@@ -1,8 +1,10 @@
 //! The reader of a specification.
-ghost use Rattle.std.specs.Prelude.{◌<◌, ◌^◌, length, IfOk, IfErr};
+ghost use Rattle.std.specs.Prelude.{◌<◌, ◌^◌, length, All, IfOk, IfErr};
 ghost use Rattle.jm_text.specs.Spans.{LieWithin};
-ghost use Rattle.jm_spec.specs.Trees.{IsTreeOfTokens, IsFaultOfTokens};
+ghost use Rattle.jm_spec.specs.Spelling.{Spells};
+ghost use Rattle.jm_spec.specs.Trees.{IsTreeOfTokens, IsFaultOfTokens, IsUnspelled, HasRange};
 
+use crate::frame::Frame;
 use crate::reader::Reader;
 use crate::tree::{SpecTree, tree_of};
 use jm_model::SpecError;
@@ -22,7 +24,18 @@ pub fn read_spec(alloc: Global, bytes: &[u8], tokens: &[Token]) -> Result<SpecTr
     ensures ok { IfOk result (IsTreeOfTokens bytes.now tokens.now) }
     ensures err { IfErr result (IsFaultOfTokens bytes.now tokens.now) }
 {
-    let mut reader = Reader::new(alloc, bytes, tokens);
-    let frame = reader.file()?;
+    let frame = read_frame(alloc, bytes, tokens)?;
     tree_of(alloc, bytes, frame)
+}
+
+/// The same before anything but the grammar is asked: what `tree_of` makes the tree of. The one fault is `Syntax`.
+pub fn read_frame(alloc: Global, bytes: &[u8], tokens: &[Token]) -> Result<Frame, SpecError>
+    requires within { LieWithin bytes.now tokens.now }
+    requires few { length tokens.now < 2 ^ 32 }
+    ensures ok { IfOk result (Spells bytes.now tokens.now) }
+    ensures ranges { IfOk result (λ frame. All (HasRange (length tokens.now)) frame.properties) }
+    ensures err { IfErr result (IsUnspelled bytes.now tokens.now) }
+{
+    let mut reader = Reader::new(alloc, bytes, tokens);
+    reader.file()
 }
