@@ -1,4 +1,2 @@
 pub mod EndingLemmas
-pub mod MachineLemmas
 pub mod PrintLemmas
-pub mod ReplayLemmas

@@ -3,7 +3,8 @@ use Rattle.std.specs.Prelude.{ℕ, ◌≡◌, List, Option, ◌⊎◌}
 use Rattle.jm_port.specs.Faults.{HasRisen}
 use Rattle.jm_port.specs.Sinks.{appended, AppendsPrefix}
 use Rattle.jm_top.specs.FaultTexts.{fault_text_of}
-use Rattle.jm_top.specs.Replays.{IsReplayText}
+use Rattle.jm_top.specs.Jobs.{Job, IsJob}
+use Rattle.jm_top.specs.Replays.{IsTextOf}
 use Rattle.jm_top.specs.declared.status.Status.{Status}
 use Rattle.jm_top.specs.declared.status.Status.TheVariants.{Done, WriteFailed, NoMemory}
 
@@ -15,17 +16,32 @@ WritesText WriteFailed before after text = AppendsPrefix before after text
 WritesText NoMemory before after text = AppendsPrefix before after text
 WritesText _ before after text = ⊥
 
--- a prefix of the text of a replay was appended
-abbrev pub AppendsReplayPrefix : Option (List ℕ) → Option (List ℕ) → Type 0
-AppendsReplayPrefix before after = (text : List ℕ) × IsReplayText text × AppendsPrefix before after text
+module _ (words : List (List ℕ)) (contents : List ℕ → Option (List ℕ)) where
+  -- a text of the command: its job isn't refused, and the text is one of the job
+  pub record IsText (text : List ℕ) : Type 0 where
+    pub job : Job
+    pub is_job : IsJob words contents job
+    pub is_text : IsTextOf job text
 
--- What the sink holds: at `Done` the text of the replay was appended whole, where the writing failed a prefix of it. Where
--- memory was short it was a prefix or nothing, and at every other status nothing.
-abbrev pub Writes : Status → Option (List ℕ) → Option (List ℕ) → Type 0
-Writes Done before after = (text : List ℕ) × IsReplayText text × (after ≡ appended before text)
-Writes WriteFailed before after = AppendsReplayPrefix before after
-Writes NoMemory before after = (after ≡ before) ⊎ AppendsReplayPrefix before after
-Writes _ before after = after ≡ before
+  -- a prefix of a text of the command was appended
+  pub record WritesPrefix (before after : Option (List ℕ)) : Type 0 where
+    pub text : List ℕ
+    pub is_text : IsText text
+    pub part : AppendsPrefix before after text
+
+  -- a text of the command was appended whole
+  pub record WritesWhole (before after : Option (List ℕ)) : Type 0 where
+    pub text : List ℕ
+    pub is_text : IsText text
+    pub whole : after ≡ appended before text
+
+  -- What the sink holds: at `Done` a text of the command was appended whole, where the writing failed a prefix of one. Where
+  -- memory was short it was a prefix or nothing, and at every other status nothing.
+  abbrev pub Writes : Status → Option (List ℕ) → Option (List ℕ) → Type 0
+  Writes Done before after = WritesWhole before after
+  Writes WriteFailed before after = WritesPrefix before after
+  Writes NoMemory before after = (after ≡ before) ⊎ WritesPrefix before after
+  Writes _ before after = after ≡ before
 
 -- What the error sink holds: nothing at `Done`, and else the text of the status, of which a prefix may be missing only
 -- where a fault of the error sink was counted. Where memory was short it is a prefix of the text of this status, or of the

@@ -1,8 +1,12 @@
 pub mod Statuses
 pub mod FaultTexts
-pub mod Machines
 pub mod Words
-pub mod Endings
-pub mod Refusals
-pub mod Plain
+pub mod Specifications
+pub mod Scripts
+pub mod Jobs
 pub mod Replays
+pub mod Endings
+pub mod Monitors
+pub mod Reading
+pub mod Steps
+pub mod Causes

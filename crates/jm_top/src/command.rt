@@ -1,43 +1,40 @@
 //! The commands, from the words to the status.
-ghost use Rattle.std.specs.Prelude.{◌≡◌, ◌≤◌, ◌⊎◌, ℕ, length, map, string_bytes, None, All, IfOk, IfErr};
+ghost use Rattle.std.specs.Prelude.{◌≡◌, ◌≤◌, ◌⊎◌, ℕ, List, length, map, string_bytes, None, Some, IfOk, IfErr};
 ghost use Rattle.jm_port.specs.Faults.{HasRisen};
+ghost use Rattle.jm_script.specs.declared.script.ScriptLine.{ScriptLine};
 ghost use Rattle.jm_top.specs.Words.{replay_names};
-ghost use Rattle.jm_top.specs.Endings.{Writes, WritesText, Reports};
-ghost use Rattle.jm_top.specs.Refusals.{IsEarlyRefusal, IsBeforeWriting};
-ghost use Rattle.jm_top.specs.Plain.{IsPlainStep};
-ghost use Rattle.jm_top.specs.Replays.{IsReplayText};
+ghost use Rattle.jm_top.specs.Specifications.{Specification, most_bytes};
+ghost use Rattle.jm_top.specs.Scripts.{catalog_of};
+ghost use Rattle.jm_top.specs.Jobs.{IsJob, Replay, Holds, IsCaused, AreTold};
+ghost use Rattle.jm_top.specs.Causes.{IsBeforeWriting, IsSpecUnloaded, IsScriptUnloaded, IsNoSpecification, IsNoScript};
+ghost use Rattle.jm_top.specs.Endings.{IsText, Writes, WritesText, Reports};
+ghost use Rattle.jm_top.specs.Reading.{IsRead};
+ghost use Rattle.jm_top.specs.Steps.{IsReadScript};
 
-use crate::machine::Machine;
-use crate::plain_script::{PlainScript, read_plain_script};
-use crate::plain_spec::{PlainSpec, read_plain_spec};
+use crate::replay::replay;
+use crate::script::{Steps, read_steps};
+use crate::specification::{Loaded, read_specification};
 use crate::status::Status;
 use crate::texts::fault_text;
 use crate::words::replay_names;
-use jm_core::Prop;
 use jm_model::{NoMemory, ScriptError, ScriptFault, SpecError, SpecFault};
 use jm_port::{Folder, LoadFault, PutFault, Sink, put_all};
-use jm_print::render_history;
+use jm_script::Catalog;
 use std::alloc::Global;
 
 /// The most bytes that a file may have.
 const MOST_BYTES: usize = 4_194_304;
 
-// Until more than the first path is built, a specification or a script that isn't plain is refused as a whole.
-const REFUSED_SPEC: Status = Status::BadSpec {
-    file: 0,
-    fault: SpecFault::UnsupportedLogic { line: 1 },
-};
-
-const REFUSED_SCRIPT: Status = Status::BadScript {
-    script: 0,
-    fault: ScriptFault::BadLine { line: 1 },
-};
-
 /// Does a command, and tells how it ended. `words` are those of the command line without the program's name.
 ///
-/// The order of work, and of refusals, is: the words; the specification, loaded and read; the script, loaded and read;
-/// its steps; the whole text; the text given to `out`; and last, where the status isn't `Done`, its text given to `err`.
-/// Want of memory may end the work at any point.
+/// The order of work, and of refusals, is: the words; the specification, loaded, read and compiled; the script, loaded and
+/// read; its steps; the whole text; the text given to `out`; and last, where the status isn't `Done`, its text given to
+/// `err`. Want of memory may end the work at any point.
+///
+/// At `Done` the text is that of the command's job: the printed history is legal for what the specification means, and an
+/// interleaving of the script's steps. A refusal is the job's first fault in the order of work. `ReadFailed` and
+/// `WriteFailed` come only where the folder or the sink counted a fault. So where the job has no fault, it is told what the
+/// files hold, and no fault was counted, the whole text was written, or memory was short.
 pub fn jmop<F: Folder, S: Sink, E: Sink>(
     alloc: Global,
     words: &[String],
@@ -45,14 +42,14 @@ pub fn jmop<F: Folder, S: Sink, E: Sink>(
     out: &mut S,
     err: &mut E,
 ) -> Status
-    ensures usage { result ≡ Status.Usage → replay_names (map string_bytes words.now) ≡ None }
+    ensures written { Writes (map string_bytes words.now) (F.holds files.old) result (S.written out.old) (S.written out.new) }
+    ensures caused { IsCaused (map string_bytes words.now) (F.holds files.old) result }
     ensures no_command { replay_names (map string_bytes words.now) ≡ None → (result ≡ Status.Usage) ⊎ (result ≡ Status.NoMemory) }
-
-    ensures refused { IsEarlyRefusal result }
     ensures read_failed { (file : ℕ) → result ≡ Status.ReadFailed file → HasRisen (F.faults files.old) (F.faults files.new) }
     ensures write_failed { result ≡ Status.WriteFailed → HasRisen (S.faults out.old) (S.faults out.new) }
-
-    ensures written { Writes result (S.written out.old) (S.written out.new) }
+    ensures complete { (s : Specification) (script : List ScriptLine) (objects : List (List ℕ)) → AreTold (map string_bytes words.now) (F.holds files.old)
+        → IsJob (map string_bytes words.now) (F.holds files.old) (Replay s script objects) → ¬ HasRisen (F.faults files.old) (F.faults files.new) → ¬ HasRisen (S.faults out.old) (S.faults out.new)
+        → (result ≡ Status.Done) ⊎ (result ≡ Status.NoMemory) }
     ensures reported { Reports result (E.faults err.old, E.written err.old) (E.faults err.new, E.written err.new) }
 {
     let status = carry_out(alloc, words, files, out);
@@ -66,22 +63,19 @@ fn carry_out<F: Folder, S: Sink>(
     files: &mut F,
     out: &mut S,
 ) -> Status
-    ensures usage { result ≡ Status.Usage → replay_names (map string_bytes words.now) ≡ None }
+    ensures written { Writes (map string_bytes words.now) (F.holds files.old) result (S.written out.old) (S.written out.new) }
+    ensures caused { IsCaused (map string_bytes words.now) (F.holds files.old) result }
     ensures no_command { replay_names (map string_bytes words.now) ≡ None → result ≡ Status.Usage }
-
-    ensures refused { IsEarlyRefusal result }
     ensures read_failed { (file : ℕ) → result ≡ Status.ReadFailed file → HasRisen (F.faults files.old) (F.faults files.new) }
     ensures write_failed { result ≡ Status.WriteFailed → HasRisen (S.faults out.old) (S.faults out.new) }
-    ensures written { Writes result (S.written out.old) (S.written out.new) }
 {
     let Some((spec, script)) = replay_names(words) else {
         return Status::Usage;
     };
-    let text = match make_text(alloc, spec, script, files) {
-        Ok(text) => text,
-        Err(status) => return status,
-    };
-    write(out, text.as_slice())
+    match make_text(alloc, spec, script, files) {
+        Ok(text) => write(out, text.as_slice()),
+        Err(status) => status,
+    }
 }
 
 /// Gives the text to the sink.
@@ -114,31 +108,23 @@ fn report<E: Sink>(alloc: Global, status: Status, err: &mut E) -> Status
     }
 }
 
-/// The text of `replay`.
+/// The text of `replay`, of a specification and a script.
 fn make_text<F: Folder>(
     alloc: Global,
     spec: &str,
     script: &str,
     files: &mut F,
 ) -> Result<Vec<u8>, Status>
-    ensures made { IfOk result (λ text. IsReplayText text.items) }
+    ensures made { (words : List (List ℕ)) → replay_names words ≡ Some (spec.now, script.now) → IfOk result (λ text. IsText words (F.holds files.old) text.items) }
+    ensures caused { (words : List (List ℕ)) → replay_names words ≡ Some (spec.now, script.now) → IfErr result (IsCaused words (F.holds files.old)) }
     ensures before { IfErr result IsBeforeWriting }
-    ensures refused { IfErr result IsEarlyRefusal }
     ensures read_failed { (file : ℕ) → result ≡ Err (Status.ReadFailed file) → HasRisen (F.faults files.old) (F.faults files.new) }
 {
     let bytes = load_spec(spec, files)?;
-    let (spec, machine) = match read_plain_spec(alloc, &bytes) {
-        Ok(read) => read,
-        Err(SpecError::Bad(_)) => return Err(REFUSED_SPEC),
-        Err(SpecError::NoMemory) => return Err(Status::NoMemory),
-    };
+    let loaded = specification(alloc, bytes.as_slice())?;
     let bytes = load_script(script, files)?;
-    let script = match read_plain_script(alloc, &bytes, &spec) {
-        Ok(read) => read,
-        Err(ScriptError::Bad(_)) => return Err(REFUSED_SCRIPT),
-        Err(ScriptError::NoMemory) => return Err(Status::NoMemory),
-    };
-    match replay(alloc, &spec, machine, &script) {
+    let steps = steps(alloc, bytes.as_slice(), &loaded.catalog)?;
+    match replay(alloc, loaded, &steps) {
         Ok(text) => Ok(text),
         Err(NoMemory) => Err(Status::NoMemory),
     }
@@ -146,55 +132,65 @@ fn make_text<F: Folder>(
 
 /// The bytes of the specification.
 fn load_spec<F: Folder>(name: &str, files: &mut F) -> Result<Vec<u8>, Status>
-    ensures within { IfOk result (λ bytes. length bytes.items ≤ MOST_BYTES) }
-    ensures before { IfErr result IsBeforeWriting }
-    ensures refused { IfErr result IsEarlyRefusal }
+    ensures within { IfOk result (λ bytes. length bytes.items ≤ most_bytes) }
+    ensures held { IfOk result (λ bytes. Holds (F.holds files.old) name.now bytes.items) }
+    ensures err { IfErr result (IsSpecUnloaded (F.holds files.old) name.now) }
     ensures read_failed { (file : ℕ) → result ≡ Err (Status.ReadFailed file) → HasRisen (F.faults files.old) (F.faults files.new) }
     ensures never_falls { F.faults files.old ≤ F.faults files.new }
+    ensures same { (other : List ℕ) → F.holds files.new other ≡ F.holds files.old other }
 {
     match files.load(name, MOST_BYTES) {
         Ok(bytes) => Ok(bytes),
         Err(LoadFault::Failed) => Err(Status::ReadFailed { file: 0 }),
-        Err(LoadFault::TooLong) => Err(REFUSED_SPEC),
+        Err(LoadFault::TooLong) => {
+            let fault = SpecFault::TooLong;
+            Err(Status::BadSpec { file: 0, fault })
+        }
         Err(LoadFault::NoMemory) => Err(Status::NoMemory),
     }
 }
 
 /// The bytes of the script.
 fn load_script<F: Folder>(name: &str, files: &mut F) -> Result<Vec<u8>, Status>
-    ensures within { IfOk result (λ bytes. length bytes.items ≤ MOST_BYTES) }
-    ensures before { IfErr result IsBeforeWriting }
-    ensures refused { IfErr result IsEarlyRefusal }
+    ensures within { IfOk result (λ bytes. length bytes.items ≤ most_bytes) }
+    ensures held { IfOk result (λ bytes. Holds (F.holds files.old) name.now bytes.items) }
+    ensures err { IfErr result (IsScriptUnloaded (F.holds files.old) name.now) }
     ensures read_failed { (file : ℕ) → result ≡ Err (Status.ReadFailed file) → HasRisen (F.faults files.old) (F.faults files.new) }
     ensures never_falls { F.faults files.old ≤ F.faults files.new }
 {
     match files.load(name, MOST_BYTES) {
         Ok(bytes) => Ok(bytes),
         Err(LoadFault::Failed) => Err(Status::ReadFailed { file: 1 }),
-        Err(LoadFault::TooLong) => Err(REFUSED_SCRIPT),
+        Err(LoadFault::TooLong) => {
+            let fault = ScriptFault::TooLong;
+            Err(Status::BadScript { script: 0, fault })
+        }
         Err(LoadFault::NoMemory) => Err(Status::NoMemory),
     }
 }
 
-/// The text of the history of a script.
-fn replay(
-    alloc: Global,
-    spec: &PlainSpec<'_>,
-    machine: Machine,
-    script: &PlainScript,
-) -> Result<Vec<u8>, NoMemory>
-    requires letters { machine.letters ≡ length spec.now.table.events }
-    requires plain { All (λ s. IsPlainStep machine.letters (length script.now.objects) s.1) script.now.steps.items }
-    ensures { IfOk result (λ text. IsReplayText text.items) }
+/// The specification that the bytes say.
+fn specification(alloc: Global, bytes: &[u8]) -> Result<Loaded, Status>
+    requires { length bytes.now ≤ most_bytes }
+    ensures ok { IfOk result (IsRead bytes.now) }
+    ensures err { IfErr result (IsNoSpecification bytes.now) }
 {
-    let mut prop = Prop::new(alloc, machine, script.objects.len())?;
-    prop.replay(0, &script.steps)?;
-    render_history(
-        alloc,
-        spec.name,
-        prop.history(),
-        &spec.table,
-        &spec.handlers,
-        &script.objects,
-    )
+    match read_specification(alloc, bytes) {
+        Ok(loaded) => Ok(loaded),
+        Err(SpecError::Bad(fault)) => Err(Status::BadSpec { file: 0, fault }),
+        Err(SpecError::NoMemory) => Err(Status::NoMemory),
+    }
+}
+
+/// The script that the bytes say.
+fn steps(alloc: Global, bytes: &[u8], catalog: &Catalog) -> Result<Steps, Status>
+    requires { length bytes.now ≤ most_bytes }
+    ensures ok { (s : Specification) → catalog.now ≡ catalog_of s → IfOk result (IsReadScript s bytes.now) }
+    ensures err { (s : Specification) → catalog.now ≡ catalog_of s → IfErr result (IsNoScript s bytes.now) }
+{
+    match read_steps(alloc, bytes, catalog) {
+        Ok(steps) => Ok(steps),
+        Err(ScriptError::Bad(fault)) => Err(Status::BadScript { script: 0, fault }),
+        Err(ScriptError::NoMemory) => Err(Status::NoMemory),
+    }
 }

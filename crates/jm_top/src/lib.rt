@@ -1,13 +1,17 @@
 //! The top call: a command from the words of its command line to its status.
 //!
 //! `jmop` reads the words, loads the files from a folder, replays the script, and writes the text to a sink and what went
-//! wrong to another. So far it knows the command `replay`, over specifications and scripts of a plain form.
+//! wrong to another. So far it knows the command `replay`, over state machines with one handler and scripts of events.
+//!
+//! What a command is to do stands in `specs`, apart from how it is done: `Jobs.antt` says what its words and the contents
+//! of its files ask for or which fault is the first, and `Replays.antt` which texts are those of a replay.
 #![tactic(auto)]
 
 mod command;
-mod machine;
-mod plain_script;
-mod plain_spec;
+mod replay;
+mod rules;
+mod script;
+mod specification;
 mod status;
 mod texts;
 mod words;
@@ -16,5 +20,3 @@ pub use command::jmop;
 pub use status::Status;
 pub use texts::fault_text;
 
-#[cfg(test)]
-mod tests;

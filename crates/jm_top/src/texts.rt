@@ -170,7 +170,8 @@ fn script_words(fault: &ScriptFault) -> &'static str
     }
 }
 
-fn script_line(fault: &ScriptFault) -> Option<u32>
+/// The line of a fault of a script, if it has one.
+pub(crate) fn script_line(fault: &ScriptFault) -> Option<u32>
     ensures { result ≡ script_line fault.now }
 {
     match fault {

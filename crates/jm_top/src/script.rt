@@ -1,0 +1,56 @@
+//! Reading a script of one specification.
+ghost use Rattle.std.specs.Prelude.{◌≡◌, ◌≤◌, length, IfOk, IfErr, [], ◌∷◌};
+ghost use Rattle.jm_model.specs.declared.fault.ScriptFault.{ScriptFault};
+ghost use Rattle.jm_top.specs.FaultTexts.{script_line};
+ghost use Rattle.jm_top.specs.Specifications.{Specification, most_bytes};
+ghost use Rattle.jm_top.specs.Scripts.{IsScriptFault, catalog_of, unless_behind};
+ghost use Rattle.jm_top.specs.Steps.{IsReadScript};
+
+use crate::texts::script_line;
+use jm_events::Names;
+use jm_model::{ScriptError, ScriptFault};
+use jm_script::{Catalog, Script, disposal_line, read_script};
+use std::alloc::Global;
+
+/// A script that was read, and the names of its objects.
+#[derive(Drop)]
+pub(crate) struct Steps {
+    pub script: Script,
+    pub objects: Names,
+}
+
+/// The script that the bytes say, over a catalog of one specification. The fault is that of the first line that has one; a
+/// line that begins as a death or a disposal pass does is a `BadLine` so far.
+pub(crate) fn read_steps(
+    alloc: Global,
+    bytes: &[u8],
+    catalog: &Catalog,
+) -> Result<Steps, ScriptError>
+    requires { length bytes.now ≤ most_bytes }
+    ensures ok { (s : Specification) → catalog.now ≡ catalog_of s → IfOk result (IsReadScript s bytes.now) }
+    ensures err { (s : Specification) (fault : ScriptFault) → catalog.now ≡ catalog_of s → result ≡ Err (ScriptError.Bad fault) → IsScriptFault s bytes.now fault }
+{
+    let Ok(disposal) = disposal_line(alloc, bytes) else {
+        return Err(ScriptError::NoMemory);
+    };
+    let mut objects = Names::new(alloc);
+    let mut count = 0;
+    let read = read_script(alloc, bytes, catalog, &mut objects, &mut count);
+    match (disposal, read) {
+        (None, Ok(script)) => Ok(Steps { script, objects }),
+        (Some(line), Ok(_)) => Err(ScriptError::Bad(ScriptFault::BadLine { line })),
+        (None, Err(error)) => Err(error),
+        (Some(_), Err(ScriptError::NoMemory)) => Err(ScriptError::NoMemory),
+        (Some(line), Err(ScriptError::Bad(fault))) => Err(ScriptError::Bad(unless_behind(line, fault))),
+    }
+}
+
+/// The fault, or, where it isn't before the line, that of the line.
+fn unless_behind(line: u32, fault: ScriptFault) -> ScriptFault
+    ensures { result ≡ unless_behind line fault (script_line fault) }
+{
+    match script_line(&fault) {
+        Some(other) if other >= line => ScriptFault::BadLine { line },
+        _ => fault,
+    }
+}
