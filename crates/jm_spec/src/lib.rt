@@ -8,7 +8,6 @@ mod brackets;
 mod events;
 mod frame;
 mod head;
-mod items;
 mod laws;
 mod property;
 mod reader;
@@ -20,7 +19,7 @@ pub use frame::Frame;
 pub use laws::{member_ends, one_reading};
 pub use property::HandlerText;
 pub use spec::{read_frame, read_spec};
-pub use tree::{Logic, SpecTree, frame_logic, name_of, tree_of};
+pub use tree::{Logic, SpecTree, frame_logic, tree_of};
 
 #[cfg(test)]
 mod tests;

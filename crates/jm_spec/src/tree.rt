@@ -7,10 +7,10 @@ ghost use Rattle.jm_spec.specs.Trees.{is_full_binding, Refuses, Checks, Makes, H
 use crate::events::{Advice, Mention};
 use crate::frame::Frame;
 use crate::head::Modifier;
-use crate::items::Items;
 use crate::property::{HandlerText, Property};
 use jm_events::EventTable;
 use jm_model::{SpecError, SpecFault};
+use jm_reading::Items;
 use jm_text::{Token, name};
 use std::alloc::Global;
 
@@ -190,9 +190,9 @@ fn logic_named(name: &str) -> Option<Logic>
     }
 }
 
-/// The name that a token of the bytes says, if it says one.
+/// The name that a token says, if it is a name.
 #[tactic(auto, unfolding(crate::specs::Faults::name_of))]
-pub fn name_of<'a>(bytes: &'a [u8], token: Token) -> Option<&'a str>
+fn name_of<'a>(bytes: &'a [u8], token: Token) -> Option<&'a str>
     ensures { option_map (λ s. s.now) result ≡ name_of bytes.now token }
 {
     if token.start <= token.end && token.end as usize <= bytes.len() {

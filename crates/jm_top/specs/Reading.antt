@@ -5,13 +5,14 @@ use Rattle.jm_model.specs.declared.fault.SpecFault.TheVariants.{Syntax, Unsuppor
 use Rattle.jm_model.specs.declared.fault.SpecError.{SpecError}
 use Rattle.jm_model.specs.declared.fault.SpecError.TheVariants.{Bad, NoMemory}
 use Rattle.jm_text.specs.declared.token.Token.{Token}
+use Rattle.jm_reading.specs.Tokens.{name_of}
 use Rattle.jm_spec.specs.declared.frame.Frame.{Frame}
 use Rattle.jm_spec.specs.declared.tree.SpecTree.{SpecTree}
 use Rattle.jm_spec.specs.Spelling.{Spells}
 use Rattle.jm_spec.specs.Trees.{IsTreeOf}
 use Rattle.jm_fsm.specs.Machines.{StateMachine}
 use Rattle.jm_top.specs.declared.specification.Loaded.{Loaded}
-use Rattle.jm_top.specs.Specifications.{Specification, IsSpecification, IsTaken, IsPlain, fault_so_far, name_said}
+use Rattle.jm_top.specs.Specifications.{Specification, IsSpecification, IsTaken, IsPlain, fault_so_far}
 use Rattle.jm_top.specs.Monitors.{Keeps}
 
 -- the tokens spell a frame without a fault, and this is its tree
@@ -47,7 +48,7 @@ pub record IsTakenAs (bytes : List ℕ) (tree : SpecTree) (m : StateMachine) (l 
   pub specification : Specification
   pub machine : specification.machine ≡ m
   pub taken : IsTaken bytes tree m specification.category specification.handler
-  pub name : specification.name ≡ name_said bytes tree.name
+  pub name : specification.name ≡ name_of bytes tree.name
   pub table : specification.table ≡ tree.table
   pub kept : IsKept specification l
 

@@ -1,5 +1,5 @@
 -- What a file says that is a specification, and what is wrong with one that isn't.
-use Rattle.std.specs.Prelude.{ℕ, ◌≡◌, ◌<◌, ◌≤◌, false, List, [], ◌∷◌, length, Option, Some, None, slice_range, slice_get, unwrap_or}
+use Rattle.std.specs.Prelude.{ℕ, ◌≡◌, ◌<◌, ◌≤◌, false, List, [], ◌∷◌, length, Option, Some, None, slice_range, slice_get}
 use Rattle.std.specs.Option.{option_map_or}
 use Rattle.jm_model.specs.Meanings.{Meaning}
 use Rattle.jm_model.specs.declared.fault.SpecFault.{SpecFault}
@@ -15,7 +15,9 @@ use Rattle.jm_spec.specs.declared.frame.Frame.{Frame}
 use Rattle.jm_spec.specs.declared.tree.Logic.{Logic}
 use Rattle.jm_spec.specs.declared.tree.Logic.TheVariants.{Fsm}
 use Rattle.jm_spec.specs.declared.tree.SpecTree.{SpecTree}
-use Rattle.jm_spec.specs.Faults.{name_of, logic_of, head_fault, frame_fault, or_else}
+use Rattle.jm_reading.specs.Tokens.{name_of}
+use Rattle.jm_reading.specs.Faults.{or_else}
+use Rattle.jm_spec.specs.Faults.{logic_of, head_fault, frame_fault}
 use Rattle.jm_spec.specs.Spelling.{Spells}
 use Rattle.jm_spec.specs.Trees.{IsTreeOf}
 use Rattle.jm_fsm.specs.Machines.{StateMachine, FsmHolds, category_names}
@@ -70,10 +72,6 @@ fault_so_far bytes frame = or_else (head_fault bytes frame) (or_else (other_logi
 abbrev pub formula_of : List Token → SpecTree → List Token
 formula_of tokens tree = slice_range tokens tree.first tree.last
 
--- the name that a token says
-abbrev pub name_said : List ℕ → Token → List ℕ
-name_said bytes token = unwrap_or (name_of bytes token) []
-
 -- the specification is one that may be taken so far: it is not for full bindings alone, no event is a creation event, and it
 -- has one handler, for the category of this token, with nothing in its block
 pub record IsPlain (tree : SpecTree) (category : Token) : Type 0 where
@@ -88,7 +86,7 @@ pub record IsPlain (tree : SpecTree) (category : Token) : Type 0 where
 pub record IsTaken (bytes : List ℕ) (tree : SpecTree) (m : StateMachine) (category : ℕ) (name : List ℕ) : Type 0 where
   pub token : Token
   pub plain : IsPlain tree token
-  pub named : name ≡ name_said bytes token
+  pub named : name ≡ name_of bytes token
   pub found : number_of (category_names m) name ≡ Some category
 
 -- ---- what a file says
@@ -109,7 +107,7 @@ pub record IsSpecification (bytes : List ℕ) (s : Specification) : Type 0 where
   pub told : IsTold bytes tokens tree
   pub read : IsReadFrom bytes (formula_of tokens tree) tree.table s.machine
   pub taken : IsTaken bytes tree s.machine s.category s.handler
-  pub name : s.name ≡ name_said bytes tree.name
+  pub name : s.name ≡ name_of bytes tree.name
   pub table : s.table ≡ tree.table
 
 -- The first fault of the bytes, step by step: they are too many; they have no tokens; these spell no frame; the frame has a

@@ -7,15 +7,16 @@ ghost use Rattle.jm_events.specs.Names.{number_of};
 ghost use Rattle.jm_events.specs.Events.{IsCreation};
 ghost use Rattle.jm_fsm.specs.Machines.{category_count, category_names};
 ghost use Rattle.jm_fsm.specs.Trees.{IsReadFrom, IsRefused};
-ghost use Rattle.jm_top.specs.Specifications.{IsPlain, IsSpecFault, formula_of, name_said, most_bytes};
+ghost use Rattle.jm_top.specs.Specifications.{IsPlain, IsSpecFault, formula_of, most_bytes};
 ghost use Rattle.jm_top.specs.Reading.{IsToldBy, IsFrameFault, HasFormula, IsTakenAs, IsNotTaken, IsRead};
 
 use crate::rules::Rules;
 use jm_events::{EventTable, Names};
 use jm_fsm::{Fsm, read};
 use jm_model::{NoMemory, SpecError, SpecFault};
+use jm_reading::name_of;
 use jm_script::Catalog;
-use jm_spec::{Logic, SpecTree, frame_logic, name_of, read_frame, tree_of};
+use jm_spec::{Logic, SpecTree, frame_logic, read_frame, tree_of};
 use jm_text::{Token, tokens};
 use std::alloc::Global;
 
@@ -84,7 +85,7 @@ fn take(alloc: Global, bytes: &[u8], tree: SpecTree, machine: Fsm) -> Result<Loa
     let Some(category) = plain_handler(&tree) else {
         return Err(SpecError::Bad(SpecFault::UnsupportedLogic { line }));
     };
-    let handler = name_said(bytes, category);
+    let handler = name_of(bytes, category);
     let category = match category_of(alloc, &machine, handler) {
         Ok(Some(category)) => category,
         Ok(None) => return Err(SpecError::Bad(SpecFault::UnsupportedLogic { line })),
@@ -94,7 +95,7 @@ fn take(alloc: Global, bytes: &[u8], tree: SpecTree, machine: Fsm) -> Result<Loa
         Ok(rules) => rules,
         Err(error) => return Err(error),
     };
-    load(alloc, name_said(bytes, tree.name), handler, tree.table, rules)
+    load(alloc, name_of(bytes, tree.name), handler, tree.table, rules)
 }
 
 /// The category of the one handler, if the specification may be taken so far.
@@ -130,16 +131,6 @@ fn has_bit(mask: u32, bit: u8) -> bool
     ensures { IsTrue result ↔ IsBitSet mask bit }
 {
     mask & (1 << bit) != 0
-}
-
-/// The name that a token says, and no text where it says none.
-fn name_said<'a>(bytes: &'a [u8], token: Token) -> &'a str
-    ensures { result.now ≡ name_said bytes.now token }
-{
-    match name_of(bytes, token) {
-        Some(name) => name,
-        None => "",
-    }
 }
 
 /// The number of a category of the machine, if it has it.

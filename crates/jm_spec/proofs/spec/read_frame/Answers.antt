@@ -5,7 +5,7 @@ use Rattle.jm_model.specs.declared.fault.SpecError.TheVariants.{Bad, NoMemory}
 use Rattle.jm_model.specs.declared.fault.SpecFault.TheVariants.{Syntax}
 use Rattle.jm_text.specs.declared.token.Token.{Token}
 use Rattle.jm_spec.specs.declared.frame.Frame.{Frame}
-use Rattle.jm_spec.specs.Answers.{FailsAt, Gives}
+use Rattle.jm_reading.specs.Answers.{FailsAt, Gives}
 use Rattle.jm_spec.specs.Rules.{frame_at, frame_of}
 use Rattle.jm_spec.specs.Spelling.{Spells}
 use Rattle.jm_spec.specs.Trees.{IsUnspelled, HasRange}
