@@ -416,3 +416,20 @@ fn numbers_objects_over_two_scripts(rt: HostRuntime) -> Result<(), Fail> {
     assert_eq!(rt; names.name(2), "i2");
     Ok(())
 }
+
+#[test]
+fn finds_the_first_disposal(rt: HostRuntime) -> Result<(), Fail> {
+    let alloc = rt.alloc();
+    let rows = [
+        (b"".as_slice(), None),
+        (
+            b"Iter.next i # death i\n\ndeath i j\npass Iter".as_slice(),
+            Some(3),
+        ),
+        (b"Iter.death i\r\n\tpass".as_slice(), Some(2)),
+    ];
+    for (bytes, line) in rows {
+        assert_eq!(rt; disposal_line(alloc, bytes)?, line);
+    }
+    Ok(())
+}

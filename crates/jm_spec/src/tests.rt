@@ -284,3 +284,16 @@ fn counts(rt: HostRuntime) -> Result<(), Fail> {
     member_ends();
     Ok(())
 }
+
+#[test]
+fn tells_the_logic(rt: HostRuntime) -> Result<(), Fail> {
+    let alloc = rt.alloc();
+    let bytes = b"L(P p, P p) {\n ere : a }".as_slice();
+    let all = tokens(alloc, bytes)?;
+    if all.len() > 100_000 {
+        return Err(Fail::from(SpecError::NoMemory));
+    }
+    let frame = read_frame(alloc, bytes, all.as_slice())?;
+    assert_eq!(rt; frame_logic(bytes, &frame)?, (Logic::Ere, 2));
+    Ok(())
+}

@@ -1,8 +1,8 @@
 use Rattle.std.proofs.Common.{◌≡◌, ℕ, List, [], inl, inr, refl, sym, ◌∙◌, ap, append-nil}
 use Rattle.std.specs.Prelude.{Option, Some, None}
 use Rattle.jm_port.specs.Sinks.{appended, AppendsPrefix}
-use Rattle.jm_top.specs.Replays.{IsReplayText}
-use Rattle.jm_top.specs.Endings.{WritesText, Writes}
+use Rattle.jm_top.specs.Causes.{IsBeforeWriting}
+use Rattle.jm_top.specs.Endings.{WritesText, IsText, Writes}
 use Rattle.jm_top.specs.declared.status.Status.{Status}
 use Rattle.jm_top.specs.declared.status.Status.TheVariants.{Done, Usage, BadSpec, BadScript, ReadFailed, WriteFailed, NoMemory}
 
@@ -18,22 +18,33 @@ nothing_appended before after text same = record { piece = []; is_prefix = (text
 whole_appended : (before after : Option (List ℕ)) (text : List ℕ) → after ≡ appended before text → AppendsPrefix before after text
 whole_appended before after text whole = record { piece = text; is_prefix = ([], append-nil text); written = whole }
 
--- the text of a replay was given to the sink
-pub writes_replay : (status : Status) (before after : Option (List ℕ)) (text : List ℕ) → IsReplayText text → WritesText status before after text → Writes status before after
-writes_replay Done before after text is w = (text, is, w)
-writes_replay WriteFailed before after text is w = (text, is, w)
-writes_replay NoMemory before after text is w = inr (text, is, w)
-writes_replay Usage before after text is w = absurd w
-writes_replay (BadSpec f x) before after text is w = absurd w
-writes_replay (BadScript f x) before after text is w = absurd w
-writes_replay (ReadFailed f) before after text is w = absurd w
+module _ (words : List (List ℕ)) (contents : List ℕ → Option (List ℕ)) where
+  -- a text of the command was given to the sink
+  pub writes_text : (status : Status) (before after : Option (List ℕ)) (text : List ℕ) → IsText words contents text → WritesText status before after text → Writes words contents status before after
+  writes_text Done before after text is w = record { text = text; is_text = is; whole = w }
+  writes_text WriteFailed before after text is w = record { text = text; is_text = is; part = w }
+  writes_text NoMemory before after text is w = inr (record { text = text; is_text = is; part = w })
+  writes_text Usage before after text is w = absurd w
+  writes_text (BadSpec f x) before after text is w = absurd w
+  writes_text (BadScript f x) before after text is w = absurd w
+  writes_text (ReadFailed f) before after text is w = absurd w
 
--- want of memory in place of another ending
-pub writes_then_no_memory : (status : Status) (before after : Option (List ℕ)) → Writes status before after → Writes NoMemory before after
-writes_then_no_memory Done before after w = inr (w.0, w.1, whole_appended before after w.0 w.2)
-writes_then_no_memory WriteFailed before after w = inr w
-writes_then_no_memory NoMemory before after w = w
-writes_then_no_memory Usage before after w = inl w
-writes_then_no_memory (BadSpec f x) before after w = inl w
-writes_then_no_memory (BadScript f x) before after w = inl w
-writes_then_no_memory (ReadFailed f) before after w = inl w
+  -- nothing was given to it
+  pub writes_nothing : (status : Status) (before : Option (List ℕ)) → IsBeforeWriting status → Writes words contents status before before
+  writes_nothing Done before h = absurd h
+  writes_nothing WriteFailed before h = absurd h
+  writes_nothing NoMemory before h = inl refl
+  writes_nothing Usage before h = refl
+  writes_nothing (BadSpec f x) before h = refl
+  writes_nothing (BadScript f x) before h = refl
+  writes_nothing (ReadFailed f) before h = refl
+
+  -- want of memory in place of another ending
+  pub writes_then_no_memory : (status : Status) (before after : Option (List ℕ)) → Writes words contents status before after → Writes words contents NoMemory before after
+  writes_then_no_memory Done before after w = inr (record { text = w.text; is_text = w.is_text; part = whole_appended before after w.text w.whole })
+  writes_then_no_memory WriteFailed before after w = inr w
+  writes_then_no_memory NoMemory before after w = w
+  writes_then_no_memory Usage before after w = inl w
+  writes_then_no_memory (BadSpec f x) before after w = inl w
+  writes_then_no_memory (BadScript f x) before after w = inl w
+  writes_then_no_memory (ReadFailed f) before after w = inl w

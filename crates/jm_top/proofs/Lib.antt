@@ -1,2 +1,8 @@
 pub mod EndingLemmas
 pub mod PrintLemmas
+pub mod ReplayLemmas
+pub mod OneReadingLemmas
+pub mod JobLemmas
+pub mod MonitorLemmas
+pub mod StepLemmas
+pub mod TreeLemmas

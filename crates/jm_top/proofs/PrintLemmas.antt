@@ -4,7 +4,7 @@ use Rattle.std.specs.Prelude.{All, Contains, Some, None, ◌==◌}
 use Rattle.std.specs.List.{list_any, AllByRecursion}
 use Rattle.std.proofs.lemmas.Option.{none-some, same_Some}
 use Rattle.std.proofs.lemmas.List.Elements.{All-from_recursion, recursion_from_All, All-weaker, All-push, All-contains, All-contains_itself, All-nil}
-use Rattle.jm_model.specs.Bindings.{empty, bound, object_at}
+use Rattle.jm_model.specs.Bindings.{object_at}
 use Rattle.jm_model.specs.Meanings.{Meaning}
 use Rattle.jm_model.specs.declared.binding.Binding.{Binding}
 use Rattle.jm_model.specs.declared.firings.Firing.{Firing}
@@ -17,7 +17,6 @@ use Rattle.jm_semantics.specs.Traces.{ParametricEvent, seen_of}
 use Rattle.jm_semantics.specs.Histories.{accepted_event, accepted_death, trace_of, dead_of, first_dead}
 use Rattle.jm_semantics.specs.Answers.{Fires}
 use Rattle.jm_semantics.specs.Legality.{IsLegalAfter, IsReply}
-use Rattle.jm_semantics.proofs.BindingLemmas.{unbound-gives}
 use Rattle.jm_semantics.proofs.HistoryLemmas.{trace_of-accepted, trace_of-other, dead_of-other, first_dead-None, seen_of-push}
 use Rattle.jm_print.specs.Lexicons.{Lexicon}
 use Rattle.jm_print.specs.Texts.{HasNamesFrom, IsPrintableFiring, IsPrintableStep, IsPrintable}
@@ -115,8 +114,3 @@ module _ (l : Lexicon) (m : Meaning) (few : m.handlers ≤ length l.handlers) wh
       All-from_recursion (IsPrintable l) g
       (printable_after [] g (record { alive = refl; seen = All-nil (IsNamed l) })
       (recursion_from_All (λ (x : Entry). IsNamedEvent l x.step) g named) (recursion_from_All (λ (x : Entry). x.outcome ≢ NoMemory) g done) legal)
-
--- a binding of parameter 0 alone gives nothing else
-pub bound-gives : (object p o : ℕ) → object_at (bound empty 0 object) p ≡ Some o → (p ≡ 0) × (o ≡ object)
-bound-gives object zero o at = (refl, sym (same_Some object o at))
-bound-gives object (suc p) o at = absurd (unbound-gives 7 p o at)

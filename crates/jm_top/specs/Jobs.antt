@@ -45,8 +45,8 @@ module _ (words : List (List ℕ)) (contents : List ℕ → Option (List ℕ)) w
 
   -- nothing has a fault that comes before the file of this number is loaded
   pub data ReachesFile : ℕ → Type 0 where
-    specification : (file script : List ℕ) → replay_names words ≡ Some (file, script) → ReachesFile 0
-    script : (file script bytes : List ℕ) (s : Specification)
+    first_file : (file script : List ℕ) → replay_names words ≡ Some (file, script) → ReachesFile 0
+    second_file : (file script bytes : List ℕ) (s : Specification)
         → replay_names words ≡ Some (file, script)
         → Holds contents file bytes
         → IsSpecification bytes s

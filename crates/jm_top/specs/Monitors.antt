@@ -1,13 +1,9 @@
 -- What runs a specification: a monitor over the table of its machine.
-use Rattle.std.specs.Prelude.{ℕ, ◌≡◌, ◌<◌, Bool, true, false, List, [], ◌∷◌, length, map, slice_get, unwrap_or, string_bytes}
+use Rattle.std.specs.Prelude.{ℕ, ◌≡◌, ◌<◌, Bool, true, false, List, [], ◌∷◌, length, slice_get, unwrap_or}
 use Rattle.jm_model.specs.Meanings.{Meaning}
 use Rattle.jm_table.specs.Tables.{Transitions, IsWord, state_after_of}
 use Rattle.jm_fsm.specs.Machines.{StateMachine, FsmHolds, IsCompiled, category_count}
-use Rattle.jm_script.specs.Catalogs.{CatalogEntry}
-use Rattle.jm_top.specs.Specifications.{Specification}
-use Rattle.jm_top.specs.Scripts.{catalog_of}
 use Rattle.jm_top.specs.declared.rules.Run.{Run}
-use Rattle.jm_top.specs.declared.specification.Loaded.{Loaded}
 
 -- the masks of the letters' parameters, the machine, the category that is handled, and the table of the machine
 pub record RuleSet : Type 0 where
@@ -44,13 +40,3 @@ has_letter (e ∷ w) = true
 -- the run of a word: the state that it leads to, and whether it has a letter
 abbrev pub IsRunOf : RuleSet → Run → List ℕ → Type 0
 IsRunOf r s w = IsWord r.states w × (s.state ≡ state_after_of r.states w) × (s.moved ≡ has_letter w)
-
--- what is kept of a specification that was read
-pub record Keeps (s : Specification) (l : Loaded) : Type 0 where
-  pub name : string_bytes l.name ≡ s.name
-  pub table : l.table ≡ s.table
-  pub handlers : l.handlers ≡ s.handler ∷ []
-  pub catalog : l.catalog ≡ catalog_of s
-  pub masks : l.rules.masks ≡ map (λ e. e.mask) s.table.events
-  pub machine : l.rules.machine ≡ s.machine
-  pub category : l.rules.category ≡ s.category

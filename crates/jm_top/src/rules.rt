@@ -1,7 +1,8 @@
 //! The monitor of a specification.
-ghost use Rattle.std.specs.Prelude.{◌≡◌, ◌<◌, ◌≤◌, ◌^◌, ◌↔◌, ℕ, List, All, map, length, take, IfOk, IfErr, IsTrue};
+ghost use Rattle.std.specs.Prelude.{◌≡◌, ◌<◌, ◌≤◌, ◌^◌, ℕ, true, false, All, map, length, IfOk, IfErr};
 ghost use Rattle.jm_fsm.specs.Machines.{category_count};
-ghost use Rattle.jm_table.specs.Tables.{next_of, IsInGroup};
+ghost use Rattle.jm_table.specs.Tables.{next_of, IsInGroup, IsTable};
+ghost use Rattle.jm_top.specs.Monitors.{IsRuleSet};
 
 use jm_events::EventTable;
 use jm_fsm::Fsm;
@@ -15,7 +16,7 @@ use std::marker::Model;
 pub(crate) struct Rules {
     masks: Vec<u8>,
     machine: Fsm,
-    category: u16,
+    category: u32,
     table: Table,
 }
 
@@ -57,7 +58,7 @@ impl Rules {
         alloc: Global,
         table: &EventTable,
         machine: Fsm,
-        category: u16,
+        category: u32,
     ) -> Result<Rules, SpecError>
         requires { category < category_count machine }
         ensures masks { IfOk result (λ rules. rules.masks ≡ map (λ e. e.mask) table.now.events) }
@@ -79,7 +80,9 @@ impl Rules {
     /// The state that a letter leads to.
     fn step(&self, state: u16, letter: Letter) -> u16
         requires { letter.0 < length self.now.masks }
-        ensures { state < self.now.states.states → result ≡ next_of self.now.states state letter.0 }
+        ensures next { state < self.now.states.states → result ≡ next_of self.now.states state letter.0 }
+        ensures rules { IsRuleSet self.now }
+        ensures table { IsTable self.now.states }
     {
         if state < self.table.len() {
             self.table.next(state, letter)
@@ -90,9 +93,12 @@ impl Rules {
 
     /// Whether the category holds of the words that lead to a state.
     fn is_handled(&self, state: u16) -> bool
-        ensures { state < self.now.states.states → IsTrue result ↔ IsInGroup self.now.states state self.now.category }
+        ensures yes { state < self.now.states.states → result ≡ true → IsInGroup self.now.states state self.now.category }
+        ensures no { state < self.now.states.states → result ≡ false → IsInGroup self.now.states state self.now.category → ⊥ }
+        ensures rules { IsRuleSet self.now }
+        ensures table { IsTable self.now.states }
     {
-        state < self.table.len() && self.table.in_group(state, self.category)
+        state < self.table.len() && self.table.in_group(state, self.category as u16)
     }
 }
 

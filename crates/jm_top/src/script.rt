@@ -1,9 +1,9 @@
 //! Reading a script of one specification.
-ghost use Rattle.std.specs.Prelude.{◌≡◌, ◌≤◌, length, IfOk, IfErr, [], ◌∷◌};
+ghost use Rattle.std.specs.Prelude.{◌≡◌, ◌≤◌, length, Some, IfOk};
 ghost use Rattle.jm_model.specs.declared.fault.ScriptFault.{ScriptFault};
 ghost use Rattle.jm_top.specs.FaultTexts.{script_line};
 ghost use Rattle.jm_top.specs.Specifications.{Specification, most_bytes};
-ghost use Rattle.jm_top.specs.Scripts.{IsScriptFault, catalog_of, unless_behind};
+ghost use Rattle.jm_top.specs.Scripts.{IsScriptFault, catalog_of, unless_behind, with_disposal};
 ghost use Rattle.jm_top.specs.Steps.{IsReadScript};
 
 use crate::texts::script_line;
@@ -36,12 +36,23 @@ pub(crate) fn read_steps(
     let mut objects = Names::new(alloc);
     let mut count = 0;
     let read = read_script(alloc, bytes, catalog, &mut objects, &mut count);
-    match (disposal, read) {
-        (None, Ok(script)) => Ok(Steps { script, objects }),
-        (Some(line), Ok(_)) => Err(ScriptError::Bad(ScriptFault::BadLine { line })),
-        (None, Err(error)) => Err(error),
-        (Some(_), Err(ScriptError::NoMemory)) => Err(ScriptError::NoMemory),
-        (Some(line), Err(ScriptError::Bad(fault))) => Err(ScriptError::Bad(unless_behind(line, fault))),
+    match read {
+        Ok(script) => match disposal {
+            None => Ok(Steps { script, objects }),
+            Some(line) => Err(ScriptError::Bad(ScriptFault::BadLine { line })),
+        },
+        Err(ScriptError::Bad(fault)) => Err(ScriptError::Bad(first_fault(disposal, fault))),
+        Err(ScriptError::NoMemory) => Err(ScriptError::NoMemory),
+    }
+}
+
+/// The fault of the first line that has one, where a line that begins as a death or a pass does is one of these.
+fn first_fault(disposal: Option<u32>, fault: ScriptFault) -> ScriptFault
+    ensures { with_disposal disposal (Some fault) ≡ Some result }
+{
+    match disposal {
+        Some(line) => unless_behind(line, fault),
+        None => fault,
     }
 }
 

@@ -53,10 +53,10 @@ fn read_tree(alloc: Global, bytes: &[u8], tokens: &[Token]) -> Result<SpecTree, 
 {
     let frame = read_frame(alloc, bytes, tokens)?;
     let (logic, line) = frame_logic(bytes, &frame)?;
-    if logic != Logic::Fsm {
-        return Err(SpecError::Bad(SpecFault::UnsupportedLogic { line }));
+    match logic {
+        Logic::Fsm => tree_of(alloc, bytes, frame),
+        _ => Err(SpecError::Bad(SpecFault::UnsupportedLogic { line })),
     }
-    tree_of(alloc, bytes, frame)
 }
 
 /// The machine of the formula.
@@ -134,7 +134,7 @@ fn has_bit(mask: u32, bit: u8) -> bool
 }
 
 /// The number of a category of the machine, if it has it.
-fn category_of(alloc: Global, machine: &Fsm, name: &str) -> Result<Option<u16>, SpecError>
+fn category_of(alloc: Global, machine: &Fsm, name: &str) -> Result<Option<u32>, SpecError>
     ensures value { IfOk result (λ category. category ≡ number_of (category_names machine.now) name.now) }
     ensures within { IfOk result (λ category. IfSome category (λ k. k < category_count machine.now)) }
     ensures err { IfErr result (λ e. e ≡ SpecError.NoMemory) }
@@ -142,10 +142,7 @@ fn category_of(alloc: Global, machine: &Fsm, name: &str) -> Result<Option<u16>, 
     let Ok(names) = machine.categories(alloc) else {
         return Err(SpecError::NoMemory);
     };
-    match names.find(name) {
-        Some(number) => Ok(Some(number as u16)),
-        None => Ok(None),
-    }
+    Ok(names.find(name))
 }
 
 /// Puts together what is kept of a specification.

@@ -1,0 +1,220 @@
+-- The history of a script's steps, and its text.
+use Rattle.std.proofs.Common.{◌≡◌, ◌≢◌, ℕ, zero, suc, ◌+◌, ◌*◌, ◌^◌, ◌<◌, ◌≤◌, Bool, true, false, List, [], ◌∷◌, ◌++◌, length, pow-suc, refl, sym, ◌∙◌, ap, subst, arith}
+use Rattle.std.specs.Prelude.{All, Option, Some, None, ◌==◌, map, filter, slice_get, unwrap_or, option_map, Result, Ok, Err, IfOk}
+use Rattle.std.specs.Option.{option_map_or}
+use Rattle.std.specs.List.{AllByRecursion}
+use Rattle.std.proofs.lemmas.Option.{slice_get-map, slice_get_within}
+use Rattle.std.proofs.lemmas.List.{length-map}
+use Rattle.std.proofs.lemmas.Bool.Decides.{nat_tests}
+use Rattle.std.proofs.lemmas.List.Elements.{All-from_recursion, recursion_from_All, All-weaker, All-map, All-filter, All-head, All-tail, All-nil}
+use Rattle.jm_model.specs.Bindings.{object_at, objects_of, mask_of}
+use Rattle.jm_model.specs.Meanings.{Meaning}
+use Rattle.jm_model.specs.declared.binding.Binding.{Binding}
+use Rattle.jm_model.specs.declared.step.Step.{Step}
+use Rattle.jm_model.specs.declared.step.Step.TheVariants.{Event, Death, Pass}
+use Rattle.jm_model.specs.declared.step.Outcome.TheVariants.{NoMemory}
+use Rattle.jm_model.specs.declared.step.Entry.{Entry}
+use Rattle.jm_semantics.specs.Scripts as semantics
+use Rattle.jm_semantics.specs.Scripts.{projection_of, is_for, steps_of, IsInterleaving}
+use Rattle.jm_semantics.specs.Legality.{IsLegal, IsStepOf}
+use Rattle.jm_core.specs.Cores.{Core, IsEventOf, line_and_step, AreEntriesOf, Replayed}
+use Rattle.jm_events.specs.Events.{EventDefinition, EventDefinitions}
+use Rattle.jm_print.specs.Lexicons.{Lexicon}
+use Rattle.jm_print.specs.Texts.{IsPrintable, history_text}
+use Rattle.jm_script.specs.declared.script.ScriptLine.{ScriptLine}
+use Rattle.jm_script.specs.declared.script.Target.{Target}
+use Rattle.jm_script.specs.declared.script.Target.TheVariants as target
+use Rattle.jm_script.specs.Projections.{script_of, line_of, step_of}
+use Rattle.jm_script.specs.Fitting.{FitsSpecification}
+use Rattle.jm_script.specs.Disposals.{IsEvent}
+use Rattle.jm_fsm.specs.Machines.{FsmHolds}
+use Rattle.jm_top.specs.declared.specification.Loaded.{Loaded}
+use Rattle.jm_top.specs.declared.script.Steps.{Steps}
+use Rattle.jm_top.specs.Specifications.{Specification, params_of, meaning_of}
+use Rattle.jm_top.specs.Scripts.{catalog_of}
+use Rattle.jm_top.specs.Monitors.{RuleSet, rules_meaning}
+use Rattle.jm_top.specs.Reading.{Keeps, IsKept}
+use Rattle.jm_top.specs.Steps.{IsReadScript}
+use Rattle.jm_top.specs.Replays.{IsReplay, IsTextOfReplay, lexicon}
+use Rattle.jm_top.proofs.OneReadingLemmas.{same_some}
+use Rattle.jm_top.proofs.PrintLemmas.{IsNamed, IsNamedEvent, printable}
+
+-- ---- bindings
+
+-- each object that is bound is among the objects
+named_object : (b : Binding) (n p o : ℕ) → All (λ q. q < n) (objects_of b) → object_at b p ≡ Some o → o < n
+named_object [] n p o all at = absurd cc
+named_object (None ∷ b) n zero o all at = absurd cc
+named_object (None ∷ b) n (suc p) o all at = named_object b n p o all at
+named_object (Some q ∷ b) n zero o all at = subst (λ x. x < n) (same_some at) (All-head (λ x. x < n) q (objects_of b) all)
+named_object (Some q ∷ b) n (suc p) o all at = named_object b n p o (All-tail (λ x. x < n) q (objects_of b) all) at
+
+-- each parameter that is bound is one of the first n, where the set of them is one of these
+bound_parameter : (b : Binding) (n p o : ℕ) → mask_of b < 2 ^ n → object_at b p ≡ Some o → p < n
+bound_parameter [] n p o small at = absurd cc
+bound_parameter (None ∷ b) n zero o small at = absurd cc
+bound_parameter (None ∷ b) zero (suc p) o small at = absurd (omega (arith, bound_parameter b zero p o (omega (arith, small)) at))
+bound_parameter (None ∷ b) (suc n) (suc p) o small at = omega (arith, bound_parameter b n p o (omega (arith, small, pow-suc 2 n)) at)
+bound_parameter (Some q ∷ b) zero p o small at = absurd (omega (arith, small))
+bound_parameter (Some q ∷ b) (suc n) zero o small at = omega arith
+bound_parameter (Some q ∷ b) (suc n) (suc p) o small at = omega (arith, bound_parameter b n p o (omega (arith, small, pow-suc 2 n)) at)
+
+-- ---- the meaning of the rules
+
+mask_there : (events : List EventDefinition) (e : ℕ) → unwrap_or (slice_get (map (λ (x : EventDefinition). x.mask) events) e) 0 ≡ option_map_or (λ (x : EventDefinition). x.mask) (slice_get events e) 0
+mask_there events e = ap (λ o. unwrap_or o 0) (slice_get-map (λ (x : EventDefinition). x.mask) events e) ∙ by_case (slice_get events e)
+  where
+    by_case : (o : Option EventDefinition) → unwrap_or (option_map (λ (x : EventDefinition). x.mask) o) 0 ≡ option_map_or (λ (x : EventDefinition). x.mask) o 0
+    by_case None = refl
+    by_case (Some x) = refl
+
+mask_of_rules : (s : Specification) (l : Loaded) → Keeps s l → (e : ℕ) → unwrap_or (slice_get l.rules.masks e) 0 ≡ params_of s.table e
+mask_of_rules s l h e = ap (λ ms. unwrap_or (slice_get ms e) 0) h.masks ∙ mask_there s.table.events e
+
+letters_of_rules : (s : Specification) (l : Loaded) → Keeps s l → length l.rules.masks ≡ length s.table.events
+letters_of_rules s l h = ap (λ ms. length ms) h.masks ∙ length-map s.table.events (λ (e : EventDefinition). e.mask)
+
+pub same_meaning : (s : Specification) (l : Loaded) → Keeps s l → rules_meaning l.rules ≡ meaning_of s
+same_meaning s l h =
+    let letters = letters_of_rules s l h in
+    let masks = mask_of_rules s l h in
+    λ i. record {
+      letters = letters i;
+      params = λ e. masks e i;
+      must_bind = 0;
+      creation = [];
+      handlers = 1;
+      property_of = λ k. 0;
+      Holds = λ w k. FsmHolds (h.machine i) (h.category i) w;
+      coarse_cut = λ j. false;
+    }
+
+-- ---- the steps
+
+-- an event
+abbrev pub IsEventStep : Step → Type 0
+IsEventStep (Event e b) = Unit {0}
+IsEventStep (Death o) = ⊥
+IsEventStep Pass = ⊥
+
+event_step : (t : Target) → IsEvent t → IsEventStep (step_of t)
+event_step (target.Event spec letter binding) is = tt
+event_step (target.Death object) is = absurd is
+event_step (target.Pass spec) is = absurd is
+
+-- the steps of a script of events are events
+events_projected : (script : List ScriptLine) → All (λ l. IsEvent l.target) script → All (λ s. IsEventStep s.1) (projection_of (script_of script) 0)
+events_projected script all =
+    All-map (λ (s : ℕ × Step). IsEventStep s.1) (λ (l : semantics.ScriptLine). (l.line, l.step)) (filter (λ (l : semantics.ScriptLine). is_for 0 l.spec) (script_of script))
+    (All-filter (λ (l : semantics.ScriptLine). is_for 0 l.spec) (λ (l : semantics.ScriptLine). IsEventStep l.step) (script_of script)
+    (All-map (λ (l : semantics.ScriptLine). IsEventStep l.step) line_of script
+    (All-weaker (λ (l : ScriptLine). IsEvent l.target) (λ (l : ScriptLine). IsEventStep (step_of l.target)) (λ l. event_step l.target) script all)))
+
+-- an event that fits the specification is one of its meaning
+fitting_event : (s : Specification) (n : ℕ) (x : Step) → FitsSpecification (catalog_of s) n 0 x → IsEventStep x → IsEventOf (meaning_of s) n x
+fitting_event s n (Event e b) fits is = ((fits.event.event, fits.eight, fits.event.parameters), fits.named)
+fitting_event s n (Death o) fits is = absurd is
+fitting_event s n Pass fits is = absurd is
+
+-- and has names
+fitting_named : (s : Specification) (objects : List (List ℕ)) (x : Step) → ((e : ℕ) → params_of s.table e < 2 ^ length s.table.parameters) → FitsSpecification (catalog_of s) (length objects) 0 x → IsEventStep x → IsNamedEvent (lexicon s objects) x
+fitting_named s objects (Event e b) small fits is = (
+  subst (λ n. e.0 < n) (sym (length-map s.table.events (λ (x : EventDefinition). x.name))) fits.event.event,
+  λ p o at. (bound_parameter b (length s.table.parameters) p o (subst (λ m. m < 2 ^ length s.table.parameters) (sym fits.event.parameters) (small e.0)) at, named_object b (length objects) p o fits.named at),
+)
+fitting_named s objects (Death o) small fits is = absurd is
+fitting_named s objects Pass small fits is = absurd is
+
+-- the set of parameters of each event is one of these
+small_masks : (masks : List ℕ) (bound : ℕ) → 0 < bound → All (λ m. m < bound) masks → (e : ℕ) → unwrap_or (slice_get masks e) 0 < bound
+small_masks [] bound some all e = some
+small_masks (m ∷ masks) bound some all zero = All-head (λ x. x < bound) m masks all
+small_masks (m ∷ masks) bound some all (suc e) = small_masks masks bound some (All-tail (λ x. x < bound) m masks all) e
+
+power_some : (n : ℕ) → 0 < 2 ^ n
+power_some zero = omega arith
+power_some (suc n) = omega (arith, power_some n, pow-suc 2 n)
+
+small_params : (s : Specification) (l : Loaded) → IsKept s l → (e : ℕ) → params_of s.table e < 2 ^ length s.table.parameters
+small_params s l h e = subst (λ m. m < 2 ^ length s.table.parameters) (mask_of_rules s l h.keeps e) (small_masks l.rules.masks (2 ^ length s.table.parameters) (power_some (length s.table.parameters)) h.fit e)
+
+-- both together, of steps
+module _ {A : Type 0} (P Q R : A → Type 0) (both : (x : A) → P x → Q x → R x) where
+  all_both : (xs : List A) → AllByRecursion P xs → AllByRecursion Q xs → AllByRecursion R xs
+  all_both [] p q = tt
+  all_both (x ∷ xs) p q = (both x p.0 q.0, all_both xs p.1 q.1)
+
+  pub both_of_all : (xs : List A) → All P xs → All Q xs → All R xs
+  both_of_all xs p q = All-from_recursion R xs (all_both xs (recursion_from_All P xs p) (recursion_from_All Q xs q))
+
+-- the steps may be replayed
+pub replayable : (s : Specification) (l : Loaded) (bytes : List ℕ) (x : Steps) (own : List (ℕ × Step)) → IsKept s l → IsReadScript s bytes x
+    → own ≡ projection_of (script_of x.script) 0
+    → All (λ step. FitsSpecification (catalog_of s) (length x.objects) 0 step.1) own
+    → All (λ step. IsEventOf (rules_meaning l.rules) (length x.objects) step.1) own
+replayable s l bytes x own kept read is fits =
+    subst (λ m. All (λ (step : ℕ × Step). IsEventOf m (length x.objects) step.1) own) (sym (same_meaning s l kept.keeps))
+    (both_of_all (λ (step : ℕ × Step). FitsSpecification (catalog_of s) (length x.objects) 0 step.1) (λ (step : ℕ × Step). IsEventStep step.1) (λ (step : ℕ × Step). IsEventOf (meaning_of s) (length x.objects) step.1)
+    (λ step. fitting_event s (length x.objects) step.1) own fits (subst (λ ss. All (λ (step : ℕ × Step). IsEventStep step.1) ss) (sym is) (events_projected x.script read.events)))
+
+-- ---- the history
+
+-- entries of such steps
+named_entries : (l : Lexicon) (xs : List Entry) → AllByRecursion (λ s. IsNamedEvent l s.1) (map line_and_step xs) → AllByRecursion (λ x. IsNamedEvent l x.step) xs
+named_entries l [] h = tt
+named_entries l (x ∷ xs) h = (h.0, named_entries l xs h.1)
+
+-- all entries are those of the one caller
+one_caller : (xs : List Entry) → AllByRecursion (λ x. x.caller ≡ 0) xs → filter (λ (x : Entry). x.caller == 0) xs ≡ xs
+one_caller [] h = refl
+one_caller (x ∷ xs) h =
+    let here : (x.caller == 0) ≡ true = grind (arith, nat_tests) in
+    rw here (ap (λ ys. x ∷ ys) (one_caller xs h.1))
+
+woven : (own : List (ℕ × Step)) (h : List Entry) → AreEntriesOf 0 own h → All (λ x. x.outcome ≢ NoMemory) h → IsInterleaving h (own ∷ [])
+woven own h each done = record {
+  callers = All-weaker (λ (x : Entry). x.caller ≡ 0) (λ (x : Entry). x.caller < 1) (λ x is. omega (arith, is)) h each.by_caller;
+  done = done;
+  each = λ k less. list_of k less;
+}
+  where
+    list_of : (k : ℕ) → k < 1 → slice_get (own ∷ []) k ≡ Some (steps_of k h)
+    list_of zero less =
+        ap (λ ss. Some ss) (sym (ap (λ xs. map (λ (x : Entry). (x.line, x.step)) xs) (one_caller h (recursion_from_All (λ (x : Entry). x.caller ≡ 0) h each.by_caller)) ∙ each.in_order))
+    list_of (suc k) less = absurd (omega (arith, less))
+
+-- what a core without history has after a replay of the steps
+pub replayed : (s : Specification) (l : Loaded) (x : Steps) (own : List (ℕ × Step)) (before after : Core RuleSet) (h : List Entry) → IsKept s l
+    → own ≡ projection_of (script_of x.script) 0 → before.definition ≡ l.rules → before.entries ≡ [] → Replayed 0 own before after
+    → IsLegal (rules_meaning after.definition) after.entries → h ≡ after.entries → IsReplay s x.script h
+replayed s l x own before after h kept is rules none done legal same =
+    let all : h ≡ done.added = same ∙ ap (λ (c : Core RuleSet). c.entries) done.grown ∙ ap (λ es. es ++ done.added) none in
+    let meant : after.definition ≡ l.rules = ap (λ (c : Core RuleSet). c.definition) done.grown ∙ rules in
+    record {
+      legal = subst (λ es. IsLegal (meaning_of s) es) (sym same) (subst (λ m. IsLegal m after.entries) (ap rules_meaning meant ∙ same_meaning s l kept.keeps) legal);
+      woven = subst (λ ss. IsInterleaving h (ss ∷ [])) is (subst (λ es. IsInterleaving es (own ∷ [])) (sym all) (woven own done.added done.each done.done));
+    }
+
+-- it can be printed
+pub replay_printable : (s : Specification) (l : Loaded) (bytes : List ℕ) (x : Steps) (own : List (ℕ × Step)) (before after : Core RuleSet) (h : List Entry) → IsKept s l → IsReadScript s bytes x
+    → own ≡ projection_of (script_of x.script) 0
+    → All (λ step. FitsSpecification (catalog_of s) (length x.objects) 0 step.1) own
+    → before.entries ≡ [] → Replayed 0 own before after → h ≡ after.entries
+    → IsReplay s x.script h → All (IsPrintable (lexicon s x.objects)) h
+replay_printable s l bytes x own before after h kept read is fits none done same valid =
+    let all : h ≡ done.added = same ∙ ap (λ (c : Core RuleSet). c.entries) done.grown ∙ ap (λ es. es ++ done.added) none in
+    let small = small_params s l kept in
+    let names = lexicon s x.objects in
+    let steps : All (λ (step : ℕ × Step). IsNamedEvent names step.1) own =
+    both_of_all (λ (step : ℕ × Step). FitsSpecification (catalog_of s) (length x.objects) 0 step.1) (λ (step : ℕ × Step). IsEventStep step.1) (λ (step : ℕ × Step). IsNamedEvent names step.1)
+    (λ step. fitting_named s x.objects step.1 small) own fits (subst (λ ss. All (λ (step : ℕ × Step). IsEventStep step.1) ss) (sym is) (events_projected x.script read.events)) in
+    let entries : All (λ (e : Entry). IsNamedEvent names e.step) done.added =
+    All-from_recursion (λ (e : Entry). IsNamedEvent names e.step) done.added
+    (named_entries names done.added (recursion_from_All (λ (step : ℕ × Step). IsNamedEvent names step.1) (map line_and_step done.added) (subst (λ ss. All (λ (step : ℕ × Step). IsNamedEvent names step.1) ss) (sym done.each.in_order) steps))) in
+    printable names (meaning_of s) (omega arith) h (subst (λ es. All (λ (e : Entry). IsNamedEvent names e.step) es) (sym all) entries) valid.woven.done valid.legal
+
+-- its text, where there is one
+pub replay_text : {T E : Type 0} (items : T → List ℕ) (s : Specification) (script : List ScriptLine) (objects : List (List ℕ)) (h : List Entry) → IsReplay s script h
+    → (made : Result T E) → IfOk made (λ text. items text ≡ history_text (lexicon s objects) h) → IfOk made (λ text. IsTextOfReplay s script objects (items text))
+replay_text items s script objects h valid (Ok text) printed = record { history = h; replayed = valid; printed = printed }
+replay_text items s script objects h valid (Err e) printed = tt
