@@ -1,0 +1,5 @@
+pub mod Formulas
+pub mod Codes
+pub mod Meanings
+pub mod Vectors
+pub mod Tables
