@@ -3,3 +3,10 @@ pub mod Codes
 pub mod Meanings
 pub mod Vectors
 pub mod Tables
+pub mod Lexicon
+pub mod Grammar
+pub mod Reading
+pub mod Rules
+pub mod Answers
+pub mod Faults
+pub mod Readings

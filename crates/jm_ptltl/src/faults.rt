@@ -1,0 +1,78 @@
+//! What is wrong with a formula, step by step.
+ghost use Rattle.std.specs.Prelude.{◌≡◌, ◌↔◌, ◌<◌, ◌≤◌, length, IsTrue};
+ghost use Rattle.jm_text.specs.Spans.{LieWithin};
+ghost use Rattle.jm_ptltl.specs.Lexicon.{is_grammar_word};
+ghost use Rattle.jm_ptltl.specs.Faults.{open_by, IsTooDeep, name_of, event_name_fault};
+ghost use Rattle.jm_ptltl.specs.Readings.{Checks};
+
+use crate::lexicon::{Class, class_of};
+use jm_events::EventTable;
+use jm_model::{Letter, SpecError, SpecFault};
+use jm_text::{Token, name};
+
+const MAX_NESTING: usize = 64;
+
+/// The name that a token says, if it says one.
+#[tactic(auto, unfolding(crate::specs::Faults::name_of))]
+pub fn name_of<'a>(bytes: &'a [u8], token: Token) -> &'a str
+    ensures { result.now ≡ name_of bytes.now token }
+{
+    if token.start <= token.end && token.end as usize <= bytes.len() {
+        name(bytes, token).unwrap_or("")
+    } else {
+        ""
+    }
+}
+
+/// How many parentheses are open behind a token of this class, where so many were before it.
+fn open_by(class: Class, open: usize) -> usize
+    requires { open ≤ 64 }
+    ensures { result ≡ open_by class open }
+{
+    match class {
+        Class::Open => open + 1,
+        Class::Close => open.saturating_sub(1),
+        _ => open,
+    }
+}
+
+/// Whether a 65th parenthesis is open at once.
+pub fn is_too_deep(bytes: &[u8], tokens: &[Token]) -> bool
+    requires { LieWithin bytes.now tokens.now }
+    ensures { IsTrue result ↔ IsTooDeep bytes.now tokens.now }
+{
+    let mut open = 0;
+    for token in tokens {
+        open = open_by(class_of(bytes, *token), open);
+        if open > MAX_NESTING {
+            return true;
+        }
+    }
+    false
+}
+
+fn is_grammar_word(name: &str) -> bool
+    ensures { result ≡ is_grammar_word name.now }
+{
+    name == "S"
+        || name == "not"
+        || name == "and"
+        || name == "or"
+        || name == "xor"
+        || name == "true"
+        || name == "false"
+}
+
+/// No event is named by a word of the grammar.
+pub fn event_names(table: &EventTable) -> Result<(), SpecError>
+    ensures { Checks result (event_name_fault table.now.events) }
+{
+    for letter in 0..table.letters() {
+        let letter = Letter(letter);
+        if is_grammar_word(table.event_name(letter)) {
+            let line = table.event_line(letter);
+            return Err(SpecError::Bad(SpecFault::ReservedName { line }));
+        }
+    }
+    Ok(())
+}
