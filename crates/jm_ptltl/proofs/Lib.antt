@@ -4,3 +4,4 @@ pub mod BitLemmas
 pub mod VectorLemmas
 pub mod CompileLemmas
 pub mod CrowdLemmas
+pub mod NodeLemmas

@@ -25,14 +25,14 @@ pub fn name_of<'a>(bytes: &'a [u8], token: Token) -> &'a str
 }
 
 /// How many parentheses are open behind a token of this class, where so many were before it.
-fn open_by(class: Class, open: usize) -> usize
-    requires { open ≤ 64 }
-    ensures { result ≡ open_by class open }
+fn open_by(class: Class, before: usize) -> usize
+    requires { before ≤ 64 }
+    ensures { result ≡ open_by class before }
 {
     match class {
-        Class::Open => open + 1,
-        Class::Close => open.saturating_sub(1),
-        _ => open,
+        Class::Open => before + 1,
+        Class::Close => before.saturating_sub(1),
+        _ => before,
     }
 }
 
