@@ -1,187 +1,18 @@
 -- The grammar's rules, as a reader goes by them, spell what the grammar spells.
-use Rattle.std.proofs.Common.{◌≡◌, ℕ, zero, suc, ◌<◌, ◌≤◌, Bool, true, false, not, ◌&&◌, List, [], ◌∷◌, ◌++◌, length, Option, Some, None, refl, sym, ap, subst, ◌∙◌, inl, inr, ◌⊎◌, cond, arith, append_assoc, append-nil, length-append}
+use Rattle.std.proofs.Common.{◌≡◌, ℕ, ◌<◌, true, false, List, [], ◌∷◌, ◌++◌, length, Option, Some, None, refl, sym, ap, subst, ◌∙◌, inl, inr, arith, append_assoc, append-nil, length-append}
 use Rattle.std.specs.Prelude.{codes}
 use Rattle.std.specs.List.{list_any}
-use Rattle.std.specs.Str.{bytes_eq}
-use Rattle.std.proofs.lemmas.Slice.Eq.{bytes_eq-Decides}
 use Rattle.jm_text.specs.declared.token.Token.{Token}
-use Rattle.jm_text.specs.declared.token.TokenKind.{TokenKind}
-use Rattle.jm_text.specs.declared.token.TokenKind.TheVariants.{Word, Text, Mark}
-use Rattle.jm_text.specs.Texts.{is_name, is_word, is_mark, is_word_kind, is_mark_kind}
 use Rattle.jm_fsm.specs.declared.formula.TransitionText.{TransitionText}
 use Rattle.jm_fsm.specs.declared.formula.TransitionText.TheVariants.{On, Fallback}
 use Rattle.jm_fsm.specs.declared.formula.Part.{Part}
 use Rattle.jm_fsm.specs.declared.formula.Part.TheVariants.{Declaration, Alias}
-use Rattle.jm_fsm.specs.Reading.{◌>>=◌, is_mark_at, is_left, mark_at, name_at, word_at, at_most}
+use Rattle.jm_reading.specs.Reading.{is_mark_at, is_left, mark_at, name_at, word_at}
 use Rattle.jm_fsm.specs.Rules.{fallback_at, listed_at, begins_fallback, transition_at, comma_at, entry_at, is_inside, entries_at, declaration_at, more_member_at, begins_more_member, more_members_at, alias_at, begins_alias, one_part_at, part_at, parts_at, with_a_state, formula_at}
-use Rattle.jm_fsm.specs.Formulas.{IsName, IsMark, IsWord, SpellsTransition, SpellsComma, SpellsEntry, SpellsEach, SpellsMoreMember, SpellsMembers, SpellsPart, is_state, Spells}
-
--- ---- a token is of one kind
-
-true_or_false : (b : Bool) → b ≡ true → b ≡ false → ⊥
-true_or_false b h k = cc
-
-no_mark_of : (kind : TokenKind) (a b : Bool) → (is_word_kind kind && a) ≡ true → (is_mark_kind kind && b) ≡ false
-no_mark_of Word a b h = refl
-no_mark_of Text a b h = absurd (cc)
-no_mark_of Mark a b h = absurd (cc)
-
-name_no_mark : (bytes mark : List ℕ) (t : Token) → IsName bytes t → is_mark bytes t mark ≡ false
-name_no_mark bytes mark t h = no_mark_of t.kind _ _ h
-
-word_no_mark : (bytes word mark : List ℕ) (t : Token) → IsWord bytes word t → is_mark bytes t mark ≡ false
-word_no_mark bytes word mark t h = no_mark_of t.kind _ _ h
-
--- ---- what the small rules read
-
-module _ (bytes : List ℕ) where
-  mark_is : (mark : List ℕ) (t : Token) (ts : List Token) → IsMark bytes mark t → mark_at bytes mark (t ∷ ts) ≡ Some ts
-  unfolding mark_at
-  mark_is mark t ts h = rw h refl
-
-  name_is : (t : Token) (ts : List Token) → IsName bytes t → name_at bytes (t ∷ ts) ≡ Some (t, ts)
-  unfolding name_at
-  name_is t ts h = rw h refl
-
-  word_is : (word : List ℕ) (t : Token) (ts : List Token) → IsWord bytes word t → word_at bytes word (t ∷ ts) ≡ Some (t, ts)
-  unfolding word_at
-  word_is word t ts h = rw h refl
-
--- what was read, if something was
-module _ {X : Type 0} where
-  if_some : (b : Bool) (x y : X) → cond b (Some x) None ≡ Some y → (b ≡ true) × (x ≡ y)
-  if_some true x y h = (refl, cc)
-  if_some false x y h = absurd (cc)
-
--- the token at the front, and those behind it
-record Front (P : Token → Type 0) (tokens : List Token) (behind : List Token) : Type 0 where
-  token : Token
-  is : P token
-  cut : tokens ≡ token ∷ behind
-
-module _ (bytes : List ℕ) where
-  mark_read : (mark : List ℕ) (tokens behind : List Token) → mark_at bytes mark tokens ≡ Some behind → Front (IsMark bytes mark) tokens behind
-  unfolding mark_at
-  mark_read mark [] behind h = absurd (cc)
-  mark_read mark (t ∷ ts) behind h = let p = if_some (is_mark bytes t mark) ts behind h in record { token = t; is = p.0; cut = ap (λ (l : List Token). t ∷ l) p.1 }
-
-  name_read : (tokens behind : List Token) (name : Token) → name_at bytes tokens ≡ Some (name, behind) → (tokens ≡ name ∷ behind) × IsName bytes name
-  unfolding name_at
-  name_read [] behind name h = absurd (cc)
-  name_read (t ∷ ts) behind name h = let p = if_some (is_name bytes t) (t, ts) (name, behind) h in
-      let e : t ≡ name = ap (λ (x : Token × List Token). x.0) p.1 in
-      let f : ts ≡ behind = ap (λ (x : Token × List Token). x.1) p.1 in
-      (cc, subst (λ (x : Token). IsName bytes x) e p.0)
-
-  word_read : (word : List ℕ) (tokens behind : List Token) (t : Token) → word_at bytes word tokens ≡ Some (t, behind) → (tokens ≡ t ∷ behind) × IsWord bytes word t
-  unfolding word_at
-  word_read word [] behind name h = absurd (cc)
-  word_read word (t ∷ ts) behind name h = let p = if_some (is_word bytes t word) (t, ts) (name, behind) h in
-      let e : t ≡ name = ap (λ (x : Token × List Token). x.0) p.1 in
-      let f : ts ≡ behind = ap (λ (x : Token × List Token). x.1) p.1 in
-      (cc, subst (λ (x : Token). IsWord bytes word x) e p.0)
-
--- ---- steps of a rule
-
-module _ {B : Type 0} where
-  step_of : {A : Type 0} (o : Option A) (f : A → Option B) (b : B) → (o >>= f) ≡ Some b → (a : A) × (o ≡ Some a) × (f a ≡ Some b)
-  step_of None f b h = absurd (cc)
-  step_of (Some a) f b h = (a, refl, h)
-
-  one_of : (b : Bool) (x y : Option B) (z : B) → cond b x y ≡ Some z → ((b ≡ true) × (x ≡ Some z)) ⊎ ((b ≡ false) × (y ≡ Some z))
-  one_of true x y z h = inl (refl, h)
-  one_of false x y z h = inr (refl, h)
-
--- ---- items one behind the other, both ways
-
-module _ {X : Type 0} (goes_on : List Token → Bool) (item : List X → List Token → Option (List X × List Token)) (SpellsOne : List Token → X → Type 0) where
-  -- an item reads one more, which its tokens spell
-  abbrev IsSound : Type 0
-  IsSound = (xs ys : List X) (tokens behind : List Token) → item xs tokens ≡ Some (ys, behind)
-      → (first : List Token) × (x : X) × (tokens ≡ first ++ behind) × (ys ≡ xs ++ x ∷ []) × SpellsOne first x
-
-  -- what is read, and the tokens behind it
-  record Spelled (xs ys : List X) (tokens behind : List Token) : Type 0 where
-    inner : List Token
-    more : List X
-    cut : tokens ≡ inner ++ behind
-    added : ys ≡ xs ++ more
-    spelled : SpellsEach SpellsOne inner more
-    ended : goes_on behind ≡ false
-
-  stop_or : (b : Bool) (xs ys : List X) (tokens behind : List Token) (o : Option (List X × List Token)) → cond b o (Some (xs, tokens)) ≡ Some (ys, behind)
-      → ((b ≡ true) × (o ≡ Some (ys, behind))) ⊎ ((b ≡ false) × (xs ≡ ys) × (tokens ≡ behind))
-  stop_or true xs ys tokens behind o h = inl (refl, h)
-  stop_or false xs ys tokens behind o h =
-      let e : ◌≡◌ {A = List X × List Token} (xs, tokens) (ys, behind) = cc in
-      inr (refl, ap (λ (x : List X × List Token). x.0) e, ap (λ (x : List X × List Token). x.1) e)
-
-  none_more : (xs ys : List X) (tokens behind : List Token) → goes_on tokens ≡ false → xs ≡ ys → tokens ≡ behind → Spelled xs ys tokens behind
-  none_more xs ys tokens behind h e f = record {
-    inner = [];
-    more = [];
-    cut = f;
-    added = sym e ∙ sym (append-nil xs);
-    spelled = refl;
-    ended = subst (λ (l : List Token). goes_on l ≡ false) f h;
-  }
-
-  one_more : (xs zs ys : List X) (tokens rest behind first : List Token) (x : X) → tokens ≡ first ++ rest → zs ≡ xs ++ x ∷ [] → SpellsOne first x → Spelled zs ys rest behind → Spelled xs ys tokens behind
-  one_more xs zs ys tokens rest behind first x cut is spelled more = record {
-    inner = first ++ more.inner;
-    more = x ∷ more.more;
-    cut = cut ∙ ap (λ (l : List Token). first ++ l) more.cut ∙ sym (append_assoc first more.inner behind);
-    added = more.added ∙ ap (λ (l : List X). l ++ more.more) is ∙ append_assoc xs (x ∷ []) more.more;
-    spelled = (first, more.inner, refl, spelled, more.spelled);
-    ended = more.ended;
-  }
-
-  module _ (sound : IsSound) where
-    each_read : (n : ℕ) (xs ys : List X) (tokens behind : List Token) → at_most goes_on item n xs tokens ≡ Some (ys, behind) → Spelled xs ys tokens behind
-    each_read zero xs ys tokens behind h = elim (stop_or (goes_on tokens) xs ys tokens behind None h) [
-      | inl more ↦ absurd (cc (more.1))
-      | inr end ↦ none_more xs ys tokens behind end.0 end.1 end.2
-    ]
-    each_read (suc n) xs ys tokens behind h = elim (stop_or (goes_on tokens) xs ys tokens behind (item xs tokens >>= λ x. at_most goes_on item n x.0 x.1) h) [
-      | inl more ↦
-          let step = step_of (item xs tokens) (λ x. at_most goes_on item n x.0 x.1) (ys, behind) more.1 in
-          let one = sound xs step.0.0 tokens step.0.1 step.1 in
-          one_more xs step.0.0 ys tokens step.0.1 behind one.0 one.1 one.2 one.3 one.4 (each_read n step.0.0 ys step.0.1 behind step.2)
-      | inr end ↦ none_more xs ys tokens behind end.0 end.1 end.2
-    ]
-
-  stopped : (n : ℕ) (xs : List X) (tokens : List Token) → goes_on tokens ≡ false → at_most goes_on item n xs tokens ≡ Some (xs ++ [], tokens)
-  stopped zero xs tokens h = rw h (ap (λ (l : List X). Some (l, tokens)) (sym (append-nil xs)))
-  stopped (suc n) xs tokens h = rw h (ap (λ (l : List X). Some (l, tokens)) (sym (append-nil xs)))
-
-  went : (n : ℕ) (xs ys : List X) (tokens behind : List Token) → goes_on tokens ≡ true → item xs tokens ≡ Some (ys, behind) → at_most goes_on item (suc n) xs tokens ≡ at_most goes_on item n ys behind
-  went n xs ys tokens behind h some = rw (h, some) refl
-
-  -- the items' tokens are read, where what follows begins as it must
-  record IsComplete (Follows : List Token → Type 0) : Type 0 where
-    reads : (xs : List X) (first behind : List Token) (x : X) → SpellsOne first x → Follows behind → item xs (first ++ behind) ≡ Some (xs ++ x ∷ [], behind)
-    goes : (first behind : List Token) (x : X) → SpellsOne first x → goes_on (first ++ behind) ≡ true
-    follows : (first behind : List Token) (x : X) → SpellsOne first x → Follows behind → Follows (first ++ behind)
-    some : (first : List Token) (x : X) → SpellsOne first x → 0 < length first
-
-  module _ (Follows : List Token → Type 0) (complete : IsComplete Follows) where
-    after_each : (inner behind : List Token) (xs : List X) → SpellsEach SpellsOne inner xs → Follows behind → Follows (inner ++ behind)
-    after_each inner behind [] h f = subst (λ (l : List Token). Follows (l ++ behind)) (sym h) f
-    after_each inner behind (x ∷ xs) h f =
-        let whole : (h.0 ++ h.1) ++ behind ≡ h.0 ++ (h.1 ++ behind) = append_assoc h.0 h.1 behind in
-        let inside = complete.follows h.0 (h.1 ++ behind) x h.3 (after_each h.1 behind xs h.4 f) in
-        subst (λ (l : List Token). Follows (l ++ behind)) (sym h.2) (subst (λ (l : List Token). Follows l) (sym whole) inside)
-
-    read_each : (n : ℕ) (ys : List X) (inner behind : List Token) (xs : List X) → SpellsEach SpellsOne inner xs → Follows behind → goes_on behind ≡ false → length (inner ++ behind) ≤ n → at_most goes_on item n ys (inner ++ behind) ≡ Some (ys ++ xs, behind)
-    read_each n ys inner behind [] h f end few = subst (λ (l : List Token). at_most goes_on item n ys (l ++ behind) ≡ Some (ys ++ [], behind)) (sym h) (stopped n ys behind end)
-    read_each zero ys inner behind (x ∷ xs) h f end few = absurd (omega (arith, few, length-append inner behind, ap (λ (l : List Token). length l) h.2, length-append h.0 h.1, complete.some h.0 x h.3))
-    read_each (suc n) ys inner behind (x ∷ xs) h f end few =
-        let whole : inner ++ behind ≡ h.0 ++ (h.1 ++ behind) = ap (λ (l : List Token). l ++ behind) h.2 ∙ append_assoc h.0 h.1 behind in
-        let fewer : length (h.1 ++ behind) ≤ n = omega (arith, few, ap (λ (l : List Token). length l) whole, length-append h.0 (h.1 ++ behind), complete.some h.0 x h.3) in
-        subst (λ (l : List Token). at_most goes_on item (suc n) ys l ≡ Some (ys ++ x ∷ xs, behind)) (sym whole)
-        (went n ys (ys ++ x ∷ []) (h.0 ++ (h.1 ++ behind)) (h.1 ++ behind) (complete.goes h.0 (h.1 ++ behind) x h.3) (complete.reads ys h.0 (h.1 ++ behind) x h.3 (after_each h.1 behind xs h.4 f))
-        ∙ read_each n (ys ++ x ∷ []) h.1 behind xs h.4 f end fewer
-        ∙ ap (λ (l : List X). Some (l, behind)) (append_assoc ys (x ∷ []) xs))
+use Rattle.jm_reading.specs.Tokens.{IsName, IsMark, IsWord, SpellsEach}
+use Rattle.jm_fsm.specs.Formulas.{SpellsTransition, SpellsComma, SpellsEntry, SpellsMoreMember, SpellsMembers, SpellsPart, is_state, Spells}
+use Rattle.jm_reading.proofs.TokenLemmas.{name_no_mark, word_no_mark, mark_is, name_is, word_is, if_some, mark_read, name_read, word_read, step_of, one_of, and_true, and_false, not_true, not_false, first_of_two, second_of_two, other_mark}
+use Rattle.jm_reading.proofs.GrammarLemmas.{IsSound, Spelled, each_read, IsComplete, read_each}
 
 module _ (bytes : List ℕ) where
   -- ---- what a rule reads, its tokens spell
@@ -341,34 +172,6 @@ module _ (bytes : List ℕ) where
       (subst (λ (l : List Part). SpellsEach (SpellsPart bytes) tokens l) is (subst (λ (l : List Token). SpellsEach (SpellsPart bytes) l all.more) (sym cut) all.spelled), with_state.1)
 
 -- ---- and what the grammar spells, the rules read
-
-and_true : (a b : Bool) → a ≡ true → b ≡ true → (a && b) ≡ true
-and_true true b h k = k
-and_true false b h k = absurd (cc)
-
-and_false : (a b : Bool) → b ≡ false → (a && b) ≡ false
-and_false true b h = h
-and_false false b h = refl
-
-not_true : (b : Bool) → b ≡ true → not b ≡ false
-not_true b h = rw h refl
-
-not_false : (b : Bool) → b ≡ false → not b ≡ true
-not_false b h = rw h refl
-
-first_of_two : {X : Type 0} (b : Bool) (x y : X) → b ≡ true → cond b x y ≡ x
-first_of_two b x y h = rw h refl
-
-second_of_two : {X : Type 0} (b : Bool) (x y : X) → b ≡ false → cond b x y ≡ y
-second_of_two b x y h = rw h refl
-
-other_text : (kind : TokenKind) (text a b : List ℕ) → (is_mark_kind kind && bytes_eq text a) ≡ true → bytes_eq a b ≡ false → (is_mark_kind kind && bytes_eq text b) ≡ false
-other_text Mark text a b h k = subst (λ (l : List ℕ). bytes_eq l b ≡ false) (sym ((bytes_eq-Decides text a).0 h)) k
-other_text Word text a b h k = refl
-other_text Text text a b h k = refl
-
-other_mark : (bytes a b : List ℕ) (t : Token) → IsMark bytes a t → bytes_eq a b ≡ false → is_mark bytes t b ≡ false
-other_mark bytes a b t h k = other_text t.kind _ a b h k
 
 module _ (bytes : List ℕ) where
   fallback_is : (word target : Token) (behind : List Token) → IsWord bytes (codes "default") word → IsName bytes target → fallback_at bytes (word ∷ target ∷ behind) ≡ Some (Fallback word target, behind)

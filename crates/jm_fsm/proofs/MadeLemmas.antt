@@ -23,7 +23,9 @@ use Rattle.jm_fsm.specs.declared.formula.Part.TheVariants.{Declaration, Alias}
 use Rattle.jm_fsm.specs.Machines.{StateDefinition, AliasDefinition, StateMachine, IsTarget, IsMachine, AreDistinct, category_names}
 use Rattle.jm_fsm.specs.Formulas.{is_state}
 use Rattle.jm_fsm.specs.Names.{is_among}
-use Rattle.jm_fsm.specs.Faults.{name_of, is_alias, aliases_fault, is_reserved, part_name_fault, duplicate_state_fault, states_fault, state_names, target_named, ◌>>>◌, target_said, letter_said, with_listed, with_transition, with_transitions, state_said, with_member, with_members, alias_said, with_part, with_parts}
+use Rattle.jm_reading.specs.Tokens.{name_of}
+use Rattle.jm_reading.specs.Faults.{◌>>>◌}
+use Rattle.jm_fsm.specs.Faults.{is_alias, aliases_fault, is_reserved, part_name_fault, duplicate_state_fault, states_fault, state_names, target_named, target_said, letter_said, with_listed, with_transition, with_transitions, state_said, with_member, with_members, alias_said, with_part, with_parts}
 
 -- ---- counts of names
 

@@ -13,10 +13,13 @@ use Rattle.jm_fsm.specs.declared.formula.TransitionText.TheVariants.{On, Fallbac
 use Rattle.jm_fsm.specs.declared.formula.Part.{Part}
 use Rattle.jm_fsm.specs.declared.formula.Part.TheVariants.{Declaration, Alias}
 use Rattle.jm_fsm.specs.Machines.{StateDefinition, AliasDefinition, StateMachine}
-use Rattle.jm_fsm.specs.Faults.{name_of, name_token, or_else, event_name_fault, part_name_fault, duplicate_state_fault, duplicate_transition_fault, part_transitions_fault, transitions_fault, ◌>>>◌, target_said, letter_said, with_transition, with_transitions, with_member, with_members, with_part, with_parts, state_names, machine_of, machine_fault, first_fault}
+use Rattle.jm_reading.specs.Tokens.{name_of}
+use Rattle.jm_reading.specs.Faults.{or_else, ◌>>>◌}
+use Rattle.jm_fsm.specs.Faults.{name_token, event_name_fault, part_name_fault, duplicate_state_fault, duplicate_transition_fault, part_transitions_fault, transitions_fault, target_said, letter_said, with_transition, with_transitions, with_member, with_members, with_part, with_parts, state_names, machine_of, machine_fault, first_fault}
 use Rattle.jm_fsm.specs.Rules.{formula_at}
-use Rattle.jm_fsm.specs.Answers.{FailsAt}
-use Rattle.jm_fsm.specs.Trees.{Checks, Refuses, IsReadFrom, IsRefused}
+use Rattle.jm_reading.specs.Answers.{FailsAt}
+use Rattle.jm_reading.specs.Faults.{Checks, Refuses}
+use Rattle.jm_fsm.specs.Trees.{IsReadFrom, IsRefused}
 use Rattle.jm_fsm.proofs.GrammarLemmas.{formula_sound, formula_none}
 
 -- no fault, or another than the grammar's

@@ -1,13 +1,13 @@
 -- What is wrong with a formula, step by step, and the machine that it says.
-use Rattle.std.specs.Prelude.{ℕ, Bool, true, false, ◌&&◌, ◌||◌, List, [], ◌∷◌, ◌++◌, length, Option, Some, None, Result, Ok, Err, codes, nat_le, nat_lt, count_by, option_map, if◌then◌else◌}
+use Rattle.std.specs.Prelude.{ℕ, Bool, true, false, ◌||◌, List, [], ◌∷◌, ◌++◌, Option, Some, None, Result, Ok, Err, codes, nat_lt, count_by, option_map, if◌then◌else◌}
 use Rattle.std.specs.Str.{bytes_eq}
 use Rattle.std.specs.Option.{ok_or}
 use Rattle.jm_model.specs.declared.fault.Counted.TheVariants.{Aliases}
 use Rattle.jm_model.specs.declared.fault.SpecFault.{SpecFault}
 use Rattle.jm_model.specs.declared.fault.SpecFault.TheVariants.{TooMany, ReservedName, DuplicateState, DuplicateTransition, TooManyStates, UnknownName}
 use Rattle.jm_text.specs.declared.token.Token.{Token}
-use Rattle.jm_text.specs.Spans.{text_of}
-use Rattle.jm_text.specs.Texts.{is_name}
+use Rattle.jm_reading.specs.Tokens.{name_of}
+use Rattle.jm_reading.specs.Faults.{or_else, ◌>>>◌}
 use Rattle.jm_events.specs.Names.{number_of, with_name}
 use Rattle.jm_events.specs.Events.{EventDefinitions, EventDefinition, event_names}
 use Rattle.jm_fsm.specs.declared.machine.Target.{Target}
@@ -19,10 +19,6 @@ use Rattle.jm_fsm.specs.declared.formula.Part.TheVariants.{Declaration, Alias}
 use Rattle.jm_fsm.specs.Formulas.{is_state}
 use Rattle.jm_fsm.specs.Names.{is_among}
 use Rattle.jm_fsm.specs.Machines.{StateDefinition, AliasDefinition, StateMachine}
-
--- the name that a token says, if it says one
-unfoldable pub name_of : List ℕ → Token → List ℕ
-name_of bytes token = if nat_le token.start token.end && nat_le token.end (length bytes) && is_name bytes token then text_of bytes token else []
 
 abbrev pub is_alias : Part → Bool
 is_alias (Declaration name transitions) = false
@@ -60,10 +56,6 @@ duplicate_state_fault bytes names (p ∷ ps) =
     if is_among names (name_of bytes (name_token p)) then Some (DuplicateState (name_token p).line)
     else duplicate_state_fault bytes (with_name names (name_of bytes (name_token p))) ps
 
-abbrev pub or_else : Option SpecFault → Option SpecFault → Option SpecFault
-or_else (Some fault) next = Some fault
-or_else None next = next
-
 -- in a state no transition is on the event of an earlier one, or one of these events, and at most one is a `default`
 abbrev pub duplicate_transition_fault : List ℕ → List (List ℕ) → Bool → List TransitionText → Option SpecFault
 duplicate_transition_fault bytes events known_default [] = None
@@ -94,12 +86,6 @@ state_names bytes (Alias name members ∷ ps) = state_names bytes ps
 -- the state of a name, or `fail`
 abbrev pub target_named : List (List ℕ) → List ℕ → Option Target
 target_named states name = if bytes_eq name (codes "fail") then Some Fail else option_map (λ k. State k) (number_of states name)
-
--- a value, or the fault that comes first, and then more
-infixl 10 ◌>>>◌
-abbrev pub ◌>>>◌ : {A B : Type 0} → Result A SpecFault → (A → Result B SpecFault) → Result B SpecFault
-(Ok x) >>> f = f x
-(Err fault) >>> f = Err fault
 
 -- where a name leads, and the letter of an event's name
 abbrev pub target_said : List ℕ → List (List ℕ) → Token → Result Target SpecFault

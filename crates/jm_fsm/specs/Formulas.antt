@@ -7,20 +7,11 @@
 use Rattle.std.specs.Prelude.{ℕ, ◌≡◌, ◌⊎◌, Bool, true, false, List, [], ◌∷◌, ◌++◌, codes}
 use Rattle.std.specs.List.{list_any}
 use Rattle.jm_text.specs.declared.token.Token.{Token}
-use Rattle.jm_text.specs.Texts.{is_name, is_word, is_mark}
+use Rattle.jm_reading.specs.Tokens.{IsName, IsMark, IsWord, SpellsEach}
 use Rattle.jm_fsm.specs.declared.formula.TransitionText.{TransitionText}
 use Rattle.jm_fsm.specs.declared.formula.TransitionText.TheVariants.{On, Fallback}
 use Rattle.jm_fsm.specs.declared.formula.Part.{Part}
 use Rattle.jm_fsm.specs.declared.formula.Part.TheVariants.{Declaration, Alias}
-
-abbrev pub IsName : List ℕ → Token → Type 0
-IsName bytes t = is_name bytes t ≡ true
-
-abbrev pub IsMark : List ℕ → List ℕ → Token → Type 0
-IsMark bytes mark t = is_mark bytes t mark ≡ true
-
-abbrev pub IsWord : List ℕ → List ℕ → Token → Type 0
-IsWord bytes word t = is_word bytes t word ≡ true
 
 -- NAME "->" NAME | "default" NAME
 abbrev pub SpellsTransition : List ℕ → List Token → TransitionText → Type 0
@@ -36,12 +27,6 @@ SpellsComma bytes tokens = (tokens ≡ []) ⊎ ((comma : Token) × (tokens ≡ c
 abbrev pub SpellsEntry : List ℕ → List Token → TransitionText → Type 0
 SpellsEntry bytes tokens transition =
     (first : List Token) × (comma : List Token) × (tokens ≡ first ++ comma) × SpellsTransition bytes first transition × SpellsComma bytes comma
-
--- the items one behind the other
-module _ {X : Type 0} (SpellsOne : List Token → X → Type 0) where
-  abbrev pub SpellsEach : List Token → List X → Type 0
-  SpellsEach tokens [] = tokens ≡ []
-  SpellsEach tokens (x ∷ xs) = (first : List Token) × (rest : List Token) × (tokens ≡ first ++ rest) × SpellsOne first x × SpellsEach rest xs
 
 -- "," NAME
 abbrev pub SpellsMoreMember : List ℕ → List Token → Token → Type 0

@@ -1,9 +1,7 @@
 pub mod Names
 pub mod Machines
 pub mod Keys
-pub mod Reading
 pub mod Formulas
 pub mod Rules
-pub mod Answers
 pub mod Faults
 pub mod Trees

@@ -7,7 +7,7 @@ use Rattle.jm_fsm.specs.declared.formula.TransitionText.TheVariants.{On, Fallbac
 use Rattle.jm_fsm.specs.declared.formula.Part.{Part}
 use Rattle.jm_fsm.specs.declared.formula.Part.TheVariants.{Declaration, Alias}
 use Rattle.jm_fsm.specs.Formulas.{is_state}
-use Rattle.jm_fsm.specs.Reading.{◌>>=◌, is_mark_at, is_word_at, is_left, mark_at, name_at, word_at, at_most}
+use Rattle.jm_reading.specs.Reading.{◌>>=◌, is_mark_at, is_word_at, is_left, mark_at, name_at, word_at, at_most}
 
 -- "default" NAME
 unfoldable pub fallback_at : List ℕ → List Token → Option (TransitionText × List Token)

@@ -5,14 +5,14 @@ ghost use Rattle.jm_events.specs.Events.{event_names};
 ghost use Rattle.jm_fsm.specs.Formulas.{is_state};
 ghost use Rattle.jm_fsm.specs.Faults.{state_names, target_said, letter_said, with_transition, with_transitions, with_member, with_members, state_said, alias_said, with_part, with_parts, machine_of, aliases_fault, part_name_fault, duplicate_state_fault, states_fault, first_fault};
 ghost use Rattle.jm_fsm.specs.Machines.{AreDistinct};
-ghost use Rattle.jm_fsm.specs.Trees.{Checks, Makes, Answers};
+ghost use Rattle.jm_reading.specs.Faults.{Checks, Makes, Answers};
 
 use crate::faults;
-use crate::faults::name_of;
 use crate::formula::{Part, TransitionText};
 use crate::machine::{Alias, Draft, Fsm, State, Target, Transition};
 use jm_events::{EventTable, Names};
 use jm_model::{Letter, SpecError, SpecFault};
+use jm_reading::name_of;
 use jm_text::Token;
 use std::alloc::Global;
 

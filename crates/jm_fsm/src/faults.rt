@@ -3,32 +3,21 @@ ghost use Rattle.std.specs.Prelude.{◌≡◌, [], ◌∷◌, ◌++◌, false, L
 ghost use Rattle.jm_events.specs.Names.{with_name};
 ghost use Rattle.jm_fsm.specs.Formulas.{is_state};
 ghost use Rattle.jm_fsm.specs.Names.{is_among};
-ghost use Rattle.jm_fsm.specs.Faults.{name_of, is_alias, name_token, aliases_fault, is_grammar_word, event_name_fault, is_reserved, part_name_fault, duplicate_state_fault, duplicate_transition_fault, part_transitions_fault, transitions_fault, states_fault};
-ghost use Rattle.jm_fsm.specs.Trees.{Checks, Refuses};
+ghost use Rattle.jm_fsm.specs.Faults.{is_alias, name_token, aliases_fault, is_grammar_word, event_name_fault, is_reserved, part_name_fault, duplicate_state_fault, duplicate_transition_fault, part_transitions_fault, transitions_fault, states_fault};
+ghost use Rattle.jm_reading.specs.Faults.{Checks, Refuses};
 ghost use Rattle.jm_fsm.specs.declared.formula.TransitionText.{TransitionText};
 
 use crate::formula::{Part, TransitionText};
 use jm_events::{EventTable, Names};
 use jm_model::{Counted, Letter, SpecError, SpecFault};
-use jm_text::{Token, name};
+use jm_reading::name_of;
+use jm_text::Token;
 use std::alloc::Global;
 
 const MAX_ALIASES: usize = 256;
 
 /// With `fail` there are 1,024 states.
 const MAX_STATES: usize = 1023;
-
-/// The name that a token says, if it says one.
-#[tactic(auto, unfolding(crate::specs::Faults::name_of))]
-pub fn name_of<'a>(bytes: &'a [u8], token: Token) -> &'a str
-    ensures { result.now ≡ name_of bytes.now token }
-{
-    if token.start <= token.end && token.end as usize <= bytes.len() {
-        name(bytes, token).unwrap_or("")
-    } else {
-        ""
-    }
-}
 
 /// There are at most 256 aliases.
 pub fn few_aliases(parts: &[Part]) -> Result<(), SpecError>

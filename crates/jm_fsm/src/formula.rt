@@ -3,7 +3,7 @@ ghost use Rattle.std.specs.Prelude.{◌≡◌};
 ghost use Rattle.jm_fsm.specs.Formulas.{is_state};
 ghost use Rattle.jm_fsm.specs.Faults.{is_alias, name_token};
 
-use crate::items::Items;
+use jm_reading::Items;
 use jm_text::Token;
 
 /// A transition of a state.

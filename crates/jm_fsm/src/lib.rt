@@ -11,7 +11,6 @@ mod compile;
 mod faults;
 mod formula;
 mod graph;
-mod items;
 mod laws;
 mod machine;
 mod reader;

@@ -5,9 +5,10 @@ ghost use Rattle.jm_fsm.specs.Trees.{IsReadFrom, IsRefused};
 
 use crate::build::machine_of;
 use crate::machine::Fsm;
-use crate::reader::Reader;
+use crate::reader::formula;
 use jm_events::EventTable;
 use jm_model::SpecError;
+use jm_reading::Cursor;
 use jm_text::Token;
 use std::alloc::Global;
 
@@ -28,7 +29,7 @@ pub fn read(
     ensures ok { IfOk result (IsReadFrom bytes.now tokens.now table.now) }
     ensures err { IfErr result (IsRefused bytes.now tokens.now table.now) }
 {
-    let mut reader = Reader::new(alloc, bytes, tokens, line);
-    let parts = reader.formula()?;
+    let mut cursor = Cursor::new(alloc, bytes, tokens, line);
+    let parts = formula(&mut cursor)?;
     machine_of(alloc, bytes, parts.as_slice(), table)
 }

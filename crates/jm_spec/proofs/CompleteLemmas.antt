@@ -19,10 +19,12 @@ use Rattle.jm_spec.specs.declared.property.Property.{Property}
 use Rattle.jm_spec.specs.declared.frame.Frame.{Frame}
 use Rattle.jm_spec.specs.Brackets.{sign_of, after_sign, without_angles}
 use Rattle.jm_spec.specs.Runs.{may_end, parts, clause_length, parameter_length, begins_property, formula_length}
-use Rattle.jm_spec.specs.Reading.{◌>>=◌, is_mark_at, is_word_at, is_name_at, place, mark_at, name_at, word_at, passed}
+use Rattle.jm_reading.specs.Reading.{◌>>=◌, is_mark_at, is_word_at, is_name_at, name_at}
+use Rattle.jm_spec.specs.Reading.{place, mark_at, word_at, passed}
 use Rattle.jm_spec.specs.Rules.{begins_clause, clause_at, clauses_at, more_word_at, begins_more_word, more_words_at, modifier_of, modifier_at, begins_modifier, modifiers_at, named_at, param_at, more_param_at, begins_more_param, more_params_at, params_at, inner_params_at, list_at, run_at, pointcut_at, before_at, optional_list_at, outcome_at, after_at, other_at, advice_at, creation_at, begins_event, event_at, member_at, begins_member, members_at, block_at, handler_at, begins_handler, handlers_at, property_at, goes_on, properties_at, frame_at, frame_of}
 use Rattle.jm_spec.specs.Balance.{member_sign, open_after}
-use Rattle.jm_spec.specs.Spelling.{IsMark, IsWord, IsAnyWord, IsName, Repeats, nothing, one_more as another, Spelled, SpelledAnywhere, BeginsClause, SpellsClause, clause, SpellsMoreWord, more_word, SpellsModifier, modifier, open_in_list, Holds, IsType, SpellsParam, param, SpellsMoreParam, more_param, SpellsParams, no_params, some_params, SpellsList, list, RunsToEnd, SpellsOutcome, missing, alone, with_list, BeginsOther, SpellsAdvice, before, after, other, SpellsEvent, event, creation_event, SpellsMember, declaration, an_event, SpellsHandler, handler, SpellsProperty, property, BeginsNoClause, SpellsHead, head, SpellsBody, body, Spells, file}
+use Rattle.jm_reading.specs.Tokens.{IsMark, IsWord, IsName}
+use Rattle.jm_spec.specs.Spelling.{IsAnyWord, Repeats, nothing, one_more as another, Spelled, SpelledAnywhere, BeginsClause, SpellsClause, clause, SpellsMoreWord, more_word, SpellsModifier, modifier, open_in_list, Holds, IsType, SpellsParam, param, SpellsMoreParam, more_param, SpellsParams, no_params, some_params, SpellsList, list, RunsToEnd, SpellsOutcome, missing, alone, with_list, BeginsOther, SpellsAdvice, before, after, other, SpellsEvent, event, creation_event, SpellsMember, declaration, an_event, SpellsHandler, handler, SpellsProperty, property, BeginsNoClause, SpellsHead, head, SpellsBody, body, Spells, file}
 use Rattle.jm_spec.proofs.TokenLemmas.{never_both, no_mark, no_word, no_other_word, no_other_mark, word_kind, name_kind, word_sign, mark_sign}
 use Rattle.jm_spec.proofs.RepeatLemmas.{append-nil, never_some, same_some, first_gives, both_give, steps_complete, items_complete}
 use Rattle.jm_spec.proofs.BalanceLemmas.{nothing_ends}

@@ -1,5 +1,5 @@
 -- How far the runs go, and what they spell.
-use Rattle.std.proofs.Common.{◌≡◌, ℕ, zero, suc, ◌+◌, ◌-◌, ◌<◌, ◌≤◌, Bool, true, false, cond, List, [], ◌∷◌, ◌++◌, length, take, Option, Some, None, ◌⊎◌, inl, inr, refl, sym, ap, ◌∙◌, subst, arith, length-append}
+use Rattle.std.proofs.Common.{◌≡◌, ℕ, zero, suc, ◌+◌, ◌<◌, ◌≤◌, Bool, true, false, cond, List, [], ◌∷◌, ◌++◌, length, take, Option, Some, None, ◌⊎◌, inl, inr, refl, sym, ap, ◌∙◌, subst, arith, length-append}
 use Rattle.std.proofs.Math.Seq.{take-append_seam, drop-append_seam}
 use Rattle.std.proofs.lemmas.List.{take-append-drop, take-append-le, take-take, length-take}
 use Rattle.std.specs.Prelude.{not, ◌||◌, codes, option_and_then, option_map}
@@ -14,7 +14,8 @@ use Rattle.jm_spec.specs.Brackets.{sign_of_byte, sign_of, closed, after_sign, ho
 use Rattle.jm_spec.specs.Runs.{one_more, may_end, clause_length, member_length, is_none_open, parts, parameter_rest, begins_property, ends_formula, formula_length}
 use Rattle.jm_spec.specs.Reading.{passed}
 use Rattle.jm_spec.specs.Balance.{member_sign, open_after, may_end_after, EndsFrom, EndsMember}
-use Rattle.jm_spec.specs.Spelling.{IsMark, RunsToEnd, IsFormula, open_in_list, Holds}
+use Rattle.jm_reading.specs.Tokens.{IsMark}
+use Rattle.jm_spec.specs.Spelling.{RunsToEnd, IsFormula, open_in_list, Holds}
 use Rattle.jm_spec.proofs.BalanceLemmas.{member_found, member_none, nothing_ends, longer_end, behind}
 use Rattle.jm_spec.proofs.TokenLemmas.{never_both, mark_sign, curly_mark}
 use Rattle.jm_spec.proofs.RepeatLemmas.{never_some, same_some, first_gives, both_give}

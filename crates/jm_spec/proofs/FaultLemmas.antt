@@ -1,16 +1,14 @@
 -- No step's fault is that of the grammar.
 use Rattle.std.proofs.Common.{◌≡◌, ℕ, Bool, true, false, cond, ◌==◌, List, [], ◌∷◌, length, Option, Some, None, Result, Ok, Err, subst, refl, ◌∙◌}
-use Rattle.std.specs.Prelude.{find}
 use Rattle.std.specs.List.{list_any}
 use Rattle.std.specs.Option.{option_map_or}
 use Rattle.std.specs.Str.{bytes_eq}
 use Rattle.jm_model.specs.declared.fault.SpecError.{SpecError}
 use Rattle.jm_model.specs.declared.fault.SpecError.TheVariants.{Bad, NoMemory}
-use Rattle.jm_model.specs.declared.fault.Counted.TheVariants.{Parameters, Events}
 use Rattle.jm_model.specs.declared.fault.SpecFault.{SpecFault}
-use Rattle.jm_model.specs.declared.fault.SpecFault.TheVariants.{Syntax, DuplicateParameter, DuplicateEvent, TooMany, UnsupportedModifier, UnsupportedAdvice, NoProperty, SecondProperty, UnsupportedLogic}
+use Rattle.jm_model.specs.declared.fault.SpecFault.TheVariants.{Syntax, DuplicateEvent, UnsupportedLogic}
 use Rattle.jm_text.specs.declared.token.Token.{Token}
-use Rattle.jm_events.specs.Events.{EventDefinitions, EventDefinition, parameter_fault, event_fault, event_named, with_parameter, with_event}
+use Rattle.jm_events.specs.Events.{EventDefinitions, EventDefinition, event_named}
 use Rattle.jm_spec.specs.declared.head.Modifier.{Modifier}
 use Rattle.jm_spec.specs.declared.head.Modifier.TheVariants.{FullBinding, NoEffect, Unsupported}
 use Rattle.jm_spec.specs.declared.events.Advice.{Advice}
@@ -20,7 +18,7 @@ use Rattle.jm_spec.specs.declared.property.Property.{Property}
 use Rattle.jm_spec.specs.declared.frame.Frame.{Frame}
 use Rattle.jm_spec.specs.declared.tree.Logic.{Logic}
 use Rattle.jm_spec.specs.Spelling.{Spells}
-use Rattle.jm_spec.specs.Faults.{modifier_fault, advice_or, advice_fault, property_fault, name_of, unless_known, logic_of, logic_fault, ◌>>>◌, unless, with_param, with_params, with_names, with_mention, with_advice, with_events, table_of, table_fault, or_else, frame_fault}
+use Rattle.jm_spec.specs.Faults.{modifier_fault, advice_or, advice_fault, property_fault, name_of, unless_known, logic_of, logic_fault, ◌>>>◌, unless, with_param, with_params, with_names, with_mention, with_advice, with_events, table_fault, or_else, frame_fault}
 use Rattle.jm_spec.specs.Trees.{Refuses, IsFaultOfTokens}
 
 -- no fault, or another than the grammar's

@@ -1,7 +1,8 @@
 -- A rule that is read as often as it goes on reads what its repetition spells, and nothing else.
 use Rattle.std.proofs.Common.{◌≡◌, ℕ, zero, suc, ◌+◌, ◌<◌, ◌≤◌, Bool, true, false, cond, List, [], ◌∷◌, ◌++◌, length, Option, Some, None, refl, sym, ap, ◌∙◌, subst, arith, append_assoc, length-append}
 use Rattle.jm_text.specs.declared.token.Token.{Token}
-use Rattle.jm_spec.specs.Reading.{◌>>=◌, at_most, step_at_most}
+use Rattle.jm_reading.specs.Reading.{◌>>=◌, at_most}
+use Rattle.jm_spec.specs.Reading.{step_at_most}
 use Rattle.jm_spec.specs.Spelling.{Repeats, nothing, one_more, Spelled}
 
 pub append-nil : {X : Type 0} (xs : List X) → xs ++ [] ≡ xs

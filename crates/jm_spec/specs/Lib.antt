@@ -2,7 +2,6 @@ pub mod Brackets
 pub mod Runs
 pub mod Reading
 pub mod Rules
-pub mod Answers
 pub mod Faults
 pub mod Trees
 pub mod Balance

@@ -1,40 +1,16 @@
 -- Reading from the front of a list of tokens: a rule gives what it reads and the tokens behind it, or nothing.
-use Rattle.std.specs.Prelude.{ℕ, zero, suc, ◌-◌, Bool, true, false, List, [], ◌∷◌, ◌++◌, length, drop, Option, Some, None, option_and_then, option_map, slice_get, if◌then◌else◌}
-use Rattle.std.specs.Option.{option_map_or}
+use Rattle.std.specs.Prelude.{ℕ, zero, suc, ◌-◌, Bool, List, [], ◌∷◌, length, drop, Option, Some, None, option_map, if◌then◌else◌}
 use Rattle.jm_text.specs.declared.token.Token.{Token}
-use Rattle.jm_text.specs.Texts.{is_name, is_word, is_mark, is_word_kind}
-
-infixl 10 ◌>>=◌
-abbrev pub ◌>>=◌ : {A B : Type 0} → Option A → (A → Option B) → Option B
-o >>= f = option_and_then f o
-
--- the token so far on is this mark, this word, or a name
-abbrev pub is_mark_at : List ℕ → List Token → ℕ → List ℕ → Bool
-is_mark_at bytes tokens k mark = option_map_or (λ t. is_mark bytes t mark) (slice_get tokens k) false
-
-abbrev pub is_word_at : List ℕ → List Token → ℕ → List ℕ → Bool
-is_word_at bytes tokens k word = option_map_or (λ t. is_word bytes t word) (slice_get tokens k) false
-
-abbrev pub is_name_at : List ℕ → List Token → ℕ → Bool
-is_name_at bytes tokens k = option_map_or (λ t. is_name bytes t) (slice_get tokens k) false
+use Rattle.jm_text.specs.Texts.{is_word_kind}
+use Rattle.jm_reading.specs.Reading.{◌>>=◌, is_mark_at}
 
 -- the number of the next token of a file of so many
 abbrev pub place : ℕ → List Token → ℕ
 place total tokens = total - length tokens
 
--- the line of the next token, or the last line at the end
-abbrev pub line_of : ℕ → List Token → ℕ
-line_of last_line [] = last_line
-line_of last_line (t ∷ ts) = t.line
-
 -- a mark
 unfoldable pub mark_at : List ℕ → List ℕ → List Token → Option (List Token)
 mark_at bytes mark tokens = if is_mark_at bytes tokens 0 mark then Some (drop 1 tokens) else None
-
--- a name
-unfoldable pub name_at : List ℕ → List Token → Option (Token × List Token)
-name_at bytes [] = None
-name_at bytes (t ∷ ts) = if is_name bytes t then Some (t, ts) else None
 
 -- a word
 unfoldable pub word_at : List Token → Option (List Token)
@@ -45,14 +21,7 @@ word_at (t ∷ ts) = if is_word_kind t.kind then Some ts else None
 abbrev pub passed : List Token → Option ℕ → Option (List Token)
 passed tokens n = option_map (λ k. drop k tokens) n
 
--- The items of a rule one after the other, as long as the tokens go on so: each adds to what was read before, at first
--- these. There are at most so many.
-module _ {X : Type 0} (goes_on : List Token → Bool) (item : X → List Token → Option (X × List Token)) where
-  abbrev pub at_most : ℕ → X → List Token → Option (X × List Token)
-  at_most zero xs tokens = if goes_on tokens then None else Some (xs, tokens)
-  at_most (suc n) xs tokens = if goes_on tokens then (item xs tokens >>= λ x. at_most n x.0 x.1) else Some (xs, tokens)
-
--- the same of a rule of which nothing is kept
+-- A rule of which nothing is kept one time after the other, as long as the tokens go on so. There are at most so many.
 module _ (goes_on : List Token → Bool) (step : List Token → Option (List Token)) where
   abbrev pub step_at_most : ℕ → List Token → Option (List Token)
   step_at_most zero tokens = if goes_on tokens then None else Some tokens

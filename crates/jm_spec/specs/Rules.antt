@@ -11,7 +11,8 @@ use Rattle.jm_spec.specs.declared.property.HandlerText.{HandlerText}
 use Rattle.jm_spec.specs.declared.property.Property.{Property}
 use Rattle.jm_spec.specs.declared.frame.Frame.{Frame}
 use Rattle.jm_spec.specs.Runs.{clause_length, member_length, parameter_length, formula_length, begins_property}
-use Rattle.jm_spec.specs.Reading.{◌>>=◌, is_mark_at, is_word_at, is_name_at, line_of, place, mark_at, name_at, word_at, passed, at_most, step_at_most}
+use Rattle.jm_reading.specs.Reading.{◌>>=◌, is_mark_at, is_word_at, is_name_at, line_of, name_at, at_most}
+use Rattle.jm_spec.specs.Reading.{place, mark_at, word_at, passed, step_at_most}
 
 -- { ( "package" | "import" ) Run ";" }
 abbrev pub begins_clause : List ℕ → List Token → Bool

@@ -5,7 +5,7 @@ use Rattle.jm_text.specs.Texts.{is_name, is_mark}
 use Rattle.jm_spec.specs.declared.brackets.Bracket.{Bracket}
 use Rattle.jm_spec.specs.declared.brackets.Bracket.TheVariants.{Round, Curly}
 use Rattle.jm_spec.specs.declared.brackets.Sign.{Sign}
-use Rattle.jm_spec.specs.declared.brackets.Sign.TheVariants.{Open, Close, Comma, Semicolon}
+use Rattle.jm_spec.specs.declared.brackets.Sign.TheVariants.{Close, Comma, Semicolon}
 use Rattle.jm_spec.specs.Brackets.{sign_of, without_angles, after_sign, hold_commas}
 
 -- the number that is larger by k, if there is one

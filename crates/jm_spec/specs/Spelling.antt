@@ -2,7 +2,8 @@
 use Rattle.std.specs.Prelude.{ℕ, ◌+◌, ◌<◌, ◌≡◌, ◌≢◌, ◌⊎◌, true, false, List, [], ◌∷◌, ◌++◌, length, take, Option, Some, None, codes, option_and_then}
 use Rattle.std.specs.List.{list_any}
 use Rattle.jm_text.specs.declared.token.Token.{Token}
-use Rattle.jm_text.specs.Texts.{is_name, is_word, is_mark, is_word_kind}
+use Rattle.jm_text.specs.Texts.{is_word, is_mark, is_word_kind}
+use Rattle.jm_reading.specs.Tokens.{IsName, IsWord, IsMark}
 use Rattle.jm_spec.specs.declared.brackets.Bracket.{Bracket}
 use Rattle.jm_spec.specs.declared.brackets.Sign.TheVariants.{Comma}
 use Rattle.jm_spec.specs.declared.head.Modifier.{Modifier}
@@ -17,18 +18,9 @@ use Rattle.jm_spec.specs.Balance.{open_after, EndsMember}
 use Rattle.jm_spec.specs.Runs.{begins_property, ends_formula}
 use Rattle.jm_spec.specs.Rules.{modifier_of, begins_event}
 
--- a token: the mark, the word, any word, a name
-abbrev pub IsMark : List ℕ → List ℕ → Token → Type 0
-IsMark bytes mark t = is_mark bytes t mark ≡ true
-
-abbrev pub IsWord : List ℕ → List ℕ → Token → Type 0
-IsWord bytes word t = is_word bytes t word ≡ true
-
+-- a token is any word
 abbrev pub IsAnyWord : Token → Type 0
 IsAnyWord t = is_word_kind t.kind ≡ true
-
-abbrev pub IsName : List ℕ → Token → Type 0
-IsName bytes t = is_name bytes t ≡ true
 
 -- { X }, where X spells nothing that is kept: fronts one behind the other
 pub data Repeats (X : List Token → Type 0) : List Token → Type 0 where

@@ -1,12 +1,12 @@
 //! The members of a body before its properties: declarations and events.
 ghost use Rattle.std.specs.Prelude.{◌≡◌, ◌<◌, ◌≤◌, length, OnOk};
-ghost use Rattle.jm_spec.specs.Answers.{Reads, Leaves, Fills};
+ghost use Rattle.jm_reading.specs.Answers.{Reads, Leaves, Fills};
 ghost use Rattle.jm_spec.specs.Rules.{begins_event, begins_member, members_at, member_at, run_at, creation_at, event_at, advice_at, before_at, after_at, pointcut_at, outcome_at, optional_list_at, other_at};
 
-use crate::items::Items;
 use crate::reader::Reader;
 use crate::runs;
 use jm_model::SpecError;
+use jm_reading::Items;
 use jm_text::{Token, is_mark};
 
 /// What an event is advised by.

@@ -1,14 +1,14 @@
 //! The frame of a file: what its tokens say, before anything but the grammar is asked.
 ghost use Rattle.std.specs.Prelude.{◌≡◌};
-ghost use Rattle.jm_spec.specs.Answers.{Gives};
+ghost use Rattle.jm_reading.specs.Answers.{Gives};
 ghost use Rattle.jm_spec.specs.Rules.{frame_at};
 
 use crate::events::Mention;
 use crate::head::Modifier;
-use crate::items::Items;
 use crate::property::Property;
 use crate::reader::Reader;
 use jm_model::SpecError;
+use jm_reading::Items;
 use jm_text::Token;
 
 /// What the tokens of a file say.

@@ -1,13 +1,13 @@
 //! What stands before the body: the clauses `package` and `import`, the modifiers, and lists of parameters.
 ghost use Rattle.std.specs.Prelude.{◌≡◌, ◌<◌, ◌≤◌, length, OnOk};
 ghost use Rattle.jm_text.specs.Spans.{LieWithin};
-ghost use Rattle.jm_spec.specs.Answers.{Leaves, Fills};
+ghost use Rattle.jm_reading.specs.Answers.{Leaves, Fills};
 ghost use Rattle.jm_spec.specs.Rules.{begins_clause, clause_at, clauses_at, begins_more_word, more_word_at, more_words_at, modifier_of, begins_modifier, modifier_at, modifiers_at, param_at, begins_more_param, more_param_at, more_params_at, params_at, inner_params_at, list_at};
 
-use crate::items::Items;
 use crate::reader::{Reader, is_word_at, line_of};
 use crate::runs;
 use jm_model::SpecError;
+use jm_reading::Items;
 use jm_text::Token;
 
 /// A modifier of a specification.

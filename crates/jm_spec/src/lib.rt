@@ -8,7 +8,6 @@ mod brackets;
 mod events;
 mod frame;
 mod head;
-mod items;
 mod laws;
 mod property;
 mod reader;

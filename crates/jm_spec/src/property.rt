@@ -1,12 +1,12 @@
 //! The properties of a body, with their handlers.
 ghost use Rattle.std.specs.Prelude.{◌≡◌, ◌<◌, ◌≤◌, length, OnOk};
-ghost use Rattle.jm_spec.specs.Answers.{Reads, Fills};
+ghost use Rattle.jm_reading.specs.Answers.{Reads, Fills};
 ghost use Rattle.jm_spec.specs.Rules.{block_at, begins_handler, handler_at, handlers_at, goes_on, property_at, properties_at};
 
-use crate::items::Items;
 use crate::reader::Reader;
 use crate::runs;
 use jm_model::SpecError;
+use jm_reading::Items;
 use jm_text::Token;
 
 /// A handler: its category, and the range of the tokens inside its block.

@@ -2,8 +2,9 @@
 //! rule spells from the front of those that are left.
 ghost use Rattle.std.specs.Prelude.{◌≡◌, ◌+◌, ◌<◌, ◌≤◌, ◌^◌, length, drop, OnOk};
 ghost use Rattle.jm_text.specs.Spans.{LieWithin};
-ghost use Rattle.jm_spec.specs.Answers.{Reads, Leaves, IsSyntax};
-ghost use Rattle.jm_spec.specs.Reading.{is_mark_at, is_word_at, is_name_at, line_of, place, mark_at, name_at, word_at};
+ghost use Rattle.jm_reading.specs.Answers.{Reads, Leaves, IsSyntax};
+ghost use Rattle.jm_reading.specs.Reading.{is_mark_at, is_word_at, is_name_at, line_of, name_at};
+ghost use Rattle.jm_spec.specs.Reading.{place, mark_at, word_at};
 
 use jm_model::{SpecError, SpecFault};
 use jm_text::{Token, TokenKind, is_mark, is_name, is_word};
@@ -116,7 +117,7 @@ impl<'a> Reader<'a> {
     }
 
     /// A name.
-    #[tactic(auto, unfolding(crate::specs::Reading::name_at))]
+    #[tactic(auto, unfolding(jm_reading::specs::Reading::name_at))]
     pub fn name(&mut self) -> Result<Token, SpecError>
         ensures reads { Reads result self.new.rest.now (name_at self.old.bytes.now self.old.rest.now) }
         ensures bytes { self.new.bytes.now ≡ self.old.bytes.now }

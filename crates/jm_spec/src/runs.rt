@@ -2,7 +2,7 @@
 //! end of the file the last line that it is given.
 ghost use Rattle.std.specs.Prelude.{◌≡◌, ◌<◌, ◌≤◌, length, IfOk};
 ghost use Rattle.jm_text.specs.Spans.{LieWithin};
-ghost use Rattle.jm_spec.specs.Answers.{Gives};
+ghost use Rattle.jm_reading.specs.Answers.{Gives};
 ghost use Rattle.jm_spec.specs.Runs.{clause_length, member_length, may_end, parameter_length, parts, formula_length, ends_formula, begins_property};
 
 use crate::brackets::{Bracket, Brackets, Sign, sign_of, without_angles};

@@ -7,10 +7,10 @@ ghost use Rattle.jm_spec.specs.Trees.{is_full_binding, Refuses, Checks, Makes, I
 use crate::events::{Advice, Mention};
 use crate::frame::Frame;
 use crate::head::Modifier;
-use crate::items::Items;
 use crate::property::{HandlerText, Property};
 use jm_events::EventTable;
 use jm_model::{SpecError, SpecFault};
+use jm_reading::Items;
 use jm_text::{Token, name};
 use std::alloc::Global;
 

@@ -2,7 +2,8 @@ use Rattle.std.proofs.Common.{List, ℕ, ◌≡◌, false, [], ◌∷◌, ◌++�
 use Rattle.jm_fsm.specs.declared.formula.Part.{Part}
 use Rattle.jm_fsm.specs.Machines.{AreDistinct}
 use Rattle.jm_fsm.specs.Names.{is_among}
-use Rattle.jm_fsm.specs.Faults.{name_of, state_names}
+use Rattle.jm_reading.specs.Tokens.{name_of}
+use Rattle.jm_fsm.specs.Faults.{state_names}
 use Rattle.jm_fsm.proofs.MadeLemmas.{fresh}
 use Rattle.jm_fsm.proofs.build.add_state_name.Goals as goal
 

@@ -4,7 +4,7 @@ use Rattle.jm_model.specs.declared.fault.SpecError.{SpecError}
 use Rattle.jm_model.specs.declared.fault.SpecFault.{SpecFault}
 use Rattle.jm_fsm.specs.declared.formula.TransitionText.{TransitionText}
 use Rattle.jm_fsm.specs.Faults.{duplicate_transition_fault}
-use Rattle.jm_fsm.specs.Trees.{Refuses}
+use Rattle.jm_reading.specs.Faults.{Refuses}
 use Rattle.jm_fsm.proofs.faults.duplicate_transition.Goals as goal
 
 refused_at : (bytes : List ℕ) (events : List (List ℕ)) (fallen : Bool) (ts : List TransitionText) (i : ℕ) (d : TransitionText) (e : SpecError) (whole : Option SpecFault)

@@ -6,7 +6,7 @@ use Rattle.jm_model.specs.declared.fault.SpecFault.TheVariants.{Syntax}
 use Rattle.jm_text.specs.declared.token.Token.{Token}
 use Rattle.jm_spec.specs.declared.frame.Frame.{Frame}
 use Rattle.jm_spec.specs.declared.tree.SpecTree.{SpecTree}
-use Rattle.jm_spec.specs.Answers.{FailsAt}
+use Rattle.jm_reading.specs.Answers.{FailsAt}
 use Rattle.jm_spec.specs.Rules.{frame_at, frame_of}
 use Rattle.jm_spec.specs.Faults.{frame_fault}
 use Rattle.jm_spec.specs.Trees.{Checks, IsTreeOf, IsTreeOfTokens, IsFaultOfTokens}

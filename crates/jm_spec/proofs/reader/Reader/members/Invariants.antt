@@ -1,6 +1,6 @@
 use Rattle.std.proofs.Common.{◌≡◌, length}
 use Rattle.jm_spec.specs.Rules.{begins_member, member_at}
-use Rattle.jm_spec.proofs.LoopLemmas.{ItemsLeft}
+use Rattle.jm_reading.proofs.LoopLemmas.{ItemsLeft}
 use Rattle.jm_spec.proofs.reader.Reader.members.Given as goal
 
 abbrev pub invariant-loop-self : goal.invariant-loop-self

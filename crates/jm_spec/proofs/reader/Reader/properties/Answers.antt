@@ -1,7 +1,8 @@
 use Rattle.std.proofs.Common.{refl, ◌∙◌}
 use Rattle.std.proofs.lemmas.Result.{err_from_is_err_and}
 use Rattle.jm_spec.specs.Rules.{goes_on, property_at, properties_at}
-use Rattle.jm_spec.proofs.LoopLemmas.{items_begin, read_one, read_all, read_none}
+use Rattle.jm_reading.proofs.LoopLemmas.{items_begin}
+use Rattle.jm_spec.proofs.LoopLemmas.{read_one, read_all, read_none}
 use Rattle.jm_spec.proofs.reader.Reader.properties.Goals as goal
 
 pub loop-self-init : goal.loop-self-init

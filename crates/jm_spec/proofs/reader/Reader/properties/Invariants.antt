@@ -1,6 +1,6 @@
 use Rattle.std.proofs.Common.{◌≡◌, length}
 use Rattle.jm_spec.specs.Rules.{goes_on, property_at}
-use Rattle.jm_spec.proofs.LoopLemmas.{ItemsLeft}
+use Rattle.jm_reading.proofs.LoopLemmas.{ItemsLeft}
 use Rattle.jm_spec.proofs.reader.Reader.properties.Given as goal
 
 abbrev pub invariant-loop-self : goal.invariant-loop-self

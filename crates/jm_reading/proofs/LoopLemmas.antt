@@ -4,8 +4,8 @@ use Rattle.jm_text.specs.declared.token.Token.{Token}
 use Rattle.jm_model.specs.declared.fault.SpecError.{SpecError}
 use Rattle.jm_model.specs.declared.fault.SpecError.TheVariants.{Bad, NoMemory}
 use Rattle.jm_model.specs.declared.fault.SpecFault.TheVariants.{Syntax}
-use Rattle.jm_fsm.specs.Answers.{FailsAt}
-use Rattle.jm_fsm.specs.Reading.{at_most}
+use Rattle.jm_reading.specs.Answers.{FailsAt}
+use Rattle.jm_reading.specs.Reading.{at_most}
 
 module _ {X : Type 0} (goes_on : List Token → Bool) (item : X → List Token → Option (X × List Token)) where
   items_stop : (n : ℕ) (xs : X) (tokens : List Token) → goes_on tokens ≡ false → at_most goes_on item n xs tokens ≡ Some (xs, tokens)
@@ -48,7 +48,7 @@ module _ {X : Type 0} {goes_on : List Token → Bool} {item : X → List Token �
   pub items_fail : (first : X) (start : List Token) (xs : X) (rest : List Token) → ItemsLeft goes_on item first start xs rest → goes_on rest ≡ true → item xs rest ≡ None → at_most goes_on item (length start) first start ≡ None
   items_fail first start xs rest s h none = sym s.whole ∙ items_break goes_on item s.left xs rest h none
 
-fails_too : {X Y : Type 0} (e : SpecError) (read : Option X) (whole : Option Y) → FailsAt e read → (read ≡ None → whole ≡ None) → FailsAt e whole
+pub fails_too : {X Y : Type 0} (e : SpecError) (read : Option X) (whole : Option Y) → FailsAt e read → (read ≡ None → whole ≡ None) → FailsAt e whole
 fails_too NoMemory read whole h k = tt
 fails_too (Bad (Syntax line)) read whole h k = k h
 fails_too (Bad _) read whole h k = h

@@ -1,5 +1,5 @@
 -- Reading from the front of a list of tokens: a rule gives what it reads and the tokens behind it, or nothing.
-use Rattle.std.specs.Prelude.{ℕ, zero, suc, Bool, true, false, List, [], ◌∷◌, Option, Some, None, option_and_then, slice_get, if◌then◌else◌}
+use Rattle.std.specs.Prelude.{ℕ, zero, suc, ◌-◌, Bool, true, false, List, [], ◌∷◌, length, Option, Some, None, option_and_then, slice_get, if◌then◌else◌}
 use Rattle.std.specs.Option.{option_map_or}
 use Rattle.jm_text.specs.declared.token.Token.{Token}
 use Rattle.jm_text.specs.Texts.{is_name, is_word, is_mark}
@@ -8,12 +8,15 @@ infixl 10 ◌>>=◌
 abbrev pub ◌>>=◌ : {A B : Type 0} → Option A → (A → Option B) → Option B
 o >>= f = option_and_then f o
 
--- the token so far on is this mark, or this word
+-- the token so far on is this mark, this word, or a name
 abbrev pub is_mark_at : List ℕ → List Token → ℕ → List ℕ → Bool
 is_mark_at bytes tokens k mark = option_map_or (λ t. is_mark bytes t mark) (slice_get tokens k) false
 
 abbrev pub is_word_at : List ℕ → List Token → ℕ → List ℕ → Bool
 is_word_at bytes tokens k word = option_map_or (λ t. is_word bytes t word) (slice_get tokens k) false
+
+abbrev pub is_name_at : List ℕ → List Token → ℕ → Bool
+is_name_at bytes tokens k = option_map_or (λ t. is_name bytes t) (slice_get tokens k) false
 
 -- a token is left
 abbrev pub is_left : List ℕ → List Token → Bool
@@ -24,6 +27,10 @@ is_left bytes (t ∷ ts) = true
 abbrev pub line_of : ℕ → List Token → ℕ
 line_of last_line [] = last_line
 line_of last_line (t ∷ ts) = t.line
+
+-- the line of the last token, or this one where there is none
+abbrev pub last_line_of : ℕ → List Token → ℕ
+last_line_of line tokens = option_map_or (λ t. t.line) (slice_get tokens (length tokens - 1)) line
 
 -- a mark
 unfoldable pub mark_at : List ℕ → List ℕ → List Token → Option (List Token)

@@ -1,0 +1,4 @@
+pub mod Tokens
+pub mod Reading
+pub mod Answers
+pub mod Faults

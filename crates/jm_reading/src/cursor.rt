@@ -1,0 +1,160 @@
+//! A place in a list of tokens, from which a reader goes on.
+ghost use Rattle.std.specs.Prelude.{◌≡◌, ◌<◌, length, OnOk, IfErr};
+ghost use Rattle.jm_model.specs.declared.fault.SpecError.TheVariants.{Bad};
+ghost use Rattle.jm_model.specs.declared.fault.SpecFault.TheVariants.{Syntax};
+ghost use Rattle.jm_text.specs.Spans.{LieWithin};
+ghost use Rattle.jm_reading.specs.Answers.{Reads, Leaves, IsSyntax};
+ghost use Rattle.jm_reading.specs.Reading.{is_mark_at, is_word_at, is_name_at, is_left, last_line_of, line_of, mark_at, name_at, word_at};
+
+use jm_model::{SpecError, SpecFault};
+use jm_text::{Token, is_mark, is_name, is_word};
+use std::alloc::Global;
+
+/// The tokens that are left. A call that reads takes what it reads from their front; where it can't, it answers `Syntax`
+/// with the line of the next token, or of the last at the end, and leaves the tokens as they are.
+#[derive(Drop)]
+pub struct Cursor<'a> {
+    pub alloc: Global,
+    pub bytes: &'a [u8],
+    /// The line of the last token, or of the token before an empty list.
+    pub last_line: u32,
+    pub rest: &'a [Token],
+    ghost within: { LieWithin bytes.now rest.now },
+}
+
+impl<'a> Cursor<'a> {
+    /// Before all of the tokens, which stand behind a token on this line.
+    pub fn new(alloc: Global, bytes: &'a [u8], tokens: &'a [Token], line: u32) -> Cursor<'a>
+        requires { LieWithin bytes.now tokens.now }
+        ensures bytes { result.bytes.now ≡ bytes.now }
+        ensures rest { result.rest.now ≡ tokens.now }
+        ensures line { result.last_line ≡ last_line_of line tokens.now }
+    {
+        Cursor {
+            alloc,
+            bytes,
+            last_line: match tokens {
+                [.., token] => token.line,
+                [] => line,
+            },
+            rest: tokens,
+        }
+    }
+
+    /// The line of the next token, or of the last at the end.
+    pub fn line(&self) -> u32
+        ensures { result ≡ line_of self.now.last_line self.now.rest.now }
+    {
+        match self.rest {
+            [token, ..] => token.line,
+            [] => self.last_line,
+        }
+    }
+
+    /// `Syntax`, at the next token.
+    pub fn syntax(&self) -> SpecError
+        ensures is { IsSyntax result }
+        ensures line { result ≡ Bad (Syntax (line_of self.now.last_line self.now.rest.now)) }
+    {
+        SpecError::Bad(SpecFault::Syntax { line: self.line() })
+    }
+
+    /// Whether the token so far on is this mark.
+    pub fn is_mark_at(&self, k: usize, mark: &[u8]) -> bool
+        ensures { result ≡ is_mark_at self.now.bytes.now self.now.rest.now k mark.now }
+    {
+        match self.rest.get(k) {
+            Some(token) => is_mark(self.bytes, *token, mark),
+            None => false,
+        }
+    }
+
+    /// Whether the token so far on is this word.
+    pub fn is_word_at(&self, k: usize, word: &[u8]) -> bool
+        ensures { result ≡ is_word_at self.now.bytes.now self.now.rest.now k word.now }
+    {
+        match self.rest.get(k) {
+            Some(token) => is_word(self.bytes, *token, word),
+            None => false,
+        }
+    }
+
+    /// Whether the token so far on is a name.
+    pub fn is_name_at(&self, k: usize) -> bool
+        ensures { result ≡ is_name_at self.now.bytes.now self.now.rest.now k }
+    {
+        match self.rest.get(k) {
+            Some(token) => is_name(self.bytes, *token),
+            None => false,
+        }
+    }
+
+    /// Whether a token is left.
+    pub fn is_left(&self) -> bool
+        ensures { result ≡ is_left self.now.bytes.now self.now.rest.now }
+    {
+        match self.rest {
+            [] => false,
+            _ => true,
+        }
+    }
+
+    /// Reads this mark.
+    #[tactic(auto, unfolding(crate::specs::Reading::mark_at))]
+    pub fn mark(&mut self, mark: &[u8]) -> Result<(), SpecError>
+        ensures reads { Leaves result self.new.rest.now (mark_at self.old.bytes.now mark.now self.old.rest.now) }
+        ensures err { IfErr result (λ e. e ≡ Bad (Syntax (line_of self.old.last_line self.old.rest.now))) }
+        ensures kept { IfErr result (λ e. self.new.rest.now ≡ self.old.rest.now) }
+        ensures bytes { self.new.bytes.now ≡ self.old.bytes.now }
+        ensures last_line { self.new.last_line ≡ self.old.last_line }
+        ensures left { OnOk result (length self.new.rest.now < length self.old.rest.now) }
+    {
+        match self.rest {
+            [token, rest @ ..] if is_mark(self.bytes, *token, mark) => {
+                self.rest = rest;
+                Ok(())
+            }
+            _ => Err(self.syntax()),
+        }
+    }
+
+    /// Reads a name.
+    #[tactic(auto, unfolding(crate::specs::Reading::name_at))]
+    pub fn name(&mut self) -> Result<Token, SpecError>
+        ensures reads { Reads result self.new.rest.now (name_at self.old.bytes.now self.old.rest.now) }
+        ensures err { IfErr result (λ e. e ≡ Bad (Syntax (line_of self.old.last_line self.old.rest.now))) }
+        ensures kept { IfErr result (λ e. self.new.rest.now ≡ self.old.rest.now) }
+        ensures bytes { self.new.bytes.now ≡ self.old.bytes.now }
+        ensures last_line { self.new.last_line ≡ self.old.last_line }
+        ensures left { OnOk result (length self.new.rest.now < length self.old.rest.now) }
+    {
+        match self.rest {
+            [token, rest @ ..] if is_name(self.bytes, *token) => {
+                let name = *token;
+                self.rest = rest;
+                Ok(name)
+            }
+            _ => Err(self.syntax()),
+        }
+    }
+
+    /// Reads this word.
+    #[tactic(auto, unfolding(crate::specs::Reading::word_at))]
+    pub fn word(&mut self, word: &[u8]) -> Result<Token, SpecError>
+        ensures reads { Reads result self.new.rest.now (word_at self.old.bytes.now word.now self.old.rest.now) }
+        ensures err { IfErr result (λ e. e ≡ Bad (Syntax (line_of self.old.last_line self.old.rest.now))) }
+        ensures kept { IfErr result (λ e. self.new.rest.now ≡ self.old.rest.now) }
+        ensures bytes { self.new.bytes.now ≡ self.old.bytes.now }
+        ensures last_line { self.new.last_line ≡ self.old.last_line }
+        ensures left { OnOk result (length self.new.rest.now < length self.old.rest.now) }
+    {
+        match self.rest {
+            [token, rest @ ..] if is_word(self.bytes, *token, word) => {
+                let word = *token;
+                self.rest = rest;
+                Ok(word)
+            }
+            _ => Err(self.syntax()),
+        }
+    }
+}
