@@ -23,7 +23,7 @@ no_bit k = rw (bit_at-zero k) refl
 
 -- vectors of the same bits are one
 pub same_vector : (a b : ℕ) → ((k : ℕ) → has_bit a k ≡ has_bit b k) → a ≡ b
-same_vector a b same = same_from_bits a b (λ k. 
+same_vector a b same = same_from_bits a b (λ k.
     let e = same k in
     let la = bit_at-lt a k in
     let lb = bit_at-lt b k in

@@ -5,3 +5,5 @@ pub mod VectorLemmas
 pub mod CompileLemmas
 pub mod CrowdLemmas
 pub mod NodeLemmas
+pub mod ReaderLemmas
+pub mod GrammarLemmas

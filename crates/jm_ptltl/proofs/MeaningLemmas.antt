@@ -67,10 +67,16 @@ module _ (F G : ℕ → Type 0) where
   since_more n left right before here there past = Decides-like (right || (left && before))
       (elim [
         | inl g ↦ (suc n, omega arith, omega arith, g, λ k low high. absurd (omega arith))
-        | inr h ↦ let s = h.1 in (s.0, s.1, omega (arith, s.2), s.3, λ k low high. elim (cases_lt k (suc n)) [
+        | inr h ↦ let s = h.1 in (
+          s.0,
+          s.1,
+          omega (arith, s.2),
+          s.3,
+          λ k low high. elim (cases_lt k (suc n)) [
             | inl lt ↦ s.4 k low (omega (arith, lt))
             | inr ge ↦ let e : suc n ≡ k = omega (arith, ge, high) in subst F e h.0
-          ])
+          ],
+        )
       ])
       (λ s. elim (cases_lt s.0 (suc n)) [
         | inl lt ↦ inr (s.4 (suc n) lt (omega arith), (s.0, s.1, omega (arith, lt), s.3, λ k low high. s.4 k low (omega (arith, high))))

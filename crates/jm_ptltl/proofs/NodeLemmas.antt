@@ -61,7 +61,7 @@ postfix-grouped (g ∷ fs) f base count e =
     let ends = ends_of end fs in
     let more = postfix-grouped fs f end count (omega (arith, e, length-append (postfix g) (postfix_all fs))) in
     let size : length (postfix (grouped fs f)) ≡ count + length ends - end =
-        ap (λ l. length l) more ∙ omega (arith, e, length-append all (closing ends count), length-append (postfix_all fs) (postfix f), length-closing ends count, length-append (postfix g) (postfix_all fs)) in
+    ap (λ l. length l) more ∙ omega (arith, e, length-append all (closing ends count), length-append (postfix_all fs) (postfix f), length-closing ends count, length-append (postfix g) (postfix_all fs)) in
     let last = only (Infix Implies (count + length ends - end)) in
     ap (λ k. postfix g ++ (postfix (grouped fs f) ++ only (Infix Implies k))) size
     ∙ ap (λ l. postfix g ++ (l ++ last)) more

@@ -1,18 +1,11 @@
 -- What a call of the reader answers.
-use Rattle.std.specs.Prelude.{ℕ, ◌≡◌, ◌≤◌, ◌++◌, List, Option, Some, None, Result, Ok, Err, length}
+use Rattle.std.specs.Prelude.{ℕ, ◌≡◌, ◌≤◌, ◌++◌, List, Option, Some, Result, Ok, Err, length}
 use Rattle.jm_model.specs.declared.fault.SpecError.{SpecError}
-use Rattle.jm_model.specs.declared.fault.SpecError.TheVariants.{Bad, NoMemory}
-use Rattle.jm_model.specs.declared.fault.SpecFault.TheVariants.{Syntax}
+use Rattle.jm_reading.specs.Answers.{FailsAt}
 use Rattle.jm_text.specs.declared.token.Token.{Token}
 use Rattle.jm_ptltl.specs.declared.node.Node.{Node}
 use Rattle.jm_ptltl.specs.Formulas.{Formula, postfix}
 use Rattle.jm_ptltl.specs.Rules.{Read, formula_from}
-
--- a call fails where the grammar reads nothing, unless memory is short
-abbrev pub FailsAt : {X : Type 0} → SpecError → Option X → Type 0
-FailsAt NoMemory read = Unit {0}
-FailsAt (Bad (Syntax line)) read = read ≡ None
-FailsAt (Bad _) read = ⊥
 
 -- the formula that is read stands behind these nodes, and these tokens are left
 abbrev pub AddsNodes : List (Node Token) → List (Node Token) → List Token → Option Read → Type 0
@@ -32,8 +25,3 @@ Gives (Err e) read = FailsAt e read
 -- tokens can't reach.
 abbrev pub AddsBy : {X : Type 0} → List ℕ → ((List Token → Option Read) → List Token → Option Read) → Result X SpecError → List (Node Token) → List (Node Token) → List Token → List Token → Type 0
 AddsBy bytes rule r before after tokens left = (n : ℕ) → length tokens ≤ n → Adds r before after left (rule (formula_from bytes n) tokens)
-
--- the fault of the grammar
-abbrev pub IsSyntax : SpecError → Type 0
-IsSyntax (Bad (Syntax line)) = Unit {0}
-IsSyntax _ = ⊥

@@ -1,13 +1,13 @@
 -- What is wrong with a formula, step by step, and the formula over letters that it says.
-use Rattle.std.specs.Prelude.{ℕ, ◌<◌, ◌+◌, ◌-◌, ◌&&◌, Bool, true, false, List, [], ◌∷◌, ◌++◌, length, take, fold, map, Option, Some, None, Result, Ok, Err, nat_le, nat_lt, option_map, if◌then◌else◌}
+use Rattle.std.specs.Prelude.{ℕ, ◌<◌, ◌+◌, ◌-◌, List, [], ◌∷◌, ◌++◌, length, take, fold, map, Option, Some, None, Result, Ok, Err, nat_lt, option_map, if◌then◌else◌}
 use Rattle.std.specs.Option.{ok_or}
 use Rattle.jm_model.specs.declared.step.Letter.{Letter}
 use Rattle.jm_model.specs.declared.fault.Counted.TheVariants.{Nesting, Subformulas}
 use Rattle.jm_model.specs.declared.fault.SpecFault.{SpecFault}
 use Rattle.jm_model.specs.declared.fault.SpecFault.TheVariants.{TooMany, ReservedName, UnknownName}
 use Rattle.jm_text.specs.declared.token.Token.{Token}
-use Rattle.jm_text.specs.Spans.{text_of}
-use Rattle.jm_text.specs.Texts.{is_name}
+use Rattle.jm_reading.specs.Tokens.{name_of}
+use Rattle.jm_reading.specs.Faults.{or_else, ◌>>>◌}
 use Rattle.jm_events.specs.Names.{number_of}
 use Rattle.jm_events.specs.Events.{EventDefinitions, EventDefinition, event_names}
 use Rattle.jm_ptltl.specs.declared.node.Node.{Node}
@@ -31,14 +31,6 @@ open_after bytes tokens = fold (λ open t. open_by (class_of bytes t) open) 0 to
 abbrev pub IsTooDeep : List ℕ → List Token → Type 0
 IsTooDeep bytes tokens = (k : ℕ) × (64 < open_after bytes (take k tokens))
 
--- the name that a token says, if it says one
-unfoldable pub name_of : List ℕ → Token → List ℕ
-name_of bytes token = if nat_le token.start token.end && nat_le token.end (length bytes) && is_name bytes token then text_of bytes token else []
-
-abbrev pub or_else : Option SpecFault → Option SpecFault → Option SpecFault
-or_else (Some fault) next = Some fault
-or_else None next = next
-
 -- there are at most 64 subformulas, each occurrence counted
 abbrev pub subformulas_fault : Formula Token → Option SpecFault
 subformulas_fault f = if nat_lt 64 (length (subformulas f)) then Some (TooMany Subformulas) else None
@@ -47,12 +39,6 @@ subformulas_fault f = if nat_lt 64 (length (subformulas f)) then Some (TooMany S
 abbrev pub event_name_fault : List EventDefinition → Option SpecFault
 event_name_fault [] = None
 event_name_fault (e ∷ es) = if is_grammar_word e.name then Some (ReservedName e.line) else event_name_fault es
-
--- a value, or the fault that comes first, and then more
-infixl 10 ◌>>>◌
-abbrev pub ◌>>>◌ : {A B : Type 0} → Result A SpecFault → (A → Result B SpecFault) → Result B SpecFault
-(Ok x) >>> f = f x
-(Err fault) >>> f = Err fault
 
 -- the letter of an event's name
 abbrev pub letter_said : List ℕ → List (List ℕ) → Token → Result Letter SpecFault

@@ -5,7 +5,6 @@ pub mod Vectors
 pub mod Tables
 pub mod Lexicon
 pub mod Grammar
-pub mod Reading
 pub mod Rules
 pub mod Answers
 pub mod Faults

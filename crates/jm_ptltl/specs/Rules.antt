@@ -9,7 +9,7 @@ use Rattle.jm_ptltl.specs.declared.lexicon.Class.{Class}
 use Rattle.jm_ptltl.specs.declared.lexicon.Class.TheVariants.{Prefix, Infix, Constant, Name, Open, Close, Other}
 use Rattle.jm_ptltl.specs.Formulas.{Formula, event, constant, unary, binary, postfix}
 use Rattle.jm_ptltl.specs.Lexicon.{class_of, rank_of}
-use Rattle.jm_ptltl.specs.Reading.{◌>>=◌, at_most}
+use Rattle.jm_reading.specs.Reading.{◌>>=◌, at_most}
 
 -- a formula, and the tokens behind it
 abbrev pub Read : Type 0

@@ -4,15 +4,14 @@ ghost use Rattle.jm_text.specs.declared.token.Token.{Token};
 ghost use Rattle.jm_events.specs.Events.{event_names};
 ghost use Rattle.jm_ptltl.specs.Formulas.{Formula, postfix};
 ghost use Rattle.jm_ptltl.specs.Faults.{letter_said, formula_said, node_said, with_nodes, first_fault};
-ghost use Rattle.jm_ptltl.specs.Readings.{Answers, Checks};
+ghost use Rattle.jm_reading.specs.Faults.{Answers, Checks};
 
 use crate::faults;
-use crate::faults::name_of;
-use crate::items::Items;
 use crate::node::Node;
 use crate::past::Past;
 use jm_events::EventTable;
 use jm_model::{Counted, Letter, SpecError, SpecFault};
+use jm_reading::{Items, name_of};
 use jm_text::Token;
 use std::alloc::Global;
 
@@ -32,11 +31,7 @@ fn letter_of(bytes: &[u8], table: &EventTable, token: Token) -> Result<Letter, S
 }
 
 /// The node over letters that a node says.
-fn node_of(
-    bytes: &[u8],
-    table: &EventTable,
-    node: Node<Token>,
-) -> Result<Node<Letter>, SpecError>
+fn node_of(bytes: &[u8], table: &EventTable, node: Node<Token>) -> Result<Node<Letter>, SpecError>
     ensures { Answers result (node_said bytes.now (event_names table.now) node) }
 {
     match node {

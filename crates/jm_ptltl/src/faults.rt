@@ -2,27 +2,15 @@
 ghost use Rattle.std.specs.Prelude.{◌≡◌, ◌↔◌, ◌<◌, ◌≤◌, length, IsTrue};
 ghost use Rattle.jm_text.specs.Spans.{LieWithin};
 ghost use Rattle.jm_ptltl.specs.Lexicon.{is_grammar_word};
-ghost use Rattle.jm_ptltl.specs.Faults.{open_by, IsTooDeep, name_of, event_name_fault};
-ghost use Rattle.jm_ptltl.specs.Readings.{Checks};
+ghost use Rattle.jm_ptltl.specs.Faults.{open_by, IsTooDeep, event_name_fault};
+ghost use Rattle.jm_reading.specs.Faults.{Checks};
 
 use crate::lexicon::{Class, class_of};
 use jm_events::EventTable;
 use jm_model::{Letter, SpecError, SpecFault};
-use jm_text::{Token, name};
+use jm_text::Token;
 
 const MAX_NESTING: usize = 64;
-
-/// The name that a token says, if it says one.
-#[tactic(auto, unfolding(crate::specs::Faults::name_of))]
-pub fn name_of<'a>(bytes: &'a [u8], token: Token) -> &'a str
-    ensures { result.now ≡ name_of bytes.now token }
-{
-    if token.start <= token.end && token.end as usize <= bytes.len() {
-        name(bytes, token).unwrap_or("")
-    } else {
-        ""
-    }
-}
 
 /// How many parentheses are open behind a token of this class, where so many were before it.
 fn open_by(class: Class, before: usize) -> usize

@@ -11,7 +11,6 @@ mod build;
 mod compile;
 mod faults;
 mod graph;
-mod items;
 mod lexicon;
 mod node;
 mod past;

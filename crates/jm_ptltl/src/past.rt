@@ -18,7 +18,6 @@ impl Model for Past {
     ghost use Rattle.std.specs.Prelude.{◌≡◌, ◌≤◌, length};
     ghost use Rattle.jm_model.specs.declared.step.Letter.{Letter};
     ghost use Rattle.jm_ptltl.specs.Formulas.{Formula, formula_of, postfix};
-
     ghost use Rattle.jm_ptltl.specs.Codes.{coded_formula};
 
     ghost Value = { Formula Letter };

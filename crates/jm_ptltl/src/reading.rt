@@ -6,9 +6,10 @@ ghost use Rattle.jm_ptltl.specs.Readings.{IsReadFrom, IsRefused};
 use crate::build::past_of;
 use crate::faults::is_too_deep;
 use crate::past::Past;
-use crate::reader::Reader;
+use crate::reader::formula;
 use jm_events::EventTable;
 use jm_model::{Counted, SpecError, SpecFault};
+use jm_reading::Cursor;
 use jm_text::Token;
 use std::alloc::Global;
 
@@ -34,7 +35,7 @@ pub fn read(
         let what = Counted::Nesting;
         return Err(SpecError::Bad(SpecFault::TooMany { what }));
     }
-    let mut reader = Reader::new(alloc, bytes, tokens, line);
-    let nodes = reader.formula()?;
+    let mut cursor = Cursor::new(alloc, bytes, tokens, line);
+    let nodes = formula(&mut cursor)?;
     past_of(alloc, bytes, nodes.as_slice(), table)
 }

@@ -80,7 +80,12 @@ fn state_after(table: &Table, word: &str) -> u16
 fn holds(rt: HostRuntime) -> Result<(), Fail> {
     let rows = [
         // a violation is a `next` without a `hasnext` directly before it
-        ("hasnext next", "next => (*) hasnext", "1 01 011 0111 010", "-+--+"),
+        (
+            "hasnext next",
+            "next => (*) hasnext",
+            "1 01 011 0111 010",
+            "-+--+",
+        ),
         ("a b", "a", "0 1 01 10", "+--+"),
         ("a b", "true", "0 1 01", "+++"),
         ("a b", "false", "0 1 01", "---"),

@@ -62,7 +62,13 @@ fn binary_truth(op: Binary, last: Option<u64>, place: usize, left: bool, right: 
 }
 
 /// The truth of a node at this place, where the bits of the places before are set.
-fn node_truth(last: Option<u64>, letter: Letter, place: usize, next: u64, node: Node<Letter>) -> bool
+fn node_truth(
+    last: Option<u64>,
+    letter: Letter,
+    place: usize,
+    next: u64,
+    node: Node<Letter>,
+) -> bool
     requires { place < 64 }
     ensures { result ≡ node_truth last letter.0 place next node }
 {
