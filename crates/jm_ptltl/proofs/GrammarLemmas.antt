@@ -218,3 +218,210 @@ module _ (bytes : List ℕ) where
       let cut = part_sound (formula_from bytes (length tokens)) (from_sound (length tokens)) 6 tokens a.0.1 a.0.0 a.1 in
       let whole : cut.0 ≡ tokens = sym (append-nil cut.0) ∙ ap (λ l. cut.0 ++ l) (sym p.1) ∙ sym cut.1 in
       subst (λ x. SpellsAt bytes 6 tokens x) p.0 (subst (λ l. SpellsAt bytes 6 l a.0.0) whole cut.2)
+
+  -- ---- what the tokens spell is read
+
+  -- what stands behind is no operator of a rank up to this one
+  abbrev Ends : ℕ → List Token → Type 0
+  Ends k behind = (rank : ℕ) → rank ≤ k → begins bytes rank behind ≡ false
+
+  ends_less : (j k : ℕ) (behind : List Token) → j ≤ k → Ends k behind → Ends j behind
+  ends_less j k behind le ends rank low = ends rank (omega (arith, low, le))
+
+  -- behind an operator of a rank
+  ends_at : (t : Token) (ts : List Token) (op : Binary) (j : ℕ) → class_of bytes t ≡ Infix op → rank_of op ≡ suc j → Ends j (t ∷ ts)
+  ends_at t ts op j is rank r low = ap (λ c. is_infix r c) is ∙ (elim (eqb_tells (rank_of op) r) [ inl same ↦ absurd (omega (arith, same.1, rank, low)) | inr differs ↦ differs.0 ])
+
+  begins_at : (t : Token) (ts : List Token) (op : Binary) (j : ℕ) → class_of bytes t ≡ Infix op → rank_of op ≡ suc j → begins bytes (suc j) (t ∷ ts) ≡ true
+  begins_at t ts op j is rank = ap (λ c. is_infix (suc j) c) is ∙ (elim (eqb_tells (rank_of op) (suc j)) [ inl same ↦ same.0 | inr differs ↦ absurd (differs.1 rank) ])
+
+  -- behind a ")"
+  ends_closed : (t : Token) (ts : List Token) (k : ℕ) → class_of bytes t ≡ Close → Ends k (t ∷ ts)
+  ends_closed t ts k is r low = ap (λ c. is_infix r c) is
+
+  module _ {X : Type 0} (goes_on : List Token → Bool) (item : X → List Token → Option (X × List Token)) where
+    stops : (n : ℕ) (x : X) (tokens : List Token) → goes_on tokens ≡ false → at_most goes_on item n x tokens ≡ Some (x, tokens)
+    stops zero x tokens h = rw h refl
+    stops (suc n) x tokens h = rw h refl
+
+    goes : (n : ℕ) (x y : X) (tokens behind : List Token) → goes_on tokens ≡ true → item x tokens ≡ Some (y, behind) → at_most goes_on item (suc n) x tokens ≡ at_most goes_on item n y behind
+    goes n x y tokens behind h some = rw (h, some) refl
+
+  -- the formula is read, and what stands behind it is left
+  abbrev Reads : ℕ → List Token → Formula Token → Type 0
+  Reads k first f = (n : ℕ) (behind : List Token) → Ends k behind → length (first ++ behind) ≤ n → part_at bytes (formula_from bytes n) k (first ++ behind) ≡ Some (f, behind)
+
+  -- the operators of a rank go on from the formula
+  record GoesOn (part : List Token → Option Read) (k : ℕ) (tokens behind : List Token) (f : Formula Token) : Type 0 where
+    first : Formula Token
+    rest : List Token
+    read : part tokens ≡ Some (first, rest)
+    left : ℕ
+    enough : length behind ≤ left
+    whole : at_most (begins bytes (suc k)) (join_at bytes part) (length rest) first rest ≡ at_most (begins bytes (suc k)) (join_at bytes part) left f behind
+
+  abbrev Loops : ℕ → List Token → Formula Token → Type 0
+  Loops k first f = (n : ℕ) (behind : List Token) → Ends k behind → length (first ++ behind) ≤ n → GoesOn (part_at bytes (formula_from bytes n) k) k (first ++ behind) behind f
+
+  -- the formula is the last of those with `=>` between them
+  record Closes (part : List Token → Option Read) (tokens behind : List Token) (f : Formula Token) : Type 0 where
+    first : Formula Token
+    rest : List Token
+    read : part tokens ≡ Some (first, rest)
+    whole : (fs : List (Formula Token)) (left : ℕ) → length rest ≤ left → group (at_most (begins bytes 5) (imply_at part) left (fs, first) rest) ≡ Some (grouped fs f, behind)
+
+  abbrev Chains : ℕ → List Token → Formula Token → Type 0
+  Chains k first f = (n : ℕ) (behind : List Token) → Ends (suc k) behind → length (first ++ behind) ≤ n → Closes (part_at bytes (formula_from bytes n) k) (first ++ behind) behind f
+
+  record Complete (rank : ℕ) (first : List Token) (f : Formula Token) : Type 0 where
+    reads : Reads rank first f
+    loops : (k : ℕ) → rank ≡ suc k → eqb k 4 ≡ false → Loops k first f
+    chains : (k : ℕ) → rank ≡ suc k → eqb k 4 ≡ true → Chains k first f
+
+  -- the rules of a rank, from its loop or its chain
+  reads_loop : (k : ℕ) (first : List Token) (f : Formula Token) → eqb k 4 ≡ false → Loops k first f → Reads (suc k) first f
+  reads_loop k first f other loops n behind ends few =
+      let s = loops n behind (ends_less k (suc k) behind (omega arith) ends) few in
+      rw (s.read, other) (s.whole ∙ stops (begins bytes (suc k)) (join_at bytes (part_at bytes (formula_from bytes n) k)) s.left f behind (ends (suc k) (omega arith)))
+
+  reads_chain : (k : ℕ) (first : List Token) (f : Formula Token) → eqb k 4 ≡ true → Chains k first f → Reads (suc k) first f
+  reads_chain k first f four chains n behind ends few =
+      let s = chains n behind ends few in
+      rw (s.read, four) (s.whole [] (length s.rest) (omega arith))
+
+  by_rank : (k : ℕ) (first : List Token) (f : Formula Token) → (eqb k 4 ≡ false → Loops k first f) → (eqb k 4 ≡ true → Chains k first f) → Complete (suc k) first f
+  by_rank k first f loops chains = record {
+    reads = elim (cases_Bool (eqb k 4)) [ inl four ↦ reads_chain k first f four (chains four) | inr other ↦ reads_loop k first f other (loops other) ];
+    loops = λ j e other. let same : k ≡ j = omega (arith, e) in subst (λ i. Loops i first f) same (loops (ap (λ i. eqb i 4) same ∙ other));
+    chains = λ j e four. let same : k ≡ j = omega (arith, e) in subst (λ i. Chains i first f) same (chains (ap (λ i. eqb i 4) same ∙ four));
+  }
+
+  -- one part alone
+  alone_loops : (k : ℕ) (first : List Token) (f : Formula Token) → Reads k first f → Loops k first f
+  alone_loops k first f reads n behind ends few = record { first = f; rest = behind; read = reads n behind ends few; left = length behind; enough = omega arith; whole = refl }
+
+  alone_chains : (k : ℕ) (first : List Token) (f : Formula Token) → eqb k 4 ≡ true → Reads k first f → Chains k first f
+  alone_chains k first f four reads n behind ends few =
+      let part = part_at bytes (formula_from bytes n) k in
+      let five : 5 ≤ suc k = omega (arith, eqb-true k 4 four) in
+      record {
+        first = f;
+        rest = behind;
+        read = reads n behind (ends_less k (suc k) behind (omega arith) ends) few;
+        whole = λ fs left le. ap group (stops (begins bytes 5) (imply_at part) left (fs, f) behind (ends 5 five));
+      }
+
+  -- an operator and its right part
+  join_front : (part : List Token → Option Read) (t : Token) (ts behind : List Token) (op : Binary) (f g : Formula Token) → class_of bytes t ≡ Infix op → part ts ≡ Some (g, behind) → join_at bytes part f (t ∷ ts) ≡ Some (binary op f g, behind)
+  join_front part t ts behind op f g is right = rw (is, right) refl
+
+  loop_more : (part : List Token → Option Read) (k : ℕ) (t : Token) (ts behind : List Token) (op : Binary) (f g : Formula Token) (left : ℕ) → class_of bytes t ≡ Infix op → rank_of op ≡ suc k → part ts ≡ Some (g, behind) → length (t ∷ ts) ≤ left → length behind ≤ length ts
+      → (more : ℕ) × (length behind ≤ more) × (at_most (begins bytes (suc k)) (join_at bytes part) left f (t ∷ ts) ≡ at_most (begins bytes (suc k)) (join_at bytes part) more (binary op f g) behind)
+  loop_more part k t ts behind op f g zero is rank right enough fewer = absurd (omega (arith, enough))
+  loop_more part k t ts behind op f g (suc left) is rank right enough fewer = (left, omega (arith, enough, fewer), goes (begins bytes (suc k)) (join_at bytes part) left f (binary op f g) (t ∷ ts) behind (begins_at t ts op k is rank) (join_front part t ts behind op f g is right))
+
+  joined_loops : (k : ℕ) (t : Token) (left right tokens : List Token) (op : Binary) (f g : Formula Token) → class_of bytes t ≡ Infix op → rank_of op ≡ suc k → tokens ≡ left ++ t ∷ right → Loops k left f → Reads k right g → Loops k tokens (binary op f g)
+  joined_loops k t left right tokens op f g is rank cut first second n behind ends few =
+      let part = part_at bytes (formula_from bytes n) k in
+      let whole : tokens ++ behind ≡ left ++ t ∷ (right ++ behind) = ap (λ l. l ++ behind) cut ∙ append_assoc left (t ∷ right) behind in
+      let count : length (left ++ t ∷ (right ++ behind)) ≤ n = omega (arith, few, ap (λ (l : List Token). length l) whole) in
+      let s = first n (t ∷ (right ++ behind)) (ends_at t (right ++ behind) op k is rank) count in
+      let read : part (right ++ behind) ≡ Some (g, behind) = second n behind ends (omega (arith, count, length-append left (t ∷ (right ++ behind)))) in
+      let more = loop_more part k t (right ++ behind) behind op f g s.left is rank read s.enough (omega (arith, length-append right behind)) in
+      record { first = s.first; rest = s.rest; read = ap part whole ∙ s.read; left = more.0; enough = more.1; whole = s.whole ∙ more.2 }
+
+  -- `=>` and its right part
+  chain_more : (part : List Token → Option Read) (t : Token) (ts behind rest : List Token) (fs : List (Formula Token)) (f g first : Formula Token) (left : ℕ) → class_of bytes t ≡ Infix Implies → part ts ≡ Some (first, rest) → length (t ∷ ts) ≤ left → length rest ≤ length ts
+      → ((more : ℕ) → length rest ≤ more → group (at_most (begins bytes 5) (imply_at part) more (fs ++ f ∷ [], first) rest) ≡ Some (grouped (fs ++ f ∷ []) g, behind))
+      → group (at_most (begins bytes 5) (imply_at part) left (fs, f) (t ∷ ts)) ≡ Some (grouped fs (binary Implies f g), behind)
+  chain_more part t ts behind rest fs f g first zero is right enough fewer whole = absurd (omega (arith, enough))
+  chain_more part t ts behind rest fs f g first (suc left) is right enough fewer whole =
+      let imply : imply_at part (fs, f) (t ∷ ts) ≡ Some ((fs ++ f ∷ [], first), rest) = rw right refl in
+      ap group (goes (begins bytes 5) (imply_at part) left (fs, f) (fs ++ f ∷ [], first) (t ∷ ts) rest (begins_at t ts Implies 4 is refl) imply)
+      ∙ whole left (omega (arith, enough, fewer)) ∙ ap (λ x. Some (x, behind)) (grouped-push fs f g)
+
+  -- what a part leaves is no more than what it was given
+  cut_fewer : (k : ℕ) (tokens behind : List Token) (f : Formula Token) → Cut bytes k tokens behind f → length behind ≤ length tokens
+  cut_fewer k tokens behind f cut = omega (arith, ap (λ (l : List Token). length l) cut.1, length-append cut.0 behind)
+
+  implied_chains : (k : ℕ) (t : Token) (left right tokens : List Token) (f g : Formula Token) → eqb k 4 ≡ true → class_of bytes t ≡ Infix Implies → rank_of Implies ≡ suc k → tokens ≡ left ++ t ∷ right → Reads k left f → Chains k right g → Chains k tokens (binary Implies f g)
+  implied_chains k t left right tokens f g four is rank cut first second n behind ends few =
+      let inner = formula_from bytes n in
+      let part = part_at bytes inner k in
+      let whole : tokens ++ behind ≡ left ++ t ∷ (right ++ behind) = ap (λ l. l ++ behind) cut ∙ append_assoc left (t ∷ right) behind in
+      let count : length (left ++ t ∷ (right ++ behind)) ≤ n = omega (arith, few, ap (λ (l : List Token). length l) whole) in
+      let s = second n behind ends (omega (arith, count, length-append left (t ∷ (right ++ behind)))) in
+      let fewer = cut_fewer k (right ++ behind) s.rest s.first (part_sound inner (from_sound n) k (right ++ behind) s.rest s.first s.read) in
+      record {
+        first = f;
+        rest = t ∷ (right ++ behind);
+        read = ap part whole ∙ first n (t ∷ (right ++ behind)) (ends_at t (right ++ behind) Implies k is rank) count;
+        whole = λ fs more enough. chain_more part t (right ++ behind) behind s.rest fs f g s.first more is s.read enough fewer (λ m le. s.whole (fs ++ f ∷ []) m le);
+      }
+
+  -- operators of one part, and atoms
+  prefixed_reads : (t : Token) (rest tokens : List Token) (op : Unary) (f : Formula Token) → class_of bytes t ≡ Prefix op → tokens ≡ t ∷ rest → Reads zero rest f → Reads zero tokens (unary op f)
+  prefixed_reads t rest tokens op f is cut reads n behind ends few =
+      let inner = formula_from bytes n in
+      let whole : tokens ++ behind ≡ t ∷ (rest ++ behind) = ap (λ l. l ++ behind) cut in
+      let part = reads n behind ends (omega (arith, few, ap (λ (l : List Token). length l) whole)) in
+      ap (λ l. operand_at bytes inner l) whole ∙ ap (λ c. operand_by c (operand_at bytes inner (rest ++ behind)) (atom_at bytes inner (t ∷ (rest ++ behind)))) is ∙ ap (λ r. over op r) part
+
+  named_reads : (t : Token) (tokens : List Token) → class_of bytes t ≡ Name → tokens ≡ t ∷ [] → Reads zero tokens (event t)
+  unfolding atom_at
+  named_reads t tokens is cut n behind ends few = ap (λ l. operand_at bytes (formula_from bytes n) (l ++ behind)) cut ∙ rw is refl
+
+  truth_reads : (t : Token) (tokens : List Token) (b : Bool) → class_of bytes t ≡ Constant b → tokens ≡ t ∷ [] → Reads zero tokens (constant b)
+  unfolding atom_at
+  truth_reads t tokens b is cut n behind ends few = ap (λ l. operand_at bytes (formula_from bytes n) (l ++ behind)) cut ∙ rw is refl
+
+  nested_front : (opening closing : Token) (inner behind : List Token) (f : Formula Token) (n : ℕ) → class_of bytes opening ≡ Open → class_of bytes closing ≡ Close → part_at bytes (formula_from bytes n) 6 (inner ++ closing ∷ behind) ≡ Some (f, closing ∷ behind)
+      → operand_at bytes (formula_from bytes (suc n)) (opening ∷ (inner ++ closing ∷ behind)) ≡ Some (f, behind)
+  unfolding atom_at formula_from
+  nested_front opening closing inner behind f n is close read = rw (is, read, close) refl
+
+  nested_reads : (opening closing : Token) (inner tokens : List Token) (f : Formula Token) → class_of bytes opening ≡ Open → class_of bytes closing ≡ Close → tokens ≡ opening ∷ (inner ++ closing ∷ []) → Reads 6 inner f → Reads zero tokens f
+  nested_reads opening closing inner tokens f is close cut reads zero behind ends few = absurd (omega (arith, few, ap (λ (l : List Token). length (l ++ behind)) cut))
+  nested_reads opening closing inner tokens f is close cut reads (suc n) behind ends few =
+      let whole : tokens ++ behind ≡ opening ∷ (inner ++ closing ∷ behind) = ap (λ l. l ++ behind) cut ∙ ap (λ l. opening ∷ l) (append_assoc inner (closing ∷ []) behind) in
+      let count : length (inner ++ closing ∷ behind) ≤ n = omega (arith, few, ap (λ (l : List Token). length l) whole) in
+      ap (λ l. operand_at bytes (formula_from bytes (suc n)) l) whole ∙ nested_front opening closing inner behind f n is close (reads n (closing ∷ behind) (ends_closed closing behind 6 close) count)
+
+  -- rank 0 has neither a loop nor a chain
+  lowest : (first : List Token) (f : Formula Token) → Reads zero first f → Complete zero first f
+  lowest first f reads = record { reads = reads; loops = λ k e. absurd (omega (arith, e)); chains = λ k e. absurd (omega (arith, e)) }
+
+  four_implies : (op : Binary) (k : ℕ) → rank_of op ≡ suc k → (op ≡ Implies → ⊥) → eqb k 4 ≡ true → ⊥
+  four_implies op k rank other four = other (five_implies op (rank ∙ omega (arith, eqb-true k 4 four)))
+
+  implies_four : (k : ℕ) → rank_of Implies ≡ suc k → eqb k 4 ≡ false → ⊥
+  implies_four k rank other = elim (eqb_tells k 4) [ inl same ↦ absurd (let x = same.0 in cc (x, other)) | inr differs ↦ differs.1 (omega (arith, rank)) ]
+
+  complete : {k : ℕ} {tokens : List Token} {f : Formula Token} → SpellsAt bytes k tokens f → Complete k tokens f
+  complete (alone {k} {tokens} {f} h) = let part = complete h in by_rank k tokens f (λ other. alone_loops k tokens f part.reads) (λ four. alone_chains k tokens f four part.reads)
+  complete (joined {k} {tokens} {f} {g} {op} t left right rank other is cut first second) =
+      by_rank k tokens (binary op f g) (λ apart. joined_loops k t left right tokens op f g is rank cut ((complete first).loops k refl apart) (complete second).reads) (λ four. absurd (four_implies op k rank other four))
+  complete (implied {k} {tokens} {f} {g} t left right rank is cut first second) =
+      by_rank k tokens (binary Implies f g) (λ apart. absurd (implies_four k rank apart)) (λ four. implied_chains k t left right tokens f g four is rank cut (complete first).reads ((complete second).chains k refl four))
+  complete (prefixed {tokens} {f} {op} t rest is cut h) = lowest tokens (unary op f) (prefixed_reads t rest tokens op f is cut (complete h).reads)
+  complete (named {tokens} {t} is cut) = lowest tokens (event t) (named_reads t tokens is cut)
+  complete (truth {tokens} {b} t is cut) = lowest tokens (constant b) (truth_reads t tokens b is cut)
+  complete (nested {tokens} {f} opening closing inner is close cut h) = lowest tokens f (nested_reads opening closing inner tokens f is close cut (complete h).reads)
+
+  -- the formula that the tokens spell is read
+  pub formula_complete : (tokens : List Token) (f : Formula Token) → Spells bytes tokens f → formula_at bytes tokens ≡ Some f
+  unfolding Spells
+  formula_complete tokens f h =
+      let read = (complete h).reads (length tokens) [] (λ rank low. refl) (omega (arith, length-append tokens [])) in
+      ap (λ l. part_at bytes (formula_from bytes (length tokens)) 6 l >>= at_end) (sym (append-nil tokens)) ∙ ap (λ r. r >>= at_end) read
+
+  -- where nothing is read, nothing is spelled
+  pub formula_none : (tokens : List Token) (f : Formula Token) → formula_at bytes tokens ≡ None → Spells bytes tokens f → ⊥
+  formula_none tokens f none h = let some = formula_complete tokens f h in absurd (cc)
+
+one_read : (read : Option (Formula Token)) (f g : Formula Token) → read ≡ Some f → read ≡ Some g → f ≡ g
+one_read read f g h k = cc
+
+-- no tokens spell two formulas
+pub one_formula : (bytes : List ℕ) (tokens : List Token) (f g : Formula Token) → Spells bytes tokens f → Spells bytes tokens g → f ≡ g
+one_formula bytes tokens f g h k = one_read (formula_at bytes tokens) f g (formula_complete bytes tokens f h) (formula_complete bytes tokens g k)

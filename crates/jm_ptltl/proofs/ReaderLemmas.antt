@@ -280,8 +280,9 @@ module _ (bytes : List ℕ) (n : ℕ) (start : List Token) (before : List (Node 
 
 -- ---- all tokens
 
-pub gives_all : (bytes : List ℕ) (tokens rest : List Token) (nodes after : List (Node Token)) → nodes ≡ [] → rest ≡ [] → AddsNodes nodes after rest (part_at bytes (formula_from bytes (length tokens)) 6 tokens) → (f : Formula Token) × (formula_at bytes tokens ≡ Some f) × (after ≡ postfix f)
-gives_all bytes tokens rest nodes after none end h = (h.0, ap (λ r. r >>= at_end) (h.1 ∙ ap (λ l. Some (h.0, l)) end), h.2 ∙ ap (λ l. l ++ postfix h.0) none)
+pub gives_all : (bytes : List ℕ) (tokens rest : List Token) (nodes after : List (Node Token)) → nodes ≡ [] → length rest < 1 → AddsNodes nodes after rest (part_at bytes (formula_from bytes (length tokens)) 6 tokens) → (f : Formula Token) × (formula_at bytes tokens ≡ Some f) × (after ≡ postfix f)
+gives_all bytes tokens [] nodes after none end h = (h.0, ap (λ r. r >>= at_end) h.1, h.2 ∙ ap (λ l. l ++ postfix h.0) none)
+gives_all bytes tokens (t ∷ ts) nodes after none end h = absurd (omega (arith, end))
 
 pub some_behind : (bytes : List ℕ) (tokens rest : List Token) (nodes after : List (Node Token)) → 0 < length rest → AddsNodes nodes after rest (part_at bytes (formula_from bytes (length tokens)) 6 tokens) → formula_at bytes tokens ≡ None
 some_behind bytes tokens [] nodes after some h = absurd (omega (arith, some))
