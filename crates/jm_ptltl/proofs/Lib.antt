@@ -7,3 +7,4 @@ pub mod CrowdLemmas
 pub mod NodeLemmas
 pub mod ReaderLemmas
 pub mod GrammarLemmas
+pub mod FaultLemmas

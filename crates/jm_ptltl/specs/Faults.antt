@@ -19,13 +19,13 @@ use Rattle.jm_ptltl.specs.Lexicon.{class_of, is_grammar_word}
 
 -- how many parentheses are open behind a token, where so many were before it; one too many that closes has no effect
 abbrev pub open_by : Class → ℕ → ℕ
-open_by Open open = open + 1
-open_by Close open = open - 1
-open_by _ open = open
+open_by Open depth = depth + 1
+open_by Close depth = depth - 1
+open_by _ depth = depth
 
 -- how many parentheses are open behind these tokens
 abbrev pub open_after : List ℕ → List Token → ℕ
-open_after bytes tokens = fold (λ open t. open_by (class_of bytes t) open) 0 tokens
+open_after bytes tokens = fold (λ depth t. open_by (class_of bytes t) depth) 0 tokens
 
 -- a 65th parenthesis is open at once
 abbrev pub IsTooDeep : List ℕ → List Token → Type 0

@@ -62,13 +62,13 @@ fn nodes_of(
 }
 
 /// The formula over letters that the nodes of a formula say, or the fault of the first step that has one.
-#[tactic(auto, unfolding(crate::specs::Faults::first_fault))]
 pub fn past_of(
     alloc: Global,
     bytes: &[u8],
     nodes: &[Node<Token>],
     table: &EventTable,
 ) -> Result<Past, SpecError>
+    requires { (f : Formula Token) × (nodes.now ≡ postfix f) }
     ensures said { (f : Formula Token) → nodes.now ≡ postfix f → IfOk result (λ past. formula_said bytes.now (event_names table.now) f ≡ Ok past) }
     ensures checked { (f : Formula Token) → nodes.now ≡ postfix f → Checks result (first_fault bytes.now table.now f) }
 {

@@ -29,10 +29,10 @@ pub fn is_too_deep(bytes: &[u8], tokens: &[Token]) -> bool
     requires { LieWithin bytes.now tokens.now }
     ensures { IsTrue result ↔ IsTooDeep bytes.now tokens.now }
 {
-    let mut open = 0;
+    let mut depth = 0;
     for token in tokens {
-        open = open_by(class_of(bytes, *token), open);
-        if open > MAX_NESTING {
+        depth = open_by(class_of(bytes, *token), depth);
+        if depth > MAX_NESTING {
             return true;
         }
     }

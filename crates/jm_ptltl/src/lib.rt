@@ -11,6 +11,7 @@ mod build;
 mod compile;
 mod faults;
 mod graph;
+mod laws;
 mod lexicon;
 mod node;
 mod past;
@@ -18,6 +19,7 @@ mod reader;
 mod reading;
 mod vector;
 
+pub use laws::one_reading;
 pub use past::Past;
 pub use reading::read;
 

@@ -110,8 +110,8 @@ joined-returns-in_err-join-clause-reads t c = λ n few.
     let e = c.in_err-join.field-0.0 in
     let p = err_from_is_err_and c.from_residual-in_err-join.result c.from_residual-in_err-join.ensures.1 in
     let fails = joins_fail bytes n k c.args.cursor.now.rest.now c.args.nodes.now rest c.loop-cursor.nodes e (not_four c.args.rank c.requires.other c.requires.some) s
-        (ap (λ j. begins bytes j rest) (sym rank) ∙ ap (λ b. begins b c.args.rank rest) (sym inv.same_bytes) ∙ sym c.loop-cursor-test.ensures)
-        (fail_at (λ b inner. join_at b (part_at b inner k) s.so_far) here bytes inv.same_bytes e rest (c.in_err-join.ensures.reads c.args.nodes.now s.so_far s.nodes_are) n (omega (arith, few, inv.fewer))) in
+    (ap (λ j. begins bytes j rest) (sym rank) ∙ ap (λ b. begins b c.args.rank rest) (sym inv.same_bytes) ∙ sym c.loop-cursor-test.ensures)
+    (fail_at (λ b inner. join_at b (part_at b inner k) s.so_far) here bytes inv.same_bytes e rest (c.in_err-join.ensures.reads c.args.nodes.now s.so_far s.nodes_are) n (omega (arith, few, inv.fewer))) in
     rw (p.1, p.2) (subst (λ j. FailsAt e (part_at bytes (formula_from bytes n) j c.args.cursor.now.rest.now)) (sym rank) fails)
 
 pub joined-returns-clause-reads : goal.joined-returns-clause-reads
