@@ -1,7 +1,7 @@
 -- After each word the state of the table shows the truth of all subformulas at the last position.
-use Rattle.std.proofs.Common.{ℕ, zero, suc, ◌≡◌, ◌<◌, ◌≤◌, ◌+◌, ◌-◌, ◌↔◌, ◌⊎◌, inl, inr, Bool, true, false, Decides, List, [], ◌∷◌, ◌++◌, Option, Some, None, Result, Ok, IsSomeAnd, All, Contains, fold, map, length, slice_get, drop, refl, sym, ap, subst, ◌∙◌, arith, length-append, append-nil}
+use Rattle.std.proofs.Common.{ℕ, zero, suc, ◌≡◌, ◌<◌, ◌≤◌, ◌+◌, ◌↔◌, ◌⊎◌, inl, inr, Bool, true, false, Decides, List, [], ◌∷◌, ◌++◌, Option, Some, None, Result, Ok, IsSomeAnd, All, Contains, fold, map, length, slice_get, drop, refl, sym, ap, subst, ◌∙◌, arith, length-append, append-nil}
 use Rattle.std.specs.Prelude.{IsBitSet}
-use Rattle.std.proofs.lemmas.Bool.{cases_lt, cases_Bool}
+use Rattle.std.proofs.lemmas.Bool.{cases_Bool}
 use Rattle.std.proofs.lemmas.Bool.Decides.{not_from_Decides}
 use Rattle.std.proofs.lemmas.Option.{slice_get_cases}
 use Rattle.jm_model.specs.declared.step.Letter.{Letter}
@@ -14,7 +14,7 @@ use Rattle.jm_ptltl.specs.Meanings.{Holds, HoldsLast}
 use Rattle.jm_ptltl.specs.Vectors.{has_bit, vector_from, next_vector, graph_of, Says, HasGroup}
 use Rattle.jm_ptltl.specs.Tables.{IsCompiled, IsVector}
 use Rattle.jm_ptltl.proofs.BitLemmas.{no_bit, bit_decides}
-use Rattle.jm_ptltl.proofs.VectorLemmas.{size, some_nodes, Shows, shows_root, NoneFrom, Before, step}
+use Rattle.jm_ptltl.proofs.VectorLemmas.{size, Shows, shows_root, NoneFrom, Before, step}
 
 -- ---- places of a list
 

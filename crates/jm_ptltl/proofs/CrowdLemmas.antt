@@ -1,5 +1,5 @@
 -- Where the work on a formula has too many states, and only there, more vectors are reached than a table has room for.
-use Rattle.std.proofs.Common.{ℕ, zero, suc, ◌≡◌, ◌==◌, ◌<◌, ◌≤◌, ◌+◌, ◌⊎◌, inl, inr, Bool, true, false, cond, List, [], ◌∷◌, Option, Some, None, Result, Ok, Err, All, Contains, map, length, get_or, slice_get, refl, sym, ap, subst, ◌∙◌, arith}
+use Rattle.std.proofs.Common.{ℕ, zero, suc, ◌≡◌, ◌==◌, ◌<◌, ◌≤◌, ◌+◌, ◌⊎◌, inl, inr, false, cond, List, [], ◌∷◌, Option, Some, None, Result, Ok, Err, All, Contains, map, length, get_or, slice_get, refl, sym, ap, subst, ◌∙◌, arith}
 use Rattle.std.specs.List.{IsDistinct}
 use Rattle.std.proofs.lemmas.Bool.Decides.{eqb_tells, same_from_decides, Decides-like}
 use Rattle.std.proofs.lemmas.Bool.{eqb-true}
@@ -18,13 +18,13 @@ use Rattle.jm_model.specs.declared.fault.SpecError.TheVariants.{Bad, NoMemory}
 use Rattle.jm_table.specs.Graphs.{IsReached, reached_by}
 use Rattle.jm_table.specs.Explorations.{IsWithoutRepeats, IfBad, IsMet}
 use Rattle.jm_table.specs.Explorations as table
-use Rattle.jm_table.specs.Tables.{Transitions, IsWord, state_after_of, Follows}
+use Rattle.jm_table.specs.Tables.{Transitions, state_after_of, Follows}
 use Rattle.jm_ptltl.specs.Formulas.{Formula}
 use Rattle.jm_ptltl.specs.Vectors.{has_bit, graph_of}
 use Rattle.jm_ptltl.specs.Tables.{IsVector, IsReachedVector, IsCrowded}
 use Rattle.jm_ptltl.proofs.BitLemmas.{same_vector, bit_decides}
 use Rattle.jm_ptltl.proofs.VectorLemmas.{size}
-use Rattle.jm_ptltl.proofs.CompileLemmas.{Reached, vector_after, is_vector}
+use Rattle.jm_ptltl.proofs.CompileLemmas.{vector_after, is_vector}
 
 -- ---- lists of vectors, and perhaps the start
 

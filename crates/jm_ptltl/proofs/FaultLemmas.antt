@@ -1,5 +1,5 @@
 -- What is wrong with a formula, step by step.
-use Rattle.std.proofs.Common.{ℕ, zero, suc, ◌≡◌, ◌<◌, ◌≤◌, ◌+◌, inl, inr, Bool, true, false, cond, List, [], ◌∷◌, ◌++◌, Option, Some, None, Result, Ok, Err, IfOk, IfErr, map, fold, take, drop, length, get_or, slice_get, option_map, refl, sym, ap, subst, ◌∙◌, arith, append_assoc, append-nil, length-append}
+use Rattle.std.proofs.Common.{ℕ, zero, suc, ◌≡◌, ◌<◌, ◌≤◌, ◌+◌, inl, inr, Bool, true, false, cond, List, [], ◌∷◌, ◌++◌, Option, Some, None, Result, Ok, Err, IfOk, IfErr, map, take, drop, length, get_or, slice_get, option_map, refl, sym, ap, subst, ◌∙◌, arith, append_assoc, append-nil, length-append}
 use Rattle.std.proofs.lemmas.Bool.{cases_lt}
 use Rattle.std.proofs.lemmas.Bool.Decides.{leb_tells}
 use Rattle.std.proofs.lemmas.List.{take_all}
@@ -17,12 +17,11 @@ use Rattle.jm_reading.specs.Answers.{FailsAt}
 use Rattle.jm_reading.specs.Faults.{or_else, ◌>>>◌, Refuses, Checks, Answers}
 use Rattle.jm_ptltl.specs.declared.node.Binary.{Binary}
 use Rattle.jm_ptltl.specs.declared.node.Node.{Node}
-use Rattle.jm_ptltl.specs.declared.node.Node.TheVariants.{Event, Constant, Prefix, Infix}
+use Rattle.jm_ptltl.specs.declared.node.Node.TheVariants.{Event, Prefix, Infix}
 use Rattle.jm_ptltl.specs.Formulas.{Formula, event, constant, unary, binary, subformulas, postfix, piled, top, formula_of}
 use Rattle.jm_ptltl.specs.Lexicon.{class_of, is_grammar_word}
-use Rattle.jm_ptltl.specs.Grammar.{Spells}
 use Rattle.jm_ptltl.specs.Rules.{formula_at}
-use Rattle.jm_ptltl.specs.Faults.{open_by, open_after, IsTooDeep, subformulas_fault, event_name_fault, letter_said, formula_said, said_fault, first_fault, node_said, with_nodes}
+use Rattle.jm_ptltl.specs.Faults.{open_by, open_after, IsTooDeep, subformulas_fault, event_name_fault, letter_said, formula_said, said_fault, first_fault, with_nodes}
 use Rattle.jm_ptltl.specs.Readings.{IsReadFrom, IsRefused}
 use Rattle.jm_ptltl.proofs.GrammarLemmas.{formula_sound, formula_none}
 

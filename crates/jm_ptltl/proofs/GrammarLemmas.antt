@@ -1,5 +1,5 @@
 -- The grammar's rules, as a reader goes by them, spell what the grammar spells.
-use Rattle.std.proofs.Common.{ℕ, zero, suc, ◌≡◌, ◌<◌, ◌≤◌, ◌+◌, ◌==◌, ◌⊎◌, inl, inr, Bool, true, false, cond, eqb, List, [], ◌∷◌, ◌++◌, Option, Some, None, length, refl, sym, ap, subst, ◌∙◌, arith, append_assoc, append-nil, length-append}
+use Rattle.std.proofs.Common.{ℕ, zero, suc, ◌≡◌, ◌≤◌, ◌⊎◌, inl, inr, Bool, true, false, cond, eqb, List, [], ◌∷◌, ◌++◌, Option, Some, None, length, refl, sym, ap, subst, ◌∙◌, arith, append_assoc, append-nil, length-append}
 use Rattle.std.proofs.lemmas.Bool.{eqb-true, cases_Bool}
 use Rattle.std.proofs.lemmas.Bool.Decides.{eqb_tells}
 use Rattle.jm_text.specs.declared.token.Token.{Token}
@@ -13,7 +13,7 @@ use Rattle.jm_ptltl.specs.declared.lexicon.Class.TheVariants.{Prefix, Infix, Con
 use Rattle.jm_ptltl.specs.Formulas.{Formula, event, constant, unary, binary}
 use Rattle.jm_ptltl.specs.Lexicon.{class_of, rank_of}
 use Rattle.jm_ptltl.specs.Grammar.{SpellsAt, alone, joined, implied, prefixed, named, truth, nested, Spells}
-use Rattle.jm_ptltl.specs.Rules.{Read, Chain, class_at, is_infix, begins, closed_by, closed_at, nested_at, atom_by, atom_at, over, operand_by, operand_at, join_by, join_at, more_at, grouped, skip_at, imply_at, group, implied_at, part_at, inside_at, formula_from, at_end, formula_at}
+use Rattle.jm_ptltl.specs.Rules.{Read, Chain, is_infix, begins, closed_by, closed_at, nested_at, atom_by, atom_at, over, operand_by, operand_at, join_by, join_at, more_at, grouped, imply_at, group, implied_at, part_at, formula_from, at_end, formula_at}
 
 grouped-push : (fs : List (Formula Token)) (f g : Formula Token) → grouped (fs ++ f ∷ []) g ≡ grouped fs (binary Implies f g)
 grouped-push [] f g = refl

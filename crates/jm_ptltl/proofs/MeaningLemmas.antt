@@ -1,9 +1,9 @@
 -- What holds at a position follows from what holds there of the parts, and from the position before.
-use Rattle.std.proofs.Common.{ℕ, zero, suc, ◌≡◌, ◌<◌, ◌≤◌, ◌-◌, ◌↔◌, ◌⊎◌, inl, inr, Bool, true, false, not, cond, ◌&&◌, ◌||◌, Decides, refl, sym, subst, arith}
+use Rattle.std.proofs.Common.{ℕ, suc, ◌≡◌, ◌<◌, ◌-◌, ◌↔◌, ◌⊎◌, inl, inr, Bool, true, false, not, cond, ◌&&◌, ◌||◌, Decides, refl, sym, subst, arith}
 use Rattle.std.proofs.lemmas.Bool.{cases_lt}
-use Rattle.std.proofs.lemmas.Bool.Decides.{Decides-not, Decides-and, Decides-or, Decides-like}
+use Rattle.std.proofs.lemmas.Bool.Decides.{Decides-and, Decides-or, Decides-like}
 use Rattle.jm_ptltl.specs.declared.node.Unary.TheVariants.{Historically, Once, Previously}
-use Rattle.jm_ptltl.specs.declared.node.Binary.TheVariants.{Equivalent, Implies, Xor, Since}
+use Rattle.jm_ptltl.specs.declared.node.Binary.TheVariants.{Since}
 use Rattle.jm_ptltl.specs.Meanings.{HoldsUnary, HoldsBinary}
 
 -- ---- connectives

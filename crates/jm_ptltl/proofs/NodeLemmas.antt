@@ -5,7 +5,7 @@ use Rattle.jm_ptltl.specs.declared.node.Unary.{Unary}
 use Rattle.jm_ptltl.specs.declared.node.Binary.TheVariants.{Implies}
 use Rattle.jm_ptltl.specs.declared.node.Node.{Node}
 use Rattle.jm_ptltl.specs.declared.node.Node.TheVariants.{Prefix, Infix}
-use Rattle.jm_ptltl.specs.Formulas.{Formula, unary, binary, postfix}
+use Rattle.jm_ptltl.specs.Formulas.{Formula, unary, postfix}
 use Rattle.jm_ptltl.specs.Rules.{behind_all, closing, grouped, postfix_all, ends_of}
 
 abbrev only : Node Token → List (Node Token)

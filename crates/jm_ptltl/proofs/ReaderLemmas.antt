@@ -1,24 +1,23 @@
 -- What the reader's functions add to the nodes of a formula.
-use Rattle.std.proofs.Common.{ℕ, zero, suc, ◌≡◌, ◌<◌, ◌≤◌, ◌+◌, ◌-◌, inl, inr, Bool, true, false, cond, eqb, List, [], ◌∷◌, ◌++◌, Option, Some, None, Result, Ok, Err, OnOk, IfErr, length, get_or, drop, refl, sym, ap, subst, ◌∙◌, arith, append_assoc, append-nil, length-append}
+use Rattle.std.proofs.Common.{ℕ, zero, suc, ◌≡◌, ◌<◌, ◌≤◌, ◌+◌, ◌-◌, inl, inr, Bool, true, false, cond, eqb, List, [], ◌∷◌, ◌++◌, Option, Some, None, Result, Ok, Err, OnOk, IfErr, length, get_or, drop, refl, sym, ap, subst, ◌∙◌, arith, append_assoc, length-append}
 use Rattle.std.proofs.lemmas.Bool.Decides.{eqb_tells}
 use Rattle.jm_model.specs.declared.fault.SpecError.{SpecError}
 use Rattle.jm_model.specs.declared.fault.SpecError.TheVariants.{Bad, NoMemory}
 use Rattle.jm_model.specs.declared.fault.SpecFault.TheVariants.{Syntax}
 use Rattle.jm_text.specs.declared.token.Token.{Token}
-use Rattle.jm_reading.specs.Reading.{◌>>=◌, at_most}
+use Rattle.jm_reading.specs.Reading.{◌>>=◌}
 use Rattle.jm_reading.specs.Answers.{FailsAt, IsSyntax}
 use Rattle.jm_reading.proofs.LoopLemmas.{ItemsLeft, items_begin, items_more, items_end, items_fail, fails_too}
 use Rattle.jm_ptltl.specs.declared.node.Unary.{Unary}
 use Rattle.jm_ptltl.specs.declared.node.Binary.{Binary}
-use Rattle.jm_ptltl.specs.declared.node.Binary.TheVariants.{Implies}
 use Rattle.jm_ptltl.specs.declared.node.Node.{Node}
 use Rattle.jm_ptltl.specs.declared.node.Node.TheVariants as node
 use Rattle.jm_ptltl.specs.declared.lexicon.Class.{Class}
 use Rattle.jm_ptltl.specs.declared.lexicon.Class.TheVariants.{Prefix, Infix, Constant, Name, Open, Close, Other}
-use Rattle.jm_ptltl.specs.Formulas.{Formula, event, constant, unary, binary, postfix}
+use Rattle.jm_ptltl.specs.Formulas.{Formula, event, constant, binary, postfix}
 use Rattle.jm_ptltl.specs.Lexicon.{class_of}
 use Rattle.jm_ptltl.specs.Answers.{AddsNodes, Adds, AddsBy}
-use Rattle.jm_ptltl.specs.Rules.{Read, Chain, class_at, is_prefix, is_infix, begins, closed_by, closed_at, nested_at, atom_by, atom_at, over, over_all, operand_by, operand_at, join_by, join_at, more_at, grouped, skip_at, imply_at, group, implied_at, part_at, inside_at, formula_from, at_end, formula_at, behind_all, closing, postfix_all, ends_of}
+use Rattle.jm_ptltl.specs.Rules.{Read, Chain, class_at, is_prefix, begins, closed_by, closed_at, atom_by, atom_at, over, over_all, operand_by, operand_at, join_by, join_at, more_at, grouped, skip_at, imply_at, group, implied_at, part_at, inside_at, formula_from, at_end, formula_at, behind_all, closing, postfix_all, ends_of}
 use Rattle.jm_ptltl.proofs.NodeLemmas.{unary_all, postfix-unary_all, postfix-grouped, postfix_all-push, ends_of-push}
 
 -- ---- operators of one part

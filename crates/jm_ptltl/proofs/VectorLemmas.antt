@@ -1,6 +1,5 @@
 -- The next vector has the truth of all subformulas at the next position.
-use Rattle.std.proofs.Common.{ℕ, zero, suc, ◌≡◌, ◌≢◌, ◌==◌, ◌<◌, ◌≤◌, ◌+◌, ◌-◌, inl, inr, Bool, true, false, Decides, List, [], ◌∷◌, ◌++◌, Option, Some, None, length, slice_get, refl, sym, ap, subst, ◌∙◌, arith, length-append, append_assoc}
-use Rattle.std.proofs.lemmas.Bool.{cases_lt}
+use Rattle.std.proofs.Common.{ℕ, suc, ◌≡◌, ◌==◌, ◌<◌, ◌≤◌, ◌+◌, ◌-◌, Bool, true, false, Decides, List, [], ◌∷◌, ◌++◌, Option, Some, None, length, slice_get, refl, sym, ap, subst, ◌∙◌, arith, length-append, append_assoc}
 use Rattle.std.proofs.lemmas.Bool.Decides.{Decides-not, Decides-and, Decides-or, Decides-eqb, Decides-like}
 use Rattle.jm_model.specs.declared.step.Letter.{Letter}
 use Rattle.jm_ptltl.specs.declared.node.Unary.{Unary}
@@ -8,10 +7,10 @@ use Rattle.jm_ptltl.specs.declared.node.Unary.TheVariants.{Not, Historically, On
 use Rattle.jm_ptltl.specs.declared.node.Binary.{Binary}
 use Rattle.jm_ptltl.specs.declared.node.Binary.TheVariants.{Equivalent, Implies, Or, Xor, And, Since}
 use Rattle.jm_ptltl.specs.declared.node.Node.{Node}
-use Rattle.jm_ptltl.specs.declared.node.Node.TheVariants.{Event, Constant, Prefix, Infix}
+use Rattle.jm_ptltl.specs.declared.node.Node.TheVariants.{Prefix, Infix}
 use Rattle.jm_ptltl.specs.Formulas.{Formula, event, constant, unary, binary, postfix}
 use Rattle.jm_ptltl.specs.Meanings.{HoldsUnary, HoldsBinary, Holds}
-use Rattle.jm_ptltl.specs.Vectors.{has_bit, with_bit, was, unary_truth, binary_truth, node_truth, vector_from}
+use Rattle.jm_ptltl.specs.Vectors.{has_bit, with_bit, unary_truth, binary_truth, node_truth, vector_from}
 use Rattle.jm_ptltl.proofs.BitLemmas.{same_bit, other_bit}
 use Rattle.jm_ptltl.proofs.MeaningLemmas.{equivalent_decides, implies_decides, xor_decides, historically_zero, historically_more, once_zero, once_more, previously_first, previously_more, since_zero, since_more}
 

@@ -1,8 +1,8 @@
 -- What is wrong with a formula, step by step, and the formula over letters that it says.
-use Rattle.std.specs.Prelude.{ℕ, ◌<◌, ◌+◌, ◌-◌, List, [], ◌∷◌, ◌++◌, length, take, fold, map, Option, Some, None, Result, Ok, Err, nat_lt, option_map, if◌then◌else◌}
+use Rattle.std.specs.Prelude.{ℕ, ◌<◌, ◌+◌, ◌-◌, List, [], ◌∷◌, ◌++◌, length, take, fold, Option, Some, None, Result, Ok, Err, nat_lt, option_map, if◌then◌else◌}
 use Rattle.std.specs.Option.{ok_or}
 use Rattle.jm_model.specs.declared.step.Letter.{Letter}
-use Rattle.jm_model.specs.declared.fault.Counted.TheVariants.{Nesting, Subformulas}
+use Rattle.jm_model.specs.declared.fault.Counted.TheVariants.{Subformulas}
 use Rattle.jm_model.specs.declared.fault.SpecFault.{SpecFault}
 use Rattle.jm_model.specs.declared.fault.SpecFault.TheVariants.{TooMany, ReservedName, UnknownName}
 use Rattle.jm_text.specs.declared.token.Token.{Token}

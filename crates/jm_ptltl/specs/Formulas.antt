@@ -1,5 +1,5 @@
 -- Past-time formulas over atoms of some kind, and the list in which a formula is kept.
-use Rattle.std.specs.Prelude.{ℕ, Bool, false, List, [], ◌∷◌, ◌++◌, length}
+use Rattle.std.specs.Prelude.{Bool, false, List, [], ◌∷◌, ◌++◌, length}
 use Rattle.jm_ptltl.specs.declared.node.Unary.{Unary}
 use Rattle.jm_ptltl.specs.declared.node.Binary.{Binary}
 use Rattle.jm_ptltl.specs.declared.node.Node.{Node}

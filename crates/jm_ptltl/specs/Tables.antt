@@ -1,5 +1,5 @@
 -- What the table of a formula is.
-use Rattle.std.specs.Prelude.{ℕ, ◌≡◌, ◌<◌, ◌≤◌, ◌↔◌, List, All, IsBitSet, IsSomeAnd, length, slice_get}
+use Rattle.std.specs.Prelude.{ℕ, ◌<◌, ◌≤◌, ◌↔◌, List, All, IsBitSet, IsSomeAnd, length, slice_get}
 use Rattle.jm_model.specs.declared.step.Letter.{Letter}
 use Rattle.jm_table.specs.Tables.{Transitions, IsInGroup, IsWord, state_after_of}
 use Rattle.jm_table.specs.Explorations.{IsWithoutRepeats}

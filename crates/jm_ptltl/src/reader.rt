@@ -47,16 +47,6 @@ fn begins(cursor: &Cursor, rank: u8) -> bool
     }
 }
 
-/// Whether an operator of one part is next.
-fn is_prefix(cursor: &Cursor) -> bool
-    ensures { result ≡ is_prefix (class_at cursor.now.bytes.now cursor.now.rest.now) }
-{
-    match class(cursor) {
-        Class::Prefix(_) => true,
-        _ => false,
-    }
-}
-
 /// All operators of one part that stand here, in order.
 fn prefixes(cursor: &mut Cursor) -> Result<Vec<Unary>, SpecError>
     ensures reads { (inner : List Token → Option Read) → IfOk result (λ ops. operand_at cursor.old.bytes.now inner cursor.old.rest.now ≡ over_all ops.items (operand_at cursor.old.bytes.now inner cursor.new.rest.now)) }

@@ -1,4 +1,4 @@
-use Rattle.std.proofs.Common.{ℕ, ◌≡◌, ◌≤◌, ◌<◌, List, [], Ok, Err, length, sym, ap, subst, ◌∙◌, arith}
+use Rattle.std.proofs.Common.{◌≡◌, ◌≤◌, List, [], Ok, Err, length, sym, ap, subst, ◌∙◌, arith}
 use Rattle.std.proofs.lemmas.Result.{err_from_is_err_and}
 use Rattle.jm_model.specs.declared.step.Letter.{Letter}
 use Rattle.jm_text.specs.declared.token.Token.{Token}
@@ -6,7 +6,7 @@ use Rattle.jm_events.specs.Events.{event_names}
 use Rattle.jm_reading.specs.Faults.{Answers}
 use Rattle.jm_ptltl.specs.declared.node.Node.{Node}
 use Rattle.jm_ptltl.specs.Formulas.{Formula, postfix, formula_of}
-use Rattle.jm_ptltl.specs.Faults.{formula_said, with_nodes}
+use Rattle.jm_ptltl.specs.Faults.{with_nodes}
 use Rattle.jm_ptltl.proofs.FaultLemmas.{said_formula, said_refused, same_size, well_formed, formula_of-postfix, too_many, event_refused, name_refused, no_fault}
 use Rattle.jm_ptltl.proofs.build.past_of.Goals as goal
 

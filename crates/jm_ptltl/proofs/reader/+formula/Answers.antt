@@ -1,13 +1,9 @@
-use Rattle.std.proofs.Common.{ℕ, suc, ◌≡◌, ◌≤◌, ◌+◌, ◌-◌, true, false, List, [], ◌∷◌, ◌++◌, length, drop, refl, sym, ap, subst, ◌∙◌, arith}
+use Rattle.std.proofs.Common.{suc, ◌≡◌, ◌-◌, List, ◌++◌, length, drop, refl, sym, ap, subst, ◌∙◌, arith}
 use Rattle.std.proofs.lemmas.Result.{err_from_is_err_and}
-use Rattle.jm_model.specs.declared.fault.SpecError.{SpecError}
 use Rattle.jm_text.specs.declared.token.Token.{Token}
 use Rattle.jm_reading.specs.Answers.{FailsAt}
-use Rattle.jm_ptltl.specs.declared.node.Node.{Node}
-use Rattle.jm_ptltl.specs.declared.lexicon.Class.TheVariants.{Close}
-use Rattle.jm_ptltl.specs.Formulas.{postfix}
 use Rattle.jm_ptltl.specs.Answers.{AddsNodes, AddsBy}
-use Rattle.jm_ptltl.specs.Rules.{class_at, is_prefix, begins, operand_at, atom_at, join_at, skip_at, part_at, inside_at, formula_from, behind_all, closing}
+use Rattle.jm_ptltl.specs.Rules.{class_at, is_prefix, begins, atom_at, join_at, skip_at, part_at, inside_at, formula_from, behind_all, closing}
 use Rattle.jm_ptltl.proofs.ReaderLemmas.{operand_adds, operand_fails, inside_adds, joins_begin, joins_more, joins_end, joins_fail, chain_begin, chain_more, chain_end, chain_fail, adds_more, nodes_at, fail_at, by_at, skip_adds, not_four, named_at, truth_at, open_at, none_at, end_at, fails_at_syntax}
 use Rattle.jm_ptltl.proofs.reader.+formula.Goals as goal
 

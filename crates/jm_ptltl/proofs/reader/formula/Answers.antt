@@ -1,6 +1,5 @@
 use Rattle.std.proofs.Common.{length, arith}
 use Rattle.jm_ptltl.proofs.ReaderLemmas.{gives_all}
-use Rattle.jm_ptltl.proofs.GrammarLemmas.{formula_sound}
 use Rattle.jm_ptltl.proofs.reader.formula.Goals as goal
 
 pub returns-in-empty : goal.returns-in-empty

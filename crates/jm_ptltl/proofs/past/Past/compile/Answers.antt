@@ -1,9 +1,6 @@
-use Rattle.std.proofs.Common.{ℕ, List, Option, ◌+◌, ◌-◌, ◌≡◌, ◌≤◌, ◌⊎◌, inl, inr, Err, Result, ap, sym, subst, ◌∙◌, arith, length}
+use Rattle.std.proofs.Common.{ℕ, List, Option, ◌+◌, ◌≡◌, ◌≤◌, inl, inr, Err, ap, subst, ◌∙◌, arith, length}
 use Rattle.std.proofs.lemmas.Result.{err_from_is_err_and}
-use Rattle.jm_model.specs.declared.fault.SpecError.{SpecError}
-use Rattle.jm_table.specs.declared.table.Table.{Table}
 use Rattle.jm_table.specs.Tables.{Transitions, Follows}
-use Rattle.jm_ptltl.specs.Formulas.{postfix}
 use Rattle.jm_ptltl.specs.Vectors.{graph_of, HasGroup}
 use Rattle.jm_ptltl.proofs.VectorLemmas.{size, some_nodes}
 use Rattle.jm_ptltl.proofs.CompileLemmas.{is_compiled, map_same}
