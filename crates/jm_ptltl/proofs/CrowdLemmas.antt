@@ -21,7 +21,7 @@ use Rattle.jm_table.specs.Explorations as table
 use Rattle.jm_table.specs.Tables.{Transitions, state_after_of, Follows}
 use Rattle.jm_ptltl.specs.Formulas.{Formula}
 use Rattle.jm_ptltl.specs.Vectors.{has_bit, graph_of}
-use Rattle.jm_ptltl.specs.Tables.{IsVector, IsReachedVector, IsCrowded}
+use Rattle.jm_ptltl.specs.Tables.{IsVector, IsReachedVector, IsCrowded, HasStates}
 use Rattle.jm_ptltl.proofs.BitLemmas.{same_vector, bit_decides}
 use Rattle.jm_ptltl.proofs.VectorLemmas.{size}
 use Rattle.jm_ptltl.proofs.CompileLemmas.{vector_after, is_vector}
@@ -67,6 +67,24 @@ most_vectors : (os : List (Option ℕ)) → IsWithoutRepeats os → length os �
 most_vectors [] h = omega arith
 most_vectors (None ∷ os) h = let all = all_vectors os (λ k e. let twice = h 0 (suc k) None refl e in omega (arith, twice)) in omega (arith, all)
 most_vectors (Some v ∷ os) h = let more = most_vectors os (rest_distinct (Some v) os h) in omega (arith, more)
+
+few_vectors : (os : List (Option ℕ)) → length (vectors_of os) ≤ length os
+few_vectors [] = omega arith
+few_vectors (None ∷ os) = omega (arith, few_vectors os)
+few_vectors (Some v ∷ os) = omega (arith, few_vectors os)
+
+-- behind the start there are only vectors
+all_but_one : (os : List (Option ℕ)) → slice_get os 0 ≡ Some None → IsWithoutRepeats os → length os ≡ length (vectors_of os) + 1
+all_but_one [] start distinct = absurd (cc)
+all_but_one (None ∷ os) start distinct = omega (arith, most_vectors (None ∷ os) distinct, few_vectors os)
+all_but_one (Some v ∷ os) start distinct = absurd (cc)
+
+one_of_them : (os : List (Option ℕ)) (k v : ℕ) → slice_get os k ≡ Some (Some v) → (j : ℕ) × (slice_get (vectors_of os) j ≡ Some v)
+one_of_them [] k v h = absurd (cc)
+one_of_them (None ∷ os) zero v h = absurd (cc)
+one_of_them (None ∷ os) (suc k) v h = one_of_them os k v h
+one_of_them (Some w ∷ os) zero v h = let e : w ≡ v = cc in (0, ap (λ x. Some x) e)
+one_of_them (Some w ∷ os) (suc k) v h = let p = one_of_them os k v h in (suc p.0, p.1)
 
 -- where a vector stands in a list
 abbrev place_of : List (Option ℕ) → ℕ → ℕ
@@ -159,19 +177,51 @@ module _ (f : Formula Letter) (few : size f ≤ 64) where
   one_vector : (word : List ℕ) (v w : ℕ) → IsVector f word v → IsVector f word w → v ≡ w
   one_vector word v w hv hw = same_vector v w (λ k. same_from_decides (has_bit v k) (has_bit w k) (Decides-like (has_bit v k) (hv k).0 (hv k).1 (bit_decides v k)) (Decides-like (has_bit w k) (hw k).0 (hw k).1 (bit_decides w k)))
 
-  -- a table that follows the formula has room for all vectors
-  pub room_for_all : (letters : ℕ) (t : Transitions) (nodes : List (Option ℕ)) → t.states ≤ 1024 → t.letters ≡ letters → Follows (graph_of f) t nodes → IsCrowded f letters → ⊥
-  room_for_all letters t nodes states same follows crowd =
-      let vs = crowd.vectors in
-      let first = follows.stands [] (λ k d lt. absurd (omega (arith, lt))) in
-      let none : ◌≡◌ {A = Result (Option ℕ) SpecFault} (Ok None) (Ok first.0) = first.1 in
-      let start : slice_get nodes 0 ≡ Some None = let e : None ≡ first.0 = cc in first.2 ∙ ap (λ x. Some x) (sym e) in
-      let stand : (k v : ℕ) → slice_get vs k ≡ Some v → slice_get nodes (place_of nodes v) ≡ Some (Some v) = λ k v at.
-      let h = All-contains (IsReachedVector f letters) vs v crowd.each (there vs k v at) in
-      let r = vector_after f few h.0 h.1 in
-      let one = one_vector h.0 r.0 v (is_vector f few h.0 r.0 r.1) h.3 in
-      let s = follows.stands h.0 (subst (λ n. All (λ letter. letter < n) h.0) (sym same) h.2) in
-      let e : ◌≡◌ {A = Result (Option ℕ) SpecFault} (Ok s.0) (Ok (Some r.0)) = sym s.1 ∙ r.1.is in
-      let end : s.0 ≡ Some r.0 = cc in
-      place_is nodes (state_after_of t h.0) v (s.2 ∙ ap (λ x. Some x) end ∙ ap (λ x. Some (Some x)) one) in
-      absurd (omega (arith, fewer nodes start vs stand crowd.distinct, crowd.many, states, follows.count))
+  -- what a table that follows the formula has at its start, and after each word
+  module _ (t : Transitions) (nodes : List (Option ℕ)) (follows : Follows (graph_of f) t nodes) where
+    start_is : slice_get nodes 0 ≡ Some None
+    start_is =
+        let first = follows.stands [] (λ k d lt. absurd (omega (arith, lt))) in
+        let none : ◌≡◌ {A = Result (Option ℕ) SpecFault} (Ok None) (Ok first.0) = first.1 in
+        let e : None ≡ first.0 = cc in
+        first.2 ∙ ap (λ x. Some x) (sym e)
+
+    stands_at : (v : ℕ) → (reached : IsReachedVector f t.letters v) → slice_get nodes (state_after_of t reached.0) ≡ Some (Some v)
+    stands_at v h =
+        let r = vector_after f few h.0 h.1 in
+        let one = one_vector h.0 r.0 v (is_vector f few h.0 r.0 r.1) h.3 in
+        let s = follows.stands h.0 h.2 in
+        let e : ◌≡◌ {A = Result (Option ℕ) SpecFault} (Ok s.0) (Ok (Some r.0)) = sym s.1 ∙ r.1.is in
+        let end : s.0 ≡ Some r.0 = cc in
+        s.2 ∙ ap (λ x. Some x) end ∙ ap (λ x. Some (Some x)) one
+
+    -- a table that follows the formula has room for all vectors
+    pub room_for_all : t.states ≤ 1024 → IsCrowded f t.letters → ⊥
+    room_for_all states crowd =
+        let vs = crowd.vectors in
+        let stand : (k v : ℕ) → slice_get vs k ≡ Some v → slice_get nodes (place_of nodes v) ≡ Some (Some v) = λ k v at.
+        let h = All-contains (IsReachedVector f t.letters) vs v crowd.each (there vs k v at) in
+        place_is nodes (state_after_of t h.0) v (stands_at v h) in
+        absurd (omega (arith, fewer nodes start_is vs stand crowd.distinct, crowd.many, states, follows.count))
+
+    -- its states are the start and the vectors
+    pub states_are : (after : Transitions) → after.states ≡ t.states → after.letters ≡ t.letters → HasStates f after
+    states_are after states letters =
+        let vs = vectors_of nodes in
+        record {
+          vectors = vs;
+          count = omega (arith, states, follows.count, all_but_one nodes start_is follows.distinct);
+          each = λ k d lt.
+              let v = get_or vs k d in
+              let p = vector_there nodes k v (slice_get-get_or vs k d lt) in
+              let r = follows.reached p.0 (omega (arith, slice_get_within nodes p.0 (Some v) p.1, follows.count)) in
+              let s = follows.stands r.0 r.1 in
+              let same : ◌≡◌ {A = Option (Option ℕ)} (Some s.0) (Some (Some v)) = sym s.2 ∙ ap (λ j. slice_get nodes j) r.2 ∙ p.1 in
+              let e : s.0 ≡ Some v = cc in
+              subst (λ n. IsReachedVector f n v) (sym letters) (reached_vector t.letters v (r.0, r.1, s.1 ∙ ap (λ x. Ok x) e));
+          all = λ v h.
+              let reached = subst (λ n. IsReachedVector f n v) letters h in
+              let p = one_of_them nodes (state_after_of t reached.0) v (stands_at v reached) in
+              there vs p.0 v p.1;
+          distinct = vectors_distinct nodes follows.distinct;
+        }

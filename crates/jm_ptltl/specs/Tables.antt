@@ -1,5 +1,5 @@
 -- What the table of a formula is.
-use Rattle.std.specs.Prelude.{ℕ, ◌<◌, ◌≤◌, ◌↔◌, List, All, IsBitSet, IsSomeAnd, length, slice_get}
+use Rattle.std.specs.Prelude.{◌≡◌, ℕ, ◌<◌, ◌≤◌, ◌↔◌, List, All, IsBitSet, IsSomeAnd, length, slice_get, ◌+◌, Contains}
 use Rattle.jm_model.specs.declared.step.Letter.{Letter}
 use Rattle.jm_table.specs.Tables.{Transitions, IsInGroup, IsWord, state_after_of}
 use Rattle.jm_table.specs.Explorations.{IsWithoutRepeats}
@@ -27,4 +27,12 @@ pub record IsCrowded (f : Formula Letter) (letters : ℕ) : Type 0 where
   pub vectors : List ℕ
   pub many : 1024 ≤ length vectors
   pub each : All (IsReachedVector f letters) vectors
+  pub distinct : IsWithoutRepeats vectors
+
+-- the states are the start and the vectors that words reach
+pub record HasStates (f : Formula Letter) (t : Transitions) : Type 0 where
+  pub vectors : List ℕ
+  pub count : t.states ≡ length vectors + 1
+  pub each : All (IsReachedVector f t.letters) vectors
+  pub all : (vector : ℕ) → IsReachedVector f t.letters vector → Contains vectors vector
   pub distinct : IsWithoutRepeats vectors

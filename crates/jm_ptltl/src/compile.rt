@@ -1,7 +1,7 @@
 ghost use Rattle.std.specs.Prelude.{ℕ, ◌≡◌, ◌<◌, ◌≤◌, ◌-◌, ◌↔◌, ◌⊎◌, IsTrue, [], Err, Contains, IsSomeAnd, IfOk, IfErr, OnOk, slice_get, length, None, Some};
 ghost use Rattle.jm_ptltl.specs.Vectors.{Says, HasGroup};
 ghost use Rattle.jm_ptltl.specs.Formulas.{postfix};
-ghost use Rattle.jm_ptltl.specs.Tables.{IsCompiled, IsCrowded};
+ghost use Rattle.jm_ptltl.specs.Tables.{HasStates, IsCompiled, IsCrowded};
 
 use crate::past::Past;
 use crate::vector::has_bit;
@@ -18,6 +18,7 @@ impl Past {
     pub fn compile(&self, alloc: Global, events: &EventTable) -> Result<Table, SpecError>
         ensures letters { IfOk result (λ table. table.letters ≡ length events.now.events) }
         ensures groups { IfOk result (λ table. length table.groups ≡ 2) }
+        ensures states { IfOk result (λ table. HasStates self.now table) }
         ensures compiled { IfOk result (λ table. IsCompiled self.now table) }
         ensures fault { IfErr result (λ e. (e ≡ SpecError.NoMemory) ⊎ ((e ≡ SpecError.Bad SpecFault.TooManyStates) × IsCrowded self.now (length events.now.events))) }
         ensures refused { IsCrowded self.now (length events.now.events) → (result ≡ Err (SpecError.Bad SpecFault.TooManyStates)) ⊎ (result ≡ Err SpecError.NoMemory) }

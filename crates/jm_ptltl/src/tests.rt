@@ -40,7 +40,9 @@ fn shown(alloc: Global, events: &str, formula: &str, words: &str) -> Result<Stri
     }
 }
 
-fn categories_text(alloc: Global, table: &Table, words: &str) -> Result<String, Fail> {
+fn categories_text(alloc: Global, table: &Table, words: &str) -> Result<String, Fail>
+    requires { 1 < length table.now.groups }
+{
     let mut out = String::new(alloc);
     for word in words.split_whitespace() {
         let state = state_after(table, word);
@@ -111,6 +113,18 @@ fn holds(rt: HostRuntime) -> Result<(), Fail> {
         let all = shown(rt.alloc(), events, formula, words)?;
         assert_eq!(rt; all.as_str(), wanted, "{formula}");
     }
+    Ok(())
+}
+
+#[test]
+fn names(rt: HostRuntime) -> Result<(), Fail> {
+    let table = events_of(rt.alloc(), "a")?;
+    let past = past_of(rt.alloc(), &table, "a")?;
+    let names = past.categories(rt.alloc())?;
+    assert_eq!(rt; names.len(), 2);
+    assert_eq!(rt; names.name(0), "validation");
+    assert_eq!(rt; names.name(1), "violation");
+    one_reading();
     Ok(())
 }
 

@@ -1,10 +1,11 @@
-use Rattle.std.proofs.Common.{ℕ, List, Option, ◌+◌, ◌≡◌, ◌≤◌, inl, inr, Err, ap, subst, ◌∙◌, arith, length}
+use Rattle.std.proofs.Common.{sym, ℕ, List, Option, ◌+◌, ◌≡◌, ◌≤◌, inl, inr, Err, ap, subst, ◌∙◌, arith, length}
 use Rattle.std.proofs.lemmas.Result.{err_from_is_err_and}
 use Rattle.jm_table.specs.Tables.{Transitions, Follows}
 use Rattle.jm_ptltl.specs.Vectors.{graph_of, HasGroup}
+use Rattle.jm_ptltl.specs.Tables.{IsCrowded}
 use Rattle.jm_ptltl.proofs.VectorLemmas.{size, some_nodes}
 use Rattle.jm_ptltl.proofs.CompileLemmas.{is_compiled, map_same}
-use Rattle.jm_ptltl.proofs.CrowdLemmas.{cause_of, room_for_all}
+use Rattle.jm_ptltl.proofs.CrowdLemmas.{cause_of, room_for_all, states_are}
 use Rattle.jm_ptltl.proofs.past.Past.compile.Goals as goal
 
 pub returns-in_err-table-clause-fault : goal.returns-in_err-table-clause-fault
@@ -36,11 +37,22 @@ returns-clause-compiled c =
     (subst (λ (l : List (Option ℕ)). HasGroup root _ l c.in_ok-table.table c.add_group.new.table) c.as_slice.ensures.value c.in_ok-add_group.ensures.group)
     (subst (λ (l : List (Option ℕ)). HasGroup root _ l c.add_group.new.table c.add_group-2.new.table) c.as_slice-2.ensures.value c.in_ok-add_group-2.ensures.group)
 
+pub returns-clause-states : goal.returns-clause-states
+returns-clause-states c =
+    let f = c.args.self.now in
+    let few : size f ≤ 64 = omega (arith, c.nodes.ensures.few, ap (λ l. length l) c.nodes.ensures.nodes) in
+    let nodes = c.in_ok-table.nodes.items in
+    let first = c.in_ok-add_group.ensures.group.added in
+    let second = c.in_ok-add_group-2.ensures.group.added in
+    states_are f few c.in_ok-table.table nodes (subst (λ (l : List (Option ℕ)). Follows (graph_of f) c.in_ok-table.table l) (map_same nodes) c.in_ok-table.ensures.follows) c.add_group-2.new.table
+    (ap (λ (t : Transitions). t.states) second ∙ ap (λ (t : Transitions). t.states) first) (ap (λ (t : Transitions). t.letters) second ∙ ap (λ (t : Transitions). t.letters) first)
+
 pub returns-clause-refused : goal.returns-clause-refused
 returns-clause-refused c = λ crowd.
     let f = c.args.self.now in
     let few : size f ≤ 64 = omega (arith, c.nodes.ensures.few, ap (λ l. length l) c.nodes.ensures.nodes) in
     let nodes = c.in_ok-table.nodes.items in
-    absurd (room_for_all f few _ c.in_ok-table.table nodes
-    (omega (arith, c.table.invariant.few_states, ap (λ (t : Transitions). t.states) c.table.view_is, ap (λ (t : Transitions). t.states) c.in_ok-add_group.ensures.group.added)) (c.in_ok-table.ensures.shape.0 ∙ c.letters.ensures.value)
-    (subst (λ (l : List (Option ℕ)). Follows (graph_of f) c.in_ok-table.table l) (map_same nodes) c.in_ok-table.ensures.follows) crowd)
+    let letters = c.in_ok-table.ensures.shape.0 ∙ c.letters.ensures.value in
+    absurd (room_for_all f few c.in_ok-table.table nodes (subst (λ (l : List (Option ℕ)). Follows (graph_of f) c.in_ok-table.table l) (map_same nodes) c.in_ok-table.ensures.follows)
+    (omega (arith, c.table.invariant.few_states, ap (λ (t : Transitions). t.states) c.table.view_is, ap (λ (t : Transitions). t.states) c.in_ok-add_group.ensures.group.added))
+    (subst (λ n. IsCrowded f n) (sym letters) crowd))
