@@ -18,7 +18,8 @@ use Rattle.jm_reading.specs.Faults.{or_else, ◌>>>◌, Refuses, Checks, Answers
 use Rattle.jm_ptltl.specs.declared.node.Binary.{Binary}
 use Rattle.jm_ptltl.specs.declared.node.Node.{Node}
 use Rattle.jm_ptltl.specs.declared.node.Node.TheVariants.{Event, Prefix, Infix}
-use Rattle.jm_ptltl.specs.Formulas.{Formula, event, constant, unary, binary, subformulas, postfix, piled, top, formula_of}
+use Rattle.jm_ptltl.specs.Formulas.{Formula, event, constant, unary, binary, subformulas, postfix, formula_of}
+use Rattle.jm_ptltl.specs.Codes.{formula_of-postfix}
 use Rattle.jm_ptltl.specs.Lexicon.{class_of, is_grammar_word}
 use Rattle.jm_ptltl.specs.Rules.{formula_at}
 use Rattle.jm_ptltl.specs.Faults.{open_by, open_after, IsTooDeep, subformulas_fault, event_name_fault, letter_said, formula_said, said_fault, first_fault, with_nodes}
@@ -82,20 +83,6 @@ module _ {A B : Type 0} where
   then_same (Err e) f g h = refl
 
 module _ {A : Type 0} where
-  -- the nodes of a formula pile it up
-  pub piled-postfix : (f : Formula A) (fs : List (Formula A)) (ns : List (Node A)) → piled fs (postfix f ++ ns) ≡ piled (f ∷ fs) ns
-  piled-postfix (event e) fs ns = refl
-  piled-postfix (constant b) fs ns = refl
-  piled-postfix (unary op f) fs ns = ap (λ l. piled fs l) (append_assoc (postfix f) (Prefix op ∷ []) ns) ∙ piled-postfix f fs (Prefix op ∷ ns)
-  piled-postfix (binary op f g) fs ns =
-      let node : Node A = Infix op (length (postfix g)) in
-      ap (λ l. piled fs l) (append_assoc (postfix f) (postfix g ++ node ∷ []) ns ∙ ap (λ l. postfix f ++ l) (append_assoc (postfix g) (node ∷ []) ns))
-      ∙ piled-postfix f fs (postfix g ++ node ∷ ns) ∙ piled-postfix g (f ∷ fs) (node ∷ ns)
-
-  pub formula_of-postfix : (f : Formula A) → formula_of (postfix f) ≡ f
-  unfolding formula_of
-  formula_of-postfix f = ap top (ap (λ l. piled [] l) (sym (append-nil (postfix f))) ∙ piled-postfix f [] [])
-
   postfix_size : (f : Formula A) → length (subformulas f) ≡ length (postfix f)
   postfix_size (event e) = refl
   postfix_size (constant b) = refl

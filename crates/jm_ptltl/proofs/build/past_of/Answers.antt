@@ -7,7 +7,8 @@ use Rattle.jm_reading.specs.Faults.{Answers}
 use Rattle.jm_ptltl.specs.declared.node.Node.{Node}
 use Rattle.jm_ptltl.specs.Formulas.{Formula, postfix, formula_of}
 use Rattle.jm_ptltl.specs.Faults.{with_nodes}
-use Rattle.jm_ptltl.proofs.FaultLemmas.{said_formula, said_refused, same_size, well_formed, formula_of-postfix, too_many, event_refused, name_refused, no_fault}
+use Rattle.jm_ptltl.specs.Codes.{formula_of-postfix}
+use Rattle.jm_ptltl.proofs.FaultLemmas.{said_formula, said_refused, same_size, well_formed, too_many, event_refused, name_refused, no_fault}
 use Rattle.jm_ptltl.proofs.build.past_of.Goals as goal
 
 few_nodes : (nodes : List (Node Token)) (f : Formula Token) → nodes ≡ postfix f → length nodes ≤ 64 → length (postfix f) ≤ 64
