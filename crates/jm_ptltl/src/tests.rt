@@ -136,7 +136,7 @@ fn groups(rt: HostRuntime) -> Result<(), Fail> {
         ("a b", "a => b => a", "1 0", "++"),
         ("a", "false => true => false", "0", "+"),
         ("a", "(false => true) => false", "0", "-"),
-        // (a S b) S c, and a S (b S c) differ after c b a
+        // (a S b) S c, and a S (b S c) differ after c a
         ("a b c", "a S b S c", "210 20 2", "+-+"),
         ("a b c", "a S (b S c)", "210 20 2", "+++"),
         // true xor (false and false) is true; (true xor false) and false is false
