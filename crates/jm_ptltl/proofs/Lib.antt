@@ -1,0 +1,10 @@
+pub mod PlaceLemmas
+pub mod MeaningLemmas
+pub mod BitLemmas
+pub mod VectorLemmas
+pub mod CompileLemmas
+pub mod CrowdLemmas
+pub mod NodeLemmas
+pub mod ReaderLemmas
+pub mod GrammarLemmas
+pub mod FaultLemmas

@@ -1,0 +1,72 @@
+-- What is wrong with a formula, step by step, and the formula over letters that it says.
+use Rattle.std.specs.Prelude.{ℕ, ◌<◌, ◌+◌, ◌-◌, List, [], ◌∷◌, ◌++◌, length, take, fold, Option, Some, None, Result, Ok, Err, nat_lt, option_map, if◌then◌else◌}
+use Rattle.std.specs.Option.{ok_or}
+use Rattle.jm_model.specs.declared.step.Letter.{Letter}
+use Rattle.jm_model.specs.declared.fault.Counted.TheVariants.{Subformulas}
+use Rattle.jm_model.specs.declared.fault.SpecFault.{SpecFault}
+use Rattle.jm_model.specs.declared.fault.SpecFault.TheVariants.{TooMany, ReservedName, UnknownName}
+use Rattle.jm_text.specs.declared.token.Token.{Token}
+use Rattle.jm_reading.specs.Tokens.{name_of}
+use Rattle.jm_reading.specs.Faults.{or_else, ◌>>>◌}
+use Rattle.jm_events.specs.Names.{number_of}
+use Rattle.jm_events.specs.Events.{EventDefinitions, EventDefinition, event_names}
+use Rattle.jm_ptltl.specs.declared.node.Node.{Node}
+use Rattle.jm_ptltl.specs.declared.node.Node.TheVariants.{Event, Constant, Prefix, Infix}
+use Rattle.jm_ptltl.specs.declared.lexicon.Class.{Class}
+use Rattle.jm_ptltl.specs.declared.lexicon.Class.TheVariants.{Open, Close}
+use Rattle.jm_ptltl.specs.Formulas.{Formula, event, constant, unary, binary, subformulas}
+use Rattle.jm_ptltl.specs.Lexicon.{class_of, is_grammar_word}
+
+-- how many parentheses are open behind a token, where so many were before it; one too many that closes has no effect
+abbrev pub open_by : Class → ℕ → ℕ
+open_by Open depth = depth + 1
+open_by Close depth = depth - 1
+open_by _ depth = depth
+
+-- how many parentheses are open behind these tokens
+abbrev pub open_after : List ℕ → List Token → ℕ
+open_after bytes tokens = fold (λ depth t. open_by (class_of bytes t) depth) 0 tokens
+
+-- a 65th parenthesis is open at once
+abbrev pub IsTooDeep : List ℕ → List Token → Type 0
+IsTooDeep bytes tokens = (k : ℕ) × (64 < open_after bytes (take k tokens))
+
+-- there are at most 64 subformulas, each occurrence counted
+abbrev pub subformulas_fault : Formula Token → Option SpecFault
+subformulas_fault f = if nat_lt 64 (length (subformulas f)) then Some (TooMany Subformulas) else None
+
+-- no event is named by a word of the grammar
+abbrev pub event_name_fault : List EventDefinition → Option SpecFault
+event_name_fault [] = None
+event_name_fault (e ∷ es) = if is_grammar_word e.name then Some (ReservedName e.line) else event_name_fault es
+
+-- the letter of an event's name
+abbrev pub letter_said : List ℕ → List (List ℕ) → Token → Result Letter SpecFault
+letter_said bytes events token = ok_or (option_map (λ k. record { 0 = k }) (number_of events (name_of bytes token))) (UnknownName token.line)
+
+-- the formula over letters that a formula says, or its first name that is no event's
+abbrev pub formula_said : List ℕ → List (List ℕ) → Formula Token → Result (Formula Letter) SpecFault
+formula_said bytes events (event t) = letter_said bytes events t >>> λ letter. Ok (event letter)
+formula_said bytes events (constant b) = Ok (constant b)
+formula_said bytes events (unary op f) = formula_said bytes events f >>> λ part. Ok (unary op part)
+formula_said bytes events (binary op f g) = formula_said bytes events f >>> λ left. formula_said bytes events g >>> λ right. Ok (binary op left right)
+
+abbrev pub said_fault : {A : Type 0} → Result A SpecFault → Option SpecFault
+said_fault (Ok x) = None
+said_fault (Err fault) = Some fault
+
+-- the fault of the first step that has one: too many subformulas, reserved names of events, unknown names
+unfoldable pub first_fault : List ℕ → EventDefinitions → Formula Token → Option SpecFault
+first_fault bytes table f =
+    or_else (subformulas_fault f) (or_else (event_name_fault table.events) (said_fault (formula_said bytes (event_names table) f)))
+
+-- The same over a list of nodes: those that were said before, and one after the other.
+abbrev pub node_said : List ℕ → List (List ℕ) → Node Token → Result (Node Letter) SpecFault
+node_said bytes events (Event t) = letter_said bytes events t >>> λ letter. Ok (Event letter)
+node_said bytes events (Constant b) = Ok (Constant b)
+node_said bytes events (Prefix op) = Ok (Prefix op)
+node_said bytes events (Infix op right) = Ok (Infix op right)
+
+abbrev pub with_nodes : List ℕ → List (List ℕ) → List (Node Letter) → List (Node Token) → Result (List (Node Letter)) SpecFault
+with_nodes bytes events nodes [] = Ok nodes
+with_nodes bytes events nodes (n ∷ ns) = node_said bytes events n >>> λ node. with_nodes bytes events (nodes ++ node ∷ []) ns

@@ -1,0 +1,11 @@
+pub mod Formulas
+pub mod Codes
+pub mod Meanings
+pub mod Vectors
+pub mod Tables
+pub mod Lexicon
+pub mod Grammar
+pub mod Rules
+pub mod Answers
+pub mod Faults
+pub mod Readings

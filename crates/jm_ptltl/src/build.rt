@@ -1,0 +1,82 @@
+//! The formula over letters that a formula says.
+ghost use Rattle.std.specs.Prelude.{◌≡◌, ◌≤◌, ◌∷◌, ◌++◌, [], length, OnOk, IfOk, IfErr};
+ghost use Rattle.jm_text.specs.declared.token.Token.{Token};
+ghost use Rattle.jm_events.specs.Events.{event_names};
+ghost use Rattle.jm_ptltl.specs.Formulas.{Formula, postfix};
+ghost use Rattle.jm_ptltl.specs.Faults.{letter_said, formula_said, node_said, with_nodes, first_fault};
+ghost use Rattle.jm_reading.specs.Faults.{Answers, Checks};
+
+use crate::faults;
+use crate::node::Node;
+use crate::past::Past;
+use jm_events::EventTable;
+use jm_model::{Counted, Letter, SpecError, SpecFault};
+use jm_reading::{Items, name_of};
+use jm_text::Token;
+use std::alloc::Global;
+
+const MAX_SUBFORMULAS: usize = 64;
+
+/// The letter of an event's name.
+fn letter_of(bytes: &[u8], table: &EventTable, token: Token) -> Result<Letter, SpecError>
+    ensures { Answers result (letter_said bytes.now (event_names table.now) token) }
+{
+    match table.letter(name_of(bytes, token)) {
+        Some(letter) => Ok(letter),
+        None => {
+            let line = token.line;
+            Err(SpecError::Bad(SpecFault::UnknownName { line }))
+        }
+    }
+}
+
+/// The node over letters that a node says.
+fn node_of(bytes: &[u8], table: &EventTable, node: Node<Token>) -> Result<Node<Letter>, SpecError>
+    ensures { Answers result (node_said bytes.now (event_names table.now) node) }
+{
+    match node {
+        Node::Event(token) => {
+            let letter = letter_of(bytes, table, token)?;
+            Ok(Node::Event(letter))
+        }
+        Node::Constant(truth) => Ok(Node::Constant(truth)),
+        Node::Prefix(op) => Ok(Node::Prefix(op)),
+        Node::Infix(op, right) => Ok(Node::Infix(op, right)),
+    }
+}
+
+fn nodes_of(
+    alloc: Global,
+    bytes: &[u8],
+    table: &EventTable,
+    nodes: &[Node<Token>],
+) -> Result<Items<Node<Letter>>, SpecError>
+    ensures { Answers result (with_nodes bytes.now (event_names table.now) [] nodes.now) }
+{
+    let mut said = Items::new(alloc);
+    for node in nodes {
+        let node = node_of(bytes, table, *node)?;
+        said.push(node)?;
+    }
+    Ok(said)
+}
+
+/// The formula over letters that the nodes of a formula say, or the fault of the first step that has one.
+pub fn past_of(
+    alloc: Global,
+    bytes: &[u8],
+    nodes: &[Node<Token>],
+    table: &EventTable,
+) -> Result<Past, SpecError>
+    requires { (f : Formula Token) × (nodes.now ≡ postfix f) }
+    ensures said { (f : Formula Token) → nodes.now ≡ postfix f → IfOk result (λ past. formula_said bytes.now (event_names table.now) f ≡ Ok past) }
+    ensures checked { (f : Formula Token) → nodes.now ≡ postfix f → Checks result (first_fault bytes.now table.now f) }
+{
+    if nodes.len() > MAX_SUBFORMULAS {
+        let what = Counted::Subformulas;
+        return Err(SpecError::Bad(SpecFault::TooMany { what }));
+    }
+    faults::event_names(table)?;
+    let said = nodes_of(alloc, bytes, table, nodes)?;
+    Ok(Past::new(said.into_vec()))
+}

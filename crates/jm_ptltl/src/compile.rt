@@ -1,0 +1,88 @@
+ghost use Rattle.std.specs.Prelude.{ℕ, ◌≡◌, ◌<◌, ◌≤◌, ◌-◌, ◌↔◌, ◌⊎◌, IsTrue, [], Err, Contains, IsSomeAnd, IfOk, IfErr, OnOk, slice_get, length, None, Some};
+ghost use Rattle.jm_ptltl.specs.Vectors.{Says, HasGroup};
+ghost use Rattle.jm_ptltl.specs.Formulas.{postfix};
+ghost use Rattle.jm_ptltl.specs.Tables.{HasStates, IsCompiled, IsCrowded};
+
+use crate::past::Past;
+use crate::vector::has_bit;
+use jm_events::EventTable;
+use jm_model::{SpecError, SpecFault};
+use jm_table::{Table, build};
+use std::alloc::Global;
+
+impl Past {
+    /// A table of the start and the vectors of truth of all subformulas that words reach, with two groups: the states at
+    /// which the formula is true, and those at which it is false.
+    ///
+    /// The fault is `TooManyStates` exactly where these are more than 1,024.
+    pub fn compile(&self, alloc: Global, events: &EventTable) -> Result<Table, SpecError>
+        ensures letters { IfOk result (λ table. table.letters ≡ length events.now.events) }
+        ensures groups { IfOk result (λ table. length table.groups ≡ 2) }
+        ensures states { IfOk result (λ table. HasStates self.now table) }
+        ensures compiled { IfOk result (λ table. IsCompiled self.now table) }
+        ensures fault { IfErr result (λ e. (e ≡ SpecError.NoMemory) ⊎ ((e ≡ SpecError.Bad SpecFault.TooManyStates) × IsCrowded self.now (length events.now.events))) }
+        ensures refused { IsCrowded self.now (length events.now.events) → (result ≡ Err (SpecError.Bad SpecFault.TooManyStates)) ⊎ (result ≡ Err SpecError.NoMemory) }
+    {
+        let root = self.nodes().len().saturating_sub(1);
+        let (mut table, nodes) = build(alloc, self, events.letters())?;
+        add_group(alloc, nodes.as_slice(), root, true, &mut table)?;
+        add_group(alloc, nodes.as_slice(), root, false, &mut table)?;
+        Ok(table)
+    }
+}
+
+/// Adds the group of the states at which the bit of a place says `truth`, to a table whose states have these nodes.
+fn add_group(
+    alloc: Global,
+    nodes: &[Option<u64>],
+    place: usize,
+    truth: bool,
+    table: &mut Table,
+) -> Result<(), SpecError>
+    requires place { place < 64 }
+    requires room { length table.old.groups < 65535 }
+    requires states { table.old.states ≡ length nodes.now }
+    requires few { length nodes.now ≤ 1024 }
+    ensures group { OnOk result (HasGroup place truth nodes.now table.old table.new) }
+    ensures fault { IfErr result (λ e. e ≡ SpecError.NoMemory) }
+{
+    let members = members(alloc, nodes, place, truth)?;
+    let Ok(_) = table.add_group(members.as_slice()) else {
+        return Err(SpecError::NoMemory);
+    };
+    Ok(())
+}
+
+/// The places of a list at which the bit of a place says `truth`.
+fn members(
+    alloc: Global,
+    nodes: &[Option<u64>],
+    place: usize,
+    truth: bool,
+) -> Result<Vec<u16>, SpecError>
+    requires place { place < 64 }
+    requires few { length nodes.now ≤ 1024 }
+    ensures members { IfOk result (λ v. (state : ℕ) → Contains v.items state ↔ IsSomeAnd (slice_get nodes.now state) (Says place truth)) }
+    ensures fault { IfErr result (λ e. e ≡ SpecError.NoMemory) }
+{
+    let mut members = Vec::new(alloc);
+    for (state, node) in nodes.iter().enumerate() {
+        if says(*node, place, truth) {
+            let Ok(()) = members.push(state as u16) else {
+                return Err(SpecError::NoMemory);
+            };
+        }
+    }
+    Ok(members)
+}
+
+/// Whether the bit of a place says `truth`. At the start none does.
+fn says(node: Option<u64>, place: usize, truth: bool) -> bool
+    requires { place < 64 }
+    ensures { IsTrue result ↔ Says place truth node }
+{
+    match node {
+        Some(vector) => has_bit(vector, place) == truth,
+        None => false,
+    }
+}

@@ -1,0 +1,244 @@
+//! A reader over the tokens of a formula. Each rule of the grammar is a function, which takes the tokens that the rule
+//! spells from the front of those that are left, and adds the formula's nodes to a list.
+ghost use Rattle.std.specs.Prelude.{ℕ, ◌≡◌, ◌≢◌, ◌<◌, ◌≤◌, ◌+◌, ◌-◌, ◌++◌, ◌∷◌, [], List, length, drop, false, OnOk, IfOk, IfErr, Option};
+ghost use Rattle.jm_text.specs.declared.token.Token.{Token};
+ghost use Rattle.jm_ptltl.specs.declared.node.Node.{Node};
+ghost use Rattle.jm_ptltl.specs.Formulas.{Formula, postfix};
+ghost use Rattle.jm_ptltl.specs.Answers.{AddsBy, Gives};
+ghost use Rattle.jm_ptltl.specs.Rules.{Read, class_at, is_prefix, begins, operand_at, atom_at, over_all, join_at, skip_at, part_at, inside_at, formula_at, behind_all, closing};
+
+use crate::lexicon::{Class, class_of};
+use crate::node::{Binary, Node, Unary};
+use jm_model::SpecError;
+use jm_reading::{Cursor, Items};
+use jm_text::Token;
+
+const WHOLE: u8 = 6;
+
+const IMPLIES: u8 = 5;
+
+/// What the next token is.
+fn class(cursor: &Cursor) -> Class
+    ensures { result ≡ class_at cursor.now.bytes.now cursor.now.rest.now }
+{
+    match cursor.rest {
+        [token, ..] => class_of(cursor.bytes, *token),
+        [] => Class::Other,
+    }
+}
+
+/// Takes the next token, if there is one.
+fn skip(cursor: &mut Cursor)
+    ensures rest { cursor.new.rest.now ≡ drop 1 cursor.old.rest.now }
+    ensures bytes { cursor.new.bytes.now ≡ cursor.old.bytes.now }
+{
+    if let [_, rest @ ..] = cursor.rest {
+        cursor.rest = rest;
+    }
+}
+
+/// Whether an operator of this rank is next.
+fn begins(cursor: &Cursor, rank: u8) -> bool
+    ensures { result ≡ begins cursor.now.bytes.now rank cursor.now.rest.now }
+{
+    match class(cursor) {
+        Class::Infix(op) => op.rank() == rank,
+        _ => false,
+    }
+}
+
+/// All operators of one part that stand here, in order.
+fn prefixes(cursor: &mut Cursor) -> Result<Vec<Unary>, SpecError>
+    ensures reads { (inner : List Token → Option Read) → IfOk result (λ ops. operand_at cursor.old.bytes.now inner cursor.old.rest.now ≡ over_all ops.items (operand_at cursor.old.bytes.now inner cursor.new.rest.now)) }
+    ensures end { OnOk result (is_prefix (class_at cursor.new.bytes.now cursor.new.rest.now) ≡ false) }
+    ensures bytes { cursor.new.bytes.now ≡ cursor.old.bytes.now }
+    ensures left { length cursor.new.rest.now ≤ length cursor.old.rest.now }
+    ensures fault { IfErr result (λ e. e ≡ SpecError.NoMemory) }
+{
+    let mut ops = Vec::new(cursor.alloc);
+    while let Class::Prefix(op) = class(cursor) {
+        skip(cursor);
+        let Ok(()) = ops.push(op) else {
+            return Err(SpecError::NoMemory);
+        };
+    }
+    Ok(ops)
+}
+
+/// Adds the nodes of operators over a formula, whose nodes are the last.
+fn apply(mut ops: Vec<Unary>, nodes: &mut Items<Node<Token>>) -> Result<(), SpecError>
+    ensures ok { OnOk result (nodes.new ≡ nodes.old ++ behind_all ops.items) }
+    ensures err { IfErr result (λ e. e ≡ SpecError.NoMemory) }
+{
+    while let Some(op) = ops.pop() {
+        nodes.push(Node::Prefix(op))?;
+    }
+    Ok(())
+}
+
+/// Adds the nodes of `=>` whose right parts begin at these places.
+fn close(mut starts: Vec<usize>, nodes: &mut Items<Node<Token>>) -> Result<(), SpecError>
+    ensures ok { OnOk result (nodes.new ≡ nodes.old ++ closing starts.items (length nodes.old)) }
+    ensures err { IfErr result (λ e. e ≡ SpecError.NoMemory) }
+{
+    while let Some(start) = starts.pop() {
+        let right = nodes.as_slice().len().saturating_sub(start);
+        nodes.push(Node::Infix(Binary::Implies, right))?;
+    }
+    Ok(())
+}
+
+/// A formula of a rank.
+#[cycle(formula)]
+fn part(cursor: &mut Cursor, rank: u8, nodes: &mut Items<Node<Token>>) -> Result<(), SpecError>
+    requires { rank ≤ 6 }
+    ensures reads { AddsBy cursor.old.bytes.now (λ inner. part_at cursor.old.bytes.now inner rank) result nodes.old nodes.new cursor.old.rest.now cursor.new.rest.now }
+    ensures bytes { cursor.new.bytes.now ≡ cursor.old.bytes.now }
+    ensures left { OnOk result (length cursor.new.rest.now < length cursor.old.rest.now) }
+{
+    if rank == 0 {
+        operand(cursor, nodes)
+    } else if rank == IMPLIES {
+        implications(cursor, nodes)
+    } else {
+        joined(cursor, rank, nodes)
+    }
+}
+
+/// Parts with operators of a rank between them, which group to the left.
+#[cycle(formula)]
+fn joined(cursor: &mut Cursor, rank: u8, nodes: &mut Items<Node<Token>>) -> Result<(), SpecError>
+    requires some { 0 < rank }
+    requires few { rank ≤ 6 }
+    requires other { rank ≢ 5 }
+    ensures reads { AddsBy cursor.old.bytes.now (λ inner. part_at cursor.old.bytes.now inner rank) result nodes.old nodes.new cursor.old.rest.now cursor.new.rest.now }
+    ensures bytes { cursor.new.bytes.now ≡ cursor.old.bytes.now }
+    ensures left { OnOk result (length cursor.new.rest.now < length cursor.old.rest.now) }
+{
+    part(cursor, rank - 1, nodes)?;
+    while begins(cursor, rank) {
+        join(cursor, rank, nodes)?;
+    }
+    Ok(())
+}
+
+/// An operator of a rank and its right part, behind its left part.
+#[cycle(formula)]
+fn join(cursor: &mut Cursor, rank: u8, nodes: &mut Items<Node<Token>>) -> Result<(), SpecError>
+    requires some { 0 < rank }
+    requires few { rank ≤ 6 }
+    ensures reads { (before : List (Node Token)) (f : Formula Token) → nodes.old ≡ before ++ postfix f →
+        AddsBy cursor.old.bytes.now (λ inner. join_at cursor.old.bytes.now (part_at cursor.old.bytes.now inner (rank - 1)) f) result before nodes.new cursor.old.rest.now cursor.new.rest.now }
+    ensures bytes { cursor.new.bytes.now ≡ cursor.old.bytes.now }
+    ensures left { OnOk result (length cursor.new.rest.now < length cursor.old.rest.now) }
+{
+    let Class::Infix(op) = class(cursor) else {
+        return Err(cursor.syntax());
+    };
+    skip(cursor);
+    let start = nodes.as_slice().len();
+    part(cursor, rank - 1, nodes)?;
+    let right = nodes.as_slice().len().saturating_sub(start);
+    nodes.push(Node::Infix(op, right))
+}
+
+/// Parts with `=>` between them, which group to the right.
+#[cycle(formula)]
+fn implications(cursor: &mut Cursor, nodes: &mut Items<Node<Token>>) -> Result<(), SpecError>
+    ensures reads { AddsBy cursor.old.bytes.now (λ inner. part_at cursor.old.bytes.now inner 5) result nodes.old nodes.new cursor.old.rest.now cursor.new.rest.now }
+    ensures bytes { cursor.new.bytes.now ≡ cursor.old.bytes.now }
+    ensures left { OnOk result (length cursor.new.rest.now < length cursor.old.rest.now) }
+{
+    let mut starts = Vec::new(cursor.alloc);
+    part(cursor, IMPLIES - 1, nodes)?;
+    while begins(cursor, IMPLIES) {
+        imply(cursor, &mut starts, nodes)?;
+    }
+    close(starts, nodes)
+}
+
+/// An operator `=>` and the part behind it, which begins at the last of the places.
+#[cycle(formula)]
+fn imply(
+    cursor: &mut Cursor,
+    starts: &mut Vec<usize>,
+    nodes: &mut Items<Node<Token>>,
+) -> Result<(), SpecError>
+    ensures reads { AddsBy cursor.old.bytes.now (λ inner. skip_at (part_at cursor.old.bytes.now inner 4)) result nodes.old nodes.new cursor.old.rest.now cursor.new.rest.now }
+    ensures starts { OnOk result (starts.new.items ≡ starts.old.items ++ length nodes.old ∷ []) }
+    ensures bytes { cursor.new.bytes.now ≡ cursor.old.bytes.now }
+    ensures left { OnOk result (length cursor.new.rest.now < length cursor.old.rest.now) }
+{
+    skip(cursor);
+    let Ok(()) = starts.push(nodes.as_slice().len()) else {
+        return Err(SpecError::NoMemory);
+    };
+    part(cursor, IMPLIES - 1, nodes)
+}
+
+/// Operators of one part, and an atom.
+#[cycle(formula)]
+fn operand(cursor: &mut Cursor, nodes: &mut Items<Node<Token>>) -> Result<(), SpecError>
+    ensures reads { AddsBy cursor.old.bytes.now (λ inner. operand_at cursor.old.bytes.now inner) result nodes.old nodes.new cursor.old.rest.now cursor.new.rest.now }
+    ensures bytes { cursor.new.bytes.now ≡ cursor.old.bytes.now }
+    ensures left { OnOk result (length cursor.new.rest.now < length cursor.old.rest.now) }
+{
+    let ops = prefixes(cursor)?;
+    atom(cursor, nodes)?;
+    apply(ops, nodes)
+}
+
+/// An event, `true`, `false`, or a formula in parentheses.
+#[cycle(formula)]
+fn atom(cursor: &mut Cursor, nodes: &mut Items<Node<Token>>) -> Result<(), SpecError>
+    ensures reads { AddsBy cursor.old.bytes.now (λ inner. atom_at cursor.old.bytes.now inner) result nodes.old nodes.new cursor.old.rest.now cursor.new.rest.now }
+    ensures bytes { cursor.new.bytes.now ≡ cursor.old.bytes.now }
+    ensures left { OnOk result (length cursor.new.rest.now < length cursor.old.rest.now) }
+{
+    let [token, ..] = cursor.rest else {
+        return Err(cursor.syntax());
+    };
+    let token = *token;
+    match class_of(cursor.bytes, token) {
+        Class::Name => {
+            skip(cursor);
+            nodes.push(Node::Event(token))
+        }
+        Class::Constant(truth) => {
+            skip(cursor);
+            nodes.push(Node::Constant(truth))
+        }
+        Class::Open => {
+            skip(cursor);
+            nested(cursor, nodes)
+        }
+        _ => Err(cursor.syntax()),
+    }
+}
+
+/// A formula and the `)` behind it.
+#[cycle(formula)]
+fn nested(cursor: &mut Cursor, nodes: &mut Items<Node<Token>>) -> Result<(), SpecError>
+    ensures reads { AddsBy cursor.old.bytes.now (λ inner. inside_at cursor.old.bytes.now inner) result nodes.old nodes.new cursor.old.rest.now cursor.new.rest.now }
+    ensures bytes { cursor.new.bytes.now ≡ cursor.old.bytes.now }
+    ensures left { OnOk result (length cursor.new.rest.now < length cursor.old.rest.now) }
+{
+    part(cursor, WHOLE, nodes)?;
+    let Class::Close = class(cursor) else {
+        return Err(cursor.syntax());
+    };
+    skip(cursor);
+    Ok(())
+}
+
+/// All tokens as a formula.
+pub fn formula(cursor: &mut Cursor) -> Result<Items<Node<Token>>, SpecError>
+    ensures { Gives result (formula_at cursor.old.bytes.now cursor.old.rest.now) }
+{
+    let mut nodes = Items::new(cursor.alloc);
+    part(cursor, WHOLE, &mut nodes)?;
+    match cursor.rest {
+        [] => Ok(nodes),
+        _ => Err(cursor.syntax()),
+    }
+}
