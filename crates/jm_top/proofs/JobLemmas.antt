@@ -1,6 +1,7 @@
 -- What the status of a command says of its job.
 use Rattle.std.proofs.Common.{◌≡◌, ℕ, zero, suc, ◌<◌, ◌≤◌, ◌⊎◌, inl, inr, List, [], ◌∷◌, length, Option, Some, None, refl, sym, ap, subst, ◌∙◌, arith}
 use Rattle.std.specs.Prelude.{IfSome, IsSome}
+use Rattle.jm_port.specs.Faults.{HasRisen}
 use Rattle.jm_model.specs.declared.fault.SpecFault.TheVariants as spec
 use Rattle.jm_model.specs.declared.fault.ScriptFault.TheVariants as script
 use Rattle.jm_model.specs.declared.fault.SpecFault.{SpecFault}
@@ -174,3 +175,7 @@ before_script s bytes (BadSpec f x) h = tt
 before_script s bytes (BadScript f x) h = tt
 before_script s bytes (ReadFailed f) h = tt
 before_script s bytes NoMemory h = tt
+
+-- a count that rose later rose since before
+pub risen_before : {before middle after : ℕ} → before ≤ middle → HasRisen middle after → HasRisen before after
+risen_before {before} {middle} {after} le h = elim h [ inl more ↦ inl (omega (arith, le, more)) | inr last ↦ inr last ]

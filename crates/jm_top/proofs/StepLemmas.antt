@@ -3,7 +3,8 @@ use Rattle.std.proofs.Common.{◌≡◌, ℕ, ◌≤◌, List, [], ◌∷◌, le
 use Rattle.std.specs.Prelude.{All}
 use Rattle.jm_model.specs.declared.fault.ScriptFault.{ScriptFault}
 use Rattle.jm_model.specs.declared.fault.ScriptFault.TheVariants.{BadLine}
-use Rattle.jm_model.specs.declared.fault.ScriptError.TheVariants.{Bad}
+use Rattle.jm_model.specs.declared.fault.ScriptError.{ScriptError}
+use Rattle.jm_model.specs.declared.fault.ScriptError.TheVariants.{Bad, NoMemory}
 use Rattle.jm_script.specs.declared.script.ScriptLine.{ScriptLine}
 use Rattle.jm_script.specs.Catalogs.{CatalogEntry}
 use Rattle.jm_script.specs.Meanings.{script_meaning}
@@ -15,10 +16,7 @@ use Rattle.jm_top.specs.declared.script.Steps.{Steps}
 use Rattle.jm_top.specs.FaultTexts.{script_line}
 use Rattle.jm_top.specs.Specifications.{Specification, most_bytes}
 use Rattle.jm_top.specs.Scripts.{IsScriptFault, in_line, catalog_of, meaning_over, with_disposal, unless_behind, lines_fault}
-use Rattle.jm_top.specs.Steps.{IsReadScript}
-
-pub same_err : {X E : Type 0} {x y : E} → ◌≡◌ {A = Result X E} (Err x) (Err y) → x ≡ y
-same_err e = cc
+use Rattle.jm_top.specs.Steps.{IsReadScript, IsRefusedAs}
 
 pub same_bad : {x y : ScriptFault} → Bad x ≡ Bad y → x ≡ y
 same_bad e = cc
@@ -49,5 +47,8 @@ module _ (s : Specification) (bytes : List ℕ) (catalog : List CatalogEntry) (n
   disposal_alone line script objects count fault first whole is =
       in_line fault small (fault_is None whole.sound ∙ ap (λ d. with_disposal d None) first ∙ ap (λ x. Some x) is)
 
-  pub faulty_line : (f : ScriptFault) (objects : List (List ℕ)) (count : ℕ) (answer fault : ScriptFault) → IsLeft (script_meaning catalog 0 bytes names) 0 names (Bad f) objects count → with_disposal disposal (Some f) ≡ Some answer → answer ≡ fault → IsScriptFault s bytes fault
-  faulty_line f objects count answer fault left answers is = in_line fault small (fault_is (Some f) left.first ∙ answers ∙ ap (λ x. Some x) is)
+  pub faulty_line : (error answer : ScriptError) (objects : List (List ℕ)) (count : ℕ) (fault : ScriptFault) → IsLeft (script_meaning catalog 0 bytes names) 0 names error objects count → IsRefusedAs disposal error answer → answer ≡ Bad fault → IsScriptFault s bytes fault
+  faulty_line (Bad f) (Bad g) objects count fault left answers is = in_line fault small (fault_is (Some f) left.first ∙ answers ∙ ap (λ x. Some x) (same_bad is))
+  faulty_line (Bad f) NoMemory objects count fault left answers is = absurd answers
+  faulty_line NoMemory (Bad g) objects count fault left answers is = absurd answers
+  faulty_line NoMemory NoMemory objects count fault left answers is = absurd cc

@@ -1,5 +1,5 @@
 -- The tree of a frame, and what is wrong with a frame so far.
-use Rattle.std.proofs.Common.{◌≡◌, ℕ, ◌<◌, ◌≤◌, inl, inr, List, [], ◌∷◌, length, Option, Some, None, Result, Ok, Err, IfOk, IfErr, refl, sym, ap, subst, ◌∙◌, arith}
+use Rattle.std.proofs.Common.{◌≡◌, ℕ, ◌+◌, ◌<◌, ◌≤◌, inl, inr, List, [], ◌∷◌, length, Option, Some, None, Result, Ok, Err, IfOk, IfErr, refl, sym, ap, subst, ◌∙◌, arith}
 use Rattle.std.specs.Prelude.{All, ◌^◌, map, string_bytes}
 use Rattle.std.proofs.lemmas.List.Elements.{All-head}
 use Rattle.jm_model.specs.declared.fault.SpecFault.{SpecFault}
@@ -7,6 +7,7 @@ use Rattle.jm_model.specs.declared.fault.SpecFault.TheVariants.{Syntax, Unsuppor
 use Rattle.jm_model.specs.declared.fault.SpecError.{SpecError}
 use Rattle.jm_model.specs.declared.fault.SpecError.TheVariants.{Bad, NoMemory}
 use Rattle.jm_text.specs.declared.token.Token.{Token}
+use Rattle.jm_text.specs.Spans.{LieInOrder}
 use Rattle.jm_text.specs.Tokens.{AreTokensOf}
 use Rattle.jm_reading.specs.Tokens.{name_of}
 use Rattle.jm_spec.specs.Trees.{Refuses, Checks}
@@ -167,3 +168,8 @@ module _ (bytes : List ℕ) (tree : SpecTree) (m : StateMachine) (token : Token)
       fit = subst (λ (x : RuleSet). All (λ mask. mask < 2 ^ length tree.table.parameters) x.masks) (sym is) fit;
     };
   }
+
+-- ---- the tokens of a file
+pub tokens_few : (from to : ℕ) (tokens : List Token) → LieInOrder from tokens to → from + length tokens ≤ to
+tokens_few from to [] h = omega (arith, h)
+tokens_few from to (t ∷ ts) h = omega (arith, h.0, h.1, tokens_few t.end to ts h.2)

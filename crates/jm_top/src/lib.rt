@@ -19,4 +19,3 @@ mod words;
 pub use command::jmop;
 pub use status::Status;
 pub use texts::fault_text;
-

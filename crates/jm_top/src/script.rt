@@ -4,7 +4,7 @@ ghost use Rattle.jm_model.specs.declared.fault.ScriptFault.{ScriptFault};
 ghost use Rattle.jm_top.specs.FaultTexts.{script_line};
 ghost use Rattle.jm_top.specs.Specifications.{Specification, most_bytes};
 ghost use Rattle.jm_top.specs.Scripts.{IsScriptFault, catalog_of, unless_behind, with_disposal};
-ghost use Rattle.jm_top.specs.Steps.{IsReadScript};
+ghost use Rattle.jm_top.specs.Steps.{IsReadScript, IsRefusedAs};
 
 use crate::texts::script_line;
 use jm_events::Names;
@@ -41,8 +41,17 @@ pub(crate) fn read_steps(
             None => Ok(Steps { script, objects }),
             Some(line) => Err(ScriptError::Bad(ScriptFault::BadLine { line })),
         },
-        Err(ScriptError::Bad(fault)) => Err(ScriptError::Bad(first_fault(disposal, fault))),
-        Err(ScriptError::NoMemory) => Err(ScriptError::NoMemory),
+        Err(error) => Err(refused(disposal, error)),
+    }
+}
+
+/// What the reading of the lines answers, in view of the first line that begins as a death or a pass does.
+fn refused(disposal: Option<u32>, error: ScriptError) -> ScriptError
+    ensures { IsRefusedAs disposal error result }
+{
+    match error {
+        ScriptError::Bad(fault) => ScriptError::Bad(first_fault(disposal, fault)),
+        ScriptError::NoMemory => ScriptError::NoMemory,
     }
 }
 
