@@ -19,3 +19,6 @@ mod words;
 pub use command::jmop;
 pub use status::Status;
 pub use texts::fault_text;
+
+#[cfg(test)]
+mod tests;
