@@ -8,6 +8,7 @@
 #![tactic(auto)]
 
 mod command;
+mod laws;
 mod replay;
 mod rules;
 mod script;
@@ -17,6 +18,7 @@ mod texts;
 mod words;
 
 pub use command::jmop;
+pub use laws::one_reading;
 pub use status::Status;
 pub use texts::fault_text;
 
