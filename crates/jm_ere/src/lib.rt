@@ -5,6 +5,8 @@
 //! on the expression.
 #![tactic(auto)]
 
+mod forms;
+mod order;
 mod tree;
 
 pub use tree::{Ere, Tree};
