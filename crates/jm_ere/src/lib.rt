@@ -6,7 +6,9 @@
 #![tactic(auto)]
 
 mod forms;
+mod keys;
 mod order;
+mod sizes;
 mod tree;
 
 pub use tree::{Ere, Tree};
