@@ -38,6 +38,14 @@ pub(crate) fn copy(alloc: Global, tree: &Tree) -> Result<Tree, SpecError>
     }
 }
 
+/// `r*` of a normal form `r`.
+pub(crate) fn repeated(alloc: Global, r: &Tree) -> Result<Tree, SpecError>
+    ensures ok { IfOk result (λ t. expression_of t ≡ Star (expression_of r.now)) }
+    ensures err { IfErr result (λ e. e ≡ SpecError.NoMemory) }
+{
+    Ok(Tree::Star(boxed(alloc, copy(alloc, r)?)?))
+}
+
 fn then(alloc: Global, r: Tree, s: Tree) -> Result<Tree, SpecError>
     ensures ok { IfOk result (λ t. expression_of t ≡ Product (expression_of r) (expression_of s)) }
     ensures err { IfErr result (λ e. e ≡ SpecError.NoMemory) }

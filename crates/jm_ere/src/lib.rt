@@ -5,6 +5,7 @@
 //! on the expression.
 #![tactic(auto)]
 
+mod derivative;
 mod forms;
 mod keys;
 mod order;
