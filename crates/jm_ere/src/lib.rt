@@ -7,9 +7,11 @@
 
 mod derivative;
 mod forms;
+mod graph;
 mod keys;
 mod order;
 mod sizes;
 mod tree;
+mod written;
 
 pub use tree::{Ere, Tree};
