@@ -4,13 +4,12 @@ ghost use Rattle.jm_ere.specs.Trees.{expression_of};
 
 use crate::derivative::derivative;
 use crate::keys::key_of;
-use crate::order::order;
+use crate::order::is_same;
 use crate::tree::Ere;
 use crate::written::normal_form;
 use jm_model::{Letter, SpecError};
 use jm_table::Graph;
 use std::alloc::Global;
-use std::cmp::Ordering;
 
 /// The normal form of an expression and all derivatives as nodes.
 #[derive(Drop)]
@@ -41,7 +40,7 @@ impl Graph for Forms {
     }
 
     fn same(&self, a: &Ere, b: &Ere) -> bool {
-        order(&a.tree, &b.tree) == Ordering::Equal
+        is_same(&a.tree, &b.tree)
     }
 
     fn key(&self, node: &Ere) -> u64 {

@@ -1,5 +1,5 @@
 //! The fixed order of expressions, and the kinds that rules ask for.
-ghost use Rattle.std.specs.Prelude.{◌≡◌};
+ghost use Rattle.std.specs.Prelude.{◌≡◌, ◌↔◌, IsTrue};
 ghost use Rattle.jm_ere.specs.Trees.{expression_of};
 ghost use Rattle.jm_ere.specs.NormalForms.{rank, order, is_nothing, is_everything, is_epsilon, is_product, is_union, is_intersection, is_nullable};
 
@@ -36,6 +36,18 @@ pub(crate) fn order(a: &Tree, b: &Tree) -> Ordering
         (Tree::Either(r, s), Tree::Either(p, q)) => order(r, p).then(order(s, q)),
         (Tree::Both(r, s), Tree::Both(p, q)) => order(r, p).then(order(s, q)),
         _ => rank(a).cmp(&rank(b)),
+    }
+}
+
+/// Whether two expressions are the same.
+#[tactic(auto, using(crate::proofs::OrderLemmas::order_tells, crate::proofs::OrderLemmas::order_same))]
+pub(crate) fn is_same(a: &Tree, b: &Tree) -> bool
+    ensures { IsTrue result ↔ (expression_of a.now ≡ expression_of b.now) }
+{
+    match order(a, b) {
+        Ordering::Less => false,
+        Ordering::Equal => true,
+        Ordering::Greater => false,
     }
 }
 
