@@ -1,0 +1,6 @@
+pub mod Expressions
+pub mod Languages
+pub mod NormalForms
+pub mod Keys
+pub mod Codes
+pub mod Trees
