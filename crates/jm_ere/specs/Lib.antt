@@ -4,3 +4,6 @@ pub mod NormalForms
 pub mod Keys
 pub mod Codes
 pub mod Trees
+pub mod Formulas
+pub mod Spelling
+pub mod Rules

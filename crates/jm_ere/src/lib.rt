@@ -9,9 +9,12 @@ mod derivative;
 mod forms;
 mod graph;
 mod keys;
+mod laws;
 mod order;
+mod reader;
 mod sizes;
 mod tree;
 mod written;
 
+pub use laws::one_reading;
 pub use tree::{Ere, Tree};
