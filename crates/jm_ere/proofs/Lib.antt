@@ -5,3 +5,5 @@ pub mod SignLemmas
 pub mod CompleteLemmas
 pub mod SoundLemmas
 pub mod FormulaLemmas
+pub mod EventLemmas
+pub mod ReadLemmas

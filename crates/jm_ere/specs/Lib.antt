@@ -7,3 +7,5 @@ pub mod Trees
 pub mod Formulas
 pub mod Spelling
 pub mod Rules
+pub mod Readings
+pub mod Values

@@ -1,8 +1,10 @@
 -- How a reader goes over the tokens of a formula: what a token means, and what was read so far after it. The nodes of the
 -- formula are written with each operator behind its operands.
-use Rattle.std.specs.Prelude.{ℕ, zero, suc, Bool, true, false, List, [], ◌∷◌, ◌++◌, Option, Some, None, option_and_then, codes, if◌then◌else◌}
+use Rattle.std.specs.Prelude.{ℕ, zero, suc, ◌≡◌, Bool, true, false, List, [], ◌∷◌, ◌++◌, Option, Some, None, Result, Ok, Err, option_and_then, codes, if◌then◌else◌}
+use Rattle.jm_model.specs.declared.fault.SpecError.{SpecError}
 use Rattle.jm_text.specs.declared.token.Token.{Token}
 use Rattle.jm_text.specs.Texts.{is_name, is_word, is_mark}
+use Rattle.jm_reading.specs.Answers.{FailsAt}
 use Rattle.jm_ere.specs.declared.reader.Atom.TheVariants.{Name, Epsilon, Empty}
 use Rattle.jm_ere.specs.declared.reader.Unary.TheVariants.{Not, Any, Many}
 use Rattle.jm_ere.specs.declared.reader.Binary.{Binary}
@@ -99,6 +101,11 @@ behind_operand p sign = before_operand (juxtaposed p) sign
 -- after a token; nothing, where it can't go on so
 abbrev pub after_sign : Parser → Sign → Option Parser
 after_sign p sign = if p.frame.ready then behind_operand p sign else before_operand p sign
+
+-- a call takes tokens, after which a reader is so far, or fails where they can't stand
+abbrev pub Takes : {X : Type 0} → Result X SpecError → Parser → Option Parser → Type 0
+Takes (Ok x) new after = after ≡ Some new
+Takes (Err e) new after = FailsAt e after
 
 -- after all tokens
 abbrev pub after_all : List ℕ → Parser → List Token → Option Parser

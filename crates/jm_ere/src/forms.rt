@@ -10,7 +10,7 @@ use jm_model::SpecError;
 use std::alloc::Global;
 use std::cmp::Ordering;
 
-fn boxed(alloc: Global, tree: Tree) -> Result<Box<Tree>, SpecError>
+pub(crate) fn boxed(alloc: Global, tree: Tree) -> Result<Box<Tree>, SpecError>
     ensures ok { IfOk result (λ b. expression_of b.value ≡ expression_of tree) }
     ensures err { IfErr result (λ e. e ≡ SpecError.NoMemory) }
 {

@@ -6,15 +6,19 @@
 #![tactic(auto)]
 
 mod derivative;
+mod faults;
 mod forms;
 mod graph;
 mod keys;
 mod laws;
 mod order;
 mod reader;
+mod reading;
 mod sizes;
 mod tree;
+mod value;
 mod written;
 
 pub use laws::one_reading;
+pub use reading::read;
 pub use tree::{Ere, Tree};

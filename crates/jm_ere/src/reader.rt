@@ -1,8 +1,8 @@
 //! The reader of a formula. It goes over the tokens once, and writes operands before their operators.
 ghost use Rattle.std.specs.Prelude.{◌≡◌, [], ◌++◌, OnOk, IfOk, IfErr, MatchBool, None, Some};
 ghost use Rattle.jm_text.specs.Spans.{LiesWithin, LieWithin};
-ghost use Rattle.jm_reading.specs.Answers.{Gives};
-ghost use Rattle.jm_ere.specs.Rules.{sign_of, fresh, beginning, flag, complements, end_not, end_sequence, end_both, end_either, with_steps, juxtaposed, closed, before_operand, behind_operand, after_sign, parsed};
+ghost use Rattle.jm_reading.specs.Answers.{Gives, IsSyntax};
+ghost use Rattle.jm_ere.specs.Rules.{sign_of, fresh, beginning, flag, complements, end_not, end_sequence, end_both, end_either, with_steps, juxtaposed, closed, before_operand, behind_operand, after_sign, after_all, finished, parsed, Takes};
 
 use jm_model::{SpecError, SpecFault};
 use jm_reading::{Items, Stack};
@@ -298,6 +298,48 @@ impl Parser {
             self.before_operand(sign)
         }
     }
+
+    /// A token, which has to be able to stand here.
+    fn take(&mut self, bytes: &[u8], token: Token) -> Result<(), SpecError>
+        requires { LiesWithin bytes.now token }
+        ensures { Takes result self.new (after_sign self.old (sign_of bytes.now token)) }
+    {
+        if self.follow(sign_of(bytes, token))? {
+            Ok(())
+        } else {
+            Err(syntax(token.line))
+        }
+    }
+
+    /// All nodes, if the formula may end. Its last token is on the line.
+    fn finish(self, line: u32) -> Result<Items<Step>, SpecError>
+        ensures { Gives result (finished self.outer self.frame.ready self) }
+    {
+        let mut parser = self;
+        if !parser.frame.ready {
+            return Err(syntax(line));
+        }
+        match parser.outer.pop() {
+            Some(_) => Err(syntax(line)),
+            None => parser.all_steps(),
+        }
+    }
+
+    fn all_steps(self) -> Result<Items<Step>, SpecError>
+        ensures ok { IfOk result (λ steps. steps ≡ self.steps ++ end_either self.frame) }
+        ensures err { IfErr result (λ e. e ≡ SpecError.NoMemory) }
+    {
+        let mut parser = self;
+        parser.end_either()?;
+        let Parser { steps, .. } = parser;
+        Ok(steps)
+    }
+}
+
+fn syntax(line: u32) -> SpecError
+    ensures { IsSyntax result }
+{
+    SpecError::Bad(SpecFault::Syntax { line })
 }
 
 /// Writes so many `~`.
@@ -309,4 +351,35 @@ fn push_nots(steps: &mut Items<Step>, count: u32) -> Result<(), SpecError>
         steps.push(Step::Wrap(Unary::Not))?;
     }
     Ok(())
+}
+
+/// The tokens one after the other, each of which has to be able to stand where it does.
+fn take_all(parser: &mut Parser, bytes: &[u8], tokens: &[Token]) -> Result<(), SpecError>
+    requires { LieWithin bytes.now tokens.now }
+    ensures { Takes result parser.new (after_all bytes.now parser.old tokens.now) }
+{
+    for token in tokens {
+        parser.take(bytes, *token)?;
+    }
+    Ok(())
+}
+
+/// The nodes of the formula that the tokens spell, operands first. The token before them is on the line.
+#[tactic(auto, unfolding(crate::specs::Rules::parsed))]
+pub(crate) fn parse(
+    alloc: Global,
+    bytes: &[u8],
+    tokens: &[Token],
+    line: u32,
+) -> Result<Items<Step>, SpecError>
+    requires { LieWithin bytes.now tokens.now }
+    ensures { Gives result (parsed bytes.now tokens.now) }
+{
+    let last_line = match tokens {
+        [.., token] => token.line,
+        [] => line,
+    };
+    let mut parser = Parser::new(alloc);
+    take_all(&mut parser, bytes, tokens)?;
+    parser.finish(last_line)
 }
