@@ -1,3 +1,4 @@
 pub mod OrderLemmas
 pub mod LanguageLemmas
 pub mod NormalLemmas
+pub mod LiveLemmas

@@ -9,6 +9,7 @@ mod derivative;
 mod forms;
 mod graph;
 mod keys;
+mod live;
 mod order;
 mod sizes;
 mod tree;
