@@ -1,4 +1,7 @@
 pub mod OrderLemmas
 pub mod LanguageLemmas
 pub mod NormalLemmas
+pub mod FormLemmas
 pub mod LiveLemmas
+pub mod CompileLemmas
+pub mod RefusalLemmas

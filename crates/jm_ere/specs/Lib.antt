@@ -3,5 +3,7 @@ pub mod Languages
 pub mod NormalForms
 pub mod Keys
 pub mod Groups
+pub mod Categories
+pub mod Refusals
 pub mod Codes
 pub mod Trees

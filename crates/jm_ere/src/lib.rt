@@ -5,6 +5,7 @@
 //! on the expression.
 #![tactic(auto)]
 
+mod compile;
 mod derivative;
 mod forms;
 mod graph;
