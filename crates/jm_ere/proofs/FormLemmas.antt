@@ -67,19 +67,19 @@ normal_gives (Star r) = gives_then (part false (normal_run r)) (InLanguage r) (�
 normal_gives (Plus r) =
     gives_then (part false (normal_run r)) (InLanguage r) (λ n. fitting (star_of n) >>= λ s. Ok (product_of n s)) (InLanguage (Plus r)) (gives_part false (normal_run r) (InLanguage r) (normal_gives r))
     (λ n same. gives_then (fitting (star_of n)) (InLanguage (Star r)) (λ s. Ok (product_of n s)) (InLanguage (Plus r)) (gives_fitting (star_of n) (InLanguage (Star r)) (star_gives n r same))
-      (λ s more. product_gives n s (InLanguage r) (InLanguage (Star r)) same more))
+    (λ s more. product_gives n s (InLanguage r) (InLanguage (Star r)) same more))
 normal_gives (Product r s) =
     gives_then (part (is_product r) (normal_run r)) (InLanguage r) (λ n. part (is_product s) (normal_run s) >>= λ m. Ok (product_of n m)) (InLanguage (Product r s)) (gives_part (is_product r) (normal_run r) (InLanguage r) (normal_gives r))
     (λ n same. gives_then (part (is_product s) (normal_run s)) (InLanguage s) (λ m. Ok (product_of n m)) (InLanguage (Product r s)) (gives_part (is_product s) (normal_run s) (InLanguage s) (normal_gives s))
-      (λ m more. product_gives n m (InLanguage r) (InLanguage s) same more))
+    (λ m more. product_gives n m (InLanguage r) (InLanguage s) same more))
 normal_gives (Union r s) =
     gives_then (part (is_union r) (normal_run r)) (InLanguage r) (λ n. part (is_union s) (normal_run s) >>= λ m. Ok (union_of n m)) (InLanguage (Union r s)) (gives_part (is_union r) (normal_run r) (InLanguage r) (normal_gives r))
     (λ n same. gives_then (part (is_union s) (normal_run s)) (InLanguage s) (λ m. Ok (union_of n m)) (InLanguage (Union r s)) (gives_part (is_union s) (normal_run s) (InLanguage s) (normal_gives s))
-      (λ m more. union_gives n m (InLanguage r) (InLanguage s) same more))
+    (λ m more. union_gives n m (InLanguage r) (InLanguage s) same more))
 normal_gives (Intersection r s) =
     gives_then (part (is_intersection r) (normal_run r)) (InLanguage r) (λ n. part (is_intersection s) (normal_run s) >>= λ m. Ok (intersection_of n m)) (InLanguage (Intersection r s)) (gives_part (is_intersection r) (normal_run r) (InLanguage r) (normal_gives r))
     (λ n same. gives_then (part (is_intersection s) (normal_run s)) (InLanguage s) (λ m. Ok (intersection_of n m)) (InLanguage (Intersection r s)) (gives_part (is_intersection s) (normal_run s) (InLanguage s) (normal_gives s))
-      (λ m more. intersection_gives n m (InLanguage r) (InLanguage s) same more))
+    (λ m more. intersection_gives n m (InLanguage r) (InLanguage s) same more))
 normal_gives (Symbol x) = itself (InLanguage (Symbol x))
 normal_gives EmptyWord = itself (InLanguage EmptyWord)
 normal_gives NoWord = itself (InLanguage NoWord)
@@ -88,13 +88,13 @@ normal_gives NoWord = itself (InLanguage NoWord)
 
 product_derived : (x : ℕ) (r s : Expression) (b : Bool) (d : Expression) → Same (InLanguage d) (InLanguage (plain x r)) → Gives (derivative_run x s) (InLanguage (plain x s))
     → Gives (if b then (fitting (product_of d s) >>= λ front. part false (derivative_run x s) >>= λ e. Ok (union_of front e)) else Ok (product_of d s))
-            (InLanguage (if b then Union (Product (plain x r) s) (plain x s) else Product (plain x r) s))
+    (InLanguage (if b then Union (Product (plain x r) s) (plain x s) else Product (plain x r) s))
 product_derived x r s true d same second =
     gives_then (fitting (product_of d s)) (InLanguage (Product (plain x r) s)) (λ front. part false (derivative_run x s) >>= λ e. Ok (union_of front e)) (InLanguage (Union (Product (plain x r) s) (plain x s)))
     (gives_fitting (product_of d s) (InLanguage (Product (plain x r) s)) (product_gives d s (InLanguage (plain x r)) (InLanguage s) same (itself (InLanguage s))))
     (λ front keeps. gives_then (part false (derivative_run x s)) (InLanguage (plain x s)) (λ e. Ok (union_of front e)) (InLanguage (Union (Product (plain x r) s) (plain x s)))
-      (gives_part false (derivative_run x s) (InLanguage (plain x s)) second)
-      (λ e more. union_gives front e (InLanguage (Product (plain x r) s)) (InLanguage (plain x s)) keeps more))
+    (gives_part false (derivative_run x s) (InLanguage (plain x s)) second)
+    (λ e more. union_gives front e (InLanguage (Product (plain x r) s)) (InLanguage (plain x s)) keeps more))
 product_derived x r s false d same second = product_gives d s (InLanguage (plain x r)) (InLanguage s) same (itself (InLanguage s))
 
 pub derivative_gives : (x : ℕ) (r : Expression) → Gives (derivative_run x r) (InLanguage (plain x r))
@@ -116,11 +116,11 @@ derivative_gives x (Product r s) =
 derivative_gives x (Union r s) =
     gives_then (part false (derivative_run x r)) (InLanguage (plain x r)) (λ d. part (is_union s) (derivative_run x s) >>= λ e. Ok (union_of d e)) (InLanguage (Union (plain x r) (plain x s))) (gives_part false (derivative_run x r) (InLanguage (plain x r)) (derivative_gives x r))
     (λ d same. gives_then (part (is_union s) (derivative_run x s)) (InLanguage (plain x s)) (λ e. Ok (union_of d e)) (InLanguage (Union (plain x r) (plain x s))) (gives_part (is_union s) (derivative_run x s) (InLanguage (plain x s)) (derivative_gives x s))
-      (λ e more. union_gives d e (InLanguage (plain x r)) (InLanguage (plain x s)) same more))
+    (λ e more. union_gives d e (InLanguage (plain x r)) (InLanguage (plain x s)) same more))
 derivative_gives x (Intersection r s) =
     gives_then (part false (derivative_run x r)) (InLanguage (plain x r)) (λ d. part (is_intersection s) (derivative_run x s) >>= λ e. Ok (intersection_of d e)) (InLanguage (Intersection (plain x r) (plain x s))) (gives_part false (derivative_run x r) (InLanguage (plain x r)) (derivative_gives x r))
     (λ d same. gives_then (part (is_intersection s) (derivative_run x s)) (InLanguage (plain x s)) (λ e. Ok (intersection_of d e)) (InLanguage (Intersection (plain x r) (plain x s))) (gives_part (is_intersection s) (derivative_run x s) (InLanguage (plain x s)) (derivative_gives x s))
-      (λ e more. intersection_gives d e (InLanguage (plain x r)) (InLanguage (plain x s)) same more))
+    (λ e more. intersection_gives d e (InLanguage (plain x r)) (InLanguage (plain x s)) same more))
 
 -- ---- along a word
 
@@ -132,7 +132,7 @@ step_gives : (e : Expression) (x : ℕ) (F : Formed) (L : List ℕ → Type 0) �
 step_gives e x (Err fault) L gives = tt
 step_gives e x (Ok d) L gives =
     gives_part false (derivative_run x d) (λ w. L (x ∷ w)) (gives_along (derivative_run x d) (InLanguage (plain x d)) (λ w. L (x ∷ w)) (derivative_gives x d)
-      (through (InLanguage (plain x d)) (λ w. InLanguage d (x ∷ w)) (λ w. L (x ∷ w)) (λ w. let t = plain_tells x d w in (t.1, t.0)) (λ w. gives (x ∷ w))))
+    (through (InLanguage (plain x d)) (λ w. InLanguage d (x ∷ w)) (λ w. L (x ∷ w)) (λ w. let t = plain_tells x d w in (t.1, t.0)) (λ w. gives (x ∷ w))))
 
 path_gives : (e : Expression) (word : List ℕ) (F : Formed) (L : List ℕ → Type 0) → Gives F L → Gives (fold (step_from (forms_of e)) F word) (λ w. L (word ++ w))
 path_gives e [] F L gives = gives

@@ -116,8 +116,8 @@ join_union_keeps t run =
     if_keeps (is_nothing t || is_everything run) run (if is_everything t || is_nothing run then t else put_union t run) (Either t run)
     (λ test w. (λ h. inr h, elim [ inl h ↦ elim (or_true (is_nothing t) (is_everything run) test) [ inl none ↦ absurd (none_in t w none h) | inr all ↦ all_in run w all ] | inr h ↦ h ]))
     (λ _. if_keeps (is_everything t || is_nothing run) t (put_union t run) (Either t run)
-      (λ test w. (λ h. inl h, elim [ inl h ↦ h | inr h ↦ elim (or_true (is_everything t) (is_nothing run) test) [ inl all ↦ all_in t w all | inr none ↦ absurd (none_in run w none h) ] ]))
-      (λ _. put_union_keeps t run))
+    (λ test w. (λ h. inl h, elim [ inl h ↦ h | inr h ↦ elim (or_true (is_everything t) (is_nothing run) test) [ inl all ↦ all_in t w all | inr none ↦ absurd (none_in run w none h) ] ]))
+    (λ _. put_union_keeps t run))
 
 -- flattened, sorted and without doubles
 pub union_keeps : (r run : Expression) → Same (InLanguage (union_of r run)) (Either r run)
@@ -156,8 +156,8 @@ join_intersection_keeps t run =
     if_keeps (is_everything t || is_nothing run) run (if is_nothing t || is_everything run then t else put_intersection t run) (Both t run)
     (λ test w. (λ h. elim (or_true (is_everything t) (is_nothing run) test) [ inl all ↦ (all_in t w all, h) | inr none ↦ absurd (none_in run w none h) ], λ h. h.1))
     (λ _. if_keeps (is_nothing t || is_everything run) t (put_intersection t run) (Both t run)
-      (λ test w. (λ h. elim (or_true (is_nothing t) (is_everything run) test) [ inl none ↦ absurd (none_in t w none h) | inr all ↦ (h, all_in run w all) ], λ h. h.0))
-      (λ _. put_intersection_keeps t run))
+    (λ test w. (λ h. elim (or_true (is_nothing t) (is_everything run) test) [ inl none ↦ absurd (none_in t w none h) | inr all ↦ (h, all_in run w all) ], λ h. h.0))
+    (λ _. put_intersection_keeps t run))
 
 pub intersection_keeps : (r run : Expression) → Same (InLanguage (intersection_of r run)) (Both r run)
 intersection_keeps (Intersection p q) run w =

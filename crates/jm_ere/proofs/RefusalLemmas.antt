@@ -3,7 +3,9 @@ use Rattle.jm_model.specs.declared.fault.Counted.TheVariants.{Term}
 use Rattle.jm_model.specs.declared.fault.SpecFault.{SpecFault}
 use Rattle.jm_model.specs.declared.fault.SpecFault.TheVariants.{TooMany, TooManyStates}
 use Rattle.jm_table.specs.Graphs.{step_from, reached_by}
-use Rattle.jm_table.specs.Explorations.{IsMet, IsCrowded}
+use Rattle.jm_model.specs.declared.fault.SpecError.{SpecError}
+use Rattle.jm_model.specs.declared.fault.SpecError.TheVariants.{Bad, NoMemory}
+use Rattle.jm_table.specs.Explorations.{IfBad, IsMet, IsCrowded}
 use Rattle.jm_ere.specs.Expressions.{Expression, Symbol, EmptyWord, NoWord, Complement, Star, Plus, Product, Union, Intersection}
 use Rattle.jm_ere.specs.NormalForms.{is_product, is_union, is_intersection, complement_of, star_of, product_of, union_of, intersection_of, size_of, Formed, fitting, part, ◌>>=◌, normal_run, normal_form, is_nullable, derivative_run, derivative, forms_of}
 use Rattle.jm_ere.specs.Refusals.{IsCause}
@@ -77,3 +79,7 @@ met_is_term e letters fault met = subst (λ (F : Formed). OnlyTerm F) met.meets 
 -- a fault of the work has one of the two causes
 pub cause_is : (e : Expression) (letters : ℕ) (fault : SpecFault) → (IsMet (forms_of e) letters fault) ⊎ ((fault ≡ TooManyStates) × IsCrowded (forms_of e) letters) → IsCause e letters fault
 cause_is e letters fault = elim [ inl met ↦ inl (met_is_term e letters fault met, met) | inr many ↦ inr many ]
+
+pub causes : (e : Expression) (letters : ℕ) (error : SpecError) → IfBad error (λ fault. (IsMet (forms_of e) letters fault) ⊎ ((fault ≡ TooManyStates) × IsCrowded (forms_of e) letters)) → IfBad error (IsCause e letters)
+causes e letters (Bad fault) h = cause_is e letters fault h
+causes e letters NoMemory h = tt
