@@ -1,16 +1,15 @@
-use Rattle.std.proofs.Common.{ℕ, zero, suc, ◌≡◌, ◌<◌, ◌↔◌, Bool, true, false, inl, inr, ◌⊎◌, List, [], ◌∷◌, ◌++◌, Option, Some, None, IsSomeAnd, Result, Ok, Err, All, Contains, map, fold, length, slice_get, get_or, refl, sym, ap, subst, ◌∙◌, arith, length-append, OnOk}
+use Rattle.std.proofs.Common.{ℕ, zero, suc, ◌≡◌, ◌<◌, ◌↔◌, Bool, true, false, inl, inr, ◌⊎◌, List, [], ◌∷◌, ◌++◌, Option, Some, None, IsSomeAnd, Result, Ok, Err, All, Contains, map, length, slice_get, get_or, refl, sym, ap, subst, ◌∙◌, arith, OnOk}
 use Rattle.std.proofs.lemmas.List.{length-map}
-use Rattle.std.proofs.lemmas.Bool.{cases_lt}
 use Rattle.std.proofs.lemmas.Option.{slice_get_within}
 use Rattle.std.proofs.lemmas.List.Elements.{All-append, All-nil, Contains-get_or}
 use Rattle.std.proofs.lemmas.List.Sums.{fold-append}
 use Rattle.jm_model.specs.declared.fault.SpecFault.{SpecFault}
-use Rattle.jm_table.specs.Graphs.{GraphMeaning, reached_by}
-use Rattle.jm_table.specs.Tables.{Transitions, IsWord, IsInGroup, Follows, next_of, state_from, state_after_of}
+use Rattle.jm_table.specs.Graphs.{reached_by}
+use Rattle.jm_table.specs.Tables.{Transitions, IsWord, Follows, next_of, state_from, state_after_of}
 use Rattle.jm_ere.specs.Expressions.{Expression}
 use Rattle.jm_ere.specs.Languages.{InLanguage, IsFailed}
 use Rattle.jm_ere.specs.NormalForms.{is_nullable, forms_of}
-use Rattle.jm_ere.specs.Groups.{IsCompiled, HasGroups, IsMatching, LeadsToMatch, AreLive, IsClosed, LeadsToDead}
+use Rattle.jm_ere.specs.Groups.{IsCompiled, HasGroups, IsMatching, LeadsToMatch, AreLive, IsClosed}
 use Rattle.jm_ere.proofs.LanguageLemmas.{Decided, Same, nullable_tells}
 use Rattle.jm_ere.proofs.FormLemmas.{Gives, reached_gives}
 

@@ -1,9 +1,9 @@
-use Rattle.std.proofs.Common.{ℕ, ◌≡◌, ◌↔◌, nat_le, Bool, true, false, inl, inr, ◌⊎◌, List, [], ◌∷◌, ◌++◌, Result, Ok, Err, refl, sym, ap, subst, ◌∙◌, if◌then◌else◌, fold}
+use Rattle.std.proofs.Common.{ℕ, nat_le, Bool, true, false, inl, inr, ◌⊎◌, List, [], ◌∷◌, ◌++◌, Ok, Err, if◌then◌else◌, fold}
 use Rattle.jm_model.specs.declared.fault.SpecFault.{SpecFault}
 use Rattle.jm_table.specs.Graphs.{step_from, reached_by}
 use Rattle.jm_ere.specs.Expressions.{Expression, Symbol, EmptyWord, NoWord, Complement, Star, Plus, Product, Union, Intersection}
-use Rattle.jm_ere.specs.Languages.{InLanguage, IsSplit, IsChain}
-use Rattle.jm_ere.specs.NormalForms.{is_product, is_union, is_intersection, complement_of, star_of, product_of, union_of, intersection_of, size_of, Formed, fitting, part, ◌>>=◌, normal_run, normal_form, is_nullable, derivative_run, derivative, forms_of}
+use Rattle.jm_ere.specs.Languages.{InLanguage, IsSplit}
+use Rattle.jm_ere.specs.NormalForms.{is_product, is_union, is_intersection, complement_of, star_of, product_of, union_of, intersection_of, size_of, Formed, fitting, part, ◌>>=◌, normal_run, normal_form, is_nullable, derivative_run, forms_of}
 use Rattle.jm_ere.proofs.LanguageLemmas.{Same, split_map, chain_map, plain, plain_tells}
 use Rattle.jm_ere.proofs.NormalLemmas.{complement_keeps, star_keeps, product_keeps, union_keeps, intersection_keeps}
 

@@ -1,13 +1,11 @@
-use Rattle.std.proofs.Common.{ℕ, ◌≡◌, ◌≢◌, ◌<◌, ◌≤◌, ◌+◌, ◌↔◌, inl, inr, ◌⊎◌, suc, zero, Bool, true, false, List, [], ◌∷◌, ◌++◌, Option, Some, None, IsSomeAnd, All, Contains, map, fold, length, slice_get, slice_set, get_or, refl, sym, ap, subst, ◌∙◌, arith, length-append}
+use Rattle.std.proofs.Common.{ℕ, ◌≡◌, ◌<◌, ◌≤◌, ◌+◌, ◌↔◌, inl, inr, ◌⊎◌, suc, zero, Bool, true, false, List, [], ◌∷◌, ◌++◌, Option, Some, Contains, length, slice_get, slice_set, get_or, refl, sym, ap, subst, ◌∙◌, arith}
 use mathlib.Core.Bool.{beq}
 use Rattle.std.proofs.lemmas.Bool.{cases_lt}
-use Rattle.std.proofs.lemmas.Option.{slice_get_past, slice_get_within, slice_get-get_or}
-use Rattle.std.proofs.lemmas.List.Elements.{All-append, All-push, All-nil, All-contains, Contains-push, Contains-push_cases, Contains-append_left, Contains-append_right}
-use Rattle.std.proofs.lemmas.List.Sums.{fold-append}
-use Rattle.jm_table.specs.Tables.{Transitions, IsWord, next_of, state_from}
+use Rattle.std.proofs.lemmas.Option.{slice_get_within, slice_get-get_or}
+use Rattle.std.proofs.lemmas.List.Elements.{All-append, All-push, All-nil, Contains-push, Contains-push_cases, Contains-append_left}
+use Rattle.jm_table.specs.Tables.{Transitions, IsWord, next_of}
 use Rattle.jm_ere.specs.Expressions.{Expression}
-use Rattle.jm_ere.specs.NormalForms.{is_nullable}
-use Rattle.jm_ere.specs.Groups.{AreLive, IsMatching, LeadsToMatch, LeadsToLive, LeadsToDead, IsClosed}
+use Rattle.jm_ere.specs.Groups.{AreLive, LeadsToMatch, LeadsToLive}
 
 -- ---- places of flags
 

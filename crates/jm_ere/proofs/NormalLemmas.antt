@@ -1,14 +1,12 @@
-use Rattle.std.proofs.Common.{ℕ, ◌≡◌, ◌≢◌, ◌↔◌, ◌==◌, ◌&&◌, ◌||◌, nat_le, not, Bool, true, false, inl, inr, ◌⊎◌, List, [], ◌∷◌, ◌++◌, Result, Ok, Err, refl, sym, ap, subst, ◌∙◌, append_assoc, if◌then◌else◌, fold}
+use Rattle.std.proofs.Common.{ℕ, ◌≡◌, ◌≢◌, ◌||◌, Bool, true, false, inl, inr, ◌⊎◌, List, [], ◌∷◌, ◌++◌, refl, sym, ap, subst, ◌∙◌, append_assoc, if◌then◌else◌}
 use Rattle.std.specs.List.{AllByRecursion}
 use Rattle.std.specs.declared.cmp.Ordering.{Ordering}
 use Rattle.std.specs.declared.cmp.Ordering.TheVariants.{Less, Equal, Greater}
-use Rattle.jm_model.specs.declared.fault.SpecFault.{SpecFault}
-use Rattle.jm_table.specs.Graphs.{step_from, reached_by}
-use Rattle.jm_ere.specs.Expressions.{Expression, Symbol, EmptyWord, NoWord, Complement, Star, Plus, Product, Union, Intersection}
-use Rattle.jm_ere.specs.Languages.{InLanguage, IsSplit, IsChain, joined}
-use Rattle.jm_ere.specs.NormalForms.{order, by_order, is_nothing, is_everything, is_epsilon, is_product, is_union, is_intersection, complement_of, star_of, before, product_of, put_union, join_union, union_of, put_intersection, join_intersection, intersection_of, size_of, Formed, fitting, part, ◌>>=◌, normal_run, normal_form, is_nullable, derivative_run, derivative, forms_of}
+use Rattle.jm_ere.specs.Expressions.{Expression, EmptyWord, NoWord, Complement, Star, Product, Union, Intersection}
+use Rattle.jm_ere.specs.Languages.{InLanguage, IsChain, joined}
+use Rattle.jm_ere.specs.NormalForms.{order, by_order, is_nothing, is_everything, complement_of, star_of, before, product_of, put_union, join_union, union_of, put_intersection, join_intersection, intersection_of}
 use Rattle.jm_ere.proofs.OrderLemmas.{order_tells}
-use Rattle.jm_ere.proofs.LanguageLemmas.{Same, split_map, chain_map, chain_of_chains, chain_empty, plain, plain_tells, decide}
+use Rattle.jm_ere.proofs.LanguageLemmas.{Same, chain_of_chains, chain_empty, decide}
 
 -- ---- each rule keeps the language
 

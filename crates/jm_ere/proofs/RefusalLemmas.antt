@@ -1,13 +1,13 @@
-use Rattle.std.proofs.Common.{ℕ, ◌≡◌, nat_le, Bool, true, false, inl, inr, ◌⊎◌, List, [], ◌∷◌, Result, Ok, Err, refl, subst, if◌then◌else◌, fold}
+use Rattle.std.proofs.Common.{ℕ, ◌≡◌, nat_le, Bool, true, false, inl, inr, ◌⊎◌, List, [], ◌∷◌, Ok, Err, refl, subst, if◌then◌else◌, fold}
 use Rattle.jm_model.specs.declared.fault.Counted.TheVariants.{Term}
 use Rattle.jm_model.specs.declared.fault.SpecFault.{SpecFault}
 use Rattle.jm_model.specs.declared.fault.SpecFault.TheVariants.{TooMany, TooManyStates}
-use Rattle.jm_table.specs.Graphs.{step_from, reached_by}
+use Rattle.jm_table.specs.Graphs.{step_from}
 use Rattle.jm_model.specs.declared.fault.SpecError.{SpecError}
 use Rattle.jm_model.specs.declared.fault.SpecError.TheVariants.{Bad, NoMemory}
 use Rattle.jm_table.specs.Explorations.{IfBad, IsMet, IsCrowded}
 use Rattle.jm_ere.specs.Expressions.{Expression, Symbol, EmptyWord, NoWord, Complement, Star, Plus, Product, Union, Intersection}
-use Rattle.jm_ere.specs.NormalForms.{is_product, is_union, is_intersection, complement_of, star_of, product_of, union_of, intersection_of, size_of, Formed, fitting, part, ◌>>=◌, normal_run, normal_form, is_nullable, derivative_run, derivative, forms_of}
+use Rattle.jm_ere.specs.NormalForms.{is_product, is_union, is_intersection, complement_of, star_of, product_of, union_of, intersection_of, size_of, Formed, fitting, part, ◌>>=◌, normal_run, normal_form, is_nullable, derivative_run, forms_of}
 use Rattle.jm_ere.specs.Refusals.{IsCause}
 
 -- no fault but that of a form that is too large

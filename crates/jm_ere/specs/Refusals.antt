@@ -1,5 +1,5 @@
 -- When `compile` refuses. The order of work is that of tables: breadth first, letters in order.
-use Rattle.std.specs.Prelude.{ℕ, ◌≡◌, ◌⊎◌, List, length, Ok, Err}
+use Rattle.std.specs.Prelude.{ℕ, ◌≡◌, ◌⊎◌, List, Ok, Err}
 use Rattle.jm_model.specs.declared.fault.Counted.TheVariants.{Term}
 use Rattle.jm_model.specs.declared.fault.SpecFault.{SpecFault}
 use Rattle.jm_model.specs.declared.fault.SpecFault.TheVariants.{TooMany, TooManyStates}

@@ -1,4 +1,4 @@
-use Rattle.std.proofs.Common.{ℕ, ◌≡◌, ◌<◌, ◌↔◌, ◌++◌, ◌∷◌, [], Bool, true, false, Some, All, Contains, List, Err, length, map, slice_get, sym, ap, subst, ◌∙◌}
+use Rattle.std.proofs.Common.{ℕ, ◌≡◌, ◌<◌, ◌↔◌, Bool, true, false, Some, All, Contains, List, length, slice_get, sym, ap, subst, ◌∙◌}
 use Rattle.std.proofs.lemmas.List.{length-map}
 use Rattle.jm_table.specs.Tables.{Transitions}
 use Rattle.jm_ere.specs.NormalForms.{is_nullable}

@@ -1,4 +1,4 @@
-use Rattle.std.proofs.Common.{ℕ, ◌≡◌, ◌+◌, Bool, true, false, List, sym, ap, subst, ◌∙◌}
+use Rattle.std.proofs.Common.{ℕ, ◌+◌, List, sym, ap, subst, ◌∙◌}
 use Rattle.jm_ere.proofs.LiveLemmas.{ArePlaces, flag_is, flag_is_not, place_more, place_same, all_places}
 use Rattle.jm_ere.proofs.live.places.Goals as goal
 use Rattle.jm_ere.proofs.live.places.Goals.{then-flag-value+in-Ok, else-flag-value}

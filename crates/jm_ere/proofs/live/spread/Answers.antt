@@ -1,6 +1,5 @@
-use Rattle.std.proofs.Common.{ℕ, ◌≡◌, Bool, true, false, Some, List, slice_get, slice_set, sym, subst, ◌∙◌}
-use Rattle.jm_ere.specs.Expressions.{Expression}
-use Rattle.jm_ere.specs.Groups.{AreLive, LeadsToLive}
+use Rattle.std.proofs.Common.{Bool, List, subst}
+use Rattle.jm_ere.specs.Groups.{LeadsToLive}
 use Rattle.jm_ere.proofs.LiveLemmas.{live_more}
 use Rattle.jm_ere.proofs.live.spread.Goals as goal
 

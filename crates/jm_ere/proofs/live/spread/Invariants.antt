@@ -1,4 +1,4 @@
-use Rattle.std.proofs.Common.{ℕ, ◌≡◌, List, vec_len}
+use Rattle.std.proofs.Common.{◌≡◌, List, vec_len}
 use Rattle.jm_ere.specs.Expressions.{Expression}
 use Rattle.jm_ere.specs.Groups.{AreLive}
 use Rattle.jm_ere.proofs.LiveLemmas.{dead_count}

@@ -1,7 +1,6 @@
-use Rattle.std.proofs.Common.{ℕ, ◌≡◌, ◌<◌, List, Err, length, map, sym, ap, subst, ◌∙◌}
+use Rattle.std.proofs.Common.{ℕ, ◌≡◌, List, length, subst, ◌∙◌}
 use Rattle.std.proofs.lemmas.Result.{err_from_is_err_and}
-use Rattle.jm_model.specs.declared.fault.SpecFault.{SpecFault}
-use Rattle.jm_table.specs.Explorations.{IfBad, IsMet, IsCrowded}
+use Rattle.jm_table.specs.Explorations.{IfBad}
 use Rattle.jm_table.specs.Tables.{Follows}
 use Rattle.jm_ere.specs.Expressions.{Expression}
 use Rattle.jm_ere.specs.NormalForms.{forms_of}
