@@ -17,3 +17,6 @@ mod tree;
 mod written;
 
 pub use tree::{Ere, Tree};
+
+#[cfg(test)]
+mod compile_tests;
