@@ -22,7 +22,7 @@ abbrev pub at : List Step → Bool → Bool → Bool → ℕ → Bool → List F
 at steps e b t n ready outer = record {
   steps = steps;
   frame = record { has_either = e; has_both = b; has_then = t; nots = n; ready = ready };
-  outer = outer
+  outer = outer;
 }
 
 -- ---- one token, and several
@@ -193,8 +193,8 @@ module _ (bytes : List ℕ) where
         second.0,
         second.1,
         went bytes front behind (at os e b false 0 false outer) (at first.2 e b first.0 first.1 true outer) first.3
-        ∙ next_operand bytes first.2 e b first.0 first.1 outer behind begin
-        ∙ second.2,
+            ∙ next_operand bytes first.2 e b first.0 first.1 outer behind begin
+            ∙ second.2,
         joins os here (postfix f) second.1 (postfix g) (Join Then ∷ []) (complements second.0) first.4 (second.3 ∙ append-nil (here ++ postfix g)),
       )
 
@@ -208,8 +208,8 @@ module _ (bytes : List ℕ) where
         second.1,
         second.2,
         went bytes front (mark ∷ behind) (at os e false false 0 false outer) (at first.3 e first.0 first.1 first.2 true outer) first.4
-        ∙ follow bytes (at first.3 e first.0 first.1 first.2 true outer) (at here e true false 0 false outer) mark behind Ampersand h refl
-        ∙ second.3,
+            ∙ follow bytes (at first.3 e first.0 first.1 first.2 true outer) (at here e true false 0 false outer) mark behind Ampersand h refl
+            ∙ second.3,
         joins os here (postfix f) second.2 (postfix g) (Join Both ∷ []) (complements second.1 ++ flag second.0 Then) first.5 second.4,
       )
 
@@ -224,8 +224,8 @@ module _ (bytes : List ℕ) where
         second.2,
         second.3,
         went bytes front (mark ∷ behind) (at os false false false 0 false outer) (at first.4 first.0 first.1 first.2 first.3 true outer) first.5
-        ∙ follow bytes (at first.4 first.0 first.1 first.2 first.3 true outer) (at here true false false 0 false outer) mark behind Bar h refl
-        ∙ second.4,
+            ∙ follow bytes (at first.4 first.0 first.1 first.2 first.3 true outer) (at here true false false 0 false outer) mark behind Bar h refl
+            ∙ second.4,
         joins os here (postfix f) second.3 (postfix g) (Join Either ∷ []) ((complements second.2 ++ flag second.1 Then) ++ flag second.0 Both) first.6 second.5,
       )
 

@@ -7,3 +7,7 @@ pub mod SoundLemmas
 pub mod FormulaLemmas
 pub mod EventLemmas
 pub mod ReadLemmas
+pub mod FormLemmas
+pub mod LiveLemmas
+pub mod CompileLemmas
+pub mod RefusalLemmas

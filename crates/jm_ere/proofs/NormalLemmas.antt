@@ -1,14 +1,12 @@
-use Rattle.std.proofs.Common.{ℕ, ◌≡◌, ◌≢◌, ◌↔◌, ◌==◌, ◌&&◌, ◌||◌, nat_le, not, Bool, true, false, inl, inr, ◌⊎◌, List, [], ◌∷◌, ◌++◌, Result, Ok, Err, refl, sym, ap, subst, ◌∙◌, append_assoc, if◌then◌else◌, fold}
+use Rattle.std.proofs.Common.{ℕ, ◌≡◌, ◌≢◌, ◌||◌, Bool, true, false, inl, inr, ◌⊎◌, List, [], ◌∷◌, ◌++◌, refl, sym, ap, subst, ◌∙◌, append_assoc, if◌then◌else◌}
 use Rattle.std.specs.List.{AllByRecursion}
 use Rattle.std.specs.declared.cmp.Ordering.{Ordering}
 use Rattle.std.specs.declared.cmp.Ordering.TheVariants.{Less, Equal, Greater}
-use Rattle.jm_model.specs.declared.fault.SpecFault.{SpecFault}
-use Rattle.jm_table.specs.Graphs.{step_from, reached_by}
-use Rattle.jm_ere.specs.Expressions.{Expression, Symbol, EmptyWord, NoWord, Complement, Star, Plus, Product, Union, Intersection}
-use Rattle.jm_ere.specs.Languages.{InLanguage, IsSplit, IsChain, joined}
-use Rattle.jm_ere.specs.NormalForms.{order, by_order, is_nothing, is_everything, is_epsilon, is_product, is_union, is_intersection, complement_of, star_of, before, product_of, put_union, join_union, union_of, put_intersection, join_intersection, intersection_of, size_of, Formed, fitting, part, ◌>>=◌, normal_run, normal_form, is_nullable, derivative_run, derivative, forms_of}
+use Rattle.jm_ere.specs.Expressions.{Expression, EmptyWord, NoWord, Complement, Star, Product, Union, Intersection}
+use Rattle.jm_ere.specs.Languages.{InLanguage, IsChain, joined}
+use Rattle.jm_ere.specs.NormalForms.{order, by_order, is_nothing, is_everything, complement_of, star_of, before, product_of, put_union, join_union, union_of, put_intersection, join_intersection, intersection_of}
 use Rattle.jm_ere.proofs.OrderLemmas.{order_tells}
-use Rattle.jm_ere.proofs.LanguageLemmas.{Same, split_map, chain_map, chain_of_chains, chain_empty, plain, plain_tells, decide}
+use Rattle.jm_ere.proofs.LanguageLemmas.{Same, chain_of_chains, chain_empty, decide}
 
 -- ---- each rule keeps the language
 
@@ -116,8 +114,8 @@ join_union_keeps t run =
     if_keeps (is_nothing t || is_everything run) run (if is_everything t || is_nothing run then t else put_union t run) (Either t run)
     (λ test w. (λ h. inr h, elim [ inl h ↦ elim (or_true (is_nothing t) (is_everything run) test) [ inl none ↦ absurd (none_in t w none h) | inr all ↦ all_in run w all ] | inr h ↦ h ]))
     (λ _. if_keeps (is_everything t || is_nothing run) t (put_union t run) (Either t run)
-      (λ test w. (λ h. inl h, elim [ inl h ↦ h | inr h ↦ elim (or_true (is_everything t) (is_nothing run) test) [ inl all ↦ all_in t w all | inr none ↦ absurd (none_in run w none h) ] ]))
-      (λ _. put_union_keeps t run))
+    (λ test w. (λ h. inl h, elim [ inl h ↦ h | inr h ↦ elim (or_true (is_everything t) (is_nothing run) test) [ inl all ↦ all_in t w all | inr none ↦ absurd (none_in run w none h) ] ]))
+    (λ _. put_union_keeps t run))
 
 -- flattened, sorted and without doubles
 pub union_keeps : (r run : Expression) → Same (InLanguage (union_of r run)) (Either r run)
@@ -156,8 +154,8 @@ join_intersection_keeps t run =
     if_keeps (is_everything t || is_nothing run) run (if is_nothing t || is_everything run then t else put_intersection t run) (Both t run)
     (λ test w. (λ h. elim (or_true (is_everything t) (is_nothing run) test) [ inl all ↦ (all_in t w all, h) | inr none ↦ absurd (none_in run w none h) ], λ h. h.1))
     (λ _. if_keeps (is_nothing t || is_everything run) t (put_intersection t run) (Both t run)
-      (λ test w. (λ h. elim (or_true (is_nothing t) (is_everything run) test) [ inl none ↦ absurd (none_in t w none h) | inr all ↦ (h, all_in run w all) ], λ h. h.0))
-      (λ _. put_intersection_keeps t run))
+    (λ test w. (λ h. elim (or_true (is_nothing t) (is_everything run) test) [ inl none ↦ absurd (none_in t w none h) | inr all ↦ (h, all_in run w all) ], λ h. h.0))
+    (λ _. put_intersection_keeps t run))
 
 pub intersection_keeps : (r run : Expression) → Same (InLanguage (intersection_of r run)) (Both r run)
 intersection_keeps (Intersection p q) run w =

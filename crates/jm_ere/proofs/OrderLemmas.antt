@@ -1,10 +1,10 @@
-use Rattle.std.proofs.Common.{ℕ, ◌≡◌, ◌↔◌, refl, sym, ap, ◌∙◌, arith, IsTrue}
+use Rattle.std.proofs.Common.{ℕ, ◌≡◌, refl, sym, ap}
 use Rattle.std.specs.Ordering.{nat_cmp, ordering_then}
 use Rattle.std.specs.declared.cmp.Ordering.{Ordering}
 use Rattle.std.specs.declared.cmp.Ordering.TheVariants.{Less, Equal, Greater}
-use Rattle.std.proofs.lemmas.Cmp.{ranked, by_ranked, tied_itself, nat_cmp_total}
+use Rattle.std.proofs.lemmas.Cmp.{ranked, tied_itself, nat_cmp_total}
 use Rattle.jm_ere.specs.Expressions.{Expression, Symbol, EmptyWord, NoWord, Complement, Star, Plus, Product, Union, Intersection}
-use Rattle.jm_ere.specs.NormalForms.{order, rank}
+use Rattle.jm_ere.specs.NormalForms.{order}
 
 numbers_equal : (x y : ℕ) → nat_cmp x y ≡ Equal → x ≡ y
 numbers_equal x y e = let h = ranked x y Equal (sym e) in h

@@ -46,7 +46,7 @@ module _ (bytes : List ℕ) (events : List (List ℕ)) where
       ap (with_steps bytes events stack) (append_assoc (postfix f ++ postfix g) (Join operator ∷ []) rest ∙ append_assoc (postfix f) (postfix g) (Join operator ∷ rest))
       ∙ values f stack (postfix g ++ Join operator ∷ rest)
       ∙ then_same (expression_said bytes events f) (λ r. with_steps bytes events (r ∷ stack) (postfix g ++ Join operator ∷ rest)) (λ r. (expression_said bytes events g >>> (λ s. Ok (between operator r s))) >>> (λ t. with_steps bytes events (t ∷ stack) rest))
-        (λ r. values g (r ∷ stack) (Join operator ∷ rest) ∙ sym (then_then (expression_said bytes events g) (λ s. Ok (between operator r s)) (λ t. with_steps bytes events (t ∷ stack) rest)))
+      (λ r. values g (r ∷ stack) (Join operator ∷ rest) ∙ sym (then_then (expression_said bytes events g) (λ s. Ok (between operator r s)) (λ t. with_steps bytes events (t ∷ stack) rest)))
       ∙ sym (then_then (expression_said bytes events f) (λ r. expression_said bytes events g >>> (λ s. Ok (between operator r s))) (λ r. with_steps bytes events (r ∷ stack) rest))
 
   value_is : (f : Formula) → with_steps bytes events [] (postfix f) ≡ expression_said bytes events f >>> (λ r. Ok (r ∷ []))

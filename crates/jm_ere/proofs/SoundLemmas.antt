@@ -190,114 +190,166 @@ module _ (bytes : List ℕ) where
             whole.0,
             subst (λ (l : List Token). SpellsBy bytes AltRule l whole.0) (sym h.cut) whole.1,
             after_either h.oe h.ob h.ot h.ol (complements n) (flag t Then) (flag b Both) (flag e Either) os h.out
-            ∙ sym (whole.2 ∙ ap (λ (l : List Step). (h.oe ++ l) ++ flag e Either) both_ended.2),
+                ∙ sym (whole.2 ∙ ap (λ (l : List Step). (h.oe ++ l) ++ flag e Either) both_ended.2),
           )
 
       -- ---- the tokens behind it
 
       juxtaposes : Waits e b true 0 ts (os ++ (complements n ++ flag t Then))
       juxtaposes = record {
-        te = h.te; tb = h.tb; tt' = h.tt' ++ (h.tn ++ h.tl); tn = []; tl = [];
-        oe = h.oe; ob = h.ob; ot = (h.ot ++ (h.ol ++ complements n)) ++ flag t Then; ol = [];
+        te = h.te;
+        tb = h.tb;
+        tt' = h.tt' ++ (h.tn ++ h.tl);
+        tn = [];
+        tl = [];
+        oe = h.oe;
+        ob = h.ob;
+        ot = (h.ot ++ (h.ol ++ complements n)) ++ flag t Then;
+        ol = [];
         held_either = h.held_either;
         held_both = h.held_both;
         held_then = (sequence_ended.0, sequence_ended.1, sym sequence_ended.2);
         tildes = refl;
         last = (refl, refl);
         cut = h.cut ∙ ap (λ (l : List Token). h.te ++ (h.tb ++ l)) (sym (append-nil (h.tt' ++ (h.tn ++ h.tl))));
-        out = after_then h.oe h.ob h.ot h.ol (complements n) (flag t Then) os h.out
+        out = after_then h.oe h.ob h.ot h.ol (complements n) (flag t Then) os h.out;
       }
 
       intersects : (m : Token) → IsMark bytes (codes "&") m → Waits e true false 0 (ts ++ m ∷ []) (os ++ ((complements n ++ flag t Then) ++ flag b Both))
       intersects m is =
           let front = h.tb ++ (h.tt' ++ (h.tn ++ h.tl)) in record {
-        te = h.te; tb = front ++ m ∷ []; tt' = []; tn = []; tl = [];
-        oe = h.oe; ob = (h.ob ++ ((h.ot ++ (h.ol ++ complements n)) ++ flag t Then)) ++ flag b Both; ot = []; ol = [];
-        held_either = h.held_either;
-        held_both = (front, m, both_ended.0, refl, is, both_ended.1, sym both_ended.2);
-        held_then = (refl, refl);
-        tildes = refl;
-        last = (refl, refl);
-        cut = ap (λ (l : List Token). l ++ m ∷ []) h.cut ∙ append_assoc h.te front (m ∷ []) ∙ ap (λ (l : List Token). h.te ++ l) (sym (append-nil (front ++ m ∷ [])));
-        out = after_both h.oe h.ob h.ot h.ol (complements n) (flag t Then) (flag b Both) os h.out
-      }
+            te = h.te;
+            tb = front ++ m ∷ [];
+            tt' = [];
+            tn = [];
+            tl = [];
+            oe = h.oe;
+            ob = (h.ob ++ ((h.ot ++ (h.ol ++ complements n)) ++ flag t Then)) ++ flag b Both;
+            ot = [];
+            ol = [];
+            held_either = h.held_either;
+            held_both = (front, m, both_ended.0, refl, is, both_ended.1, sym both_ended.2);
+            held_then = (refl, refl);
+            tildes = refl;
+            last = (refl, refl);
+            cut = ap (λ (l : List Token). l ++ m ∷ []) h.cut ∙ append_assoc h.te front (m ∷ []) ∙ ap (λ (l : List Token). h.te ++ l) (sym (append-nil (front ++ m ∷ [])));
+            out = after_both h.oe h.ob h.ot h.ol (complements n) (flag t Then) (flag b Both) os h.out;
+          }
 
       unites : (m : Token) → IsMark bytes (codes "|") m → Waits true false false 0 (ts ++ m ∷ []) (os ++ (((complements n ++ flag t Then) ++ flag b Both) ++ flag e Either))
       unites m is = record {
-        te = ts ++ m ∷ []; tb = []; tt' = []; tn = []; tl = [];
-        oe = os ++ (((complements n ++ flag t Then) ++ flag b Both) ++ flag e Either); ob = []; ot = []; ol = [];
+        te = ts ++ m ∷ [];
+        tb = [];
+        tt' = [];
+        tn = [];
+        tl = [];
+        oe = os ++ (((complements n ++ flag t Then) ++ flag b Both) ++ flag e Either);
+        ob = [];
+        ot = [];
+        ol = [];
         held_either = (ts, m, either_ended.0, refl, is, either_ended.1, either_ended.2);
         held_both = (refl, refl);
         held_then = (refl, refl);
         tildes = refl;
         last = (refl, refl);
         cut = sym (append-nil (ts ++ m ∷ []));
-        out = sym (append-nil (os ++ (((complements n ++ flag t Then) ++ flag b Both) ++ flag e Either)))
+        out = sym (append-nil (os ++ (((complements n ++ flag t Then) ++ flag b Both) ++ flag e Either)));
       }
 
       suffixes : (m : Token) (operator : Unary) → SpellsBy bytes RepRule (h.tl ++ m ∷ []) (Over operator h.last.0) → FrameHolds (record { has_either = e; has_both = b; has_then = t; nots = n; ready = true }) (ts ++ m ∷ []) (os ++ Wrap operator ∷ [])
       suffixes m operator d = record {
-        te = h.te; tb = h.tb; tt' = h.tt'; tn = h.tn; tl = h.tl ++ m ∷ [];
-        oe = h.oe; ob = h.ob; ot = h.ot; ol = h.ol ++ Wrap operator ∷ [];
+        te = h.te;
+        tb = h.tb;
+        tt' = h.tt';
+        tn = h.tn;
+        tl = h.tl ++ m ∷ [];
+        oe = h.oe;
+        ob = h.ob;
+        ot = h.ot;
+        ol = h.ol ++ Wrap operator ∷ [];
         held_either = h.held_either;
         held_both = h.held_both;
         held_then = h.held_then;
         tildes = h.tildes;
         last = (Over operator h.last.0, d, ap (λ (l : List Step). l ++ Wrap operator ∷ []) h.last.2);
         cut = behind_five h.te h.tb h.tt' h.tn h.tl ts (m ∷ []) h.cut;
-        out = behind_four h.oe h.ob h.ot h.ol os (Wrap operator ∷ []) h.out
+        out = behind_four h.oe h.ob h.ot h.ol os (Wrap operator ∷ []) h.out;
       }
 
   -- a frame whose last operand is to come
   module _ (e b t : Bool) (n : ℕ) (ts : List Token) (os : List Step) (h : FrameHolds (record { has_either = e; has_both = b; has_then = t; nots = n; ready = false }) ts os) where
     takes_operand : (us : List Token) (f : Formula) → SpellsBy bytes RepRule us f → FrameHolds (record { has_either = e; has_both = b; has_then = t; nots = n; ready = true }) (ts ++ us) (os ++ postfix f)
     takes_operand us f d = record {
-      te = h.te; tb = h.tb; tt' = h.tt'; tn = h.tn; tl = us;
-      oe = h.oe; ob = h.ob; ot = h.ot; ol = postfix f;
+      te = h.te;
+      tb = h.tb;
+      tt' = h.tt';
+      tn = h.tn;
+      tl = us;
+      oe = h.oe;
+      ob = h.ob;
+      ot = h.ot;
+      ol = postfix f;
       held_either = h.held_either;
       held_both = h.held_both;
       held_then = h.held_then;
       tildes = h.tildes;
       last = (f, d, refl);
       cut = behind_five h.te h.tb h.tt' h.tn h.tl ts us h.cut ∙ ap (λ (l : List Token). h.te ++ (h.tb ++ (h.tt' ++ (h.tn ++ (l ++ us))))) h.last.0;
-      out = behind_four h.oe h.ob h.ot h.ol os (postfix f) h.out ∙ ap (λ (l : List Step). h.oe ++ (h.ob ++ (h.ot ++ (l ++ postfix f)))) h.last.1
+      out = behind_four h.oe h.ob h.ot h.ol os (postfix f) h.out ∙ ap (λ (l : List Step). h.oe ++ (h.ob ++ (h.ot ++ (l ++ postfix f)))) h.last.1;
     }
 
     takes_tilde : (m : Token) → IsMark bytes (codes "~") m → FrameHolds (record { has_either = e; has_both = b; has_then = t; nots = suc n; ready = false }) (ts ++ m ∷ []) (os ++ [])
     takes_tilde m is = record {
-      te = h.te; tb = h.tb; tt' = h.tt'; tn = h.tn ++ m ∷ []; tl = [];
-      oe = h.oe; ob = h.ob; ot = h.ot; ol = [];
+      te = h.te;
+      tb = h.tb;
+      tt' = h.tt';
+      tn = h.tn ++ m ∷ [];
+      tl = [];
+      oe = h.oe;
+      ob = h.ob;
+      ot = h.ot;
+      ol = [];
       held_either = h.held_either;
       held_both = h.held_both;
       held_then = h.held_then;
       tildes = (h.tn, m, refl, h.tildes, is);
       last = (refl, refl);
       cut = behind_five h.te h.tb h.tt' h.tn h.tl ts (m ∷ []) h.cut ∙ ap (λ (l : List Token). h.te ++ (h.tb ++ (h.tt' ++ (h.tn ++ (l ++ m ∷ []))))) h.last.0 ∙ ap (λ (l : List Token). h.te ++ (h.tb ++ (h.tt' ++ l))) (sym (append-nil (h.tn ++ m ∷ [])));
-      out = append-nil os ∙ h.out ∙ ap (λ (l : List Step). h.oe ++ (h.ob ++ (h.ot ++ l))) h.last.1
+      out = append-nil os ∙ h.out ∙ ap (λ (l : List Step). h.oe ++ (h.ob ++ (h.ot ++ l))) h.last.1;
     }
 
   nothing_held : FrameHolds fresh [] []
   nothing_held = record {
-    te = []; tb = []; tt' = []; tn = []; tl = [];
-    oe = []; ob = []; ot = []; ol = [];
+    te = [];
+    tb = [];
+    tt' = [];
+    tn = [];
+    tl = [];
+    oe = [];
+    ob = [];
+    ot = [];
+    ol = [];
     held_either = (refl, refl);
     held_both = (refl, refl);
     held_then = (refl, refl);
     tildes = refl;
     last = (refl, refl);
     cut = refl;
-    out = refl
+    out = refl;
   }
 
   -- ---- one token more
 
   moved : (p : Parser) (frame : Frame) (steps more : List Step) (ts us : List Token) (h : Holds p ts) → steps ≡ p.steps ++ more → FrameHolds frame (h.t1 ++ us) (h.o1 ++ more) → Holds (record { steps = steps; frame = frame; outer = p.outer }) (ts ++ us)
   moved p frame steps more ts us h is inner = record {
-    t0 = h.t0; t1 = h.t1 ++ us; o0 = h.o0; o1 = h.o1 ++ more;
+    t0 = h.t0;
+    t1 = h.t1 ++ us;
+    o0 = h.o0;
+    o1 = h.o1 ++ more;
     cut = ap (λ (l : List Token). l ++ us) h.cut ∙ append_assoc h.t0 h.t1 us;
     out = is ∙ ap (λ (l : List Step). l ++ more) h.out ∙ append_assoc h.o0 h.o1 more;
     outer = h.outer;
-    inner = inner
+    inner = inner;
   }
 
   atom_spelled : (t : Token) (atom : Atom) → Says bytes t (Operand atom) → SpellsBy bytes RepRule (t ∷ []) (Leaf atom)
@@ -314,11 +366,14 @@ module _ (bytes : List ℕ) where
   opened : (os : List Step) (e b t : Bool) (n : ℕ) (outer : List Frame) (ts : List Token) (m : Token) → IsMark bytes (codes "(") m → Holds (at os e b t n false outer) ts
       → Holds (at os false false false 0 false (record { has_either = e; has_both = b; has_then = t; nots = n; ready = false } ∷ outer)) (ts ++ m ∷ [])
   opened os e b t n outer ts m is h = record {
-    t0 = ts ++ m ∷ []; t1 = []; o0 = os; o1 = [];
+    t0 = ts ++ m ∷ [];
+    t1 = [];
+    o0 = os;
+    o1 = [];
     cut = sym (append-nil (ts ++ m ∷ []));
     out = sym (append-nil os);
     outer = (h.t0, h.t1, m, h.o0, h.o1, ap (λ (l : List Token). l ++ m ∷ []) h.cut ∙ append_assoc h.t0 h.t1 (m ∷ []), h.out, refl, is, h.inner, h.outer);
-    inner = nothing_held
+    inner = nothing_held;
   }
 
   before_step : (os : List Step) (e b t : Bool) (n : ℕ) (outer : List Frame) (ts : List Token) (m : Token) (s : Sign) (q : Parser) → Says bytes m s → Holds (at os e b t n false outer) ts → before_operand (at os e b t n false outer) s ≡ Some q → Holds q (ts ++ m ∷ [])
@@ -351,19 +406,22 @@ module _ (bytes : List ℕ) where
       let out = h.outer in
       let us : List Token = out.2 ∷ h.t1 ++ m ∷ [] in
       let waits = subst (λ (r : Bool). FrameHolds (record f { ready = r }) out.1 out.4) out.7 out.9 in record {
-    t0 = out.0; t1 = out.1 ++ us; o0 = out.3; o1 = out.4 ++ postfix whole.0;
-    cut = ap (λ (l : List Token). l ++ m ∷ []) (h.cut ∙ ap (λ (l : List Token). l ++ h.t1) out.5)
-        ∙ append_assoc (out.0 ++ (out.1 ++ out.2 ∷ [])) h.t1 (m ∷ [])
-        ∙ append_assoc out.0 (out.1 ++ out.2 ∷ []) (h.t1 ++ m ∷ [])
-        ∙ ap (λ (l : List Token). out.0 ++ l) (append_assoc out.1 (out.2 ∷ []) (h.t1 ++ m ∷ []));
-    out = ap (λ (l : List Step). l ++ end) h.out
-        ∙ append_assoc h.o0 h.o1 end
-        ∙ ap (λ (l : List Step). h.o0 ++ l) whole.2
-        ∙ ap (λ (l : List Step). l ++ postfix whole.0) out.6
-        ∙ append_assoc out.3 out.4 (postfix whole.0);
-    outer = out.10;
-    inner = takes_operand f.has_either f.has_both f.has_then f.nots out.1 out.4 waits us whole.0 (one_atom us whole.0 (inside out.2 h.t1 m whole.0 out.8 whole.1 is))
-  }
+        t0 = out.0;
+        t1 = out.1 ++ us;
+        o0 = out.3;
+        o1 = out.4 ++ postfix whole.0;
+        cut = ap (λ (l : List Token). l ++ m ∷ []) (h.cut ∙ ap (λ (l : List Token). l ++ h.t1) out.5)
+            ∙ append_assoc (out.0 ++ (out.1 ++ out.2 ∷ [])) h.t1 (m ∷ [])
+            ∙ append_assoc out.0 (out.1 ++ out.2 ∷ []) (h.t1 ++ m ∷ [])
+            ∙ ap (λ (l : List Token). out.0 ++ l) (append_assoc out.1 (out.2 ∷ []) (h.t1 ++ m ∷ []));
+        out = ap (λ (l : List Step). l ++ end) h.out
+            ∙ append_assoc h.o0 h.o1 end
+            ∙ ap (λ (l : List Step). h.o0 ++ l) whole.2
+            ∙ ap (λ (l : List Step). l ++ postfix whole.0) out.6
+            ∙ append_assoc out.3 out.4 (postfix whole.0);
+        outer = out.10;
+        inner = takes_operand f.has_either f.has_both f.has_then f.nots out.1 out.4 waits us whole.0 (one_atom us whole.0 (inside out.2 h.t1 m whole.0 out.8 whole.1 is));
+      }
 
   behind_step : (os : List Step) (e b t : Bool) (n : ℕ) (outer : List Frame) (ts : List Token) (m : Token) (s : Sign) (q : Parser) → Says bytes m s → Holds (at os e b t n true outer) ts → behind_operand (at os e b t n true outer) s ≡ Some q → Holds q (ts ++ m ∷ [])
   behind_step os e b t n outer ts m Asterisk q is h moves =

@@ -2,6 +2,9 @@ pub mod Expressions
 pub mod Languages
 pub mod NormalForms
 pub mod Keys
+pub mod Groups
+pub mod Categories
+pub mod Refusals
 pub mod Codes
 pub mod Trees
 pub mod Formulas

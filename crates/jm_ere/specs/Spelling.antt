@@ -33,20 +33,15 @@ pub data SpellsBy (bytes : List ℕ) : Rule → List Token → Formula → Type 
   epsilon : (t : Token) → IsWord bytes (codes "epsilon") t → SpellsBy bytes AtomRule (t ∷ []) (Leaf Epsilon)
   empty : (t : Token) → IsWord bytes (codes "empty") t → SpellsBy bytes AtomRule (t ∷ []) (Leaf Empty)
   inside : (opening : Token) (tokens : List Token) (closing : Token) (f : Formula) → IsMark bytes (codes "(") opening → SpellsBy bytes AltRule tokens f → IsMark bytes (codes ")") closing → SpellsBy bytes AtomRule (opening ∷ tokens ++ closing ∷ []) f
-
   one_atom : (tokens : List Token) (f : Formula) → SpellsBy bytes AtomRule tokens f → SpellsBy bytes RepRule tokens f
   any : (tokens : List Token) (star : Token) (f : Formula) → SpellsBy bytes RepRule tokens f → IsMark bytes (codes "*") star → SpellsBy bytes RepRule (tokens ++ star ∷ []) (Over Any f)
   many : (tokens : List Token) (plus : Token) (f : Formula) → SpellsBy bytes RepRule tokens f → IsMark bytes (codes "+") plus → SpellsBy bytes RepRule (tokens ++ plus ∷ []) (Over Many f)
-
   one_rep : (tokens : List Token) (f : Formula) → SpellsBy bytes RepRule tokens f → SpellsBy bytes NotRule tokens f
   complement : (tilde : Token) (tokens : List Token) (f : Formula) → IsMark bytes (codes "~") tilde → SpellsBy bytes NotRule tokens f → SpellsBy bytes NotRule (tilde ∷ tokens) (Over Not f)
-
   one_not : (tokens : List Token) (f : Formula) → SpellsBy bytes NotRule tokens f → SpellsBy bytes SeqRule tokens f
   sequence : (front behind : List Token) (f g : Formula) → SpellsBy bytes SeqRule front f → SpellsBy bytes NotRule behind g → SpellsBy bytes SeqRule (front ++ behind) (Between Then f g)
-
   one_seq : (tokens : List Token) (f : Formula) → SpellsBy bytes SeqRule tokens f → SpellsBy bytes AndRule tokens f
   both : (front : List Token) (mark : Token) (behind : List Token) (f g : Formula) → SpellsBy bytes AndRule front f → IsMark bytes (codes "&") mark → SpellsBy bytes SeqRule behind g → SpellsBy bytes AndRule (front ++ mark ∷ behind) (Between Both f g)
-
   one_and : (tokens : List Token) (f : Formula) → SpellsBy bytes AndRule tokens f → SpellsBy bytes AltRule tokens f
   either : (front : List Token) (mark : Token) (behind : List Token) (f g : Formula) → SpellsBy bytes AltRule front f → IsMark bytes (codes "|") mark → SpellsBy bytes AndRule behind g → SpellsBy bytes AltRule (front ++ mark ∷ behind) (Between Either f g)
 

@@ -5,12 +5,14 @@
 //! on the expression.
 #![tactic(auto)]
 
+mod compile;
 mod derivative;
 mod faults;
 mod forms;
 mod graph;
 mod keys;
 mod laws;
+mod live;
 mod order;
 mod reader;
 mod reading;
@@ -22,3 +24,8 @@ mod written;
 pub use laws::one_reading;
 pub use reading::read;
 pub use tree::{Ere, Tree};
+
+#[cfg(test)]
+mod compile_tests;
+#[cfg(test)]
+mod reading_tests;

@@ -40,7 +40,7 @@ pub(crate) fn order(a: &Tree, b: &Tree) -> Ordering
 }
 
 /// Whether two expressions are the same.
-#[tactic(auto, using(crate::proofs::OrderLemmas::order_tells, crate::proofs::OrderLemmas::order_same, crate::proofs::NormalLemmas::union_keeps))]
+#[tactic(auto, using(crate::proofs::OrderLemmas::order_tells, crate::proofs::OrderLemmas::order_same))]
 pub(crate) fn is_same(a: &Tree, b: &Tree) -> bool
     ensures { IsTrue result ↔ (expression_of a.now ≡ expression_of b.now) }
 {
