@@ -10,12 +10,14 @@ mod derivative;
 mod forms;
 mod graph;
 mod keys;
+mod laws;
 mod live;
 mod order;
 mod sizes;
 mod tree;
 mod written;
 
+pub use laws::one_order;
 pub use tree::{Ere, Tree};
 
 #[cfg(test)]
