@@ -1,5 +1,5 @@
 -- What the grammar spells, the reader reads.
-use Rattle.std.proofs.Common.{◌≡◌, ℕ, zero, suc, Bool, true, false, List, [], ◌∷◌, ◌++◌, Option, Some, None, refl, sym, ap, ◌∙◌, append_assoc, append-nil}
+use Rattle.std.proofs.Common.{◌≡◌, ℕ, zero, suc, Bool, true, false, List, [], ◌∷◌, ◌++◌, Some, None, refl, sym, ap, ◌∙◌, append_assoc, append-nil}
 use Rattle.std.specs.Prelude.{option_and_then}
 use Rattle.jm_text.specs.declared.token.Token.{Token}
 use Rattle.jm_ere.specs.declared.reader.Atom.{Atom}
@@ -14,7 +14,7 @@ use Rattle.jm_ere.specs.declared.reader.Frame.{Frame}
 use Rattle.jm_ere.specs.declared.reader.Parser.{Parser}
 use Rattle.jm_ere.specs.Formulas.{Formula, Leaf, Over, Between}
 use Rattle.jm_ere.specs.Spelling.{Rule, AltRule, AndRule, SeqRule, NotRule, RepRule, AtomRule, SpellsBy, name, epsilon, empty, inside, one_atom, any, many, one_rep, complement, one_not, sequence, one_seq, both, one_and, either, Spells}
-use Rattle.jm_ere.specs.Rules.{sign_of, postfix, flag, complements, juxtaposed, before_operand, after_sign, after_all, finished, parsed}
+use Rattle.jm_ere.specs.Rules.{sign_of, postfix, flag, complements, juxtaposed, after_sign, after_all, finished, parsed}
 use Rattle.jm_ere.proofs.SignLemmas.{epsilon_sign, empty_sign, name_sign, opening_sign, closing_sign, tilde_sign, star_sign, plus_sign, bar_sign, ampersand_sign}
 
 -- a reader's state by its parts

@@ -1,5 +1,5 @@
 -- The nodes of a formula give it back.
-use Rattle.std.proofs.Common.{◌≡◌, ℕ, ◌+◌, List, [], ◌∷◌, ◌++◌, length, Option, Some, None, refl, sym, ap, ◌∙◌, append_assoc, append-nil, length-append, arith}
+use Rattle.std.proofs.Common.{◌≡◌, ℕ, List, [], ◌∷◌, ◌++◌, length, Option, Some, refl, sym, ap, ◌∙◌, append_assoc, length-append, arith}
 use Rattle.jm_text.specs.declared.token.Token.{Token}
 use Rattle.jm_ere.specs.declared.reader.Step.{Step}
 use Rattle.jm_ere.specs.declared.reader.Step.TheVariants.{Push, Wrap, Join}
@@ -7,7 +7,6 @@ use Rattle.jm_ere.specs.Formulas.{Formula, Leaf, Over, Between, nodes}
 use Rattle.jm_ere.specs.Spelling.{Spells}
 use Rattle.jm_ere.specs.Rules.{postfix, parsed}
 use Rattle.jm_ere.proofs.CompleteLemmas.{spelled_is_parsed}
-use Rattle.jm_ere.proofs.SoundLemmas.{parsed_is_spelled}
 
 -- a node makes a formula of the topmost ones
 abbrev built : List Formula → Step → List Formula

@@ -1,4 +1,5 @@
 pub mod OrderLemmas
+pub mod OrderLaws
 pub mod LanguageLemmas
 pub mod NormalLemmas
 pub mod SignLemmas

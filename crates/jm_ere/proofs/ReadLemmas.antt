@@ -1,7 +1,6 @@
 -- What a reader of a formula answers.
-use Rattle.std.proofs.Common.{ℕ, ◌≡◌, Bool, true, false, cond, List, [], ◌∷◌, ◌++◌, length, Option, Some, None, Result, Ok, Err, IfOk, IfErr, refl, sym, ap, subst, ◌∙◌, append_assoc, append-nil}
+use Rattle.std.proofs.Common.{ℕ, ◌≡◌, Bool, true, false, cond, List, [], ◌∷◌, ◌++◌, Option, Some, None, Result, Ok, Err, IfOk, IfErr, refl, sym, ap, subst, ◌∙◌, append_assoc, append-nil}
 use Rattle.std.specs.Option.{ok_or}
-use Rattle.jm_model.specs.declared.fault.Counted.{Counted}
 use Rattle.jm_model.specs.declared.fault.Counted.TheVariants.{Nesting}
 use Rattle.jm_model.specs.declared.fault.SpecError.{SpecError}
 use Rattle.jm_model.specs.declared.fault.SpecError.TheVariants.{Bad, NoMemory}
@@ -14,13 +13,13 @@ use Rattle.jm_events.specs.Events.{EventDefinitions, EventDefinition, event_name
 use Rattle.jm_ere.specs.declared.reader.Atom.{Atom}
 use Rattle.jm_ere.specs.declared.reader.Atom.TheVariants.{Name, Epsilon, Empty}
 use Rattle.jm_ere.specs.declared.reader.Step.{Step}
-use Rattle.jm_ere.specs.declared.reader.Step.TheVariants.{Push, Wrap, Join}
+use Rattle.jm_ere.specs.declared.reader.Step.TheVariants.{Wrap, Join}
 use Rattle.jm_ere.specs.Expressions.{Expression}
 use Rattle.jm_ere.specs.Formulas.{Formula, Leaf, Over, Between, nodes}
 use Rattle.jm_ere.specs.Spelling.{Spells}
 use Rattle.jm_ere.specs.Rules.{postfix, parsed}
 use Rattle.jm_ere.specs.Readings.{is_too_deep, nodes_fault, event_name_fault, letter_said, atom_said, over, between, expression_said, fault_of, first_fault, IsReadFrom, IsRefused}
-use Rattle.jm_ere.specs.Values.{with_step, with_steps, steps_fault}
+use Rattle.jm_ere.specs.Values.{with_steps, steps_fault}
 use Rattle.jm_ere.proofs.CompleteLemmas.{spelled_is_parsed}
 use Rattle.jm_ere.proofs.SoundLemmas.{parsed_is_spelled}
 use Rattle.jm_ere.proofs.FormulaLemmas.{nodes_counted}

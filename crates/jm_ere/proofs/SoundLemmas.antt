@@ -1,8 +1,8 @@
 -- What the reader reads, the grammar spells.
-use Rattle.std.proofs.Common.{◌≡◌, ℕ, zero, suc, Bool, true, false, List, [], ◌∷◌, ◌++◌, Option, Some, None, refl, sym, ap, subst, ◌∙◌, append_assoc, append-nil}
-use Rattle.std.specs.Prelude.{codes, option_and_then}
+use Rattle.std.proofs.Common.{◌≡◌, ℕ, zero, suc, Bool, true, false, List, [], ◌∷◌, ◌++◌, Some, None, refl, sym, ap, subst, ◌∙◌, append_assoc, append-nil}
+use Rattle.std.specs.Prelude.{codes}
 use Rattle.jm_text.specs.declared.token.Token.{Token}
-use Rattle.jm_reading.specs.Tokens.{IsName, IsWord, IsMark}
+use Rattle.jm_reading.specs.Tokens.{IsMark}
 use Rattle.jm_reading.proofs.TokenLemmas.{step_of}
 use Rattle.jm_ere.specs.declared.reader.Atom.{Atom}
 use Rattle.jm_ere.specs.declared.reader.Atom.TheVariants.{Name, Epsilon, Empty}
@@ -16,8 +16,8 @@ use Rattle.jm_ere.specs.declared.reader.Sign.TheVariants.{Operand, Opening, Clos
 use Rattle.jm_ere.specs.declared.reader.Frame.{Frame}
 use Rattle.jm_ere.specs.declared.reader.Parser.{Parser}
 use Rattle.jm_ere.specs.Formulas.{Formula, Leaf, Over, Between}
-use Rattle.jm_ere.specs.Spelling.{Rule, AltRule, AndRule, SeqRule, NotRule, RepRule, AtomRule, SpellsBy, name, epsilon, empty, inside, one_atom, any, many, one_rep, complement, one_not, sequence, one_seq, both, one_and, either, Spells}
-use Rattle.jm_ere.specs.Rules.{sign_of, postfix, flag, complements, fresh, beginning, juxtaposed, closed, before_operand, behind_operand, after_sign, after_all, finished, parsed}
+use Rattle.jm_ere.specs.Spelling.{Rule, AltRule, AndRule, SeqRule, NotRule, RepRule, SpellsBy, name, epsilon, empty, inside, one_atom, any, many, one_rep, complement, one_not, sequence, one_seq, both, one_and, either, Spells}
+use Rattle.jm_ere.specs.Rules.{sign_of, postfix, flag, complements, fresh, beginning, juxtaposed, before_operand, behind_operand, after_sign, after_all, finished, parsed}
 use Rattle.jm_ere.proofs.SignLemmas.{Says, sign_says}
 use Rattle.jm_ere.proofs.CompleteLemmas.{at, complements_turn}
 

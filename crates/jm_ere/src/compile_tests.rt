@@ -152,6 +152,7 @@ fn normal_forms(rt: HostRuntime) -> Result<(), Fail> {
         let all = shown(rt.alloc(), 2, formula, "0 1")?;
         assert_eq!(rt; all.as_str(), wanted, "{formula}");
     }
+    one_order();
     Ok(())
 }
 

@@ -203,17 +203,17 @@ fn put_intersection(alloc: Global, t: Tree, run: Tree) -> Result<Tree, SpecError
 }
 
 /// A member of a run of `&`, and the rest of the run: `~empty` is dropped, and with `empty` the whole is `empty`.
-fn join_intersection(alloc: Global, t: Tree, run: Tree) -> Result<Tree, SpecError>
-    ensures ok { IfOk result (λ u. expression_of u ≡ join_intersection (expression_of t) (expression_of run)) }
+fn join_intersection(alloc: Global, member: Tree, run: Tree) -> Result<Tree, SpecError>
+    ensures ok { IfOk result (λ u. expression_of u ≡ join_intersection (expression_of member) (expression_of run)) }
     ensures err { IfErr result (λ e. e ≡ SpecError.NoMemory) }
 {
-    if is_everything(&t) || is_nothing(&run) {
+    if is_everything(&member) || is_nothing(&run) {
         return Ok(run);
     }
-    if is_nothing(&t) || is_everything(&run) {
-        return Ok(t);
+    if is_nothing(&member) || is_everything(&run) {
+        return Ok(member);
     }
-    put_intersection(alloc, t, run)
+    put_intersection(alloc, member, run)
 }
 
 /// `r & s`: the members of the first, which may be a run, are put among those of the second.

@@ -1,8 +1,9 @@
 //! Extended regular expressions, one of the four logics.
 //!
-//! `Ere::compile` makes a table of states with a group for each category: the states are the normal forms of the
-//! expression's derivatives. What an expression means stands in `specs`, apart from any derivative: its words, by cases
-//! on the expression.
+//! `read` reads an expression, an `Ere`, from the tokens of a formula. What the tokens spell stands in `specs`, apart from
+//! the reader: the grammar as a relation. `Ere::compile` makes a table of states with a group for each category: the
+//! states are the normal forms of the expression's derivatives. What an expression means stands in `specs`, apart from
+//! any derivative: its words, by cases on the expression.
 #![tactic(auto)]
 
 mod compile;
@@ -21,7 +22,7 @@ mod tree;
 mod value;
 mod written;
 
-pub use laws::one_reading;
+pub use laws::{one_order, one_reading};
 pub use reading::read;
 pub use tree::{Ere, Tree};
 
