@@ -113,57 +113,34 @@ fn refuses(rt: HostRuntime) -> Result<(), Fail> {
 }
 
 #[test]
+fn nests(rt: HostRuntime) -> Result<(), Fail> {
+    let rows = [(64, ""), (65, "Bad(TooMany { what: Nesting })")];
+    for (times, wanted) in rows {
+        let opened = repeated(rt.alloc(), "", "(", times, "a")?;
+        let closed = repeated(rt.alloc(), opened.as_str(), ")", times, "")?;
+        let fault = fault_of(rt.alloc(), "a", closed.as_str())?;
+        assert_eq!(rt; fault.as_str(), wanted);
+    }
+    Ok(())
+}
+
+#[test]
 fn counts(rt: HostRuntime) -> Result<(), Fail> {
     let rows = [
-        ("", "(", 64, "a", ")", 64, "", ""),
-        (
-            "",
-            "(",
-            65,
-            "a",
-            ")",
-            65,
-            "",
-            "Bad(TooMany { what: Nesting })",
-        ),
-        ("", "(", 65, "", "", 0, "", "Bad(TooMany { what: Nesting })"),
-        ("", "(a)", 65, "", "", 0, "", ""),
-        ("", ")(", 65, "", "", 0, "", "Bad(Syntax { line: 1 })"),
-        ("~(", "a ", 128, ")", "", 0, "", ""),
-        ("", "a ", 128, "", "", 0, "", ""),
-        ("", "a ", 129, "", "", 0, "", "Bad(TooMany { what: Nodes })"),
-        ("", "~", 255, "a", "", 0, "", ""),
-        ("", "~", 256, "a", "", 0, "", "Bad(TooMany { what: Nodes })"),
-        ("", "~", 256, "", "", 0, "", "Bad(Syntax { line: 1 })"),
-        ("a", "*", 255, "", "", 0, "", ""),
-        (
-            "a",
-            "+",
-            256,
-            "",
-            "",
-            0,
-            "z",
-            "Bad(TooMany { what: Nodes })",
-        ),
-        ("a", "|a", 127, "", "+", 1, "", ""),
-        (
-            "a",
-            "&a",
-            128,
-            "",
-            "",
-            0,
-            "",
-            "Bad(TooMany { what: Nodes })",
-        ),
-        ("", "z ", 129, "", "", 0, "", "Bad(TooMany { what: Nodes })"),
+        ("", "(", 65, "", "Bad(TooMany { what: Nesting })"),
+        ("", "(a)", 65, "", ""),
+        ("~(", "a ", 128, ")", ""),
+        ("", "a ", 129, "", "Bad(TooMany { what: Nodes })"),
+        ("", "~", 255, "a", ""),
+        ("", "~", 256, "a", "Bad(TooMany { what: Nodes })"),
+        ("", "~", 256, "", "Bad(Syntax { line: 1 })"),
+        ("a", "*", 255, "", ""),
+        ("z", "|a", 128, "", "Bad(TooMany { what: Nodes })"),
     ];
-    for (front, text, times, middle, more, others, behind, wanted) in rows {
-        let head = repeated(rt.alloc(), front, text, times, middle)?;
-        let all = repeated(rt.alloc(), head.as_str(), more, others, behind)?;
-        let fault = fault_of(rt.alloc(), "a", all.as_str())?;
-        assert_eq!(rt; fault.as_str(), wanted, "{front} {text} {times}");
+    for (front, text, times, behind, wanted) in rows {
+        let formula = repeated(rt.alloc(), front, text, times, behind)?;
+        let fault = fault_of(rt.alloc(), "a", formula.as_str())?;
+        assert_eq!(rt; fault.as_str(), wanted, "{text} {times}");
     }
     Ok(())
 }
