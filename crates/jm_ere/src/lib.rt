@@ -17,7 +17,7 @@ mod sizes;
 mod tree;
 mod written;
 
-pub use laws::one_order;
+pub use laws::{forms_are_normal, one_order};
 pub use tree::{Ere, Tree};
 
 #[cfg(test)]
