@@ -1,5 +1,6 @@
 pub mod OrderLemmas
 pub mod OrderLaws
+pub mod NormalityLemmas
 pub mod LanguageLemmas
 pub mod NormalLemmas
 pub mod SignLemmas

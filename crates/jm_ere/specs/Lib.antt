@@ -1,6 +1,7 @@
 pub mod Expressions
 pub mod Languages
 pub mod NormalForms
+pub mod Normality
 pub mod Keys
 pub mod Groups
 pub mod Categories

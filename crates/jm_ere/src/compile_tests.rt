@@ -153,6 +153,7 @@ fn normal_forms(rt: HostRuntime) -> Result<(), Fail> {
         assert_eq!(rt; all.as_str(), wanted, "{formula}");
     }
     one_order();
+    forms_are_normal();
     Ok(())
 }
 

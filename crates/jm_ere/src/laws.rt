@@ -1,8 +1,11 @@
 //! Laws of the definitions, on functions that do nothing.
-ghost use Rattle.std.specs.Prelude.{◌≡◌, ℕ, List};
+ghost use Rattle.std.specs.Prelude.{ℕ, ◌≡◌, List, Ok};
 ghost use Rattle.std.specs.Cmp.{IsTotalOrder};
 ghost use Rattle.jm_text.specs.declared.token.Token.{Token};
-ghost use Rattle.jm_ere.specs.NormalForms.{order};
+ghost use Rattle.jm_table.specs.Graphs.{reached_by};
+ghost use Rattle.jm_ere.specs.Expressions.{Expression};
+ghost use Rattle.jm_ere.specs.NormalForms.{order, forms_of};
+ghost use Rattle.jm_ere.specs.Normality.{IsNormal};
 ghost use Rattle.jm_ere.specs.Formulas.{Formula};
 ghost use Rattle.jm_ere.specs.Spelling.{Spells};
 
@@ -15,4 +18,9 @@ pub fn one_reading()
 #[tactic(auto, using(crate::proofs::OrderLaws::order_total))]
 pub fn one_order()
     ensures { IsTotalOrder order }
+{}
+
+/// What is reached is normal: no rule is left to apply.
+pub fn forms_are_normal()
+    ensures { (e d : Expression) (word : List ℕ) → reached_by (forms_of e) word ≡ Ok d → IsNormal d }
 {}

@@ -22,7 +22,7 @@ mod tree;
 mod value;
 mod written;
 
-pub use laws::{one_order, one_reading};
+pub use laws::{forms_are_normal, one_order, one_reading};
 pub use reading::read;
 pub use tree::{Ere, Tree};
 
