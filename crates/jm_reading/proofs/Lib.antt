@@ -1,3 +1,4 @@
 pub mod TokenLemmas
 pub mod LoopLemmas
 pub mod GrammarLemmas
+pub mod StackLemmas

@@ -1,0 +1,143 @@
+use Rattle.std.proofs.Common.{ℕ, nat_le, Bool, true, false, inl, inr, ◌⊎◌, List, [], ◌∷◌, ◌++◌, Ok, Err, if◌then◌else◌, fold}
+use Rattle.jm_model.specs.declared.fault.SpecFault.{SpecFault}
+use Rattle.jm_table.specs.Graphs.{step_from, reached_by}
+use Rattle.jm_ere.specs.Expressions.{Expression, Symbol, EmptyWord, NoWord, Complement, Star, Plus, Product, Union, Intersection}
+use Rattle.jm_ere.specs.Languages.{InLanguage, IsSplit}
+use Rattle.jm_ere.specs.NormalForms.{is_product, is_union, is_intersection, complement_of, star_of, product_of, union_of, intersection_of, size_of, Formed, fitting, part, ◌>>=◌, normal_run, normal_form, is_nullable, derivative_run, forms_of}
+use Rattle.jm_ere.proofs.LanguageLemmas.{Same, split_map, chain_map, plain, plain_tells}
+use Rattle.jm_ere.proofs.NormalLemmas.{complement_keeps, star_keeps, product_keeps, union_keeps, intersection_keeps}
+
+-- what is formed has these words, unless it is a fault
+abbrev pub Gives : Formed → (List ℕ → Type 0) → Type 0
+Gives (Ok d) L = Same (InLanguage d) L
+Gives (Err fault) L = Unit {0}
+
+gives_choice : (b : Bool) (d : Expression) (fault : SpecFault) (L : List ℕ → Type 0) → Same (InLanguage d) L → Gives (if b then Ok d else Err fault) L
+gives_choice true d fault L same = same
+gives_choice false d fault L same = tt
+
+gives_fitting : (d : Expression) (L : List ℕ → Type 0) → Same (InLanguage d) L → Gives (fitting d) L
+gives_fitting d L same = gives_choice (nat_le (size_of d) 4096) d _ L same
+
+gives_part : (inside : Bool) (F : Formed) (L : List ℕ → Type 0) → Gives F L → Gives (part inside F) L
+gives_part inside (Err fault) L gives = tt
+gives_part true (Ok d) L gives = gives
+gives_part false (Ok d) L gives = gives_fitting d L gives
+
+gives_then : (F : Formed) (L : List ℕ → Type 0) (k : Expression → Formed) (M : List ℕ → Type 0) → Gives F L → ((d : Expression) → Same (InLanguage d) L → Gives (k d) M) → Gives (F >>= k) M
+gives_then (Err fault) L k M gives more = tt
+gives_then (Ok d) L k M gives more = more d gives
+
+through : (L M N : List ℕ → Type 0) → Same L M → Same M N → Same L N
+through L M N f g w = (λ h. (g w).0 ((f w).0 h), λ h. (f w).1 ((g w).1 h))
+
+-- ---- operators over forms that have the words of parts
+
+complement_gives : (d : Expression) (r : Expression) → Same (InLanguage d) (InLanguage r) → Same (InLanguage (complement_of d)) (InLanguage (Complement r))
+complement_gives d r same = through (InLanguage (complement_of d)) (InLanguage (Complement d)) (InLanguage (Complement r)) (complement_keeps d) (λ w. (λ h k. h ((same w).1 k), λ h k. h ((same w).0 k)))
+
+star_gives : (d : Expression) (r : Expression) → Same (InLanguage d) (InLanguage r) → Same (InLanguage (star_of d)) (InLanguage (Star r))
+star_gives d r same = through (InLanguage (star_of d)) (InLanguage (Star d)) (InLanguage (Star r)) (star_keeps d)
+    (λ w. (chain_map (InLanguage d) (InLanguage r) (λ u. (same u).0) w, chain_map (InLanguage r) (InLanguage d) (λ u. (same u).1) w))
+
+product_gives : (d e : Expression) (L M : List ℕ → Type 0) → Same (InLanguage d) L → Same (InLanguage e) M → Same (InLanguage (product_of d e)) (IsSplit L M)
+product_gives d e L M f g = through (InLanguage (product_of d e)) (InLanguage (Product d e)) (IsSplit L M) (product_keeps d e)
+    (λ w. (split_map (InLanguage d) (InLanguage e) L M (λ u. (f u).0) (λ u. (g u).0) w, split_map L M (InLanguage d) (InLanguage e) (λ u. (f u).1) (λ u. (g u).1) w))
+
+union_gives : (d e : Expression) (L M : List ℕ → Type 0) → Same (InLanguage d) L → Same (InLanguage e) M → Same (InLanguage (union_of d e)) (λ w. L w ⊎ M w)
+union_gives d e L M f g w = let keeps = union_keeps d e w in (
+  λ h. elim (keeps.0 h) [ inl k ↦ inl ((f w).0 k) | inr k ↦ inr ((g w).0 k) ],
+  elim [ inl k ↦ keeps.1 (inl ((f w).1 k)) | inr k ↦ keeps.1 (inr ((g w).1 k)) ],
+)
+
+intersection_gives : (d e : Expression) (L M : List ℕ → Type 0) → Same (InLanguage d) L → Same (InLanguage e) M → Same (InLanguage (intersection_of d e)) (λ w. L w × M w)
+intersection_gives d e L M f g w = let keeps = intersection_keeps d e w in (
+  λ h. let k = keeps.0 h in ((f w).0 k.0, (g w).0 k.1),
+  λ h. keeps.1 ((f w).1 h.0, (g w).1 h.1),
+)
+
+itself : (L : List ℕ → Type 0) → Same L L
+itself L w = (λ h. h, λ h. h)
+
+-- ---- normal forms keep the language
+
+pub normal_gives : (r : Expression) → Gives (normal_run r) (InLanguage r)
+normal_gives (Complement r) = gives_then (part false (normal_run r)) (InLanguage r) (λ n. Ok (complement_of n)) (InLanguage (Complement r)) (gives_part false (normal_run r) (InLanguage r) (normal_gives r)) (λ n same. complement_gives n r same)
+normal_gives (Star r) = gives_then (part false (normal_run r)) (InLanguage r) (λ n. Ok (star_of n)) (InLanguage (Star r)) (gives_part false (normal_run r) (InLanguage r) (normal_gives r)) (λ n same. star_gives n r same)
+normal_gives (Plus r) =
+    gives_then (part false (normal_run r)) (InLanguage r) (λ n. fitting (star_of n) >>= λ s. Ok (product_of n s)) (InLanguage (Plus r)) (gives_part false (normal_run r) (InLanguage r) (normal_gives r))
+    (λ n same. gives_then (fitting (star_of n)) (InLanguage (Star r)) (λ s. Ok (product_of n s)) (InLanguage (Plus r)) (gives_fitting (star_of n) (InLanguage (Star r)) (star_gives n r same))
+    (λ s more. product_gives n s (InLanguage r) (InLanguage (Star r)) same more))
+normal_gives (Product r s) =
+    gives_then (part (is_product r) (normal_run r)) (InLanguage r) (λ n. part (is_product s) (normal_run s) >>= λ m. Ok (product_of n m)) (InLanguage (Product r s)) (gives_part (is_product r) (normal_run r) (InLanguage r) (normal_gives r))
+    (λ n same. gives_then (part (is_product s) (normal_run s)) (InLanguage s) (λ m. Ok (product_of n m)) (InLanguage (Product r s)) (gives_part (is_product s) (normal_run s) (InLanguage s) (normal_gives s))
+    (λ m more. product_gives n m (InLanguage r) (InLanguage s) same more))
+normal_gives (Union r s) =
+    gives_then (part (is_union r) (normal_run r)) (InLanguage r) (λ n. part (is_union s) (normal_run s) >>= λ m. Ok (union_of n m)) (InLanguage (Union r s)) (gives_part (is_union r) (normal_run r) (InLanguage r) (normal_gives r))
+    (λ n same. gives_then (part (is_union s) (normal_run s)) (InLanguage s) (λ m. Ok (union_of n m)) (InLanguage (Union r s)) (gives_part (is_union s) (normal_run s) (InLanguage s) (normal_gives s))
+    (λ m more. union_gives n m (InLanguage r) (InLanguage s) same more))
+normal_gives (Intersection r s) =
+    gives_then (part (is_intersection r) (normal_run r)) (InLanguage r) (λ n. part (is_intersection s) (normal_run s) >>= λ m. Ok (intersection_of n m)) (InLanguage (Intersection r s)) (gives_part (is_intersection r) (normal_run r) (InLanguage r) (normal_gives r))
+    (λ n same. gives_then (part (is_intersection s) (normal_run s)) (InLanguage s) (λ m. Ok (intersection_of n m)) (InLanguage (Intersection r s)) (gives_part (is_intersection s) (normal_run s) (InLanguage s) (normal_gives s))
+    (λ m more. intersection_gives n m (InLanguage r) (InLanguage s) same more))
+normal_gives (Symbol x) = itself (InLanguage (Symbol x))
+normal_gives EmptyWord = itself (InLanguage EmptyWord)
+normal_gives NoWord = itself (InLanguage NoWord)
+
+-- ---- derivatives of normal forms have the words that may follow
+
+product_derived : (x : ℕ) (r s : Expression) (b : Bool) (d : Expression) → Same (InLanguage d) (InLanguage (plain x r)) → Gives (derivative_run x s) (InLanguage (plain x s))
+    → Gives (if b then (fitting (product_of d s) >>= λ front. part false (derivative_run x s) >>= λ e. Ok (union_of front e)) else Ok (product_of d s))
+    (InLanguage (if b then Union (Product (plain x r) s) (plain x s) else Product (plain x r) s))
+product_derived x r s true d same second =
+    gives_then (fitting (product_of d s)) (InLanguage (Product (plain x r) s)) (λ front. part false (derivative_run x s) >>= λ e. Ok (union_of front e)) (InLanguage (Union (Product (plain x r) s) (plain x s)))
+    (gives_fitting (product_of d s) (InLanguage (Product (plain x r) s)) (product_gives d s (InLanguage (plain x r)) (InLanguage s) same (itself (InLanguage s))))
+    (λ front keeps. gives_then (part false (derivative_run x s)) (InLanguage (plain x s)) (λ e. Ok (union_of front e)) (InLanguage (Union (Product (plain x r) s) (plain x s)))
+    (gives_part false (derivative_run x s) (InLanguage (plain x s)) second)
+    (λ e more. union_gives front e (InLanguage (Product (plain x r) s)) (InLanguage (plain x s)) keeps more))
+product_derived x r s false d same second = product_gives d s (InLanguage (plain x r)) (InLanguage s) same (itself (InLanguage s))
+
+pub derivative_gives : (x : ℕ) (r : Expression) → Gives (derivative_run x r) (InLanguage (plain x r))
+derivative_gives x (Symbol y) = itself (InLanguage (plain x (Symbol y)))
+derivative_gives x EmptyWord = itself (InLanguage NoWord)
+derivative_gives x NoWord = itself (InLanguage NoWord)
+derivative_gives x (Complement r) =
+    gives_then (part false (derivative_run x r)) (InLanguage (plain x r)) (λ d. Ok (complement_of d)) (InLanguage (Complement (plain x r))) (gives_part false (derivative_run x r) (InLanguage (plain x r)) (derivative_gives x r)) (λ d same. complement_gives d (plain x r) same)
+derivative_gives x (Star r) =
+    gives_then (part false (derivative_run x r)) (InLanguage (plain x r)) (λ d. Ok (product_of d (Star r))) (InLanguage (Product (plain x r) (Star r))) (gives_part false (derivative_run x r) (InLanguage (plain x r)) (derivative_gives x r))
+    (λ d same. product_gives d (Star r) (InLanguage (plain x r)) (InLanguage (Star r)) same (itself (InLanguage (Star r))))
+derivative_gives x (Plus r) =
+    gives_then (part false (derivative_run x r)) (InLanguage (plain x r)) (λ d. Ok (product_of d (star_of r))) (InLanguage (Product (plain x r) (Star r))) (gives_part false (derivative_run x r) (InLanguage (plain x r)) (derivative_gives x r))
+    (λ d same. product_gives d (star_of r) (InLanguage (plain x r)) (InLanguage (Star r)) same (star_keeps r))
+derivative_gives x (Product r s) =
+    gives_then (part false (derivative_run x r)) (InLanguage (plain x r)) (λ d. if is_nullable r then (fitting (product_of d s) >>= λ front. part false (derivative_run x s) >>= λ e. Ok (union_of front e)) else Ok (product_of d s))
+    (InLanguage (plain x (Product r s))) (gives_part false (derivative_run x r) (InLanguage (plain x r)) (derivative_gives x r))
+    (λ d same. product_derived x r s (is_nullable r) d same (derivative_gives x s))
+derivative_gives x (Union r s) =
+    gives_then (part false (derivative_run x r)) (InLanguage (plain x r)) (λ d. part (is_union s) (derivative_run x s) >>= λ e. Ok (union_of d e)) (InLanguage (Union (plain x r) (plain x s))) (gives_part false (derivative_run x r) (InLanguage (plain x r)) (derivative_gives x r))
+    (λ d same. gives_then (part (is_union s) (derivative_run x s)) (InLanguage (plain x s)) (λ e. Ok (union_of d e)) (InLanguage (Union (plain x r) (plain x s))) (gives_part (is_union s) (derivative_run x s) (InLanguage (plain x s)) (derivative_gives x s))
+    (λ e more. union_gives d e (InLanguage (plain x r)) (InLanguage (plain x s)) same more))
+derivative_gives x (Intersection r s) =
+    gives_then (part false (derivative_run x r)) (InLanguage (plain x r)) (λ d. part (is_intersection s) (derivative_run x s) >>= λ e. Ok (intersection_of d e)) (InLanguage (Intersection (plain x r) (plain x s))) (gives_part false (derivative_run x r) (InLanguage (plain x r)) (derivative_gives x r))
+    (λ d same. gives_then (part (is_intersection s) (derivative_run x s)) (InLanguage (plain x s)) (λ e. Ok (intersection_of d e)) (InLanguage (Intersection (plain x r) (plain x s))) (gives_part (is_intersection s) (derivative_run x s) (InLanguage (plain x s)) (derivative_gives x s))
+    (λ e more. intersection_gives d e (InLanguage (plain x r)) (InLanguage (plain x s)) same more))
+
+-- ---- along a word
+
+gives_along : (F : Formed) (L M : List ℕ → Type 0) → Gives F L → Same L M → Gives F M
+gives_along (Err fault) L M gives same = tt
+gives_along (Ok d) L M gives same = through (InLanguage d) L M gives same
+
+step_gives : (e : Expression) (x : ℕ) (F : Formed) (L : List ℕ → Type 0) → Gives F L → Gives (step_from (forms_of e) F x) (λ w. L (x ∷ w))
+step_gives e x (Err fault) L gives = tt
+step_gives e x (Ok d) L gives =
+    gives_part false (derivative_run x d) (λ w. L (x ∷ w)) (gives_along (derivative_run x d) (InLanguage (plain x d)) (λ w. L (x ∷ w)) (derivative_gives x d)
+    (through (InLanguage (plain x d)) (λ w. InLanguage d (x ∷ w)) (λ w. L (x ∷ w)) (λ w. let t = plain_tells x d w in (t.1, t.0)) (λ w. gives (x ∷ w))))
+
+path_gives : (e : Expression) (word : List ℕ) (F : Formed) (L : List ℕ → Type 0) → Gives F L → Gives (fold (step_from (forms_of e)) F word) (λ w. L (word ++ w))
+path_gives e [] F L gives = gives
+path_gives e (x ∷ word) F L gives = path_gives e word (step_from (forms_of e) F x) (λ w. L (x ∷ w)) (step_gives e x F L gives)
+
+-- what is reached by a word has the words that may follow it
+pub reached_gives : (e : Expression) (word : List ℕ) → Gives (reached_by (forms_of e) word) (λ w. InLanguage e (word ++ w))
+reached_gives e word = path_gives e word (normal_form e) (InLanguage e) (gives_part false (normal_run e) (InLanguage e) (normal_gives e))

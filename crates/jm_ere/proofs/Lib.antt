@@ -1,0 +1,15 @@
+pub mod OrderLemmas
+pub mod OrderLaws
+pub mod NormalityLemmas
+pub mod LanguageLemmas
+pub mod NormalLemmas
+pub mod SignLemmas
+pub mod CompleteLemmas
+pub mod SoundLemmas
+pub mod FormulaLemmas
+pub mod EventLemmas
+pub mod ReadLemmas
+pub mod FormLemmas
+pub mod LiveLemmas
+pub mod CompileLemmas
+pub mod RefusalLemmas

@@ -1,0 +1,33 @@
+-- The words of a regular expression. A word is a list of letters.
+use Rattle.std.specs.Prelude.{ℕ, ◌≡◌, ◌≢◌, ◌<◌, ◌⊎◌, List, [], ◌∷◌, ◌++◌, All}
+use Rattle.std.specs.List.{AllByRecursion}
+use Rattle.jm_ere.specs.Expressions.{Expression, Symbol, EmptyWord, NoWord, Complement, Star, Plus, Product, Union, Intersection}
+
+-- a word of the first language, and one of the second behind it
+abbrev pub IsSplit : (List ℕ → Type 0) → (List ℕ → Type 0) → List ℕ → Type 0
+IsSplit L M word = (front : List ℕ) × (back : List ℕ) × (word ≡ front ++ back) × L front × M back
+
+-- words one after the other
+abbrev pub joined : List (List ℕ) → List ℕ
+joined [] = []
+joined (word ∷ words) = word ++ joined words
+
+-- any number of words of the language, none of them empty, one after the other
+abbrev pub IsChain : (List ℕ → Type 0) → List ℕ → Type 0
+IsChain L word = (words : List (List ℕ)) × AllByRecursion (λ w. (w ≢ []) × L w) words × (word ≡ joined words)
+
+-- The word is in the language of the expression. One word of `r+` may be empty, if `r` has the empty word.
+abbrev pub InLanguage : Expression → List ℕ → Type 0
+InLanguage (Symbol x) word = word ≡ x ∷ []
+InLanguage EmptyWord word = word ≡ []
+InLanguage NoWord word = ⊥
+InLanguage (Complement r) word = InLanguage r word → ⊥
+InLanguage (Star r) word = IsChain (InLanguage r) word
+InLanguage (Plus r) word = IsSplit (InLanguage r) (IsChain (InLanguage r)) word
+InLanguage (Product r s) word = IsSplit (InLanguage r) (InLanguage s) word
+InLanguage (Union r s) word = InLanguage r word ⊎ InLanguage s word
+InLanguage (Intersection r s) word = InLanguage r word × InLanguage s word
+
+-- no extension of the word by letters below this number, itself included, is in the language
+abbrev pub IsFailed : Expression → ℕ → List ℕ → Type 0
+IsFailed e letters word = (more : List ℕ) → All (λ letter. letter < letters) more → InLanguage e (word ++ more) → ⊥

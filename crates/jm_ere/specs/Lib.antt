@@ -1,0 +1,15 @@
+pub mod Expressions
+pub mod Languages
+pub mod NormalForms
+pub mod Normality
+pub mod Keys
+pub mod Groups
+pub mod Categories
+pub mod Refusals
+pub mod Codes
+pub mod Trees
+pub mod Formulas
+pub mod Spelling
+pub mod Rules
+pub mod Readings
+pub mod Values

@@ -1,0 +1,199 @@
+-- The normal forms of regular expressions, by which derivatives are told apart and counted. They stand here for the two
+-- limits alone: what an expression means is told in `Languages`.
+use Rattle.std.specs.Prelude.{ℕ, ◌+◌, ◌==◌, nat_le, Bool, true, false, ◌&&◌, ◌||◌, not, Result, Ok, Err, if◌then◌else◌}
+use Rattle.std.specs.Ordering.{nat_cmp, ordering_then}
+use Rattle.std.specs.declared.cmp.Ordering.{Ordering}
+use Rattle.std.specs.declared.cmp.Ordering.TheVariants.{Less, Equal, Greater}
+use Rattle.jm_model.specs.declared.fault.Counted.TheVariants.{Term}
+use Rattle.jm_model.specs.declared.fault.SpecFault.{SpecFault}
+use Rattle.jm_model.specs.declared.fault.SpecFault.TheVariants.{TooMany}
+use Rattle.jm_table.specs.Graphs.{GraphMeaning}
+use Rattle.jm_ere.specs.Expressions.{Expression, Symbol, EmptyWord, NoWord, Complement, Star, Plus, Product, Union, Intersection}
+
+-- ---- one fixed order
+
+abbrev pub rank : Expression → ℕ
+rank (Symbol x) = 0
+rank EmptyWord = 1
+rank NoWord = 2
+rank (Complement r) = 3
+rank (Star r) = 4
+rank (Plus r) = 5
+rank (Product r s) = 6
+rank (Union r s) = 7
+rank (Intersection r s) = 8
+
+-- by kind, and then part by part
+abbrev pub order : Expression → Expression → Ordering
+order (Symbol x) (Symbol y) = nat_cmp x y
+order (Complement r) (Complement s) = order r s
+order (Star r) (Star s) = order r s
+order (Plus r) (Plus s) = order r s
+order (Product r s) (Product p q) = ordering_then (order r p) (order s q)
+order (Union r s) (Union p q) = ordering_then (order r p) (order s q)
+order (Intersection r s) (Intersection p q) = ordering_then (order r p) (order s q)
+order r s = nat_cmp (rank r) (rank s)
+
+abbrev pub by_order : {X : Type 0} → Ordering → X → X → X → X
+by_order Less x y z = x
+by_order Equal x y z = y
+by_order Greater x y z = z
+
+-- ---- the forms that rules ask for
+
+-- `empty`
+abbrev pub is_nothing : Expression → Bool
+is_nothing NoWord = true
+is_nothing r = false
+
+-- `~empty`
+abbrev pub is_everything : Expression → Bool
+is_everything (Complement r) = is_nothing r
+is_everything r = false
+
+-- `epsilon`
+abbrev pub is_epsilon : Expression → Bool
+is_epsilon EmptyWord = true
+is_epsilon r = false
+
+abbrev pub is_product : Expression → Bool
+is_product (Product r s) = true
+is_product r = false
+
+abbrev pub is_union : Expression → Bool
+is_union (Union r s) = true
+is_union r = false
+
+abbrev pub is_intersection : Expression → Bool
+is_intersection (Intersection r s) = true
+is_intersection r = false
+
+-- ---- the operators over normal forms
+
+-- `~r`: `~~r` is `r`
+abbrev pub complement_of : Expression → Expression
+complement_of (Complement r) = r
+complement_of r = Complement r
+
+-- `r*`: `empty*` and `epsilon*` are `epsilon`, and `r**` is `r*`
+abbrev pub star_of : Expression → Expression
+star_of NoWord = EmptyWord
+star_of EmptyWord = EmptyWord
+star_of (Star r) = Star r
+star_of r = Star r
+
+-- `r s`, where `s` is neither `empty` nor `epsilon`: nested to the right
+abbrev pub before : Expression → Expression → Expression
+before NoWord s = NoWord
+before EmptyWord s = s
+before (Product p q) s = Product p (before q s)
+before r s = Product r s
+
+-- `r s`: `epsilon` is dropped, and with `empty` in it the whole is `empty`
+abbrev pub product_of : Expression → Expression → Expression
+product_of r s = if is_nothing s then NoWord else (if is_epsilon s then r else before r s)
+
+-- A run of `|` is nested to the right, and sorted without doubles. One more member of such a run, which may be one form:
+abbrev pub put_union : Expression → Expression → Expression
+put_union t (Union r s) = by_order (order t r) (Union t (Union r s)) (Union r s) (Union r (put_union t s))
+put_union t r = by_order (order t r) (Union t r) r (Union r t)
+
+-- a member of a run of `|`, and the rest: `empty` is dropped, and with `~empty` among them the whole is `~empty`
+abbrev pub join_union : Expression → Expression → Expression
+join_union t run =
+    if is_nothing t || is_everything run then run else (if is_everything t || is_nothing run then t else put_union t run)
+
+-- `r | s`: the members of `r`, which may be a run itself, are put among those of `s`
+abbrev pub union_of : Expression → Expression → Expression
+union_of (Union p q) run = union_of q (union_of p run)
+union_of t run = join_union t run
+
+-- the same of `&`, where `empty` and `~empty` change places
+abbrev pub put_intersection : Expression → Expression → Expression
+put_intersection t (Intersection r s) = by_order (order t r) (Intersection t (Intersection r s)) (Intersection r s) (Intersection r (put_intersection t s))
+put_intersection t r = by_order (order t r) (Intersection t r) r (Intersection r t)
+
+abbrev pub join_intersection : Expression → Expression → Expression
+join_intersection t run =
+    if is_everything t || is_nothing run then run else (if is_nothing t || is_everything run then t else put_intersection t run)
+
+abbrev pub intersection_of : Expression → Expression → Expression
+intersection_of (Intersection p q) run = intersection_of q (intersection_of p run)
+intersection_of t run = join_intersection t run
+
+-- ---- sizes
+
+-- the nodes of a normal form, where a run of `|` or of `&` counts as one beside its members
+abbrev pub size_of : Expression → ℕ
+size_of (Complement r) = 1 + size_of r
+size_of (Star r) = 1 + size_of r
+size_of (Plus r) = 1 + size_of r
+size_of (Product r s) = 1 + (size_of r + size_of s)
+size_of (Union r s) = (if is_union s then 0 else 1) + (size_of r + size_of s)
+size_of (Intersection r s) = (if is_intersection s then 0 else 1) + (size_of r + size_of s)
+size_of r = 1
+
+-- a form, or the fault of one with more than 4,096 nodes
+abbrev pub Formed : Type 0
+Formed = Result Expression SpecFault
+
+abbrev pub fitting : Expression → Formed
+fitting r = if nat_le (size_of r) 4096 then Ok r else Err (TooMany Term)
+
+infixl 10 ◌>>=◌
+abbrev pub ◌>>=◌ : Formed → (Expression → Formed) → Formed
+Ok r >>= f = f r
+Err fault >>= f = Err fault
+
+-- What is made of a part is a part itself and has to fit, unless the part is inside a run that is made at once.
+abbrev pub part : Bool → Formed → Formed
+part inside formed = formed >>= λ r. if inside then Ok r else fitting r
+
+-- ---- the two uses
+
+-- The normal form of a written expression, whose own size isn't asked yet. `r+` is read as `r r*`.
+abbrev pub normal_run : Expression → Formed
+normal_run (Complement r) = part false (normal_run r) >>= λ n. Ok (complement_of n)
+normal_run (Star r) = part false (normal_run r) >>= λ n. Ok (star_of n)
+normal_run (Plus r) = part false (normal_run r) >>= λ n. fitting (star_of n) >>= λ s. Ok (product_of n s)
+normal_run (Product r s) = part (is_product r) (normal_run r) >>= λ n. part (is_product s) (normal_run s) >>= λ m. Ok (product_of n m)
+normal_run (Union r s) = part (is_union r) (normal_run r) >>= λ n. part (is_union s) (normal_run s) >>= λ m. Ok (union_of n m)
+normal_run (Intersection r s) = part (is_intersection r) (normal_run r) >>= λ n. part (is_intersection s) (normal_run s) >>= λ m. Ok (intersection_of n m)
+normal_run r = Ok r
+
+-- the normal form of a written expression
+abbrev pub normal_form : Expression → Formed
+normal_form r = part false (normal_run r)
+
+-- the expression has the empty word
+abbrev pub is_nullable : Expression → Bool
+is_nullable (Symbol x) = false
+is_nullable EmptyWord = true
+is_nullable NoWord = false
+is_nullable (Complement r) = not (is_nullable r)
+is_nullable (Star r) = true
+is_nullable (Plus r) = is_nullable r
+is_nullable (Product r s) = is_nullable r && is_nullable s
+is_nullable (Union r s) = is_nullable r || is_nullable s
+is_nullable (Intersection r s) = is_nullable r && is_nullable s
+
+-- The derivative of a normal form by a letter, whose own size isn't asked yet.
+abbrev pub derivative_run : ℕ → Expression → Formed
+derivative_run x (Symbol y) = Ok (if x == y then EmptyWord else NoWord)
+derivative_run x EmptyWord = Ok NoWord
+derivative_run x NoWord = Ok NoWord
+derivative_run x (Complement r) = part false (derivative_run x r) >>= λ d. Ok (complement_of d)
+derivative_run x (Star r) = part false (derivative_run x r) >>= λ d. Ok (product_of d (Star r))
+derivative_run x (Plus r) = part false (derivative_run x r) >>= λ d. Ok (product_of d (star_of r))
+derivative_run x (Product r s) = part false (derivative_run x r) >>= λ d.
+    if is_nullable r then (fitting (product_of d s) >>= λ front. part false (derivative_run x s) >>= λ e. Ok (union_of front e)) else Ok (product_of d s)
+derivative_run x (Union r s) = part false (derivative_run x r) >>= λ d. part (is_union s) (derivative_run x s) >>= λ e. Ok (union_of d e)
+derivative_run x (Intersection r s) = part false (derivative_run x r) >>= λ d. part (is_intersection s) (derivative_run x s) >>= λ e. Ok (intersection_of d e)
+
+-- the derivative of a normal form by a letter
+abbrev pub derivative : ℕ → Expression → Formed
+derivative x r = part false (derivative_run x r)
+
+-- What is found: the normal form of the expression, and all derivatives.
+abbrev pub forms_of : Expression → GraphMeaning Expression
+forms_of e = record { start = normal_form e; step = λ r letter. derivative letter r }

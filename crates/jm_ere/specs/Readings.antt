@@ -1,0 +1,95 @@
+-- What a reader of a formula answers.
+use Rattle.std.specs.Prelude.{ℕ, ◌+◌, ◌-◌, ◌≡◌, Bool, true, false, ◌||◌, List, [], ◌∷◌, Option, Some, None, Result, Ok, Err, codes, nat_lt, if◌then◌else◌}
+use Rattle.std.specs.Str.{bytes_eq}
+use Rattle.std.specs.Option.{ok_or}
+use Rattle.jm_model.specs.declared.fault.Counted.TheVariants.{Nesting, Nodes}
+use Rattle.jm_model.specs.declared.fault.SpecFault.{SpecFault}
+use Rattle.jm_model.specs.declared.fault.SpecFault.TheVariants.{TooMany, Syntax, ReservedName, UnknownName}
+use Rattle.jm_model.specs.declared.fault.SpecError.{SpecError}
+use Rattle.jm_model.specs.declared.fault.SpecError.TheVariants.{Bad, NoMemory}
+use Rattle.jm_text.specs.declared.token.Token.{Token}
+use Rattle.jm_text.specs.Texts.{is_mark}
+use Rattle.jm_reading.specs.Tokens.{name_of}
+use Rattle.jm_reading.specs.Faults.{or_else, ◌>>>◌}
+use Rattle.jm_events.specs.Names.{number_of}
+use Rattle.jm_events.specs.Events.{EventDefinitions, EventDefinition, event_names}
+use Rattle.jm_ere.specs.declared.reader.Atom.{Atom}
+use Rattle.jm_ere.specs.declared.reader.Atom.TheVariants.{Name, Epsilon, Empty}
+use Rattle.jm_ere.specs.declared.reader.Unary.{Unary}
+use Rattle.jm_ere.specs.declared.reader.Unary.TheVariants.{Not, Any, Many}
+use Rattle.jm_ere.specs.declared.reader.Binary.{Binary}
+use Rattle.jm_ere.specs.declared.reader.Binary.TheVariants.{Then, Either, Both}
+use Rattle.jm_ere.specs.Expressions.{Expression, Symbol, EmptyWord, NoWord, Complement, Star, Plus, Product, Union, Intersection}
+use Rattle.jm_ere.specs.Formulas.{Formula, Leaf, Over, Between, nodes}
+use Rattle.jm_ere.specs.Spelling.{Spells}
+
+-- how many parentheses are open behind a token; one that closes nothing counts for nothing
+abbrev pub depth_after : List ℕ → ℕ → Token → ℕ
+depth_after bytes depth t = if is_mark bytes t (codes "(") then depth + 1 else if is_mark bytes t (codes ")") then depth - 1 else depth
+
+-- a 65th parenthesis is open at once, where so many are open before the tokens
+abbrev pub is_too_deep : List ℕ → ℕ → List Token → Bool
+is_too_deep bytes depth [] = false
+is_too_deep bytes depth (t ∷ ts) = if nat_lt 64 (depth_after bytes depth t) then true else is_too_deep bytes (depth_after bytes depth t) ts
+
+-- there are at most 256 nodes
+abbrev pub nodes_fault : ℕ → Option SpecFault
+nodes_fault count = if nat_lt 256 count then Some (TooMany Nodes) else None
+
+-- no event is named by a word of the grammar
+abbrev pub is_grammar_word : List ℕ → Bool
+is_grammar_word name = bytes_eq name (codes "epsilon") || bytes_eq name (codes "empty")
+
+abbrev pub event_name_fault : List EventDefinition → Option SpecFault
+event_name_fault [] = None
+event_name_fault (e ∷ es) = if is_grammar_word e.name then Some (ReservedName e.line) else event_name_fault es
+
+-- what an operator makes
+abbrev pub over : Unary → Expression → Expression
+over Not r = Complement r
+over Any r = Star r
+over Many r = Plus r
+
+abbrev pub between : Binary → Expression → Expression → Expression
+between Then r s = Product r s
+between Either r s = Union r s
+between Both r s = Intersection r s
+
+-- the letter of an event's name
+abbrev pub letter_said : List ℕ → List (List ℕ) → Token → Result ℕ SpecFault
+letter_said bytes events token = ok_or (number_of events (name_of bytes token)) (UnknownName token.line)
+
+-- the expression that a formula says among these events, or its first name that isn't there
+abbrev pub atom_said : List ℕ → List (List ℕ) → Atom → Result Expression SpecFault
+atom_said bytes events (Name token) = letter_said bytes events token >>> λ letter. Ok (Symbol letter)
+atom_said bytes events Epsilon = Ok EmptyWord
+atom_said bytes events Empty = Ok NoWord
+
+abbrev pub expression_said : List ℕ → List (List ℕ) → Formula → Result Expression SpecFault
+expression_said bytes events (Leaf atom) = atom_said bytes events atom
+expression_said bytes events (Over operator f) = expression_said bytes events f >>> λ r. Ok (over operator r)
+expression_said bytes events (Between operator f g) = expression_said bytes events f >>> λ r. expression_said bytes events g >>> λ s. Ok (between operator r s)
+
+abbrev pub fault_of : {X : Type 0} → Result X SpecFault → Option SpecFault
+fault_of (Ok x) = None
+fault_of (Err fault) = Some fault
+
+-- the fault of the first step that has one: too many nodes, reserved names of events, unknown names
+abbrev pub first_fault : List ℕ → EventDefinitions → Formula → Option SpecFault
+first_fault bytes table f =
+    or_else (nodes_fault (nodes f))
+    (or_else (event_name_fault table.events)
+    (fault_of (expression_said bytes (event_names table) f)))
+
+-- no 65th parenthesis is open at once, and the tokens spell a formula without a fault, which says this expression
+abbrev pub IsReadFrom : List ℕ → List Token → EventDefinitions → Expression → Type 0
+IsReadFrom bytes tokens table e =
+    (is_too_deep bytes 0 tokens ≡ false)
+    × ((f : Formula) × Spells bytes tokens f × (first_fault bytes table f ≡ None) × (expression_said bytes (event_names table) f ≡ Ok e))
+
+-- a 65th parenthesis is open at once; or else the tokens spell no formula, or one with this first fault; or memory is short
+abbrev pub IsRefused : List ℕ → List Token → EventDefinitions → SpecError → Type 0
+IsRefused bytes tokens table NoMemory = Unit {0}
+IsRefused bytes tokens table (Bad (TooMany Nesting)) = is_too_deep bytes 0 tokens ≡ true
+IsRefused bytes tokens table (Bad (Syntax line)) = (is_too_deep bytes 0 tokens ≡ false) × ((f : Formula) → Spells bytes tokens f → ⊥)
+IsRefused bytes tokens table (Bad fault) = (is_too_deep bytes 0 tokens ≡ false) × ((f : Formula) × Spells bytes tokens f × (first_fault bytes table f ≡ Some fault))

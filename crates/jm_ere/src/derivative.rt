@@ -1,0 +1,76 @@
+//! Derivatives of normal forms (Brzozowski 1964; Owens, Reppy and Turon 2009).
+ghost use Rattle.std.specs.Prelude.{◌≡◌, ◌==◌, if◌then◌else◌};
+ghost use Rattle.jm_table.specs.Graphs.{Answers};
+ghost use Rattle.jm_ere.specs.Trees.{expression_of};
+ghost use Rattle.jm_ere.specs.Expressions.{EmptyWord, NoWord};
+ghost use Rattle.jm_ere.specs.NormalForms.{derivative_run, derivative};
+
+use crate::forms::{complement_of, copy, intersection_of, product_of, repeated, star_of, union_of};
+use crate::order::{is_intersection, is_nullable, is_union};
+use crate::sizes::{fitting, part};
+use crate::tree::Tree;
+use jm_model::{Letter, SpecError};
+use std::alloc::Global;
+
+/// The derivative of a normal form by a letter: the words that may follow the letter. The fault is `TooMany` term where
+/// it, or a part of which it is made, has more than 4,096 nodes.
+pub(crate) fn derivative(alloc: Global, tree: &Tree, letter: Letter) -> Result<Tree, SpecError>
+    ensures { Answers expression_of (derivative letter.0 (expression_of tree.now)) result }
+{
+    let formed = derivative_run(alloc, tree, letter)?;
+    fitting(formed)
+}
+
+/// The derivative whose own size isn't asked yet.
+fn derivative_run(alloc: Global, tree: &Tree, letter: Letter) -> Result<Tree, SpecError>
+    ensures { Answers expression_of (derivative_run letter.0 (expression_of tree.now)) result }
+{
+    match tree {
+        Tree::Letter(other) => Ok(of_letter(*other, letter)),
+        Tree::Epsilon => Ok(Tree::Empty),
+        Tree::Empty => Ok(Tree::Empty),
+        Tree::Not(r) => {
+            let inner = part(false, derivative_run(alloc, r, letter)?)?;
+            complement_of(alloc, inner)
+        }
+        Tree::Star(r) => {
+            let first = part(false, derivative_run(alloc, r, letter)?)?;
+            product_of(alloc, first, repeated(alloc, r)?)
+        }
+        Tree::Plus(r) => {
+            let first = part(false, derivative_run(alloc, r, letter)?)?;
+            product_of(alloc, first, star_of(alloc, copy(alloc, r)?)?)
+        }
+        Tree::Then(r, s) => {
+            let first = part(false, derivative_run(alloc, r, letter)?)?;
+            let front = product_of(alloc, first, copy(alloc, s)?)?;
+            if !is_nullable(r) {
+                return Ok(front);
+            }
+            let front = fitting(front)?;
+            let second = part(false, derivative_run(alloc, s, letter)?)?;
+            union_of(alloc, front, second)
+        }
+        Tree::Either(r, s) => {
+            let first = part(false, derivative_run(alloc, r, letter)?)?;
+            let rest = part(is_union(s), derivative_run(alloc, s, letter)?)?;
+            union_of(alloc, first, rest)
+        }
+        Tree::Both(r, s) => {
+            let first = part(false, derivative_run(alloc, r, letter)?)?;
+            let rest = part(is_intersection(s), derivative_run(alloc, s, letter)?)?;
+            intersection_of(alloc, first, rest)
+        }
+    }
+}
+
+/// The derivative of a letter by another.
+fn of_letter(letter: Letter, by: Letter) -> Tree
+    ensures { expression_of result ≡ (if by.0 == letter.0 then EmptyWord else NoWord) }
+{
+    if by.0 == letter.0 {
+        Tree::Epsilon
+    } else {
+        Tree::Empty
+    }
+}

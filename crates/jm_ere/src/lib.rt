@@ -1,0 +1,32 @@
+//! Extended regular expressions, one of the four logics.
+//!
+//! `read` reads an expression, an `Ere`, from the tokens of a formula. What the tokens spell stands in `specs`, apart from
+//! the reader: the grammar as a relation. `Ere::compile` makes a table of states with a group for each category: the
+//! states are the normal forms of the expression's derivatives. What an expression means stands in `specs`, apart from
+//! any derivative: its words, by cases on the expression.
+#![tactic(auto)]
+
+mod compile;
+mod derivative;
+mod faults;
+mod forms;
+mod graph;
+mod keys;
+mod laws;
+mod live;
+mod order;
+mod reader;
+mod reading;
+mod sizes;
+mod tree;
+mod value;
+mod written;
+
+pub use laws::{forms_are_normal, one_order, one_reading};
+pub use reading::read;
+pub use tree::{Ere, Tree};
+
+#[cfg(test)]
+mod compile_tests;
+#[cfg(test)]
+mod reading_tests;

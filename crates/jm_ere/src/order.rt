@@ -1,0 +1,126 @@
+//! The fixed order of expressions, and the kinds that rules ask for.
+ghost use Rattle.std.specs.Prelude.{◌≡◌, ◌↔◌, IsTrue};
+ghost use Rattle.jm_ere.specs.Trees.{expression_of};
+ghost use Rattle.jm_ere.specs.NormalForms.{rank, order, is_nothing, is_everything, is_epsilon, is_product, is_union, is_intersection, is_nullable};
+
+use crate::tree::Tree;
+use std::cmp::Ordering;
+
+/// Where the kind of an expression stands in the order.
+fn rank(tree: &Tree) -> u8
+    ensures { result ≡ rank (expression_of tree.now) }
+{
+    match tree {
+        Tree::Letter(_) => 0,
+        Tree::Epsilon => 1,
+        Tree::Empty => 2,
+        Tree::Not(_) => 3,
+        Tree::Star(_) => 4,
+        Tree::Plus(_) => 5,
+        Tree::Then(_, _) => 6,
+        Tree::Either(_, _) => 7,
+        Tree::Both(_, _) => 8,
+    }
+}
+
+/// By kind, and then part by part.
+pub(crate) fn order(a: &Tree, b: &Tree) -> Ordering
+    ensures { result ≡ order (expression_of a.now) (expression_of b.now) }
+{
+    match (a, b) {
+        (Tree::Letter(x), Tree::Letter(y)) => x.0.cmp(&y.0),
+        (Tree::Not(r), Tree::Not(s)) => order(r, s),
+        (Tree::Star(r), Tree::Star(s)) => order(r, s),
+        (Tree::Plus(r), Tree::Plus(s)) => order(r, s),
+        (Tree::Then(r, s), Tree::Then(p, q)) => order(r, p).then(order(s, q)),
+        (Tree::Either(r, s), Tree::Either(p, q)) => order(r, p).then(order(s, q)),
+        (Tree::Both(r, s), Tree::Both(p, q)) => order(r, p).then(order(s, q)),
+        _ => rank(a).cmp(&rank(b)),
+    }
+}
+
+/// Whether two expressions are the same.
+#[tactic(auto, using(crate::proofs::OrderLemmas::order_tells, crate::proofs::OrderLemmas::order_same))]
+pub(crate) fn is_same(a: &Tree, b: &Tree) -> bool
+    ensures { IsTrue result ↔ (expression_of a.now ≡ expression_of b.now) }
+{
+    match order(a, b) {
+        Ordering::Less => false,
+        Ordering::Equal => true,
+        Ordering::Greater => false,
+    }
+}
+
+/// Whether it is `empty`.
+pub(crate) fn is_nothing(tree: &Tree) -> bool
+    ensures { result ≡ is_nothing (expression_of tree.now) }
+{
+    match tree {
+        Tree::Empty => true,
+        _ => false,
+    }
+}
+
+/// Whether it is `~empty`.
+pub(crate) fn is_everything(tree: &Tree) -> bool
+    ensures { result ≡ is_everything (expression_of tree.now) }
+{
+    match tree {
+        Tree::Not(r) => is_nothing(r),
+        _ => false,
+    }
+}
+
+/// Whether it is `epsilon`.
+pub(crate) fn is_epsilon(tree: &Tree) -> bool
+    ensures { result ≡ is_epsilon (expression_of tree.now) }
+{
+    match tree {
+        Tree::Epsilon => true,
+        _ => false,
+    }
+}
+
+pub(crate) fn is_product(tree: &Tree) -> bool
+    ensures { result ≡ is_product (expression_of tree.now) }
+{
+    match tree {
+        Tree::Then(_, _) => true,
+        _ => false,
+    }
+}
+
+pub(crate) fn is_union(tree: &Tree) -> bool
+    ensures { result ≡ is_union (expression_of tree.now) }
+{
+    match tree {
+        Tree::Either(_, _) => true,
+        _ => false,
+    }
+}
+
+pub(crate) fn is_intersection(tree: &Tree) -> bool
+    ensures { result ≡ is_intersection (expression_of tree.now) }
+{
+    match tree {
+        Tree::Both(_, _) => true,
+        _ => false,
+    }
+}
+
+/// Whether the empty word is in the language.
+pub(crate) fn is_nullable(tree: &Tree) -> bool
+    ensures { result ≡ is_nullable (expression_of tree.now) }
+{
+    match tree {
+        Tree::Letter(_) => false,
+        Tree::Epsilon => true,
+        Tree::Empty => false,
+        Tree::Not(r) => !is_nullable(r),
+        Tree::Star(_) => true,
+        Tree::Plus(r) => is_nullable(r),
+        Tree::Then(r, s) => is_nullable(r) && is_nullable(s),
+        Tree::Either(r, s) => is_nullable(r) || is_nullable(s),
+        Tree::Both(r, s) => is_nullable(r) && is_nullable(s),
+    }
+}

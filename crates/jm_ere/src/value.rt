@@ -1,0 +1,161 @@
+//! The expression of a formula's nodes.
+ghost use Rattle.std.specs.Prelude.{◌≡◌, [], ◌∷◌, List, OnOk, IfOk, IfErr, Ok};
+ghost use Rattle.jm_reading.specs.Faults.{Makes, Answers, Checks};
+ghost use Rattle.jm_events.specs.Events.{event_names};
+ghost use Rattle.jm_ere.specs.Expressions.{Expression};
+ghost use Rattle.jm_ere.specs.Readings.{over, between, letter_said, atom_said, fault_of};
+ghost use Rattle.jm_ere.specs.Values.{wrapped, joined, with_step, with_steps, steps_fault};
+
+use crate::faults;
+use crate::forms::boxed;
+use crate::reader::{Atom, Binary, Step, Unary};
+use crate::tree::{Ere, Tree};
+use jm_events::EventTable;
+use jm_model::{Letter, SpecError, SpecFault};
+use jm_reading::{Stack, name_of};
+use jm_text::Token;
+use std::alloc::Global;
+
+/// The letter of an event's name.
+fn letter_of(bytes: &[u8], table: &EventTable, token: Token) -> Result<u8, SpecError>
+    ensures { Answers result (letter_said bytes.now (event_names table.now) token) }
+{
+    match table.letter(name_of(bytes, token)) {
+        Some(letter) => Ok(letter.0),
+        None => {
+            let line = token.line;
+            Err(SpecError::Bad(SpecFault::UnknownName { line }))
+        }
+    }
+}
+
+fn atom_of(bytes: &[u8], table: &EventTable, atom: Atom) -> Result<Ere, SpecError>
+    ensures { Answers result (atom_said bytes.now (event_names table.now) atom) }
+{
+    match atom {
+        Atom::Name(token) => {
+            let letter = letter_of(bytes, table, token)?;
+            Ok(Ere::new(Tree::Letter(Letter(letter))))
+        }
+        Atom::Epsilon => Ok(Ere::new(Tree::Epsilon)),
+        Atom::Empty => Ok(Ere::new(Tree::Empty)),
+    }
+}
+
+fn over(alloc: Global, operator: Unary, r: Ere) -> Result<Ere, SpecError>
+    ensures ok { IfOk result (λ e. e ≡ over operator r) }
+    ensures err { IfErr result (λ e. e ≡ SpecError.NoMemory) }
+{
+    let r = boxed(alloc, r.tree)?;
+    match operator {
+        Unary::Not => Ok(Ere::new(Tree::Not(r))),
+        Unary::Any => Ok(Ere::new(Tree::Star(r))),
+        Unary::Many => Ok(Ere::new(Tree::Plus(r))),
+    }
+}
+
+fn between(alloc: Global, operator: Binary, r: Ere, s: Ere) -> Result<Ere, SpecError>
+    ensures ok { IfOk result (λ e. e ≡ between operator r s) }
+    ensures err { IfErr result (λ e. e ≡ SpecError.NoMemory) }
+{
+    let r = boxed(alloc, r.tree)?;
+    let s = boxed(alloc, s.tree)?;
+    match operator {
+        Binary::Then => Ok(Ere::new(Tree::Then(r, s))),
+        Binary::Either => Ok(Ere::new(Tree::Either(r, s))),
+        Binary::Both => Ok(Ere::new(Tree::Both(r, s))),
+    }
+}
+
+fn wrap(alloc: Global, stack: &mut Stack<Ere>, operator: Unary) -> Result<(), SpecError>
+    ensures ok { OnOk result (stack.new ≡ wrapped operator stack.old) }
+    ensures err { IfErr result (λ e. e ≡ SpecError.NoMemory) }
+{
+    let Some(r) = stack.pop() else {
+        return Ok(());
+    };
+    let ere = over(alloc, operator, r)?;
+    stack.push(ere)
+}
+
+fn join(alloc: Global, stack: &mut Stack<Ere>, operator: Binary) -> Result<(), SpecError>
+    ensures ok { OnOk result (stack.new ≡ joined operator stack.old) }
+    ensures err { IfErr result (λ e. e ≡ SpecError.NoMemory) }
+{
+    let Some(s) = stack.pop() else {
+        return Ok(());
+    };
+    let Some(r) = stack.pop() else {
+        return Ok(());
+    };
+    let ere = between(alloc, operator, r, s)?;
+    stack.push(ere)
+}
+
+fn apply(
+    alloc: Global,
+    bytes: &[u8],
+    table: &EventTable,
+    stack: &mut Stack<Ere>,
+    step: Step,
+) -> Result<(), SpecError>
+    ensures { Makes result stack.new (with_step bytes.now (event_names table.now) stack.old step) }
+{
+    match step {
+        Step::Push(atom) => {
+            let ere = atom_of(bytes, table, atom)?;
+            stack.push(ere)
+        }
+        Step::Wrap(operator) => wrap(alloc, stack, operator),
+        Step::Join(operator) => join(alloc, stack, operator),
+    }
+}
+
+fn apply_all(
+    alloc: Global,
+    bytes: &[u8],
+    table: &EventTable,
+    stack: &mut Stack<Ere>,
+    steps: &[Step],
+) -> Result<(), SpecError>
+    ensures { Makes result stack.new (with_steps bytes.now (event_names table.now) stack.old steps.now) }
+{
+    for step in steps {
+        apply(alloc, bytes, table, stack, *step)?;
+    }
+    Ok(())
+}
+
+/// The expression of nodes that are a formula's, or the first name that isn't there.
+fn known_expression(
+    alloc: Global,
+    bytes: &[u8],
+    steps: &[Step],
+    table: &EventTable,
+) -> Result<Ere, SpecError>
+    ensures ok { IfOk result (λ e. (rest : List Expression) × (with_steps bytes.now (event_names table.now) [] steps.now ≡ Ok (e ∷ rest))) }
+    ensures checked { Checks result (fault_of (with_steps bytes.now (event_names table.now) [] steps.now)) }
+{
+    let mut stack = Stack::new(alloc);
+    apply_all(alloc, bytes, table, &mut stack, steps)?;
+    let Some(ere) = stack.pop() else {
+        return Err(SpecError::NoMemory);
+    };
+    Ok(ere)
+}
+
+/// The expression of nodes that are a formula's, or the fault of the first step that has one.
+#[tactic(auto, unfolding(crate::specs::Values::steps_fault))]
+pub(crate) fn expression_of(
+    alloc: Global,
+    bytes: &[u8],
+    steps: &[Step],
+    table: &EventTable,
+) -> Result<Ere, SpecError>
+    ensures ok { IfOk result (λ e. (rest : List Expression) × (with_steps bytes.now (event_names table.now) [] steps.now ≡ Ok (e ∷ rest))) }
+    ensures checked { Checks result (steps_fault bytes.now table.now steps.now) }
+{
+    faults::few_nodes(steps)?;
+    faults::event_names(table)?;
+    known_expression(alloc, bytes, steps, table)
+}
