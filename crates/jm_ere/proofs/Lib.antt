@@ -13,3 +13,4 @@ pub mod FormLemmas
 pub mod LiveLemmas
 pub mod CompileLemmas
 pub mod RefusalLemmas
+pub mod StackLemmas

@@ -18,6 +18,7 @@ mod order;
 mod reader;
 mod reading;
 mod sizes;
+mod stack;
 mod tree;
 mod value;
 mod written;

@@ -4,8 +4,9 @@ ghost use Rattle.jm_text.specs.Spans.{LiesWithin, LieWithin};
 ghost use Rattle.jm_reading.specs.Answers.{Gives, IsSyntax};
 ghost use Rattle.jm_ere.specs.Rules.{sign_of, fresh, beginning, flag, complements, end_not, end_sequence, end_both, end_either, with_steps, juxtaposed, closed, before_operand, behind_operand, after_sign, after_all, finished, parsed, Takes};
 
+use crate::stack::Stack;
 use jm_model::{SpecError, SpecFault};
-use jm_reading::{Items, Stack};
+use jm_reading::Items;
 use jm_text::{Token, is_mark, is_name, is_word};
 use std::alloc::Global;
 

@@ -9,10 +9,11 @@ ghost use Rattle.jm_ere.specs.Values.{wrapped, joined, with_step, with_steps, st
 use crate::faults;
 use crate::forms::boxed;
 use crate::reader::{Atom, Binary, Step, Unary};
+use crate::stack::Stack;
 use crate::tree::{Ere, Tree};
 use jm_events::EventTable;
 use jm_model::{Letter, SpecError, SpecFault};
-use jm_reading::{Stack, name_of};
+use jm_reading::name_of;
 use jm_text::Token;
 use std::alloc::Global;
 

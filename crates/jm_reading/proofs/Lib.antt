@@ -1,4 +1,3 @@
 pub mod TokenLemmas
 pub mod LoopLemmas
 pub mod GrammarLemmas
-pub mod StackLemmas

@@ -8,12 +8,10 @@
 mod cursor;
 mod items;
 mod names;
-mod stack;
 
 pub use cursor::Cursor;
 pub use items::Items;
 pub use names::name_of;
-pub use stack::Stack;
 
 #[cfg(test)]
 mod tests;

@@ -38,12 +38,5 @@ fn lists(rt: HostRuntime) -> Result<(), Fail> {
     numbers.push(5)?;
     assert_eq!(rt; numbers.as_slice(), [3, 5].as_slice());
     assert_eq!(rt; numbers.into_vec().len(), 2);
-    let mut stack: Stack<u8> = Stack::new(rt.alloc());
-    stack.push(3)?;
-    stack.push(5)?;
-    assert_eq!(rt;
-        (stack.pop(), stack.pop(), stack.pop()),
-        (Some(5), Some(3), None)
-    );
     Ok(())
 }
