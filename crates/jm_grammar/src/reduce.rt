@@ -1,0 +1,43 @@
+//! A grammar without what spells no word.
+ghost use Rattle.std.specs.Prelude.{ℕ, ◌≡◌, ◌↔◌, ◌⊎◌, List, All, Contains, IfOk, filter};
+ghost use Rattle.jm_grammar.specs.Grammars.{IsSmallProduction};
+ghost use Rattle.jm_grammar.specs.declared.grammar.Production.{Production};
+ghost use Rattle.jm_grammar.specs.Derivations.{IsWord, IsIn, DerivesSome};
+ghost use Rattle.jm_grammar.specs.Rounds.{are_known};
+
+use crate::grammar::{Grammar, Production};
+use crate::productive::are_known;
+use jm_model::NoMemory;
+use std::alloc::Global;
+
+impl Grammar {
+    /// The same words and start, and no nonterminal that spells no word, save the start. The productions are some of
+    /// these, in their order.
+    pub fn reduce(&self) -> Result<Grammar, NoMemory>
+        ensures words { IfOk result (λ g. (word : List ℕ) → IsWord g word ↔ IsWord self.now word) }
+        ensures spell { IfOk result (λ g. (n : ℕ) → IsIn g.productions n → DerivesSome g.productions n) }
+        ensures start { IfOk result (λ g. g.start ≡ self.now.start) }
+        ensures kept { IfOk result (λ g. (p : Production) → Contains g.productions p → Contains self.now.productions p) }
+    {
+        let known = self.productive(u32::MAX);
+        let kept = kept(self.allocator(), self.productions(), known)?;
+        Ok(Grammar::new(kept, self.start()))
+    }
+}
+
+/// The productions whose nonterminals are known.
+fn kept(alloc: Global, productions: &[Production], known: u64) -> Result<Vec<Production>, NoMemory>
+    requires { All IsSmallProduction productions.now }
+    ensures { IfOk result (λ kept. kept.items ≡ filter (λ p. are_known 4294967295 known p.symbols) productions.now) }
+{
+    let mut kept = Vec::new(alloc);
+    for production in productions {
+        if are_known(production.symbols.as_slice(), u32::MAX, known) {
+            let copy = production.copy(alloc)?;
+            let Ok(()) = kept.push(copy) else {
+                return Err(NoMemory);
+            };
+        }
+    }
+    Ok(kept)
+}
