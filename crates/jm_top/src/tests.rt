@@ -131,6 +131,13 @@ fn replays_two_parameters(rt: HostRuntime) -> Result<(), Fail> {
         &rt,
         alloc,
         UNSAFE,
+        "UnsafeFsm.create c1 i1\nUnsafeFsm.update c1\nUnsafeFsm.next i1\n",
+        "spec UnsafeFsm\n0:1 create c=c1,i=i1 fired 0\n0:2 update c=c1 fired 0\n0:3 next i=i1 fired 1\n  @hit c=c1,i=i1\nend 3\n",
+    )?;
+    replays(
+        &rt,
+        alloc,
+        UNSAFE,
         "UnsafeFsm.create c1 i1\nUnsafeFsm.update c1\nUnsafeFsm.next i1\nUnsafeFsm.next i1\n",
         "spec UnsafeFsm\n0:1 create c=c1,i=i1 fired 0\n0:2 update c=c1 fired 0\n0:3 next i=i1 fired 1\n  @hit c=c1,i=i1\n0:4 next i=i1 fired 0\nend 4\n",
     )?;
@@ -238,6 +245,13 @@ fn refuses_specifications(rt: HostRuntime) -> Result<(), Fail> {
 #[test]
 fn refuses_what_is_not_taken_so_far(rt: HostRuntime) -> Result<(), Fail> {
     let alloc = rt.alloc();
+    spec_refused(
+        &rt,
+        alloc,
+        b"L(P p) { event a before(P p) : x() {} ltl : a }",
+        SpecFault::UnsupportedLogic { line: 1 },
+        "jmop: specification 1, line 1: unsupported logic\n",
+    )?;
     let rows = [
         b"L(P p, P p) { event a before(P p) : x() {}\n ltl : a }".as_slice(),
         b"Iter(P p, P p) {\n ere : create next* update+ next\n @match { }\n}",
