@@ -7,6 +7,7 @@
 //! Ullman 1979).
 #![tactic(auto)]
 
+mod formula;
 mod grammar;
 mod productive;
 mod reduce;
