@@ -1,0 +1,193 @@
+//! The grammar that a formula says.
+ghost use Rattle.std.specs.Prelude.{◌≡◌, ◌≤◌, [], length, IfOk, None};
+ghost use Rattle.jm_events.specs.Events.{event_names};
+ghost use Rattle.jm_reading.specs.Faults.{Checks, Makes, Answers};
+ghost use Rattle.jm_grammar.specs.Faults.{nonterminals, nonterminals_fault, productions_fault, symbols_fault, nonterminal_said, symbol_said, with_symbol, with_symbols, with_alternative, with_alternatives, with_part, with_parts, grammar_of, first_fault};
+
+use crate::faults;
+use crate::formula::Part;
+use crate::grammar::{Grammar, GrammarSymbol, Production};
+use jm_events::{EventTable, Names};
+use jm_model::{SpecError, SpecFault};
+use jm_reading::{Items, name_of};
+use jm_text::Token;
+use std::alloc::Global;
+
+/// The number of a nonterminal.
+fn nonterminal_of(bytes: &[u8], known: &Names, token: Token) -> Result<u8, SpecError>
+    requires { length known.now ≤ 64 }
+    ensures { Answers result (nonterminal_said bytes.now known.now token) }
+{
+    match known.find(name_of(bytes, token)) {
+        Some(number) => Ok(number as u8),
+        None => {
+            let line = token.line;
+            Err(SpecError::Bad(SpecFault::UnknownName { line }))
+        }
+    }
+}
+
+/// The symbol of a name.
+fn symbol_of(
+    bytes: &[u8],
+    table: &EventTable,
+    known: &Names,
+    token: Token,
+) -> Result<GrammarSymbol, SpecError>
+    requires { length known.now ≤ 64 }
+    ensures { Answers result (symbol_said bytes.now (event_names table.now) known.now token) }
+{
+    match table.letter(name_of(bytes, token)) {
+        Some(letter) => Ok(GrammarSymbol::Letter(letter)),
+        None => {
+            let number = nonterminal_of(bytes, known, token)?;
+            Ok(GrammarSymbol::Nonterminal(number))
+        }
+    }
+}
+
+/// Adds a symbol, where it isn't `epsilon`.
+fn add_symbol(
+    bytes: &[u8],
+    table: &EventTable,
+    known: &Names,
+    symbols: &mut Items<GrammarSymbol>,
+    token: Token,
+) -> Result<(), SpecError>
+    requires { length known.now ≤ 64 }
+    ensures { Makes result symbols.new (with_symbol bytes.now (event_names table.now) known.now symbols.old token) }
+{
+    if faults::is_epsilon(name_of(bytes, token)) {
+        return Ok(());
+    }
+    let symbol = symbol_of(bytes, table, known, token)?;
+    symbols.push(symbol)
+}
+
+fn add_symbols(
+    bytes: &[u8],
+    table: &EventTable,
+    known: &Names,
+    symbols: &mut Items<GrammarSymbol>,
+    alternative: &[Token],
+) -> Result<(), SpecError>
+    requires { length known.now ≤ 64 }
+    ensures { Makes result symbols.new (with_symbols bytes.now (event_names table.now) known.now symbols.old alternative.now) }
+{
+    for token in alternative {
+        add_symbol(bytes, table, known, symbols, *token)?;
+    }
+    Ok(())
+}
+
+/// Adds the production of an alternative.
+fn add_alternative(
+    alloc: Global,
+    bytes: &[u8],
+    table: &EventTable,
+    known: &Names,
+    left: u8,
+    productions: &mut Items<Production>,
+    alternative: &[Token],
+) -> Result<(), SpecError>
+    requires { length known.now ≤ 64 }
+    ensures { Makes result productions.new (with_alternative bytes.now (event_names table.now) known.now left productions.old alternative.now) }
+{
+    let mut symbols = Items::new(alloc);
+    add_symbols(bytes, table, known, &mut symbols, alternative)?;
+    productions.push(Production { left, symbols })
+}
+
+fn add_alternatives(
+    alloc: Global,
+    bytes: &[u8],
+    table: &EventTable,
+    known: &Names,
+    left: u8,
+    productions: &mut Items<Production>,
+    alternatives: &[Items<Token>],
+) -> Result<(), SpecError>
+    requires { length known.now ≤ 64 }
+    ensures { Makes result productions.new (with_alternatives bytes.now (event_names table.now) known.now left productions.old alternatives.now) }
+{
+    for alternative in alternatives {
+        let alternative = alternative.as_slice();
+        add_alternative(alloc, bytes, table, known, left, productions, alternative)?;
+    }
+    Ok(())
+}
+
+/// Adds the productions of a left side and its alternatives.
+fn add_part(
+    alloc: Global,
+    bytes: &[u8],
+    table: &EventTable,
+    known: &Names,
+    productions: &mut Items<Production>,
+    part: &Part,
+) -> Result<(), SpecError>
+    requires { length known.now ≤ 64 }
+    ensures { Makes result productions.new (with_part bytes.now (event_names table.now) known.now productions.old part.now) }
+{
+    let left = nonterminal_of(bytes, known, part.left)?;
+    let alternatives = part.alternatives.as_slice();
+    add_alternatives(alloc, bytes, table, known, left, productions, alternatives)
+}
+
+fn add_parts(
+    alloc: Global,
+    bytes: &[u8],
+    table: &EventTable,
+    known: &Names,
+    productions: &mut Items<Production>,
+    parts: &[Part],
+) -> Result<(), SpecError>
+    requires { length known.now ≤ 64 }
+    ensures { Makes result productions.new (with_parts bytes.now (event_names table.now) known.now productions.old parts.now) }
+{
+    for part in parts {
+        add_part(alloc, bytes, table, known, productions, part)?;
+    }
+    Ok(())
+}
+
+/// The grammar of a formula with these nonterminals, or its first name that isn't there.
+#[tactic(auto, unfolding(crate::specs::Faults::grammar_of))]
+fn known_grammar(
+    alloc: Global,
+    bytes: &[u8],
+    table: &EventTable,
+    known: &Names,
+    parts: &[Part],
+) -> Result<Grammar, SpecError>
+    requires known { known.now ≡ nonterminals bytes.now parts.now }
+    requires nonterminals { nonterminals_fault bytes.now parts.now ≡ None }
+    requires productions { productions_fault parts.now ≡ None }
+    requires symbols { symbols_fault bytes.now parts.now ≡ None }
+    ensures { Answers result (grammar_of bytes.now table.now parts.now) }
+{
+    let mut productions = Items::new(alloc);
+    add_parts(alloc, bytes, table, known, &mut productions, parts)?;
+    Ok(Grammar::new(productions.into_vec(), 0))
+}
+
+/// The grammar of a formula, or the fault of the first step that has one.
+#[tactic(auto, unfolding(crate::specs::Faults::first_fault))]
+pub fn grammar_of(
+    alloc: Global,
+    bytes: &[u8],
+    parts: &[Part],
+    table: &EventTable,
+) -> Result<Grammar, SpecError>
+    ensures ok { IfOk result (λ g. grammar_of bytes.now table.now parts.now ≡ Ok g) }
+    ensures checked { Checks result (first_fault bytes.now table.now parts.now) }
+{
+    let known = faults::nonterminals(alloc, bytes, parts)?;
+    faults::few_nonterminals(bytes, parts, &known)?;
+    faults::few_productions(parts)?;
+    faults::few_symbols(bytes, parts)?;
+    faults::event_names(table)?;
+    faults::left_names(bytes, parts)?;
+    faults::clashes(bytes, table, parts)?;
+    known_grammar(alloc, bytes, table, &known, parts)
+}

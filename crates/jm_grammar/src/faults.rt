@@ -1,0 +1,168 @@
+//! What is wrong with a formula, step by step.
+ghost use Rattle.std.specs.Prelude.{◌≡◌, ◌<◌, not, ◌+◌, ◌-◌, ◌^◌, [], IfOk, IfErr, OnOk, length, nat_lt, sum_by};
+ghost use Rattle.std.specs.List.{list_any};
+ghost use Rattle.jm_events.specs.Names.{with_name};
+ghost use Rattle.jm_events.specs.Events.{event_names};
+ghost use Rattle.jm_reading.specs.Tokens.{name_of};
+ghost use Rattle.jm_reading.specs.Faults.{Checks};
+ghost use Rattle.jm_grammar.specs.Faults.{nonterminals, nonterminals_fault, productions_fault, is_epsilon, symbol_count, is_long, has_long, symbols_fault, event_name_fault, left_name_fault, is_among, clash_fault};
+
+use crate::formula::Part;
+use jm_events::{EventTable, Names};
+use jm_model::{Counted, Letter, SpecError, SpecFault};
+use jm_reading::name_of;
+use jm_text::Token;
+use std::alloc::Global;
+
+const MAX_NONTERMINALS: u32 = 64;
+
+const MAX_PRODUCTIONS: usize = 256;
+
+const MAX_SYMBOLS: usize = 32;
+
+/// Adds a name to others, where there are fewer than 2^32 - 1.
+fn add(names: &mut Names, name: &str) -> Result<(), SpecError>
+    ensures ok { OnOk result (names.new ≡ with_name names.old name.now) }
+    ensures err { IfErr result (λ e. e ≡ SpecError.NoMemory) }
+{
+    if names.len() == u32::MAX {
+        return Err(SpecError::NoMemory);
+    }
+    match names.add(name) {
+        Ok(_) => Ok(()),
+        Err(_) => Err(SpecError::NoMemory),
+    }
+}
+
+/// The names of the left sides, in order of first mention.
+pub fn nonterminals(alloc: Global, bytes: &[u8], parts: &[Part]) -> Result<Names, SpecError>
+    ensures ok { IfOk result (λ names. names ≡ nonterminals bytes.now parts.now) }
+    ensures err { IfErr result (λ e. e ≡ SpecError.NoMemory) }
+{
+    let mut names = Names::new(alloc);
+    for part in parts {
+        add(&mut names, name_of(bytes, part.left))?;
+    }
+    Ok(names)
+}
+
+/// There are at most 64 nonterminals.
+pub fn few_nonterminals(bytes: &[u8], parts: &[Part], known: &Names) -> Result<(), SpecError>
+    requires { known.now ≡ nonterminals bytes.now parts.now }
+    ensures { Checks result (nonterminals_fault bytes.now parts.now) }
+{
+    if known.len() > MAX_NONTERMINALS {
+        let what = Counted::Nonterminals;
+        return Err(SpecError::Bad(SpecFault::TooMany { what }));
+    }
+    Ok(())
+}
+
+/// There are at most 256 productions.
+pub fn few_productions(parts: &[Part]) -> Result<(), SpecError>
+    ensures { Checks result (productions_fault parts.now) }
+{
+    let mut count = 0;
+    for part in parts {
+        let more = part.alternatives.as_slice().len();
+        if more > MAX_PRODUCTIONS - count {
+            let what = Counted::Productions;
+            return Err(SpecError::Bad(SpecFault::TooMany { what }));
+        }
+        count += more;
+    }
+    Ok(())
+}
+
+/// Whether the name is the word that spells nothing.
+pub fn is_epsilon(name: &str) -> bool
+    ensures { result ≡ is_epsilon name.now }
+{
+    name == "epsilon"
+}
+
+/// Whether a symbol is another.
+fn is_counted(bytes: &[u8], symbol: Token) -> bool
+    ensures { result ≡ not (is_epsilon (name_of bytes.now symbol)) }
+{
+    !is_epsilon(name_of(bytes, symbol))
+}
+
+/// Whether there are more than 32 symbols other than `epsilon`.
+fn is_long(bytes: &[u8], symbols: &[Token]) -> bool
+    ensures { result ≡ is_long bytes.now symbols.now }
+{
+    symbols
+        .iter()
+        .filter(|symbol| is_counted(bytes, **symbol))
+        .count()
+        > MAX_SYMBOLS
+}
+
+/// Whether an alternative is so.
+fn has_long(bytes: &[u8], part: &Part) -> bool
+    ensures { result ≡ has_long bytes.now part.now }
+{
+    part.alternatives
+        .as_slice()
+        .iter()
+        .any(|symbols| is_long(bytes, symbols.as_slice()))
+}
+
+/// There are at most 32 symbols other than `epsilon` in each alternative.
+pub fn few_symbols(bytes: &[u8], parts: &[Part]) -> Result<(), SpecError>
+    ensures { Checks result (symbols_fault bytes.now parts.now) }
+{
+    if parts.iter().any(|part| has_long(bytes, part)) {
+        let what = Counted::Symbols;
+        return Err(SpecError::Bad(SpecFault::TooMany { what }));
+    }
+    Ok(())
+}
+
+/// No event is named `epsilon`.
+pub fn event_names(table: &EventTable) -> Result<(), SpecError>
+    ensures { Checks result (event_name_fault table.now.events) }
+{
+    for letter in 0..table.letters() {
+        let letter = Letter(letter);
+        if is_epsilon(table.event_name(letter)) {
+            let line = table.event_line(letter);
+            return Err(SpecError::Bad(SpecFault::ReservedName { line }));
+        }
+    }
+    Ok(())
+}
+
+/// No nonterminal is named `epsilon`.
+pub fn left_names(bytes: &[u8], parts: &[Part]) -> Result<(), SpecError>
+    ensures { Checks result (left_name_fault bytes.now parts.now) }
+{
+    for part in parts {
+        if is_epsilon(name_of(bytes, part.left)) {
+            let line = part.left.line;
+            return Err(SpecError::Bad(SpecFault::ReservedName { line }));
+        }
+    }
+    Ok(())
+}
+
+/// Whether an event has the name.
+fn is_event(table: &EventTable, name: &str) -> bool
+    ensures { result ≡ is_among (event_names table.now) name.now }
+{
+    table.letter(name).is_some()
+}
+
+/// No nonterminal has the name of an event.
+pub fn clashes(bytes: &[u8], table: &EventTable, parts: &[Part]) -> Result<(), SpecError>
+    ensures { Checks result (clash_fault bytes.now (event_names table.now) parts.now) }
+{
+    for part in parts {
+        if is_event(table, name_of(bytes, part.left)) {
+            let line = part.left.line;
+            return Err(SpecError::Bad(SpecFault::NameClash { line }));
+        }
+    }
+    Ok(())
+}

@@ -1,0 +1,19 @@
+//! What holds of the formulas of all files.
+ghost use Rattle.std.specs.Prelude.{◌≡◌, ℕ, List};
+ghost use Rattle.jm_model.specs.declared.fault.SpecFault.{SpecFault};
+ghost use Rattle.jm_model.specs.declared.fault.SpecError.TheVariants.{Bad};
+ghost use Rattle.jm_text.specs.declared.token.Token.{Token};
+ghost use Rattle.jm_events.specs.Events.{EventDefinitions};
+ghost use Rattle.jm_grammar.specs.declared.formula.Part.{Part};
+ghost use Rattle.jm_grammar.specs.Grammars.{GrammarDefinition};
+ghost use Rattle.jm_grammar.specs.Formulas.{Spells};
+ghost use Rattle.jm_grammar.specs.Trees.{IsReadFrom, IsRefused};
+
+/// One reading: no tokens spell two formulas, so none have two grammars, and none have both a grammar and a fault.
+pub fn one_reading()
+    ensures formulas { (bytes : List ℕ) (tokens : List Token) (parts other : List Part) → Spells bytes tokens parts → Spells bytes tokens other → parts ≡ other }
+    ensures grammars { (bytes : List ℕ) (tokens : List Token) (table : EventDefinitions) (g h : GrammarDefinition) →
+        IsReadFrom bytes tokens table g → IsReadFrom bytes tokens table h → g ≡ h }
+    ensures never_both { (bytes : List ℕ) (tokens : List Token) (table : EventDefinitions) (g : GrammarDefinition) (fault : SpecFault) →
+        IsReadFrom bytes tokens table g → IsRefused bytes tokens table (Bad fault) → ⊥ }
+{}
