@@ -109,11 +109,18 @@ fn has_long(bytes: &[u8], part: &Part) -> bool
         .any(|symbols| is_long(bytes, symbols.as_slice()))
 }
 
+/// Whether an alternative of one of them is so.
+fn is_any_long(bytes: &[u8], parts: &[Part]) -> bool
+    ensures { result ≡ list_any (has_long bytes.now) parts.now }
+{
+    parts.iter().any(|part| has_long(bytes, part))
+}
+
 /// There are at most 32 symbols other than `epsilon` in each alternative.
 pub fn few_symbols(bytes: &[u8], parts: &[Part]) -> Result<(), SpecError>
     ensures { Checks result (symbols_fault bytes.now parts.now) }
 {
-    if parts.iter().any(|part| has_long(bytes, part)) {
+    if is_any_long(bytes, parts) {
         let what = Counted::Symbols;
         return Err(SpecError::Bad(SpecFault::TooMany { what }));
     }

@@ -1,0 +1,7 @@
+use Rattle.std.proofs.Common.{◌≡◌, drop}
+use Rattle.jm_events.specs.Events.{event_names}
+use Rattle.jm_grammar.specs.Faults.{with_parts}
+use Rattle.jm_grammar.proofs.build.add_parts.Given as goal
+
+abbrev pub invariant-loop-part : goal.invariant-loop-part
+invariant-loop-part l = with_parts l.bytes (event_names l.table) l.known l.productions (drop l.part-index l.parts) ≡ with_parts l.bytes (event_names l.table) l.known l.initial.productions l.parts
