@@ -3,3 +3,5 @@ pub mod ReduceLemmas
 pub mod EventLemmas
 pub mod PartedLemmas
 pub mod GrammarLemmas
+pub mod MadeLemmas
+pub mod ReadLemmas

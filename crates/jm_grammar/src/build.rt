@@ -160,6 +160,7 @@ fn known_grammar(
     known: &Names,
     parts: &[Part],
 ) -> Result<Grammar, SpecError>
+    requires events { length table.now.events ≤ 32 }
     requires known { known.now ≡ nonterminals bytes.now parts.now }
     requires nonterminals { nonterminals_fault bytes.now parts.now ≡ None }
     requires productions { productions_fault parts.now ≡ None }

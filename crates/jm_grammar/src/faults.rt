@@ -1,5 +1,5 @@
 //! What is wrong with a formula, step by step.
-ghost use Rattle.std.specs.Prelude.{◌≡◌, ◌<◌, not, ◌+◌, ◌-◌, ◌^◌, [], IfOk, IfErr, OnOk, length, nat_lt, sum_by};
+ghost use Rattle.std.specs.Prelude.{◌≡◌, ◌<◌, ◌≤◌, not, ◌+◌, ◌-◌, ◌^◌, [], IfOk, IfErr, OnOk, length, nat_lt, sum_by};
 ghost use Rattle.std.specs.List.{list_any};
 ghost use Rattle.jm_events.specs.Names.{with_name};
 ghost use Rattle.jm_events.specs.Events.{event_names};
@@ -129,7 +129,8 @@ pub fn few_symbols(bytes: &[u8], parts: &[Part]) -> Result<(), SpecError>
 
 /// No event is named `epsilon`.
 pub fn event_names(table: &EventTable) -> Result<(), SpecError>
-    ensures { Checks result (event_name_fault table.now.events) }
+    ensures checked { Checks result (event_name_fault table.now.events) }
+    ensures few { length table.now.events ≤ 32 }
 {
     for letter in 0..table.letters() {
         let letter = Letter(letter);

@@ -1,0 +1,155 @@
+-- What a reader of a formula answers.
+use Rattle.std.proofs.Common.{ℕ, ◌≡◌, Bool, true, false, cond, List, [], ◌∷◌, Option, Some, None, Result, Ok, Err, IfOk, IfErr, length, sym, ap, subst, ◌∙◌}
+use Rattle.std.specs.Prelude.{nat_lt}
+use Rattle.std.specs.List.{list_any}
+use Rattle.jm_model.specs.declared.fault.SpecError.{SpecError}
+use Rattle.jm_model.specs.declared.fault.SpecError.TheVariants.{Bad, NoMemory}
+use Rattle.jm_model.specs.declared.fault.SpecFault.{SpecFault}
+use Rattle.jm_model.specs.declared.fault.SpecFault.TheVariants.{Syntax, UnknownName, TooMany}
+use Rattle.jm_model.specs.declared.fault.Counted.TheVariants.{Nonterminals, Productions, Symbols}
+use Rattle.std.specs.Option.{ok_or}
+use Rattle.jm_text.specs.declared.token.Token.{Token}
+use Rattle.jm_events.specs.Names.{number_of}
+use Rattle.jm_events.specs.Events.{EventDefinitions, EventDefinition, event_names}
+use Rattle.jm_reading.specs.Tokens.{name_of}
+use Rattle.jm_reading.specs.Answers.{FailsAt}
+use Rattle.jm_reading.specs.Faults.{or_else, ◌>>>◌, Checks, Refuses}
+use Rattle.jm_grammar.specs.declared.formula.Part.{Part}
+use Rattle.jm_grammar.specs.declared.grammar.GrammarSymbol.{GrammarSymbol}
+use Rattle.jm_grammar.specs.declared.grammar.Production.{Production}
+use Rattle.jm_grammar.specs.Grammars.{GrammarDefinition}
+use Rattle.jm_grammar.specs.Formulas.{Spells}
+use Rattle.jm_grammar.specs.Rules.{formula_at}
+use Rattle.jm_grammar.specs.Faults.{nonterminals, nonterminals_fault, production_count, productions_fault, has_long, symbols_fault, is_epsilon, event_name_fault, left_name_fault, clash_fault, nonterminal_said, letter_or, symbol_said, with_symbol, with_symbols, with_alternative, with_alternatives, with_part, with_parts, grammar_of, grammar_fault, first_fault}
+use Rattle.jm_grammar.specs.Trees.{IsReadFrom, IsRefused}
+use Rattle.jm_grammar.proofs.GrammarLemmas.{formula_sound, formula_none, one_formula}
+
+-- no fault, or another than the grammar's
+abbrev IsOther : Option SpecFault → Type 0
+IsOther (Some (Syntax line)) = ⊥
+IsOther _ = Unit {0}
+
+abbrev FailsOther : {X : Type 0} → Result X SpecFault → Type 0
+FailsOther (Ok x) = Unit {0}
+FailsOther (Err fault) = IsOther (Some fault)
+
+other_or : (a b : Option SpecFault) → IsOther a → IsOther b → IsOther (or_else a b)
+other_or None b h k = k
+other_or (Some fault) b h k = h
+
+other_if : (b : Bool) (fault : SpecFault) (o : Option SpecFault) → IsOther (Some fault) → IsOther o → IsOther (cond b (Some fault) o)
+other_if true fault o h k = h
+other_if false fault o h k = k
+
+other_event : (es : List EventDefinition) → IsOther (event_name_fault es)
+other_event [] = tt
+other_event (e ∷ es) = other_if _ _ _ tt (other_event es)
+
+other_left : (bytes : List ℕ) (ps : List Part) → IsOther (left_name_fault bytes ps)
+other_left bytes [] = tt
+other_left bytes (p ∷ ps) = other_if _ _ _ tt (other_left bytes ps)
+
+other_clash : (bytes : List ℕ) (events : List (List ℕ)) (ps : List Part) → IsOther (clash_fault bytes events ps)
+other_clash bytes events [] = tt
+other_clash bytes events (p ∷ ps) = other_if _ _ _ tt (other_clash bytes events ps)
+
+other_then : {A B : Type 0} (r : Result A SpecFault) (f : A → Result B SpecFault) → FailsOther r → ((a : A) → FailsOther (f a)) → FailsOther (r >>> f)
+other_then (Ok a) f h k = k a
+other_then (Err e) f h k = h
+
+other_name : {X : Type 0} (o : Option X) (line : ℕ) → FailsOther (ok_or o (UnknownName line))
+other_name None line = tt
+other_name (Some x) line = tt
+
+other_choice : {X : Type 0} (b : Bool) (r s : Result X SpecFault) → FailsOther r → FailsOther s → FailsOther (cond b r s)
+other_choice true r s h k = h
+other_choice false r s h k = k
+
+module _ (bytes : List ℕ) (events known : List (List ℕ)) where
+  other_letter : (o : Option ℕ) (t : Token) → FailsOther (letter_or o (nonterminal_said bytes known t))
+  other_letter (Some k) t = tt
+  other_letter None t = other_then (nonterminal_said bytes known t) _ (other_name (number_of known (name_of bytes t)) t.line) (λ n. tt)
+
+  other_symbol : (symbols : List GrammarSymbol) (t : Token) → FailsOther (with_symbol bytes events known symbols t)
+  other_symbol symbols t = other_choice (is_epsilon (name_of bytes t)) _ _ tt (other_then (symbol_said bytes events known t) _ (other_letter (number_of events (name_of bytes t)) t) (λ s. tt))
+
+  other_symbols : (symbols : List GrammarSymbol) (ts : List Token) → FailsOther (with_symbols bytes events known symbols ts)
+  other_symbols symbols [] = tt
+  other_symbols symbols (t ∷ ts) = other_then (with_symbol bytes events known symbols t) _ (other_symbol symbols t) (λ more. other_symbols more ts)
+
+  other_alternatives : (left : ℕ) (productions : List Production) (ys : List (List Token)) → FailsOther (with_alternatives bytes events known left productions ys)
+  other_alternatives left productions [] = tt
+  other_alternatives left productions (y ∷ ys) =
+      other_then (with_alternative bytes events known left productions y) _ (other_then (with_symbols bytes events known [] y) _ (other_symbols [] y) (λ symbols. tt)) (λ more. other_alternatives left more ys)
+
+  other_part : (productions : List Production) (p : Part) → FailsOther (with_part bytes events known productions p)
+  other_part productions p = other_then (nonterminal_said bytes known p.left) _ (other_name (number_of known (name_of bytes p.left)) p.left.line) (λ left. other_alternatives left productions p.alternatives)
+
+  other_parts : (productions : List Production) (ps : List Part) → FailsOther (with_parts bytes events known productions ps)
+  other_parts productions [] = tt
+  other_parts productions (p ∷ ps) = other_then (with_part bytes events known productions p) _ (other_part productions p) (λ more. other_parts more ps)
+
+other_grammar : (r : Result GrammarDefinition SpecFault) → FailsOther r → IsOther (grammar_fault r)
+other_grammar (Ok g) h = tt
+other_grammar (Err e) h = h
+
+other_made : (bytes : List ℕ) (table : EventDefinitions) (parts : List Part) → FailsOther (grammar_of bytes table parts)
+unfolding grammar_of
+other_made bytes table parts =
+    let known = nonterminals bytes parts in
+    other_then {B = GrammarDefinition} (with_parts bytes (event_names table) known [] parts) (λ productions. Ok (record { productions = productions; start = 0 })) (other_parts bytes (event_names table) known [] parts) (λ productions. tt)
+
+other_fault : (bytes : List ℕ) (table : EventDefinitions) (parts : List Part) → IsOther (first_fault bytes table parts)
+unfolding first_fault
+other_fault bytes table parts =
+    let last = other_grammar (grammar_of bytes table parts) (other_made bytes table parts) in
+    let clash = other_or (clash_fault bytes (event_names table) parts) _ (other_clash bytes (event_names table) parts) last in
+    let left = other_or (left_name_fault bytes parts) _ (other_left bytes parts) clash in
+    let event = other_or (event_name_fault table.events) _ (other_event table.events) left in
+    let long = other_or (symbols_fault bytes parts) _ (other_if (list_any (has_long bytes) parts) (TooMany Symbols) None tt tt) event in
+    let many = other_or (productions_fault parts) _ (other_if (nat_lt 256 (production_count parts)) (TooMany Productions) None tt tt) long in
+    other_or (nonterminals_fault bytes parts) _ (other_if (nat_lt 64 (length (nonterminals bytes parts))) (TooMany Nonterminals) None tt tt) many
+
+never : (o : Option SpecFault) (line : ℕ) → IsOther o → o ≡ Some (Syntax line) → ⊥
+never o line h e = subst IsOther e h
+
+module _ (bytes : List ℕ) (tokens behind : List Token) (table : EventDefinitions) (parts : List Part) (spelled : formula_at bytes tokens ≡ Some (parts, behind)) where
+  refused_as : (e : SpecError) → Refuses (first_fault bytes table parts) e → IsRefused bytes tokens table e
+  refused_as NoMemory h = tt
+  refused_as (Bad (Syntax line)) h = absurd (never (first_fault bytes table parts) line (other_fault bytes table parts) h)
+  refused_as (Bad _) h = (parts, formula_sound bytes tokens behind parts spelled, h)
+
+  pub read_err : (r : Result GrammarDefinition SpecError) → Checks r (first_fault bytes table parts) → IfErr r (IsRefused bytes tokens table)
+  read_err (Ok g) h = tt
+  read_err (Err e) h = refused_as e h
+
+  pub read_ok : (r : Result GrammarDefinition SpecError) → IfOk r (λ g. grammar_of bytes table parts ≡ Ok g) → Checks r (first_fault bytes table parts) → IfOk r (IsReadFrom bytes tokens table)
+  read_ok (Ok g) made h = (parts, formula_sound bytes tokens behind parts spelled, h, made)
+  read_ok (Err e) made h = tt
+
+-- nothing was read
+pub read_none : (bytes : List ℕ) (tokens : List Token) (table : EventDefinitions) (e : SpecError) → FailsAt e (formula_at bytes tokens) → IsRefused bytes tokens table e
+read_none bytes tokens table NoMemory h = tt
+read_none bytes tokens table (Bad (Syntax line)) h = λ parts spelled. formula_none bytes tokens parts h spelled
+read_none bytes tokens table (Bad _) h = absurd h
+
+-- ---- one answer
+
+same_ok : (r : Result GrammarDefinition SpecFault) (g h : GrammarDefinition) → r ≡ Ok g → r ≡ Ok h → g ≡ h
+same_ok r g h a b = cc
+
+none_and_some : (o : Option SpecFault) (fault : SpecFault) → o ≡ None → o ≡ Some fault → ⊥
+none_and_some o fault a b = absurd (cc)
+
+-- no tokens have two grammars
+pub one_grammar : (bytes : List ℕ) (tokens : List Token) (table : EventDefinitions) (g h : GrammarDefinition) → IsReadFrom bytes tokens table g → IsReadFrom bytes tokens table h → g ≡ h
+one_grammar bytes tokens table g h a b =
+    let same : a.0 ≡ b.0 = one_formula bytes tokens a.0 b.0 a.1 b.1 in
+    same_ok (grammar_of bytes table a.0) g h a.3 (ap (λ (l : List Part). grammar_of bytes table l) same ∙ b.3)
+
+-- and none have a grammar and a fault
+pub never_both : (bytes : List ℕ) (tokens : List Token) (table : EventDefinitions) (g : GrammarDefinition) (fault : SpecFault) → IsReadFrom bytes tokens table g → IsRefused bytes tokens table (Bad fault) → ⊥
+never_both bytes tokens table g (Syntax line) a b = b a.0 a.1
+never_both bytes tokens table g _ a b =
+    let same : a.0 ≡ b.0 = one_formula bytes tokens a.0 b.0 a.1 b.1 in
+    none_and_some (first_fault bytes table a.0) _ a.2 (ap (λ (l : List Part). first_fault bytes table l) same ∙ b.2)
