@@ -1,5 +1,5 @@
 -- The grammar's rules, as a reader goes by them, spell what the grammar spells.
-use Rattle.std.proofs.Common.{◌≡◌, ℕ, ◌<◌, ◌≤◌, Bool, true, false, ◌&&◌, List, [], ◌∷◌, ◌++◌, length, Option, Some, None, refl, sym, ap, subst, ◌∙◌, ◌⊎◌, inl, inr, arith, append_assoc, append-nil, length-append}
+use Rattle.std.proofs.Common.{◌≡◌, ℕ, Bool, true, false, ◌&&◌, List, [], ◌∷◌, ◌++◌, length, Option, Some, None, refl, sym, ap, subst, ◌∙◌, ◌⊎◌, inl, inr, arith, append_assoc, append-nil}
 use Rattle.std.specs.Prelude.{codes}
 use Rattle.std.specs.Str.{bytes_eq}
 use Rattle.std.proofs.lemmas.Slice.Eq.{bytes_eq-Decides}
@@ -8,7 +8,7 @@ use Rattle.jm_text.specs.declared.token.TokenKind.{TokenKind}
 use Rattle.jm_text.specs.declared.token.TokenKind.TheVariants.{Word, Text, Mark}
 use Rattle.jm_text.specs.Spans.{text_of}
 use Rattle.jm_text.specs.Texts.{is_name, is_word, is_name_text, is_word_kind, is_mark_kind}
-use Rattle.jm_reading.specs.Reading.{is_left, mark_at, name_at, at_most}
+use Rattle.jm_reading.specs.Reading.{is_left, mark_at, name_at}
 use Rattle.jm_reading.specs.Tokens.{IsName, IsMark, IsWord, SpellsEach}
 use Rattle.jm_reading.proofs.TokenLemmas.{mark_is, name_is, mark_read, name_read, step_of, other_mark}
 use Rattle.jm_reading.proofs.GrammarLemmas.{IsSound, each_read, IsComplete, read_each}

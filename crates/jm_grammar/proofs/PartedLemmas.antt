@@ -1,8 +1,8 @@
 -- Items with a mark between each two: what is read, the items spell, and the other way round.
-use Rattle.std.proofs.Common.{◌≡◌, ℕ, ◌<◌, ◌≤◌, Bool, true, false, List, [], ◌∷◌, ◌++◌, length, Option, Some, None, refl, sym, ap, subst, ◌∙◌, arith, append_assoc}
+use Rattle.std.proofs.Common.{◌≡◌, ℕ, Bool, true, false, List, [], ◌∷◌, ◌++◌, length, Option, Some, refl, sym, ap, subst, ◌∙◌, arith, append_assoc}
 use Rattle.jm_text.specs.declared.token.Token.{Token}
 use Rattle.jm_reading.specs.Reading.{◌>>=◌, mark_at, at_most}
-use Rattle.jm_reading.specs.Tokens.{IsMark, SpellsEach}
+use Rattle.jm_reading.specs.Tokens.{IsMark}
 use Rattle.jm_reading.proofs.TokenLemmas.{mark_is, mark_read, step_of}
 use Rattle.jm_reading.proofs.GrammarLemmas.{IsSound, each_read, IsComplete, after_each, read_each}
 use Rattle.jm_grammar.specs.Formulas.{SpellsMore, SpellsParted}

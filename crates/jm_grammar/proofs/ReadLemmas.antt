@@ -1,5 +1,5 @@
 -- What a reader of a formula answers.
-use Rattle.std.proofs.Common.{ℕ, ◌≡◌, Bool, true, false, cond, List, [], ◌∷◌, Option, Some, None, Result, Ok, Err, IfOk, IfErr, length, sym, ap, subst, ◌∙◌}
+use Rattle.std.proofs.Common.{ℕ, ◌≡◌, Bool, true, false, cond, List, [], ◌∷◌, Option, Some, None, Result, Ok, Err, IfOk, IfErr, length, ap, subst, ◌∙◌}
 use Rattle.std.specs.Prelude.{nat_lt}
 use Rattle.std.specs.List.{list_any}
 use Rattle.jm_model.specs.declared.fault.SpecError.{SpecError}
@@ -18,7 +18,6 @@ use Rattle.jm_grammar.specs.declared.formula.Part.{Part}
 use Rattle.jm_grammar.specs.declared.grammar.GrammarSymbol.{GrammarSymbol}
 use Rattle.jm_grammar.specs.declared.grammar.Production.{Production}
 use Rattle.jm_grammar.specs.Grammars.{GrammarDefinition}
-use Rattle.jm_grammar.specs.Formulas.{Spells}
 use Rattle.jm_grammar.specs.Rules.{formula_at}
 use Rattle.jm_grammar.specs.Faults.{nonterminals, nonterminals_fault, production_count, productions_fault, has_long, symbols_fault, is_epsilon, event_name_fault, left_name_fault, clash_fault, nonterminal_said, letter_or, symbol_said, with_symbol, with_symbols, with_alternative, with_alternatives, with_part, with_parts, grammar_of, grammar_fault, first_fault}
 use Rattle.jm_grammar.specs.Trees.{IsReadFrom, IsRefused}

@@ -1,5 +1,5 @@
 -- The productions whose symbols all spell a word spell the same words.
-use Rattle.std.proofs.Common.{◌≡◌, ◌⊎◌, ◌↔◌, ℕ, ◌<◌, ◌≤◌, ◌-◌, ◌^◌, Bool, true, false, List, [], ◌∷◌, ◌++◌, length, Contains, All, filter, refl, sym, ap, subst, ◌∙◌, inl, inr, arith, append-nil}
+use Rattle.std.proofs.Common.{◌≡◌, ◌⊎◌, ◌↔◌, ℕ, ◌<◌, ◌≤◌, Bool, true, List, [], ◌∷◌, length, Contains, All, filter, refl, sym, ap, subst, ◌∙◌, inl, inr, arith, append-nil}
 use Rattle.std.specs.Prelude.{IsBitSet}
 use Rattle.std.specs.Int.{bit_at}
 use Rattle.std.proofs.lemmas.Bool.{cases_Bool}
@@ -11,7 +11,7 @@ use Rattle.jm_grammar.specs.declared.grammar.GrammarSymbol.TheVariants.{Letter, 
 use Rattle.jm_grammar.specs.declared.grammar.Production.{Production}
 use Rattle.jm_grammar.specs.Grammars.{IsSmallSymbol, IsSmallProduction, IsSmall}
 use Rattle.jm_grammar.specs.Derivations.{Trees, no_tree, leaf, node, Derives, DerivesOf, DerivesSome, IsIn}
-use Rattle.jm_grammar.specs.Rounds.{has_bit, is_known, are_known}
+use Rattle.jm_grammar.specs.Rounds.{is_known, are_known}
 use Rattle.jm_grammar.proofs.RoundLemmas.{bit_of, of_bit, IsSound, IsClosed, known_spell, production_spells, trees_known}
 
 -- ---- what a filter keeps

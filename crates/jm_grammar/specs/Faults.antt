@@ -3,7 +3,6 @@ use Rattle.std.specs.Prelude.{ℕ, Bool, not, List, [], ◌∷◌, ◌++◌, Opt
 use Rattle.std.specs.List.{list_any}
 use Rattle.std.specs.Str.{bytes_eq}
 use Rattle.std.specs.Option.{ok_or}
-use Rattle.jm_model.specs.declared.step.Letter.{Letter as LetterType}
 use Rattle.jm_model.specs.declared.fault.Counted.TheVariants.{Nonterminals, Productions, Symbols}
 use Rattle.jm_model.specs.declared.fault.SpecFault.{SpecFault}
 use Rattle.jm_model.specs.declared.fault.SpecFault.TheVariants.{TooMany, ReservedName, NameClash, UnknownName}

@@ -1,5 +1,5 @@
 -- What each rule of the grammar reads at the front of a list of tokens, where the next token decides.
-use Rattle.std.specs.Prelude.{ℕ, Bool, List, [], ◌∷◌, ◌++◌, length, Option, Some, None, codes}
+use Rattle.std.specs.Prelude.{ℕ, Bool, List, [], ◌∷◌, ◌++◌, length, Option, Some, codes}
 use Rattle.jm_text.specs.declared.token.Token.{Token}
 use Rattle.jm_grammar.specs.declared.formula.Part.{Part}
 use Rattle.jm_reading.specs.Reading.{◌>>=◌, is_mark_at, is_name_at, is_left, mark_at, name_at, at_most}

@@ -1,4 +1,4 @@
-use Rattle.std.proofs.Common.{◌≡◌, ◌≤◌, ℕ, List, arith, length, ap, sym, ◌∙◌, subst, map}
+use Rattle.std.proofs.Common.{◌≤◌, List, arith, length, sym, subst}
 use Rattle.std.proofs.lemmas.List.{length-map}
 use Rattle.jm_events.specs.Events.{EventDefinition, event_names}
 use Rattle.jm_grammar.specs.declared.grammar.Production.{Production}

@@ -1,5 +1,5 @@
 use Rattle.std.proofs.Common.{◌≡◌, drop}
-use Rattle.std.specs.Prelude.{fold, []}
+use Rattle.std.specs.Prelude.{fold}
 use Rattle.jm_reading.specs.Tokens.{name_of}
 use Rattle.jm_events.specs.Names.{with_name}
 use Rattle.jm_grammar.specs.declared.formula.Part.{Part}

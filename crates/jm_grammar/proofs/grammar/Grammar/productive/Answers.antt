@@ -1,4 +1,4 @@
-use Rattle.std.proofs.Common.{ℕ, List, ◌≡◌, ◌≤◌, sym, ap, subst, ◌∙◌, arith}
+use Rattle.std.proofs.Common.{ℕ, List, ◌≤◌, sym, ap, subst, ◌∙◌, arith}
 use Rattle.jm_grammar.specs.declared.grammar.Production.{Production}
 use Rattle.jm_grammar.specs.Rounds.{round}
 use Rattle.jm_grammar.proofs.RoundLemmas.{IsSound, none_sound, round_sound, round_grows, round_closed, exact}

@@ -1,4 +1,4 @@
-use Rattle.std.proofs.Common.{ℕ, List, ◌≡◌, ◌↔◌, Contains, filter, sym, ap, subst, ◌∙◌}
+use Rattle.std.proofs.Common.{ℕ, List, ◌↔◌, Contains, filter, sym, ap, subst, ◌∙◌}
 use Rattle.jm_grammar.specs.declared.grammar.Production.{Production}
 use Rattle.jm_grammar.specs.Grammars.{GrammarDefinition, IsSmall}
 use Rattle.jm_grammar.specs.Derivations.{Derives, IsWord, IsIn, DerivesSome}
