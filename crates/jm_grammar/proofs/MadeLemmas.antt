@@ -1,13 +1,14 @@
--- The grammar of a formula without a fault is within the limits.
-use Rattle.std.proofs.Common.{ℕ, ◌≡◌, ◌+◌, ◌<◌, ◌≤◌, Bool, true, false, not, cond, ◌||◌, List, [], ◌∷◌, ◌++◌, Option, Some, None, Result, Ok, Err, All, length, refl, sym, subst, arith, length-append}
+-- The grammar of a formula without a fault is within the limits, and its symbols are there.
+use Rattle.std.proofs.Common.{ℕ, ◌≡◌, ◌+◌, ◌<◌, ◌≤◌, Bool, true, false, not, cond, ◌||◌, List, [], ◌∷◌, ◌++◌, Option, Some, None, Result, Ok, Err, All, Contains, length, refl, sym, subst, arith, length-append}
 use Rattle.std.specs.List.{list_any}
 use Rattle.std.specs.Option.{ok_or}
 use Rattle.std.specs.Str.{bytes_eq}
 use Rattle.std.proofs.lemmas.Bool.{ltb-false}
 use Rattle.std.proofs.lemmas.List.Sums.{sum_by-cons}
-use Rattle.std.proofs.lemmas.List.Elements.{All-push}
+use Rattle.std.proofs.lemmas.List.Elements.{All-push, All-weaker, All-contains}
 use Rattle.std.proofs.lemmas.List.Quantifiers.{position-Some}
 use Rattle.jm_model.specs.declared.fault.SpecFault.{SpecFault}
+use Rattle.jm_model.specs.declared.step.Letter.{Letter as LetterType}
 use Rattle.jm_text.specs.declared.token.Token.{Token}
 use Rattle.jm_reading.specs.Tokens.{name_of}
 use Rattle.jm_reading.specs.Faults.{◌>>>◌}
@@ -33,39 +34,43 @@ ok_is_some : {X : Type 0} (o : Option X) (e : SpecFault) (x : X) → ok_or o e �
 ok_is_some None e x h = absurd (cc)
 ok_is_some (Some y) e x h = cc
 
-then_ok : {A B : Type 0} (r : Result A SpecFault) (f : A → Result B SpecFault) (b : B) → (r >>> f) ≡ Ok b → (a : A) × (r ≡ Ok a) × (f a ≡ Ok b)
+pub then_ok : {A B : Type 0} (r : Result A SpecFault) (f : A → Result B SpecFault) (b : B) → (r >>> f) ≡ Ok b → (a : A) × (r ≡ Ok a) × (f a ≡ Ok b)
 then_ok (Ok a) f b h = (a, refl, h)
 then_ok (Err e) f b h = absurd (cc)
 
 none_all : {X : Type 0} (P : X → Type 0) → All P []
 none_all P = λ k d lt. absurd (omega arith)
 
-module _ (bytes : List ℕ) (events known : List (List ℕ)) (few_events : length events ≤ 32) (few_known : length known ≤ 64) where
-  nonterminal_is : (t : Token) (n : ℕ) → nonterminal_said bytes known t ≡ Ok n → n < 64
-  nonterminal_is t n h =
-      let at = ok_is_some (number_of known (name_of bytes t)) _ n h in
-      let below : n < length known = (position-Some (bytes_eq (name_of bytes t)) known n [] at).0 in
-      omega arith
+-- ---- what a symbol says
 
-  symbol_is_of : (o : Option ℕ) (t : Token) (s : GrammarSymbol) → letter_or o (nonterminal_said bytes known t) ≡ Ok s → ((k : ℕ) → o ≡ Some k → k < length events) → IsSmallSymbol s
+module _ (bytes : List ℕ) (events known : List (List ℕ)) where
+  nonterminal_is : (t : Token) (n : ℕ) → nonterminal_said bytes known t ≡ Ok n → n < length known
+  nonterminal_is t n h = (position-Some (bytes_eq (name_of bytes t)) known n [] (ok_is_some (number_of known (name_of bytes t)) _ n h)).0
+
+  -- a letter or a nonterminal that is there
+  abbrev IsThere : GrammarSymbol → Type 0
+  IsThere (Letter letter) = letter.0 < length events
+  IsThere (Nonterminal n) = n < length known
+
+  symbol_is_of : (o : Option ℕ) (t : Token) (s : GrammarSymbol) → letter_or o (nonterminal_said bytes known t) ≡ Ok s → ((k : ℕ) → o ≡ Some k → k < length events) → IsThere s
   symbol_is_of (Some k) t s h below =
       let e : Letter (record { 0 = k }) ≡ s = cc in
-      let small : k < length events = below k refl in
-      let fits : k < 32 = omega arith in
-      subst (λ (x : GrammarSymbol). IsSmallSymbol x) e fits
+      subst (λ (x : GrammarSymbol). IsThere x) e (below k refl)
   symbol_is_of None t s h below =
       let a = then_ok (nonterminal_said bytes known t) _ s h in
       let e : Nonterminal a.0 ≡ s = cc (a.2) in
-      subst (λ (x : GrammarSymbol). IsSmallSymbol x) e (nonterminal_is t a.0 a.1)
+      subst (λ (x : GrammarSymbol). IsThere x) e (nonterminal_is t a.0 a.1)
 
-  symbol_is : (t : Token) (s : GrammarSymbol) → symbol_said bytes events known t ≡ Ok s → IsSmallSymbol s
+  symbol_is : (t : Token) (s : GrammarSymbol) → symbol_said bytes events known t ≡ Ok s → IsThere s
   symbol_is t s h =
       symbol_is_of (number_of events (name_of bytes t)) t s h
       (λ k e. (position-Some (bytes_eq (name_of bytes t)) events k [] e).0)
 
-  -- so many small symbols
+  -- ---- what is made of them
+
+  -- so many symbols that are there
   abbrev AreSymbols : ℕ → List GrammarSymbol → Type 0
-  AreSymbols n symbols = All IsSmallSymbol symbols × (length symbols ≡ n)
+  AreSymbols n symbols = All IsThere symbols × (length symbols ≡ n)
 
   one_symbol_of : (b : Bool) (n : ℕ) (symbols made : List GrammarSymbol) (t : Token) → cond b (Ok symbols) (symbol_said bytes events known t >>> λ s. Ok (symbols ++ s ∷ [])) ≡ Ok made → AreSymbols n symbols → AreSymbols (n + cond (not b) 1 0) made
   one_symbol_of true n symbols made t h are =
@@ -75,7 +80,7 @@ module _ (bytes : List ℕ) (events known : List (List ℕ)) (few_events : lengt
       let a = then_ok (symbol_said bytes events known t) _ made h in
       let e : symbols ++ a.0 ∷ [] ≡ made = cc (a.2) in
       subst (λ (l : List GrammarSymbol). AreSymbols (n + 1) l) e
-      (All-push IsSmallSymbol symbols a.0 are.0 (symbol_is t a.0 a.1), omega (arith, are.1, length-append symbols (a.0 ∷ [])))
+      (All-push IsThere symbols a.0 are.0 (symbol_is t a.0 a.1), omega (arith, are.1, length-append symbols (a.0 ∷ [])))
 
   all_symbols : (n : ℕ) (symbols made : List GrammarSymbol) (ts : List Token) → with_symbols bytes events known symbols ts ≡ Ok made → AreSymbols n symbols → AreSymbols (n + symbol_count bytes ts) made
   all_symbols n symbols made [] h are =
@@ -87,20 +92,26 @@ module _ (bytes : List ℕ) (events known : List (List ℕ)) (few_events : lengt
       let rest = all_symbols (n + cond (not (is_epsilon (name_of bytes t))) 1 0) a.0 made ts a.2 one in
       (rest.0, omega (arith, rest.1, sum_by-cons (λ s. cond (not (is_epsilon (name_of bytes s))) 1 0) t ts))
 
-  -- so many small productions
-  abbrev AreProductions : ℕ → List Production → Type 0
-  AreProductions n productions = All IsSmallProduction productions × (length productions ≡ n)
+  -- a nonterminal that is there, and at most 32 symbols that are there
+  pub record IsMade (p : Production) : Type 0 where
+    pub left : p.left < length known
+    pub symbols : All IsThere p.symbols
+    pub few : length p.symbols ≤ 32
 
-  one_alternative : (n left : ℕ) (productions made : List Production) (a : List Token) → left < 64 → is_long bytes a ≡ false → with_alternative bytes events known left productions a ≡ Ok made → AreProductions n productions → AreProductions (n + 1) made
+  -- so many such productions
+  abbrev AreProductions : ℕ → List Production → Type 0
+  AreProductions n productions = All IsMade productions × (length productions ≡ n)
+
+  one_alternative : (n left : ℕ) (productions made : List Production) (a : List Token) → left < length known → is_long bytes a ≡ false → with_alternative bytes events known left productions a ≡ Ok made → AreProductions n productions → AreProductions (n + 1) made
   one_alternative n left productions made a first short h are =
       let s = then_ok (with_symbols bytes events known [] a) _ made h in
-      let small = all_symbols 0 [] s.0 a s.1 (none_all IsSmallSymbol, refl) in
+      let there = all_symbols 0 [] s.0 a s.1 (none_all IsThere, refl) in
       let p : Production = record { left = left; symbols = s.0 } in
       let e : productions ++ p ∷ [] ≡ made = cc (s.2) in
       subst (λ (l : List Production). AreProductions (n + 1) l) e
-      (All-push IsSmallProduction productions p are.0 (record { left = first; symbols = small.0; few = omega (arith, small.1, ltb-false 32 (symbol_count bytes a) short) }), omega (arith, are.1, length-append productions (p ∷ [])))
+      (All-push IsMade productions p are.0 (record { left = first; symbols = there.0; few = omega (arith, there.1, ltb-false 32 (symbol_count bytes a) short) }), omega (arith, are.1, length-append productions (p ∷ [])))
 
-  all_alternatives : (n left : ℕ) (productions made : List Production) (ys : List (List Token)) → left < 64 → list_any (is_long bytes) ys ≡ false → with_alternatives bytes events known left productions ys ≡ Ok made → AreProductions n productions → AreProductions (n + length ys) made
+  all_alternatives : (n left : ℕ) (productions made : List Production) (ys : List (List Token)) → left < length known → list_any (is_long bytes) ys ≡ false → with_alternatives bytes events known left productions ys ≡ Ok made → AreProductions n productions → AreProductions (n + length ys) made
   all_alternatives n left productions made [] first short h are =
       let e : productions ≡ made = cc in
       subst (λ (l : List Production). AreProductions (n + 0) l) e (are.0, omega (arith, are.1))
@@ -122,10 +133,29 @@ module _ (bytes : List ℕ) (events known : List (List ℕ)) (few_events : lengt
       let rest = all_parts (n + length p.alternatives) a.0 made ps shorts.1 a.2 one in
       (rest.0, omega (arith, rest.1, sum_by-cons (λ (x : Part). length x.alternatives) p ps))
 
-  pub is_small : (parts : List Part) (made : List Production) → productions_fault parts ≡ None → symbols_fault bytes parts ≡ None → with_parts bytes events known [] parts ≡ Ok made → IsSmall made 0
-  is_small parts made few short h =
-      let all = all_parts 0 [] made parts (if_none _ _ short) h (none_all IsSmallProduction, refl) in
-      record { first = omega arith; few = omega (arith, all.1, ltb-false 256 (production_count parts) (if_none _ _ few)); each = all.0 }
+  -- the productions of a formula whose alternatives are short
+  pub made_is : (parts : List Part) (made : List Production) → symbols_fault bytes parts ≡ None → with_parts bytes events known [] parts ≡ Ok made → AreProductions (production_count parts) made
+  made_is parts made short h =
+      let all = all_parts 0 [] made parts (if_none _ _ short) h (none_all IsMade, refl) in
+      (all.0, omega (arith, all.1))
+
+  symbol_small : length events ≤ 32 → length known ≤ 64 → (s : GrammarSymbol) → IsThere s → IsSmallSymbol s
+  symbol_small few_events few_known (Letter letter) h = omega (arith, h)
+  symbol_small few_events few_known (Nonterminal n) h = omega (arith, h)
+
+  pub is_small : (parts : List Part) (made : List Production) → length events ≤ 32 → length known ≤ 64 → productions_fault parts ≡ None → symbols_fault bytes parts ≡ None → with_parts bytes events known [] parts ≡ Ok made → IsSmall made 0
+  is_small parts made few_events few_known few short h =
+      let all = made_is parts made short h in
+      record {
+        first = omega arith;
+        few = omega (arith, all.1, ltb-false 256 (production_count parts) (if_none _ _ few));
+        each = All-weaker IsMade IsSmallProduction
+            (λ p is. record { left = omega (arith, is.left); symbols = All-weaker IsThere IsSmallSymbol (symbol_small few_events few_known) p.symbols is.symbols; few = is.few }) made all.0;
+      }
+
+  -- a letter of theirs is below the number of events
+  pub letter_there : (made : List Production) (p : Production) (letter : LetterType) → All IsMade made → Contains made p → Contains p.symbols (Letter letter) → letter.0 < length events
+  letter_there made p letter all has at = All-contains IsThere p.symbols (Letter letter) (All-contains IsMade made p all has).symbols at
 
 pub few_nonterminals : (bytes : List ℕ) (parts : List Part) (known : List (List ℕ)) → known ≡ nonterminals bytes parts → nonterminals_fault bytes parts ≡ None → length known ≤ 64
 few_nonterminals bytes parts known is few =

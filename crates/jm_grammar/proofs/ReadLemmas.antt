@@ -1,5 +1,5 @@
 -- What a reader of a formula answers.
-use Rattle.std.proofs.Common.{ℕ, ◌≡◌, Bool, true, false, cond, List, [], ◌∷◌, Option, Some, None, Result, Ok, Err, IfOk, IfErr, length, ap, subst, ◌∙◌}
+use Rattle.std.proofs.Common.{ℕ, ◌≡◌, Bool, true, false, cond, List, [], ◌∷◌, Option, Some, None, Result, Ok, Err, IfOk, IfErr, Contains, length, ◌<◌, refl, arith, ap, subst, ◌∙◌}
 use Rattle.std.specs.Prelude.{nat_lt}
 use Rattle.std.specs.List.{list_any}
 use Rattle.jm_model.specs.declared.fault.SpecError.{SpecError}
@@ -8,6 +8,9 @@ use Rattle.jm_model.specs.declared.fault.SpecFault.{SpecFault}
 use Rattle.jm_model.specs.declared.fault.SpecFault.TheVariants.{Syntax, UnknownName, TooMany}
 use Rattle.jm_model.specs.declared.fault.Counted.TheVariants.{Nonterminals, Productions, Symbols}
 use Rattle.std.specs.Option.{ok_or}
+use Rattle.std.proofs.lemmas.List.{length-map}
+use Rattle.jm_model.specs.declared.step.Letter.{Letter as LetterType}
+use Rattle.jm_grammar.specs.declared.grammar.GrammarSymbol.TheVariants.{Letter}
 use Rattle.jm_text.specs.declared.token.Token.{Token}
 use Rattle.jm_events.specs.Names.{number_of}
 use Rattle.jm_events.specs.Events.{EventDefinitions, EventDefinition, event_names}
@@ -22,6 +25,7 @@ use Rattle.jm_grammar.specs.Rules.{formula_at}
 use Rattle.jm_grammar.specs.Faults.{nonterminals, nonterminals_fault, production_count, productions_fault, has_long, symbols_fault, is_epsilon, event_name_fault, left_name_fault, clash_fault, nonterminal_said, letter_or, symbol_said, with_symbol, with_symbols, with_alternative, with_alternatives, with_part, with_parts, grammar_of, grammar_fault, first_fault}
 use Rattle.jm_grammar.specs.Trees.{IsReadFrom, IsRefused}
 use Rattle.jm_grammar.proofs.GrammarLemmas.{formula_sound, formula_none, one_formula}
+use Rattle.jm_grammar.proofs.MadeLemmas.{then_ok, made_is, letter_there}
 
 -- no fault, or another than the grammar's
 abbrev IsOther : Option SpecFault → Type 0
@@ -152,3 +156,30 @@ never_both bytes tokens table g (Syntax line) a b = b a.0 a.1
 never_both bytes tokens table g _ a b =
     let same : a.0 ≡ b.0 = one_formula bytes tokens a.0 b.0 a.1 b.1 in
     none_and_some (first_fault bytes table a.0) _ a.2 (ap (λ (l : List Part). first_fault bytes table l) same ∙ b.2)
+
+-- ---- the letters of a grammar
+
+none_of_both : (a b : Option SpecFault) → or_else a b ≡ None → (a ≡ None) × (b ≡ None)
+none_of_both None b h = (refl, h)
+none_of_both (Some fault) b h = absurd (cc)
+
+-- no alternative of a formula without a fault is long
+all_short : (bytes : List ℕ) (table : EventDefinitions) (parts : List Part) → first_fault bytes table parts ≡ None → symbols_fault bytes parts ≡ None
+unfolding first_fault
+all_short bytes table parts h = (none_of_both (symbols_fault bytes parts) _ (none_of_both (productions_fault parts) _ (none_of_both (nonterminals_fault bytes parts) _ h).1).1).0
+
+made_of : (bytes : List ℕ) (table : EventDefinitions) (parts : List Part) (g : GrammarDefinition) → grammar_of bytes table parts ≡ Ok g → with_parts bytes (event_names table) (nonterminals bytes parts) [] parts ≡ Ok g.productions
+unfolding grammar_of
+made_of bytes table parts g h =
+    let a = then_ok (with_parts bytes (event_names table) (nonterminals bytes parts) [] parts) _ g h in
+    let e : ◌≡◌ {A = GrammarDefinition} (record { productions = a.0; start = 0 }) g = cc (a.2) in
+    a.1 ∙ ap (λ (x : GrammarDefinition). Ok x.productions) e
+
+-- each letter of a grammar that was read is that of an event
+pub letters_there : (bytes : List ℕ) (tokens : List Token) (table : EventDefinitions) (g : GrammarDefinition) → IsReadFrom bytes tokens table g → (p : Production) → Contains g.productions p → (letter : LetterType) → Contains p.symbols (Letter letter) → letter.0 < length table.events
+letters_there bytes tokens table g read p has letter at =
+    let names = event_names table in
+    let known = nonterminals bytes read.0 in
+    let made = made_is bytes names known read.0 g.productions (all_short bytes table read.0 read.2) (made_of bytes table read.0 g read.3) in
+    let below : letter.0 < length names = letter_there bytes names known g.productions p letter made.0 has at in
+    omega (arith, below, length-map table.events (λ (e : EventDefinition). e.name))

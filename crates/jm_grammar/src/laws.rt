@@ -1,10 +1,13 @@
 //! What holds of the formulas of all files.
-ghost use Rattle.std.specs.Prelude.{◌≡◌, ℕ, List};
+ghost use Rattle.std.specs.Prelude.{◌≡◌, ◌<◌, ℕ, List, Contains, length};
+ghost use Rattle.jm_model.specs.declared.step.Letter.{Letter as LetterType};
 ghost use Rattle.jm_model.specs.declared.fault.SpecFault.{SpecFault};
 ghost use Rattle.jm_model.specs.declared.fault.SpecError.TheVariants.{Bad};
 ghost use Rattle.jm_text.specs.declared.token.Token.{Token};
 ghost use Rattle.jm_events.specs.Events.{EventDefinitions};
 ghost use Rattle.jm_grammar.specs.declared.formula.Part.{Part};
+ghost use Rattle.jm_grammar.specs.declared.grammar.GrammarSymbol.TheVariants.{Letter};
+ghost use Rattle.jm_grammar.specs.declared.grammar.Production.{Production};
 ghost use Rattle.jm_grammar.specs.Grammars.{GrammarDefinition};
 ghost use Rattle.jm_grammar.specs.Formulas.{Spells};
 ghost use Rattle.jm_grammar.specs.Trees.{IsReadFrom, IsRefused};
@@ -16,4 +19,10 @@ pub fn one_reading()
         IsReadFrom bytes tokens table g → IsReadFrom bytes tokens table h → g ≡ h }
     ensures never_both { (bytes : List ℕ) (tokens : List Token) (table : EventDefinitions) (g : GrammarDefinition) (fault : SpecFault) →
         IsReadFrom bytes tokens table g → IsRefused bytes tokens table (Bad fault) → ⊥ }
+{}
+
+/// Each letter of a grammar that was read is that of an event.
+pub fn letters_are_events()
+    ensures { (bytes : List ℕ) (tokens : List Token) (table : EventDefinitions) (g : GrammarDefinition) → IsReadFrom bytes tokens table g →
+        (p : Production) → Contains g.productions p → (letter : LetterType) → Contains p.symbols (Letter letter) → letter.0 < length table.events }
 {}

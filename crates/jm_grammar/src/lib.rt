@@ -18,7 +18,7 @@ mod reading;
 mod reduce;
 
 pub use grammar::{Grammar, GrammarSymbol, Production};
-pub use laws::one_reading;
+pub use laws::{letters_are_events, one_reading};
 pub use reading::read;
 
 #[cfg(test)]

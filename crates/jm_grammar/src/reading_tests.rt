@@ -1,5 +1,5 @@
 use crate::grammar::{Grammar, GrammarSymbol};
-use crate::{one_reading, read};
+use crate::{letters_are_events, one_reading, read};
 use jm_events::EventTable;
 use jm_model::SpecError;
 use jm_text::tokens;
@@ -27,25 +27,29 @@ fn grammar_of(alloc: Global, events: &str, formula: &str) -> Result<Grammar, Spe
     read(alloc, formula.as_bytes(), all.as_slice(), 50, &table)
 }
 
-/// The productions, each as its left side and its symbols, where `e3` is letter 3 and `n3` nonterminal 3; or the fault.
-fn shown(alloc: Global, events: &str, formula: &str) -> Result<String, Fail> {
-    let mut out = String::new(alloc);
+/// The fault of a formula, or nothing.
+fn fault_of(alloc: Global, events: &str, formula: &str) -> Result<String, Fail> {
     match grammar_of(alloc, events, formula) {
-        Ok(grammar) => {
-            for production in grammar.productions() {
-                let left = production.left;
-                out.push_str(format!(in alloc; "{left}:")?.as_str())?;
-                for symbol in production.symbols.as_slice() {
-                    let text = match *symbol {
-                        GrammarSymbol::Letter(letter) => format!(in alloc; " e{}", letter.0)?,
-                        GrammarSymbol::Nonterminal(n) => format!(in alloc; " n{n}")?,
-                    };
-                    out.push_str(text.as_str())?;
-                }
-                out.push_str("; ")?;
-            }
+        Ok(_) => Ok(String::new(alloc)),
+        Err(fault) => Ok(format!(in alloc; "{fault:?}")?),
+    }
+}
+
+/// The productions, each as its left side and its symbols, where `e3` is letter 3 and `n3` nonterminal 3.
+fn shown(alloc: Global, events: &str, formula: &str) -> Result<String, Fail> {
+    let grammar = grammar_of(alloc, events, formula)?;
+    let mut out = String::new(alloc);
+    for production in grammar.productions() {
+        let left = production.left;
+        out.push_str(format!(in alloc; "{left}:")?.as_str())?;
+        for symbol in production.symbols.as_slice() {
+            let text = match *symbol {
+                GrammarSymbol::Letter(letter) => format!(in alloc; " e{}", letter.0)?,
+                GrammarSymbol::Nonterminal(n) => format!(in alloc; " n{n}")?,
+            };
+            out.push_str(text.as_str())?;
         }
-        Err(fault) => out.push_str(format!(in alloc; "{fault:?}")?.as_str())?,
+        out.push_str("; ")?;
     }
     Ok(out)
 }
@@ -92,6 +96,7 @@ fn reads(rt: HostRuntime) -> Result<(), Fail> {
     assert_eq!(rt; grammar.productive(3), 1);
     assert_eq!(rt; grammar.reduce()?.productions().len(), 1);
     one_reading();
+    letters_are_events();
     Ok(())
 }
 
@@ -143,8 +148,8 @@ fn refuses(rt: HostRuntime) -> Result<(), Fail> {
         ),
     ];
     for (events, formula, wanted) in rows {
-        let text = shown(rt.alloc(), events, formula)?;
-        assert_eq!(rt; text.as_str(), wanted, "{formula}");
+        let fault = fault_of(rt.alloc(), events, formula)?;
+        assert_eq!(rt; fault.as_str(), wanted, "{formula}");
     }
     Ok(())
 }
@@ -178,24 +183,24 @@ fn counts(rt: HostRuntime) -> Result<(), Fail> {
     let symbols = "Bad(TooMany { what: Symbols })";
     let unknown = "Bad(UnknownName { line: 1 })";
     let rows = [
-        (64, 0, 0, unknown),
-        (65, 0, 0, nonterminals),
-        (1, 253, 0, unknown),
-        (1, 254, 0, productions),
-        (64, 190, 32, unknown),
-        (64, 191, 32, productions),
-        (1, 0, 32, unknown),
-        (1, 0, 33, symbols),
-        (65, 300, 33, nonterminals),
-        (1, 300, 33, productions),
+        ("a b", 64, 0, 0, ""),
+        ("a b", 65, 0, 0, nonterminals),
+        ("a b", 1, 253, 0, ""),
+        ("a b", 1, 254, 0, productions),
+        ("a b", 64, 190, 32, ""),
+        ("a b", 64, 191, 32, productions),
+        ("a b", 1, 0, 33, symbols),
+        ("a b", 65, 300, 33, nonterminals),
+        ("a b", 1, 300, 33, productions),
+        ("a", 1, 0, 32, unknown),
+        ("a", 1, 0, 33, symbols),
+        ("epsilon", 1, 0, 33, symbols),
     ];
-    for (left_sides, alternatives, length, wanted) in rows {
+    for (events, left_sides, alternatives, length, wanted) in rows {
         let formula = formula_of(rt.alloc(), left_sides, alternatives, length)?;
-        let known = grammar_of(rt.alloc(), "a b", formula.as_str());
-        assert_eq!(rt; known.is_ok(), wanted == unknown);
-        let text = shown(rt.alloc(), "a epsilonn", formula.as_str())?;
+        let fault = fault_of(rt.alloc(), events, formula.as_str())?;
         assert_eq!(rt;
-            text.as_str(),
+            fault.as_str(),
             wanted,
             "{left_sides} {alternatives} {length}"
         );

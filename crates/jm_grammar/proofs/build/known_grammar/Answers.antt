@@ -12,4 +12,4 @@ new-requires c =
     let few_events : length (event_names c.args.table.now) ≤ 32 = omega (arith, c.requires.events, length-map c.args.table.now.events (λ (e : EventDefinition). e.name)) in
     let made = rw c.new-productions.ensures at c.in_ok-add_parts.ensures in
     subst (λ (l : List Production). IsSmall l 0) (sym c.into_vec.ensures)
-    (is_small c.args.bytes.now (event_names c.args.table.now) c.args.known.now few_events few_names c.args.parts.now c.add_parts.new.productions c.requires.productions c.requires.symbols made)
+    (is_small c.args.bytes.now (event_names c.args.table.now) c.args.known.now c.args.parts.now c.add_parts.new.productions few_events few_names c.requires.productions c.requires.symbols made)
