@@ -1,1 +1,3 @@
 pub mod ExtensionLemmas
+pub mod BitLemmas
+pub mod RuleLemmas
