@@ -6,7 +6,7 @@ use Rattle.std.proofs.lemmas.Bool.{cases_Bool, cases_eq, cases_lt, eqb-true, eqb
 use Rattle.std.proofs.lemmas.Nat.Bits.{bit_at_or, bit_at_and, bit_at-zero, bit_at_set_same, bit_at_set_other, bit_at-lt, bit_at_lowest, bit_at-suc}
 use Rattle.jm_grammar.specs.Rounds.{has_bit}
 use Rattle.jm_grammar.proofs.RoundLemmas.{bit_of, of_bit}
-use Rattle.jm_earley.specs.Rules.{only, has}
+use Rattle.jm_earley.specs.Rules.{only, has, meets}
 
 pub is_one : (bits n : ℕ) → IsBitSet bits n → bit_at bits n ≡ 1
 is_one bits n h = eqb-true _ _ (bit_of bits n h)
@@ -39,9 +39,6 @@ some_set (suc fuel) n le some = elim (cases_eq (n % 2) 1) [
       let r = some_set fuel (n / 2) (omega arith) half in
       (suc r.0, bit_at-suc n r.0 ∙ r.1)
 ]
-
-abbrev pub meets : ℕ → ℕ → Bool
-meets a b = not (bit_and a b == 0)
 
 pub meets_some : (a b : ℕ) → meets a b ≡ true → (n : ℕ) × IsBitSet a n × IsBitSet b n
 meets_some a b h =

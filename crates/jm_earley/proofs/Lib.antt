@@ -1,3 +1,4 @@
 pub mod ExtensionLemmas
 pub mod BitLemmas
 pub mod RuleLemmas
+pub mod SpellLemmas

@@ -16,8 +16,12 @@ pub data IsGained (rules : List Rule) : ℕ → Type 0 where
   at_once : (r : Rule) (n : ℕ) → Contains rules r → r.always ≡ true → IsBitSet r.gives n → IsGained rules n
   later : (r : Rule) (m n : ℕ) → Contains rules r → IsBitSet r.any m → IsGained rules m → IsBitSet r.gives n → IsGained rules n
 
+-- two sets have a nonterminal in common
+abbrev pub meets : ℕ → ℕ → Bool
+meets a b = not (bit_and a b == 0)
+
 abbrev pub is_met : ℕ → Rule → Bool
-is_met known r = r.always || not (bit_and r.any known == 0)
+is_met known r = r.always || meets r.any known
 
 abbrev pub with_rule : ℕ → Rule → ℕ
 with_rule known r = if is_met known r then bit_or known r.gives else known

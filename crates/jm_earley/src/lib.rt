@@ -6,4 +6,5 @@
 #![tactic(auto)]
 
 mod item;
+mod letter_set;
 mod rule;
