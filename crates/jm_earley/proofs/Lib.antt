@@ -2,3 +2,4 @@ pub mod ExtensionLemmas
 pub mod BitLemmas
 pub mod RuleLemmas
 pub mod SpellLemmas
+pub mod DeadLemmas

@@ -5,6 +5,7 @@
 //! side is awaited at its origin.
 #![tactic(auto)]
 
+mod dead;
 mod item;
 mod letter_set;
 mod rule;
