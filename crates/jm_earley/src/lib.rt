@@ -6,6 +6,8 @@
 #![tactic(auto)]
 
 mod dead;
+mod future;
 mod item;
 mod letter_set;
+mod link;
 mod rule;
