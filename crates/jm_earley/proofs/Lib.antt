@@ -3,3 +3,4 @@ pub mod BitLemmas
 pub mod RuleLemmas
 pub mod SpellLemmas
 pub mod DeadLemmas
+pub mod FutureLemmas

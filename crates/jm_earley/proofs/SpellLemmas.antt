@@ -21,7 +21,7 @@ use Rattle.jm_earley.proofs.BitLemmas.{or_cases, or_l, or_r, none_set, meets_som
 
 -- ---- lists
 
-Contains-cons_cases : {X : Type 0} (y : X) (xs : List X) (x : X) → Contains (y ∷ xs) x → (y ≡ x) ⊎ Contains xs x
+pub Contains-cons_cases : {X : Type 0} (y : X) (xs : List X) (x : X) → Contains (y ∷ xs) x → (y ≡ x) ⊎ Contains xs x
 Contains-cons_cases y xs x h =
     elim (Contains-append_cases (y ∷ []) xs x h)
     [ inl one ↦ elim (Contains-push_cases [] y x one) [ inl none ↦ absurd (omega (arith, none.1)) | inr e ↦ inl e ] | inr rest ↦ inr rest ]

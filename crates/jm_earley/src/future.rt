@@ -1,14 +1,20 @@
 //! What may follow the nonterminals that are awaited at a place.
-ghost use Rattle.std.specs.Prelude.{◌≡◌, IfOk, map, slice_get};
+ghost use Rattle.std.specs.Prelude.{ℕ, ◌≡◌, ◌↔◌, List, All, IfOk, IsTrue, map, slice_get};
+ghost use Rattle.std.specs.List.{list_any};
 ghost use Rattle.std.specs.Arc.{arc_value};
 ghost use Rattle.jm_earley.specs.Links.{future_at, ends_rule, more_rule, start_rule, ends_rules, more_rules, keeps_alive_in, keeps_alive};
-ghost use Rattle.jm_earley.specs.declared.item.Item.{Item};
+ghost use Rattle.jm_grammar.specs.Grammars.{GrammarDefinition};
+ghost use Rattle.jm_earley.specs.Items.{IsItemSet};
+ghost use Rattle.jm_earley.specs.LetterSets.{IsExact};
+ghost use Rattle.jm_earley.specs.DeadSets.{AreDeadSets};
+ghost use Rattle.jm_earley.specs.Places.{AreEarlier, AreFutures, IsFutureOf, IsAliveFor};
 
+use crate::dead::DeadSets;
 use crate::item::Item;
 use crate::letter_set::LetterSet;
 use crate::link::{behind, link_of, Link};
-use crate::rule::{has, only, Rule};
-use jm_grammar::Production;
+use crate::rule::{gained, has, only, Rule};
+use jm_grammar::{Grammar, Production};
 use jm_model::NoMemory;
 use std::alloc::Global;
 use std::sync::Arc;
@@ -29,6 +35,35 @@ pub(crate) struct Futures {
 }
 
 impl Futures {
+    /// What may follow where these are the items, and what may follow at each earlier place.
+    pub(crate) fn new(alloc: Global, grammar: &Grammar, sets: &DeadSets, items: &[Item], earlier: &[Arc<Futures>]) -> Result<Futures, NoMemory>
+        ensures { IfOk result (λ futures. All (IsExact grammar.now.productions) sets.now.sets.items → (word : List ℕ) → IsItemSet grammar.now word items.now
+            → AreEarlier grammar.now sets.now.sets.items word (map arc_value earlier.now) → AreFutures grammar.now sets.now.sets.items word futures) }
+    {
+        let mut futures = Vec::new(alloc);
+        for (number, set) in sets.sets().iter().enumerate() {
+            let future = future_of(alloc, grammar, *set, number, items, earlier)?;
+            let Ok(()) = futures.push(future) else {
+                return Err(NoMemory);
+            };
+        }
+        Ok(Futures { futures })
+    }
+
+    /// Whether one or more letters without a dead parameter may follow.
+    pub(crate) fn is_alive(&self, sets: &DeadSets, dead: u8) -> bool
+        ensures { (g : GrammarDefinition) (params word : List ℕ) → AreDeadSets g.productions params sets.now → AreFutures g sets.now.sets.items word self.now
+            → IsTrue result ↔ IsAliveFor g params dead word }
+    {
+        match sets.number(dead) {
+            Some(number) => match self.get(number) {
+                Some(future) => future.alive,
+                None => false,
+            },
+            None => false,
+        }
+    }
+
     /// What may follow of the letters of a set.
     fn get(&self, number: usize) -> Option<Future>
         ensures { result ≡ slice_get self.now.futures.items number }
@@ -129,4 +164,66 @@ fn keeps_alive(
         }
         None => false,
     }
+}
+
+fn ends_rules(alloc: Global, productions: &[Production], start: u8, set: LetterSet, number: usize, items: &[Item], earlier: &[Arc<Futures>]) -> Result<Vec<Rule>, NoMemory>
+    ensures { IfOk result (λ rules. rules.items ≡ ends_rules productions.now start set number (map arc_value earlier.now) items.now) }
+{
+    let mut rules = Vec::new(alloc);
+    let Ok(()) = rules.push(start_rule(start, earlier)) else {
+        return Err(NoMemory);
+    };
+    for item in items {
+        let link = link_of(productions, set, *item);
+        let rule = ends_rule(link, future_at(earlier, number, item.origin));
+        let Ok(()) = rules.push(rule) else {
+            return Err(NoMemory);
+        };
+    }
+    Ok(rules)
+}
+
+fn more_rules(alloc: Global, productions: &[Production], ends: u64, set: LetterSet, number: usize, items: &[Item], earlier: &[Arc<Futures>]) -> Result<Vec<Rule>, NoMemory>
+    ensures { IfOk result (λ rules. rules.items ≡ more_rules productions.now ends set number (map arc_value earlier.now) items.now) }
+{
+    let mut rules = Vec::new(alloc);
+    for item in items {
+        let link = link_of(productions, set, *item);
+        let rule = more_rule(ends, link, future_at(earlier, number, item.origin));
+        let Ok(()) = rules.push(rule) else {
+            return Err(NoMemory);
+        };
+    }
+    Ok(rules)
+}
+
+/// Whether letters of the set may go on behind one of the items.
+fn is_alive(productions: &[Production], set: LetterSet, number: usize, items: &[Item], earlier: &[Arc<Futures>], here: Future) -> bool
+    ensures { result ≡ list_any (keeps_alive productions.now set number (map arc_value earlier.now) here) items.now }
+{
+    for item in items {
+        let there = future_at(earlier, number, item.origin).unwrap_or(here);
+        if keeps_alive(productions, set, there, *item) {
+            return true;
+        }
+    }
+    false
+}
+
+/// What may follow of the letters of a set.
+fn future_of(alloc: Global, grammar: &Grammar, set: LetterSet, number: usize, items: &[Item], earlier: &[Arc<Futures>]) -> Result<Future, NoMemory>
+    ensures { IfOk result (λ future. IsFutureOf grammar.now set number items.now (map arc_value earlier.now) future) }
+{
+    let productions = grammar.productions();
+    let rules = ends_rules(alloc, productions, grammar.start(), set, number, items, earlier)?;
+    let ends = gained(rules.as_slice());
+    let rules = more_rules(alloc, productions, ends, set, number, items, earlier)?;
+    let more = gained(rules.as_slice());
+    let here = Future {
+        ends,
+        more,
+        alive: false,
+    };
+    let alive = is_alive(productions, set, number, items, earlier, here);
+    Ok(Future { ends, more, alive })
 }
