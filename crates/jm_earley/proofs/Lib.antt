@@ -4,3 +4,4 @@ pub mod RuleLemmas
 pub mod SpellLemmas
 pub mod DeadLemmas
 pub mod FutureLemmas
+pub mod PlaceLemmas
