@@ -5,3 +5,4 @@ pub mod SpellLemmas
 pub mod DeadLemmas
 pub mod FutureLemmas
 pub mod PlaceLemmas
+pub mod HopelessLemmas

@@ -7,7 +7,8 @@ ghost use Rattle.jm_grammar.specs.Grammars.{GrammarDefinition};
 ghost use Rattle.jm_earley.specs.Items.{IsItemSet};
 ghost use Rattle.jm_earley.specs.LetterSets.{IsExact};
 ghost use Rattle.jm_earley.specs.DeadSets.{AreDeadSets};
-ghost use Rattle.jm_earley.specs.Places.{AreEarlier, AreFutures, IsFutureOf, IsAliveFor};
+ghost use Rattle.jm_earley.specs.Futures.{IsHopeless};
+ghost use Rattle.jm_earley.specs.Places.{IsReduced, AreEarlier, AreFutures, IsFutureOf, IsAliveFor};
 
 use crate::dead::DeadSets;
 use crate::item::Item;
@@ -73,6 +74,13 @@ impl Futures {
             None => None,
         }
     }
+}
+
+/// Whether no word of the grammar begins with the word that has these items, where each nonterminal of a production spells a word.
+pub(crate) fn is_hopeless(items: &[Item]) -> bool
+    ensures { (g : GrammarDefinition) (word : List ℕ) → IsReduced g → IsItemSet g word items.now → IsTrue result ↔ IsHopeless g word }
+{
+    items.is_empty()
 }
 
 /// What may follow at an earlier place, of the letters of a set.
