@@ -12,11 +12,11 @@ use Rattle.jm_grammar.proofs.RoundLemmas.{trees_append}
 use Rattle.jm_earley.specs.declared.item.Item.{Item}
 use Rattle.jm_earley.specs.Items.{IsAwaited, at_start, inside, IsItem, IsItemSet}
 use Rattle.jm_earley.specs.Futures.{IsRest, at_end, within, IsContinuation, IsHopeless}
-use Rattle.jm_earley.specs.Places.{IsReduced}
+use Rattle.jm_earley.specs.Places.{AllSpell}
 use Rattle.jm_earley.proofs.ExtensionLemmas.{item_production, continued, found}
 use Rattle.jm_earley.proofs.SpellLemmas.{Contains-head}
 
-module _ (g : GrammarDefinition) (reduced : IsReduced g) where
+module _ (g : GrammarDefinition) (reduced : AllSpell g) where
   abbrev ps : List Production
   ps = g.productions
 

@@ -4,5 +4,5 @@ pub mod RuleLemmas
 pub mod SpellLemmas
 pub mod DeadLemmas
 pub mod FutureLemmas
-pub mod PlaceLemmas
+pub mod AnswerLemmas
 pub mod HopelessLemmas

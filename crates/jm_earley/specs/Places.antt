@@ -43,5 +43,5 @@ abbrev pub IsAliveFor : GrammarDefinition → List ℕ → ℕ → List ℕ → 
 IsAliveFor g params dead word = (more : List ℕ) × All (IsAvailable params dead) more × IsWord g (word ++ more) × (more ≢ [])
 
 -- each nonterminal that is in a production spells a word
-abbrev pub IsReduced : GrammarDefinition → Type 0
-IsReduced g = (n : ℕ) → IsIn g.productions n → DerivesSome g.productions n
+abbrev pub AllSpell : GrammarDefinition → Type 0
+AllSpell g = (n : ℕ) → IsIn g.productions n → DerivesSome g.productions n

@@ -8,7 +8,7 @@ ghost use Rattle.jm_earley.specs.Items.{IsItemSet};
 ghost use Rattle.jm_earley.specs.LetterSets.{IsExact};
 ghost use Rattle.jm_earley.specs.DeadSets.{AreDeadSets};
 ghost use Rattle.jm_earley.specs.Futures.{IsHopeless};
-ghost use Rattle.jm_earley.specs.Places.{IsReduced, AreEarlier, AreFutures, IsFutureOf, IsAliveFor};
+ghost use Rattle.jm_earley.specs.Places.{AllSpell, AreEarlier, AreFutures, IsFutureOf, IsAliveFor};
 
 use crate::dead::DeadSets;
 use crate::item::Item;
@@ -78,7 +78,7 @@ impl Futures {
 
 /// Whether no word of the grammar begins with the word that has these items, where each nonterminal of a production spells a word.
 pub(crate) fn is_hopeless(items: &[Item]) -> bool
-    ensures { (g : GrammarDefinition) (word : List ℕ) → IsReduced g → IsItemSet g word items.now → IsTrue result ↔ IsHopeless g word }
+    ensures { (g : GrammarDefinition) (word : List ℕ) → AllSpell g → IsItemSet g word items.now → IsTrue result ↔ IsHopeless g word }
 {
     items.is_empty()
 }

@@ -1,5 +1,5 @@
 use Rattle.std.proofs.Common.{◌<◌, arith, sym, ◌∙◌}
-use Rattle.jm_earley.proofs.PlaceLemmas.{alive_for, number_there, future_there}
+use Rattle.jm_earley.proofs.AnswerLemmas.{alive_for, number_there, future_there}
 use Rattle.jm_earley.proofs.future.Futures.is_alive.Goals as goal
 
 pub returns-in-Some-get : goal.returns-in-Some-get

@@ -4,7 +4,7 @@ use Rattle.std.specs.Arc.{arc_value}
 use Rattle.jm_earley.specs.declared.letter_set.LetterSet.{LetterSet}
 use Rattle.jm_earley.specs.declared.future.Future.{Future}
 use Rattle.jm_earley.specs.Places.{IsFutureOf}
-use Rattle.jm_earley.proofs.PlaceLemmas.{AreFuturesOf, one_more_future, all_futures}
+use Rattle.jm_earley.proofs.AnswerLemmas.{AreFuturesOf, one_more_future, all_futures}
 use Rattle.jm_earley.proofs.future.Futures.new.Goals as goal
 
 pub loop-number-preserved : goal.loop-number-preserved
