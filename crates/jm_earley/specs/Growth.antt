@@ -52,8 +52,13 @@ pub record IsWorked (g : GrammarDefinition) (sets : List (List Item)) (items : L
   pub skipped : (n : ℕ) → symbol_after g x ≡ Some (Nonterminal n) → Derives g.productions n [] → Contains items (advanced x)
   pub completed : (n : ℕ) (from : List Item) → finished_left g x ≡ Some n → slice_get sets x.origin ≡ Some from → AreAdvancedOver g from (Nonterminal n) items
 
--- The items are closed under the rules, and the rules made each from the first ones.
+-- the rules make the item from the first ones
+pub data IsMade (g : GrammarDefinition) (sets : List (List Item)) (first : List Item) : Item → Type 0 where
+  given : (x : Item) → Contains first x → IsMade g sets first x
+  stepped : (x made : Item) → IsMade g sets first x → IsStep g sets x made → IsMade g sets first made
+
+-- The items are the first ones and what the rules make of them.
 pub record IsClosure (g : GrammarDefinition) (sets : List (List Item)) (first items : List Item) : Type 0 where
   pub kept : (x : Item) → Contains first x → Contains items x
   pub worked : (x : Item) → Contains items x → IsWorked g sets items x
-  pub sound : (P : Item → Type 0) → ((x : Item) → Contains first x → P x) → ((x made : Item) → P x → IsStep g sets x made → P made) → (x : Item) → Contains items x → P x
+  pub made : (x : Item) → Contains items x → IsMade g sets first x

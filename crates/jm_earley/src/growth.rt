@@ -1,5 +1,5 @@
 //! The items of a place: what is read is worked through item by item, until the rules add nothing.
-ghost use Rattle.std.specs.Prelude.{ℕ, ◌≡◌, ◌<◌, ◌^◌, ◌↔◌, [], Some, IsTrue, IfSome, IfOk, OnOk, length};
+ghost use Rattle.std.specs.Prelude.{ℕ, ◌≡◌, ◌<◌, ◌^◌, ◌↔◌, [], Some, IsTrue, IfSome, IfOk, OnOk, Contains, length};
 ghost use Rattle.jm_grammar.specs.declared.grammar.GrammarSymbol.{GrammarSymbol};
 ghost use Rattle.jm_grammar.specs.Grammars.{IsSmallSymbol};
 ghost use Rattle.jm_grammar.specs.Derivations.{Derives};
