@@ -1,2 +1,5 @@
 pub mod PlaceLemmas
+pub mod SetLemmas
+pub mod GrowthLemmas
 pub mod ItemLemmas
+pub mod ChartLemmas

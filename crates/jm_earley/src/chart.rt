@@ -1,4 +1,4 @@
-ghost use Rattle.std.specs.Prelude.{ℕ, ◌≡◌, ◌==◌, ◌<◌, ◌-◌, ◌↔◌, List, [], ◌∷◌, ◌++◌, Some, None, IsTrue, IfSome, IfOk, map, length, slice_get, if◌then◌else◌};
+ghost use Rattle.std.specs.Prelude.{ℕ, ◌≡◌, ◌==◌, ◌<◌, ◌-◌, ◌↔◌, List, [], ◌∷◌, ◌++◌, Some, None, Any, IsTrue, IfSome, IfOk, map, length, slice_get, if◌then◌else◌};
 ghost use Rattle.jm_grammar.specs.declared.grammar.GrammarSymbol.{GrammarSymbol};
 ghost use Rattle.jm_grammar.specs.Grammars.{IsSmall, IsSmallSymbol, IsSmallProduction};
 ghost use Rattle.jm_grammar.specs.Derivations.{IsWord, Derives};
@@ -112,12 +112,7 @@ impl Charts {
     pub fn matches(&self, chart: &Chart) -> bool
         ensures { (word : List ℕ) → IsChartOf self.now.grammar word chart.now → IsTrue result ↔ IsWord self.now.grammar word }
     {
-        for item in chart.last() {
-            if self.is_whole(*item) {
-                return true;
-            }
-        }
-        false
+        self.has_whole(chart.last())
     }
 }
 
@@ -171,6 +166,12 @@ impl Charts {
         ensures { IsTrue result ↔ Derives self.now.grammar.productions n [] }
     {
         self.nullable >> n & 1 == 1
+    }
+
+    fn has_whole(&self, items: &[Item]) -> bool
+        ensures { IsTrue result ↔ Any (IsWhole self.now.grammar) items.now }
+    {
+        items.iter().any(|item| self.is_whole(*item))
     }
 
     fn is_whole(&self, item: Item) -> bool

@@ -103,7 +103,8 @@ impl Charts {
 
     /// Adds the item advanced over a nonterminal, where that spells the empty word.
     fn skip(&self, set: &mut ItemSet, item: Item, n: u8) -> Result<(), NoMemory>
-        requires { symbol_after self.now.grammar item ≡ Some (GrammarSymbol.Nonterminal n) }
+        requires small { n < 64 }
+        requires room { item.dot < 32 }
         ensures grows { OnOk result (Grows (λ x. Derives self.now.grammar.productions n [] × (x ≡ advanced item)) set.old set.new) }
         ensures all { OnOk result (Derives self.now.grammar.productions n [] → Contains set.new (advanced item)) }
     {

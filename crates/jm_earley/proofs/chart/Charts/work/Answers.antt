@@ -1,0 +1,2 @@
+use Rattle.jm_earley.proofs.chart.Charts.work.Goals as goal
+
