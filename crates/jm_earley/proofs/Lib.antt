@@ -2,4 +2,5 @@ pub mod PlaceLemmas
 pub mod SetLemmas
 pub mod GrowthLemmas
 pub mod ItemLemmas
+pub mod WorkLemmas
 pub mod ChartLemmas

@@ -1,5 +1,6 @@
-use Rattle.std.proofs.Common.{ℕ, ◌≡◌, ◌<◌, ◌+◌, ◌⊎◌, inl, inr, suc, zero, List, [], ◌∷◌, ◌++◌, Some, length, get_or, slice_get, take, drop, Contains, refl, sym, ap, ◌∙◌, arith, add-one}
-use Rattle.std.proofs.lemmas.Option.{none-some, same_Some, slice_get_within, get_or_from_slice_get, slice_get-get_or}
+use Rattle.std.proofs.Common.{ℕ, ◌≡◌, ◌<◌, ◌+◌, ◌⊎◌, inl, inr, suc, zero, List, [], ◌∷◌, ◌++◌, Some, length, get_or, slice_get, take, drop, map, option_map, None, ◌≤◌, Contains, refl, sym, ap, ◌∙◌, arith, add-one, length-append}
+use Rattle.std.proofs.lemmas.Option.{none-some, same_Some, slice_get_within, get_or_from_slice_get, slice_get-get_or, slice_get-map, slice_get_read}
+use Rattle.std.proofs.lemmas.List.{map-append}
 
 -- What stands where in a list.
 
@@ -69,3 +70,37 @@ module _ {X : Type 0} where
       by ys zero e = head ys e
       by [] (suc j) e = absurd (cc)
       by (y ∷ ys) (suc j) e = by ys j e
+
+  pub same_push : (xs ys : List X) (x y : X) → xs ++ x ∷ [] ≡ ys ++ y ∷ [] → (xs ≡ ys) × (x ≡ y)
+  same_push [] [] x y e = (refl, cc)
+  same_push [] (b ∷ ys) x y e = absurd (omega (arith, ap length e, length-append ys (y ∷ [])))
+  same_push (a ∷ xs) [] x y e = absurd (omega (arith, ap length e, length-append xs (x ∷ [])))
+  same_push (a ∷ xs) (b ∷ ys) x y e =
+      let tail : xs ++ x ∷ [] ≡ ys ++ y ∷ [] = cc in
+      let head : a ≡ b = cc in
+      let rest = same_push xs ys x y tail in
+      ((cc (rest.0, head)), rest.1)
+
+  -- nothing stands past the end
+  pub past_end : (xs : List X) (k : ℕ) → slice_get xs k ≡ None → length xs ≤ k
+  past_end [] k h = omega arith
+  past_end (x ∷ xs) zero h = absurd (none-some x (sym h))
+  past_end (x ∷ xs) (suc k) h = omega (arith, past_end xs k h)
+
+  -- one element more of a list of images
+  pub map_next : {Y : Type 0} (f : X → Y) (xs : List X) (i : ℕ) (y : Y) → option_map f (slice_get xs i) ≡ Some y → map f (take (i + 1) xs) ≡ map f (take i xs) ++ y ∷ []
+  map_next f xs i y h = rw add-one (by xs i h)
+    where
+      by : (ys : List X) (j : ℕ) → option_map f (slice_get ys j) ≡ Some y → map f (take (suc j) ys) ≡ map f (take j ys) ++ y ∷ []
+      by [] j e = absurd (none-some y e)
+      by (x ∷ ys) zero e = ap (λ z. z ∷ []) (same_Some (f x) y e)
+      by (x ∷ ys) (suc j) e = ap (λ l. f x ∷ l) (by ys j e)
+
+-- one copy more
+pub copied_more : {X Y : Type 0} (f : X → Y) (items copy new : List X) (images : List Y) (i : ℕ) (item read : X) → i < length items → read ≡ get_or items i read → f item ≡ f read
+    → map f items ≡ images → map f copy ≡ take i images → new ≡ copy ++ item ∷ [] → map f new ≡ take (i + 1) images
+copied_more f items copy new images i item read lt is same images_are so_far more =
+    let at : slice_get images i ≡ Some (f read) =
+        ap (λ l. slice_get l i) (sym images_are) ∙ slice_get-map f items i ∙ ap (λ o. option_map f o) (slice_get_read items (length items) i read refl lt is) in
+    let last : map f new ≡ map f copy ++ f item ∷ [] = ap (λ l. map f l) more ∙ map-append f copy (item ∷ []) in
+    last ∙ ap (λ l. l ++ f item ∷ []) so_far ∙ ap (λ y. take i images ++ y ∷ []) same ∙ sym (take_next images i (f read) at)

@@ -1,12 +1,13 @@
 -- The set of the nonterminals that spell the empty word, and sets of nonterminals as bits.
-use Rattle.std.proofs.Common.{ℕ, ◌≡◌, ◌==◌, ◌<◌, ◌/◌, ◌*◌, ◌%◌, ◌^◌, ◌↔◌, ◌⊎◌, inl, inr, true, IsTrue, All, List, [], ◌∷◌, bit_and, bit_or, refl, sym, ap, subst, ◌∙◌, arith}
+use Rattle.std.proofs.Common.{ℕ, ◌≡◌, ◌==◌, ◌<◌, ◌/◌, ◌*◌, ◌%◌, ◌^◌, ◌↔◌, ◌⊎◌, inl, inr, true, IsTrue, All, List, [], ◌∷◌, bit_and, bit_or, Contains, get_or, refl, sym, ap, subst, ◌∙◌, arith}
 use Rattle.std.specs.Prelude.{IsBitSet}
 use Rattle.std.specs.Int.{bit_at, w64}
 use Rattle.std.proofs.lemmas.Bool.Decides.{eqb_tells}
 use Rattle.std.proofs.lemmas.Bool.{eqb-true}
 use Rattle.std.proofs.lemmas.Nat.{bit_set_by_shift}
 use Rattle.std.proofs.lemmas.Nat.Bits.{bit_at_set_other, bit_at-zero, shr_and_one}
-use Rattle.std.proofs.lemmas.List.Elements.{All-nil, All-head}
+use Rattle.std.proofs.lemmas.List.Elements.{All-nil, All-head, All-contains, Contains-get_or}
+use Rattle.jm_earley.specs.Charts.{IsBelow, AreBelow}
 use Rattle.jm_grammar.specs.declared.grammar.Production.{Production}
 use Rattle.jm_grammar.specs.Rounds.{has_bit}
 use Rattle.jm_grammar.specs.Derivations.{Derives, DerivesOf}
@@ -36,3 +37,11 @@ bits_with bits n m small h = elim (eqb_tells m n) [
 
 pub bit_from_test : (bits n : ℕ) → bit_and (bits / 2 ^ n) 1 ≡ 1 → IsBitSet bits n
 bit_from_test bits n h = (bit_set_by_shift bits n).0 h
+
+pub no_bits : (n : ℕ) → IsBitSet 0 n → ⊥
+no_bits n h = omega (arith, eqb-true _ _ (bit_of 0 n h), bit_at-zero n)
+
+-- productions that are among others have no other letters
+pub still_below : (ps kept : List Production) (letters : ℕ) → ((p : Production) → Contains kept p → Contains ps p) → AreBelow ps letters → AreBelow kept letters
+still_below ps kept letters among below k d lt =
+    All-contains (λ (p : Production). All (IsBelow letters) p.symbols) ps (get_or kept k d) below (among (get_or kept k d) (Contains-get_or kept k d lt))
