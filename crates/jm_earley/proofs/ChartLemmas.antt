@@ -89,3 +89,30 @@ module _ (g : GrammarDefinition) where
             subst (λ (w : List ℕ). IsItemSet g w l) (sym whole) (subst (λ (m : List Item). IsItemSet g longer m) same here_exact)
       ];
     }
+
+-- the same, by the names that the code has for what it is made of
+module _ (g : GrammarDefinition) where
+  pub begun_chart : (start : ℕ) (sets : List (List Item)) (none first items : List Item) (chart : ChartDefinition) → start ≡ g.start → sets ≡ [] → none ≡ []
+      → Grows (IsPrediction g 0 start) none first → ArePredicted g 0 start first → IsClosure g sets first items → chart.sets ≡ sets ++ items ∷ [] → IsChartOf g [] chart
+  begun_chart start sets none first items chart start_is sets_are none_is grows all closure chart_is =
+      let predictions : Grows (IsPrediction g 0 g.start) [] first =
+          subst (λ (l : List Item). Grows (IsPrediction g 0 g.start) l first) none_is (subst (λ (n : ℕ). Grows (IsPrediction g 0 n) none first) start_is grows) in
+      let each : ArePredicted g 0 g.start first = subst (λ (n : ℕ). ArePredicted g 0 n first) start_is all in
+      let closed : IsClosure g [] first items = subst (λ (l : List (List Item)). IsClosure g l first items) sets_are closure in
+      let one : chart.sets ≡ items ∷ [] = chart_is ∙ ap (λ (l : List (List Item)). l ++ items ∷ []) sets_are in
+      let of_word = chart_begins g first items predictions each closed in
+      record {
+        count = ap length one ∙ of_word.count;
+        each = subst (λ (l : List (List Item)). AreItemSets g [] l) (sym one) of_word.each;
+      }
+
+  pub grown_chart : (word : List ℕ) (chart : ChartDefinition) (letter : LetterType) (sets copies : List (List Item)) (last none first items : List Item) (next : ChartDefinition) → IsChartOf g word chart
+      → sets ≡ chart.sets → copies ≡ sets → ((l : List Item) → slice_get chart.sets (length chart.sets - 1) ≡ Some l → last ≡ l) → none ≡ []
+      → Grows (IsAdvancedOver g last (Letter letter)) none first → AreAdvancedOver g last (Letter letter) first → IsClosure g sets first items → next.sets ≡ copies ++ items ∷ []
+      → IsChartOf g (word ++ letter.0 ∷ []) next
+  grown_chart word chart letter sets copies last none first items next of_word sets_are copies_are last_is none_is grows all closure next_is =
+      let end = last_items g word chart of_word in
+      let exact : IsItemSet g word last = subst (λ (l : List Item). IsItemSet g word l) (sym (last_is end.0 end.1)) end.2 in
+      chart_grows g word chart of_word letter last exact first items (subst (λ (l : List Item). Grows (IsAdvancedOver g last (Letter letter)) l first) none_is grows) all
+      (subst (λ (l : List (List Item)). IsClosure g l first items) sets_are closure) next
+      (next_is ∙ ap (λ (l : List (List Item)). l ++ items ∷ []) (copies_are ∙ sets_are))
