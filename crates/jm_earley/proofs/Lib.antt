@@ -1,3 +1,9 @@
+pub mod PlaceLemmas
+pub mod SetLemmas
+pub mod GrowthLemmas
+pub mod ItemLemmas
+pub mod WorkLemmas
+pub mod ChartLemmas
 pub mod ExtensionLemmas
 pub mod BitLemmas
 pub mod RuleLemmas

@@ -1,5 +1,5 @@
 -- The items of a word (Earley 1970).
-use Rattle.std.specs.Prelude.{ℕ, ◌≡◌, ◌≤◌, ◌↔◌, List, [], ◌∷◌, ◌++◌, Some, Contains, length, take, slice_get}
+use Rattle.std.specs.Prelude.{ℕ, ◌≡◌, ◌≤◌, ◌+◌, ◌==◌, ◌↔◌, List, [], ◌∷◌, ◌++◌, Option, Some, None, option_and_then, Contains, length, take, slice_get, if◌then◌else◌}
 use Rattle.jm_grammar.specs.declared.grammar.GrammarSymbol.{GrammarSymbol}
 use Rattle.jm_grammar.specs.declared.grammar.GrammarSymbol.TheVariants.{Nonterminal}
 use Rattle.jm_grammar.specs.declared.grammar.Production.{Production}
@@ -35,3 +35,19 @@ pub record IsItem (g : GrammarDefinition) (word : List ℕ) (item : Item) : Type
 -- the items are those of the word, and no others
 abbrev pub IsItemSet : GrammarDefinition → List ℕ → List Item → Type 0
 IsItemSet g word items = (item : Item) → Contains items item ↔ IsItem g word item
+
+-- the symbol behind the item's dot
+abbrev pub symbol_after : GrammarDefinition → Item → Option GrammarSymbol
+symbol_after g item = option_and_then (λ p. slice_get p.symbols item.dot) (slice_get g.productions item.production)
+
+-- the left side of an item whose dot is at the end
+abbrev pub finished_left : GrammarDefinition → Item → Option ℕ
+finished_left g item = option_and_then (λ p. if item.dot == length p.symbols then Some p.left else None) (slice_get g.productions item.production)
+
+-- the item with one symbol more before its dot
+abbrev pub advanced : Item → Item
+advanced item = record item { dot = item.dot + 1 }
+
+-- the item spells a whole word: it began at the front with a production of the start, and its dot is at the end
+abbrev pub IsWhole : GrammarDefinition → Item → Type 0
+IsWhole g item = (item.origin ≡ 0) × (finished_left g item ≡ Some g.start)

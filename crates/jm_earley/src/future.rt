@@ -1,7 +1,6 @@
 //! What may follow the nonterminals that are awaited at a place.
-ghost use Rattle.std.specs.Prelude.{ℕ, ◌≡◌, ◌↔◌, List, All, IfOk, IsTrue, map, slice_get};
+ghost use Rattle.std.specs.Prelude.{ℕ, ◌≡◌, ◌↔◌, List, All, IfOk, IsTrue, slice_get};
 ghost use Rattle.std.specs.List.{list_any};
-ghost use Rattle.std.specs.Arc.{arc_value};
 ghost use Rattle.jm_earley.specs.Links.{future_at, ends_rule, more_rule, start_rule, ends_rules, more_rules, keeps_alive_in, keeps_alive};
 ghost use Rattle.jm_grammar.specs.Grammars.{GrammarDefinition};
 ghost use Rattle.jm_earley.specs.Items.{IsItemSet};
@@ -15,10 +14,10 @@ use crate::item::Item;
 use crate::letter_set::LetterSet;
 use crate::link::{behind, link_of, Link};
 use crate::rule::{gained, has, only, Rule};
+use crate::shared::Shared;
 use jm_grammar::{Grammar, Production};
 use jm_model::NoMemory;
 use std::alloc::Global;
-use std::sync::Arc;
 
 /// What may follow at a place, of some letters: the nonterminals that a rest may follow, those that one of one or more letters
 /// may follow, and whether one or more letters may follow the word.
@@ -37,9 +36,9 @@ pub(crate) struct Futures {
 
 impl Futures {
     /// What may follow where these are the items, and what may follow at each earlier place.
-    pub(crate) fn new(alloc: Global, grammar: &Grammar, sets: &DeadSets, items: &[Item], earlier: &[Arc<Futures>]) -> Result<Futures, NoMemory>
+    pub(crate) fn new(alloc: Global, grammar: &Grammar, sets: &DeadSets, items: &[Item], earlier: &Shared<Futures>) -> Result<Futures, NoMemory>
         ensures { IfOk result (λ futures. All (IsExact grammar.now.productions) sets.now.sets.items → (word : List ℕ) → IsItemSet grammar.now word items.now
-            → AreEarlier grammar.now sets.now.sets.items word (map arc_value earlier.now) → AreFutures grammar.now sets.now.sets.items word futures) }
+            → AreEarlier grammar.now sets.now.sets.items word earlier.now → AreFutures grammar.now sets.now.sets.items word futures) }
     {
         let mut futures = Vec::new(alloc);
         for (number, set) in sets.sets().iter().enumerate() {
@@ -84,8 +83,8 @@ pub(crate) fn is_hopeless(items: &[Item]) -> bool
 }
 
 /// What may follow at an earlier place, of the letters of a set.
-fn future_at(earlier: &[Arc<Futures>], number: usize, place: u32) -> Option<Future>
-    ensures { result ≡ future_at (map arc_value earlier.now) number place }
+fn future_at(earlier: &Shared<Futures>, number: usize, place: u32) -> Option<Future>
+    ensures { result ≡ future_at earlier.now number place }
 {
     match earlier.get(place as usize) {
         Some(futures) => futures.get(number),
@@ -144,13 +143,13 @@ fn more_rule(ends: u64, link: Option<Link>, there: Option<Future>) -> Rule
 }
 
 /// Nothing follows the start at the first place.
-fn start_rule(start: u8, earlier: &[Arc<Futures>]) -> Rule
-    ensures { result ≡ start_rule start (map arc_value earlier.now) }
+fn start_rule(start: u8, earlier: &Shared<Futures>) -> Rule
+    ensures { result ≡ start_rule start earlier.now }
 {
     Rule {
         gives: only(start),
         any: 0,
-        always: earlier.is_empty(),
+        always: earlier.len() == 0,
     }
 }
 
@@ -174,8 +173,8 @@ fn keeps_alive(
     }
 }
 
-fn ends_rules(alloc: Global, productions: &[Production], start: u8, set: LetterSet, number: usize, items: &[Item], earlier: &[Arc<Futures>]) -> Result<Vec<Rule>, NoMemory>
-    ensures { IfOk result (λ rules. rules.items ≡ ends_rules productions.now start set number (map arc_value earlier.now) items.now) }
+fn ends_rules(alloc: Global, productions: &[Production], start: u8, set: LetterSet, number: usize, items: &[Item], earlier: &Shared<Futures>) -> Result<Vec<Rule>, NoMemory>
+    ensures { IfOk result (λ rules. rules.items ≡ ends_rules productions.now start set number earlier.now items.now) }
 {
     let mut rules = Vec::new(alloc);
     let Ok(()) = rules.push(start_rule(start, earlier)) else {
@@ -191,8 +190,8 @@ fn ends_rules(alloc: Global, productions: &[Production], start: u8, set: LetterS
     Ok(rules)
 }
 
-fn more_rules(alloc: Global, productions: &[Production], ends: u64, set: LetterSet, number: usize, items: &[Item], earlier: &[Arc<Futures>]) -> Result<Vec<Rule>, NoMemory>
-    ensures { IfOk result (λ rules. rules.items ≡ more_rules productions.now ends set number (map arc_value earlier.now) items.now) }
+fn more_rules(alloc: Global, productions: &[Production], ends: u64, set: LetterSet, number: usize, items: &[Item], earlier: &Shared<Futures>) -> Result<Vec<Rule>, NoMemory>
+    ensures { IfOk result (λ rules. rules.items ≡ more_rules productions.now ends set number earlier.now items.now) }
 {
     let mut rules = Vec::new(alloc);
     for item in items {
@@ -206,8 +205,8 @@ fn more_rules(alloc: Global, productions: &[Production], ends: u64, set: LetterS
 }
 
 /// Whether letters of the set may go on behind one of the items.
-fn is_alive(productions: &[Production], set: LetterSet, number: usize, items: &[Item], earlier: &[Arc<Futures>], here: Future) -> bool
-    ensures { result ≡ list_any (keeps_alive productions.now set number (map arc_value earlier.now) here) items.now }
+fn is_alive(productions: &[Production], set: LetterSet, number: usize, items: &[Item], earlier: &Shared<Futures>, here: Future) -> bool
+    ensures { result ≡ list_any (keeps_alive productions.now set number earlier.now here) items.now }
 {
     for item in items {
         let there = future_at(earlier, number, item.origin).unwrap_or(here);
@@ -219,8 +218,8 @@ fn is_alive(productions: &[Production], set: LetterSet, number: usize, items: &[
 }
 
 /// What may follow of the letters of a set.
-fn future_of(alloc: Global, grammar: &Grammar, set: LetterSet, number: usize, items: &[Item], earlier: &[Arc<Futures>]) -> Result<Future, NoMemory>
-    ensures { IfOk result (λ future. IsFutureOf grammar.now set number items.now (map arc_value earlier.now) future) }
+fn future_of(alloc: Global, grammar: &Grammar, set: LetterSet, number: usize, items: &[Item], earlier: &Shared<Futures>) -> Result<Future, NoMemory>
+    ensures { IfOk result (λ future. IsFutureOf grammar.now set number items.now earlier.now future) }
 {
     let productions = grammar.productions();
     let rules = ends_rules(alloc, productions, grammar.start(), set, number, items, earlier)?;

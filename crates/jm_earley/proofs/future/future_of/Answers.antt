@@ -1,7 +1,6 @@
 use Rattle.std.proofs.Common.{ℕ, List, ◌≡◌, ◌↔◌, false, map, sym, ap, subst, ◌∙◌}
 use Rattle.std.specs.Prelude.{IsBitSet}
 use Rattle.std.specs.List.{list_any}
-use Rattle.std.specs.Arc.{arc_value}
 use Rattle.jm_grammar.specs.declared.grammar.Production.{Production}
 use Rattle.jm_grammar.specs.Grammars.{IsSmall}
 use Rattle.jm_earley.specs.declared.rule.Rule.{Rule}
@@ -15,7 +14,7 @@ pub returns : goal.returns
 returns c = λ exact word all are.
     let g = c.args.grammar.now in
     let ps = g.productions in
-    let earlier = map arc_value c.args.earlier.now in
+    let earlier = c.args.earlier.now in
     let set = c.args.set in
     let items = c.args.items.now in
     let ends = c.gained-ends.result in

@@ -1,6 +1,5 @@
 use Rattle.std.proofs.Common.{ℕ, List, ◌≡◌, ◌<◌, ◌≤◌, ◌+◌, ◌++◌, ◌∷◌, [], All, length, map, slice_get, Some, sym, ap, subst, ◌∙◌, arith, length-append, get_or}
 use Rattle.std.proofs.lemmas.Option.{slice_get-get_or}
-use Rattle.std.specs.Arc.{arc_value}
 use Rattle.jm_earley.specs.declared.letter_set.LetterSet.{LetterSet}
 use Rattle.jm_earley.specs.declared.future.Future.{Future}
 use Rattle.jm_earley.specs.Places.{IsFutureOf}
@@ -13,7 +12,7 @@ loop-number-preserved c =
     let n = c.loop-number.number in
     let sets = c.args.sets.now.sets.items in
     let items = c.args.items.now in
-    let earlier = map arc_value c.args.earlier.now in
+    let earlier = c.args.earlier.now in
     let none : LetterSet = record { letters = 0; spells = 0; goes_on = 0 } in
     let set = get_or sets n none in
     let one : IsFutureOf g set n items earlier c.in_ok-future.future =
@@ -30,7 +29,7 @@ pub returns : goal.returns
 returns c = λ exact word all are.
     let g = c.args.grammar.now in
     let sets = c.args.sets.now.sets.items in
-    let earlier = map arc_value c.args.earlier.now in
+    let earlier = c.args.earlier.now in
     let whole : length sets ≤ c.loop-number.number = rw (sym c.sets-set-items.ensures) (omega (arith, c.loop-number-test.false)) in
     let each : AreFuturesOf g sets c.args.items.now earlier c.loop-number.futures.items (length sets) = λ number set lt at. c.loop-number.invariant.1 number set (omega (arith, lt, whole)) at in
     all_futures g sets c.args.items.now earlier (record { futures = c.loop-number.futures }) each exact word all are

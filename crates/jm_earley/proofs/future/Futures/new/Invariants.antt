@@ -1,8 +1,7 @@
 use Rattle.std.proofs.Common.{ℕ, ◌≡◌, ◌<◌, map, length, slice_get, Some}
-use Rattle.std.specs.Arc.{arc_value}
 use Rattle.jm_earley.specs.declared.letter_set.LetterSet.{LetterSet}
 use Rattle.jm_earley.proofs.AnswerLemmas.{AreFuturesOf}
 use Rattle.jm_earley.proofs.future.Futures.new.Given as goal
 
 abbrev pub invariant-loop-number : goal.invariant-loop-number
-invariant-loop-number l = (length l.futures.items ≡ l.number) × AreFuturesOf l.grammar l.sets.sets.items l.items (map arc_value l.earlier) l.futures.items l.number
+invariant-loop-number l = (length l.futures.items ≡ l.number) × AreFuturesOf l.grammar l.sets.sets.items l.items l.earlier l.futures.items l.number

@@ -1,0 +1,8 @@
+use Rattle.std.proofs.Common.{ℕ, ◌↔◌, IsTrue, List, [], subst}
+use Rattle.jm_grammar.specs.Derivations.{Derives}
+use Rattle.jm_earley.specs.Charts.{ChartsDefinition}
+use Rattle.jm_earley.proofs.SetLemmas.{bit_of_nullable}
+use Rattle.jm_earley.proofs.chart.Charts.is_nullable.Goals as goal
+
+pub returns : goal.returns
+returns c = rw (← c.self.view_is) (bit_of_nullable c.self.inside.grammar.productions c.self.inside.nullable c.self.invariant.empty c.args.n)
