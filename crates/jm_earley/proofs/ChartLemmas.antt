@@ -9,19 +9,19 @@ use Rattle.jm_grammar.specs.Grammars.{GrammarDefinition}
 use Rattle.jm_grammar.specs.Derivations.{IsWord, no_tree, leaf}
 use Rattle.jm_earley.specs.declared.item.Item.{Item}
 use Rattle.jm_earley.specs.Items.{IsAwaited, at_start, IsItem, IsItemSet, IsWhole}
-use Rattle.jm_earley.specs.Charts.{ChartDefinition, AreItemSets, IsChartOf}
+use Rattle.jm_earley.specs.Charts.{AreItemSets, HasItems}
 use Rattle.jm_earley.specs.Growth.{Grows, IsAdvancedOver, AreAdvancedOver, IsPrediction, ArePredicted, IsClosure}
 use Rattle.jm_earley.proofs.PlaceLemmas.{place_of, slice_get-push_cases, same_push}
 use Rattle.jm_earley.proofs.ItemLemmas.{whole_is_word, word_is_whole, closure_exact, item_begins, item_over}
 
 module _ (g : GrammarDefinition) (word : List ℕ) where
   -- the items of the last place are those of the whole word
-  pub last_items : (chart : ChartDefinition) → IsChartOf g word chart → (items : List Item) × (slice_get chart.sets (length chart.sets - 1) ≡ Some items) × IsItemSet g word items
+  pub last_items : (chart : List (List Item)) → HasItems g word chart → (items : List Item) × (slice_get chart (length chart - 1) ≡ Some items) × IsItemSet g word items
   last_items chart of_word =
       let count = of_word.count in
-      let last = place_of chart.sets (length chart.sets - 1) (omega (arith, count)) in
-      let whole : take (length chart.sets - 1) word ≡ word = take_all (length chart.sets - 1) word (omega (arith, count)) in
-      (last.0, last.1, subst (λ (w : List ℕ). IsItemSet g w last.0) whole (of_word.each (length chart.sets - 1) last.0 last.1))
+      let last = place_of chart (length chart - 1) (omega (arith, count)) in
+      let whole : take (length chart - 1) word ≡ word = take_all (length chart - 1) word (omega (arith, count)) in
+      (last.0, last.1, subst (λ (w : List ℕ). IsItemSet g w last.0) whole (of_word.each (length chart - 1) last.0 last.1))
 
   pub words_by_items : (items items' : List Item) (result : Bool) → items' ≡ items → IsItemSet g word items → IsTrue result ↔ Any (IsWhole g) items' → IsTrue result ↔ IsWord g word
   words_by_items items items' result same exact says = (
@@ -35,7 +35,7 @@ module _ (g : GrammarDefinition) (word : List ℕ) where
 
 -- the empty chart and its first place
 module _ (g : GrammarDefinition) where
-  pub chart_begins : (first items : List Item) → Grows (IsPrediction g 0 g.start) [] first → ArePredicted g 0 g.start first → IsClosure g [] first items → IsChartOf g [] (record { sets = items ∷ [] })
+  pub chart_begins : (first items : List Item) → Grows (IsPrediction g 0 g.start) [] first → ArePredicted g 0 g.start first → IsClosure g [] first items → HasItems g [] (items ∷ [])
   chart_begins first items grows all closure =
       let none : AreItemSets g [] [] = λ i l at. absurd (none-some l at) in
       let exact : IsItemSet g [] items = closure_exact g [] [] first items none refl closure (λ x there. elim (grows.only x there) [
@@ -52,14 +52,14 @@ module _ (g : GrammarDefinition) where
       no_push xs x e = absurd (omega (arith, ap length e, length-append xs (x ∷ [])))
 
   -- one place more
-  module _ (word : List ℕ) (chart : ChartDefinition) (of_word : IsChartOf g word chart) (letter : LetterType) (last : List Item) (exact : IsItemSet g word last) (first items : List Item)
-      (grows : Grows (IsAdvancedOver g last (Letter letter)) [] first) (all : AreAdvancedOver g last (Letter letter) first) (closure : IsClosure g chart.sets first items) where
+  module _ (word : List ℕ) (chart : List (List Item)) (of_word : HasItems g word chart) (letter : LetterType) (last : List Item) (exact : IsItemSet g word last) (first items : List Item)
+      (grows : Grows (IsAdvancedOver g last (Letter letter)) [] first) (all : AreAdvancedOver g last (Letter letter) first) (closure : IsClosure g chart first items) where
     abbrev longer : List ℕ
     longer = word ++ letter.0 ∷ []
 
-    before_exact : AreItemSets g longer chart.sets
+    before_exact : AreItemSets g longer chart
     before_exact i l at =
-        let within = slice_get_within chart.sets i l at in
+        let within = slice_get_within chart i l at in
         let same : take i longer ≡ take i word = take-append-le i word (letter.0 ∷ []) (omega (arith, within, of_word.count)) in
         subst (λ (w : List ℕ). IsItemSet g w l) (sym same) (of_word.each i l at)
 
@@ -67,7 +67,7 @@ module _ (g : GrammarDefinition) where
     longer_is = omega (arith, length-append word (letter.0 ∷ []))
 
     here_exact : IsItemSet g longer items
-    here_exact = closure_exact g longer chart.sets first items before_exact (of_word.count ∙ sym longer_is) closure
+    here_exact = closure_exact g longer chart first items before_exact (of_word.count ∙ sym longer_is) closure
         (λ x there. elim (grows.only x there) [
           | inl nowhere ↦ absurd (omega (arith, nowhere.1))
           | inr (y, among, after, is) ↦ subst (λ (z : Item). IsItem g longer z) (sym is)
@@ -79,10 +79,10 @@ module _ (g : GrammarDefinition) where
             all y ((exact y).1 (subst (λ (w : List ℕ). IsItem g w y) (sym both.0) item)) (after ∙ ap (λ (b : LetterType). Some (Letter b)) same))
         (λ e. absurd (omega (arith, ap length e, longer_is)))
 
-    pub chart_grows : (next : ChartDefinition) → next.sets ≡ chart.sets ++ items ∷ [] → IsChartOf g longer next
+    pub chart_grows : (next : List (List Item)) → next ≡ chart ++ items ∷ [] → HasItems g longer next
     chart_grows next is = record {
-      count = ap length is ∙ omega (arith, length-append chart.sets (items ∷ []), of_word.count, longer_is);
-      each = λ i l at. elim (slice_get-push_cases chart.sets items i l (ap (λ (sets : List (List Item)). slice_get sets i) (sym is) ∙ at)) [
+      count = ap length is ∙ omega (arith, length-append chart (items ∷ []), of_word.count, longer_is);
+      each = λ i l at. elim (slice_get-push_cases chart items i l (ap (λ (sets : List (List Item)). slice_get sets i) (sym is) ∙ at)) [
         | inl before ↦ before_exact i l before
         | inr (place, same) ↦
             let whole : take i longer ≡ longer = take_all i longer (omega (arith, place, of_word.count, longer_is)) in
@@ -92,24 +92,24 @@ module _ (g : GrammarDefinition) where
 
 -- the same, by the names that the code has for what it is made of
 module _ (g : GrammarDefinition) where
-  pub begun_chart : (start : ℕ) (sets : List (List Item)) (none first items : List Item) (chart : ChartDefinition) → start ≡ g.start → sets ≡ [] → none ≡ []
-      → Grows (IsPrediction g 0 start) none first → ArePredicted g 0 start first → IsClosure g sets first items → chart.sets ≡ sets ++ items ∷ [] → IsChartOf g [] chart
+  pub begun_chart : (start : ℕ) (sets : List (List Item)) (none first items : List Item) (chart : List (List Item)) → start ≡ g.start → sets ≡ [] → none ≡ []
+      → Grows (IsPrediction g 0 start) none first → ArePredicted g 0 start first → IsClosure g sets first items → chart ≡ sets ++ items ∷ [] → HasItems g [] chart
   begun_chart start sets none first items chart start_is sets_are none_is grows all closure chart_is =
       let predictions : Grows (IsPrediction g 0 g.start) [] first =
           subst (λ (l : List Item). Grows (IsPrediction g 0 g.start) l first) none_is (subst (λ (n : ℕ). Grows (IsPrediction g 0 n) none first) start_is grows) in
       let each : ArePredicted g 0 g.start first = subst (λ (n : ℕ). ArePredicted g 0 n first) start_is all in
       let closed : IsClosure g [] first items = subst (λ (l : List (List Item)). IsClosure g l first items) sets_are closure in
-      let one : chart.sets ≡ items ∷ [] = chart_is ∙ ap (λ (l : List (List Item)). l ++ items ∷ []) sets_are in
+      let one : chart ≡ items ∷ [] = chart_is ∙ ap (λ (l : List (List Item)). l ++ items ∷ []) sets_are in
       let of_word = chart_begins g first items predictions each closed in
       record {
         count = ap length one ∙ of_word.count;
         each = subst (λ (l : List (List Item)). AreItemSets g [] l) (sym one) of_word.each;
       }
 
-  pub grown_chart : (word : List ℕ) (chart : ChartDefinition) (letter : LetterType) (sets copies : List (List Item)) (last none first items : List Item) (next : ChartDefinition) → IsChartOf g word chart
-      → sets ≡ chart.sets → copies ≡ sets → ((l : List Item) → slice_get chart.sets (length chart.sets - 1) ≡ Some l → last ≡ l) → none ≡ []
-      → Grows (IsAdvancedOver g last (Letter letter)) none first → AreAdvancedOver g last (Letter letter) first → IsClosure g sets first items → next.sets ≡ copies ++ items ∷ []
-      → IsChartOf g (word ++ letter.0 ∷ []) next
+  pub grown_chart : (word : List ℕ) (chart : List (List Item)) (letter : LetterType) (sets copies : List (List Item)) (last none first items : List Item) (next : List (List Item)) → HasItems g word chart
+      → sets ≡ chart → copies ≡ sets → ((l : List Item) → slice_get chart (length chart - 1) ≡ Some l → last ≡ l) → none ≡ []
+      → Grows (IsAdvancedOver g last (Letter letter)) none first → AreAdvancedOver g last (Letter letter) first → IsClosure g sets first items → next ≡ copies ++ items ∷ []
+      → HasItems g (word ++ letter.0 ∷ []) next
   grown_chart word chart letter sets copies last none first items next of_word sets_are copies_are last_is none_is grows all closure next_is =
       let end = last_items g word chart of_word in
       let exact : IsItemSet g word last = subst (λ (l : List Item). IsItemSet g word l) (sym (last_is end.0 end.1)) end.2 in

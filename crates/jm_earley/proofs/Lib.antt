@@ -12,3 +12,4 @@ pub mod DeadLemmas
 pub mod FutureLemmas
 pub mod AnswerLemmas
 pub mod HopelessLemmas
+pub mod JoinLemmas

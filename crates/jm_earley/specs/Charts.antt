@@ -1,21 +1,26 @@
 -- What charts are, and which word a chart stands for.
-use Rattle.std.specs.Prelude.{ℕ, ◌≡◌, ◌<◌, ◌+◌, ◌↔◌, List, length, take, All, Contains, Some, IsBitSet, slice_get}
+use Rattle.std.specs.Prelude.{ℕ, ◌≡◌, ◌<◌, ◌+◌, ◌++◌, ◌∷◌, [], ◌↔◌, List, length, take, All, Contains, Some, IsBitSet, slice_get}
 use Rattle.jm_grammar.specs.declared.grammar.GrammarSymbol.{GrammarSymbol}
 use Rattle.jm_grammar.specs.declared.grammar.GrammarSymbol.TheVariants.{Letter, Nonterminal}
 use Rattle.jm_grammar.specs.declared.grammar.Production.{Production}
 use Rattle.jm_grammar.specs.Grammars.{GrammarDefinition}
 use Rattle.jm_grammar.specs.Derivations.{Derives, DerivesOf, DerivesSome, IsIn}
 use Rattle.jm_earley.specs.declared.item.Item.{Item}
+use Rattle.jm_earley.specs.declared.letter_set.LetterSet.{LetterSet}
+use Rattle.jm_earley.specs.declared.future.Futures.{Futures}
 use Rattle.jm_earley.specs.Items.{IsItemSet}
+use Rattle.jm_earley.specs.Places.{AreFutures, AreEarlier}
 
--- A grammar, and the set of parameters of each letter.
+-- A grammar, the set of parameters of each letter, and the sets of letters for which a chart keeps what may follow.
 pub record ChartsDefinition : Type 0 where
   pub grammar : GrammarDefinition
   pub params : List ℕ
+  pub letter_sets : List LetterSet
 
--- The items of each place.
+-- The items of each place, and what may follow there.
 pub record ChartDefinition : Type 0 where
   pub sets : List (List Item)
+  pub futures : List Futures
 
 -- a letter is below this number
 abbrev pub IsBelow : ℕ → GrammarSymbol → Type 0
@@ -37,7 +42,24 @@ pub record IsReduced (g : GrammarDefinition) (params : List ℕ) (nullable : ℕ
 abbrev pub AreItemSets : GrammarDefinition → List ℕ → List (List Item) → Type 0
 AreItemSets g word sets = (i : ℕ) (items : List Item) → slice_get sets i ≡ Some items → IsItemSet g (take i word) items
 
--- The chart stands for the word: it has the items of each place of it.
-pub record IsChartOf (g : GrammarDefinition) (word : List ℕ) (chart : ChartDefinition) : Type 0 where
-  pub count : length chart.sets ≡ length word + 1
-  pub each : AreItemSets g word chart.sets
+-- there are the items of each place of the word
+pub record HasItems (g : GrammarDefinition) (word : List ℕ) (sets : List (List Item)) : Type 0 where
+  pub count : length sets ≡ length word + 1
+  pub each : AreItemSets g word sets
+
+-- there is what may follow at each place of the word
+pub record HasFutures (g : GrammarDefinition) (letter_sets : List LetterSet) (word : List ℕ) (futures : List Futures) : Type 0 where
+  pub count : length futures ≡ length word + 1
+  pub each : (i : ℕ) (f : Futures) → slice_get futures i ≡ Some f → AreFutures g letter_sets (take i word) f
+
+-- The chart stands for the word: it has the items of each place of it, and what may follow there.
+pub record IsChartOf (charts : ChartsDefinition) (word : List ℕ) (chart : ChartDefinition) : Type 0 where
+  pub items : HasItems charts.grammar word chart.sets
+  pub futures : HasFutures charts.grammar charts.letter_sets word chart.futures
+
+-- The chart has one place more, with these items, and with what may follow where these are its items.
+pub record IsWithPlace (charts : ChartsDefinition) (sets : List (List Item)) (futures : List Futures) (items : List Item) (chart : ChartDefinition) : Type 0 where
+  pub items_are : chart.sets ≡ sets ++ items ∷ []
+  pub future : Futures
+  pub futures_are : chart.futures ≡ futures ++ future ∷ []
+  pub follows : (word : List ℕ) → IsItemSet charts.grammar word items → AreEarlier charts.grammar charts.letter_sets word futures → AreFutures charts.grammar charts.letter_sets word future

@@ -1,10 +1,14 @@
-ghost use Rattle.std.specs.Prelude.{ℕ, ◌≡◌, ◌==◌, ◌<◌, ◌-◌, ◌↔◌, List, [], ◌∷◌, ◌++◌, Some, None, Any, IsTrue, IfSome, IfOk, map, length, slice_get, if◌then◌else◌};
+ghost use Rattle.std.specs.Prelude.{ℕ, ◌≡◌, ◌==◌, ◌<◌, ◌≤◌, ◌+◌, ◌-◌, ◌^◌, ◌↔◌, List, [], ◌∷◌, ◌++◌, Some, None, Any, IsTrue, IfSome, IfOk, map, length, slice_get, if◌then◌else◌};
 ghost use Rattle.jm_grammar.specs.declared.grammar.GrammarSymbol.{GrammarSymbol};
 ghost use Rattle.jm_grammar.specs.Grammars.{IsSmall, IsSmallSymbol, IsSmallProduction};
 ghost use Rattle.jm_grammar.specs.Derivations.{IsWord, Derives};
 ghost use Rattle.jm_earley.specs.Items.{symbol_after, finished_left, IsWhole};
-ghost use Rattle.jm_earley.specs.Charts.{AreBelow, IsChartOf};
+ghost use Rattle.jm_earley.specs.Charts.{AreBelow, IsChartOf, IsWithPlace};
+ghost use Rattle.jm_earley.specs.Futures.{IsHopeless};
+ghost use Rattle.jm_earley.specs.Places.{IsAliveFor};
 
+use crate::dead::DeadSets;
+use crate::future::{Futures, is_hopeless};
 use crate::item::Item;
 use crate::set::ItemSet;
 use crate::shared::Shared;
@@ -22,23 +26,27 @@ pub struct Charts {
     params: Vec<u8>,
     /// The nonterminals that spell the empty word: bit n stands for nonterminal n.
     nullable: u64,
+    /// The sets of letters that sets of dead parameters leave.
+    dead: DeadSets,
 }
 
 impl Model for Charts {
     ghost use Rattle.jm_earley.specs.Charts.{ChartsDefinition, IsReduced};
+    ghost use Rattle.jm_earley.specs.DeadSets.{AreDeadSets};
 
     ghost Value = { ChartsDefinition };
 
-    ghost view = { λ c. record { grammar = c.grammar; params = c.params.items } };
+    ghost view = { λ c. record { grammar = c.grammar; params = c.params.items; letter_sets = c.dead.sets.items } };
 
-    ghost invariant = { λ c. IsReduced c.grammar c.params.items c.nullable };
+    ghost invariant = { λ c. IsReduced c.grammar c.params.items c.nullable × AreDeadSets c.grammar.productions c.params.items c.dead };
 }
 
-/// The items of each place of a word. Copies share them. Contracts see it as its `ChartDefinition`, which stands for a word by
+/// The items of each place of a word, and what may follow there. Copies share them. Contracts see it as its `ChartDefinition`, which stands for a word by
 /// `IsChartOf`.
 #[derive(Drop)]
 pub struct Chart {
     sets: Shared<ItemSet>,
+    futures: Shared<Futures>,
 }
 
 impl Model for Chart {
@@ -47,7 +55,7 @@ impl Model for Chart {
 
     ghost Value = { ChartDefinition };
 
-    ghost view = { λ c. record { sets = c.sets } };
+    ghost view = { λ c. record { sets = c.sets; futures = c.futures } };
 
     ghost invariant = { λ c. (0 < length c.sets) × (length c.sets < 2 ^ 32) };
 }
@@ -62,24 +70,25 @@ impl Charts {
         let grammar = grammar.reduce()?;
         let params = masks(alloc, table)?;
         let nullable = grammar.productive(0);
+        let dead = DeadSets::new(alloc, &grammar, params.as_slice())?;
         Ok(Charts {
             grammar,
             params,
             nullable,
+            dead,
         })
     }
 
     /// The chart of the empty word.
     pub fn begin(&self) -> Result<Chart, NoMemory>
-        ensures { IfOk result (IsChartOf self.now.grammar []) }
+        ensures { IfOk result (IsChartOf self.now []) }
     {
         let alloc = *self.params.allocator();
-        let mut sets = Shared::new(alloc);
+        let sets = Shared::new(alloc);
         let mut first = ItemSet::new(alloc);
         self.begin_productions(&mut first, 0, self.grammar.start())?;
         let set = self.close(&sets, first)?;
-        sets.push(set)?;
-        Ok(Chart { sets })
+        self.with_place(sets, Shared::new(alloc), set)
     }
 
     /// A chart of the same words.
@@ -87,14 +96,14 @@ impl Charts {
         ensures { IfOk result (λ copy. copy ≡ chart.now) }
     {
         let sets = chart.sets.copy()?;
-        Ok(Chart { sets })
+        let futures = chart.futures.copy()?;
+        Ok(Chart { sets, futures })
     }
 
     /// The chart of a word that has one letter more.
     pub fn next(&self, chart: &Chart, letter: Letter) -> Result<Chart, NoMemory>
         requires { letter.0 < length self.now.params }
-        ensures { (word : List ℕ) → IsChartOf self.now.grammar word chart.now →
-            IfOk result (IsChartOf self.now.grammar (word ++ letter.0 ∷ [])) }
+        ensures { (word : List ℕ) → IsChartOf self.now word chart.now → IfOk result (IsChartOf self.now (word ++ letter.0 ∷ [])) }
     {
         let place = chart.sets.len();
         if place == u32::MAX as usize {
@@ -103,20 +112,51 @@ impl Charts {
         let mut first = ItemSet::new(*self.params.allocator());
         self.advance_over(&mut first, chart.last(), GrammarSymbol::Letter(letter))?;
         let set = self.close(&chart.sets, first)?;
-        let mut sets = chart.sets.copy()?;
-        sets.push(set)?;
-        Ok(Chart { sets })
+        let sets = chart.sets.copy()?;
+        let futures = chart.futures.copy()?;
+        self.with_place(sets, futures, set)
     }
 
     /// Whether the word is in the language of the grammar.
     pub fn matches(&self, chart: &Chart) -> bool
-        ensures { (word : List ℕ) → IsChartOf self.now.grammar word chart.now → IsTrue result ↔ IsWord self.now.grammar word }
+        ensures { (word : List ℕ) → IsChartOf self.now word chart.now → IsTrue result ↔ IsWord self.now.grammar word }
     {
         self.has_whole(chart.last())
+    }
+
+    /// Whether no word that begins with the word, itself included, is in the language of the grammar.
+    pub fn fails(&self, chart: &Chart) -> bool
+        ensures { (word : List ℕ) → IsChartOf self.now word chart.now → IsTrue result ↔ IsHopeless self.now.grammar word }
+    {
+        let _ = &self.grammar;
+        is_hopeless(chart.last())
+    }
+
+    /// Whether some word of one or more letters without a dead parameter, put after the word, is in the language of the grammar.
+    /// Bit k of the set stands for parameter k.
+    pub fn alive(&self, chart: &Chart, dead: u8) -> bool
+        ensures { (word : List ℕ) → IsChartOf self.now word chart.now → IsTrue result ↔ IsAliveFor self.now.grammar self.now.params dead word }
+    {
+        match chart.futures.last() {
+            Some(futures) => futures.is_alive(&self.dead, dead),
+            None => false,
+        }
     }
 }
 
 impl Charts {
+    /// The chart with one place more, which has these items.
+    fn with_place(&self, mut sets: Shared<ItemSet>, mut futures: Shared<Futures>, set: ItemSet) -> Result<Chart, NoMemory>
+        requires { length sets + 1 < 2 ^ 32 }
+        ensures { IfOk result (IsWithPlace self.now sets futures set) }
+    {
+        let alloc = *self.params.allocator();
+        let future = Futures::new(alloc, &self.grammar, &self.dead, set.as_slice(), &futures)?;
+        sets.push(set)?;
+        futures.push(future)?;
+        Ok(Chart { sets, futures })
+    }
+
     pub(crate) fn productions(&self) -> &[Production]
         ensures value { result.now ≡ self.now.grammar.productions }
         ensures small { IsSmall self.now.grammar.productions self.now.grammar.start }
@@ -204,7 +244,8 @@ fn left_at_end(production: &Production, place: u8) -> Option<u8>
 
 /// The parameters of each event.
 fn masks(alloc: Global, table: &EventTable) -> Result<Vec<u8>, NoMemory>
-    ensures { IfOk result (λ masks. masks.items ≡ map (λ e. e.mask) table.now.events) }
+    ensures value { IfOk result (λ masks. masks.items ≡ map (λ e. e.mask) table.now.events) }
+    ensures few { length table.now.events ≤ 32 }
 {
     let mut masks = Vec::new(alloc);
     for letter in 0..table.letters() {

@@ -1,4 +1,4 @@
-ghost use Rattle.std.specs.Prelude.{◌≡◌, ◌<◌, [], ◌∷◌, ◌++◌, Some, None, IfOk, OnOk, MatchOption, length, slice_get};
+ghost use Rattle.std.specs.Prelude.{◌≡◌, ◌<◌, ◌-◌, [], ◌∷◌, ◌++◌, Some, None, IfOk, OnOk, MatchOption, length, slice_get};
 
 use jm_model::NoMemory;
 use std::alloc::Global;
@@ -44,6 +44,16 @@ impl<T: Drop> Shared<T> {
             Some(&self.items[place])
         } else {
             None
+        }
+    }
+
+    /// The last item.
+    pub(crate) fn last(&self) -> Option<&T>
+        ensures { MatchOption result (slice_get self.now (length self.now - 1) ≡ None) (λ item. slice_get self.now (length self.now - 1) ≡ Some item.now) }
+    {
+        match self.items.len() {
+            0 => None,
+            len => self.get(len - 1),
         }
     }
 
