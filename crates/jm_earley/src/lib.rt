@@ -21,3 +21,5 @@ pub use chart::{Chart, Charts};
 
 #[cfg(test)]
 mod tests;
+#[cfg(test)]
+mod future_tests;

@@ -66,7 +66,7 @@ fn are_below(productions: &[Production], letters: u8) -> bool
         .all(|production| are_symbols_below(production.symbols.as_slice(), letters))
 }
 
-fn charts_of(alloc: Global, grammar: &str, table: &EventTable) -> Result<Charts, Fail> {
+pub(crate) fn charts_of(alloc: Global, grammar: &str, table: &EventTable) -> Result<Charts, Fail> {
     let Some(grammar) = Grammar::of(productions_of(alloc, grammar)?, 0) else {
         return Err(Fail::from("too large"));
     };
@@ -80,7 +80,7 @@ fn charts_of(alloc: Global, grammar: &str, table: &EventTable) -> Result<Charts,
 }
 
 /// The chart of a word.
-fn chart_of(charts: &Charts, word: &[u8], letters: u8) -> Result<Chart, NoMemory>
+pub(crate) fn chart_of(charts: &Charts, word: &[u8], letters: u8) -> Result<Chart, NoMemory>
     requires { letters ≤ length charts.now.params }
 {
     let mut chart = charts.begin()?;
