@@ -1,12 +1,11 @@
 -- What a place keeps, for each set of letters.
-use Rattle.std.proofs.Common.{◌≡◌, ◌≢◌, ◌⊎◌, ◌↔◌, ℕ, zero, suc, ◌<◌, ◌≤◌, ◌+◌, Bool, true, false, List, [], ◌∷◌, ◌++◌, length, take, All, Some, None, Option, slice_get, refl, sym, ap, subst, ◌∙◌, inl, inr, arith}
+use Rattle.std.proofs.Common.{◌≡◌, ◌↔◌, ℕ, zero, suc, ◌<◌, ◌+◌, List, [], ◌∷◌, ◌++◌, length, All, Some, None, Option, slice_get, refl, sym, ap, subst, ◌∙◌, inl, inr, arith}
 use Rattle.std.specs.Prelude.{IsBitSet, IsTrue, unwrap_or}
 use Rattle.std.specs.Option.{option_and_then}
 use Rattle.std.proofs.lemmas.Bool.{cases_eq}
 use Rattle.std.proofs.lemmas.Option.{slice_get-get_or, slice_get_within}
-use Rattle.std.proofs.lemmas.List.Elements.{All-weaker, All-contains}
+use Rattle.std.proofs.lemmas.List.Elements.{All-weaker}
 use Rattle.jm_grammar.specs.Grammars.{GrammarDefinition}
-use Rattle.jm_grammar.specs.Derivations.{IsWord}
 use Rattle.jm_earley.specs.declared.item.Item.{Item}
 use Rattle.jm_earley.specs.declared.letter_set.LetterSet.{LetterSet}
 use Rattle.jm_earley.specs.declared.dead.DeadSets.{DeadSets}
@@ -16,7 +15,6 @@ use Rattle.jm_earley.specs.Items.{IsItemSet}
 use Rattle.jm_earley.specs.Futures.{IsAlive}
 use Rattle.jm_earley.specs.LetterSets.{IsExact}
 use Rattle.jm_earley.specs.DeadSets.{IsAvailable, IsLeft, AreDeadSets}
-use Rattle.jm_earley.specs.Links.{future_at}
 use Rattle.jm_earley.specs.Places.{IsFuture, AreFutures, AreEarlier, AreEarlierOf, IsFutureOf, IsAliveFor}
 use Rattle.jm_earley.proofs.DeadLemmas.{slice_get_push, slice_get_kept}
 
@@ -33,9 +31,11 @@ module _ (g : GrammarDefinition) (sets : List LetterSet) (items : List Item) (ea
       → IsFutureOf g set n items earlier f → AreFuturesOf g sets items earlier (futures ++ f ∷ []) (n + 1)
   one_more_future futures n set f count each here there number other lt at = elim (cases_eq number n) [
     | inl e ↦
-        let same : set ≡ other = same_some set other (slice_get sets n) here (ap (λ (k : ℕ). slice_get sets k) (sym e) ∙ at) in
-        (f, slice_get_push futures f number (omega (arith, count, e)),
-          subst (λ (k : ℕ). IsFutureOf g other k items earlier f) (sym e) (subst (λ (s : LetterSet). IsFutureOf g s n items earlier f) same there))
+        let same : set ≡ other = same_some set other (slice_get sets n) here (ap (λ (k : ℕ). slice_get sets k) (sym e) ∙ at) in (
+          f,
+          slice_get_push futures f number (omega (arith, count, e)),
+          subst (λ (k : ℕ). IsFutureOf g other k items earlier f) (sym e) (subst (λ (s : LetterSet). IsFutureOf g s n items earlier f) same there),
+        )
     | inr differs ↦
         let old = each number other (omega (arith, lt, differs)) at in
         (old.0, slice_get_kept futures (f ∷ []) number old.0 old.1, old.2)
@@ -45,9 +45,9 @@ module _ (g : GrammarDefinition) (sets : List LetterSet) (items : List Item) (ea
   earlier_of word are number set at = record {
     count = are.count;
     each = λ place lt.
-      let some = some_at earlier place (omega (arith, are.count, lt)) in
-      let f = are.each place some.0 some.1 number set at in
-      (f.0, ap (λ (o : Option Futures). option_and_then (λ (x : Futures). slice_get x.futures.items number) o) some.1 ∙ f.1, f.2);
+        let some = some_at earlier place (omega (arith, are.count, lt)) in
+        let f = are.each place some.0 some.1 number set at in
+        (f.0, ap (λ (o : Option Futures). option_and_then (λ (x : Futures). slice_get x.futures.items number) o) some.1 ∙ f.1, f.2);
   }
     where
       some_at : (xs : List Futures) (k : ℕ) → k < length xs → (x : Futures) × (slice_get xs k ≡ Some x)
@@ -97,8 +97,7 @@ module _ (g : GrammarDefinition) (params word : List ℕ) (sets : DeadSets) (fut
   alive_for number f at e =
       let same : number_is.0 ≡ number = same_some number_is.0 number (slice_get sets.numbers.items dead) number_is.1 at in
       let there : future_is.0 ≡ f = same_some future_is.0 f (slice_get futures.futures.items number) (ap (λ (k : ℕ). slice_get futures.futures.items k) (sym same) ∙ future_is.1) e in
-      let alive : IsTrue f.alive ↔ IsAlive g number_is.2.set.letters word = subst (λ (x : Future). IsTrue x.alive ↔ IsAlive g number_is.2.set.letters word) there future_is.2.alive in
-      (
+      let alive : IsTrue f.alive ↔ IsAlive g number_is.2.set.letters word = subst (λ (x : Future). IsTrue x.alive ↔ IsAlive g number_is.2.set.letters word) there future_is.2.alive in (
         λ h. let a = alive.0 h in (a.0, (letters_same a.0).0 a.1, a.2, a.3),
         λ h. alive.1 (h.0, (letters_same h.0).1 h.1, h.2, h.3),
       )

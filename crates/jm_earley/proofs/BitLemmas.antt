@@ -1,10 +1,9 @@
 -- Sets of nonterminals as bits of a number.
-use Rattle.std.proofs.Common.{◌≡◌, ◌≢◌, ◌⊎◌, ◌↔◌, ℕ, zero, suc, ◌<◌, ◌≤◌, ◌==◌, ◌*◌, ◌/◌, ◌%◌, ◌^◌, Bool, true, false, not, cond, bit_and, bit_or, min, max, refl, sym, ap, subst, ◌∙◌, inl, inr, arith}
-use Rattle.std.specs.Prelude.{IsBitSet, nat_lt}
+use Rattle.std.proofs.Common.{◌≡◌, ◌≢◌, ◌⊎◌, ℕ, zero, suc, ◌<◌, ◌≤◌, ◌*◌, ◌/◌, ◌%◌, ◌^◌, true, bit_and, bit_or, min, sym, ◌∙◌, inl, inr, arith}
+use Rattle.std.specs.Prelude.{IsBitSet}
 use Rattle.std.specs.Int.{bit_at, w64}
-use Rattle.std.proofs.lemmas.Bool.{cases_Bool, cases_eq, cases_lt, eqb-true, eqb-false, eq-eqb, ne_eqb, ltb-true, lt-ltb, le-ltb, and_parts, and_from, not-true, not_from_false}
+use Rattle.std.proofs.lemmas.Bool.{cases_eq, cases_lt, eqb-true, eqb-false, eq-eqb, ne_eqb, lt-ltb, le-ltb, and_parts, and_from, not-true, not_from_false}
 use Rattle.std.proofs.lemmas.Nat.Bits.{bit_at_or, bit_at_and, bit_at-zero, bit_at_set_same, bit_at_set_other, bit_at-lt, bit_at_lowest, bit_at-suc}
-use Rattle.jm_grammar.specs.Rounds.{has_bit}
 use Rattle.jm_grammar.proofs.RoundLemmas.{bit_of, of_bit}
 use Rattle.jm_earley.specs.Rules.{only, has, meets}
 

@@ -1,5 +1,5 @@
 -- The letters that a set of dead parameters leaves.
-use Rattle.std.proofs.Common.{◌≡◌, ◌⊎◌, ◌↔◌, ℕ, zero, suc, ◌∷◌, [], ◌<◌, ◌≤◌, ◌+◌, ◌*◌, ◌%◌, ◌^◌, bit_or, List, ◌++◌, length, All, Some, slice_get, refl, sym, ap, subst, ◌∙◌, inl, inr, arith}
+use Rattle.std.proofs.Common.{◌≡◌, ◌↔◌, ℕ, zero, suc, ◌∷◌, [], ◌<◌, ◌+◌, ◌*◌, ◌%◌, ◌^◌, bit_or, List, ◌++◌, length, Some, slice_get, refl, sym, subst, ◌∙◌, inl, inr, arith}
 use Rattle.std.specs.Prelude.{IsBitSet}
 use Rattle.std.specs.Int.{w32, bit_at}
 use Rattle.std.proofs.lemmas.Bool.{cases_eq}
@@ -16,8 +16,7 @@ module _ (P : ℕ → Type 0) (letters n : ℕ) (before : (k : ℕ) → IsBitSet
       λ _. subst (λ (m : ℕ). IsBitSet (bit_or letters (1 * 2 ^ n % 2 ^ 32)) m) (sym e) (from_one _ n (bit_at_set_same w32 letters n lt)),
     )
     | inr differs ↦
-        let same : bit_at (bit_or letters (1 * 2 ^ n % 2 ^ 32)) k ≡ bit_at letters k = bit_at_set_other w32 letters n lt k differs in
-        (
+        let same : bit_at (bit_or letters (1 * 2 ^ n % 2 ^ 32)) k ≡ bit_at letters k = bit_at_set_other w32 letters n lt k differs in (
           λ h. let old = (before k).0 (from_one letters k (sym same ∙ is_one _ k h)) in (omega (arith, old.0), old.1),
           λ h. from_one _ k (same ∙ is_one letters k ((before k).1 (omega (arith, h.0, differs), h.1))),
         )

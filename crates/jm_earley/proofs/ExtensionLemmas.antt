@@ -1,5 +1,5 @@
 -- A word that begins with another passes an item of it: the trees are cut between the two.
-use Rattle.std.proofs.Common.{◌≡◌, ◌⊎◌, ◌↔◌, ℕ, ◌<◌, ◌≤◌, ◌+◌, List, [], ◌∷◌, ◌++◌, length, Contains, Some, None, take, drop, slice_get, refl, sym, ap, subst, ◌∙◌, inl, inr, arith, zero, suc, append_assoc, append-nil, length-append, take-append-drop}
+use Rattle.std.proofs.Common.{◌≡◌, ◌⊎◌, ◌↔◌, ℕ, ◌≤◌, List, [], ◌∷◌, ◌++◌, length, Contains, Some, take, drop, slice_get, refl, sym, ap, subst, ◌∙◌, inl, inr, arith, zero, suc, append_assoc, append-nil, length-append, take-append-drop}
 use Rattle.std.proofs.lemmas.Option.{slice_get-get_or}
 use Rattle.std.proofs.lemmas.List.{take_at, drop_at}
 use Rattle.jm_grammar.specs.declared.grammar.GrammarSymbol.{GrammarSymbol}
@@ -43,7 +43,7 @@ module _ (g : GrammarDefinition) where
   closes at_end inner tree = subst (λ (l : List ℕ). Derives ps g.start l) (sym (append-nil inner)) tree
   closes (within before spelled word behind follows rest p front n back left there is trees trees' word_is rest_is) inner tree =
       let symbols : Trees ps p.symbols (spelled ++ (inner ++ behind)) = subst (λ (s : List GrammarSymbol). Trees ps s (spelled ++ (inner ++ behind))) (sym is)
-          (trees_append ps (Nonterminal n ∷ back) (inner ++ behind) trees (trees_append ps back behind tree trees')) in
+      (trees_append ps (Nonterminal n ∷ back) (inner ++ behind) trees (trees_append ps back behind tree trees')) in
       let e : before ++ ((spelled ++ (inner ++ behind)) ++ follows) ≡ word ++ (inner ++ rest) = rw (word_is, rest_is) (simp append_assoc) in
       subst (λ (l : List ℕ). Derives ps g.start l) e (closes left (spelled ++ (inner ++ behind)) (whole p (spelled ++ (inner ++ behind)) there symbols))
 
@@ -87,15 +87,17 @@ module _ (g : GrammarDefinition) where
         origin = refl;
         awaited = rest_awaited rest;
         trees = subst (λ (s : List GrammarSymbol). Trees ps s v) taken trees;
-      } in
-      (item, record {
-        is_item = is_item;
-        behind = w;
-        follows = follows;
-        more_is = refl;
-        trees = subst (λ (s : List GrammarSymbol). Trees ps s w) dropped trees';
-        rest = rest;
-      })
+      } in (
+        item,
+        record {
+          is_item = is_item;
+          behind = w;
+          follows = follows;
+          more_is = refl;
+          trees = subst (λ (s : List GrammarSymbol). Trees ps s w) dropped trees';
+          rest = rest;
+        },
+      )
 
   elsewhere : (word word' more more' : List ℕ) → word ≡ word' → more ≡ more' → IsFound word more → IsFound word' more'
   elsewhere word word' more more' e f h = subst (λ (m : List ℕ). IsFound word' m) f (subst (λ (l : List ℕ). IsFound l more) e h)

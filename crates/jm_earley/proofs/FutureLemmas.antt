@@ -1,9 +1,9 @@
 -- What the rules of a place's items add is what may follow there.
-use Rattle.std.proofs.Common.{◌≡◌, ◌≢◌, ◌⊎◌, ◌↔◌, ℕ, zero, suc, ◌<◌, ◌≤◌, ◌+◌, ◌==◌, Bool, true, false, ◌&&◌, ◌||◌, cond, List, [], ◌∷◌, ◌++◌, length, take, drop, Contains, All, Some, None, Option, map, slice_get, refl, sym, ap, subst, ◌∙◌, inl, inr, arith, append_assoc, append-nil, length-append, take-append-drop}
+use Rattle.std.proofs.Common.{◌≡◌, ◌≢◌, ◌⊎◌, ◌↔◌, ℕ, ◌<◌, ◌≤◌, ◌+◌, Bool, true, false, cond, List, [], ◌∷◌, ◌++◌, length, take, drop, Contains, All, Some, None, Option, map, slice_get, refl, sym, ap, subst, ◌∙◌, inl, inr, arith, append-nil, length-append, take-append-drop}
 use Rattle.std.specs.Prelude.{IsBitSet, unwrap_or}
 use Rattle.std.specs.List.{list_any}
 use Rattle.std.specs.Option.{option_and_then}
-use Rattle.std.proofs.lemmas.Bool.{cases_Bool, cases_lt, and_parts, and_from, or_cases as bool_cases, or_left, or_right, eqb-true, eq-eqb}
+use Rattle.std.proofs.lemmas.Bool.{cases_lt, and_parts, and_from, or_cases as bool_cases, or_left, or_right, eqb-true, eq-eqb}
 use Rattle.std.proofs.lemmas.Option.{slice_get-get_or, slice_get_past}
 use Rattle.std.proofs.lemmas.List.{take_at, drop_at}
 use Rattle.std.proofs.lemmas.List.Elements.{All-head, All-tail, All-append, All-contains, Contains-append_right}
@@ -19,15 +19,15 @@ use Rattle.jm_earley.specs.declared.link.Link.{Link}
 use Rattle.jm_earley.specs.declared.letter_set.LetterSet.{LetterSet}
 use Rattle.jm_earley.specs.declared.future.Future.{Future}
 use Rattle.jm_earley.specs.declared.future.Futures.{Futures}
-use Rattle.jm_earley.specs.Items.{IsAwaited, IsItem, IsItemSet}
+use Rattle.jm_earley.specs.Items.{IsItem, IsItemSet}
 use Rattle.jm_earley.specs.Futures.{IsRest, at_end, within, IsContinuation, CanEnd, CanGoOn, IsAlive}
-use Rattle.jm_earley.specs.Rules.{only, has, IsGained, at_once, later}
+use Rattle.jm_earley.specs.Rules.{IsGained, at_once, later}
 use Rattle.jm_earley.specs.LetterSets.{IsExact, can_spell, can_go_on}
 use Rattle.jm_earley.specs.Links.{link_from, link_in, link_of, future_at, ends_rule, more_rule, start_rule, ends_rules, more_rules, keeps_alive_in, keeps_alive}
 use Rattle.jm_earley.specs.Places.{IsFuture, AreEarlierOf}
 use Rattle.jm_earley.proofs.BitLemmas.{none_set, only_same, only_only, has_set, set_has}
 use Rattle.jm_earley.proofs.ExtensionLemmas.{rest_awaited, item_production, continued, found}
-use Rattle.jm_earley.proofs.SpellLemmas.{Contains-cons_cases, Contains-head, from_map, to_map, All-front, All-back, none_or_some, some_front, some_back, SpellLetters, can_spells, spells_can, can_goes_on, goes_on_can}
+use Rattle.jm_earley.proofs.SpellLemmas.{Contains-cons_cases, Contains-head, from_map, to_map, All-front, All-back, none_or_some, some_front, some_back, can_spells, spells_can, can_goes_on, goes_on_can}
 
 module _ (g : GrammarDefinition) (small : IsSmall g.productions g.start) (set : LetterSet) (exact : IsExact g.productions set)
     (word : List ℕ) (items : List Item) (all : IsItemSet g word items) (number : ℕ) (earlier : List Futures) (are : AreEarlierOf g set.letters number word earlier) where
@@ -444,10 +444,10 @@ module _ (g : GrammarDefinition) (small : IsSmall g.productions g.start) (set : 
       pub alive_exact : (list_any keeps items ≡ true) ↔ IsAlive g A word
       alive_exact = (
         λ h. let one = Any-from_list_any keeps items h in
-          keeps_alive_word one.1 ((all one.1).0 (one.0, one.2, one.3)) one.4,
+            keeps_alive_word one.1 ((all one.1).0 (one.0, one.2, one.3)) one.4,
         λ h. let there = found g word h.0 h.2 in
-          let inside = (all there.0).1 there.1.is_item in
-          list_any-from_Any keeps items (inside.0, there.0, inside.1, inside.2, word_keeps there.0 h.0 there.1 h.1 h.3),
+            let inside = (all there.0).1 there.1.is_item in
+            list_any-from_Any keeps items (inside.0, there.0, inside.1, inside.2, word_keeps there.0 h.0 there.1 h.1 h.3),
       )
 
   -- what the rules add is what may follow
@@ -459,7 +459,7 @@ module _ (g : GrammarDefinition) (small : IsSmall g.productions g.start) (set : 
   future_exact ends more alive ends_gained more_gained alive_is =
       let ends_are : (n : ℕ) → IsBitSet ends n ↔ CanEnd g A word n = λ n. (λ h. ends_sound ((ends_gained n).0 h), λ h. (ends_gained n).1 (ends_complete h.2 refl h.1)) in
       let more_are : (n : ℕ) → IsBitSet more n ↔ CanGoOn g A word n =
-          λ n. (λ h. more_sound ends ends_are ((more_gained n).0 h), λ h. (more_gained n).1 (more_complete ends ends_are h.2 refl h.1 h.3)) in
+      λ n. (λ h. more_sound ends ends_are ((more_gained n).0 h), λ h. (more_gained n).1 (more_complete ends ends_are h.2 refl h.1 h.3)) in
       record {
         ends = ends_are;
         more = more_are;

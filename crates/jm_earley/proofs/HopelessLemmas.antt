@@ -1,17 +1,17 @@
 -- In a reduced grammar each item goes on to a word.
-use Rattle.std.proofs.Common.{◌≡◌, ◌⊎◌, ◌↔◌, ℕ, ◌<◌, Bool, true, false, List, [], ◌∷◌, ◌++◌, length, drop, take, Contains, refl, sym, ap, subst, ◌∙◌, inl, inr, arith, append_assoc, take-append-drop, ◌==◌}
+use Rattle.std.proofs.Common.{◌≡◌, ◌↔◌, ℕ, Bool, List, [], ◌∷◌, ◌++◌, length, drop, take, Contains, refl, sym, ap, subst, ◌∙◌, inr, arith, append_assoc, take-append-drop, ◌==◌}
 use Rattle.std.specs.Prelude.{IsTrue}
 use Rattle.std.proofs.lemmas.Bool.{eqb-true, eq-eqb}
-use Rattle.std.proofs.lemmas.List.Elements.{Contains-append_left, Contains-append_right}
+use Rattle.std.proofs.lemmas.List.Elements.{Contains-append_right}
 use Rattle.jm_grammar.specs.declared.grammar.GrammarSymbol.{GrammarSymbol}
 use Rattle.jm_grammar.specs.declared.grammar.GrammarSymbol.TheVariants.{Letter, Nonterminal}
 use Rattle.jm_grammar.specs.declared.grammar.Production.{Production}
 use Rattle.jm_grammar.specs.Grammars.{GrammarDefinition}
-use Rattle.jm_grammar.specs.Derivations.{Trees, no_tree, leaf, IsWord, IsIn, DerivesSome}
+use Rattle.jm_grammar.specs.Derivations.{Trees, no_tree, leaf, IsWord, IsIn}
 use Rattle.jm_grammar.proofs.RoundLemmas.{trees_append}
 use Rattle.jm_earley.specs.declared.item.Item.{Item}
 use Rattle.jm_earley.specs.Items.{IsAwaited, at_start, inside, IsItem, IsItemSet}
-use Rattle.jm_earley.specs.Futures.{IsRest, at_end, within, IsContinuation, IsHopeless}
+use Rattle.jm_earley.specs.Futures.{IsRest, at_end, within, IsHopeless}
 use Rattle.jm_earley.specs.Places.{AllSpell}
 use Rattle.jm_earley.proofs.ExtensionLemmas.{item_production, continued, found}
 use Rattle.jm_earley.proofs.SpellLemmas.{Contains-head}
@@ -58,8 +58,7 @@ module _ (g : GrammarDefinition) (reduced : AllSpell g) where
 
   pub hopeless_by : (b : Bool) (word : List ℕ) (items : List Item) → IsItemSet g word items → b ≡ (length items == 0) → IsTrue b ↔ IsHopeless g word
   hopeless_by b word items all is =
-      let h = hopeless word items all in
-      (
+      let h = hopeless word items all in (
         λ t. h.0 (nothing items (eqb-true (length items) 0 (sym is ∙ t))),
         λ k. is ∙ eq-eqb (length items) 0 (ap length (h.1 k)),
       )

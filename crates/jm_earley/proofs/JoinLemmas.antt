@@ -1,17 +1,12 @@
 -- A chart that has one place more, with what may follow there.
-use Rattle.std.proofs.Common.{ℕ, ◌≡◌, ◌<◌, ◌≤◌, ◌+◌, ◌-◌, ◌↔◌, List, [], ◌∷◌, ◌++◌, Some, None, length, take, slice_get, Contains, Bool, IsTrue, refl, sym, ap, subst, ◌∙◌, inl, inr, arith, length-append}
+use Rattle.std.proofs.Common.{ℕ, ◌≡◌, ◌-◌, List, [], ◌∷◌, ◌++◌, Some, None, length, take, slice_get, refl, sym, ap, subst, ◌∙◌, inl, inr, arith, length-append}
 use Rattle.std.proofs.lemmas.List.{take_all, take-append-le}
 use Rattle.std.proofs.lemmas.Option.{none-some, slice_get_within}
-use Rattle.jm_grammar.specs.Grammars.{GrammarDefinition}
 use Rattle.jm_earley.specs.declared.item.Item.{Item}
-use Rattle.jm_earley.specs.declared.dead.DeadSets.{DeadSets}
-use Rattle.jm_earley.specs.declared.letter_set.LetterSet.{LetterSet}
 use Rattle.jm_earley.specs.declared.future.Futures.{Futures}
 use Rattle.jm_earley.specs.Items.{IsItemSet}
-use Rattle.jm_earley.specs.Futures.{IsHopeless}
-use Rattle.jm_earley.specs.DeadSets.{AreDeadSets}
-use Rattle.jm_earley.specs.Places.{AreFutures, AreEarlier, IsAliveFor}
-use Rattle.jm_earley.specs.Charts.{ChartsDefinition, ChartDefinition, HasItems, HasFutures, IsChartOf, IsWithPlace}
+use Rattle.jm_earley.specs.Places.{AreFutures, AreEarlier}
+use Rattle.jm_earley.specs.Charts.{ChartsDefinition, ChartDefinition, HasItems, IsChartOf, IsWithPlace}
 use Rattle.jm_earley.proofs.PlaceLemmas.{place_of, slice_get-push_cases}
 use Rattle.jm_earley.proofs.DeadLemmas.{slice_get_push}
 
@@ -50,10 +45,10 @@ module _ (charts : ChartsDefinition) where
       let earlier : AreEarlier charts.grammar charts.letter_sets longer futures = record {
         count = ap length same ∙ omega (arith, of_word.futures.count, length-append word (letter ∷ []));
         each = λ i f at.
-          let at_old : slice_get old.futures i ≡ Some f = ap (λ (l : List Futures). slice_get l i) (sym same) ∙ at in
-          let within = slice_get_within old.futures i f at_old in
-          let front : take i longer ≡ take i word = take-append-le i word (letter ∷ []) (omega (arith, within, of_word.futures.count)) in
-          subst (λ (w : List ℕ). AreFutures charts.grammar charts.letter_sets w f) (sym front) (of_word.futures.each i f at_old);
+            let at_old : slice_get old.futures i ≡ Some f = ap (λ (l : List Futures). slice_get l i) (sym same) ∙ at in
+            let within = slice_get_within old.futures i f at_old in
+            let front : take i longer ≡ take i word = take-append-le i word (letter ∷ []) (omega (arith, within, of_word.futures.count)) in
+            subst (λ (w : List ℕ). AreFutures charts.grammar charts.letter_sets w f) (sym front) (of_word.futures.each i f at_old);
       } in
       with_place_is longer sets futures items chart has earlier place
 

@@ -1,7 +1,7 @@
 -- A set to which the rules add nothing more is what they add in all.
-use Rattle.std.proofs.Common.{◌≡◌, ◌⊎◌, ◌↔◌, ℕ, ◌≤◌, Bool, true, false, List, [], ◌∷◌, Contains, All, bit_or, cond, fold, refl, sym, ap, subst, ◌∙◌, inl, inr, arith}
+use Rattle.std.proofs.Common.{◌≡◌, ◌↔◌, ℕ, ◌≤◌, Bool, true, false, List, [], ◌∷◌, Contains, All, bit_or, cond, refl, sym, ap, subst, ◌∙◌, inl, inr, arith}
 use Rattle.std.specs.Prelude.{IsBitSet}
-use Rattle.std.proofs.lemmas.Bool.{cases_Bool, or_cases as bool_cases, or_left, or_right}
+use Rattle.std.proofs.lemmas.Bool.{or_cases as bool_cases, or_left, or_right}
 use Rattle.std.proofs.lemmas.Nat.{le_or_l}
 use Rattle.std.proofs.lemmas.List.Elements.{All-nil, All-cons, All-head, All-tail, All-contains, All-contains_itself}
 use Rattle.jm_earley.specs.declared.rule.Rule.{Rule}

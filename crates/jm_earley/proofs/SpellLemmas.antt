@@ -1,8 +1,7 @@
 -- Which symbols spell words of some letters, and which spell words of one or more of them.
-use Rattle.std.proofs.Common.{◌≡◌, ◌≢◌, ◌⊎◌, ◌↔◌, ℕ, zero, suc, ◌<◌, ◌≤◌, ◌^◌, Bool, true, false, ◌&&◌, ◌||◌, cond, List, [], ◌∷◌, ◌++◌, length, Contains, All, map, bit_or, fold, refl, sym, ap, subst, ◌∙◌, inl, inr, arith, append_assoc, append-nil}
-use Rattle.std.specs.Prelude.{IsBitSet, nat_lt}
-use Rattle.std.specs.List.{list_all, list_any}
-use Rattle.std.proofs.lemmas.Bool.{cases_Bool, and_parts, and_from, or_cases as bool_cases, or_left, or_right, lt-ltb}
+use Rattle.std.proofs.Common.{◌≡◌, ◌≢◌, ◌⊎◌, ◌↔◌, ℕ, ◌<◌, Bool, true, false, cond, List, [], ◌∷◌, ◌++◌, Contains, All, map, bit_or, fold, refl, sym, ap, subst, ◌∙◌, inl, inr, arith, append-nil}
+use Rattle.std.specs.Prelude.{IsBitSet}
+use Rattle.std.proofs.lemmas.Bool.{and_parts, and_from, or_cases as bool_cases, or_left, or_right, lt-ltb}
 use Rattle.std.proofs.lemmas.List.Elements.{All-nil, All-cons, All-head, All-tail, All-append, All-contains, Contains-append_right, Contains-append_cases, Contains-push_cases}
 use Rattle.jm_model.specs.declared.step.Letter.{Letter as LetterType}
 use Rattle.jm_grammar.specs.declared.grammar.GrammarSymbol.{GrammarSymbol}
@@ -10,13 +9,12 @@ use Rattle.jm_grammar.specs.declared.grammar.GrammarSymbol.TheVariants.{Letter, 
 use Rattle.jm_grammar.specs.declared.grammar.Production.{Production}
 use Rattle.jm_grammar.specs.Grammars.{IsSmallSymbol, IsSmallProduction}
 use Rattle.jm_grammar.specs.Derivations.{Trees, no_tree, leaf, node, Derives, DerivesOf}
-use Rattle.jm_grammar.specs.Rounds.{has_bit}
 use Rattle.jm_grammar.proofs.RoundLemmas.{bit_of, of_bit, trees_append, SpellAll}
 use Rattle.jm_earley.specs.declared.rule.Rule.{Rule}
 use Rattle.jm_earley.specs.declared.letter_set.LetterSet.{LetterSet}
-use Rattle.jm_earley.specs.Rules.{only, has, meets, IsGained, at_once, later}
+use Rattle.jm_earley.specs.Rules.{only, IsGained, at_once, later}
 use Rattle.jm_earley.specs.Futures.{DerivesLetters}
-use Rattle.jm_earley.specs.LetterSets.{IsExact, is_spelled, are_spelled, is_letter, has_letter, with_nonterminal, nonterminals, can_spell, can_go_on, spelling_rule}
+use Rattle.jm_earley.specs.LetterSets.{IsExact, are_spelled, has_letter, with_nonterminal, nonterminals, can_spell, can_go_on, spelling_rule}
 use Rattle.jm_earley.proofs.BitLemmas.{or_cases, or_l, or_r, none_set, meets_some, some_meets, only_same, only_only, has_set, set_has}
 
 -- ---- lists

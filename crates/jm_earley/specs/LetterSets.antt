@@ -1,10 +1,10 @@
 -- Which symbols spell words of some letters.
-use Rattle.std.specs.Prelude.{ℕ, ◌≡◌, ◌≢◌, ◌↔◌, ◌&&◌, ◌||◌, nat_lt, Bool, true, false, List, [], All, IsBitSet, bit_or, fold, map, if◌then◌else◌}
+use Rattle.std.specs.Prelude.{ℕ, ◌↔◌, ◌&&◌, ◌||◌, nat_lt, Bool, true, false, List, IsBitSet, bit_or, fold, if◌then◌else◌}
 use Rattle.std.specs.List.{list_all, list_any}
 use Rattle.jm_grammar.specs.declared.grammar.GrammarSymbol.{GrammarSymbol}
 use Rattle.jm_grammar.specs.declared.grammar.GrammarSymbol.TheVariants.{Letter, Nonterminal}
 use Rattle.jm_grammar.specs.declared.grammar.Production.{Production}
-use Rattle.jm_grammar.specs.Derivations.{Derives, DerivesOf}
+use Rattle.jm_grammar.specs.Derivations.{DerivesOf}
 use Rattle.jm_grammar.specs.Rounds.{has_bit}
 use Rattle.jm_earley.specs.declared.rule.Rule.{Rule}
 use Rattle.jm_earley.specs.declared.letter_set.LetterSet.{LetterSet}

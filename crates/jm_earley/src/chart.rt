@@ -146,7 +146,12 @@ impl Charts {
 
 impl Charts {
     /// The chart with one place more, which has these items.
-    fn with_place(&self, mut sets: Shared<ItemSet>, mut futures: Shared<Futures>, set: ItemSet) -> Result<Chart, NoMemory>
+    fn with_place(
+        &self,
+        mut sets: Shared<ItemSet>,
+        mut futures: Shared<Futures>,
+        set: ItemSet,
+    ) -> Result<Chart, NoMemory>
         requires { length sets + 1 < 2 ^ 32 }
         ensures { IfOk result (IsWithPlace self.now sets futures set) }
     {

@@ -12,8 +12,8 @@ ghost use Rattle.jm_earley.specs.Places.{AllSpell, AreEarlier, AreFutures, IsFut
 use crate::dead::DeadSets;
 use crate::item::Item;
 use crate::letter_set::LetterSet;
-use crate::link::{behind, link_of, Link};
-use crate::rule::{gained, has, only, Rule};
+use crate::link::{Link, behind, link_of};
+use crate::rule::{Rule, gained, has, only};
 use crate::shared::Shared;
 use jm_grammar::{Grammar, Production};
 use jm_model::NoMemory;
@@ -36,7 +36,13 @@ pub(crate) struct Futures {
 
 impl Futures {
     /// What may follow where these are the items, and what may follow at each earlier place.
-    pub(crate) fn new(alloc: Global, grammar: &Grammar, sets: &DeadSets, items: &[Item], earlier: &Shared<Futures>) -> Result<Futures, NoMemory>
+    pub(crate) fn new(
+        alloc: Global,
+        grammar: &Grammar,
+        sets: &DeadSets,
+        items: &[Item],
+        earlier: &Shared<Futures>,
+    ) -> Result<Futures, NoMemory>
         ensures { IfOk result (λ futures. All (IsExact grammar.now.productions) sets.now.sets.items → (word : List ℕ) → IsItemSet grammar.now word items.now
             → AreEarlier grammar.now sets.now.sets.items word earlier.now → AreFutures grammar.now sets.now.sets.items word futures) }
     {
@@ -154,12 +160,7 @@ fn start_rule(start: u8, earlier: &Shared<Futures>) -> Rule
 }
 
 /// Whether the letters of the set may go on behind the item.
-fn keeps_alive(
-    productions: &[Production],
-    set: LetterSet,
-    there: Future,
-    item: Item,
-) -> bool
+fn keeps_alive(productions: &[Production], set: LetterSet, there: Future, item: Item) -> bool
     ensures { result ≡ keeps_alive_in item set there (slice_get productions.now item.production) }
 {
     match productions.get(usize::from(item.production)) {
@@ -173,7 +174,15 @@ fn keeps_alive(
     }
 }
 
-fn ends_rules(alloc: Global, productions: &[Production], start: u8, set: LetterSet, number: usize, items: &[Item], earlier: &Shared<Futures>) -> Result<Vec<Rule>, NoMemory>
+fn ends_rules(
+    alloc: Global,
+    productions: &[Production],
+    start: u8,
+    set: LetterSet,
+    number: usize,
+    items: &[Item],
+    earlier: &Shared<Futures>,
+) -> Result<Vec<Rule>, NoMemory>
     ensures { IfOk result (λ rules. rules.items ≡ ends_rules productions.now start set number earlier.now items.now) }
 {
     let mut rules = Vec::new(alloc);
@@ -190,7 +199,15 @@ fn ends_rules(alloc: Global, productions: &[Production], start: u8, set: LetterS
     Ok(rules)
 }
 
-fn more_rules(alloc: Global, productions: &[Production], ends: u64, set: LetterSet, number: usize, items: &[Item], earlier: &Shared<Futures>) -> Result<Vec<Rule>, NoMemory>
+fn more_rules(
+    alloc: Global,
+    productions: &[Production],
+    ends: u64,
+    set: LetterSet,
+    number: usize,
+    items: &[Item],
+    earlier: &Shared<Futures>,
+) -> Result<Vec<Rule>, NoMemory>
     ensures { IfOk result (λ rules. rules.items ≡ more_rules productions.now ends set number earlier.now items.now) }
 {
     let mut rules = Vec::new(alloc);
@@ -205,7 +222,14 @@ fn more_rules(alloc: Global, productions: &[Production], ends: u64, set: LetterS
 }
 
 /// Whether letters of the set may go on behind one of the items.
-fn is_alive(productions: &[Production], set: LetterSet, number: usize, items: &[Item], earlier: &Shared<Futures>, here: Future) -> bool
+fn is_alive(
+    productions: &[Production],
+    set: LetterSet,
+    number: usize,
+    items: &[Item],
+    earlier: &Shared<Futures>,
+    here: Future,
+) -> bool
     ensures { result ≡ list_any (keeps_alive productions.now set number earlier.now here) items.now }
 {
     for item in items {
@@ -218,11 +242,26 @@ fn is_alive(productions: &[Production], set: LetterSet, number: usize, items: &[
 }
 
 /// What may follow of the letters of a set.
-fn future_of(alloc: Global, grammar: &Grammar, set: LetterSet, number: usize, items: &[Item], earlier: &Shared<Futures>) -> Result<Future, NoMemory>
+fn future_of(
+    alloc: Global,
+    grammar: &Grammar,
+    set: LetterSet,
+    number: usize,
+    items: &[Item],
+    earlier: &Shared<Futures>,
+) -> Result<Future, NoMemory>
     ensures { IfOk result (λ future. IsFutureOf grammar.now set number items.now earlier.now future) }
 {
     let productions = grammar.productions();
-    let rules = ends_rules(alloc, productions, grammar.start(), set, number, items, earlier)?;
+    let rules = ends_rules(
+        alloc,
+        productions,
+        grammar.start(),
+        set,
+        number,
+        items,
+        earlier,
+    )?;
     let ends = gained(rules.as_slice());
     let rules = more_rules(alloc, productions, ends, set, number, items, earlier)?;
     let more = gained(rules.as_slice());

@@ -70,7 +70,14 @@ fn fails_behind_chains_of_nullable_symbols(rt: HostRuntime) -> Result<(), Fail> 
 #[test]
 fn locks_are_alive(rt: HostRuntime) -> Result<(), Fail> {
     let alloc = rt.alloc();
-    for (word, answers) in [("", "ynnn"), ("a", "yynn"), ("b", "nnnn"), ("ab", "ynnn"), ("aa", "yynn"), ("aab", "yynn")] {
+    for (word, answers) in [
+        ("", "ynnn"),
+        ("a", "yynn"),
+        ("b", "nnnn"),
+        ("ab", "ynnn"),
+        ("aa", "yynn"),
+        ("aab", "yynn"),
+    ] {
         let text = alive(alloc, "SSaSb S", word)?;
         assert_eq!(rt; text.as_str(), answers, "{word}");
     }
@@ -106,7 +113,13 @@ fn recursion_is_alive(rt: HostRuntime) -> Result<(), Fail> {
 #[test]
 fn palindromes_are_alive(rt: HostRuntime) -> Result<(), Fail> {
     let alloc = rt.alloc();
-    for (word, answers) in [("", "yyyn"), ("a", "ynyn"), ("ab", "ynyn"), ("b", "yynn"), ("abb", "ynyn")] {
+    for (word, answers) in [
+        ("", "yyyn"),
+        ("a", "ynyn"),
+        ("ab", "ynyn"),
+        ("b", "yynn"),
+        ("abb", "ynyn"),
+    ] {
         let text = alive(alloc, "SaSa SbSb Sa Sb S", word)?;
         assert_eq!(rt; text.as_str(), answers, "{word}");
     }

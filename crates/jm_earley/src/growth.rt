@@ -41,12 +41,7 @@ impl Charts {
     }
 
     /// Adds what the rules make of an item.
-    fn work(
-        &self,
-        sets: &Shared<ItemSet>,
-        growth: &mut Growth,
-        item: Item,
-    ) -> Result<(), NoMemory>
+    fn work(&self, sets: &Shared<ItemSet>, growth: &mut Growth, item: Item) -> Result<(), NoMemory>
         requires place { length sets.now < 2 ^ 32 }
         requires predicted { IsPredictedSet self.now.grammar (length sets.now) growth.old.predicted growth.old.set }
         ensures grows { OnOk result (Grows (IsStep self.now.grammar sets.now item) growth.old.set growth.new.set) }

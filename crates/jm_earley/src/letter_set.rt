@@ -2,7 +2,7 @@
 ghost use Rattle.std.specs.Prelude.{◌≡◌, IfOk, map};
 ghost use Rattle.jm_earley.specs.LetterSets.{IsExact, is_spelled, are_spelled, is_letter, has_letter, with_nonterminal, nonterminals, can_spell, can_go_on, spelling_rule};
 
-use crate::rule::{gained, has, only, Rule};
+use crate::rule::{Rule, gained, has, only};
 use jm_grammar::{Grammar, GrammarSymbol, Production};
 use jm_model::NoMemory;
 use std::alloc::Global;
@@ -118,7 +118,12 @@ fn spelling_rule(production: &Production, letters: u32, known: u64) -> Rule
 }
 
 /// The rule of each production.
-fn spelling_rules(alloc: Global, productions: &[Production], letters: u32, known: u64) -> Result<Vec<Rule>, NoMemory>
+fn spelling_rules(
+    alloc: Global,
+    productions: &[Production],
+    letters: u32,
+    known: u64,
+) -> Result<Vec<Rule>, NoMemory>
     ensures { IfOk result (λ rules. rules.items ≡ map (spelling_rule letters known) productions.now) }
 {
     let mut rules = Vec::new(alloc);

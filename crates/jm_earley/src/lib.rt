@@ -20,6 +20,6 @@ mod shared;
 pub use chart::{Chart, Charts};
 
 #[cfg(test)]
-mod tests;
-#[cfg(test)]
 mod future_tests;
+#[cfg(test)]
+mod tests;

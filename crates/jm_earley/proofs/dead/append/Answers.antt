@@ -1,4 +1,4 @@
-use Rattle.std.proofs.Common.{List, ◌≡◌, ◌∷◌, [], ◌++◌, All, Some, slice_get, sym, subst, arith}
+use Rattle.std.proofs.Common.{List, ◌≡◌, All, Some, slice_get, sym, subst, arith}
 use Rattle.std.proofs.lemmas.List.Elements.{All-push}
 use Rattle.jm_earley.specs.declared.letter_set.LetterSet.{LetterSet}
 use Rattle.jm_earley.specs.LetterSets.{IsExact}
@@ -14,6 +14,6 @@ pub returns-clause-found : goal.returns-clause-found
 returns-clause-found c = (
   c.in_ok-set.set,
   subst (λ (sets : List LetterSet). slice_get sets c.len-number.result ≡ Some c.in_ok-set.set) (sym c.in-Ok.ensures.items)
-  (slice_get_push c.args.sets.now.items c.in_ok-set.set c.len-number.result (omega arith)),
+      (slice_get_push c.args.sets.now.items c.in_ok-set.set c.len-number.result (omega arith)),
   c.in_ok-set.ensures.letters,
 )

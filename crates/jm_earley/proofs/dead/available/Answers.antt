@@ -1,4 +1,4 @@
-use Rattle.std.proofs.Common.{ℕ, ◌≡◌, ◌<◌, ◌≤◌, ◌↔◌, ◌+◌, bit_and, sym, subst, arith}
+use Rattle.std.proofs.Common.{ℕ, ◌≡◌, ◌<◌, ◌↔◌, ◌+◌, bit_and, sym, subst, arith}
 use Rattle.std.specs.Prelude.{IsBitSet, slice_index}
 use Rattle.jm_earley.proofs.DeadLemmas.{one_more, none_more}
 use Rattle.jm_earley.proofs.dead.available.Goals as goal

@@ -1,4 +1,4 @@
-use Rattle.std.proofs.Common.{ℕ, ◌≡◌, ◌<◌, ◌↔◌, bit_and, length}
+use Rattle.std.proofs.Common.{ℕ, ◌≡◌, ◌<◌, ◌↔◌, bit_and}
 use Rattle.std.specs.Prelude.{IsBitSet, slice_index}
 use Rattle.jm_earley.proofs.dead.available.Given as goal
 

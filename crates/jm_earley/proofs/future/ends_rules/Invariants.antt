@@ -1,4 +1,4 @@
-use Rattle.std.proofs.Common.{◌≡◌, take, map}
+use Rattle.std.proofs.Common.{◌≡◌, take}
 use Rattle.jm_earley.specs.Links.{ends_rules}
 use Rattle.jm_earley.proofs.future.ends_rules.Given as goal
 

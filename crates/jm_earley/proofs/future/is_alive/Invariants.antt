@@ -1,4 +1,4 @@
-use Rattle.std.proofs.Common.{◌≡◌, false, take, map}
+use Rattle.std.proofs.Common.{◌≡◌, false, take}
 use Rattle.std.specs.List.{list_any}
 use Rattle.jm_earley.specs.Links.{keeps_alive}
 use Rattle.jm_earley.proofs.future.is_alive.Given as goal

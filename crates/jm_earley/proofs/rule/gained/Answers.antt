@@ -1,4 +1,4 @@
-use Rattle.std.proofs.Common.{ℕ, ◌≡◌, ◌≤◌, sym, subst, ◌∙◌, arith}
+use Rattle.std.proofs.Common.{ℕ, ◌≤◌, sym, subst, ◌∙◌, arith}
 use Rattle.jm_earley.proofs.RuleLemmas.{IsSound, none_sound, rules_sound, rules_grow, exact}
 use Rattle.jm_earley.proofs.rule.gained.Goals as goal
 

@@ -2,7 +2,7 @@ use Rattle.std.proofs.Common.{List, ◌≡◌, Some, slice_get, subst, sym}
 use Rattle.std.proofs.lemmas.Result.{on_ok_weaker}
 use Rattle.jm_grammar.specs.declared.grammar.GrammarSymbol.TheVariants.{Nonterminal}
 use Rattle.jm_earley.specs.declared.item.Item.{Item}
-use Rattle.jm_earley.specs.Growth.{Grows, IsAdvancedOver, IsStep, completes}
+use Rattle.jm_earley.specs.Growth.{IsAdvancedOver, IsStep, completes}
 use Rattle.jm_earley.proofs.GrowthLemmas.{grows_weaker}
 use Rattle.jm_earley.proofs.chart.Charts.complete.Goals as goal
 

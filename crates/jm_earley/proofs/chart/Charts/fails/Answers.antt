@@ -1,4 +1,4 @@
-use Rattle.std.proofs.Common.{List, ◌≡◌, ℕ, ◌↔◌, IsTrue, sym, subst}
+use Rattle.std.proofs.Common.{List, sym, subst}
 use Rattle.jm_earley.specs.declared.item.Item.{Item}
 use Rattle.jm_earley.specs.Items.{IsItemSet}
 use Rattle.jm_earley.specs.Places.{AllSpell}

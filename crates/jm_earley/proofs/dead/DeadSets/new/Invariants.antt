@@ -1,4 +1,4 @@
-use Rattle.std.proofs.Common.{ℕ, ◌≡◌, ◌<◌, ◌≤◌, All, length, slice_get, Some}
+use Rattle.std.proofs.Common.{ℕ, ◌≡◌, ◌<◌, All, length, slice_get, Some}
 use Rattle.jm_earley.specs.LetterSets.{IsExact}
 use Rattle.jm_earley.specs.DeadSets.{IsLeft}
 use Rattle.jm_earley.proofs.dead.DeadSets.new.Given as goal

@@ -1,4 +1,4 @@
-use Rattle.std.proofs.Common.{◌<◌, arith, sym, ◌∙◌}
+use Rattle.std.proofs.Common.{◌<◌, arith, sym}
 use Rattle.jm_earley.proofs.AnswerLemmas.{alive_for, number_there, future_there}
 use Rattle.jm_earley.proofs.future.Futures.is_alive.Goals as goal
 

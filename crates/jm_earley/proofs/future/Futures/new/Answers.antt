@@ -1,4 +1,4 @@
-use Rattle.std.proofs.Common.{ℕ, List, ◌≡◌, ◌<◌, ◌≤◌, ◌+◌, ◌++◌, ◌∷◌, [], All, length, map, slice_get, Some, sym, ap, subst, ◌∙◌, arith, length-append, get_or}
+use Rattle.std.proofs.Common.{List, ◌<◌, ◌≤◌, ◌+◌, ◌++◌, ◌∷◌, [], length, sym, subst, arith, length-append, get_or}
 use Rattle.std.proofs.lemmas.Option.{slice_get-get_or}
 use Rattle.jm_earley.specs.declared.letter_set.LetterSet.{LetterSet}
 use Rattle.jm_earley.specs.declared.future.Future.{Future}
@@ -16,11 +16,10 @@ loop-number-preserved c =
     let none : LetterSet = record { letters = 0; spells = 0; goes_on = 0 } in
     let set = get_or sets n none in
     let one : IsFutureOf g set n items earlier c.in_ok-future.future =
-        subst (λ (l : List LetterSet). IsFutureOf g (get_or l n none) n items earlier c.in_ok-future.future) c.sets-set-items.ensures c.in_ok-future.ensures in
+    subst (λ (l : List LetterSet). IsFutureOf g (get_or l n none) n items earlier c.in_ok-future.future) c.sets-set-items.ensures c.in_ok-future.ensures in
     let lt : n < length sets = rw (sym c.sets-set-items.ensures) c.loop-number-test.true in
     let more : AreFuturesOf g sets items earlier (c.loop-number.futures.items ++ c.in_ok-future.future ∷ []) (n + 1) =
-        one_more_future g sets items earlier c.loop-number.futures.items n set c.in_ok-future.future c.loop-number.invariant.0 c.loop-number.invariant.1 (slice_get-get_or sets n none lt) one in
-    (
+    one_more_future g sets items earlier c.loop-number.futures.items n set c.in_ok-future.future c.loop-number.invariant.0 c.loop-number.invariant.1 (slice_get-get_or sets n none lt) one in (
       rw c.in-Ok.ensures.items (simp length-append (omega (arith, c.loop-number.invariant.0))),
       subst (λ (l : List Future). AreFuturesOf g sets items earlier l (n + 1)) (sym c.in-Ok.ensures.items) more,
     )

@@ -1,5 +1,4 @@
-use Rattle.std.proofs.Common.{ℕ, ◌≡◌, ◌<◌, map, length, slice_get, Some}
-use Rattle.jm_earley.specs.declared.letter_set.LetterSet.{LetterSet}
+use Rattle.std.proofs.Common.{◌≡◌, length}
 use Rattle.jm_earley.proofs.AnswerLemmas.{AreFuturesOf}
 use Rattle.jm_earley.proofs.future.Futures.new.Given as goal
 
