@@ -1,0 +1,15 @@
+pub mod PlaceLemmas
+pub mod SetLemmas
+pub mod GrowthLemmas
+pub mod ItemLemmas
+pub mod WorkLemmas
+pub mod ChartLemmas
+pub mod ExtensionLemmas
+pub mod BitLemmas
+pub mod RuleLemmas
+pub mod SpellLemmas
+pub mod DeadLemmas
+pub mod FutureLemmas
+pub mod AnswerLemmas
+pub mod HopelessLemmas
+pub mod JoinLemmas

@@ -1,0 +1,5 @@
+use Rattle.jm_earley.proofs.SetLemmas.{bit_of_nullable}
+use Rattle.jm_earley.proofs.chart.Charts.is_nullable.Goals as goal
+
+pub returns : goal.returns
+returns c = rw (← c.self.view_is) (bit_of_nullable c.self.inside.grammar.productions c.self.inside.nullable c.self.invariant.0.empty c.args.n)

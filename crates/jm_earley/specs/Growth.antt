@@ -1,0 +1,64 @@
+-- How the items of a place grow, rule by rule (Earley 1970; Aycock and Horspool 2002 for nonterminals that spell the empty word).
+use Rattle.std.specs.Prelude.{ℕ, ◌≡◌, ◌⊎◌, List, [], ◌∷◌, ◌++◌, Some, IsBitSet, Contains, length, slice_get}
+use Rattle.jm_grammar.specs.declared.grammar.GrammarSymbol.{GrammarSymbol}
+use Rattle.jm_grammar.specs.declared.grammar.GrammarSymbol.TheVariants.{Nonterminal}
+use Rattle.jm_grammar.specs.declared.grammar.Production.{Production}
+use Rattle.jm_grammar.specs.Grammars.{GrammarDefinition}
+use Rattle.jm_grammar.specs.Derivations.{Derives}
+use Rattle.jm_earley.specs.declared.item.Item.{Item}
+use Rattle.jm_earley.specs.Items.{symbol_after, finished_left, advanced}
+
+-- the items after one is added: it was there, or goes last
+abbrev pub IsWithItem : List Item → Item → List Item → Type 0
+IsWithItem old item new = (Contains old item × (new ≡ old)) ⊎ (new ≡ old ++ item ∷ [])
+
+-- items keep their places, and what is new is P
+pub record Grows (P : Item → Type 0) (old new : List Item) : Type 0 where
+  pub kept : (k : ℕ) (x : Item) → slice_get old k ≡ Some x → slice_get new k ≡ Some x
+  pub only : (x : Item) → Contains new x → Contains old x ⊎ P x
+
+-- the item is one of these, advanced over the symbol
+abbrev pub IsAdvancedOver : GrammarDefinition → List Item → GrammarSymbol → Item → Type 0
+IsAdvancedOver g from symbol x = (y : Item) × Contains from y × (symbol_after g y ≡ Some symbol) × (x ≡ advanced y)
+
+-- each of these items before the symbol is there, advanced over it
+abbrev pub AreAdvancedOver : GrammarDefinition → List Item → GrammarSymbol → List Item → Type 0
+AreAdvancedOver g from symbol items = (y : Item) → Contains from y → symbol_after g y ≡ Some symbol → Contains items (advanced y)
+
+-- the item begins a production of the nonterminal at the place
+abbrev pub IsPrediction : GrammarDefinition → ℕ → ℕ → Item → Type 0
+IsPrediction g place n x =
+    (number : ℕ) × (p : Production) × (slice_get g.productions number ≡ Some p) × (p.left ≡ n) × (x ≡ record { production = number; dot = 0; origin = place })
+
+-- each production of the nonterminal begins at the place
+abbrev pub ArePredicted : GrammarDefinition → ℕ → ℕ → List Item → Type 0
+ArePredicted g place n items =
+    (number : ℕ) (p : Production) → slice_get g.productions number ≡ Some p → p.left ≡ n → Contains items (record { production = number; dot = 0; origin = place })
+
+-- what the nonterminals of a set stand for: their productions begin at the place
+abbrev pub IsPredictedSet : GrammarDefinition → ℕ → ℕ → List Item → Type 0
+IsPredictedSet g place predicted items = (n : ℕ) → IsBitSet predicted n → ArePredicted g place n items
+
+-- What the rules make of an item at the place behind these sets: the productions of the nonterminal that it awaits; the item
+-- itself over a nonterminal that spells the empty word; the items that awaited its left side, where it is finished.
+pub data IsStep (g : GrammarDefinition) (sets : List (List Item)) (x : Item) (made : Item) : Type 0 where
+  predicts : (n : ℕ) → symbol_after g x ≡ Some (Nonterminal n) → IsPrediction g (length sets) n made → IsStep g sets x made
+  skips : (n : ℕ) → symbol_after g x ≡ Some (Nonterminal n) → Derives g.productions n [] → made ≡ advanced x → IsStep g sets x made
+  completes : (n : ℕ) (from : List Item) → finished_left g x ≡ Some n → slice_get sets x.origin ≡ Some from → IsAdvancedOver g from (Nonterminal n) made → IsStep g sets x made
+
+-- all that the rules make of an item is there
+pub record IsWorked (g : GrammarDefinition) (sets : List (List Item)) (items : List Item) (x : Item) : Type 0 where
+  pub predicted : (n : ℕ) → symbol_after g x ≡ Some (Nonterminal n) → ArePredicted g (length sets) n items
+  pub skipped : (n : ℕ) → symbol_after g x ≡ Some (Nonterminal n) → Derives g.productions n [] → Contains items (advanced x)
+  pub completed : (n : ℕ) (from : List Item) → finished_left g x ≡ Some n → slice_get sets x.origin ≡ Some from → AreAdvancedOver g from (Nonterminal n) items
+
+-- the rules make the item from the first ones
+pub data IsMade (g : GrammarDefinition) (sets : List (List Item)) (first : List Item) : Item → Type 0 where
+  given : (x : Item) → Contains first x → IsMade g sets first x
+  stepped : (x made : Item) → IsMade g sets first x → IsStep g sets x made → IsMade g sets first made
+
+-- The items are the first ones and what the rules make of them.
+pub record IsClosure (g : GrammarDefinition) (sets : List (List Item)) (first items : List Item) : Type 0 where
+  pub kept : (x : Item) → Contains first x → Contains items x
+  pub worked : (x : Item) → Contains items x → IsWorked g sets items x
+  pub made : (x : Item) → Contains items x → IsMade g sets first x

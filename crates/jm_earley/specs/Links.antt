@@ -1,0 +1,66 @@
+-- The rules that the items of a place give for what may follow there.
+use Rattle.std.specs.Prelude.{ℕ, ◌==◌, ◌&&◌, ◌||◌, Bool, false, List, [], ◌∷◌, Option, Some, None, length, drop, map, slice_get, unwrap_or, if◌then◌else◌}
+use Rattle.std.specs.Option.{option_and_then}
+use Rattle.jm_grammar.specs.declared.grammar.GrammarSymbol.{GrammarSymbol}
+use Rattle.jm_grammar.specs.declared.grammar.GrammarSymbol.TheVariants.{Letter, Nonterminal}
+use Rattle.jm_grammar.specs.declared.grammar.Production.{Production}
+use Rattle.jm_earley.specs.declared.item.Item.{Item}
+use Rattle.jm_earley.specs.declared.rule.Rule.{Rule}
+use Rattle.jm_earley.specs.declared.letter_set.LetterSet.{LetterSet}
+use Rattle.jm_earley.specs.declared.future.Future.{Future}
+use Rattle.jm_earley.specs.declared.future.Futures.{Futures}
+use Rattle.jm_earley.specs.declared.link.Link.{Link}
+use Rattle.jm_earley.specs.Rules.{only, has}
+use Rattle.jm_earley.specs.LetterSets.{can_spell, can_go_on}
+
+-- the nonterminal that comes next, if the symbols behind it spell a word
+abbrev pub link_from : ℕ → LetterSet → List GrammarSymbol → Option Link
+link_from left set [] = None
+link_from left set (Letter a ∷ back) = None
+link_from left set (Nonterminal n ∷ back) = if can_spell set back then Some (record { left = left; next = n; goes_on = can_go_on set back }) else None
+
+abbrev pub link_in : Item → LetterSet → Option Production → Option Link
+link_in item set None = None
+link_in item set (Some p) = link_from p.left set (drop item.dot p.symbols)
+
+-- the nonterminal behind the item's dot
+abbrev pub link_of : List Production → LetterSet → Item → Option Link
+link_of productions set item = link_in item set (slice_get productions item.production)
+
+-- what may follow at an earlier place
+abbrev pub future_at : List Futures → ℕ → ℕ → Option Future
+future_at earlier number place = option_and_then (λ (f : Futures). slice_get f.futures.items number) (slice_get earlier place)
+
+-- a rest ends behind the next nonterminal, where one ends behind the left side
+abbrev pub ends_rule : Option Link → Option Future → Rule
+ends_rule None there = record { gives = 0; any = 0; always = false }
+ends_rule (Some l) (Some there) = record { gives = only l.next; any = 0; always = has there.ends l.left }
+ends_rule (Some l) None = record { gives = only l.next; any = only l.left; always = false }
+
+-- a rest with letters ends there, where the symbols between or the rest behind the left side have letters
+abbrev pub more_rule : ℕ → Option Link → Option Future → Rule
+more_rule ends None there = record { gives = 0; any = 0; always = false }
+more_rule ends (Some l) (Some there) = record { gives = only l.next; any = 0; always = l.goes_on && has there.ends l.left || has there.more l.left }
+more_rule ends (Some l) None = record { gives = only l.next; any = only l.left; always = l.goes_on && has ends l.left }
+
+-- at the first place nothing follows the start
+abbrev pub start_rule : ℕ → List Futures → Rule
+start_rule start earlier = record { gives = only start; any = 0; always = length earlier == 0 }
+
+abbrev pub ends_rules : List Production → ℕ → LetterSet → ℕ → List Futures → List Item → List Rule
+ends_rules productions start set number earlier items =
+    start_rule start earlier ∷ map (λ (item : Item). ends_rule (link_of productions set item) (future_at earlier number item.origin)) items
+
+abbrev pub more_rules : List Production → ℕ → LetterSet → ℕ → List Futures → List Item → List Rule
+more_rules productions ends set number earlier items =
+    map (λ (item : Item). more_rule ends (link_of productions set item) (future_at earlier number item.origin)) items
+
+-- the symbols behind the dot and a rest behind the left side have letters, or one of the two
+abbrev pub keeps_alive_in : Item → LetterSet → Future → Option Production → Bool
+keeps_alive_in item set there None = false
+keeps_alive_in item set there (Some p) =
+    can_spell set (drop item.dot p.symbols) && (can_go_on set (drop item.dot p.symbols) && has there.ends p.left || has there.more p.left)
+
+abbrev pub keeps_alive : List Production → LetterSet → ℕ → List Futures → Future → Item → Bool
+keeps_alive productions set number earlier here item =
+    keeps_alive_in item set (unwrap_or (future_at earlier number item.origin) here) (slice_get productions item.production)

@@ -1,0 +1,274 @@
+ghost use Rattle.std.specs.Prelude.{ℕ, ◌≡◌, ◌==◌, ◌<◌, ◌≤◌, ◌+◌, ◌-◌, ◌^◌, ◌↔◌, List, [], ◌∷◌, ◌++◌, Some, None, Any, IsTrue, IfSome, IfOk, map, length, slice_get, if◌then◌else◌};
+ghost use Rattle.jm_grammar.specs.declared.grammar.GrammarSymbol.{GrammarSymbol};
+ghost use Rattle.jm_grammar.specs.Grammars.{IsSmall, IsSmallSymbol, IsSmallProduction};
+ghost use Rattle.jm_grammar.specs.Derivations.{IsWord, Derives};
+ghost use Rattle.jm_earley.specs.Items.{symbol_after, finished_left, IsWhole};
+ghost use Rattle.jm_earley.specs.Charts.{AreBelow, IsChartOf, IsWithPlace};
+ghost use Rattle.jm_earley.specs.Futures.{IsHopeless};
+ghost use Rattle.jm_earley.specs.Places.{IsAliveFor};
+
+use crate::dead::DeadSets;
+use crate::future::{Futures, is_hopeless};
+use crate::item::Item;
+use crate::set::ItemSet;
+use crate::shared::Shared;
+use jm_events::EventTable;
+use jm_grammar::{Grammar, GrammarSymbol, Production};
+use jm_model::{Letter, NoMemory};
+use std::alloc::Global;
+use std::marker::Model;
+
+/// What the charts of a grammar have in common: the grammar, reduced, and the parameters of its letters. Contracts see it as its
+/// `ChartsDefinition`.
+#[derive(Drop)]
+pub struct Charts {
+    grammar: Grammar,
+    params: Vec<u8>,
+    /// The nonterminals that spell the empty word: bit n stands for nonterminal n.
+    nullable: u64,
+    /// The sets of letters that sets of dead parameters leave.
+    dead: DeadSets,
+}
+
+impl Model for Charts {
+    ghost use Rattle.jm_earley.specs.Charts.{ChartsDefinition, IsReduced};
+    ghost use Rattle.jm_earley.specs.DeadSets.{AreDeadSets};
+
+    ghost Value = { ChartsDefinition };
+
+    ghost view = { λ c. record { grammar = c.grammar; params = c.params.items; letter_sets = c.dead.sets.items } };
+
+    ghost invariant = { λ c. IsReduced c.grammar c.params.items c.nullable × AreDeadSets c.grammar.productions c.params.items c.dead };
+}
+
+/// The items of each place of a word, and what may follow there. Copies share them. Contracts see it as its `ChartDefinition`, which stands for a word by
+/// `IsChartOf`.
+#[derive(Drop)]
+pub struct Chart {
+    sets: Shared<ItemSet>,
+    futures: Shared<Futures>,
+}
+
+impl Model for Chart {
+    ghost use Rattle.std.specs.Prelude.{length, ◌<◌, ◌^◌};
+    ghost use Rattle.jm_earley.specs.Charts.{ChartDefinition};
+
+    ghost Value = { ChartDefinition };
+
+    ghost view = { λ c. record { sets = c.sets; futures = c.futures } };
+
+    ghost invariant = { λ c. (0 < length c.sets) × (length c.sets < 2 ^ 32) };
+}
+
+impl Charts {
+    /// Charts of a grammar, whose letters are events of the table. The grammar is reduced.
+    pub fn new(alloc: Global, grammar: Grammar, table: &EventTable) -> Result<Charts, NoMemory>
+        requires { AreBelow grammar.productions (length table.now.events) }
+        ensures words { IfOk result (λ c. (word : List ℕ) → IsWord c.grammar word ↔ IsWord grammar word) }
+        ensures params { IfOk result (λ c. c.params ≡ map (λ e. e.mask) table.now.events) }
+    {
+        let grammar = grammar.reduce()?;
+        let params = masks(alloc, table)?;
+        let nullable = grammar.productive(0);
+        let dead = DeadSets::new(alloc, &grammar, params.as_slice())?;
+        Ok(Charts {
+            grammar,
+            params,
+            nullable,
+            dead,
+        })
+    }
+
+    /// The chart of the empty word.
+    pub fn begin(&self) -> Result<Chart, NoMemory>
+        ensures { IfOk result (IsChartOf self.now []) }
+    {
+        let alloc = *self.params.allocator();
+        let sets = Shared::new(alloc);
+        let mut first = ItemSet::new(alloc);
+        self.begin_productions(&mut first, 0, self.grammar.start())?;
+        let set = self.close(&sets, first)?;
+        self.with_place(sets, Shared::new(alloc), set)
+    }
+
+    /// A chart of the same words.
+    pub fn copy(&self, chart: &Chart) -> Result<Chart, NoMemory>
+        ensures { IfOk result (λ copy. copy ≡ chart.now) }
+    {
+        let sets = chart.sets.copy()?;
+        let futures = chart.futures.copy()?;
+        Ok(Chart { sets, futures })
+    }
+
+    /// The chart of a word that has one letter more.
+    pub fn next(&self, chart: &Chart, letter: Letter) -> Result<Chart, NoMemory>
+        requires { letter.0 < length self.now.params }
+        ensures { (word : List ℕ) → IsChartOf self.now word chart.now → IfOk result (IsChartOf self.now (word ++ letter.0 ∷ [])) }
+    {
+        let place = chart.sets.len();
+        if place == u32::MAX as usize {
+            return Err(NoMemory);
+        }
+        let mut first = ItemSet::new(*self.params.allocator());
+        self.advance_over(&mut first, chart.last(), GrammarSymbol::Letter(letter))?;
+        let set = self.close(&chart.sets, first)?;
+        let sets = chart.sets.copy()?;
+        let futures = chart.futures.copy()?;
+        self.with_place(sets, futures, set)
+    }
+
+    /// Whether the word is in the language of the grammar.
+    pub fn matches(&self, chart: &Chart) -> bool
+        ensures { (word : List ℕ) → IsChartOf self.now word chart.now → IsTrue result ↔ IsWord self.now.grammar word }
+    {
+        self.has_whole(chart.last())
+    }
+
+    /// Whether no word that begins with the word, itself included, is in the language of the grammar.
+    pub fn fails(&self, chart: &Chart) -> bool
+        ensures { (word : List ℕ) → IsChartOf self.now word chart.now → IsTrue result ↔ IsHopeless self.now.grammar word }
+    {
+        let _ = &self.grammar;
+        is_hopeless(chart.last())
+    }
+
+    /// Whether some word of one or more letters without a dead parameter, put after the word, is in the language of the grammar.
+    /// Bit k of the set stands for parameter k.
+    pub fn alive(&self, chart: &Chart, dead: u8) -> bool
+        ensures { (word : List ℕ) → IsChartOf self.now word chart.now → IsTrue result ↔ IsAliveFor self.now.grammar self.now.params dead word }
+    {
+        match chart.futures.last() {
+            Some(futures) => futures.is_alive(&self.dead, dead),
+            None => false,
+        }
+    }
+}
+
+impl Charts {
+    /// The chart with one place more, which has these items.
+    fn with_place(
+        &self,
+        mut sets: Shared<ItemSet>,
+        mut futures: Shared<Futures>,
+        set: ItemSet,
+    ) -> Result<Chart, NoMemory>
+        requires { length sets + 1 < 2 ^ 32 }
+        ensures { IfOk result (IsWithPlace self.now sets futures set) }
+    {
+        let alloc = *self.params.allocator();
+        let future = Futures::new(alloc, &self.grammar, &self.dead, set.as_slice(), &futures)?;
+        sets.push(set)?;
+        futures.push(future)?;
+        Ok(Chart { sets, futures })
+    }
+
+    pub(crate) fn productions(&self) -> &[Production]
+        ensures value { result.now ≡ self.now.grammar.productions }
+        ensures small { IsSmall self.now.grammar.productions self.now.grammar.start }
+    {
+        self.grammar.productions()
+    }
+
+    /// The symbol behind the dot of an item.
+    pub(crate) fn symbol_after(&self, item: Item) -> Option<GrammarSymbol>
+        ensures value { result ≡ symbol_after self.now.grammar item }
+        ensures small { IfSome result IsSmallSymbol }
+        ensures room { IfSome result (λ _. item.dot < 32) }
+    {
+        match self.productions().get(item.production as usize) {
+            Some(production) => symbol_at(production, item.dot),
+            None => None,
+        }
+    }
+
+    /// Whether the symbol stands behind the dot of an item.
+    pub(crate) fn is_before(&self, item: Item, symbol: GrammarSymbol) -> bool
+        ensures value { IsTrue result ↔ (symbol_after self.now.grammar item ≡ Some symbol) }
+        ensures room { IsTrue result → item.dot < 32 }
+    {
+        match (self.symbol_after(item), symbol) {
+            (Some(GrammarSymbol::Letter(next)), GrammarSymbol::Letter(letter)) => {
+                next.0 == letter.0
+            }
+            (Some(GrammarSymbol::Nonterminal(next)), GrammarSymbol::Nonterminal(n)) => next == n,
+            _ => false,
+        }
+    }
+
+    /// The left side of an item whose dot is at the end.
+    pub(crate) fn finished_left(&self, item: Item) -> Option<u8>
+        ensures { result ≡ finished_left self.now.grammar item }
+    {
+        match self.productions().get(item.production as usize) {
+            Some(production) => left_at_end(production, item.dot),
+            None => None,
+        }
+    }
+
+    /// Whether the nonterminal spells the empty word.
+    pub(crate) fn is_nullable(&self, n: u8) -> bool
+        requires { n < 64 }
+        ensures { IsTrue result ↔ Derives self.now.grammar.productions n [] }
+    {
+        self.nullable >> n & 1 == 1
+    }
+
+    fn has_whole(&self, items: &[Item]) -> bool
+        ensures { IsTrue result ↔ Any (IsWhole self.now.grammar) items.now }
+    {
+        items.iter().any(|item| self.is_whole(*item))
+    }
+
+    fn is_whole(&self, item: Item) -> bool
+        ensures { IsTrue result ↔ IsWhole self.now.grammar item }
+    {
+        item.origin == 0 && self.finished_left(item) == Some(self.grammar.start())
+    }
+}
+
+/// The symbol of a production at a place.
+fn symbol_at(production: &Production, place: u8) -> Option<GrammarSymbol>
+    requires { IsSmallProduction production.now }
+    ensures value { result ≡ slice_get production.now.symbols place }
+    ensures small { IfSome result IsSmallSymbol }
+    ensures room { IfSome result (λ _. place < 32) }
+{
+    production.symbols.as_slice().get(place as usize).copied()
+}
+
+/// The left side of a production, if the place is its end.
+fn left_at_end(production: &Production, place: u8) -> Option<u8>
+    ensures { result ≡ (if place == length production.now.symbols then Some production.now.left else None) }
+{
+    if place as usize == production.symbols.as_slice().len() {
+        Some(production.left)
+    } else {
+        None
+    }
+}
+
+/// The parameters of each event.
+fn masks(alloc: Global, table: &EventTable) -> Result<Vec<u8>, NoMemory>
+    ensures value { IfOk result (λ masks. masks.items ≡ map (λ e. e.mask) table.now.events) }
+    ensures few { length table.now.events ≤ 32 }
+{
+    let mut masks = Vec::new(alloc);
+    for letter in 0..table.letters() {
+        let Ok(()) = masks.push(table.mask(Letter(letter))) else {
+            return Err(NoMemory);
+        };
+    }
+    Ok(masks)
+}
+
+impl Chart {
+    /// The items of the last place.
+    fn last(&self) -> &[Item]
+        ensures { (items : List Item) → slice_get self.now.sets (length self.now.sets - 1) ≡ Some items → result.now ≡ items }
+    {
+        match self.sets.get(self.sets.len() - 1) {
+            Some(set) => set.as_slice(),
+            None => &[],
+        }
+    }
+}

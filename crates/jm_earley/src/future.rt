@@ -1,0 +1,275 @@
+//! What may follow the nonterminals that are awaited at a place.
+ghost use Rattle.std.specs.Prelude.{ℕ, ◌≡◌, ◌↔◌, List, All, IfOk, IsTrue, slice_get};
+ghost use Rattle.std.specs.List.{list_any};
+ghost use Rattle.jm_earley.specs.Links.{future_at, ends_rule, more_rule, start_rule, ends_rules, more_rules, keeps_alive_in, keeps_alive};
+ghost use Rattle.jm_grammar.specs.Grammars.{GrammarDefinition};
+ghost use Rattle.jm_earley.specs.Items.{IsItemSet};
+ghost use Rattle.jm_earley.specs.LetterSets.{IsExact};
+ghost use Rattle.jm_earley.specs.DeadSets.{AreDeadSets};
+ghost use Rattle.jm_earley.specs.Futures.{IsHopeless};
+ghost use Rattle.jm_earley.specs.Places.{AllSpell, AreEarlier, AreFutures, IsFutureOf, IsAliveFor};
+
+use crate::dead::DeadSets;
+use crate::item::Item;
+use crate::letter_set::LetterSet;
+use crate::link::{Link, behind, link_of};
+use crate::rule::{Rule, gained, has, only};
+use crate::shared::Shared;
+use jm_grammar::{Grammar, Production};
+use jm_model::NoMemory;
+use std::alloc::Global;
+
+/// What may follow at a place, of some letters: the nonterminals that a rest may follow, those that one of one or more letters
+/// may follow, and whether one or more letters may follow the word.
+#[derive(Clone, Copy)]
+pub(crate) struct Future {
+    pub ends: u64,
+    pub more: u64,
+    pub alive: bool,
+}
+
+/// What may follow at a place, for each set of letters.
+#[derive(Drop)]
+pub(crate) struct Futures {
+    futures: Vec<Future>,
+}
+
+impl Futures {
+    /// What may follow where these are the items, and what may follow at each earlier place.
+    pub(crate) fn new(
+        alloc: Global,
+        grammar: &Grammar,
+        sets: &DeadSets,
+        items: &[Item],
+        earlier: &Shared<Futures>,
+    ) -> Result<Futures, NoMemory>
+        ensures { IfOk result (λ futures. All (IsExact grammar.now.productions) sets.now.sets.items → (word : List ℕ) → IsItemSet grammar.now word items.now
+            → AreEarlier grammar.now sets.now.sets.items word earlier.now → AreFutures grammar.now sets.now.sets.items word futures) }
+    {
+        let mut futures = Vec::new(alloc);
+        for (number, set) in sets.sets().iter().enumerate() {
+            let future = future_of(alloc, grammar, *set, number, items, earlier)?;
+            let Ok(()) = futures.push(future) else {
+                return Err(NoMemory);
+            };
+        }
+        Ok(Futures { futures })
+    }
+
+    /// Whether one or more letters without a dead parameter may follow.
+    pub(crate) fn is_alive(&self, sets: &DeadSets, dead: u8) -> bool
+        ensures { (g : GrammarDefinition) (params word : List ℕ) → AreDeadSets g.productions params sets.now → AreFutures g sets.now.sets.items word self.now
+            → IsTrue result ↔ IsAliveFor g params dead word }
+    {
+        match sets.number(dead) {
+            Some(number) => match self.get(number) {
+                Some(future) => future.alive,
+                None => false,
+            },
+            None => false,
+        }
+    }
+
+    /// What may follow of the letters of a set.
+    fn get(&self, number: usize) -> Option<Future>
+        ensures { result ≡ slice_get self.now.futures.items number }
+    {
+        match self.futures.get(number) {
+            Some(future) => Some(*future),
+            None => None,
+        }
+    }
+}
+
+/// Whether no word of the grammar begins with the word that has these items, where each nonterminal of a production spells a word.
+pub(crate) fn is_hopeless(items: &[Item]) -> bool
+    ensures { (g : GrammarDefinition) (word : List ℕ) → AllSpell g → IsItemSet g word items.now → IsTrue result ↔ IsHopeless g word }
+{
+    items.is_empty()
+}
+
+/// What may follow at an earlier place, of the letters of a set.
+fn future_at(earlier: &Shared<Futures>, number: usize, place: u32) -> Option<Future>
+    ensures { result ≡ future_at earlier.now number place }
+{
+    match earlier.get(place as usize) {
+        Some(futures) => futures.get(number),
+        None => None,
+    }
+}
+
+/// The rule for the nonterminals that a rest may follow.
+fn ends_rule(link: Option<Link>, there: Option<Future>) -> Rule
+    ensures { result ≡ ends_rule link there }
+{
+    let Some(link) = link else {
+        return Rule {
+            gives: 0,
+            any: 0,
+            always: false,
+        };
+    };
+    match there {
+        Some(there) => Rule {
+            gives: only(link.next),
+            any: 0,
+            always: has(there.ends, link.left),
+        },
+        None => Rule {
+            gives: only(link.next),
+            any: only(link.left),
+            always: false,
+        },
+    }
+}
+
+/// The rule for the nonterminals that a rest of one or more letters may follow.
+fn more_rule(ends: u64, link: Option<Link>, there: Option<Future>) -> Rule
+    ensures { result ≡ more_rule ends link there }
+{
+    let Some(link) = link else {
+        return Rule {
+            gives: 0,
+            any: 0,
+            always: false,
+        };
+    };
+    match there {
+        Some(there) => Rule {
+            gives: only(link.next),
+            any: 0,
+            always: link.goes_on && has(there.ends, link.left) || has(there.more, link.left),
+        },
+        None => Rule {
+            gives: only(link.next),
+            any: only(link.left),
+            always: link.goes_on && has(ends, link.left),
+        },
+    }
+}
+
+/// Nothing follows the start at the first place.
+fn start_rule(start: u8, earlier: &Shared<Futures>) -> Rule
+    ensures { result ≡ start_rule start earlier.now }
+{
+    Rule {
+        gives: only(start),
+        any: 0,
+        always: earlier.len() == 0,
+    }
+}
+
+/// Whether the letters of the set may go on behind the item.
+fn keeps_alive(productions: &[Production], set: LetterSet, there: Future, item: Item) -> bool
+    ensures { result ≡ keeps_alive_in item set there (slice_get productions.now item.production) }
+{
+    match productions.get(usize::from(item.production)) {
+        Some(production) => {
+            let symbols = behind(production.symbols.as_slice(), item.dot);
+            set.can_spell(symbols)
+                && (set.can_go_on(symbols) && has(there.ends, production.left)
+                    || has(there.more, production.left))
+        }
+        None => false,
+    }
+}
+
+fn ends_rules(
+    alloc: Global,
+    productions: &[Production],
+    start: u8,
+    set: LetterSet,
+    number: usize,
+    items: &[Item],
+    earlier: &Shared<Futures>,
+) -> Result<Vec<Rule>, NoMemory>
+    ensures { IfOk result (λ rules. rules.items ≡ ends_rules productions.now start set number earlier.now items.now) }
+{
+    let mut rules = Vec::new(alloc);
+    let Ok(()) = rules.push(start_rule(start, earlier)) else {
+        return Err(NoMemory);
+    };
+    for item in items {
+        let link = link_of(productions, set, *item);
+        let rule = ends_rule(link, future_at(earlier, number, item.origin));
+        let Ok(()) = rules.push(rule) else {
+            return Err(NoMemory);
+        };
+    }
+    Ok(rules)
+}
+
+fn more_rules(
+    alloc: Global,
+    productions: &[Production],
+    ends: u64,
+    set: LetterSet,
+    number: usize,
+    items: &[Item],
+    earlier: &Shared<Futures>,
+) -> Result<Vec<Rule>, NoMemory>
+    ensures { IfOk result (λ rules. rules.items ≡ more_rules productions.now ends set number earlier.now items.now) }
+{
+    let mut rules = Vec::new(alloc);
+    for item in items {
+        let link = link_of(productions, set, *item);
+        let rule = more_rule(ends, link, future_at(earlier, number, item.origin));
+        let Ok(()) = rules.push(rule) else {
+            return Err(NoMemory);
+        };
+    }
+    Ok(rules)
+}
+
+/// Whether letters of the set may go on behind one of the items.
+fn is_alive(
+    productions: &[Production],
+    set: LetterSet,
+    number: usize,
+    items: &[Item],
+    earlier: &Shared<Futures>,
+    here: Future,
+) -> bool
+    ensures { result ≡ list_any (keeps_alive productions.now set number earlier.now here) items.now }
+{
+    for item in items {
+        let there = future_at(earlier, number, item.origin).unwrap_or(here);
+        if keeps_alive(productions, set, there, *item) {
+            return true;
+        }
+    }
+    false
+}
+
+/// What may follow of the letters of a set.
+fn future_of(
+    alloc: Global,
+    grammar: &Grammar,
+    set: LetterSet,
+    number: usize,
+    items: &[Item],
+    earlier: &Shared<Futures>,
+) -> Result<Future, NoMemory>
+    ensures { IfOk result (λ future. IsFutureOf grammar.now set number items.now earlier.now future) }
+{
+    let productions = grammar.productions();
+    let rules = ends_rules(
+        alloc,
+        productions,
+        grammar.start(),
+        set,
+        number,
+        items,
+        earlier,
+    )?;
+    let ends = gained(rules.as_slice());
+    let rules = more_rules(alloc, productions, ends, set, number, items, earlier)?;
+    let more = gained(rules.as_slice());
+    let here = Future {
+        ends,
+        more,
+        alive: false,
+    };
+    let alive = is_alive(productions, set, number, items, earlier, here);
+    Ok(Future { ends, more, alive })
+}

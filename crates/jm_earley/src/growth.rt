@@ -1,0 +1,149 @@
+//! The items of a place: what is read is worked through item by item, until the rules add nothing.
+ghost use Rattle.std.specs.Prelude.{ℕ, ◌≡◌, ◌<◌, ◌^◌, ◌↔◌, [], Some, IsTrue, IfSome, IfOk, OnOk, Contains, length};
+ghost use Rattle.jm_grammar.specs.declared.grammar.GrammarSymbol.{GrammarSymbol};
+ghost use Rattle.jm_grammar.specs.Grammars.{IsSmallSymbol};
+ghost use Rattle.jm_grammar.specs.Derivations.{Derives};
+ghost use Rattle.jm_earley.specs.declared.item.Item.{Item};
+ghost use Rattle.jm_earley.specs.Items.{symbol_after, finished_left, advanced};
+ghost use Rattle.jm_earley.specs.Growth.{Grows, IsAdvancedOver, AreAdvancedOver, IsPrediction, ArePredicted, IsPredictedSet, IsStep, IsWorked, IsClosure};
+
+use crate::chart::Charts;
+use crate::item::{Item, advanced};
+use crate::set::ItemSet;
+use crate::shared::Shared;
+use jm_grammar::GrammarSymbol;
+use jm_model::NoMemory;
+
+/// The items of a place so far, and the nonterminals whose productions are among them.
+#[derive(Drop)]
+struct Growth {
+    set: ItemSet,
+    predicted: u64,
+}
+
+impl Charts {
+    /// The items that the rules make of the first ones, at the place behind the sets.
+    pub(crate) fn close(&self, sets: &Shared<ItemSet>, first: ItemSet) -> Result<ItemSet, NoMemory>
+        requires { length sets.now < 2 ^ 32 }
+        ensures { IfOk result (λ set. IsClosure self.now.grammar sets.now first set) }
+    {
+        let mut growth = Growth {
+            set: first,
+            predicted: 0,
+        };
+        let mut number = 0;
+        while let Some(item) = growth.set.get(number) {
+            self.work(sets, &mut growth, item)?;
+            number += 1;
+        }
+        let Growth { set, .. } = growth;
+        Ok(set)
+    }
+
+    /// Adds what the rules make of an item.
+    fn work(&self, sets: &Shared<ItemSet>, growth: &mut Growth, item: Item) -> Result<(), NoMemory>
+        requires place { length sets.now < 2 ^ 32 }
+        requires predicted { IsPredictedSet self.now.grammar (length sets.now) growth.old.predicted growth.old.set }
+        ensures grows { OnOk result (Grows (IsStep self.now.grammar sets.now item) growth.old.set growth.new.set) }
+        ensures worked { OnOk result (IsWorked self.now.grammar sets.now growth.new.set item) }
+        ensures predicted { OnOk result (IsPredictedSet self.now.grammar (length sets.now) growth.new.predicted growth.new.set) }
+    {
+        match self.symbol_after(item) {
+            Some(GrammarSymbol::Nonterminal(n)) => {
+                self.predict(growth, sets.len() as u32, n)?;
+                self.skip(&mut growth.set, item, n)
+            }
+            Some(GrammarSymbol::Letter(_)) => Ok(()),
+            None => self.complete(sets, &mut growth.set, item),
+        }
+    }
+
+    /// Adds the productions of a nonterminal that is awaited at the place.
+    fn predict(&self, growth: &mut Growth, place: u32, n: u8) -> Result<(), NoMemory>
+        requires small { n < 64 }
+        requires predicted { IsPredictedSet self.now.grammar place growth.old.predicted growth.old.set }
+        ensures grows { OnOk result (Grows (IsPrediction self.now.grammar place n) growth.old.set growth.new.set) }
+        ensures all { OnOk result (ArePredicted self.now.grammar place n growth.new.set) }
+        ensures predicted { OnOk result (IsPredictedSet self.now.grammar place growth.new.predicted growth.new.set) }
+    {
+        if growth.predicted >> n & 1 == 1 {
+            return Ok(());
+        }
+        self.begin_productions(&mut growth.set, place, n)?;
+        growth.predicted |= 1 << n;
+        Ok(())
+    }
+
+    /// Adds the productions of a nonterminal, with nothing spelled.
+    pub(crate) fn begin_productions(
+        &self,
+        set: &mut ItemSet,
+        place: u32,
+        n: u8,
+    ) -> Result<(), NoMemory>
+        ensures grows { OnOk result (Grows (IsPrediction self.now.grammar place n) set.old set.new) }
+        ensures all { OnOk result (ArePredicted self.now.grammar place n set.new) }
+    {
+        for (number, production) in self.productions().iter().enumerate() {
+            if production.left == n {
+                set.add(Item {
+                    production: number as u16,
+                    dot: 0,
+                    origin: place,
+                })?;
+            }
+        }
+        Ok(())
+    }
+
+    /// Adds the item advanced over a nonterminal, where that spells the empty word.
+    fn skip(&self, set: &mut ItemSet, item: Item, n: u8) -> Result<(), NoMemory>
+        requires small { n < 64 }
+        requires room { item.dot < 32 }
+        ensures grows { OnOk result (Grows (λ x. Derives self.now.grammar.productions n [] × (x ≡ advanced item)) set.old set.new) }
+        ensures all { OnOk result (Derives self.now.grammar.productions n [] → Contains set.new (advanced item)) }
+    {
+        if self.is_nullable(n) {
+            set.add(advanced(item))?;
+        }
+        Ok(())
+    }
+
+    /// Adds the items that awaited the left side of a finished item, advanced over it.
+    fn complete(
+        &self,
+        sets: &Shared<ItemSet>,
+        set: &mut ItemSet,
+        item: Item,
+    ) -> Result<(), NoMemory>
+        requires { symbol_after self.now.grammar item ≡ None }
+        ensures grows { OnOk result (Grows (IsStep self.now.grammar sets.now item) set.old set.new) }
+        ensures worked { OnOk result (IsWorked self.now.grammar sets.now set.new item) }
+    {
+        let Some(left) = self.finished_left(item) else {
+            return Ok(());
+        };
+        let Some(from) = sets.get(item.origin as usize) else {
+            return Ok(());
+        };
+        self.advance_over(set, from.as_slice(), GrammarSymbol::Nonterminal(left))
+    }
+
+    /// Adds each item before a symbol, advanced over it.
+    pub(crate) fn advance_over(
+        &self,
+        set: &mut ItemSet,
+        from: &[Item],
+        symbol: GrammarSymbol,
+    ) -> Result<(), NoMemory>
+        ensures grows { OnOk result (Grows (IsAdvancedOver self.now.grammar from.now symbol) set.old set.new) }
+        ensures all { OnOk result (AreAdvancedOver self.now.grammar from.now symbol set.new) }
+    {
+        for item in from {
+            if self.is_before(*item, symbol) {
+                set.add(advanced(*item))?;
+            }
+        }
+        Ok(())
+    }
+}

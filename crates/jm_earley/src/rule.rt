@@ -1,0 +1,66 @@
+//! Sets of nonterminals as bits, and rules that add to them until they stay.
+ghost use Rattle.std.specs.Prelude.{ℕ, ◌≡◌, ◌↔◌, IsBitSet};
+ghost use Rattle.jm_earley.specs.Rules.{only, has, is_met, with_rule, with_rules, IsGained};
+
+/// The set of one nonterminal, which is below 64.
+pub(crate) fn only(n: u8) -> u64
+    ensures { result ≡ only n }
+{
+    if n < 64 { 1 << n } else { 0 }
+}
+
+/// Whether a nonterminal is in a set.
+pub(crate) fn has(known: u64, n: u8) -> bool
+    ensures { result ≡ has known n }
+{
+    n < 64 && known >> n & 1 == 1
+}
+
+/// What is gained always, or where one of some nonterminals was gained.
+#[derive(Clone, Copy)]
+pub(crate) struct Rule {
+    pub gives: u64,
+    pub any: u64,
+    pub always: bool,
+}
+
+fn is_met(rule: Rule, known: u64) -> bool
+    ensures { result ≡ is_met known rule }
+{
+    rule.always || rule.any & known != 0
+}
+
+fn with_rule(rule: Rule, known: u64) -> u64
+    ensures { result ≡ with_rule known rule }
+{
+    if is_met(rule, known) {
+        known | rule.gives
+    } else {
+        known
+    }
+}
+
+/// The set with what each rule adds, in order.
+fn with_rules(rules: &[Rule], known: u64) -> u64
+    ensures { result ≡ with_rules rules.now known }
+{
+    let mut next = known;
+    for rule in rules {
+        next = with_rule(*rule, next);
+    }
+    next
+}
+
+/// What the rules add in all.
+pub(crate) fn gained(rules: &[Rule]) -> u64
+    ensures { (n : ℕ) → IsBitSet result n ↔ IsGained rules.now n }
+{
+    let mut known = 0;
+    'rounds: loop {
+        let next = with_rules(rules, known);
+        if next == known {
+            return known;
+        }
+        known = next;
+    }
+}
