@@ -1,0 +1,4 @@
+pub mod Formulas
+pub mod Handlers
+pub mod Meanings
+pub mod Compiling
