@@ -7,7 +7,17 @@
 #![tactic(auto)]
 
 mod formula;
+mod goal;
+mod handlers;
 mod laws;
+mod ranges;
+mod rules;
+mod run;
 
 pub use formula::Formula;
 pub use laws::one_reading;
+pub use rules::Rules;
+pub use run::Run;
+
+#[cfg(test)]
+mod tests;
