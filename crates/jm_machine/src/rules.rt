@@ -38,6 +38,11 @@ impl Model for Rules {
 
     ghost Value = { CompiledRules };
 
+    ghost use Rattle.std.specs.Coded.{codes};
+    ghost use Rattle.jm_machine.specs.contracts.formula.Formula as property;
+
+    ghost coded = { Prim.hlevel (codes, property.the_row.coded) };
+
     ghost view = { λ r. record { definition = definition_of r.masks.items r.formula r.handlers r.goal; states = r.table } };
 
     ghost invariant = { λ r. IsGoalOf r.masks.items r.formula r.handlers r.goal × IsRuleSet (record { definition = definition_of r.masks.items r.formula r.handlers r.goal; states = r.table }) };
