@@ -1,1 +1,7 @@
+pub mod OptionLemmas
 pub mod RunLemmas
+pub mod HandlerLemmas
+pub mod GoalLemmas
+pub mod FormulaLemmas
+pub mod ReadingLemmas
+pub mod RuleLemmas

@@ -5,6 +5,7 @@ use Rattle.std.proofs.lemmas.List.{map_more}
 use Rattle.std.proofs.lemmas.Option.{slice_get_within, unwrap_or-slice_get}
 use Rattle.std.proofs.lemmas.List.Elements.{All-get_or, All-head, All-tail, All-push}
 use Rattle.jm_events.specs.Events.{EventDefinition}
+use Rattle.jm_machine.proofs.OptionLemmas.{same_some}
 use Rattle.jm_table.specs.Tables.{Transitions, next_of, state_from, state_after_of, IsTable, IsWord}
 
 -- ---- a state of a word is one of the table
@@ -26,9 +27,6 @@ word_within t state (e ∷ w) table a word =
 
 pub state_within : (t : Transitions) (w : List ℕ) → IsTable t → IsWord t w → state_after_of t w < t.states
 state_within t w table word = word_within t 0 w table table.some_states word
-
-same_some : {X : Type 0} {x y : X} → Some x ≡ Some y → x ≡ y
-same_some e = cc
 
 -- ---- the sets of parameters, one letter more
 pub mask_more : (events : List EventDefinition) (n mask : ℕ) (masks : List ℕ) → masks ≡ map (λ e. e.mask) (take n events) → option_map (λ e. e.mask) (slice_get events n) ≡ Some mask

@@ -44,8 +44,9 @@ definition_of masks formula handlers goal = record {
   handlers = handlers;
 }
 
--- the creation letters are letters, and the group of each handler is the number of its category
+-- there are at most 32 letters, the creation letters are some of them, and the group of each handler is the number of its category
 pub record IsGoalOf (masks : List ℕ) (formula : Formula) (handlers : List (List ℕ)) (goal : GoalDefinition) : Type 0 where
+  pub few : length masks ≤ 32
   pub creation : (letter : ℕ) → IsBitSet goal.creation letter → letter < length masks
   pub groups : map Some goal.groups ≡ map (number_of (category_names formula)) handlers
 

@@ -58,6 +58,7 @@ fn all_below(count: u8) -> u8
 /// The sets of parameters of the events, letter by letter.
 pub(crate) fn masks_of(alloc: Global, table: &EventTable) -> Result<Vec<u8>, SpecError>
     ensures value { IfOk result (λ masks. masks.items ≡ map (λ e. e.mask) table.now.events) }
+    ensures few { IfOk result (λ masks. length masks.items ≤ 32) }
     ensures fit { IfOk result (λ masks. All (λ mask. mask < 2 ^ length table.now.parameters) masks.items) }
     ensures err { IfErr result (λ e. e ≡ SpecError.NoMemory) }
 {
