@@ -1,6 +1,6 @@
 -- The steps over the handlers, one handler more.
 use Rattle.std.proofs.Common.{◌≡◌, ℕ, ◌+◌, ◌<◌, suc, Bool, true, false, Option, Some, None, List, [], ◌∷◌, ◌++◌, map, take, drop, get_or, length, refl, sym, ◌∙◌, ap, subst, add-one, drop-cons}
-use Rattle.std.specs.Prelude.{is_some, is_none, slice_get}
+use Rattle.std.specs.Prelude.{is_some, slice_get}
 use Rattle.std.specs.List.{list_any}
 use Rattle.std.specs.Str.{bytes_eq}
 use Rattle.std.proofs.lemmas.List.{map_more, map-append}
@@ -12,21 +12,21 @@ use Rattle.jm_events.specs.Names.{number_of, with_name}
 use Rattle.jm_events.proofs.NameLemmas.{list_any-number_of, with_name-new}
 use Rattle.jm_spec.specs.declared.property.HandlerText.{HandlerText}
 use Rattle.jm_machine.specs.Handlers.{handler_names, duplicate_fault, category_fault}
-use Rattle.jm_machine.proofs.OptionLemmas.{none_of, some_of_not_none, none_of_not_some}
+use Rattle.jm_machine.proofs.OptionLemmas.{none_of_not_some}
 
 module _ (bytes : List ℕ) (names : List (List ℕ)) (hs : List HandlerText) (i : ℕ) (d : HandlerText) (name : List ℕ) (found : Option ℕ) (less : i < length hs) (named : name ≡ name_of bytes (get_or hs i d).category) (lookup : found ≡ number_of names name) where
   -- the test of the handler's name
   test : list_any (bytes_eq (name_of bytes (get_or hs i d).category)) names ≡ is_some found
   test = ap (λ n. list_any (bytes_eq n) names) (sym named) ∙ list_any-number_of names name ∙ ap is_some (sym lookup)
 
-  pub unknown_here : is_none found ≡ true → category_fault bytes names (drop i hs) ≡ Some (UnknownCategory (get_or hs i d).category.line)
+  pub unknown_here : is_some found ≡ false → category_fault bytes names (drop i hs) ≡ Some (UnknownCategory (get_or hs i d).category.line)
   unknown_here none =
-      let no : list_any (bytes_eq (name_of bytes (get_or hs i d).category)) names ≡ false = test ∙ ap is_some (none_of found none) in
+      let no : list_any (bytes_eq (name_of bytes (get_or hs i d).category)) names ≡ false = test ∙ none in
       rw (drop-cons hs i d less, no) refl
 
-  pub known_here : is_none found ≡ false → category_fault bytes names (drop (i + 1) hs) ≡ category_fault bytes names (drop i hs)
+  pub known_here : is_some found ≡ true → category_fault bytes names (drop (i + 1) hs) ≡ category_fault bytes names (drop i hs)
   known_here some =
-      let yes : list_any (bytes_eq (name_of bytes (get_or hs i d).category)) names ≡ true = test ∙ some_of_not_none found some in
+      let yes : list_any (bytes_eq (name_of bytes (get_or hs i d).category)) names ≡ true = test ∙ some in
       rw (add-one, drop-cons hs i d less, yes) refl
 
   pub duplicate_here : is_some found ≡ true → duplicate_fault bytes names (drop i hs) ≡ Some (DuplicateHandler (get_or hs i d).category.line)

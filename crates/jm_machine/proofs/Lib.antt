@@ -5,3 +5,4 @@ pub mod GoalLemmas
 pub mod FormulaLemmas
 pub mod ReadingLemmas
 pub mod RuleLemmas
+pub mod CompileLemmas

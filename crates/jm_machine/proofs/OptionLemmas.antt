@@ -1,6 +1,6 @@
 -- Values that may be there.
 use Rattle.std.proofs.Common.{◌≡◌, ℕ, Bool, true, false, Option, Some, None, Result, Ok, Err, List, [], ◌∷◌, map, refl, sym, ◌∙◌, ap, subst}
-use Rattle.std.specs.Prelude.{IsSomeAnd, IfOk, ◌↔◌, is_some, is_none, option_map, slice_get}
+use Rattle.std.specs.Prelude.{IsSomeAnd, IfOk, ◌↔◌, is_some, option_map, slice_get}
 use Rattle.std.proofs.lemmas.Option.{slice_get-map}
 
 pub same_some : {X : Type 0} {x y : X} → Some x ≡ Some y → x ≡ y
@@ -11,14 +11,6 @@ never_some e = cc
 
 pub same_ok : {X E : Type 0} {x y : X} → ◌≡◌ {A = Result X E} (Ok x) (Ok y) → x ≡ y
 same_ok e = cc
-
-pub none_of : (o : Option ℕ) → is_none o ≡ true → o ≡ None
-none_of None e = refl
-none_of (Some x) e = absurd cc
-
-pub some_of_not_none : (o : Option ℕ) → is_none o ≡ false → is_some o ≡ true
-some_of_not_none None e = absurd cc
-some_of_not_none (Some x) e = refl
 
 pub none_of_not_some : (o : Option ℕ) → is_some o ≡ false → o ≡ None
 none_of_not_some None e = refl

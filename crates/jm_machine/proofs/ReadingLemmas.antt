@@ -1,5 +1,5 @@
 -- No tokens say two formulas, or a formula and a fault; and no tree says two rules, or rules and a fault.
-use Rattle.std.proofs.Common.{◌≡◌, ℕ, Bool, true, false, List, Option, Some, None, Result, Ok, Err, refl, sym, ap, subst, ◌∙◌}
+use Rattle.std.proofs.Common.{◌≡◌, ℕ, Bool, true, false, List, length, Option, Some, None, Result, Ok, Err, refl, sym, ap, subst, ◌∙◌}
 use Rattle.jm_model.specs.declared.step.Letter.{Letter}
 use Rattle.jm_model.specs.declared.fault.Counted.TheVariants.{Nesting}
 use Rattle.jm_model.specs.declared.fault.SpecFault.{SpecFault}
@@ -49,7 +49,7 @@ module _ (bytes : List ℕ) (tokens : List Token) (table : EventDefinitions) whe
       same_ok (sym h.1.3 ∙ ap (ere.expression_said bytes (event_names table)) same ∙ k.1.3)
 
   true_or_false : {b : Bool} → b ≡ false → b ≡ true → ⊥
-  true_or_false no yes = absurd cc
+  true_or_false is_false is_true = absurd cc
 
   expression_or_fault : (e : Expression) (fault : SpecFault) → ere.IsReadFrom bytes tokens table e → ere.IsRefused bytes tokens table (Bad fault) → ⊥
   expression_or_fault e (TooMany Nesting) h k = true_or_false h.0 k
@@ -119,4 +119,4 @@ module _ (bytes : List ℕ) (tokens : List Token) (tree : SpecTree) (r : RuleDef
   rules_or_fault fault (in_handlers f read bad) =
       never_some (sym told.handled ∙ ap (λ g. handlers_fault bytes tokens (category_names g) tree.handlers.items) (same_formula f read) ∙ bad)
   rules_or_fault fault (in_table f read handled bad) =
-      told.settled fault (subst (λ g. IsTableFault g _ fault) (sym (same_formula f read)) bad)
+      told.settled fault (subst (λ g. IsTableFault g (length tree.table.events) fault) (sym (same_formula f read)) bad)
