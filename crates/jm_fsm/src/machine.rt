@@ -1,4 +1,4 @@
-ghost use Rattle.std.specs.Prelude.{ℕ, ◌≡◌, ◌<◌, ◌+◌, ◌-◌, ◌^◌, ◌↔◌, false, [], ◌∷◌, ◌++◌, length, map, IsTrue, Contains, OnOk, IfOk, IfErr, string_bytes};
+ghost use Rattle.std.specs.Prelude.{ℕ, ◌≡◌, ◌<◌, ◌≤◌, ◌+◌, ◌-◌, ◌^◌, ◌↔◌, false, [], ◌∷◌, ◌++◌, length, map, IsTrue, Contains, OnOk, IfOk, IfErr, string_bytes};
 ghost use Rattle.jm_fsm.specs.Machines.{target_of, next_target, IsMember, IsMachine, AreDistinct, category_names, category_count};
 ghost use Rattle.jm_fsm.specs.Names.{is_among};
 
@@ -246,6 +246,7 @@ impl Fsm {
     pub fn categories(&self, alloc: Global) -> Result<Names, NoMemory>
         ensures value { IfOk result (λ names. names ≡ category_names self.now) }
         ensures count { IfOk result (λ names. length names ≡ category_count self.now) }
+        ensures few { IfOk result (λ names. length names ≤ 1280) }
     {
         let mut names = Names::new(alloc);
         add_states(&mut names, self.states.as_slice())?;

@@ -1,0 +1,65 @@
+-- The rules that are made of a tree, and its faults.
+use Rattle.std.proofs.Common.{◌≡◌, ℕ, ◌<◌, ◌≤◌, List, Option, Some, None, map, length, refl, sym, ◌∙◌, ap, subst}
+use Rattle.std.specs.Prelude.{IsBitSet, ◌↔◌, Bool, slice_range}
+use Rattle.std.proofs.lemmas.List.{length-map}
+use Rattle.jm_model.specs.declared.fault.SpecFault.{SpecFault}
+use Rattle.jm_model.specs.declared.fault.SpecError.{SpecError}
+use Rattle.jm_model.specs.declared.fault.SpecError.TheVariants.{Bad, NoMemory}
+use Rattle.jm_text.specs.declared.token.Token.{Token}
+use Rattle.jm_reading.specs.Faults.{Refuses}
+use Rattle.jm_events.specs.Names.{number_of}
+use Rattle.jm_events.specs.Events.{EventDefinition, EventDefinitions, IsCreation}
+use Rattle.jm_goal.specs.Goals.{GoalDefinition}
+use Rattle.jm_table.specs.Explorations.{IfBad}
+use Rattle.jm_table.specs.Tables.{Transitions}
+use Rattle.jm_spec.specs.declared.property.HandlerText.{HandlerText}
+use Rattle.jm_spec.specs.declared.tree.SpecTree.{SpecTree}
+use Rattle.jm_machine.specs.declared.formula.Formula.{Formula}
+use Rattle.jm_machine.specs.Formulas.{category_names, IsReadAs, IsTableFault}
+use Rattle.jm_machine.specs.Handlers.{handlers_fault}
+use Rattle.jm_machine.specs.Meanings.{must_bind_of, rules_of}
+use Rattle.jm_machine.specs.RuleSets.{definition_of, letters_of, IsCompiled, IsGoalOf, IsRuleSet}
+use Rattle.jm_machine.specs.Compiling.{IsNotCompiled, IsFormula, in_formula, in_handlers, in_table}
+use Rattle.jm_machine.proofs.GoalLemmas.{same_letters, creation_below}
+
+-- ---- the rules
+
+module _ (t : EventDefinitions) (formula : Formula) (masks : List ℕ) (handlers : List (List ℕ)) (goal : GoalDefinition) (filled : masks ≡ map (λ e. e.mask) t.events) (creation : (k : ℕ) → IsBitSet goal.creation k ↔ IsCreation t k) where
+  masks_each : length masks ≡ length t.events
+  masks_each = ap length filled ∙ length-map t.events (λ (e : EventDefinition). e.mask)
+
+  pub made_rules : (full : Bool) → goal.must_bind ≡ must_bind_of t full → definition_of masks formula handlers goal ≡ rules_of t full formula handlers
+  made_rules full bound =
+      let letters = ap (letters_of goal.creation) masks_each ∙ same_letters t goal.creation creation in
+      λ i. record { masks = filled i; creation = letters i; must_bind = bound i; formula = formula; handlers = handlers }
+
+  pub made_goal : (categories : List (List ℕ)) → categories ≡ category_names formula → map {A = ℕ} {B = Option ℕ} Some goal.groups ≡ map (number_of categories) handlers → length masks ≤ 32 → IsGoalOf masks formula handlers goal
+  made_goal categories named groups few = record {
+    few = few;
+    creation = λ k set. subst (λ n. k < n) (sym masks_each) (creation_below t k ((creation k).0 set));
+    groups = subst (λ cs. map {A = ℕ} {B = Option ℕ} Some goal.groups ≡ map (number_of cs) handlers) named groups;
+  }
+
+  pub made_set : (categories : List (List ℕ)) (states : Transitions) → categories ≡ category_names formula → states.letters ≡ length t.events → length states.groups ≡ length categories → IsCompiled formula states
+      → IsRuleSet (record { definition = definition_of masks formula handlers goal; states = states })
+  made_set categories states named letters groups compiled = record {
+    letters = letters ∙ sym masks_each;
+    groups = groups ∙ ap length named;
+    compiled = compiled;
+  }
+
+-- ---- the faults
+
+module _ (bytes : List ℕ) (tokens formula_tokens : List Token) (tree : SpecTree) (formula : Formula) (cut : formula_tokens ≡ slice_range tokens tree.first tree.last) (read : IsReadAs bytes formula_tokens tree.table tree.logic formula) where
+  told : IsFormula bytes tokens tree formula
+  told = subst (λ ts. IsReadAs bytes ts tree.table tree.logic formula) cut read
+
+  pub handlers_refused : (categories : List (List ℕ)) (texts : List HandlerText) (e : SpecError) → categories ≡ category_names formula → texts ≡ tree.handlers.items → Refuses (handlers_fault bytes tokens categories texts) e → IsNotCompiled bytes tokens tree e
+  handlers_refused categories texts NoMemory named each h = tt
+  handlers_refused categories texts (Bad fault) named each h =
+      in_handlers formula told (sym (λ i. handlers_fault bytes tokens (named i) (each i)) ∙ h)
+
+  pub table_refused : (categories : List (List ℕ)) (texts : List HandlerText) (e : SpecError) → categories ≡ category_names formula → texts ≡ tree.handlers.items → handlers_fault bytes tokens categories texts ≡ None → IfBad e (IsTableFault formula (length tree.table.events)) → IsNotCompiled bytes tokens tree e
+  table_refused categories texts NoMemory named each none h = tt
+  table_refused categories texts (Bad fault) named each none h =
+      in_table formula told (sym (λ i. handlers_fault bytes tokens (named i) (each i)) ∙ none) h

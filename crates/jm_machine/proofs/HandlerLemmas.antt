@@ -1,0 +1,55 @@
+-- The steps over the handlers, one handler more.
+use Rattle.std.proofs.Common.{◌≡◌, ℕ, ◌+◌, ◌<◌, suc, Bool, true, false, Option, Some, None, List, [], ◌∷◌, ◌++◌, map, take, drop, get_or, length, refl, sym, ◌∙◌, ap, subst, add-one, drop-cons}
+use Rattle.std.specs.Prelude.{is_some, slice_get}
+use Rattle.std.specs.List.{list_any}
+use Rattle.std.specs.Str.{bytes_eq}
+use Rattle.std.proofs.lemmas.List.{map_more, map-append}
+use Rattle.std.proofs.lemmas.Option.{slice_get_within, get_or_from_slice_get}
+use Rattle.jm_model.specs.declared.fault.SpecFault.{SpecFault}
+use Rattle.jm_model.specs.declared.fault.SpecFault.TheVariants.{DuplicateHandler, UnknownCategory}
+use Rattle.jm_reading.specs.Tokens.{name_of}
+use Rattle.jm_events.specs.Names.{number_of, with_name}
+use Rattle.jm_events.proofs.NameLemmas.{list_any-number_of, with_name-new}
+use Rattle.jm_spec.specs.declared.property.HandlerText.{HandlerText}
+use Rattle.jm_machine.specs.Handlers.{handler_names, duplicate_fault, category_fault}
+use Rattle.jm_machine.proofs.OptionLemmas.{none_of_not_some}
+
+module _ (bytes : List ℕ) (names : List (List ℕ)) (hs : List HandlerText) (i : ℕ) (d : HandlerText) (name : List ℕ) (found : Option ℕ) (less : i < length hs) (named : name ≡ name_of bytes (get_or hs i d).category) (lookup : found ≡ number_of names name) where
+  -- the test of the handler's name
+  test : list_any (bytes_eq (name_of bytes (get_or hs i d).category)) names ≡ is_some found
+  test = ap (λ n. list_any (bytes_eq n) names) (sym named) ∙ list_any-number_of names name ∙ ap is_some (sym lookup)
+
+  pub unknown_here : is_some found ≡ false → category_fault bytes names (drop i hs) ≡ Some (UnknownCategory (get_or hs i d).category.line)
+  unknown_here none =
+      let no : list_any (bytes_eq (name_of bytes (get_or hs i d).category)) names ≡ false = test ∙ none in
+      rw (drop-cons hs i d less, no) refl
+
+  pub known_here : is_some found ≡ true → category_fault bytes names (drop (i + 1) hs) ≡ category_fault bytes names (drop i hs)
+  known_here some =
+      let yes : list_any (bytes_eq (name_of bytes (get_or hs i d).category)) names ≡ true = test ∙ some in
+      rw (add-one, drop-cons hs i d less, yes) refl
+
+  pub duplicate_here : is_some found ≡ true → duplicate_fault bytes names (drop i hs) ≡ Some (DuplicateHandler (get_or hs i d).category.line)
+  duplicate_here some =
+      let yes : list_any (bytes_eq (name_of bytes (get_or hs i d).category)) names ≡ true = test ∙ some in
+      rw (drop-cons hs i d less, yes) refl
+
+  pub new_name : is_some found ≡ false → with_name names name ≡ names ++ name ∷ []
+  new_name none = with_name-new names name (sym lookup ∙ none_of_not_some found none)
+
+  pub new_here : is_some found ≡ false → duplicate_fault bytes (with_name names name) (drop (i + 1) hs) ≡ duplicate_fault bytes names (drop i hs)
+  new_here none =
+      let no : list_any (bytes_eq (name_of bytes (get_or hs i d).category)) names ≡ false = test ∙ none in
+      rw (new_name none, named, add-one, drop-cons hs i d less, no) refl
+
+  pub names_more : is_some found ≡ false → names ≡ handler_names bytes (take i hs) → with_name names name ≡ handler_names bytes (take (i + 1) hs)
+  names_more none filled =
+      new_name none ∙ ap (λ ns. ns ++ name ∷ []) filled ∙ ap (λ n. handler_names bytes (take i hs) ++ n ∷ []) named ∙ sym (map_more (λ (h : HandlerText). name_of bytes h.category) hs i d less)
+
+-- one group more
+pub groups_more : (names handlers : List (List ℕ)) (i : ℕ) (groups : List ℕ) (name : List ℕ) (group : ℕ) → map {A = ℕ} {B = Option ℕ} Some groups ≡ map (number_of names) (take i handlers) → slice_get handlers i ≡ Some name → Some group ≡ number_of names name
+    → map {A = ℕ} {B = Option ℕ} Some (groups ++ group ∷ []) ≡ map (number_of names) (take (i + 1) handlers)
+groups_more names handlers i groups name group filled at found =
+    map-append Some groups (group ∷ []) ∙ ap (λ os. os ++ Some group ∷ []) filled
+    ∙ ap (λ o. map (number_of names) (take i handlers) ++ o ∷ []) (found ∙ ap (number_of names) (sym (get_or_from_slice_get handlers i name name at)))
+    ∙ sym (map_more (number_of names) handlers i name (slice_get_within handlers i name at))

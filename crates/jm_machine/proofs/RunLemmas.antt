@@ -1,0 +1,41 @@
+-- The monitor runs words.
+use Rattle.std.proofs.Common.{◌≡◌, ◌≢◌, ℕ, zero, suc, ◌+◌, ◌*◌, ◌^◌, ◌<◌, ◌≤◌, inl, List, [], ◌∷◌, ◌++◌, length, get_or, Bool, true, false, refl, sym, ◌∙◌, ap, subst, arith}
+use Rattle.std.specs.Prelude.{All, Option, Some, None, ◌↔◌, map, take, slice_get, unwrap_or, option_map}
+use Rattle.std.proofs.lemmas.List.{map_more}
+use Rattle.std.proofs.lemmas.Option.{slice_get_within, unwrap_or-slice_get}
+use Rattle.std.proofs.lemmas.List.Elements.{All-get_or, All-head, All-tail, All-push}
+use Rattle.jm_events.specs.Events.{EventDefinition}
+use Rattle.jm_machine.proofs.OptionLemmas.{same_some}
+use Rattle.jm_table.specs.Tables.{Transitions, next_of, state_from, state_after_of, IsTable, IsWord}
+
+-- ---- a state of a word is one of the table
+
+place_within : (states letters state letter : ℕ) → state < states → letter < letters → state * letters + letter < states * letters
+place_within zero letters state letter a b = absurd (omega (arith, a))
+place_within (suc states) letters zero letter a b = omega (arith, b)
+place_within (suc states) letters (suc state) letter a b = omega (arith, place_within states letters state letter (omega (arith, a)) b)
+
+next_within : (t : Transitions) (state letter : ℕ) → IsTable t → state < t.states → letter < t.letters → next_of t state letter < t.states
+next_within t state letter table a b =
+    All-get_or (λ s. s < t.states) t.next (state * t.letters + letter) 0
+    (subst (λ n. state * t.letters + letter < n) (sym table.whole) (place_within t.states t.letters state letter a b)) table.within
+
+word_within : (t : Transitions) (state : ℕ) (w : List ℕ) → IsTable t → state < t.states → IsWord t w → state_from t state w < t.states
+word_within t state [] table a word = a
+word_within t state (e ∷ w) table a word =
+    word_within t (next_of t state e) w table (next_within t state e table a (All-head (λ x. x < t.letters) e w word)) (All-tail (λ x. x < t.letters) e w word)
+
+pub state_within : (t : Transitions) (w : List ℕ) → IsTable t → IsWord t w → state_after_of t w < t.states
+state_within t w table word = word_within t 0 w table table.some_states word
+
+-- ---- the sets of parameters, one letter more
+pub mask_more : (events : List EventDefinition) (n mask : ℕ) (masks : List ℕ) → masks ≡ map (λ e. e.mask) (take n events) → option_map (λ e. e.mask) (slice_get events n) ≡ Some mask
+    → masks ++ mask ∷ [] ≡ map (λ e. e.mask) (take (n + 1) events)
+mask_more events n mask masks filled at = by_case (slice_get events n) refl at
+  where
+    by_case : (o : Option EventDefinition) → slice_get events n ≡ o → option_map (λ (e : EventDefinition). e.mask) o ≡ Some mask → masks ++ mask ∷ [] ≡ map (λ (e : EventDefinition). e.mask) (take (n + 1) events)
+    by_case None e none = absurd cc
+    by_case (Some x) e some =
+        let there : get_or events n x ≡ x = sym (unwrap_or-slice_get events n x) ∙ ap (λ o. unwrap_or o x) e in
+        ap (λ ms. ms ++ mask ∷ []) filled ∙ ap (λ v. map (λ (e : EventDefinition). e.mask) (take n events) ++ v ∷ []) (sym (same_some some) ∙ ap (λ (e : EventDefinition). e.mask) (sym there))
+        ∙ sym (map_more (λ (e : EventDefinition). e.mask) events n x (slice_get_within events n x e))

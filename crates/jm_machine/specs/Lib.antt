@@ -1,0 +1,6 @@
+pub mod Formulas
+pub mod Handlers
+pub mod Meanings
+pub mod Compiling
+pub mod RuleSets
+pub mod Runs

@@ -1,0 +1,57 @@
+-- What a specification means.
+use Rattle.std.specs.Prelude.{ℕ, ◌^◌, ◌-◌, Bool, false, List, length, map, filter, IsSomeAnd, slice_get, unwrap_or, if◌then◌else◌}
+use Rattle.std.specs.List.{range_with_len}
+use Rattle.std.specs.Option.{option_map_or}
+use Rattle.jm_model.specs.Meanings.{Meaning}
+use Rattle.jm_events.specs.Names.{number_of}
+use Rattle.jm_events.specs.Events.{EventDefinitions}
+use Rattle.jm_machine.specs.declared.formula.Formula.{Formula}
+use Rattle.jm_machine.specs.Formulas.{category_names, CategoryHolds}
+
+-- The rules of a specification: the parameters of each letter, as a mask; the creation letters; the parameters that a reported
+-- instance has to bind, as a mask; the property; and the name of the category that each handler is for.
+pub record RuleDefinition : Type 0 where
+  pub masks : List ℕ
+  pub creation : List ℕ
+  pub must_bind : ℕ
+  pub formula : Formula
+  pub handlers : List (List ℕ)
+
+-- the category of this name holds of the word
+abbrev pub IsNamedCategory : RuleDefinition → List ℕ → List ℕ → Type 0
+IsNamedCategory r word name = IsSomeAnd (number_of (category_names r.formula) name) (λ category. CategoryHolds r.formula (length r.masks) category word)
+
+-- what they mean: handler k is for the words of which its category holds
+abbrev pub rules_meaning : RuleDefinition → Meaning
+rules_meaning r = record {
+  letters = length r.masks;
+  params = λ e. unwrap_or (slice_get r.masks e) 0;
+  must_bind = r.must_bind;
+  creation = r.creation;
+  handlers = length r.handlers;
+  property_of = λ k. 0;
+  Holds = λ word k. IsSomeAnd (slice_get r.handlers k) (IsNamedCategory r word);
+  coarse_cut = λ j. false;
+}
+
+-- ---- the rules that events, modifiers, a property and handlers say
+
+-- the letters of the creation events
+abbrev pub is_creation : EventDefinitions → ℕ → Bool
+is_creation t letter = option_map_or (λ e. e.creation) (slice_get t.events letter) false
+
+abbrev pub creation_letters : EventDefinitions → List ℕ
+creation_letters t = filter (is_creation t) (range_with_len 0 (length t.events))
+
+-- all parameters where the specification is for full bindings alone, else none
+abbrev pub must_bind_of : EventDefinitions → Bool → ℕ
+must_bind_of t full_binding = if full_binding then 2 ^ length t.parameters - 1 else 0
+
+abbrev pub rules_of : EventDefinitions → Bool → Formula → List (List ℕ) → RuleDefinition
+rules_of t full_binding formula handlers = record {
+  masks = map (λ e. e.mask) t.events;
+  creation = creation_letters t;
+  must_bind = must_bind_of t full_binding;
+  formula = formula;
+  handlers = handlers;
+}

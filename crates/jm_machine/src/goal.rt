@@ -1,0 +1,96 @@
+//! What the rules of a specification are run for.
+ghost use Rattle.std.specs.Prelude.{ℕ, ◌≡◌, ◌<◌, ◌≤◌, ◌^◌, ◌-◌, ◌↔◌, All, Some, IsTrue, IsSomeAnd, IsBitSet, IfOk, IfErr, length, map, slice_get};
+ghost use Rattle.jm_events.specs.Names.{number_of};
+ghost use Rattle.jm_events.specs.Events.{IsCreation};
+ghost use Rattle.jm_table.specs.Tables.{IsInGroup};
+ghost use Rattle.jm_machine.specs.Meanings.{must_bind_of};
+ghost use Rattle.jm_machine.specs.RuleSets.{may_begin};
+
+use crate::handlers::groups_of;
+use jm_events::{EventTable, Names};
+use jm_goal::Goal;
+use jm_model::{Letter, SpecError};
+use jm_spec::SpecTree;
+use jm_table::Table;
+use std::alloc::Global;
+
+/// The goal of these handlers, over the categories of the property and the events of the tree.
+pub(crate) fn goal_of(
+    alloc: Global,
+    tree: &SpecTree,
+    categories: &Names,
+    handlers: &Names,
+) -> Result<Goal, SpecError>
+    requires categories { length categories.now ≤ 65535 }
+    requires handlers { length handlers.now ≤ 16 }
+    ensures groups { IfOk result (λ goal. map Some goal.groups ≡ map (number_of categories.now) handlers.now) }
+    ensures creation { IfOk result (λ goal. (k : ℕ) → IsBitSet goal.creation k ↔ IsCreation tree.now.table k) }
+    ensures must_bind { IfOk result (λ goal. goal.must_bind ≡ must_bind_of tree.now.table tree.now.full_binding) }
+    ensures err { IfErr result (λ e. e ≡ SpecError.NoMemory) }
+{
+    let groups = match groups_of(alloc, categories, handlers) {
+        Ok(groups) => groups,
+        Err(error) => return Err(error),
+    };
+    let must_bind = must_bind_of(&tree.table, tree.full_binding);
+    Ok(Goal::new(groups, tree.table.creation(), must_bind))
+}
+
+/// All parameters where the specification is for full bindings alone, else none.
+fn must_bind_of(table: &EventTable, full_binding: bool) -> u8
+    ensures { result ≡ must_bind_of table.now full_binding }
+{
+    if full_binding {
+        all_below(table.params())
+    } else {
+        0
+    }
+}
+
+/// The mask of so many bits.
+fn all_below(count: u8) -> u8
+    requires { count ≤ 8 }
+    ensures { result ≡ 2 ^ count - 1 }
+{
+    ((1u16 << count) - 1) as u8
+}
+
+/// The sets of parameters of the events, letter by letter.
+pub(crate) fn masks_of(alloc: Global, table: &EventTable) -> Result<Vec<u8>, SpecError>
+    ensures value { IfOk result (λ masks. masks.items ≡ map (λ e. e.mask) table.now.events) }
+    ensures few { IfOk result (λ masks. length masks.items ≤ 32) }
+    ensures fit { IfOk result (λ masks. All (λ mask. mask < 2 ^ length table.now.parameters) masks.items) }
+    ensures err { IfErr result (λ e. e ≡ SpecError.NoMemory) }
+{
+    let mut masks = Vec::new(alloc);
+    for letter in 0..table.letters() {
+        let Ok(()) = masks.push(table.mask(Letter(letter))) else {
+            return Err(SpecError::NoMemory);
+        };
+    }
+    Ok(masks)
+}
+
+/// Whether a word may begin with the letter: it is a creation letter, or there is none.
+pub(crate) fn may_begin(goal: &Goal, letter: Letter) -> bool
+    requires { letter.0 < 32 }
+    ensures { IsTrue result ↔ may_begin goal.now letter.0 }
+{
+    let creation = goal.creation();
+    creation == 0 || creation & (1 << letter.0) != 0
+}
+
+/// The handlers whose group has the state: bit k stands for handler k.
+pub(crate) fn handlers_at(goal: &Goal, table: &Table, state: u16) -> u16
+    requires state { state < table.now.states }
+    requires groups { All (λ group. group < length table.now.groups) goal.now.groups }
+    ensures { (k : ℕ) → IsBitSet result k ↔ IsSomeAnd (slice_get goal.now.groups k) (IsInGroup table.now state) }
+{
+    let mut hits = 0;
+    for handler in 0..goal.handlers() {
+        if table.in_group(state, goal.group(handler)) {
+            hits |= 1 << handler;
+        }
+    }
+    hits
+}

@@ -1,0 +1,131 @@
+//! The handlers of a property: their categories, and what is wrong with them.
+ghost use Rattle.std.specs.Prelude.{ℕ, ◌≡◌, ◌<◌, ◌≤◌, Some, None, [], length, map, IfOk, IfErr};
+ghost use Rattle.jm_text.specs.Spans.{LieWithin};
+ghost use Rattle.jm_reading.specs.Faults.{Checks};
+ghost use Rattle.jm_events.specs.Names.{number_of};
+ghost use Rattle.jm_machine.specs.Handlers.{handler_names, count_fault, duplicate_fault, category_fault, reset_in, reset_fault, handlers_fault};
+
+use crate::ranges::range_of;
+use jm_events::Names;
+use jm_model::{Counted, SpecError, SpecFault};
+use jm_reading::name_of;
+use jm_spec::HandlerText;
+use jm_text::{Token, is_word};
+use std::alloc::Global;
+
+const MAX_HANDLERS: usize = 16;
+
+/// The names of the categories that are handled, or what is wrong with the handlers, where the property has these
+/// categories. Each of these steps is done for all handlers before the next: how many there are, whether two are for one
+/// category, whether each category is there, and what stands in the blocks.
+#[tactic(auto, unfolding(crate::specs::Handlers::handlers_fault))]
+pub(crate) fn handled(
+    alloc: Global,
+    bytes: &[u8],
+    tokens: &[Token],
+    categories: &Names,
+    handlers: &[HandlerText],
+) -> Result<Names, SpecError>
+    requires { LieWithin bytes.now tokens.now }
+    ensures names { IfOk result (λ names. names ≡ handler_names bytes.now handlers.now) }
+    ensures few { IfOk result (λ names. length names ≤ 16) }
+    ensures checked { Checks result (handlers_fault bytes.now tokens.now categories.now handlers.now) }
+{
+    few(handlers)?;
+    let names = distinct(alloc, bytes, handlers)?;
+    known(bytes, categories, handlers)?;
+    without_reset(bytes, tokens, handlers)?;
+    Ok(names)
+}
+
+/// At most 16 handlers.
+fn few(handlers: &[HandlerText]) -> Result<(), SpecError>
+    ensures checked { Checks result (count_fault handlers.now) }
+    ensures few { IfOk result (λ _. length handlers.now ≤ 16) }
+{
+    if handlers.len() > MAX_HANDLERS {
+        let what = Counted::Handlers;
+        return Err(SpecError::Bad(SpecFault::TooMany { what }));
+    }
+    Ok(())
+}
+
+/// The names of the categories, or the first handler for one that an earlier handler is for.
+fn distinct(alloc: Global, bytes: &[u8], handlers: &[HandlerText]) -> Result<Names, SpecError>
+    requires { length handlers.now ≤ 16 }
+    ensures names { IfOk result (λ names. names ≡ handler_names bytes.now handlers.now) }
+    ensures checked { Checks result (duplicate_fault bytes.now [] handlers.now) }
+{
+    let mut names = Names::new(alloc);
+    for handler in handlers {
+        let name = name_of(bytes, handler.category);
+        if names.find(name).is_some() {
+            let line = handler.category.line;
+            return Err(SpecError::Bad(SpecFault::DuplicateHandler { line }));
+        }
+        let Ok(_) = names.add(name) else {
+            return Err(SpecError::NoMemory);
+        };
+    }
+    Ok(names)
+}
+
+/// The first handler for no category of the property.
+fn known(bytes: &[u8], categories: &Names, handlers: &[HandlerText]) -> Result<(), SpecError>
+    ensures { Checks result (category_fault bytes.now categories.now handlers.now) }
+{
+    for handler in handlers {
+        if categories.find(name_of(bytes, handler.category)).is_none() {
+            let line = handler.category.line;
+            return Err(SpecError::Bad(SpecFault::UnknownCategory { line }));
+        }
+    }
+    Ok(())
+}
+
+/// The first word `__RESET` of all blocks.
+fn without_reset(bytes: &[u8], tokens: &[Token], handlers: &[HandlerText]) -> Result<(), SpecError>
+    requires { LieWithin bytes.now tokens.now }
+    ensures { Checks result (reset_fault bytes.now tokens.now handlers.now) }
+{
+    for handler in handlers {
+        block_without_reset(bytes, range_of(tokens, handler.first, handler.last))?;
+    }
+    Ok(())
+}
+
+/// The first word `__RESET` of a block.
+fn block_without_reset(bytes: &[u8], block: &[Token]) -> Result<(), SpecError>
+    requires { LieWithin bytes.now block.now }
+    ensures { Checks result (reset_in bytes.now block.now) }
+{
+    for token in block {
+        if is_word(bytes, *token, b"__RESET") {
+            let line = token.line;
+            return Err(SpecError::Bad(SpecFault::UnsupportedHandler { line }));
+        }
+    }
+    Ok(())
+}
+
+/// The number of each handled category, which is there.
+pub(crate) fn groups_of(
+    alloc: Global,
+    categories: &Names,
+    handlers: &Names,
+) -> Result<Vec<u16>, SpecError>
+    requires few { length categories.now ≤ 65535 }
+    ensures groups { IfOk result (λ groups. map Some groups.items ≡ map (number_of categories.now) handlers.now) }
+    ensures err { IfErr result (λ e. e ≡ SpecError.NoMemory) }
+{
+    let mut groups = Vec::new(alloc);
+    for handler in 0..handlers.len() {
+        let Some(category) = categories.find(handlers.name(handler)) else {
+            return Err(SpecError::NoMemory);
+        };
+        let Ok(()) = groups.push(category as u16) else {
+            return Err(SpecError::NoMemory);
+        };
+    }
+    Ok(groups)
+}
