@@ -11,14 +11,15 @@ use Rattle.jm_events.specs.Names.{number_of}
 use Rattle.jm_events.specs.Events.{EventDefinition, EventDefinitions, IsCreation}
 use Rattle.jm_goal.specs.Goals.{GoalDefinition}
 use Rattle.jm_table.specs.Explorations.{IfBad}
-use Rattle.jm_table.specs.Tables.{Transitions}
 use Rattle.jm_spec.specs.declared.property.HandlerText.{HandlerText}
 use Rattle.jm_spec.specs.declared.tree.SpecTree.{SpecTree}
 use Rattle.jm_machine.specs.declared.formula.Formula.{Formula}
+use Rattle.jm_machine.specs.declared.engine.Engine.{Engine}
+use Rattle.jm_machine.specs.Engines.{letters_of_engine, categories_of_engine, IsCompiled}
 use Rattle.jm_machine.specs.Formulas.{category_names, IsReadAs, IsTableFault}
 use Rattle.jm_machine.specs.Handlers.{handlers_fault}
 use Rattle.jm_machine.specs.Meanings.{must_bind_of, rules_of}
-use Rattle.jm_machine.specs.RuleSets.{definition_of, letters_of, IsCompiled, IsGoalOf, IsRuleSet}
+use Rattle.jm_machine.specs.RuleSets.{definition_of, letters_of, IsGoalOf, IsRuleSet}
 use Rattle.jm_machine.specs.Compiling.{IsNotCompiled, IsFormula, in_formula, in_handlers, in_table}
 use Rattle.jm_machine.proofs.GoalLemmas.{same_letters, creation_below}
 
@@ -40,11 +41,11 @@ module _ (t : EventDefinitions) (formula : Formula) (masks : List ℕ) (handlers
     groups = subst (λ cs. map {A = ℕ} {B = Option ℕ} Some goal.groups ≡ map (number_of cs) handlers) named groups;
   }
 
-  pub made_set : (categories : List (List ℕ)) (states : Transitions) → categories ≡ category_names formula → states.letters ≡ length t.events → length states.groups ≡ length categories → IsCompiled formula states
-      → IsRuleSet (record { definition = definition_of masks formula handlers goal; states = states })
-  made_set categories states named letters groups compiled = record {
+  pub made_set : (categories : List (List ℕ)) (engine : Engine) → categories ≡ category_names formula → letters_of_engine engine ≡ length t.events → categories_of_engine engine ≡ length categories → IsCompiled formula engine
+      → IsRuleSet (record { definition = definition_of masks formula handlers goal; engine = engine })
+  made_set categories engine named letters groups compiled = record {
     letters = letters ∙ sym masks_each;
-    groups = groups ∙ ap length named;
+    categories = groups ∙ ap length named;
     compiled = compiled;
   }
 

@@ -1,28 +1,98 @@
--- The tables of the logics are those of their categories.
-use Rattle.std.proofs.Common.{◌≡◌, ℕ, zero, suc, ◌<◌, List, length, arith}
-use Rattle.std.specs.Prelude.{◌↔◌}
-use Rattle.jm_model.specs.declared.step.Letter.{Letter}
+-- What runs a formula tells its categories.
+use Rattle.std.proofs.Common.{[], ◌∷◌, map, length-append, ◌≡◌, ℕ, zero, suc, ◌<◌, List, ◌++◌, length, refl, sym, ap, subst, arith}
+use Rattle.std.specs.Prelude.{◌↔◌, All, Contains, codes}
+use Rattle.std.proofs.lemmas.List.{length-map}
+use Rattle.std.proofs.lemmas.List.Elements.{All-weaker, All-contains, All-contains_itself}
+use Rattle.jm_model.specs.declared.step.Letter.{Letter as LetterType}
+use Rattle.jm_text.specs.declared.token.Token.{Token}
+use Rattle.jm_events.specs.Events.{EventDefinitions}
 use Rattle.jm_table.specs.Tables.{Transitions, IsWord, IsInGroup, state_after_of}
+use Rattle.jm_fsm.specs.Machines as fsm
 use Rattle.jm_ere.specs.Expressions.{Expression}
 use Rattle.jm_ere.specs.Groups as ere
 use Rattle.jm_ptltl.specs.Formulas as past
 use Rattle.jm_ptltl.specs.Tables as past_tables
-use Rattle.jm_machine.specs.declared.formula.Formula.TheVariants.{Regular, Temporal}
-use Rattle.jm_machine.specs.Formulas.{ExpressionHolds, PastHolds}
-use Rattle.jm_machine.specs.RuleSets.{IsCompiled}
+use Rattle.jm_grammar.specs.Grammars.{GrammarDefinition}
+use Rattle.jm_grammar.specs.Derivations as grammar
+use Rattle.jm_grammar.specs.Trees as grammar_trees
+use Rattle.jm_grammar.specs.declared.grammar.Production.{Production}
+use Rattle.jm_grammar.specs.declared.grammar.GrammarSymbol.{GrammarSymbol}
+use Rattle.jm_grammar.specs.declared.grammar.GrammarSymbol.TheVariants.{Letter, Nonterminal}
+use Rattle.jm_grammar.proofs.ReadLemmas as grammar_reading
+use Rattle.jm_earley.specs.Charts.{IsBelow, AreBelow}
+use Rattle.jm_spec.specs.declared.tree.Logic.{Logic}
+use Rattle.jm_spec.specs.declared.tree.Logic.TheVariants.{Fsm, Ere, Cfg, Ptltl}
+use Rattle.jm_machine.specs.declared.formula.Formula.{Formula}
+use Rattle.jm_machine.specs.declared.formula.Formula.TheVariants.{Machine, Regular, Temporal, Grammatical}
+use Rattle.jm_machine.specs.declared.engine.Engine.{Engine}
+use Rattle.jm_machine.specs.declared.engine.Engine.TheVariants.{States, Parses}
+use Rattle.jm_machine.specs.Formulas.{IsReadAs, ExpressionHolds, PastHolds, GrammarHolds}
+use Rattle.jm_machine.specs.Engines.{letters_of_engine, categories_of_engine, HasLetters, IsParserOf, IsCompiled}
+
+pub machine_count : (m : fsm.StateMachine) → length (fsm.category_names m) ≡ fsm.category_count m
+machine_count m =
+    let states = map (λ (s : fsm.StateDefinition). s.name) m.states in
+    let aliases = map (λ (a : fsm.AliasDefinition). a.name) m.aliases in
+    omega (arith, length-append states (aliases ++ codes "fail" ∷ []), length-append aliases (codes "fail" ∷ []),
+      length-map m.states (λ (s : fsm.StateDefinition). s.name), length-map m.aliases (λ (a : fsm.AliasDefinition). a.name))
+
+pub machine_compiled : (m : fsm.StateMachine) (t : Transitions) → length (fsm.category_names m) ≡ fsm.category_count m → fsm.IsCompiled m t → IsCompiled (Machine m) (States t)
+machine_compiled m t count h = λ word below some category less. h word below category (subst (λ n. category < n) count less)
 
 regular_at : (e : Expression) (t : Transitions) (word : List ℕ) (category : ℕ) → ere.IsCompiled e t → IsWord t word → category < 2 → IsInGroup t (state_after_of t word) category ↔ ExpressionHolds e t.letters category word
 regular_at e t word zero h below less = h.matched word below
 regular_at e t word (suc zero) h below less = h.failed word below
 regular_at e t word (suc (suc category)) h below less = absurd (omega (arith, less))
 
-pub regular_compiled : (e : Expression) (t : Transitions) → ere.IsCompiled e t → IsCompiled (Regular e) t
+pub regular_compiled : (e : Expression) (t : Transitions) → ere.IsCompiled e t → IsCompiled (Regular e) (States t)
 regular_compiled e t h = λ word below some category less. regular_at e t word category h below less
 
-temporal_at : (f : past.Formula Letter) (t : Transitions) (word : List ℕ) (category : ℕ) → past_tables.IsCompiled f t → IsWord t word → 0 < length word → category < 2 → IsInGroup t (state_after_of t word) category ↔ PastHolds f category word
+temporal_at : (f : past.Formula LetterType) (t : Transitions) (word : List ℕ) (category : ℕ) → past_tables.IsCompiled f t → IsWord t word → 0 < length word → category < 2 → IsInGroup t (state_after_of t word) category ↔ PastHolds f category word
 temporal_at f t word zero h below some less = h.validation word below some
 temporal_at f t word (suc zero) h below some less = h.violation word below some
 temporal_at f t word (suc (suc category)) h below some less = absurd (omega (arith, less))
 
-pub temporal_compiled : (f : past.Formula Letter) (t : Transitions) → past_tables.IsCompiled f t → IsCompiled (Temporal f) t
+pub temporal_compiled : (f : past.Formula LetterType) (t : Transitions) → past_tables.IsCompiled f t → IsCompiled (Temporal f) (States t)
 temporal_compiled f t h = λ word below some category less. temporal_at f t word category h below some less
+
+grammar_at : (g h : GrammarDefinition) (word : List ℕ) (category : ℕ) → ((w : List ℕ) → grammar.IsWord h w ↔ grammar.IsWord g w) → GrammarHolds h category word ↔ GrammarHolds g category word
+grammar_at g h word zero same = same word
+grammar_at g h word (suc zero) same = ((λ never more is. never more ((same (word ++ more)).1 is)), (λ never more is. never more ((same (word ++ more)).0 is)))
+grammar_at g h word (suc (suc category)) same = ((λ never. never), (λ never. never))
+
+pub grammar_compiled : (g : GrammarDefinition) (letters : ℕ) (engine : Engine) → IsParserOf g letters engine → IsCompiled (Grammatical g) engine
+grammar_compiled g letters (Parses c) h = λ word below some category less. grammar_at g c.grammar word category h.0
+grammar_compiled g letters (States t) h = absurd h
+
+pub parser_letters : (g : GrammarDefinition) (letters : ℕ) (engine : Engine) → IsParserOf g letters engine → letters_of_engine engine ≡ letters
+parser_letters g letters (Parses c) h = h.1
+parser_letters g letters (States t) h = absurd h
+
+pub parser_categories : (g : GrammarDefinition) (letters : ℕ) (engine : Engine) → IsParserOf g letters engine → categories_of_engine engine ≡ 2
+parser_categories g letters (Parses c) h = refl
+parser_categories g letters (States t) h = absurd h
+
+-- ---- the letters of a grammar
+
+-- what holds of each member
+all_of : {X : Type 0} (P : X → Type 0) (xs : List X) → ((x : X) → Contains xs x → P x) → All P xs
+all_of P xs each = All-weaker (Contains xs) P each xs (All-contains_itself xs)
+
+-- productions that are some of these have no other letters
+pub below_kept : (ps qs : List Production) (letters : ℕ) → ((p : Production) → Contains qs p → Contains ps p) → AreBelow ps letters → AreBelow qs letters
+below_kept ps qs letters kept below = all_of (λ (p : Production). All (IsBelow letters) p.symbols) qs (λ p at. All-contains (λ (p : Production). All (IsBelow letters) p.symbols) ps p below (kept p at))
+
+module _ (bytes : List ℕ) (tokens : List Token) (table : EventDefinitions) where
+  symbol_below : (g : GrammarDefinition) → grammar_trees.IsReadFrom bytes tokens table g → (p : Production) → Contains g.productions p → (s : GrammarSymbol) → Contains p.symbols s → IsBelow (length table.events) s
+  symbol_below g read p has (Letter a) at = grammar_reading.letters_there bytes tokens table g read p has a at
+  symbol_below g read p has (Nonterminal n) at = tt
+
+  -- the letters of a formula that was read are events
+  pub letters_read : (logic : Logic) (f : Formula) → IsReadAs bytes tokens table logic f → HasLetters (length table.events) f
+  letters_read logic (Machine m) h = tt
+  letters_read logic (Regular e) h = tt
+  letters_read logic (Temporal f) h = tt
+  letters_read Cfg (Grammatical g) h = all_of (λ (p : Production). All (IsBelow (length table.events)) p.symbols) g.productions (λ p has. all_of (IsBelow (length table.events)) p.symbols (symbol_below g h p has))
+  letters_read Fsm (Grammatical g) h = absurd h
+  letters_read Ere (Grammatical g) h = absurd h
+  letters_read Ptltl (Grammatical g) h = absurd h

@@ -21,8 +21,9 @@ use Rattle.jm_ptltl.specs.Formulas as past
 use Rattle.jm_ptltl.specs.Faults as past_faults
 use Rattle.jm_ptltl.specs.Readings as past_readings
 use Rattle.jm_ptltl.proofs.GrammarLemmas as past_grammar
+use Rattle.jm_grammar.proofs.ReadLemmas as grammar_reading
 use Rattle.jm_machine.specs.declared.formula.Formula.{Formula}
-use Rattle.jm_machine.specs.declared.formula.Formula.TheVariants.{Machine, Regular, Temporal}
+use Rattle.jm_machine.specs.declared.formula.Formula.TheVariants.{Machine, Regular, Temporal, Grammatical}
 use Rattle.jm_machine.specs.Formulas.{category_names, IsReadAs, IsRefusedIn, IsTableFault}
 use Rattle.jm_machine.specs.Handlers.{handler_names, handlers_fault}
 use Rattle.jm_machine.specs.Meanings.{RuleDefinition, rules_of}
@@ -68,41 +69,55 @@ module _ (bytes : List ℕ) (tokens : List Token) (table : EventDefinitions) whe
   past_or_fault f (Syntax line) h k = k.1 h.0 h.1
   past_or_fault f _ h k = never_some (sym h.3 ∙ ap (past_faults.first_fault bytes table) (past_grammar.one_formula bytes tokens h.0 k.1.0 h.1 k.1.1) ∙ k.1.2)
 
-  -- ---- formulas
+  -- ---- formulas of all logics
 
   one_formula : (logic : Logic) (f g : Formula) → IsReadAs bytes tokens table logic f → IsReadAs bytes tokens table logic g → f ≡ g
-  one_formula Fsm (Machine m) (Machine n) h k = ap Machine (one_machine m n h k)
-  one_formula Fsm (Machine m) (Regular e) h k = absurd k
-  one_formula Fsm (Machine m) (Temporal f) h k = absurd k
-  one_formula Fsm (Regular d) g h k = absurd h
-  one_formula Fsm (Temporal f) g h k = absurd h
-  one_formula Ere (Regular d) (Regular e) h k = ap Regular (one_expression d e h k)
-  one_formula Ere (Regular d) (Machine m) h k = absurd k
-  one_formula Ere (Regular d) (Temporal f) h k = absurd k
-  one_formula Ere (Machine m) g h k = absurd h
-  one_formula Ere (Temporal f) g h k = absurd h
-  one_formula Ptltl (Temporal f) (Temporal g) h k = ap Temporal (one_past f g h k)
-  one_formula Ptltl (Temporal f) (Machine m) h k = absurd k
-  one_formula Ptltl (Temporal f) (Regular e) h k = absurd k
-  one_formula Ptltl (Machine m) g h k = absurd h
-  one_formula Ptltl (Regular d) g h k = absurd h
-  one_formula Cfg (Machine m) g h k = absurd h
-  one_formula Cfg (Regular d) g h k = absurd h
-  one_formula Cfg (Temporal f) g h k = absurd h
+  one_formula Fsm (Machine x) (Machine y) h k = ap Machine (one_machine x y h k)
+  one_formula Fsm (Machine x) (Regular y) h k = absurd k
+  one_formula Fsm (Machine x) (Temporal y) h k = absurd k
+  one_formula Fsm (Machine x) (Grammatical y) h k = absurd k
+  one_formula Fsm (Regular x) g h k = absurd h
+  one_formula Fsm (Temporal x) g h k = absurd h
+  one_formula Fsm (Grammatical x) g h k = absurd h
+  one_formula Ere (Regular x) (Regular y) h k = ap Regular (one_expression x y h k)
+  one_formula Ere (Regular x) (Machine y) h k = absurd k
+  one_formula Ere (Regular x) (Temporal y) h k = absurd k
+  one_formula Ere (Regular x) (Grammatical y) h k = absurd k
+  one_formula Ere (Machine x) g h k = absurd h
+  one_formula Ere (Temporal x) g h k = absurd h
+  one_formula Ere (Grammatical x) g h k = absurd h
+  one_formula Ptltl (Temporal x) (Temporal y) h k = ap Temporal (one_past x y h k)
+  one_formula Ptltl (Temporal x) (Machine y) h k = absurd k
+  one_formula Ptltl (Temporal x) (Regular y) h k = absurd k
+  one_formula Ptltl (Temporal x) (Grammatical y) h k = absurd k
+  one_formula Ptltl (Machine x) g h k = absurd h
+  one_formula Ptltl (Regular x) g h k = absurd h
+  one_formula Ptltl (Grammatical x) g h k = absurd h
+  one_formula Cfg (Grammatical x) (Grammatical y) h k = ap Grammatical (grammar_reading.one_grammar bytes tokens table x y h k)
+  one_formula Cfg (Grammatical x) (Machine y) h k = absurd k
+  one_formula Cfg (Grammatical x) (Regular y) h k = absurd k
+  one_formula Cfg (Grammatical x) (Temporal y) h k = absurd k
+  one_formula Cfg (Machine x) g h k = absurd h
+  one_formula Cfg (Regular x) g h k = absurd h
+  one_formula Cfg (Temporal x) g h k = absurd h
 
-  formula_or_fault : (line : ℕ) (logic : Logic) (f : Formula) (fault : SpecFault) → IsReadAs bytes tokens table logic f → IsRefusedIn bytes tokens table line logic fault → ⊥
-  formula_or_fault line Fsm (Machine m) fault h k = machine_or_fault m fault h k
-  formula_or_fault line Fsm (Regular d) fault h k = h
-  formula_or_fault line Fsm (Temporal f) fault h k = h
-  formula_or_fault line Ere (Regular d) fault h k = expression_or_fault d fault h k
-  formula_or_fault line Ere (Machine m) fault h k = h
-  formula_or_fault line Ere (Temporal f) fault h k = h
-  formula_or_fault line Ptltl (Temporal f) fault h k = past_or_fault f fault h k
-  formula_or_fault line Ptltl (Machine m) fault h k = h
-  formula_or_fault line Ptltl (Regular d) fault h k = h
-  formula_or_fault line Cfg (Machine m) fault h k = h
-  formula_or_fault line Cfg (Regular d) fault h k = h
-  formula_or_fault line Cfg (Temporal f) fault h k = h
+  formula_or_fault : (logic : Logic) (f : Formula) (fault : SpecFault) → IsReadAs bytes tokens table logic f → IsRefusedIn bytes tokens table logic fault → ⊥
+  formula_or_fault Fsm (Machine x) fault h k = machine_or_fault x fault h k
+  formula_or_fault Fsm (Regular x) fault h k = h
+  formula_or_fault Fsm (Temporal x) fault h k = h
+  formula_or_fault Fsm (Grammatical x) fault h k = h
+  formula_or_fault Ere (Regular x) fault h k = expression_or_fault x fault h k
+  formula_or_fault Ere (Machine x) fault h k = h
+  formula_or_fault Ere (Temporal x) fault h k = h
+  formula_or_fault Ere (Grammatical x) fault h k = h
+  formula_or_fault Ptltl (Temporal x) fault h k = past_or_fault x fault h k
+  formula_or_fault Ptltl (Machine x) fault h k = h
+  formula_or_fault Ptltl (Regular x) fault h k = h
+  formula_or_fault Ptltl (Grammatical x) fault h k = h
+  formula_or_fault Cfg (Grammatical x) fault h k = grammar_reading.never_both bytes tokens table x fault h k
+  formula_or_fault Cfg (Machine x) fault h k = h
+  formula_or_fault Cfg (Regular x) fault h k = h
+  formula_or_fault Cfg (Temporal x) fault h k = h
 
 -- ---- rules
 
@@ -115,7 +130,7 @@ module _ (bytes : List ℕ) (tokens : List Token) (tree : SpecTree) (r : RuleDef
       told.rules ∙ ap (λ f. rules_of tree.table tree.full_binding f (handler_names bytes tree.handlers.items)) (same_formula s.formula other.read) ∙ sym other.rules
 
   pub rules_or_fault : (fault : SpecFault) → IsFaultyTree bytes tokens tree fault → ⊥
-  rules_or_fault fault (in_formula refused) = formula_or_fault bytes (formula_of tokens tree) tree.table tree.logic_line tree.logic r.formula fault told.read refused
+  rules_or_fault fault (in_formula refused) = formula_or_fault bytes (formula_of tokens tree) tree.table tree.logic r.formula fault told.read refused
   rules_or_fault fault (in_handlers f read bad) =
       never_some (sym told.handled ∙ ap (λ g. handlers_fault bytes tokens (category_names g) tree.handlers.items) (same_formula f read) ∙ bad)
   rules_or_fault fault (in_table f read handled bad) =

@@ -2,20 +2,21 @@
 use Rattle.std.proofs.Common.{◌≡◌, ◌≢◌, ℕ, zero, suc, ◌+◌, ◌<◌, ◌≤◌, ◌⊎◌, inl, inr, List, [], ◌∷◌, ◌++◌, length, get_or, Bool, true, false, Option, Some, None, map, refl, sym, ◌∙◌, ap, subst, arith}
 use Rattle.std.specs.Prelude.{All, Contains, ◌↔◌, IsTrue, IsBitSet, IsSomeAnd, slice_get}
 use Rattle.std.specs.Str.{bytes_eq}
-use Rattle.std.proofs.lemmas.List.Elements.{All-push}
 use Rattle.std.proofs.lemmas.List.Quantifiers.{position-Some}
 use Rattle.std.proofs.lemmas.Option.{slice_get_within, slice_get-get_or}
 use Rattle.jm_model.specs.Meanings.{Meaning, IsCreated, IsHit}
 use Rattle.jm_events.specs.Names.{number_of}
-use Rattle.jm_table.specs.Tables.{Transitions, next_of, state_after_of, IsTable, IsWord, IsInGroup}
-use Rattle.jm_table.proofs.PlaceLemmas.{fold_push}
 use Rattle.jm_machine.specs.declared.run.Run.{Run}
+use Rattle.jm_machine.specs.declared.engine.Engine.{Engine}
+use Rattle.jm_machine.specs.declared.engine.Engine.TheVariants.{States, Parses}
+use Rattle.jm_machine.specs.declared.engine.Place.{Place}
+use Rattle.jm_machine.specs.declared.engine.Place.TheVariants.{State, Parse}
+use Rattle.jm_machine.specs.Engines.{letters_of_engine, IsPlaceOf, EngineHolds}
 use Rattle.jm_machine.specs.Formulas.{category_names, CategoryHolds}
 use Rattle.jm_machine.specs.Meanings.{RuleDefinition, IsNamedCategory, rules_meaning}
-use Rattle.jm_machine.specs.RuleSets.{CompiledRules, IsRuleSet, IsHandledAt}
+use Rattle.jm_machine.specs.RuleSets.{CompiledRules, IsRuleSet, IsHandledBy}
 use Rattle.jm_machine.specs.Runs.{has_letter, IsRunOf}
 use Rattle.jm_machine.proofs.OptionLemmas.{some_more, looked_up}
-use Rattle.jm_machine.proofs.RunLemmas.{state_within}
 
 -- ---- groups and categories
 
@@ -61,35 +62,33 @@ pub created_first : (r : RuleDefinition) (b : Bool) (w : List ℕ) (e : ℕ) →
 created_first r b [] e none h = h
 created_first r b (d ∷ w) e none h = absurd cc
 
-module _ (r : CompiledRules) (s : Run) (w : List ℕ) (set : IsRuleSet r) (table : IsTable r.states) (run : IsRunOf r s w) where
-  run_within : s.state < r.states.states
-  run_within = subst (λ n. n < r.states.states) (sym run.state) (state_within r.states w table run.word)
+-- a place is that of a word of letters that are there
+place_letters : (engine : Engine) (place : Place) (w : List ℕ) → IsPlaceOf engine place w → All (λ letter. letter < letters_of_engine engine) w
+place_letters (States t) (State state) w h = h.0
+place_letters (States t) (Parse chart) w h = absurd h
+place_letters (Parses c) (Parse chart) w h = h.0
+place_letters (Parses c) (State state) w h = absurd h
 
-  pub next_run : (e result : ℕ) (created : Bool) → e < length r.definition.masks → (s.state < r.states.states → result ≡ next_of r.states s.state e) → (IsTrue created ↔ IsCreated (rules_meaning r.definition) (w ++ e ∷ []))
-      → IsRunOf r (record { state = result; moved = true; created = created }) (w ++ e ∷ [])
-  next_run e result created letter step begun = record {
-    word = All-push (λ x. x < r.states.letters) w e run.word (omega (arith, letter, set.letters));
-    state = step run_within ∙ ap (λ n. next_of r.states n e) run.state ∙ sym (fold_push (next_of r.states) 0 w e);
-    moved = sym (has_letter-push w e);
-    created = begun;
-  }
+pub next_run : (r : CompiledRules) (s : Run) (w : List ℕ) → IsRunOf r s w → (e : ℕ) (place : Place) (created : Bool) → (IsPlaceOf r.engine s.place w → IsPlaceOf r.engine place (w ++ e ∷ [])) → (IsTrue created ↔ IsCreated (rules_meaning r.definition) (w ++ e ∷ []))
+    → IsRunOf r (record { place = place; moved = true; created = created }) (w ++ e ∷ [])
+next_run r s w run e place created leads begun = record { place = leads run.place; moved = sym (has_letter-push w e); created = begun }
 
-  -- ---- what hits
+-- ---- what hits
 
-  -- the state is in the groups of the categories that hold of the word
-  held : s.moved ≡ true → (category : ℕ) → category < length (category_names r.definition.formula) → IsInGroup r.states s.state category ↔ CategoryHolds r.definition.formula (length r.definition.masks) category w
+module _ (r : CompiledRules) (s : Run) (w : List ℕ) (set : IsRuleSet r) (run : IsRunOf r s w) where
+  -- what runs the property tells the categories that hold of the word
+  held : s.moved ≡ true → (category : ℕ) → category < length (category_names r.definition.formula) → EngineHolds r.engine category w ↔ CategoryHolds r.definition.formula (length r.definition.masks) category w
   held moved category less =
-      let whole = set.compiled w run.word (some_letter w (sym run.moved ∙ moved)) category less in
-      (λ h. subst (λ n. CategoryHolds r.definition.formula n category w) set.letters (whole.0 (subst (λ n. IsInGroup r.states n category) run.state h)),
-        λ h. subst (λ n. IsInGroup r.states n category) (sym run.state) (whole.1 (subst (λ n. CategoryHolds r.definition.formula n category w) (sym set.letters) h)))
+      subst (λ n. EngineHolds r.engine category w ↔ CategoryHolds r.definition.formula n category w) set.letters
+      (set.compiled w (place_letters r.engine s.place w run.place) (some_letter w (sym run.moved ∙ moved)) category less)
 
-  holds : s.moved ≡ true → (k : ℕ) → IsHandledAt r s.state k ↔ (rules_meaning r.definition).Holds w k
+  holds : s.moved ≡ true → (k : ℕ) → IsHandledBy r w k ↔ (rules_meaning r.definition).Holds w k
   holds moved k = (
     some_more _ (IsNamedCategory r.definition w) (slice_get r.definition.handlers k)
-      (λ name at. some_more (λ category. IsInGroup r.states s.state category) (λ category. CategoryHolds r.definition.formula (length r.definition.masks) category w)
+      (λ name at. some_more (λ category. EngineHolds r.engine category w) (λ category. CategoryHolds r.definition.formula (length r.definition.masks) category w)
         (number_of (category_names r.definition.formula) name) (λ category found. (held moved category (number_within (category_names r.definition.formula) name category found)).0)),
     some_more (IsNamedCategory r.definition w) _ (slice_get r.definition.handlers k)
-      (λ name at. some_more (λ category. CategoryHolds r.definition.formula (length r.definition.masks) category w) (λ category. IsInGroup r.states s.state category)
+      (λ name at. some_more (λ category. CategoryHolds r.definition.formula (length r.definition.masks) category w) (λ category. EngineHolds r.engine category w)
         (number_of (category_names r.definition.formula) name) (λ category found. (held moved category (number_within (category_names r.definition.formula) name category found)).1)),
   )
 
@@ -100,9 +99,9 @@ module _ (r : CompiledRules) (s : Run) (w : List ℕ) (set : IsRuleSet r) (table
       by_case None at g = absurd g
       by_case (Some x) at g = slice_get_within xs k x at
 
-  pub run_hits : (bits : ℕ) → s.moved ≡ true → s.created ≡ true → (s.state < r.states.states → (k : ℕ) → IsBitSet bits k ↔ IsHandledAt r s.state k) → (k : ℕ) → IsBitSet bits k ↔ IsHit (rules_meaning r.definition) w k
+  pub run_hits : (bits : ℕ) → s.moved ≡ true → s.created ≡ true → ((word : List ℕ) → IsPlaceOf r.engine s.place word → (k : ℕ) → IsBitSet bits k ↔ IsHandledBy r word k) → (k : ℕ) → IsBitSet bits k ↔ IsHit (rules_meaning r.definition) w k
   run_hits bits moved created handled k =
-      let bit = handled run_within k in
+      let bit = handled w run.place k in
       (λ set_bit.
           let h = (holds moved k).0 (bit.0 set_bit) in
           (not_empty w (sym run.moved ∙ moved), run.created.0 created, some_within (IsNamedCategory r.definition w) r.definition.handlers k h, h),

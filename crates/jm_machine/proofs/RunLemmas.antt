@@ -1,4 +1,4 @@
--- The monitor runs words.
+-- Words lead to states of tables, and the sets of parameters letter by letter.
 use Rattle.std.proofs.Common.{◌≡◌, ◌≢◌, ℕ, zero, suc, ◌+◌, ◌*◌, ◌^◌, ◌<◌, ◌≤◌, inl, List, [], ◌∷◌, ◌++◌, length, get_or, Bool, true, false, refl, sym, ◌∙◌, ap, subst, arith}
 use Rattle.std.specs.Prelude.{All, Option, Some, None, ◌↔◌, map, take, slice_get, unwrap_or, option_map}
 use Rattle.std.proofs.lemmas.List.{map_more}
@@ -6,7 +6,8 @@ use Rattle.std.proofs.lemmas.Option.{slice_get_within, unwrap_or-slice_get}
 use Rattle.std.proofs.lemmas.List.Elements.{All-get_or, All-head, All-tail, All-push}
 use Rattle.jm_events.specs.Events.{EventDefinition}
 use Rattle.jm_machine.proofs.OptionLemmas.{same_some}
-use Rattle.jm_table.specs.Tables.{Transitions, next_of, state_from, state_after_of, IsTable, IsWord}
+use Rattle.jm_table.specs.Tables.{Transitions, next_of, state_from, state_after_of, IsTable, IsWord, IsInGroup}
+use Rattle.jm_table.proofs.PlaceLemmas.{fold_push}
 
 -- ---- a state of a word is one of the table
 
@@ -27,6 +28,19 @@ word_within t state (e ∷ w) table a word =
 
 pub state_within : (t : Transitions) (w : List ℕ) → IsTable t → IsWord t w → state_after_of t w < t.states
 state_within t w table word = word_within t 0 w table table.some_states word
+
+-- a letter more leads to the next state
+pub state_next : (t : Transitions) (state next e : ℕ) (w : List ℕ) → IsTable t → e < t.letters → (state < t.states → next ≡ next_of t state e) → IsWord t w × (state ≡ state_after_of t w)
+    → IsWord t (w ++ e ∷ []) × (next ≡ state_after_of t (w ++ e ∷ []))
+state_next t state next e w table letter step place =
+    let within : state < t.states = subst (λ n. n < t.states) (sym place.1) (state_within t w table place.0) in
+    (All-push (λ x. x < t.letters) w e place.0 letter, step within ∙ ap (λ n. next_of t n e) place.1 ∙ sym (fold_push (next_of t) 0 w e))
+
+-- the groups of a state are those after its words
+pub group_after : (t : Transitions) (state group : ℕ) (w : List ℕ) (P : Type 0) → IsTable t → (state < t.states → P ↔ IsInGroup t state group) → IsWord t w × (state ≡ state_after_of t w) → P ↔ IsInGroup t (state_after_of t w) group
+group_after t state group w P table says place =
+    let within : state < t.states = subst (λ n. n < t.states) (sym place.1) (state_within t w table place.0) in
+    subst (λ n. P ↔ IsInGroup t n group) place.1 (says within)
 
 -- ---- the sets of parameters, one letter more
 pub mask_more : (events : List EventDefinition) (n mask : ℕ) (masks : List ℕ) → masks ≡ map (λ e. e.mask) (take n events) → option_map (λ e. e.mask) (slice_get events n) ≡ Some mask

@@ -1,29 +1,24 @@
--- Compiled rules: what a specification means, with the table that runs it.
+-- Compiled rules: what a specification means, with what runs it.
 use Rattle.std.specs.Prelude.{ℕ, ◌≡◌, ◌<◌, ◌≤◌, ◌==◌, ◌^◌, ◌↔◌, ◌⊎◌, Bool, not, List, [], Some, Contains, IsSomeAnd, IsBitSet, bit_and, length, map, filter, slice_get}
 use Rattle.std.specs.List.{range_with_len}
 use Rattle.jm_events.specs.Names.{number_of}
-use Rattle.jm_table.specs.Tables.{Transitions, IsWord, IsInGroup, state_after_of}
 use Rattle.jm_goal.specs.Goals.{GoalDefinition}
 use Rattle.jm_machine.specs.declared.formula.Formula.{Formula}
-use Rattle.jm_machine.specs.Formulas.{category_names, CategoryHolds}
+use Rattle.jm_machine.specs.declared.engine.Engine.{Engine}
+use Rattle.jm_machine.specs.Formulas.{category_names}
+use Rattle.jm_machine.specs.Engines.{letters_of_engine, categories_of_engine, EngineHolds, IsCompiled}
 use Rattle.jm_machine.specs.Meanings.{RuleDefinition}
 
--- the rules, and the table of their property
+-- the rules, and what runs their property
 pub record CompiledRules : Type 0 where
   pub definition : RuleDefinition
-  pub states : Transitions
+  pub engine : Engine
 
--- after each word of the table's letters that isn't empty, the groups of the state are the categories that hold of the word
-abbrev pub IsCompiled : Formula → Transitions → Type 0
-IsCompiled formula t =
-    (word : List ℕ) → IsWord t word → 0 < length word → (category : ℕ) → category < length (category_names formula)
-    → IsInGroup t (state_after_of t word) category ↔ CategoryHolds formula t.letters category word
-
--- the table is that of the property, with a letter for each mask and a group for each category
+-- it runs the property, with a letter for each mask, and knows each category
 pub record IsRuleSet (r : CompiledRules) : Type 0 where
-  pub letters : r.states.letters ≡ length r.definition.masks
-  pub groups : length r.states.groups ≡ length (category_names r.definition.formula)
-  pub compiled : IsCompiled r.definition.formula r.states
+  pub letters : letters_of_engine r.engine ≡ length r.definition.masks
+  pub categories : categories_of_engine r.engine ≡ length (category_names r.definition.formula)
+  pub compiled : IsCompiled r.definition.formula r.engine
 
 -- ---- the rules that a goal says
 
@@ -56,8 +51,8 @@ may_begin goal letter = (goal.creation ≡ 0) ⊎ IsBitSet goal.creation letter
 
 -- ---- where handlers run
 
--- the state is in the group of the category of handler k
-abbrev pub IsHandledAt : CompiledRules → ℕ → ℕ → Type 0
-IsHandledAt r state k =
+-- what runs the property says that the category of handler k holds of the word
+abbrev pub IsHandledBy : CompiledRules → List ℕ → ℕ → Type 0
+IsHandledBy r word k =
     IsSomeAnd (slice_get r.definition.handlers k)
-    (λ name. IsSomeAnd (number_of (category_names r.definition.formula) name) (λ category. IsInGroup r.states state category))
+    (λ name. IsSomeAnd (number_of (category_names r.definition.formula) name) (λ category. EngineHolds r.engine category word))

@@ -1,17 +1,17 @@
 //! What the rules of a specification are run for.
-ghost use Rattle.std.specs.Prelude.{ℕ, ◌≡◌, ◌<◌, ◌≤◌, ◌^◌, ◌-◌, ◌↔◌, All, Some, IsTrue, IsSomeAnd, IsBitSet, IfOk, IfErr, length, map, slice_get};
+ghost use Rattle.std.specs.Prelude.{ℕ, List, ◌≡◌, ◌<◌, ◌≤◌, ◌^◌, ◌-◌, ◌↔◌, All, Some, IsTrue, IsSomeAnd, IsBitSet, IfOk, IfErr, length, map, slice_get};
 ghost use Rattle.jm_events.specs.Names.{number_of};
 ghost use Rattle.jm_events.specs.Events.{IsCreation};
-ghost use Rattle.jm_table.specs.Tables.{IsInGroup};
 ghost use Rattle.jm_machine.specs.Meanings.{must_bind_of};
+ghost use Rattle.jm_machine.specs.Engines.{categories_of_engine, IsPlaceOf, EngineHolds};
 ghost use Rattle.jm_machine.specs.RuleSets.{may_begin};
 
+use crate::engine::{Engine, Place};
 use crate::handlers::groups_of;
 use jm_events::{EventTable, Names};
 use jm_goal::Goal;
 use jm_model::{Letter, SpecError};
 use jm_spec::SpecTree;
-use jm_table::Table;
 use std::alloc::Global;
 
 /// The goal of these handlers, over the categories of the property and the events of the tree.
@@ -80,15 +80,14 @@ pub(crate) fn may_begin(goal: &Goal, letter: Letter) -> bool
     creation == 0 || creation & (1 << letter.0) != 0
 }
 
-/// The handlers whose group has the state: bit k stands for handler k.
-pub(crate) fn handlers_at(goal: &Goal, table: &Table, state: u16) -> u16
-    requires state { state < table.now.states }
-    requires groups { All (λ group. group < length table.now.groups) goal.now.groups }
-    ensures { (k : ℕ) → IsBitSet result k ↔ IsSomeAnd (slice_get goal.now.groups k) (IsInGroup table.now state) }
+/// The handlers whose category holds of the words that lead to a place: bit k stands for handler k.
+pub(crate) fn handlers_at(goal: &Goal, engine: &Engine, place: &Place) -> u16
+    requires { All (λ group. group < categories_of_engine engine.now) goal.now.groups }
+    ensures { (word : List ℕ) → IsPlaceOf engine.now place.now word → (k : ℕ) → IsBitSet result k ↔ IsSomeAnd (slice_get goal.now.groups k) (λ group. EngineHolds engine.now group word) }
 {
     let mut hits = 0;
     for handler in 0..goal.handlers() {
-        if table.in_group(state, goal.group(handler)) {
+        if engine.holds(place, goal.group(handler)) {
             hits |= 1 << handler;
         }
     }

@@ -1,13 +1,16 @@
 //! The monitor of a specification.
-ghost use Rattle.std.specs.Prelude.{ℕ, ◌≡◌, ◌<◌, ◌≤◌, ◌^◌, ◌↔◌, ◌⊎◌, [], All, Contains, Some, IsTrue, IsBitSet, IfOk, IfErr, length, slice_get};
+ghost use Rattle.std.specs.Prelude.{ℕ, ◌≡◌, ◌<◌, ◌≤◌, ◌^◌, ◌↔◌, ◌⊎◌, [], ◌∷◌, ◌++◌, List, All, Contains, Some, IsTrue, IsBitSet, IfOk, IfErr, length, slice_get};
 ghost use Rattle.jm_text.specs.Spans.{LieWithin};
-ghost use Rattle.jm_table.specs.Tables.{IsTable, next_of};
 ghost use Rattle.jm_model.specs.declared.fault.SpecFault.{SpecFault};
 ghost use Rattle.jm_machine.specs.Formulas.{category_names};
-ghost use Rattle.jm_machine.specs.Meanings.{rules_of};
-ghost use Rattle.jm_machine.specs.RuleSets.{IsCompiled, IsRuleSet, IsHandledAt};
+ghost use Rattle.jm_model.specs.Meanings.{IsCreated};
+ghost use Rattle.jm_machine.specs.Meanings.{rules_of, rules_meaning};
+ghost use Rattle.jm_machine.specs.Runs.{IsRunOf};
+ghost use Rattle.jm_machine.specs.Engines.{letters_of_engine, categories_of_engine, IsPlaceOf, IsCompiled};
+ghost use Rattle.jm_machine.specs.RuleSets.{IsRuleSet, IsHandledBy};
 ghost use Rattle.jm_machine.specs.Compiling.{IsCompiledFrom, IsNotCompiled};
 
+use crate::engine::{Engine, Place};
 use crate::formula::Formula;
 use crate::goal::{goal_of, handlers_at, masks_of, may_begin};
 use crate::handlers::handled;
@@ -17,20 +20,19 @@ use jm_events::Names;
 use jm_goal::Goal;
 use jm_model::{Letter, Monitor, NoMemory, SpecError};
 use jm_spec::SpecTree;
-use jm_table::Table;
 use jm_text::Token;
 use std::alloc::Global;
 use std::marker::Model;
 
 /// The rules of a specification: the parameters of its events, its property, the categories that are handled, what it is run
-/// for, and the table of its property. Contracts see them as `CompiledRules`.
+/// for, and what runs its property. Contracts see them as `CompiledRules`.
 #[derive(Drop)]
 pub struct Rules {
     masks: Vec<u8>,
     formula: Formula,
     handlers: Names,
     goal: Goal,
-    table: Table,
+    engine: Engine,
 }
 
 impl Model for Rules {
@@ -40,12 +42,13 @@ impl Model for Rules {
 
     ghost use Rattle.std.specs.Coded.{codes};
     ghost use Rattle.jm_machine.specs.contracts.formula.Formula as property;
+    ghost use Rattle.jm_machine.specs.contracts.engine.Engine as driver;
 
-    ghost coded = { Prim.hlevel (codes, property.the_row.coded) };
+    ghost coded = { Prim.hlevel (codes, property.the_row.coded, driver.the_row.coded) };
 
-    ghost view = { λ r. record { definition = definition_of r.masks.items r.formula r.handlers r.goal; states = r.table } };
+    ghost view = { λ r. record { definition = definition_of r.masks.items r.formula r.handlers r.goal; engine = r.engine } };
 
-    ghost invariant = { λ r. IsGoalOf r.masks.items r.formula r.handlers r.goal × IsRuleSet (record { definition = definition_of r.masks.items r.formula r.handlers r.goal; states = r.table }) };
+    ghost invariant = { λ r. IsGoalOf r.masks.items r.formula r.handlers r.goal × IsRuleSet (record { definition = definition_of r.masks.items r.formula r.handlers r.goal; engine = r.engine }) };
 }
 
 impl Rules {
@@ -53,7 +56,7 @@ impl Rules {
     ///
     /// The fault is the first one of the steps: those of the formula's reader; `TooMany` handlers, past 16;
     /// `DuplicateHandler`, `UnknownCategory` and `UnsupportedHandler`, the word `__RESET` in a block; and those of the
-    /// formula's table, `TooManyStates` and `TooMany` term. Grammars aren't taken so far: `UnsupportedLogic`.
+    /// formula's table, `TooManyStates` and `TooMany` term.
     pub fn compile(
         alloc: Global,
         bytes: &[u8],
@@ -74,25 +77,25 @@ impl Rules {
         };
         let texts = tree.handlers.as_slice();
         let handlers = handled(alloc, bytes, tokens, &categories, texts)?;
-        let table = formula.compile(alloc, &tree.table)?;
-        Rules::new(alloc, tree, formula, &categories, handlers, table)
+        let engine = formula.compile(alloc, &tree.table)?;
+        Rules::new(alloc, tree, formula, &categories, handlers, engine)
     }
 
-    /// The rules of a formula with its table, and of these handled categories.
+    /// The rules of a formula with what runs it, and of these handled categories.
     fn new(
         alloc: Global,
         tree: &SpecTree,
         formula: Formula,
         categories: &Names,
         handlers: Names,
-        table: Table,
+        engine: Engine,
     ) -> Result<Rules, SpecError>
         requires categories { categories.now ≡ category_names formula }
         requires many { length categories.now ≤ 65535 }
         requires few { length handlers ≤ 16 }
-        requires letters { table.letters ≡ length tree.now.table.events }
-        requires groups { length table.groups ≡ length categories.now }
-        requires compiled { IsCompiled formula table }
+        requires letters { letters_of_engine engine ≡ length tree.now.table.events }
+        requires groups { categories_of_engine engine ≡ length categories.now }
+        requires compiled { IsCompiled formula engine }
         ensures rules { IfOk result (λ r. r.definition ≡ rules_of tree.now.table tree.now.full_binding formula handlers) }
         ensures fit { IfOk result (λ r. All (λ mask. mask < 2 ^ length tree.now.table.parameters) r.definition.masks) }
         ensures err { IfErr result (λ e. e ≡ SpecError.NoMemory) }
@@ -110,7 +113,7 @@ impl Rules {
             formula,
             handlers,
             goal,
-            table,
+            engine,
         })
     }
 
@@ -129,18 +132,12 @@ impl Rules {
         self.handlers.name(handler as u32)
     }
 
-    /// The state that a letter leads to.
-    fn step(&self, state: u16, letter: Letter) -> u16
+    /// The place that a letter leads to.
+    fn step(&self, place: &Place, letter: Letter) -> Result<Place, NoMemory>
         requires { letter.0 < length self.now.definition.masks }
-        ensures next { state < self.now.states.states → result ≡ next_of self.now.states state letter.0 }
-        ensures rules { IsRuleSet self.now }
-        ensures table { IsTable self.now.states }
+        ensures next { IfOk result (λ next. (word : List ℕ) → IsPlaceOf self.now.engine place.now word → IsPlaceOf self.now.engine next (word ++ letter.0 ∷ [])) }
     {
-        if state < self.table.len() {
-            self.table.next(state, letter)
-        } else {
-            0
-        }
+        self.engine.next(place, letter)
     }
 
     /// Whether a word may begin with the letter.
@@ -151,17 +148,24 @@ impl Rules {
         may_begin(&self.goal, letter)
     }
 
-    /// The handlers whose categories hold of the words that lead to a state: bit k stands for handler k.
-    fn handlers_at(&self, state: u16) -> u16
-        ensures hits { state < self.now.states.states → (k : ℕ) → IsBitSet result k ↔ IsHandledAt self.now state k }
-        ensures rules { IsRuleSet self.now }
-        ensures table { IsTable self.now.states }
+    /// Whether the run's words with the letter at their end may begin an instance's life.
+    fn is_created(&self, state: &Run, letter: Letter) -> bool
+        requires { letter.0 < length self.now.definition.masks }
+        ensures { (word : List ℕ) → IsRunOf self.now state.now word → IsTrue result ↔ IsCreated (rules_meaning self.now.definition) (word ++ letter.0 ∷ []) }
     {
-        if state < self.table.len() {
-            handlers_at(&self.goal, &self.table, state)
+        if state.moved {
+            state.created
         } else {
-            0
+            self.may_begin(letter)
         }
+    }
+
+    /// The handlers whose categories hold of the words that lead to a place: bit k stands for handler k.
+    fn handlers_at(&self, place: &Place) -> u16
+        ensures hits { (word : List ℕ) → IsPlaceOf self.now.engine place.now word → (k : ℕ) → IsBitSet result k ↔ IsHandledBy self.now word k }
+        ensures rules { IsRuleSet self.now }
+    {
+        handlers_at(&self.goal, &self.engine, place)
     }
 }
 
@@ -181,7 +185,7 @@ impl Monitor for Rules {
     ghost StandsFor = { λ r s w. IsRunOf r s w };
 
     fn letters(&self) -> u8 {
-        self.table.letters()
+        self.masks.len() as u8
     }
 
     fn params(&self, letter: Letter) -> u8 {
@@ -193,32 +197,36 @@ impl Monitor for Rules {
     }
 
     fn begin(&self) -> Result<Run, NoMemory> {
+        let place = self.engine.begin()?;
         Ok(Run {
-            state: 0,
+            place,
             moved: false,
             created: true,
         })
     }
 
     fn copy(&self, state: &Run) -> Result<Run, NoMemory> {
-        Ok(*state)
+        let place = self.engine.copy(&state.place)?;
+        Ok(Run {
+            place,
+            moved: state.moved,
+            created: state.created,
+        })
     }
 
     fn next(&self, state: &Run, letter: Letter) -> Result<Run, NoMemory> {
+        let created = self.is_created(state, letter);
+        let place = self.step(&state.place, letter)?;
         Ok(Run {
-            state: self.step(state.state, letter),
+            place,
             moved: true,
-            created: if state.moved {
-                state.created
-            } else {
-                self.may_begin(letter)
-            },
+            created,
         })
     }
 
     fn hits(&self, state: &Run) -> u16 {
         if state.moved && state.created {
-            self.handlers_at(state.state)
+            self.handlers_at(&state.place)
         } else {
             0
         }

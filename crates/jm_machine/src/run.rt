@@ -1,10 +1,11 @@
 //! A state of the rules.
+use crate::engine::Place;
 
-/// A state of the formula's table, with what is known of the words that lead to it.
-#[derive(Clone, Copy, Debug, PartialEq, Eq)]
+/// Where words lead in what runs the property, with what is known of these words.
+#[derive(Drop)]
 pub struct Run {
-    /// The state of the table.
-    pub state: u16,
+    /// The state, or the chart.
+    pub place: Place,
     /// Whether a letter led here.
     pub moved: bool,
     /// Whether the first letter is a creation letter. It is set where there is none, and before the first letter.

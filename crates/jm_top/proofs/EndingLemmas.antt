@@ -2,7 +2,7 @@ use Rattle.std.proofs.Common.{◌≡◌, ℕ, List, [], inl, inr, refl, sym, ◌
 use Rattle.std.specs.Prelude.{Option, Some, None}
 use Rattle.jm_port.specs.Sinks.{appended, AppendsPrefix}
 use Rattle.jm_top.specs.Causes.{IsBeforeWriting}
-use Rattle.jm_top.specs.Endings.{WritesText, IsText, Writes}
+use Rattle.jm_top.specs.Endings.{WritesText, IsText, Writes, Reports}
 use Rattle.jm_top.specs.declared.status.Status.{Status}
 use Rattle.jm_top.specs.declared.status.Status.TheVariants.{Done, Usage, BadSpec, BadScript, ReadFailed, WriteFailed, NoMemory}
 
@@ -48,3 +48,13 @@ module _ (words : List (List ℕ)) (contents : List ℕ → Option (List ℕ)) w
   writes_then_no_memory (BadSpec f x) before after w = inl w
   writes_then_no_memory (BadScript f x) before after w = inl w
   writes_then_no_memory (ReadFailed f) before after w = inl w
+
+-- what is said of the status that was meant
+pub reports_weaker : (P Q : Status → Type 0) (status : Status) (before after : ℕ × Option (List ℕ)) → ((meant : Status) → P meant → Q meant) → Reports P status before after → Reports Q status before after
+reports_weaker P Q Done before after weaker h = h
+reports_weaker P Q NoMemory before after weaker h = (h.0, weaker h.0 h.1, h.2)
+reports_weaker P Q Usage before after weaker h = h
+reports_weaker P Q (BadSpec f x) before after weaker h = h
+reports_weaker P Q (BadScript f x) before after weaker h = h
+reports_weaker P Q (ReadFailed f) before after weaker h = h
+reports_weaker P Q WriteFailed before after weaker h = h

@@ -46,9 +46,9 @@ module _ (words : List (List ℕ)) (contents : List ℕ → Option (List ℕ)) (
       specification_has_no_fault b s fault (subst (λ x. IsSpecification x s) same said) faulty
   not_refused _ _ _ _ (replay file sc bytes text s steps objects spelled held said holds is) (bad_script f t b x r fault names has says hold faulty) =
       let same = same_bytes file f bytes b (same_file _ file f sc t spelled names) (told file sc spelled).0 held has in
-      let one = one_specification b s r (subst (λ y. IsSpecification y s) same said) says in
+      let same_spec = one_specification b s r (subst (λ y. IsSpecification y s) same said) says in
       let other = same_bytes sc t text x (same_script _ file f sc t spelled names) (told file sc spelled).1 holds hold in
-      script_has_no_fault r x steps objects fault (subst (λ y. IsScript r y steps objects) other (subst (λ q. IsScript q text steps objects) one is)) faulty
+      script_has_no_fault r x steps objects fault (subst (λ y. IsScript r y steps objects) other (subst (λ q. IsScript q text steps objects) same_spec is)) faulty
 
   -- A command whose job isn't refused, and that met no fault of the folder or the sink, was done, or memory was short.
   pub completes : (s : Specification) (script : List ScriptLine) (objects : List (List ℕ)) → IsJob words contents (Replay s script objects) → (status : Status) → IsCaused words contents status

@@ -3,6 +3,5 @@ pub mod PrintLemmas
 pub mod ReplayLemmas
 pub mod OneReadingLemmas
 pub mod JobLemmas
-pub mod MonitorLemmas
 pub mod StepLemmas
 pub mod TreeLemmas

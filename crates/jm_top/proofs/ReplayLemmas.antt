@@ -25,14 +25,15 @@ use Rattle.jm_script.specs.declared.script.ScriptLine.{ScriptLine}
 use Rattle.jm_script.specs.declared.script.Target.{Target}
 use Rattle.jm_script.specs.declared.script.Target.TheVariants as target
 use Rattle.jm_script.specs.Projections.{script_of, line_of, step_of}
+use Rattle.jm_script.specs.Events.{mask_at}
 use Rattle.jm_script.specs.Fitting.{FitsSpecification}
 use Rattle.jm_script.specs.Disposals.{IsEvent}
-use Rattle.jm_fsm.specs.Machines.{FsmHolds}
+use Rattle.jm_machine.specs.Meanings.{rules_meaning}
+use Rattle.jm_machine.specs.RuleSets.{CompiledRules}
 use Rattle.jm_top.specs.declared.specification.Loaded.{Loaded}
 use Rattle.jm_top.specs.declared.script.Steps.{Steps}
-use Rattle.jm_top.specs.Specifications.{Specification, params_of, meaning_of}
+use Rattle.jm_top.specs.Specifications.{Specification, meaning_of}
 use Rattle.jm_top.specs.Scripts.{catalog_of}
-use Rattle.jm_top.specs.Monitors.{RuleSet, rules_meaning}
 use Rattle.jm_top.specs.Reading.{Keeps, IsKept}
 use Rattle.jm_top.specs.Steps.{IsReadScript}
 use Rattle.jm_top.specs.Replays.{IsReplay, IsTextOfReplay, lexicon}
@@ -68,26 +69,15 @@ mask_there events e = ap (λ o. unwrap_or o 0) (slice_get-map (λ (x : EventDefi
     by_case None = refl
     by_case (Some x) = refl
 
-mask_of_rules : (s : Specification) (l : Loaded) → Keeps s l → (e : ℕ) → unwrap_or (slice_get l.rules.masks e) 0 ≡ params_of s.table e
-mask_of_rules s l h e = ap (λ ms. unwrap_or (slice_get ms e) 0) h.masks ∙ mask_there s.table.events e
+-- the letters and their parameters are those of the events
+mask_of_rules : (s : Specification) → s.rules.masks ≡ map (λ e. e.mask) s.table.events → (e : ℕ) → mask_at s.table e ≡ unwrap_or (slice_get s.rules.masks e) 0
+mask_of_rules s masks e = sym (ap (λ ms. unwrap_or (slice_get ms e) 0) masks ∙ mask_there s.table.events e)
 
-letters_of_rules : (s : Specification) (l : Loaded) → Keeps s l → length l.rules.masks ≡ length s.table.events
-letters_of_rules s l h = ap (λ ms. length ms) h.masks ∙ length-map s.table.events (λ (e : EventDefinition). e.mask)
+letters_of_rules : (s : Specification) → s.rules.masks ≡ map (λ e. e.mask) s.table.events → length s.table.events ≡ length s.rules.masks
+letters_of_rules s masks = sym (ap (λ ms. length ms) masks ∙ length-map s.table.events (λ (e : EventDefinition). e.mask))
 
-pub same_meaning : (s : Specification) (l : Loaded) → Keeps s l → rules_meaning l.rules ≡ meaning_of s
-same_meaning s l h =
-    let letters = letters_of_rules s l h in
-    let masks = mask_of_rules s l h in
-    λ i. record {
-      letters = letters i;
-      params = λ e. masks e i;
-      must_bind = 0;
-      creation = [];
-      handlers = 1;
-      property_of = λ k. 0;
-      Holds = λ w k. FsmHolds (h.machine i) (h.category i) w;
-      coarse_cut = λ j. false;
-    }
+pub same_meaning : (s : Specification) (l : Loaded) → Keeps s l → rules_meaning l.rules.definition ≡ meaning_of s
+same_meaning s l h = ap rules_meaning h.rules
 
 -- ---- the steps
 
@@ -111,13 +101,14 @@ events_projected script all =
     (All-weaker (λ (l : ScriptLine). IsEvent l.target) (λ (l : ScriptLine). IsEventStep (step_of l.target)) (λ l. event_step l.target) script all)))
 
 -- an event that fits the specification is one of its meaning
-fitting_event : (s : Specification) (n : ℕ) (x : Step) → FitsSpecification (catalog_of s) n 0 x → IsEventStep x → IsEventOf (meaning_of s) n x
-fitting_event s n (Event e b) fits is = ((fits.event.event, fits.eight, fits.event.parameters), fits.named)
-fitting_event s n (Death o) fits is = absurd is
-fitting_event s n Pass fits is = absurd is
+fitting_event : (s : Specification) → s.rules.masks ≡ map (λ e. e.mask) s.table.events → (n : ℕ) (x : Step) → FitsSpecification (catalog_of s) n 0 x → IsEventStep x → IsEventOf (meaning_of s) n x
+fitting_event s masks n (Event e b) fits is =
+    ((subst (λ k. e.0 < k) (letters_of_rules s masks) fits.event.event, fits.eight, fits.event.parameters ∙ mask_of_rules s masks e.0), fits.named)
+fitting_event s masks n (Death o) fits is = absurd is
+fitting_event s masks n Pass fits is = absurd is
 
 -- and has names
-fitting_named : (s : Specification) (objects : List (List ℕ)) (x : Step) → ((e : ℕ) → params_of s.table e < 2 ^ length s.table.parameters) → FitsSpecification (catalog_of s) (length objects) 0 x → IsEventStep x → IsNamedEvent (lexicon s objects) x
+fitting_named : (s : Specification) (objects : List (List ℕ)) (x : Step) → ((e : ℕ) → mask_at s.table e < 2 ^ length s.table.parameters) → FitsSpecification (catalog_of s) (length objects) 0 x → IsEventStep x → IsNamedEvent (lexicon s objects) x
 fitting_named s objects (Event e b) small fits is = (
   subst (λ n. e.0 < n) (sym (length-map s.table.events (λ (x : EventDefinition). x.name))) fits.event.event,
   λ p o at. (bound_parameter b (length s.table.parameters) p o (subst (λ m. m < 2 ^ length s.table.parameters) (sym fits.event.parameters) (small e.0)) at, named_object b (length objects) p o fits.named at),
@@ -135,8 +126,9 @@ power_some : (n : ℕ) → 0 < 2 ^ n
 power_some zero = omega arith
 power_some (suc n) = omega (arith, power_some n, pow-suc 2 n)
 
-small_params : (s : Specification) (l : Loaded) → IsKept s l → (e : ℕ) → params_of s.table e < 2 ^ length s.table.parameters
-small_params s l h e = subst (λ m. m < 2 ^ length s.table.parameters) (mask_of_rules s l h.keeps e) (small_masks l.rules.masks (2 ^ length s.table.parameters) (power_some (length s.table.parameters)) h.fit e)
+small_params : (s : Specification) (l : Loaded) → IsKept s l → (e : ℕ) → mask_at s.table e < 2 ^ length s.table.parameters
+small_params s l h e =
+    subst (λ m. m < 2 ^ length s.table.parameters) (sym (mask_of_rules s h.masks e)) (small_masks s.rules.masks (2 ^ length s.table.parameters) (power_some (length s.table.parameters)) h.fit e)
 
 -- both together, of steps
 module _ {A : Type 0} (P Q R : A → Type 0) (both : (x : A) → P x → Q x → R x) where
@@ -151,11 +143,11 @@ module _ {A : Type 0} (P Q R : A → Type 0) (both : (x : A) → P x → Q x →
 pub replayable : (s : Specification) (l : Loaded) (bytes : List ℕ) (x : Steps) (own : List (ℕ × Step)) → IsKept s l → IsReadScript s bytes x
     → own ≡ projection_of (script_of x.script) 0
     → All (λ step. FitsSpecification (catalog_of s) (length x.objects) 0 step.1) own
-    → All (λ step. IsEventOf (rules_meaning l.rules) (length x.objects) step.1) own
+    → All (λ step. IsEventOf (rules_meaning l.rules.definition) (length x.objects) step.1) own
 replayable s l bytes x own kept read is fits =
     subst (λ m. All (λ (step : ℕ × Step). IsEventOf m (length x.objects) step.1) own) (sym (same_meaning s l kept.keeps))
     (both_of_all (λ (step : ℕ × Step). FitsSpecification (catalog_of s) (length x.objects) 0 step.1) (λ (step : ℕ × Step). IsEventStep step.1) (λ (step : ℕ × Step). IsEventOf (meaning_of s) (length x.objects) step.1)
-    (λ step. fitting_event s (length x.objects) step.1) own fits (subst (λ ss. All (λ (step : ℕ × Step). IsEventStep step.1) ss) (sym is) (events_projected x.script read.events)))
+    (λ step. fitting_event s kept.masks (length x.objects) step.1) own fits (subst (λ ss. All (λ (step : ℕ × Step). IsEventStep step.1) ss) (sym is) (events_projected x.script read.events)))
 
 -- ---- the history
 
@@ -184,25 +176,25 @@ woven own h each done = record {
     list_of (suc k) less = absurd (omega (arith, less))
 
 -- what a core without history has after a replay of the steps
-pub replayed : (s : Specification) (l : Loaded) (x : Steps) (own : List (ℕ × Step)) (before after : Core RuleSet) (h : List Entry) → IsKept s l
+pub replayed : (s : Specification) (l : Loaded) (x : Steps) (own : List (ℕ × Step)) (before after : Core CompiledRules) (h : List Entry) → IsKept s l
     → own ≡ projection_of (script_of x.script) 0 → before.definition ≡ l.rules → before.entries ≡ [] → Replayed 0 own before after
-    → IsLegal (rules_meaning after.definition) after.entries → h ≡ after.entries → IsReplay s x.script h
+    → IsLegal (rules_meaning after.definition.definition) after.entries → h ≡ after.entries → IsReplay s x.script h
 replayed s l x own before after h kept is rules none done legal same =
-    let all : h ≡ done.added = same ∙ ap (λ (c : Core RuleSet). c.entries) done.grown ∙ ap (λ es. es ++ done.added) none in
-    let meant : after.definition ≡ l.rules = ap (λ (c : Core RuleSet). c.definition) done.grown ∙ rules in
+    let all : h ≡ done.added = same ∙ ap (λ (c : Core CompiledRules). c.entries) done.grown ∙ ap (λ es. es ++ done.added) none in
+    let meant : after.definition ≡ l.rules = ap (λ (c : Core CompiledRules). c.definition) done.grown ∙ rules in
     record {
-      legal = subst (λ es. IsLegal (meaning_of s) es) (sym same) (subst (λ m. IsLegal m after.entries) (ap rules_meaning meant ∙ same_meaning s l kept.keeps) legal);
+      legal = subst (λ es. IsLegal (meaning_of s) es) (sym same) (subst (λ m. IsLegal m after.entries) (ap (λ (x : CompiledRules). rules_meaning x.definition) meant ∙ same_meaning s l kept.keeps) legal);
       woven = subst (λ ss. IsInterleaving h (ss ∷ [])) is (subst (λ es. IsInterleaving es (own ∷ [])) (sym all) (woven own done.added done.each done.done));
     }
 
 -- it can be printed
-pub replay_printable : (s : Specification) (l : Loaded) (bytes : List ℕ) (x : Steps) (own : List (ℕ × Step)) (before after : Core RuleSet) (h : List Entry) → IsKept s l → IsReadScript s bytes x
+pub replay_printable : (s : Specification) (l : Loaded) (bytes : List ℕ) (x : Steps) (own : List (ℕ × Step)) (before after : Core CompiledRules) (h : List Entry) → IsKept s l → IsReadScript s bytes x
     → own ≡ projection_of (script_of x.script) 0
     → All (λ step. FitsSpecification (catalog_of s) (length x.objects) 0 step.1) own
     → before.entries ≡ [] → Replayed 0 own before after → h ≡ after.entries
     → IsReplay s x.script h → All (IsPrintable (lexicon s x.objects)) h
 replay_printable s l bytes x own before after h kept read is fits none done same valid =
-    let all : h ≡ done.added = same ∙ ap (λ (c : Core RuleSet). c.entries) done.grown ∙ ap (λ es. es ++ done.added) none in
+    let all : h ≡ done.added = same ∙ ap (λ (c : Core CompiledRules). c.entries) done.grown ∙ ap (λ es. es ++ done.added) none in
     let small = small_params s l kept in
     let names = lexicon s x.objects in
     let steps : All (λ (step : ℕ × Step). IsNamedEvent names step.1) own =

@@ -6,7 +6,6 @@ pub mod Scripts
 pub mod Jobs
 pub mod Replays
 pub mod Endings
-pub mod Monitors
 pub mod Reading
 pub mod Steps
 pub mod Causes

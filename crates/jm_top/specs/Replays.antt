@@ -18,7 +18,7 @@ pub record IsReplay (s : Specification) (script : List ScriptLine) (h : List Ent
 
 -- the names that it is printed with
 abbrev pub lexicon : Specification → List (List ℕ) → Lexicon
-lexicon s objects = lexicon_of s.name s.table (s.handler ∷ []) objects
+lexicon s objects = lexicon_of s.name s.table s.rules.handlers objects
 
 -- the text is the whole printed history of a replay
 pub record IsTextOfReplay (s : Specification) (script : List ScriptLine) (objects : List (List ℕ)) (text : List ℕ) : Type 0 where

@@ -7,7 +7,7 @@ ghost use Rattle.jm_top.specs.Specifications.{Specification, most_bytes};
 ghost use Rattle.jm_top.specs.Scripts.{catalog_of};
 ghost use Rattle.jm_top.specs.Jobs.{IsJob, Replay, Holds, IsCaused, AreTold};
 ghost use Rattle.jm_top.specs.Causes.{IsBeforeWriting, IsSpecUnloaded, IsScriptUnloaded, IsNoSpecification, IsNoScript};
-ghost use Rattle.jm_top.specs.Endings.{IsText, Writes, WritesText, Reports};
+ghost use Rattle.jm_top.specs.Endings.{IsText, Writes, WritesText, Ends, Reports};
 ghost use Rattle.jm_top.specs.Reading.{IsRead};
 ghost use Rattle.jm_top.specs.Steps.{IsReadScript};
 
@@ -50,7 +50,8 @@ pub fn jmop<F: Folder, S: Sink, E: Sink>(
     ensures complete { (s : Specification) (script : List ScriptLine) (objects : List (List ℕ)) → AreTold (map string_bytes words.now) (F.holds files.old)
         → IsJob (map string_bytes words.now) (F.holds files.old) (Replay s script objects) → ¬ HasRisen (F.faults files.old) (F.faults files.new) → ¬ HasRisen (S.faults out.old) (S.faults out.new)
         → (result ≡ Status.Done) ⊎ (result ≡ Status.NoMemory) }
-    ensures reported { Reports result (E.faults err.old, E.written err.old) (E.faults err.new, E.written err.new) }
+    ensures reported { Reports (Ends (map string_bytes words.now) (F.holds files.old) (F.faults files.old) (F.faults files.new) (S.faults out.old, S.written out.old) (S.faults out.new, S.written out.new))
+        result (E.faults err.old, E.written err.old) (E.faults err.new, E.written err.new) }
 {
     let status = carry_out(alloc, words, files, out);
     report(alloc, status, err)
@@ -94,7 +95,7 @@ fn write<S: Sink>(out: &mut S, text: &[u8]) -> Status
 fn report<E: Sink>(alloc: Global, status: Status, err: &mut E) -> Status
     ensures done { status ≡ Status.Done → result ≡ Status.Done }
     ensures kept { (result ≡ status) ⊎ (result ≡ Status.NoMemory) }
-    ensures reported { Reports result (E.faults err.old, E.written err.old) (E.faults err.new, E.written err.new) }
+    ensures reported { Reports (λ meant. meant ≡ status) result (E.faults err.old, E.written err.old) (E.faults err.new, E.written err.new) }
 {
     if let Status::Done = status {
         return status;

@@ -1,7 +1,8 @@
 //! The top call: a command from the words of its command line to its status.
 //!
 //! `jmop` reads the words, loads the files from a folder, replays the script, and writes the text to a sink and what went
-//! wrong to another. So far it knows the command `replay`, over state machines with one handler and scripts of events.
+//! wrong to another. So far it knows the command `replay`, over state machines, regular expressions and past-time formulas, and
+//! scripts of events.
 //!
 //! What a command is to do stands in `specs`, apart from how it is done: `Jobs.antt` says what its words and the contents
 //! of its files ask for or which fault is the first, and `Replays.antt` which texts are those of a replay.
@@ -10,7 +11,6 @@
 mod command;
 mod laws;
 mod replay;
-mod rules;
 mod script;
 mod specification;
 mod status;
@@ -22,5 +22,7 @@ pub use laws::one_reading;
 pub use status::Status;
 pub use texts::fault_text;
 
+#[cfg(test)]
+mod logic_tests;
 #[cfg(test)]
 mod tests;

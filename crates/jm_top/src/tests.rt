@@ -75,7 +75,7 @@ fn run<F: Folder, S: Sink>(
 }
 
 /// Replays a script that has no fault, and compares what is written.
-fn replays(
+pub(crate) fn replays(
     rt: &impl Abort,
     alloc: Global,
     spec: &str,
@@ -179,7 +179,7 @@ fn refuses_words(rt: HostRuntime) -> Result<(), Fail> {
 }
 
 /// The specification and the fault that it is refused for, with the text on it.
-fn spec_refused(
+pub(crate) fn spec_refused(
     rt: &impl Abort,
     alloc: Global,
     spec: &[u8],
@@ -243,7 +243,7 @@ fn refuses_specifications(rt: HostRuntime) -> Result<(), Fail> {
 }
 
 #[test]
-fn refuses_what_is_not_taken_so_far(rt: HostRuntime) -> Result<(), Fail> {
+fn refuses_other_logics(rt: HostRuntime) -> Result<(), Fail> {
     let alloc = rt.alloc();
     spec_refused(
         &rt,
@@ -254,14 +254,7 @@ fn refuses_what_is_not_taken_so_far(rt: HostRuntime) -> Result<(), Fail> {
     )?;
     let rows = [
         b"L(P p, P p) { event a before(P p) : x() {}\n ltl : a }".as_slice(),
-        b"Iter(P p, P p) {\n ere : create next* update+ next\n @match { }\n}",
-        b"Lock(P p) {\n cfg : S -> S a S b | epsilon\n @fail { }\n}",
-        b"L(P p) {\n fsm : s [ ]\n}",
-        b"L(P p) {\n fsm : s [ ]\n @s { }\n @fail { }\n}",
-        b"L(P p) {\n fsm : s [ ]\n @t { }\n}",
-        b"L(P p) {\n fsm : s [ ]\n @s { x }\n}",
-        b"full-binding L(P p) {\n fsm : s [ ]\n @s { }\n}",
-        b"L(P p) { creation event a before(P p) : x() {}\n fsm : s [ ]\n @s { }\n}",
+        b"Lock(P p, P p) {\n cfg : S -> S a S b | epsilon\n @fail { }\n}",
     ];
     for spec in rows {
         spec_refused(

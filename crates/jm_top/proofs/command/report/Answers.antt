@@ -1,6 +1,5 @@
 use Rattle.std.proofs.Common.{refl, inr}
 use Rattle.jm_top.specs.FaultTexts.{fault_text_of}
-use Rattle.jm_top.specs.declared.status.Status.TheVariants.{NoMemory}
 use Rattle.jm_top.proofs.EndingLemmas.{nothing_appended}
 use Rattle.jm_top.proofs.command.report.Goals as goal
 
@@ -10,5 +9,5 @@ returns-in_default-fault_text g c =
     record {
       done = λ is. absurd (c.in_default.not-Done is);
       kept = inr refl;
-      reported = (NoMemory, nothing_appended written written (fault_text_of NoMemory) refl);
+      reported = (c.args.status, refl, nothing_appended written written (fault_text_of c.args.status) refl);
     }

@@ -10,7 +10,7 @@ use Rattle.jm_top.specs.declared.specification.Loaded.{Loaded}
 use Rattle.jm_top.specs.declared.script.Steps.{Steps}
 use Rattle.jm_top.specs.Specifications.{Specification}
 use Rattle.jm_top.specs.Scripts.{catalog_of}
-use Rattle.jm_top.specs.Monitors.{RuleSet, rules_meaning}
+use Rattle.jm_machine.specs.RuleSets.{CompiledRules}
 use Rattle.jm_top.specs.Reading.{IsKept}
 use Rattle.jm_top.specs.Steps.{IsReadScript}
 use Rattle.jm_top.specs.Replays.{IsReplay, lexicon}
@@ -39,8 +39,8 @@ render_history-requires c =
     let before = c.in_ok-prop.prop in
     let after = c.replay.new.self in
     let fits = c.in_ok-own.ensures.fitting (catalog_of s) (length x.objects) read.fitting in
-    let none = ap (λ (core : Core RuleSet). core.entries) c.in_ok-prop.ensures.value in
-    let rules = ap (λ (core : Core RuleSet). core.definition) c.in_ok-prop.ensures.value in
+    let none = ap (λ (core : Core CompiledRules). core.entries) c.in_ok-prop.ensures.value in
+    let rules = ap (λ (core : Core CompiledRules). core.definition) c.in_ok-prop.ensures.value in
     let done = rw c.as_slice.ensures.value at c.in_ok-replay.ensures.ok in
     let valid = replayed s c.args.spec x own before after c.history.result.now kept c.in_ok-own.ensures.value rules none done c.history.ensures.legal c.history.ensures.value in
     let can = replay_printable s c.args.spec c.requires.2.0 x own before after c.history.result.now kept read c.in_ok-own.ensures.value fits none done c.history.ensures.value valid in
@@ -52,8 +52,8 @@ returns c = λ s kept bytes read.
     let own = c.in_ok-own.own.items in
     let before = c.in_ok-prop.prop in
     let after = c.replay.new.self in
-    let none = ap (λ (core : Core RuleSet). core.entries) c.in_ok-prop.ensures.value in
-    let rules = ap (λ (core : Core RuleSet). core.definition) c.in_ok-prop.ensures.value in
+    let none = ap (λ (core : Core CompiledRules). core.entries) c.in_ok-prop.ensures.value in
+    let rules = ap (λ (core : Core CompiledRules). core.definition) c.in_ok-prop.ensures.value in
     let done = rw c.as_slice.ensures.value at c.in_ok-replay.ensures.ok in
     let valid = replayed s c.args.spec x own before after c.history.result.now kept c.in_ok-own.ensures.value rules none done c.history.ensures.legal c.history.ensures.value in
     replay_text (λ text. text.items) s x.script x.objects c.history.result.now valid c.render_history.result

@@ -1,16 +1,19 @@
 use Rattle.std.proofs.Common.{length, Some, map}
 use Rattle.jm_events.specs.Names.{number_of}
-use Rattle.jm_table.specs.Tables.{IsInGroup}
 use Rattle.jm_machine.specs.Formulas.{category_names}
+use Rattle.jm_machine.specs.Engines.{categories_of_engine, EngineHolds}
 use Rattle.jm_machine.proofs.OptionLemmas.{looked_up}
 use Rattle.jm_machine.proofs.RuleLemmas.{groups_within}
 use Rattle.jm_machine.proofs.rules.Rules.handlers_at.Goals as goal
 
-pub handlers_at-requires-clause-groups : goal.handlers_at-requires-clause-groups
-handlers_at-requires-clause-groups c =
-    groups_within (category_names c.self.inside.formula) c.self.inside.handlers c.self.inside.goal.groups (length c.self.inside.table.groups) c.self.invariant.1.groups c.self.invariant.0.groups
+pub handlers_at-requires : goal.handlers_at-requires
+handlers_at-requires c =
+    groups_within (category_names c.self.inside.formula) c.self.inside.handlers c.self.inside.goal.groups (categories_of_engine c.self.inside.engine) c.self.invariant.1.categories c.self.invariant.0.groups
 
-pub returns-then-state-len-clause-hits : goal.returns-then-state-len-clause-hits
-returns-then-state-len-clause-hits c = λ less k.
-    let same = looked_up (IsInGroup c.self.inside.table c.args.state) (number_of (category_names c.self.inside.formula)) c.self.inside.goal.groups c.self.inside.handlers k c.self.invariant.0.groups in
-    rw (← c.self.view_is) (λ set. same.0 ((c.handlers_at.ensures k).0 set), λ held. (c.handlers_at.ensures k).1 (same.1 held))
+pub returns-clause-hits : goal.returns-clause-hits
+returns-clause-hits c =
+    rw (← c.self.view_is)
+    (λ word place k.
+        let same = looked_up (λ group. EngineHolds c.self.inside.engine group word) (number_of (category_names c.self.inside.formula)) c.self.inside.goal.groups c.self.inside.handlers k c.self.invariant.0.groups in
+        let hits = c.handlers_at.ensures word place k in
+        (λ set. same.0 (hits.0 set), λ held. hits.1 (same.1 held)))

@@ -1,14 +1,6 @@
-use Rattle.std.proofs.Common.{sym, ◌∙◌}
-use Rattle.jm_machine.specs.Meanings.{rules_meaning}
-use Rattle.jm_machine.proofs.RuleLemmas.{next_run, created_later, created_first}
+use Rattle.jm_machine.proofs.RuleLemmas.{next_run}
 use Rattle.jm_machine.proofs.rules.RulesMonitor.next.Goals as goal
 
-pub returns-then-state : goal.returns-then-state
-returns-then-state c = λ w run.
-    next_run c.args.self.now c.args.state.now w c.step.ensures.rules c.step.ensures.table run c.args.letter.0 c.step.result c.args.state.now.created c.requires c.step.ensures.next
-    (created_later (rules_meaning c.args.self.now.definition) c.args.state.now.created w c.args.letter.0 (sym run.moved ∙ c.if-state.true) run.created)
-
-pub returns-else-state : goal.returns-else-state
-returns-else-state c = λ w run.
-    next_run c.args.self.now c.args.state.now w c.step.ensures.rules c.step.ensures.table run c.args.letter.0 c.step.result c.may_begin.result c.requires c.step.ensures.next
-    (created_first c.args.self.now.definition c.may_begin.result w c.args.letter.0 (sym run.moved ∙ c.if-state.false) c.may_begin.ensures)
+pub returns : goal.returns
+returns c = λ w run.
+    next_run c.args.self.now c.args.state.now w run c.args.letter.0 c.in_ok-place.place c.is_created-created.result (c.in_ok-place.ensures.next w) (c.is_created-created.ensures w run)

@@ -1,0 +1,49 @@
+-- What runs a property, and where words lead in it.
+use Rattle.std.specs.Prelude.{ℕ, zero, suc, ◌≡◌, ◌<◌, ◌↔◌, List, All, length}
+use Rattle.jm_table.specs.Tables.{IsWord, IsInGroup, state_after_of}
+use Rattle.jm_grammar.specs.Grammars.{GrammarDefinition}
+use Rattle.jm_grammar.specs.Derivations as grammar
+use Rattle.jm_earley.specs.Charts.{AreBelow, IsChartOf}
+use Rattle.jm_machine.specs.declared.engine.Engine.{Engine}
+use Rattle.jm_machine.specs.declared.engine.Engine.TheVariants.{States, Parses}
+use Rattle.jm_machine.specs.declared.engine.Place.{Place}
+use Rattle.jm_machine.specs.declared.engine.Place.TheVariants.{State, Parse}
+use Rattle.jm_machine.specs.declared.formula.Formula.{Formula}
+use Rattle.jm_machine.specs.declared.formula.Formula.TheVariants.{Grammatical}
+use Rattle.jm_machine.specs.Formulas.{category_names, CategoryHolds, GrammarHolds}
+
+-- how many letters there are, and how many categories
+abbrev pub letters_of_engine : Engine → ℕ
+letters_of_engine (States t) = t.letters
+letters_of_engine (Parses c) = length c.params
+
+abbrev pub categories_of_engine : Engine → ℕ
+categories_of_engine (States t) = length t.groups
+categories_of_engine (Parses c) = 2
+
+-- the word leads to the place
+abbrev pub IsPlaceOf : Engine → Place → List ℕ → Type 0
+IsPlaceOf (States t) (State s) word = IsWord t word × (s ≡ state_after_of t word)
+IsPlaceOf (Parses c) (Parse chart) word = All (λ letter. letter < length c.params) word × IsChartOf c word chart
+IsPlaceOf _ _ word = ⊥
+
+-- the category of this number holds of the word, by what runs the property
+abbrev pub EngineHolds : Engine → ℕ → List ℕ → Type 0
+EngineHolds (States t) category word = IsInGroup t (state_after_of t word) category
+EngineHolds (Parses c) category word = GrammarHolds c.grammar category word
+
+-- each letter of a grammar is below this number
+abbrev pub HasLetters : ℕ → Formula → Type 0
+HasLetters letters (Grammatical g) = AreBelow g.productions letters
+HasLetters letters _ = Unit {0}
+
+-- the charts are those of a grammar with the words of this one, over so many letters
+abbrev pub IsParserOf : GrammarDefinition → ℕ → Engine → Type 0
+IsParserOf g letters (Parses c) = ((word : List ℕ) → grammar.IsWord c.grammar word ↔ grammar.IsWord g word) × (length c.params ≡ letters)
+IsParserOf g letters (States t) = ⊥
+
+-- after each word of its letters that isn't empty, the categories hold by what runs the property where they hold of the word
+abbrev pub IsCompiled : Formula → Engine → Type 0
+IsCompiled formula engine =
+    (word : List ℕ) → All (λ letter. letter < letters_of_engine engine) word → 0 < length word → (category : ℕ) → category < length (category_names formula)
+    → EngineHolds engine category word ↔ CategoryHolds formula (letters_of_engine engine) category word

@@ -1,0 +1,118 @@
+//! What runs the property of a specification.
+ghost use Rattle.std.specs.Prelude.{ℕ, ◌≡◌, ◌<◌, ◌↔◌, ◌++◌, ◌∷◌, [], List, IsTrue, IfOk};
+ghost use Rattle.jm_table.specs.Tables.{IsTable, next_of, IsInGroup};
+ghost use Rattle.jm_machine.specs.Formulas.{GrammarHolds};
+ghost use Rattle.jm_machine.specs.Engines.{letters_of_engine, categories_of_engine, IsPlaceOf, EngineHolds};
+
+use jm_earley::{Chart, Charts};
+use jm_model::{Letter, NoMemory};
+use jm_table::Table;
+
+/// A table of states, or the charts of a grammar.
+#[derive(Drop)]
+pub enum Engine {
+    /// The states of a state machine, a regular expression or a past-time formula.
+    States(Table),
+    /// The charts of a grammar.
+    Parses(Charts),
+}
+
+/// Where a word leads: a state, or the chart of the word.
+#[derive(Drop)]
+pub enum Place {
+    /// A state of the table.
+    State(u16),
+    /// A chart.
+    Parse(Chart),
+}
+
+impl Engine {
+    /// The place of the empty word.
+    pub(crate) fn begin(&self) -> Result<Place, NoMemory>
+        ensures { IfOk result (λ place. IsPlaceOf self.now place []) }
+    {
+        match self {
+            Engine::States(_) => Ok(Place::State(0)),
+            Engine::Parses(charts) => match charts.begin() {
+                Ok(chart) => Ok(Place::Parse(chart)),
+                Err(error) => Err(error),
+            },
+        }
+    }
+
+    /// A place of the same words.
+    pub(crate) fn copy(&self, place: &Place) -> Result<Place, NoMemory>
+        ensures { IfOk result (λ copy. copy ≡ place.now) }
+    {
+        match (self, place) {
+            (_, Place::State(state)) => Ok(Place::State(*state)),
+            (Engine::Parses(charts), Place::Parse(chart)) => match charts.copy(chart) {
+                Ok(chart) => Ok(Place::Parse(chart)),
+                Err(error) => Err(error),
+            },
+            _ => Err(NoMemory),
+        }
+    }
+
+    /// The place of the words that have one letter more.
+    pub(crate) fn next(&self, place: &Place, letter: Letter) -> Result<Place, NoMemory>
+        requires { letter.0 < letters_of_engine self.now }
+        ensures { IfOk result (λ next. (word : List ℕ) → IsPlaceOf self.now place.now word → IsPlaceOf self.now next (word ++ letter.0 ∷ [])) }
+    {
+        match (self, place) {
+            (Engine::States(table), Place::State(state)) => {
+                Ok(Place::State(next_state(table, *state, letter)))
+            }
+            (Engine::Parses(charts), Place::Parse(chart)) => match charts.next(chart, letter) {
+                Ok(chart) => Ok(Place::Parse(chart)),
+                Err(error) => Err(error),
+            },
+            _ => Err(NoMemory),
+        }
+    }
+
+    /// Whether the category of this number holds of the words that lead to the place.
+    pub(crate) fn holds(&self, place: &Place, category: u16) -> bool
+        requires { category < categories_of_engine self.now }
+        ensures { (word : List ℕ) → IsPlaceOf self.now place.now word → IsTrue result ↔ EngineHolds self.now category word }
+    {
+        match (self, place) {
+            (Engine::States(table), Place::State(state)) => is_in_group(table, *state, category),
+            (Engine::Parses(charts), Place::Parse(chart)) => parse_holds(charts, chart, category),
+            _ => false,
+        }
+    }
+}
+
+/// The state that a letter leads to, from a state of the table.
+fn next_state(table: &Table, state: u16, letter: Letter) -> u16
+    requires { letter.0 < table.now.letters }
+    ensures next { state < table.now.states → result ≡ next_of table.now state letter.0 }
+    ensures table { IsTable table.now }
+{
+    if state < table.len() {
+        table.next(state, letter)
+    } else {
+        0
+    }
+}
+
+/// Whether a state of the table is in the group.
+fn is_in_group(table: &Table, state: u16, group: u16) -> bool
+    requires { group < categories_of_engine (Engine.States table.now) }
+    ensures holds { state < table.now.states → IsTrue result ↔ IsInGroup table.now state group }
+    ensures table { IsTable table.now }
+{
+    state < table.len() && table.in_group(state, group)
+}
+
+/// Whether a category of a grammar holds of the chart's words.
+fn parse_holds(charts: &Charts, chart: &Chart, category: u16) -> bool
+    ensures { (word : List ℕ) → IsPlaceOf (Engine.Parses charts.now) (Place.Parse chart.now) word → IsTrue result ↔ GrammarHolds charts.now.grammar category word }
+{
+    match category {
+        0 => charts.matches(chart),
+        1 => charts.fails(chart),
+        _ => false,
+    }
+}
