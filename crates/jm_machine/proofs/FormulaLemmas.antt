@@ -1,5 +1,5 @@
 -- The tables of the logics are those of their categories.
-use Rattle.std.proofs.Common.{◌≡◌, ℕ, zero, suc, ◌<◌, List, length, arith}
+use Rattle.std.proofs.Common.{ℕ, zero, suc, ◌<◌, List, length, arith}
 use Rattle.std.specs.Prelude.{◌↔◌}
 use Rattle.jm_model.specs.declared.step.Letter.{Letter}
 use Rattle.jm_table.specs.Tables.{Transitions, IsWord, IsInGroup, state_after_of}

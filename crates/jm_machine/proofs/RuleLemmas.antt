@@ -1,5 +1,5 @@
 -- Runs of compiled rules: the next state, and which handlers a word hits.
-use Rattle.std.proofs.Common.{◌≡◌, ◌≢◌, ℕ, zero, suc, ◌+◌, ◌<◌, ◌≤◌, ◌⊎◌, inl, inr, List, [], ◌∷◌, ◌++◌, length, get_or, Bool, true, false, Option, Some, None, map, refl, sym, ◌∙◌, ap, subst, arith}
+use Rattle.std.proofs.Common.{◌≡◌, ◌≢◌, ℕ, ◌<◌, ◌⊎◌, List, [], ◌∷◌, ◌++◌, length, get_or, Bool, true, false, Option, Some, None, map, refl, sym, ◌∙◌, ap, subst, arith}
 use Rattle.std.specs.Prelude.{All, Contains, ◌↔◌, IsTrue, IsBitSet, IsSomeAnd, slice_get}
 use Rattle.std.specs.Str.{bytes_eq}
 use Rattle.std.proofs.lemmas.List.Elements.{All-push}
@@ -7,7 +7,7 @@ use Rattle.std.proofs.lemmas.List.Quantifiers.{position-Some}
 use Rattle.std.proofs.lemmas.Option.{slice_get_within, slice_get-get_or}
 use Rattle.jm_model.specs.Meanings.{Meaning, IsCreated, IsHit}
 use Rattle.jm_events.specs.Names.{number_of}
-use Rattle.jm_table.specs.Tables.{Transitions, next_of, state_after_of, IsTable, IsWord, IsInGroup}
+use Rattle.jm_table.specs.Tables.{next_of, IsTable, IsInGroup}
 use Rattle.jm_table.proofs.PlaceLemmas.{fold_push}
 use Rattle.jm_machine.specs.declared.run.Run.{Run}
 use Rattle.jm_machine.specs.Formulas.{category_names, CategoryHolds}
@@ -79,17 +79,18 @@ module _ (r : CompiledRules) (s : Run) (w : List ℕ) (set : IsRuleSet r) (table
   -- the state is in the groups of the categories that hold of the word
   held : s.moved ≡ true → (category : ℕ) → category < length (category_names r.definition.formula) → IsInGroup r.states s.state category ↔ CategoryHolds r.definition.formula (length r.definition.masks) category w
   held moved category less =
-      let whole = set.compiled w run.word (some_letter w (sym run.moved ∙ moved)) category less in
-      (λ h. subst (λ n. CategoryHolds r.definition.formula n category w) set.letters (whole.0 (subst (λ n. IsInGroup r.states n category) run.state h)),
-        λ h. subst (λ n. IsInGroup r.states n category) (sym run.state) (whole.1 (subst (λ n. CategoryHolds r.definition.formula n category w) (sym set.letters) h)))
+      let whole = set.compiled w run.word (some_letter w (sym run.moved ∙ moved)) category less in (
+        λ h. subst (λ n. CategoryHolds r.definition.formula n category w) set.letters (whole.0 (subst (λ n. IsInGroup r.states n category) run.state h)),
+        λ h. subst (λ n. IsInGroup r.states n category) (sym run.state) (whole.1 (subst (λ n. CategoryHolds r.definition.formula n category w) (sym set.letters) h)),
+      )
 
   holds : s.moved ≡ true → (k : ℕ) → IsHandledAt r s.state k ↔ (rules_meaning r.definition).Holds w k
   holds moved k = (
     some_more _ (IsNamedCategory r.definition w) (slice_get r.definition.handlers k)
-      (λ name at. some_more (λ category. IsInGroup r.states s.state category) (λ category. CategoryHolds r.definition.formula (length r.definition.masks) category w)
+        (λ name at. some_more (λ category. IsInGroup r.states s.state category) (λ category. CategoryHolds r.definition.formula (length r.definition.masks) category w)
         (number_of (category_names r.definition.formula) name) (λ category found. (held moved category (number_within (category_names r.definition.formula) name category found)).0)),
     some_more (IsNamedCategory r.definition w) _ (slice_get r.definition.handlers k)
-      (λ name at. some_more (λ category. CategoryHolds r.definition.formula (length r.definition.masks) category w) (λ category. IsInGroup r.states s.state category)
+        (λ name at. some_more (λ category. CategoryHolds r.definition.formula (length r.definition.masks) category w) (λ category. IsInGroup r.states s.state category)
         (number_of (category_names r.definition.formula) name) (λ category found. (held moved category (number_within (category_names r.definition.formula) name category found)).1)),
   )
 
@@ -102,8 +103,9 @@ module _ (r : CompiledRules) (s : Run) (w : List ℕ) (set : IsRuleSet r) (table
 
   pub run_hits : (bits : ℕ) → s.moved ≡ true → s.created ≡ true → (s.state < r.states.states → (k : ℕ) → IsBitSet bits k ↔ IsHandledAt r s.state k) → (k : ℕ) → IsBitSet bits k ↔ IsHit (rules_meaning r.definition) w k
   run_hits bits moved created handled k =
-      let bit = handled run_within k in
-      (λ set_bit.
-          let h = (holds moved k).0 (bit.0 set_bit) in
-          (not_empty w (sym run.moved ∙ moved), run.created.0 created, some_within (IsNamedCategory r.definition w) r.definition.handlers k h, h),
-        λ hit. bit.1 ((holds moved k).1 hit.3))
+      let bit = handled run_within k in (
+        λ set_bit.
+            let h = (holds moved k).0 (bit.0 set_bit) in
+            (not_empty w (sym run.moved ∙ moved), run.created.0 created, some_within (IsNamedCategory r.definition w) r.definition.handlers k h, h),
+        λ hit. bit.1 ((holds moved k).1 hit.3),
+      )
