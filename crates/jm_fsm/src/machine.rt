@@ -241,8 +241,8 @@ impl Model for Fsm {
 }
 
 impl Fsm {
-    /// The names of the categories: of the states, of the aliases, and `fail`. The number of a name is the category's group
-    /// in the compiled table.
+    /// The names of the categories, at most 1,280: of the states, of the aliases, and `fail`. The number of a name is the
+    /// category's group in the compiled table.
     pub fn categories(&self, alloc: Global) -> Result<Names, NoMemory>
         ensures value { IfOk result (λ names. names ≡ category_names self.now) }
         ensures count { IfOk result (λ names. length names ≡ category_count self.now) }

@@ -1,5 +1,5 @@
 -- Creation letters as a list and as bits, and the bits of handlers.
-use Rattle.std.proofs.Common.{ℕ, ◌≡◌, ◌≢◌, ◌<◌, ◌≤◌, ◌+◌, ◌*◌, ◌/◌, ◌%◌, ◌^◌, ◌⊎◌, inl, inr, suc, zero, Bool, true, false, not, cond, List, [], ◌∷◌, Option, Some, None, Decides, All, Contains, filter, length, get_or, take, slice_get, IsTrue, IsSomeAnd, IsBitSet, bit_and, bit_or, ◌↔◌, refl, sym, ap, subst, ◌∙◌, arith, zero-add}
+use Rattle.std.proofs.Common.{ℕ, ◌≡◌, ◌≢◌, ◌<◌, ◌+◌, ◌*◌, ◌/◌, ◌%◌, ◌^◌, ◌⊎◌, inl, inr, suc, zero, Bool, true, false, not, cond, List, [], ◌∷◌, Option, Some, None, Decides, Contains, filter, length, get_or, take, slice_get, IsTrue, IsSomeAnd, IsBitSet, bit_and, bit_or, ◌↔◌, refl, sym, ap, subst, ◌∙◌, arith, zero-add}
 use Rattle.std.specs.List.{range_with_len}
 use Rattle.std.specs.Option.{option_map_or}
 use Rattle.std.specs.Int.{bit_at, w16}
@@ -7,7 +7,7 @@ use Rattle.std.proofs.lemmas.Bool.{false≢true, cases_lt}
 use Rattle.std.proofs.lemmas.Bool.Decides.{eqb_tells}
 use Rattle.std.proofs.lemmas.Nat.{pow_pos, bit_set_by_shift}
 use Rattle.std.proofs.lemmas.Nat.Bits.{and_pow, bit_at_set_same, bit_at_set_other, bit_at-zero, bit_at-lt, shr_and_one, same_from_bits}
-use Rattle.std.proofs.lemmas.List.Elements.{All-contains, All-contains_itself, All-filter, filter_passes, filter_agree}
+use Rattle.std.proofs.lemmas.List.Elements.{All-contains, filter_passes, filter_agree}
 use Rattle.std.proofs.lemmas.List.FromFn.{length-range_with_len, get_or-range_with_len}
 use Rattle.jm_events.specs.Events.{EventDefinition, EventDefinitions, IsCreation}
 use Rattle.std.proofs.lemmas.Option.{slice_get_within}
@@ -117,13 +117,13 @@ no_bits mask never = same_from_bits mask 0 (λ k.
 pub begins_as_listed : (mask n letter : ℕ) → ((k : ℕ) → IsBitSet mask k → k < n) → ((mask ≡ 0) ⊎ IsBitSet mask letter) ↔ ((letters_of mask n ≡ []) ⊎ Contains (letters_of mask n) letter)
 begins_as_listed mask n letter below = (
   λ h. elim h [
-      | inl zero_mask ↦ inl (no_member (letters_of mask n) (λ k held. no_bit mask k zero_mask (letter_set mask n k held)))
-      | inr set ↦ inr (letter_in mask n letter (below letter set) set)
-    ],
+    | inl zero_mask ↦ inl (no_member (letters_of mask n) (λ k held. no_bit mask k zero_mask (letter_set mask n k held)))
+    | inr set ↦ inr (letter_in mask n letter (below letter set) set)
+  ],
   λ h. elim h [
-      | inl none ↦ inl (no_bits mask (λ k set. let held = letter_in mask n k (below k set) set in no_place k (subst (λ xs. Contains xs k) none held)))
-      | inr held ↦ inr (letter_set mask n letter held)
-    ],
+    | inl none ↦ inl (no_bits mask (λ k set. let held = letter_in mask n k (below k set) set in no_place k (subst (λ xs. Contains xs k) none held)))
+    | inr held ↦ inr (letter_set mask n letter held)
+  ],
 )
   where
     no_place : (k : ℕ) → Contains {X = ℕ} [] k → ⊥
@@ -139,9 +139,9 @@ pub same_letters : (t : EventDefinitions) (mask : ℕ) → ((k : ℕ) → IsBitS
 same_letters t mask says =
     filter_agree (has_letter_bit mask) (is_creation t)
     (λ k.
-      let bit = bit_test mask k in
-      let event = creation_test (slice_get t.events k) in
-      same_bool (has_letter_bit mask k) (is_creation t k) (λ h. event.1 ((says k).0 (bit.0 h))) (λ h. bit.1 ((says k).1 (event.0 h))))
+    let bit = bit_test mask k in
+    let event = creation_test (slice_get t.events k) in
+    same_bool (has_letter_bit mask k) (is_creation t k) (λ h. event.1 ((says k).0 (bit.0 h))) (λ h. bit.1 ((says k).1 (event.0 h))))
     (range_with_len 0 (length t.events))
 
 -- a creation letter is one of the letters

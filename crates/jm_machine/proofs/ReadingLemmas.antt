@@ -1,5 +1,5 @@
 -- No tokens say two formulas, or a formula and a fault; and no tree says two rules, or rules and a fault.
-use Rattle.std.proofs.Common.{◌≡◌, ℕ, Bool, true, false, List, length, Option, Some, None, Result, Ok, Err, refl, sym, ap, subst, ◌∙◌}
+use Rattle.std.proofs.Common.{◌≡◌, ℕ, Bool, true, false, List, length, sym, ap, subst, ◌∙◌}
 use Rattle.jm_model.specs.declared.step.Letter.{Letter}
 use Rattle.jm_model.specs.declared.fault.Counted.TheVariants.{Nesting}
 use Rattle.jm_model.specs.declared.fault.SpecFault.{SpecFault}
@@ -28,7 +28,7 @@ use Rattle.jm_machine.specs.Formulas.{category_names, IsReadAs, IsRefusedIn, IsT
 use Rattle.jm_machine.specs.Handlers.{handler_names, handlers_fault}
 use Rattle.jm_machine.specs.Meanings.{RuleDefinition, rules_of}
 use Rattle.jm_machine.specs.Compiling.{formula_of, IsCompiledFrom, IsFaultyTree, in_formula, in_handlers, in_table}
-use Rattle.jm_machine.proofs.OptionLemmas.{same_some, never_some, same_ok}
+use Rattle.jm_machine.proofs.OptionLemmas.{never_some, same_ok}
 
 module _ (bytes : List ℕ) (tokens : List Token) (table : EventDefinitions) where
   -- ---- state machines

@@ -6,7 +6,6 @@ use Rattle.jm_model.specs.declared.fault.SpecFault.TheVariants.{TooManyStates}
 use Rattle.jm_model.specs.declared.fault.SpecError.TheVariants.{Bad}
 use Rattle.jm_text.specs.declared.token.Token.{Token}
 use Rattle.jm_events.specs.Events.{EventDefinitions}
-use Rattle.jm_table.specs.Tables.{Transitions}
 use Rattle.jm_spec.specs.declared.tree.Logic.{Logic}
 use Rattle.jm_spec.specs.declared.tree.Logic.TheVariants.{Fsm, Ere, Cfg, Ptltl}
 use Rattle.jm_machine.specs.declared.formula.Formula.{Formula}

@@ -114,6 +114,7 @@ fn hits(rt: HostRuntime) -> Result<(), Fail> {
         let all = shown(rt.alloc(), text, word)?;
         assert_eq!(rt; all.as_str(), wanted);
     }
+    one_reading();
     Ok(())
 }
 

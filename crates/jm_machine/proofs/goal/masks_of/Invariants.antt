@@ -1,4 +1,4 @@
-use Rattle.std.proofs.Common.{◌≡◌, ◌<◌, ◌≤◌, ◌^◌, map, take, length}
+use Rattle.std.proofs.Common.{◌≡◌, ◌<◌, ◌^◌, map, take, length}
 use Rattle.std.specs.Prelude.{All}
 use Rattle.jm_machine.proofs.goal.masks_of.Given as goal
 

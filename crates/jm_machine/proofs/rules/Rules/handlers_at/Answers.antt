@@ -1,4 +1,4 @@
-use Rattle.std.proofs.Common.{length, Some, map}
+use Rattle.std.proofs.Common.{length}
 use Rattle.jm_events.specs.Names.{number_of}
 use Rattle.jm_machine.specs.Formulas.{category_names}
 use Rattle.jm_machine.specs.Engines.{categories_of_engine, EngineHolds}
