@@ -46,6 +46,21 @@ const QUIET: &str = "Quiet(P p) {
   ere : a
 }";
 
+const SAFE_LOCK: &str = "SafeLock(Lock l) {
+  event acquire before(Lock l) : x() {}
+  event release before(Lock l) : x() {}
+  cfg : S -> S acquire S release | epsilon
+  @fail { }
+}";
+
+const DEAD: &str = "Dead(P p) {
+  event a before(P p) : x() {}
+  event b before(P p) : x() {}
+  cfg : S -> a T | b, T -> a T
+  @fail { }
+  @match { }
+}";
+
 fn rules_of(alloc: Global, bytes: &[u8]) -> Result<Rules, SpecError> {
     if bytes.len() > 100_000 {
         return Err(SpecError::NoMemory);
@@ -109,6 +124,11 @@ fn hits(rt: HostRuntime) -> Result<(), Fail> {
         (HAS_NEXT, "0110", "0 1 1 @match @start : 0 0 2 1 0"),
         (UNSAFE_MAP, "01233", "7 3 6 1 4 @match : 0 0 0 0 1 0"),
         (UNSAFE_MAP, "10123", "7 3 6 1 4 @match : 0 0 0 0 0 0"),
+        (SAFE_LOCK, "10", "0 1 1 @fail : 0 1 1"),
+        (SAFE_LOCK, "0011", "0 1 1 @fail : 0 0 0 0 0"),
+        (SAFE_LOCK, "0110", "0 1 1 @fail : 0 0 0 1 1"),
+        (DEAD, "0", "0 1 1 @fail @match : 0 1"),
+        (DEAD, "11", "0 1 1 @fail @match : 0 2 1"),
     ];
     for (text, word, wanted) in rows {
         let all = shown(rt.alloc(), text, word)?;
@@ -150,8 +170,13 @@ fn refuses(rt: HostRuntime) -> Result<(), Fail> {
         ("ere : a c\n@done { }", "Bad(UnknownName { line: 4 })"),
         ("ere :\n@match { }", "Bad(Syntax { line: 4 })"),
         (
-            "cfg : S -> a\n@match { }",
-            "Bad(UnsupportedLogic { line: 4 })",
+            "cfg : S -> a | T\n@done { }",
+            "Bad(UnknownName { line: 4 })",
+        ),
+        ("cfg : a -> b\n@done { }", "Bad(NameClash { line: 4 })"),
+        (
+            "cfg : S -> a\n@validation { }",
+            "Bad(UnknownCategory { line: 5 })",
         ),
         (
             "fsm : s [ c -> s ]\n@done { }",

@@ -1,4 +1,4 @@
-//! The three logics, with any handlers, creation events and full bindings, through the top call.
+//! The four logics, with any handlers, creation events and full bindings, through the top call.
 use crate::tests::{replays, spec_refused};
 use jm_model::{Counted, SpecFault};
 use std::test::Fail;
@@ -26,6 +26,22 @@ const NOT_AB: &str = "NotAB(P p) {
   event b before(P p) : x() {}
   ere : ~(a b)
   @match { }
+  @fail { }
+}
+";
+
+const SAFE_LOCK: &str = "SafeLock(Lock l) {
+  event acquire before(Lock l) : call(* Lock.lock()) && target(l) {}
+  event release before(Lock l) : call(* Lock.unlock()) && target(l) {}
+  cfg : S -> S acquire S release | epsilon
+  @fail { }
+}
+";
+
+const DEAD: &str = "Dead(P p) {
+  event a before(P p) : x() {}
+  event b before(P p) : x() {}
+  cfg : S -> a T | b, T -> a T
   @fail { }
 }
 ";
@@ -117,6 +133,39 @@ fn replays_past_time_formulas(rt: HostRuntime) -> Result<(), Fail> {
         "PastNext(Iterator i) {\n event next before(Iterator i) : x() {}\n ptltl : !!!!!!!!!!!!!!!!!!!!!!!!!!!!!!!!!!!!!!!!!!!!!!!!!!!!!!!!!!!!!!! next\n @violation { }\n}",
         "PastNext.next i1",
         "spec PastNext\n0:1 next i=i1 fired 1\n  @violation i=i1\nend 1\n",
+    )
+}
+
+#[test]
+fn replays_grammars(rt: HostRuntime) -> Result<(), Fail> {
+    let alloc = rt.alloc();
+    replays(
+        &rt,
+        alloc,
+        SAFE_LOCK,
+        "SafeLock.release l1\nSafeLock.acquire l1",
+        "spec SafeLock\n0:1 release l=l1 fired 1\n  @fail l=l1\n0:2 acquire l=l1 fired 1\n  @fail l=l1\nend 2\n",
+    )?;
+    replays(
+        &rt,
+        alloc,
+        SAFE_LOCK,
+        "SafeLock.acquire l1\nSafeLock.acquire l2\nSafeLock.release l1\nSafeLock.release l1",
+        "spec SafeLock\n0:1 acquire l=l1 fired 0\n0:2 acquire l=l2 fired 0\n0:3 release l=l1 fired 0\n0:4 release l=l1 fired 1\n  @fail l=l1\nend 4\n",
+    )?;
+    replays(
+        &rt,
+        alloc,
+        DEAD,
+        "Dead.a p1",
+        "spec Dead\n0:1 a p=p1 fired 1\n  @fail p=p1\nend 1\n",
+    )?;
+    replays(
+        &rt,
+        alloc,
+        DEAD,
+        "Dead.b p1",
+        "spec Dead\n0:1 b p=p1 fired 0\nend 1\n",
     )
 }
 
@@ -257,6 +306,20 @@ fn refuses_formulas(rt: HostRuntime) -> Result<(), Fail> {
         b"Wide(P p) {\n event a before(P p) : x() {}\n event b before(P p) : x() {}\n ere : (a|b)* a (a|b) (a|b) (a|b) (a|b) (a|b) (a|b) (a|b) (a|b) (a|b) (a|b)\n @match { }\n}",
         SpecFault::TooManyStates,
         "jmop: specification 1: too many states\n",
+    )?;
+    spec_refused(
+        &rt,
+        alloc,
+        b"Lock(P p) {\n event a before(P p) : x() {}\n cfg : S -> a T,\n  T -> b\n @nowhere { }\n}",
+        SpecFault::UnknownName { line: 4 },
+        "jmop: specification 1, line 4: unknown name\n",
+    )?;
+    spec_refused(
+        &rt,
+        alloc,
+        b"Lock(P p) {\n event a before(P p) : x() {}\n cfg : S -> a b,\n  a -> b\n @fail { }\n}",
+        SpecFault::NameClash { line: 4 },
+        "jmop: specification 1, line 4: name clash\n",
     )?;
     spec_refused(
         &rt,

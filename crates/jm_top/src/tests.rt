@@ -252,20 +252,13 @@ fn refuses_other_logics(rt: HostRuntime) -> Result<(), Fail> {
         SpecFault::UnsupportedLogic { line: 1 },
         "jmop: specification 1, line 1: unsupported logic\n",
     )?;
-    let rows = [
-        b"L(P p, P p) { event a before(P p) : x() {}\n ltl : a }".as_slice(),
-        b"Lock(P p, P p) {\n cfg : S -> S a S b | epsilon\n @fail { }\n}",
-    ];
-    for spec in rows {
-        spec_refused(
-            &rt,
-            alloc,
-            spec,
-            SpecFault::UnsupportedLogic { line: 2 },
-            "jmop: specification 1, line 2: unsupported logic\n",
-        )?;
-    }
-    Ok(())
+    spec_refused(
+        &rt,
+        alloc,
+        b"L(P p, P p) { event a before(P p) : x() {}\n ltl : a }",
+        SpecFault::UnsupportedLogic { line: 2 },
+        "jmop: specification 1, line 2: unsupported logic\n",
+    )
 }
 
 /// The script and the fault that it is refused for, with the text on it.
