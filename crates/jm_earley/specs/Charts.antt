@@ -7,15 +7,17 @@ use Rattle.jm_grammar.specs.Grammars.{GrammarDefinition}
 use Rattle.jm_grammar.specs.Derivations.{Derives, DerivesOf, DerivesSome, IsIn}
 use Rattle.jm_earley.specs.declared.item.Item.{Item}
 use Rattle.jm_earley.specs.Items.{IsItemSet}
+use Rattle.jm_earley.specs.Waiting.{AreWaiting}
 
 -- A grammar, and the set of parameters of each letter.
 pub record ChartsDefinition : Type 0 where
   pub grammar : GrammarDefinition
   pub params : List ℕ
 
--- The items of each place.
+-- The items of each place, and again those that await a nonterminal, by its number.
 pub record ChartDefinition : Type 0 where
   pub sets : List (List Item)
+  pub waiting : List (List (List Item))
 
 -- a letter is below this number
 abbrev pub IsBelow : ℕ → GrammarSymbol → Type 0
@@ -41,3 +43,4 @@ AreItemSets g word sets = (i : ℕ) (items : List Item) → slice_get sets i ≡
 pub record IsChartOf (g : GrammarDefinition) (word : List ℕ) (chart : ChartDefinition) : Type 0 where
   pub count : length chart.sets ≡ length word + 1
   pub each : AreItemSets g word chart.sets
+  pub waiting : AreWaiting g chart.sets chart.waiting

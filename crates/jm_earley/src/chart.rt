@@ -8,6 +8,7 @@ ghost use Rattle.jm_earley.specs.Charts.{AreBelow, IsChartOf};
 use crate::item::Item;
 use crate::set::ItemSet;
 use crate::shared::Shared;
+use crate::waiting::Waiting;
 use jm_events::EventTable;
 use jm_grammar::{Grammar, GrammarSymbol, Production};
 use jm_model::{Letter, NoMemory};
@@ -39,6 +40,7 @@ impl Model for Charts {
 #[derive(Drop)]
 pub struct Chart {
     sets: Shared<ItemSet>,
+    waiting: Shared<Waiting>,
 }
 
 impl Model for Chart {
@@ -47,7 +49,7 @@ impl Model for Chart {
 
     ghost Value = { ChartDefinition };
 
-    ghost view = { λ c. record { sets = c.sets } };
+    ghost view = { λ c. record { sets = c.sets; waiting = c.waiting } };
 
     ghost invariant = { λ c. (0 < length c.sets) × (length c.sets < 2 ^ 32) };
 }
@@ -74,12 +76,14 @@ impl Charts {
         ensures { IfOk result (IsChartOf self.now.grammar []) }
     {
         let alloc = *self.params.allocator();
-        let mut sets = Shared::new(alloc);
         let mut first = ItemSet::new(alloc);
         self.begin_productions(&mut first, 0, self.grammar.start())?;
-        let set = self.close(&sets, first)?;
+        let mut sets = Shared::new(alloc);
+        let mut waiting = Shared::new(alloc);
+        let set = self.close(&sets, &waiting, first)?;
+        waiting.push(self.waiting(alloc, set.as_slice())?)?;
         sets.push(set)?;
-        Ok(Chart { sets })
+        Ok(Chart { sets, waiting })
     }
 
     /// A chart of the same words.
@@ -87,7 +91,8 @@ impl Charts {
         ensures { IfOk result (λ copy. copy ≡ chart.now) }
     {
         let sets = chart.sets.copy()?;
-        Ok(Chart { sets })
+        let waiting = chart.waiting.copy()?;
+        Ok(Chart { sets, waiting })
     }
 
     /// The chart of a word that has one letter more.
@@ -100,12 +105,15 @@ impl Charts {
         if place == u32::MAX as usize {
             return Err(NoMemory);
         }
-        let mut first = ItemSet::new(*self.params.allocator());
+        let alloc = *self.params.allocator();
+        let mut first = ItemSet::new(alloc);
         self.advance_over(&mut first, chart.last(), GrammarSymbol::Letter(letter))?;
-        let set = self.close(&chart.sets, first)?;
-        let mut sets = chart.sets.copy()?;
+        let set = self.close(&chart.sets, &chart.waiting, first)?;
+        let lists = self.waiting(alloc, set.as_slice())?;
+        let Chart { mut sets, mut waiting } = self.copy(chart)?;
         sets.push(set)?;
-        Ok(Chart { sets })
+        waiting.push(lists)?;
+        Ok(Chart { sets, waiting })
     }
 
     /// Whether the word is in the language of the grammar.

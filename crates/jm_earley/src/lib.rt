@@ -11,6 +11,7 @@ mod growth;
 mod item;
 mod set;
 mod shared;
+mod waiting;
 
 pub use chart::{Chart, Charts};
 

@@ -1,0 +1,19 @@
+-- Items by the nonterminal that they await.
+use Rattle.std.specs.Prelude.{ℕ, ◌≡◌, ◌↔◌, List, [], length, Contains, Some, slice_get, slice_index_or}
+use Rattle.jm_grammar.specs.declared.grammar.GrammarSymbol.TheVariants.{Nonterminal}
+use Rattle.jm_grammar.specs.Grammars.{GrammarDefinition}
+use Rattle.jm_earley.specs.declared.item.Item.{Item}
+use Rattle.jm_earley.specs.Items.{symbol_after}
+
+-- no list has an item
+abbrev pub IsEmpty : List (List Item) → Type 0
+IsEmpty lists = (n : ℕ) → slice_index_or lists n [] ≡ []
+
+-- list n has those of the items that await nonterminal n
+abbrev pub IsWaiting : GrammarDefinition → List Item → List (List Item) → Type 0
+IsWaiting g items lists = (n : ℕ) (x : Item) → Contains (slice_index_or lists n []) x ↔ (Contains items x × (symbol_after g x ≡ Some (Nonterminal n)))
+
+-- the lists are those of the sets, place by place
+pub record AreWaiting (g : GrammarDefinition) (sets : List (List Item)) (waiting : List (List (List Item))) : Type 0 where
+  pub count : length waiting ≡ length sets
+  pub each : (i : ℕ) (items : List Item) (lists : List (List Item)) → slice_get sets i ≡ Some items → slice_get waiting i ≡ Some lists → IsWaiting g items lists

@@ -1,0 +1,80 @@
+//! The items of a place by the nonterminal that they await, for completions.
+ghost use Rattle.std.specs.Prelude.{◌≡◌, ◌<◌, [], ◌∷◌, ◌++◌, IfOk, OnOk, length, slice_set, slice_index_or};
+ghost use Rattle.jm_earley.specs.Waiting.{IsWaiting, IsEmpty};
+
+use crate::chart::Charts;
+use crate::item::Item;
+use jm_grammar::GrammarSymbol;
+use jm_model::NoMemory;
+use std::alloc::Global;
+use std::marker::Model;
+
+/// Lists of items, one for each of the 64 nonterminals.
+#[derive(Drop)]
+pub(crate) struct Waiting {
+    lists: Vec<Vec<Item>>,
+}
+
+impl Model for Waiting {
+    ghost use Rattle.std.specs.Prelude.{◌≡◌, List, length, map};
+    ghost use Rattle.jm_earley.specs.declared.item.Item.{Item};
+
+    ghost Value = { List (List Item) };
+
+    ghost view = { λ w. map (λ l. l.items) w.lists.items };
+
+    ghost invariant = { λ w. length w.lists.items ≡ 64 };
+}
+
+impl Waiting {
+    /// No item.
+    fn new(alloc: Global) -> Result<Waiting, NoMemory>
+        ensures { IfOk result IsEmpty }
+    {
+        let mut lists = Vec::new(alloc);
+        for _ in 0..64 {
+            let Ok(()) = lists.push(Vec::new(alloc)) else {
+                return Err(NoMemory);
+            };
+        }
+        Ok(Waiting { lists })
+    }
+
+    /// Adds an item that awaits a nonterminal.
+    fn add(&mut self, n: u8, item: Item) -> Result<(), NoMemory>
+        requires { n < 64 }
+        ensures added { OnOk result (self.new ≡ slice_set self.old n (slice_index_or self.old n [] ++ item ∷ [])) }
+        ensures length { length self.old ≡ 64 }
+    {
+        let Ok(()) = self.lists[n as usize].push(item) else {
+            return Err(NoMemory);
+        };
+        Ok(())
+    }
+
+    /// The items that await a nonterminal.
+    pub(crate) fn of(&self, n: u8) -> &[Item]
+        ensures { result.now ≡ slice_index_or self.now n [] }
+    {
+        if (n as usize) < self.lists.len() {
+            self.lists[n as usize].as_slice()
+        } else {
+            &[]
+        }
+    }
+}
+
+impl Charts {
+    /// The items by the nonterminal that they await.
+    pub(crate) fn waiting(&self, alloc: Global, items: &[Item]) -> Result<Waiting, NoMemory>
+        ensures { IfOk result (IsWaiting self.now.grammar items.now) }
+    {
+        let mut waiting = Waiting::new(alloc)?;
+        for item in items {
+            if let Some(GrammarSymbol::Nonterminal(n)) = self.symbol_after(*item) {
+                waiting.add(n, *item)?;
+            }
+        }
+        Ok(waiting)
+    }
+}
