@@ -4,6 +4,7 @@ use Rattle.jm_grammar.specs.declared.grammar.GrammarSymbol.TheVariants.{Nontermi
 use Rattle.jm_grammar.specs.Grammars.{GrammarDefinition}
 use Rattle.jm_earley.specs.declared.item.Item.{Item}
 use Rattle.jm_earley.specs.Items.{symbol_after}
+use Rattle.jm_earley.specs.Growth.{IsStep}
 
 -- no list has an item
 abbrev pub IsEmpty : List (List Item) → Type 0
@@ -17,3 +18,7 @@ IsWaiting g items lists = (n : ℕ) (x : Item) → Contains (slice_index_or list
 pub record AreWaiting (g : GrammarDefinition) (sets : List (List Item)) (waiting : List (List (List Item))) : Type 0 where
   pub count : length waiting ≡ length sets
   pub each : (i : ℕ) (items : List Item) (lists : List (List Item)) → slice_get sets i ≡ Some items → slice_get waiting i ≡ Some lists → IsWaiting g items lists
+
+-- the rules make the item of x, if the lists are those of the sets
+abbrev pub IsStepOver : GrammarDefinition → List (List Item) → List (List (List Item)) → Item → Item → Type 0
+IsStepOver g sets waiting x made = AreWaiting g sets waiting → IsStep g sets x made

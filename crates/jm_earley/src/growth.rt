@@ -5,8 +5,8 @@ ghost use Rattle.jm_grammar.specs.Grammars.{IsSmallSymbol};
 ghost use Rattle.jm_grammar.specs.Derivations.{Derives};
 ghost use Rattle.jm_earley.specs.declared.item.Item.{Item};
 ghost use Rattle.jm_earley.specs.Items.{symbol_after, finished_left, advanced};
-ghost use Rattle.jm_earley.specs.Growth.{Grows, IsAdvancedOver, AreAdvancedOver, IsPrediction, ArePredicted, IsPredictedSet, IsStep, IsWorked, IsClosure};
-ghost use Rattle.jm_earley.specs.Waiting.{AreWaiting};
+ghost use Rattle.jm_earley.specs.Growth.{Grows, IsAdvancedOver, AreAdvancedOver, IsPrediction, ArePredicted, IsPredictedSet, IsWorked, IsClosure};
+ghost use Rattle.jm_earley.specs.Waiting.{AreWaiting, IsStepOver};
 
 use crate::chart::Charts;
 use crate::item::{Item, advanced};
@@ -31,9 +31,8 @@ impl Charts {
         waiting: &Shared<Waiting>,
         first: ItemSet,
     ) -> Result<ItemSet, NoMemory>
-        requires place { length sets.now < 2 ^ 32 }
-        requires waiting { AreWaiting self.now.grammar sets.now waiting.now }
-        ensures { IfOk result (λ set. IsClosure self.now.grammar sets.now first set) }
+        requires { length sets.now < 2 ^ 32 }
+        ensures { AreWaiting self.now.grammar sets.now waiting.now → IfOk result (λ set. IsClosure self.now.grammar sets.now first set) }
     {
         let mut growth = Growth {
             set: first,
@@ -56,11 +55,10 @@ impl Charts {
         growth: &mut Growth,
         item: Item,
     ) -> Result<(), NoMemory>
-        requires waiting { AreWaiting self.now.grammar sets.now waiting.now }
         requires place { length sets.now < 2 ^ 32 }
         requires predicted { IsPredictedSet self.now.grammar (length sets.now) growth.old.predicted growth.old.set }
-        ensures grows { OnOk result (Grows (IsStep self.now.grammar sets.now item) growth.old.set growth.new.set) }
-        ensures worked { OnOk result (IsWorked self.now.grammar sets.now growth.new.set item) }
+        ensures grows { OnOk result (Grows (IsStepOver self.now.grammar sets.now waiting.now item) growth.old.set growth.new.set) }
+        ensures worked { OnOk result (AreWaiting self.now.grammar sets.now waiting.now → IsWorked self.now.grammar sets.now growth.new.set item) }
         ensures predicted { OnOk result (IsPredictedSet self.now.grammar (length sets.now) growth.new.predicted growth.new.set) }
     {
         match self.symbol_after(item) {
@@ -132,10 +130,9 @@ impl Charts {
         set: &mut ItemSet,
         item: Item,
     ) -> Result<(), NoMemory>
-        requires end { symbol_after self.now.grammar item ≡ None }
-        requires waiting { AreWaiting self.now.grammar sets.now waiting.now }
-        ensures grows { OnOk result (Grows (IsStep self.now.grammar sets.now item) set.old set.new) }
-        ensures worked { OnOk result (IsWorked self.now.grammar sets.now set.new item) }
+        requires { symbol_after self.now.grammar item ≡ None }
+        ensures grows { OnOk result (Grows (IsStepOver self.now.grammar sets.now waiting.now item) set.old set.new) }
+        ensures worked { OnOk result (AreWaiting self.now.grammar sets.now waiting.now → IsWorked self.now.grammar sets.now set.new item) }
     {
         let Some(left) = self.finished_left(item) else {
             return Ok(());

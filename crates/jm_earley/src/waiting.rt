@@ -1,5 +1,5 @@
 //! The items of a place by the nonterminal that they await, for completions.
-ghost use Rattle.std.specs.Prelude.{◌≡◌, ◌<◌, [], ◌∷◌, ◌++◌, IfOk, OnOk, length, slice_set, slice_index_or};
+ghost use Rattle.std.specs.Prelude.{ℕ, ◌≡◌, ◌≢◌, ◌<◌, [], ◌∷◌, ◌++◌, IfOk, OnOk, slice_index_or};
 ghost use Rattle.jm_earley.specs.Waiting.{IsWaiting, IsEmpty};
 
 use crate::chart::Charts;
@@ -32,7 +32,7 @@ impl Waiting {
         ensures { IfOk result IsEmpty }
     {
         let mut lists = Vec::new(alloc);
-        for _ in 0..64 {
+        for _made in 0..64u8 {
             let Ok(()) = lists.push(Vec::new(alloc)) else {
                 return Err(NoMemory);
             };
@@ -43,10 +43,11 @@ impl Waiting {
     /// Adds an item that awaits a nonterminal.
     fn add(&mut self, n: u8, item: Item) -> Result<(), NoMemory>
         requires { n < 64 }
-        ensures added { OnOk result (self.new ≡ slice_set self.old n (slice_index_or self.old n [] ++ item ∷ [])) }
-        ensures length { length self.old ≡ 64 }
+        ensures here { OnOk result (slice_index_or self.new n [] ≡ slice_index_or self.old n [] ++ item ∷ []) }
+        ensures others { OnOk result ((m : ℕ) → m ≢ n → slice_index_or self.new m [] ≡ slice_index_or self.old m []) }
     {
-        let Ok(()) = self.lists[n as usize].push(item) else {
+        let list = &mut self.lists[n as usize];
+        let Ok(()) = list.push(item) else {
             return Err(NoMemory);
         };
         Ok(())
