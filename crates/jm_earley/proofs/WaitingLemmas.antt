@@ -4,13 +4,14 @@ use Rattle.std.proofs.lemmas.Bool.Decides.{eqb_tells}
 use Rattle.std.proofs.lemmas.List.{length-map, map-set, get_or-set_same, get_or-set_other}
 use Rattle.std.proofs.lemmas.List.Elements.{All-head, All-tail, Contains-push, Contains-push_cases, Contains-append_left}
 use Rattle.std.proofs.lemmas.Option.{none-some, same_Some, slice_get_within}
+use Rattle.jm_model.specs.declared.step.Letter.{Letter as LetterType}
 use Rattle.jm_grammar.specs.declared.grammar.GrammarSymbol.{GrammarSymbol}
-use Rattle.jm_grammar.specs.declared.grammar.GrammarSymbol.TheVariants.{Nonterminal}
+use Rattle.jm_grammar.specs.declared.grammar.GrammarSymbol.TheVariants.{Letter, Nonterminal}
 use Rattle.jm_grammar.specs.Grammars.{GrammarDefinition}
 use Rattle.jm_earley.specs.declared.item.Item.{Item}
 use Rattle.jm_earley.specs.Items.{symbol_after, finished_left, advanced}
 use Rattle.jm_earley.specs.Growth.{Grows, IsAdvancedOver, AreAdvancedOver, IsStep, completes, IsWorked}
-use Rattle.jm_earley.specs.Waiting.{IsEmpty, IsWaiting, AreWaiting, IsStepOver}
+use Rattle.jm_earley.specs.Waiting.{IsEmpty, IsWaiting, IsWithWaiting, AreWaiting, IsStepOver}
 use Rattle.jm_earley.proofs.PlaceLemmas.{take_next, place_of, past_end, slice_get-push_cases}
 use Rattle.jm_earley.proofs.GrowthLemmas.{grows_weaker}
 
@@ -31,6 +32,9 @@ module _ (g : GrammarDefinition) where
   same_nonterminal : (x : Item) (n m : ℕ) → symbol_after g x ≡ Some (Nonterminal n) → symbol_after g x ≡ Some (Nonterminal m) → n ≡ m
   same_nonterminal x n m one two = let e : Nonterminal n ≡ Nonterminal m = same_Some (Nonterminal n) (Nonterminal m) (sym one ∙ two) in cc
 
+  pub not_a_letter : (x : Item) (a : LetterType) (n : ℕ) → symbol_after g x ≡ Some (Letter a) → symbol_after g x ≡ Some (Nonterminal n) → ⊥
+  not_a_letter x a n one two = let e : Letter a ≡ Nonterminal n = same_Some (Letter a) (Nonterminal n) (sym one ∙ two) in absurd (cc)
+
   -- no item yet
   pub waiting_none : (lists : List (List Item)) → IsEmpty lists → IsWaiting g [] lists
   waiting_none lists empty n x = (
@@ -38,48 +42,44 @@ module _ (g : GrammarDefinition) where
     λ (there, after). absurd (omega (arith, there.1)),
   )
 
-  module _ (items : List Item) (lists : List (List Item)) (i : ℕ) (x : Item) (at : slice_get items i ≡ Some x) (before : IsWaiting g (take i items) lists) where
-    one_more : (y : Item) → Contains (take i items) y → Contains (take (i + 1) items) y
-    one_more y there = subst (λ (l : List Item). Contains l y) (sym (take_next items i x at)) (Contains-append_left (take i items) (x ∷ []) y there)
+  -- an item that awaits no nonterminal
+  pub waiting_same : (lists : List (List Item)) (x : Item) → ((n : ℕ) → symbol_after g x ≡ Some (Nonterminal n) → ⊥) → IsWithWaiting g lists x lists
+  waiting_same lists x other n y = (λ there. inl there, λ either. elim either [ inl there ↦ there | inr (is, after) ↦ absurd (other n after) ])
 
-    last_one : Contains (take (i + 1) items) x
-    last_one = subst (λ (l : List Item). Contains l x) (sym (take_next items i x at)) (Contains-push (take i items) x)
-
-    cases : (y : Item) → Contains (take (i + 1) items) y → Contains (take i items) y ⊎ (x ≡ y)
-    cases y there = Contains-push_cases (take i items) x y (subst (λ (l : List Item). Contains l y) (take_next items i x at) there)
-
-    -- an item that awaits no nonterminal
-    pub waiting_same : ((n : ℕ) → symbol_after g x ≡ Some (Nonterminal n) → ⊥) → IsWaiting g (take (i + 1) items) lists
-    waiting_same other n y = (
-      λ there. let old = (before n y).0 there in (one_more y old.0, old.1),
-      λ (there, after). elim (cases y there) [
-        | inl old ↦ (before n y).1 (old, after)
-        | inr is ↦ absurd (other n (subst (λ (z : Item). symbol_after g z ≡ Some (Nonterminal n)) (sym is) after))
+  -- an item that awaits one
+  pub waiting_more : (lists new : List (List Item)) (x : Item) (n : ℕ) → symbol_after g x ≡ Some (Nonterminal n) → get_or new n [] ≡ get_or lists n [] ++ x ∷ []
+      → ((m : ℕ) → m ≢ n → get_or new m [] ≡ get_or lists m []) → IsWithWaiting g lists x new
+  waiting_more lists new x n after here others m y = elim (eqb_tells m n) [
+    | inl same ↦ subst (λ (k : ℕ). Contains (get_or new k []) y ↔ (Contains (get_or lists k []) y ⊎ ((x ≡ y) × (symbol_after g x ≡ Some (Nonterminal k))))) (sym same.1) (
+      λ there. elim (Contains-push_cases (get_or lists n []) x y (subst (λ (l : List Item). Contains l y) here there)) [ inl old ↦ inl old | inr is ↦ inr (is, after) ],
+      λ either. subst (λ (l : List Item). Contains l y) (sym here) (elim either [
+        | inl old ↦ Contains-append_left (get_or lists n []) (x ∷ []) y old
+        | inr (is, awaits) ↦ subst (λ (z : Item). Contains (get_or lists n [] ++ x ∷ []) z) is (Contains-push (get_or lists n []) x)
+      ]),
+    )
+    | inr differs ↦ (
+      λ there. inl (subst (λ (l : List Item). Contains l y) (others m differs.1) there),
+      λ either. elim either [
+        | inl old ↦ subst (λ (l : List Item). Contains l y) (sym (others m differs.1)) old
+        | inr (is, awaits) ↦ absurd (differs.1 (same_nonterminal x m n awaits after))
       ],
     )
+  ]
 
-    -- an item that awaits one
-    pub waiting_more : (n : ℕ) (new : List (List Item)) → symbol_after g x ≡ Some (Nonterminal n) → get_or new n [] ≡ get_or lists n [] ++ x ∷ []
-        → ((m : ℕ) → m ≢ n → get_or new m [] ≡ get_or lists m []) → IsWaiting g (take (i + 1) items) new
-    waiting_more n new after here others m y = elim (eqb_tells m n) [
-      | inl same ↦ subst (λ (k : ℕ). Contains (get_or new k []) y ↔ (Contains (take (i + 1) items) y × (symbol_after g y ≡ Some (Nonterminal k)))) (sym same.1) (
-        λ there. elim (Contains-push_cases (get_or lists n []) x y (subst (λ (l : List Item). Contains l y) here there)) [
-          | inl old ↦ let known = (before n y).0 old in (one_more y known.0, known.1)
-          | inr is ↦ subst (λ (z : Item). Contains (take (i + 1) items) z × (symbol_after g z ≡ Some (Nonterminal n))) is (last_one, after)
+  -- one item more
+  pub waiting_next : (items : List Item) (lists new : List (List Item)) (i : ℕ) (x : Item) → slice_get items i ≡ Some x → IsWaiting g (take i items) lists → IsWithWaiting g lists x new → IsWaiting g (take (i + 1) items) new
+  waiting_next items lists new i x at before added n y =
+      let longer = take_next items i x at in (
+        λ there. elim ((added n y).0 there) [
+          | inl old ↦ let known = (before n y).0 old in (subst (λ (l : List Item). Contains l y) (sym longer) (Contains-append_left (take i items) (x ∷ []) y known.0), known.1)
+          | inr (is, after) ↦ subst (λ (z : Item). Contains (take (i + 1) items) z × (symbol_after g z ≡ Some (Nonterminal n))) is
+              (subst (λ (l : List Item). Contains l x) (sym longer) (Contains-push (take i items) x), after)
         ],
-        λ (there, awaits). subst (λ (l : List Item). Contains l y) (sym here) (elim (cases y there) [
-          | inl old ↦ Contains-append_left (get_or lists n []) (x ∷ []) y ((before n y).1 (old, awaits))
-          | inr is ↦ subst (λ (z : Item). Contains (get_or lists n [] ++ x ∷ []) z) is (Contains-push (get_or lists n []) x)
+        λ (there, awaits). (added n y).1 (elim (Contains-push_cases (take i items) x y (subst (λ (l : List Item). Contains l y) longer there)) [
+          | inl old ↦ inl ((before n y).1 (old, awaits))
+          | inr is ↦ inr (is, subst (λ (z : Item). symbol_after g z ≡ Some (Nonterminal n)) (sym is) awaits)
         ]),
       )
-      | inr differs ↦ (
-        λ there. let known = (before m y).0 (subst (λ (l : List Item). Contains l y) (others m differs.1) there) in (one_more y known.0, known.1),
-        λ (there, awaits). subst (λ (l : List Item). Contains l y) (sym (others m differs.1)) (elim (cases y there) [
-          | inl old ↦ (before m y).1 (old, awaits)
-          | inr is ↦ absurd (differs.1 (sym (same_nonterminal y n m (subst (λ (z : Item). symbol_after g z ≡ Some (Nonterminal n)) is after) awaits)))
-        ]),
-      )
-    ]
 
   -- ---- place by place
 

@@ -1,5 +1,5 @@
 -- Items by the nonterminal that they await.
-use Rattle.std.specs.Prelude.{ℕ, ◌≡◌, ◌↔◌, List, [], length, Contains, Some, slice_get, slice_index_or}
+use Rattle.std.specs.Prelude.{ℕ, ◌≡◌, ◌↔◌, ◌⊎◌, List, [], length, Contains, Some, slice_get, slice_index_or}
 use Rattle.jm_grammar.specs.declared.grammar.GrammarSymbol.TheVariants.{Nonterminal}
 use Rattle.jm_grammar.specs.Grammars.{GrammarDefinition}
 use Rattle.jm_earley.specs.declared.item.Item.{Item}
@@ -13,6 +13,11 @@ IsEmpty lists = (n : ℕ) → slice_index_or lists n [] ≡ []
 -- list n has those of the items that await nonterminal n
 abbrev pub IsWaiting : GrammarDefinition → List Item → List (List Item) → Type 0
 IsWaiting g items lists = (n : ℕ) (x : Item) → Contains (slice_index_or lists n []) x ↔ (Contains items x × (symbol_after g x ≡ Some (Nonterminal n)))
+
+-- the lists after an item is added to that of the nonterminal that it awaits, if it does
+abbrev pub IsWithWaiting : GrammarDefinition → List (List Item) → Item → List (List Item) → Type 0
+IsWithWaiting g old x new =
+    (n : ℕ) (y : Item) → Contains (slice_index_or new n []) y ↔ (Contains (slice_index_or old n []) y ⊎ ((x ≡ y) × (symbol_after g x ≡ Some (Nonterminal n))))
 
 -- the lists are those of the sets, place by place
 pub record AreWaiting (g : GrammarDefinition) (sets : List (List Item)) (waiting : List (List (List Item))) : Type 0 where

@@ -1,6 +1,6 @@
 //! The items of a place by the nonterminal that they await, for completions.
 ghost use Rattle.std.specs.Prelude.{ℕ, ◌≡◌, ◌≢◌, ◌<◌, [], ◌∷◌, ◌++◌, IfOk, OnOk, slice_index_or};
-ghost use Rattle.jm_earley.specs.Waiting.{IsWaiting, IsEmpty};
+ghost use Rattle.jm_earley.specs.Waiting.{IsWaiting, IsWithWaiting, IsEmpty};
 
 use crate::chart::Charts;
 use crate::item::Item;
@@ -72,10 +72,19 @@ impl Charts {
     {
         let mut waiting = Waiting::new(alloc)?;
         for item in items {
-            if let Some(GrammarSymbol::Nonterminal(n)) = self.symbol_after(*item) {
-                waiting.add(n, *item)?;
-            }
+            self.add_waiting(&mut waiting, *item)?;
         }
         Ok(waiting)
+    }
+
+    /// Adds an item, if it awaits a nonterminal.
+    fn add_waiting(&self, waiting: &mut Waiting, item: Item) -> Result<(), NoMemory>
+        ensures { OnOk result (IsWithWaiting self.now.grammar waiting.old item waiting.new) }
+    {
+        match self.symbol_after(item) {
+            Some(GrammarSymbol::Nonterminal(n)) => waiting.add(n, item),
+            Some(GrammarSymbol::Letter(_)) => Ok(()),
+            None => Ok(()),
+        }
     }
 }
