@@ -1,5 +1,5 @@
 -- The items of a chart's places.
-use Rattle.std.proofs.Common.{ℕ, ◌≡◌, ◌<◌, ◌≤◌, ◌+◌, ◌-◌, ◌↔◌, ◌⊎◌, inl, inr, List, [], ◌∷◌, ◌++◌, Some, length, take, slice_get, Contains, Bool, IsTrue, refl, sym, ap, subst, ◌∙◌, arith, length-append}
+use Rattle.std.proofs.Common.{ℕ, ◌≡◌, ◌+◌, ◌-◌, ◌↔◌, inl, inr, List, [], ◌∷◌, ◌++◌, Some, length, take, slice_get, Contains, Bool, IsTrue, refl, sym, ap, subst, ◌∙◌, arith, length-append}
 use Rattle.std.specs.Prelude.{Any}
 use Rattle.std.proofs.lemmas.List.{take_all, take-append-le}
 use Rattle.std.proofs.lemmas.Option.{none-some, slice_get_within}
@@ -45,10 +45,14 @@ module _ (g : GrammarDefinition) where
         | inr (number, p, at, left, is) ↦ subst (λ (y : Item). IsItem g [] y) (sym is)
             (item_begins g [] number p at (subst (λ (m : ℕ). IsAwaited g.productions g.start [] m) (sym left) at_start))
       ]) (λ before a e. absurd (no_push before a.0 e)) (λ e. all) in
-      record { count = refl; waiting = more_waiting g [] [] items lists (no_waiting g) waits; each = λ i l at. elim (slice_get-push_cases [] items i l at) [
-        | inl nowhere ↦ absurd (none-some l nowhere)
-        | inr (first_place, same) ↦ subst (λ (k : ℕ). IsItemSet g (take k []) l) (sym first_place) (subst (λ (m : List Item). IsItemSet g [] m) same exact)
-      ] }
+      record {
+        count = refl;
+        waiting = more_waiting g [] [] items lists (no_waiting g) waits;
+        each = λ i l at. elim (slice_get-push_cases [] items i l at) [
+          | inl nowhere ↦ absurd (none-some l nowhere)
+          | inr (first_place, same) ↦ subst (λ (k : ℕ). IsItemSet g (take k []) l) (sym first_place) (subst (λ (m : List Item). IsItemSet g [] m) same exact)
+        ];
+      }
     where
       no_push : (xs : List ℕ) (x : ℕ) → [] ≡ xs ++ x ∷ [] → ⊥
       no_push xs x e = absurd (omega (arith, ap length e, length-append xs (x ∷ [])))
@@ -76,9 +80,9 @@ module _ (g : GrammarDefinition) where
               (item_over g word (letter.0 ∷ []) longer y (Letter letter) ((exact y).0 among) after (leaf letter no_tree) refl)
         ])
         (λ before a e y item after.
-            let both = same_push word before letter.0 a.0 e in
-            let same : a ≡ letter = λ i. record { 0 = sym both.1 i } in
-            all y ((exact y).1 (subst (λ (w : List ℕ). IsItem g w y) (sym both.0) item)) (after ∙ ap (λ (b : LetterType). Some (Letter b)) same))
+        let both = same_push word before letter.0 a.0 e in
+        let same : a ≡ letter = λ i. record { 0 = sym both.1 i } in
+        all y ((exact y).1 (subst (λ (w : List ℕ). IsItem g w y) (sym both.0) item)) (after ∙ ap (λ (b : LetterType). Some (Letter b)) same))
         (λ e. absurd (omega (arith, ap length e, longer_is)))
 
     pub chart_grows : (lists : List (List Item)) (next : ChartDefinition) → IsWaiting g items lists → next.sets ≡ chart.sets ++ items ∷ [] → next.waiting ≡ chart.waiting ++ lists ∷ [] → IsChartOf g longer next
@@ -101,7 +105,7 @@ module _ (g : GrammarDefinition) where
       → chart.sets ≡ sets ++ items ∷ [] → chart.waiting ≡ waiting ++ lists ∷ [] → IsChartOf g [] chart
   begun_chart start sets waiting none first items lists chart start_is sets_are waiting_are none_is grows all closure waits chart_is also =
       let predictions : Grows (IsPrediction g 0 g.start) [] first =
-          subst (λ (l : List Item). Grows (IsPrediction g 0 g.start) l first) none_is (subst (λ (n : ℕ). Grows (IsPrediction g 0 n) none first) start_is grows) in
+      subst (λ (l : List Item). Grows (IsPrediction g 0 g.start) l first) none_is (subst (λ (n : ℕ). Grows (IsPrediction g 0 n) none first) start_is grows) in
       let each : ArePredicted g 0 g.start first = subst (λ (n : ℕ). ArePredicted g 0 n first) start_is all in
       let are : AreWaiting g sets waiting = subst (λ (w : List (List (List Item))). AreWaiting g sets w) (sym waiting_are) (subst (λ (s : List (List Item)). AreWaiting g s []) (sym sets_are) (no_waiting g)) in
       let closed : IsClosure g [] first items = subst (λ (l : List (List Item)). IsClosure g l first items) sets_are (closure are) in

@@ -1,5 +1,5 @@
 -- How sets grow.
-use Rattle.std.proofs.Common.{ℕ, ◌≡◌, ◌==◌, ◌<◌, ◌+◌, ◌⊎◌, inl, inr, Bool, true, false, ◌&&◌, List, [], ◌∷◌, ◌++◌, Some, length, take, slice_get, Contains, refl, sym, ap, subst, ◌∙◌, arith}
+use Rattle.std.proofs.Common.{ℕ, ◌≡◌, ◌==◌, ◌<◌, ◌+◌, ◌⊎◌, inl, inr, Bool, true, ◌&&◌, List, [], ◌∷◌, Some, take, slice_get, Contains, refl, sym, ap, subst, ◌∙◌, arith}
 use Rattle.std.specs.List.{list_any}
 use Rattle.std.proofs.lemmas.Bool.{cases_Bool, and_parts, eqb-true}
 use Rattle.std.proofs.lemmas.List.Elements.{Contains-push, Contains-push_cases}
@@ -73,8 +73,7 @@ module _ (g : GrammarDefinition) (from : List Item) (symbol : GrammarSymbol) (ol
   pub advance_one : (new : List Item) → symbol_after g x ≡ Some symbol → IsWithItem set (advanced x) new → Grows (IsAdvancedOver g from symbol) old new × AreAdvancedOver g (take (i + 1) from) symbol new
   advance_one new after added =
       let P = IsAdvancedOver g from symbol in
-      let more : Grows (IsAdvancedOver g from symbol) set new = grows_with_item P set new (advanced x) added (x, Contains-place from i x at, after, refl) in
-      (
+      let more : Grows (IsAdvancedOver g from symbol) set new = grows_with_item P set new (advanced x) added (x, Contains-place from i x at, after, refl) in (
         grows_then P old set new grows more,
         λ y there here. elim (next_cases y there) [
           | inl before ↦ grows_contains P set new (advanced y) more (all y before here)
@@ -100,8 +99,7 @@ module _ (g : GrammarDefinition) (place n : ℕ) (old set : List Item) (i : ℕ)
   begin_one new all left added =
       let P = IsPrediction g place n in
       let item : Item = record { production = i; dot = 0; origin = place } in
-      let more : Grows (IsPrediction g place n) set new = grows_with_item P set new item added (i, q, at, left, refl) in
-      (
+      let more : Grows (IsPrediction g place n) set new = grows_with_item P set new item added (i, q, at, left, refl) in (
         grows_then P old set new grows more,
         λ k p lt there is. elim (eqb_tells k i) [
           | inl same ↦ subst (λ (j : ℕ). Contains new (record { production = j; dot = 0; origin = place })) (sym same.1) (item_is_there set new item added)

@@ -1,9 +1,9 @@
 -- A set that is closed under the rules has exactly the items of the word: each step keeps what an item is, and each item is reached.
-use Rattle.std.proofs.Common.{ℕ, ◌≡◌, ◌≢◌, ◌==◌, ◌<◌, ◌≤◌, ◌+◌, ◌↔◌, ◌⊎◌, inl, inr, suc, zero, List, [], ◌∷◌, ◌++◌, Option, Some, None, length, slice_get, take, drop, Contains, refl, sym, ap, subst, ◌∙◌, arith, append_assoc, append-nil, length-append}
+use Rattle.std.proofs.Common.{ℕ, ◌≡◌, ◌==◌, ◌<◌, ◌+◌, inl, inr, List, [], ◌∷◌, ◌++◌, Some, length, slice_get, take, drop, Contains, refl, sym, ap, subst, ◌∙◌, arith, append_assoc, append-nil, length-append}
 use Rattle.std.proofs.lemmas.Bool.{eqb-true}
 use Rattle.std.proofs.lemmas.Bool.Decides.{eqb_tells}
 use Rattle.std.proofs.lemmas.List.{take_all, take_at, take-append-drop, length-take-le}
-use Rattle.std.proofs.lemmas.Option.{none-some, same_Some, slice_get_within, option_and_then_some, cond_some}
+use Rattle.std.proofs.lemmas.Option.{same_Some, slice_get_within, option_and_then_some, cond_some}
 use Rattle.jm_model.specs.declared.step.Letter.{Letter as LetterType}
 use Rattle.jm_grammar.specs.declared.grammar.GrammarSymbol.{GrammarSymbol}
 use Rattle.jm_grammar.specs.declared.grammar.GrammarSymbol.TheVariants.{Letter, Nonterminal}
@@ -96,14 +96,13 @@ module _ (g : GrammarDefinition) where
       let end : x.dot ≡ length item.production.symbols = subst (λ (p : Production). x.dot ≡ length p.symbols) same parts.2 in
       let left : item.production.left ≡ n = subst (λ (p : Production). p.left ≡ n) same parts.3 in
       let whole : take x.dot item.production.symbols ≡ item.production.symbols = take_all x.dot item.production.symbols (omega (arith, end)) in
-      let inner = subst (λ (l : List GrammarSymbol). Trees g.productions l item.spelled) whole item.trees in
-      (
+      let inner = subst (λ (l : List GrammarSymbol). Trees g.productions l item.spelled) whole item.trees in (
         item.before,
         item.spelled,
         item.word_is,
         item.origin,
         subst (λ (m : ℕ). Derives g.productions m item.spelled) left
-        (node item.production.left item.production.symbols item.spelled [] (Contains-place g.productions x.production item.production item.found) (sym (append-nil item.spelled)) inner no_tree),
+            (node item.production.left item.production.symbols item.spelled [] (Contains-place g.productions x.production item.production item.found) (sym (append-nil item.spelled)) inner no_tree),
       )
 
   -- ---- each step keeps what an item is
@@ -157,7 +156,7 @@ module _ (g : GrammarDefinition) where
           let y = begins number.0 (length before) in
           let y_item = item_predicted before x n number.0 q item after number.1 refl in
           let last : Contains items (at_dot y (length below)) =
-              reaches y before q [] number.1 (sym (append-nil below)) y_item is (λ e. absurd (cc)) (length below) (omega arith) in
+          reaches y before q [] number.1 (sym (append-nil below)) y_item is (λ e. absurd (cc)) (length below) (omega arith) in
           (worked (at_dot y (length below)) last).completed n from.0 (finished_from (at_dot y (length below)) q number.1 refl) from.1 x in_from after
 
       pub reach : {symbols : List GrammarSymbol} {spelled : List ℕ} → Trees g.productions symbols spelled → Reaches symbols spelled
@@ -178,8 +177,8 @@ module _ (g : GrammarDefinition) where
           let split : word ≡ (before ++ first) ++ others = is ∙ ap (λ (l : List ℕ). before ++ l) cut ∙ sym (append_assoc before first others) in
           reach trees (advanced x) (before ++ first) p back at behind.1 next split
           (λ empty. over_node n below first there inner (reach inner) x before item after
-              (split ∙ ap (λ (l : List ℕ). (before ++ first) ++ l) empty ∙ append-nil (before ++ first))
-              (λ none. here (cut ∙ ap (λ (l : List ℕ). l ++ others) none ∙ empty)))
+          (split ∙ ap (λ (l : List ℕ). (before ++ first) ++ l) empty ∙ append-nil (before ++ first))
+          (λ none. here (cut ∙ ap (λ (l : List ℕ). l ++ others) none ∙ empty)))
           dot (omega (arith, e))
 
       -- the productions of what is awaited behind the word begin there
@@ -191,9 +190,9 @@ module _ (g : GrammarDefinition) where
           let y_item = item_begins before number.0 p number.1 awaited in
           let x = at_dot y (length front) in
           let held : Contains items x = reach trees y before p (Nonterminal n ∷ back) number.1 split y_item (sym e ∙ is)
-              (λ empty. let same : before ≡ word = sym (append-nil before) ∙ ap (λ (l : List ℕ). before ++ l) (sym empty) ∙ sym is ∙ e in
-                  subst (λ (k : ℕ). Contains items (begins number.0 k)) (sym (ap length same)) (predicted_at awaited same number.0 p number.1 refl))
-              (length front) (omega arith) in
+          (λ empty. let same : before ≡ word = sym (append-nil before) ∙ ap (λ (l : List ℕ). before ++ l) (sym empty) ∙ sym is ∙ e in
+          subst (λ (k : ℕ). Contains items (begins number.0 k)) (sym (ap length same)) (predicted_at awaited same number.0 p number.1 refl))
+          (length front) (omega arith) in
           let after : symbol_after g x ≡ Some (Nonterminal n) = after_from x p (Nonterminal n) number.1 (place_behind p.symbols front (Nonterminal n) back split) in
           subst (λ (k : ℕ). ArePredicted g k n items) count ((worked x held).predicted n after)
 
@@ -202,10 +201,10 @@ module _ (g : GrammarDefinition) where
           let y = begins x.production (length item.before) in
           let y_item = item_begins item.before x.production item.production item.found item.awaited in
           let there : Contains items (at_dot y x.dot) = reach item.trees y item.before item.production (drop x.dot item.production.symbols) item.found
-              (sym (take-append-drop x.dot item.production.symbols)) y_item item.word_is
-              (λ empty. let same : item.before ≡ word = sym (append-nil item.before) ∙ ap (λ (l : List ℕ). item.before ++ l) (sym empty) ∙ sym item.word_is in
-                  subst (λ (k : ℕ). Contains items (begins x.production k)) (sym (ap length same)) (predicted_at item.awaited same x.production item.production item.found refl))
-              x.dot (omega (arith, length-take-le x.dot item.production.symbols item.dot)) in
+          (sym (take-append-drop x.dot item.production.symbols)) y_item item.word_is
+          (λ empty. let same : item.before ≡ word = sym (append-nil item.before) ∙ ap (λ (l : List ℕ). item.before ++ l) (sym empty) ∙ sym item.word_is in
+          subst (λ (k : ℕ). Contains items (begins x.production k)) (sym (ap length same)) (predicted_at item.awaited same x.production item.production item.found refl))
+          x.dot (omega (arith, length-take-le x.dot item.production.symbols item.dot)) in
           subst (λ (k : ℕ). Contains items (record x { origin = k })) item.origin there
 
   -- ---- the items of a place
@@ -235,8 +234,7 @@ module _ (g : GrammarDefinition) where
   word_is_whole word (node n below first others there cut inner no_tree) =
       let q : Production = record { left = n; symbols = below } in
       let number = place-Contains g.productions q there in
-      let x : Item = record { production = number.0; dot = length below; origin = 0 } in
-      (
+      let x : Item = record { production = number.0; dot = length below; origin = 0 } in (
         x,
         record {
           production = q;

@@ -101,6 +101,6 @@ pub copied_more : {X Y : Type 0} (f : X → Y) (items copy new : List X) (images
     → map f items ≡ images → map f copy ≡ take i images → new ≡ copy ++ item ∷ [] → map f new ≡ take (i + 1) images
 copied_more f items copy new images i item read lt is same images_are so_far more =
     let at : slice_get images i ≡ Some (f read) =
-        ap (λ l. slice_get l i) (sym images_are) ∙ slice_get-map f items i ∙ ap (λ o. option_map f o) (slice_get_read items (length items) i read refl lt is) in
+    ap (λ l. slice_get l i) (sym images_are) ∙ slice_get-map f items i ∙ ap (λ o. option_map f o) (slice_get_read items (length items) i read refl lt is) in
     let last : map f new ≡ map f copy ++ f item ∷ [] = ap (λ l. map f l) more ∙ map-append f copy (item ∷ []) in
     last ∙ ap (λ l. l ++ f item ∷ []) so_far ∙ ap (λ y. take i images ++ y ∷ []) same ∙ sym (take_next images i (f read) at)

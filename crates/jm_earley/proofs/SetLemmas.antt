@@ -1,15 +1,14 @@
 -- The set of the nonterminals that spell the empty word, and sets of nonterminals as bits.
-use Rattle.std.proofs.Common.{ℕ, ◌≡◌, ◌==◌, ◌<◌, ◌/◌, ◌*◌, ◌%◌, ◌^◌, ◌↔◌, ◌⊎◌, inl, inr, true, IsTrue, All, List, [], ◌∷◌, bit_and, bit_or, Contains, get_or, refl, sym, ap, subst, ◌∙◌, arith}
+use Rattle.std.proofs.Common.{ℕ, ◌≡◌, ◌==◌, ◌<◌, ◌/◌, ◌*◌, ◌%◌, ◌^◌, ◌↔◌, ◌⊎◌, inl, inr, true, IsTrue, All, List, [], ◌∷◌, bit_and, bit_or, Contains, get_or, refl, subst, arith}
 use Rattle.std.specs.Prelude.{IsBitSet}
-use Rattle.std.specs.Int.{bit_at, w64}
+use Rattle.std.specs.Int.{w64}
 use Rattle.std.proofs.lemmas.Bool.Decides.{eqb_tells}
 use Rattle.std.proofs.lemmas.Bool.{eqb-true}
 use Rattle.std.proofs.lemmas.Nat.{bit_set_by_shift}
-use Rattle.std.proofs.lemmas.Nat.Bits.{bit_at_set_other, bit_at-zero, shr_and_one}
+use Rattle.std.proofs.lemmas.Nat.Bits.{bit_at_set_other, bit_at-zero}
 use Rattle.std.proofs.lemmas.List.Elements.{All-nil, All-head, All-contains, Contains-get_or}
 use Rattle.jm_earley.specs.Charts.{IsBelow, AreBelow}
 use Rattle.jm_grammar.specs.declared.grammar.Production.{Production}
-use Rattle.jm_grammar.specs.Rounds.{has_bit}
 use Rattle.jm_grammar.specs.Derivations.{Derives, DerivesOf}
 use Rattle.jm_grammar.proofs.RoundLemmas.{bit_of, of_bit}
 

@@ -1,16 +1,15 @@
 -- The items of a place by the nonterminal that they await.
-use Rattle.std.proofs.Common.{ℕ, zero, suc, All, ◌≡◌, ◌≢◌, ◌<◌, ◌+◌, ◌↔◌, ◌⊎◌, inl, inr, List, [], ◌∷◌, ◌++◌, Some, None, length, take, map, get_or, set, slice_get, Contains, refl, sym, ap, subst, ◌∙◌, arith, length-append}
+use Rattle.std.proofs.Common.{ℕ, zero, suc, All, ◌≡◌, ◌≢◌, ◌<◌, ◌+◌, ◌↔◌, ◌⊎◌, inl, inr, List, [], ◌∷◌, ◌++◌, Some, None, length, take, map, get_or, set, slice_get, Contains, refl, sym, subst, ◌∙◌, arith, length-append}
 use Rattle.std.proofs.lemmas.Bool.Decides.{eqb_tells}
 use Rattle.std.proofs.lemmas.List.{length-map, map-set, get_or-set_same, get_or-set_other}
 use Rattle.std.proofs.lemmas.List.Elements.{All-head, All-tail, Contains-push, Contains-push_cases, Contains-append_left}
 use Rattle.std.proofs.lemmas.Option.{none-some, same_Some, slice_get_within}
 use Rattle.jm_model.specs.declared.step.Letter.{Letter as LetterType}
-use Rattle.jm_grammar.specs.declared.grammar.GrammarSymbol.{GrammarSymbol}
 use Rattle.jm_grammar.specs.declared.grammar.GrammarSymbol.TheVariants.{Letter, Nonterminal}
 use Rattle.jm_grammar.specs.Grammars.{GrammarDefinition}
 use Rattle.jm_earley.specs.declared.item.Item.{Item}
-use Rattle.jm_earley.specs.Items.{symbol_after, finished_left, advanced}
-use Rattle.jm_earley.specs.Growth.{Grows, IsAdvancedOver, AreAdvancedOver, IsStep, completes, IsWorked}
+use Rattle.jm_earley.specs.Items.{symbol_after, finished_left}
+use Rattle.jm_earley.specs.Growth.{Grows, IsAdvancedOver, AreAdvancedOver, completes, IsWorked}
 use Rattle.jm_earley.specs.Waiting.{IsEmpty, IsWaiting, IsWithWaiting, AreWaiting, IsStepOver}
 use Rattle.jm_earley.proofs.PlaceLemmas.{take_next, place_of, past_end, slice_get-push_cases}
 use Rattle.jm_earley.proofs.GrowthLemmas.{grows_weaker}

@@ -1,6 +1,5 @@
 -- What is done to the items of a place, one by one.
-use Rattle.std.proofs.Common.{ℕ, ◌≡◌, ◌<◌, ◌≤◌, ◌+◌, ◌⊎◌, inl, inr, List, [], Some, None, Result, Ok, Err, OnOk, length, slice_get, Contains, refl, sym, ap, subst, ◌∙◌, arith}
-use Rattle.std.specs.Prelude.{IsBitSet}
+use Rattle.std.proofs.Common.{ℕ, ◌≡◌, ◌<◌, ◌+◌, inl, inr, List, [], Some, None, Result, Ok, Err, OnOk, length, slice_get, Contains, sym, ap, subst, ◌∙◌, arith}
 use Rattle.std.proofs.lemmas.Bool.{cases_lt}
 use Rattle.std.proofs.lemmas.Option.{same_Some, slice_get_within}
 use Rattle.jm_model.specs.declared.step.Letter.{Letter as LetterType}
@@ -11,7 +10,7 @@ use Rattle.jm_grammar.specs.Grammars.{GrammarDefinition}
 use Rattle.jm_grammar.specs.Derivations.{Derives}
 use Rattle.jm_earley.specs.declared.item.Item.{Item}
 use Rattle.jm_earley.specs.Items.{symbol_after, finished_left, advanced}
-use Rattle.jm_earley.specs.Growth.{Grows, IsPrediction, ArePredicted, IsPredictedSet, IsStep, predicts, skips, IsWorked, IsMade, given, stepped, IsClosure}
+use Rattle.jm_earley.specs.Growth.{Grows, IsPrediction, ArePredicted, IsPredictedSet, IsStep, predicts, skips, IsWorked, IsMade, stepped}
 use Rattle.jm_earley.proofs.PlaceLemmas.{Contains-place, place-Contains, place_of, past_end}
 use Rattle.jm_earley.proofs.GrowthLemmas.{grows_then, grows_weaker, grows_contains}
 use Rattle.jm_earley.proofs.ItemLemmas.{after_parts, finished_parts}

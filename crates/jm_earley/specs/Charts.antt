@@ -1,10 +1,10 @@
 -- What charts are, and which word a chart stands for.
-use Rattle.std.specs.Prelude.{ℕ, ◌≡◌, ◌<◌, ◌+◌, ◌↔◌, List, length, take, All, Contains, Some, IsBitSet, slice_get}
+use Rattle.std.specs.Prelude.{ℕ, ◌≡◌, ◌<◌, ◌+◌, ◌↔◌, List, length, take, All, Some, IsBitSet, slice_get}
 use Rattle.jm_grammar.specs.declared.grammar.GrammarSymbol.{GrammarSymbol}
 use Rattle.jm_grammar.specs.declared.grammar.GrammarSymbol.TheVariants.{Letter, Nonterminal}
 use Rattle.jm_grammar.specs.declared.grammar.Production.{Production}
 use Rattle.jm_grammar.specs.Grammars.{GrammarDefinition}
-use Rattle.jm_grammar.specs.Derivations.{Derives, DerivesOf, DerivesSome, IsIn}
+use Rattle.jm_grammar.specs.Derivations.{DerivesOf, DerivesSome, IsIn}
 use Rattle.jm_earley.specs.declared.item.Item.{Item}
 use Rattle.jm_earley.specs.Items.{IsItemSet}
 use Rattle.jm_earley.specs.Waiting.{AreWaiting}

@@ -110,7 +110,10 @@ impl Charts {
         self.advance_over(&mut first, chart.last(), GrammarSymbol::Letter(letter))?;
         let set = self.close(&chart.sets, &chart.waiting, first)?;
         let lists = self.waiting(alloc, set.as_slice())?;
-        let Chart { mut sets, mut waiting } = self.copy(chart)?;
+        let Chart {
+            mut sets,
+            mut waiting,
+        } = self.copy(chart)?;
         sets.push(set)?;
         waiting.push(lists)?;
         Ok(Chart { sets, waiting })

@@ -61,9 +61,7 @@ fn are_symbols_below(symbols: &[GrammarSymbol], letters: u8) -> bool
 fn are_below(productions: &[Production], letters: u8) -> bool
     ensures { IsTrue result ↔ AreBelow productions.now letters }
 {
-    productions
-        .iter()
-        .all(|production| are_symbols_below(production.symbols.as_slice(), letters))
+    productions.iter().all(|production| are_symbols_below(production.symbols.as_slice(), letters))
 }
 
 fn charts_of(alloc: Global, grammar: &str, table: &EventTable) -> Result<Charts, Fail>

@@ -1,7 +1,7 @@
-use Rattle.std.proofs.Common.{ℕ, ◌≡◌, Some, None, sym, ap, ◌∙◌}
+use Rattle.std.proofs.Common.{◌≡◌, Some, sym, ap, ◌∙◌}
 use Rattle.std.proofs.lemmas.Option.{none-some}
 use Rattle.jm_grammar.specs.declared.grammar.GrammarSymbol.{GrammarSymbol}
-use Rattle.jm_grammar.specs.declared.grammar.GrammarSymbol.TheVariants.{Letter, Nonterminal}
+use Rattle.jm_grammar.specs.declared.grammar.GrammarSymbol.TheVariants.{Nonterminal}
 use Rattle.jm_earley.specs.Items.{symbol_after}
 use Rattle.jm_earley.proofs.WorkLemmas.{on_ok_both}
 use Rattle.jm_earley.proofs.WaitingLemmas.{waiting_same, waiting_more, not_a_letter}

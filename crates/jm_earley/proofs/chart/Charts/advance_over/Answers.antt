@@ -1,8 +1,8 @@
-use Rattle.std.proofs.Common.{List, ◌≡◌, Some, subst, sym, ap, ◌∙◌, get_or, slice_get, refl}
+use Rattle.std.proofs.Common.{◌≡◌, Some, subst, sym, ◌∙◌, get_or, slice_get}
 use Rattle.std.proofs.lemmas.Bool.{false≢true}
 use Rattle.std.proofs.lemmas.Option.{slice_get-get_or}
 use Rattle.jm_earley.specs.declared.item.Item.{Item}
-use Rattle.jm_earley.specs.Growth.{Grows, IsAdvancedOver, AreAdvancedOver, IsWithItem}
+use Rattle.jm_earley.specs.Growth.{IsWithItem}
 use Rattle.jm_earley.proofs.GrowthLemmas.{advance_one, advance_none}
 use Rattle.jm_earley.proofs.chart.Charts.advance_over.Goals as goal
 use Rattle.jm_earley.proofs.chart.Charts.advance_over.Goals.{then-is_before+in_ok-add, else-is_before}

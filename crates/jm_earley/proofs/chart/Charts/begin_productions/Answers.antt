@@ -1,8 +1,6 @@
-use Rattle.std.proofs.Common.{ℕ, List, ◌≡◌, ◌≢◌, ◌<◌, ◌≤◌, length, Some, subst, sym, ap, ◌∙◌, get_or, slice_get, refl, arith}
+use Rattle.std.proofs.Common.{List, ◌≡◌, ◌≤◌, length, Some, subst, sym, ap, ◌∙◌, slice_get, refl, arith}
 use Rattle.std.proofs.lemmas.Option.{slice_get_read, slice_get_within}
 use Rattle.jm_grammar.specs.declared.grammar.Production.{Production}
-use Rattle.jm_earley.specs.declared.item.Item.{Item}
-use Rattle.jm_earley.specs.Growth.{Grows, IsPrediction, IsWithItem}
 use Rattle.jm_earley.proofs.GrowthLemmas.{begin_one, begin_none}
 use Rattle.jm_earley.proofs.chart.Charts.begin_productions.Goals as goal
 use Rattle.jm_earley.proofs.chart.Charts.begin_productions.Goals.{then-production-n+in_ok-add, else-production-n}

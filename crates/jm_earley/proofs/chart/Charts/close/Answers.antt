@@ -1,4 +1,4 @@
-use Rattle.std.proofs.Common.{◌≡◌, Some, None, slice_get, sym, ◌∙◌, arith}
+use Rattle.std.proofs.Common.{◌≡◌, Some, None, slice_get, sym, arith}
 use Rattle.jm_earley.specs.declared.item.Item.{Item}
 use Rattle.jm_earley.specs.Growth.{IsStep, given}
 use Rattle.jm_earley.specs.Waiting.{AreWaiting, IsStepOver}

@@ -1,4 +1,4 @@
-use Rattle.std.proofs.Common.{List, ◌≡◌, Some, slice_get, get_or, [], subst, sym}
+use Rattle.std.proofs.Common.{List, subst, sym}
 use Rattle.std.proofs.lemmas.Result.{on_ok_weaker}
 use Rattle.jm_grammar.specs.declared.grammar.GrammarSymbol.TheVariants.{Nonterminal}
 use Rattle.jm_earley.specs.declared.item.Item.{Item}
@@ -12,7 +12,7 @@ returns-clause-grows c =
     let n = c.in-Some.left in
     on_ok_weaker c.advance_over.result
     (λ grows. completes_over g c.args.sets.now c.args.waiting.now c.args.item n c.in-Some-get.from.now (sym c.in-Some.ensures) c.in-Some-get.ensures c.args.set.now c.advance_over.new.set
-        (subst (λ (l : List Item). Grows (IsAdvancedOver g l (Nonterminal n)) c.args.set.now c.advance_over.new.set) c.of.ensures grows))
+    (subst (λ (l : List Item). Grows (IsAdvancedOver g l (Nonterminal n)) c.args.set.now c.advance_over.new.set) c.of.ensures grows))
     c.advance_over.ensures.grows
 
 pub returns-clause-worked : goal.returns-clause-worked
@@ -21,5 +21,5 @@ returns-clause-worked c =
     let n = c.in-Some.left in
     on_ok_weaker c.advance_over.result
     (λ all. completes_worked g c.args.sets.now c.args.waiting.now c.args.item n c.in-Some-get.from.now (sym c.in-Some.ensures) c.in-Some-get.ensures c.args.set.now c.advance_over.new.set
-        c.requires (subst (λ (l : List Item). AreAdvancedOver g l (Nonterminal n) c.advance_over.new.set) c.of.ensures all))
+    c.requires (subst (λ (l : List Item). AreAdvancedOver g l (Nonterminal n) c.advance_over.new.set) c.of.ensures all))
     c.advance_over.ensures.all

@@ -1,6 +1,3 @@
-use Rattle.std.proofs.Common.{ℕ, ◌↔◌, IsTrue, List, [], subst}
-use Rattle.jm_grammar.specs.Derivations.{Derives}
-use Rattle.jm_earley.specs.Charts.{ChartsDefinition}
 use Rattle.jm_earley.proofs.SetLemmas.{bit_of_nullable}
 use Rattle.jm_earley.proofs.chart.Charts.is_nullable.Goals as goal
 

@@ -1,8 +1,3 @@
-use Rattle.std.proofs.Common.{ℕ, List, ◌≡◌, ◌<◌, ◌-◌, ◌↔◌, length, take, slice_get, Some, IsTrue, Contains, subst, sym, ap, ◌∙◌, arith}
-use Rattle.std.proofs.lemmas.List.{take_all}
-use Rattle.jm_earley.specs.declared.item.Item.{Item}
-use Rattle.jm_earley.specs.Items.{IsItem, IsItemSet, IsWhole}
-use Rattle.jm_earley.proofs.ItemLemmas.{whole_is_word, word_is_whole}
 use Rattle.jm_earley.proofs.ChartLemmas.{last_items, words_by_items}
 use Rattle.jm_earley.proofs.chart.Charts.matches.Goals as goal
 

@@ -1,8 +1,6 @@
-use Rattle.std.proofs.Common.{ℕ, ◌≡◌, length, ap, sym, subst, ◌∙◌}
+use Rattle.std.proofs.Common.{ℕ, length, ap, sym, subst, ◌∙◌}
 use Rattle.std.proofs.lemmas.List.{length-map}
-use Rattle.std.proofs.lemmas.List.Elements.{All-contains, Contains-get_or}
-use Rattle.jm_grammar.specs.declared.grammar.Production.{Production}
-use Rattle.jm_earley.specs.Charts.{IsReduced, AreBelow}
+use Rattle.jm_earley.specs.Charts.{AreBelow}
 use Rattle.jm_earley.proofs.SetLemmas.{still_below}
 use Rattle.jm_earley.proofs.chart.Charts.new.Goals as goal
 

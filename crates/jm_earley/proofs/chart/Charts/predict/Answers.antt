@@ -1,5 +1,5 @@
-use Rattle.std.proofs.Common.{ℕ, ◌≡◌, inl, inr, subst, sym}
-use Rattle.jm_earley.specs.Growth.{Grows, IsPrediction, ArePredicted}
+use Rattle.std.proofs.Common.{ℕ, ◌≡◌, inl, inr, subst}
+use Rattle.jm_earley.specs.Growth.{IsPrediction}
 use Rattle.jm_earley.proofs.GrowthLemmas.{grows_contains}
 use Rattle.jm_earley.proofs.SetLemmas.{bit_from_test, bits_with}
 use Rattle.jm_earley.proofs.chart.Charts.predict.Goals as goal

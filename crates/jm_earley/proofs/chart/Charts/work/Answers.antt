@@ -1,10 +1,10 @@
-use Rattle.std.proofs.Common.{ℕ, ◌≡◌, Some, List, length, sym, ap, subst, ◌∙◌}
+use Rattle.std.proofs.Common.{ℕ, ◌≡◌, Some, length, sym, ap, subst, ◌∙◌}
 use Rattle.std.proofs.lemmas.Result.{on_ok_weaker}
 use Rattle.jm_grammar.specs.declared.grammar.GrammarSymbol.{GrammarSymbol}
-use Rattle.jm_grammar.specs.declared.grammar.GrammarSymbol.TheVariants.{Letter, Nonterminal}
+use Rattle.jm_grammar.specs.declared.grammar.GrammarSymbol.TheVariants.{Nonterminal}
 use Rattle.jm_earley.specs.declared.item.Item.{Item}
-use Rattle.jm_earley.specs.Items.{symbol_after, advanced}
-use Rattle.jm_earley.specs.Growth.{Grows, IsPrediction, ArePredicted, IsPredictedSet, IsStep, IsWorked}
+use Rattle.jm_earley.specs.Items.{symbol_after}
+use Rattle.jm_earley.specs.Growth.{Grows, IsPrediction, ArePredicted, IsPredictedSet, IsStep}
 use Rattle.jm_earley.specs.Waiting.{IsStepOver}
 use Rattle.jm_earley.proofs.GrowthLemmas.{grows_weaker}
 use Rattle.jm_earley.proofs.WorkLemmas.{IsSkip, nonterminal_grows, nonterminal_worked, letter_worked, predicted_set_grows, on_ok_both}
@@ -23,9 +23,9 @@ pub returns-in_ok-predict-in-Some-Nonterminal-clause-grows : goal.returns-in_ok-
 returns-in_ok-predict-in-Some-Nonterminal-clause-grows c =
     on_ok_weaker c.skip.result
     (λ skipped. grows_weaker (λ (x : Item). IsStep c.args.self.now.grammar c.args.sets.now c.args.item x)
-        (λ (x : Item). IsStepOver c.args.self.now.grammar c.args.sets.now c.args.waiting.now c.args.item x) (λ x step waiting. step) c.args.growth.now.set c.skip.new.set
-        (nonterminal_grows c.args.self.now.grammar c.args.sets.now c.args.item c.in-Some-Nonterminal.n c.args.growth.now.set c.predict.new.growth.set c.skip.new.set
-        (after_nonterminal c) (predicted_here c) skipped))
+    (λ (x : Item). IsStepOver c.args.self.now.grammar c.args.sets.now c.args.waiting.now c.args.item x) (λ x step waiting. step) c.args.growth.now.set c.skip.new.set
+    (nonterminal_grows c.args.self.now.grammar c.args.sets.now c.args.item c.in-Some-Nonterminal.n c.args.growth.now.set c.predict.new.growth.set c.skip.new.set
+    (after_nonterminal c) (predicted_here c) skipped))
     c.skip.ensures.grows
 
 pub returns-in_ok-predict-in-Some-Nonterminal-clause-worked : goal.returns-in_ok-predict-in-Some-Nonterminal-clause-worked
