@@ -1,4 +1,4 @@
-ghost use Rattle.std.specs.Prelude.{◌≤◌, ◌↔◌, All, IsTrue, length};
+ghost use Rattle.std.specs.Prelude.{◌≡◌, ◌≤◌, ◌↔◌, All, IsTrue, IfOk, length};
 ghost use Rattle.jm_earley.specs.Charts.{IsBelow, AreBelow};
 
 use super::*;
@@ -64,7 +64,9 @@ fn are_below(productions: &[Production], letters: u8) -> bool
     productions.iter().all(|production| are_symbols_below(production.symbols.as_slice(), letters))
 }
 
-pub(crate) fn charts_of(alloc: Global, grammar: &str, table: &EventTable) -> Result<Charts, Fail> {
+pub(crate) fn charts_of(alloc: Global, grammar: &str, table: &EventTable) -> Result<Charts, Fail>
+    ensures { IfOk result (λ c. length c.params ≡ length table.now.events) }
+{
     let Some(grammar) = Grammar::of(productions_of(alloc, grammar)?, 0) else {
         return Err(Fail::from("too large"));
     };
