@@ -22,10 +22,10 @@ returns c = λ word of_word.
     let waiting_are = c.in_ok-waiting.ensures ∙ ap (λ (d : ChartDefinition). d.items.waiting) c.chart.view_is in
     IfOk-weaker c.with_place.result (IsWithPlace charts before futures items) (IsChartOf charts (word ++ c.args.letter.0 ∷ []))
     (λ (chart : ChartDefinition) (place : IsWithPlace charts before futures items chart).
-      grown charts word c.args.letter.0 old before futures items chart of_word (c.in_ok-futures.ensures ∙ ap (λ (d : ChartDefinition). d.futures) c.chart.view_is)
-      (grown_chart g word old.items c.args.letter c.last.result.now c.new-first.result first items place.lists chart.items of_word.items c.last.ensures c.new-first.ensures
-        c.in_ok-advance_over.ensures.grows c.in_ok-advance_over.ensures.all closure place.waits
-        (place.items_are ∙ ap (λ (l : List (List Item)). l ++ items ∷ []) sets_are)
-        (place.waiting_are ∙ ap (λ (l : List (List (List Item))). l ++ place.lists ∷ []) waiting_are))
-      place)
+    grown charts word c.args.letter.0 old before futures items chart of_word (c.in_ok-futures.ensures ∙ ap (λ (d : ChartDefinition). d.futures) c.chart.view_is)
+    (grown_chart g word old.items c.args.letter c.last.result.now c.new-first.result first items place.lists chart.items of_word.items c.last.ensures c.new-first.ensures
+    c.in_ok-advance_over.ensures.grows c.in_ok-advance_over.ensures.all closure place.waits
+    (place.items_are ∙ ap (λ (l : List (List Item)). l ++ items ∷ []) sets_are)
+    (place.waiting_are ∙ ap (λ (l : List (List (List Item))). l ++ place.lists ∷ []) waiting_are))
+    place)
     c.with_place.ensures

@@ -12,8 +12,8 @@ returns c =
     let lists = c.in_ok-lists.lists in
     let future = c.in_ok-future.future in
     let inside : (word : List ℕ) → IsItemSet c.self.inside.grammar word c.args.set → AreEarlier c.self.inside.grammar c.self.inside.dead.sets.items word c.args.futures
-        → AreFutures c.self.inside.grammar c.self.inside.dead.sets.items word future =
-        λ word all are. c.in_ok-future.ensures c.self.invariant.1.exact word (subst (λ (items : List Item). IsItemSet c.self.inside.grammar word items) (sym c.as_slice-2.ensures) all) are in
+    → AreFutures c.self.inside.grammar c.self.inside.dead.sets.items word future =
+    λ word all are. c.in_ok-future.ensures c.self.invariant.1.exact word (subst (λ (items : List Item). IsItemSet c.self.inside.grammar word items) (sym c.as_slice-2.ensures) all) are in
     record {
       items_are = c.in_ok-push.ensures;
       lists = lists;
