@@ -138,6 +138,7 @@ impl Charts {
     pub fn fails(&self, chart: &Chart) -> bool
         ensures { (word : List ℕ) → IsChartOf self.now word chart.now → IsTrue result ↔ IsHopeless self.now.grammar word }
     {
+        // The grammar is reduced: the proof learns it from the fields.
         let _ = &self.grammar;
         is_hopeless(chart.last())
     }
