@@ -161,3 +161,47 @@ fn right_recursion(rt: HostRuntime) -> Result<(), Fail> {
     assert_eq!(rt; text.as_str(), "nyyynny");
     Ok(())
 }
+
+/// Takes what may cross threads.
+fn crosses<T: Send + Sync>(_value: &T) {}
+
+#[test]
+fn charts_cross_threads(rt: HostRuntime) -> Result<(), Fail> {
+    let alloc = rt.alloc();
+    let table = EventTable::new(alloc);
+    let charts = charts_of(alloc, "SS S", &table)?;
+    let chart = charts.begin()?;
+    crosses(&charts);
+    crosses(&chart);
+    assert!(rt; charts.matches(&chart));
+    Ok(())
+}
+
+/// Whether `count` times `a` and then `count` times `b` is a word of the grammar.
+fn has_long_word(alloc: Global, grammar: &str, count: usize) -> Result<bool, Fail> {
+    let mut table = EventTable::new(alloc);
+    table.add_event("a", 0, false, 1)?;
+    table.add_event("b", 0, false, 1)?;
+    let charts = charts_of(alloc, grammar, &table)?;
+    let mut word = Vec::new(alloc);
+    for _a in 0..count {
+        word.push(b'a')?;
+    }
+    for _b in 0..count {
+        word.push(b'b')?;
+    }
+    let chart = chart_of(&charts, word.as_slice(), table.letters())?;
+    Ok(charts.matches(&chart))
+}
+
+#[test]
+fn a_thousand_letters(rt: HostRuntime) -> Result<(), Fail> {
+    assert!(rt; has_long_word(rt.alloc(), "SSaSb S", 500)?);
+    Ok(())
+}
+
+#[test]
+fn a_thousand_palindromes(rt: HostRuntime) -> Result<(), Fail> {
+    assert!(rt; !has_long_word(rt.alloc(), "SaSa SbSb Sa Sb S", 500)?);
+    Ok(())
+}
