@@ -6,19 +6,19 @@ use Rattle.jm_earley.specs.declared.item.Item.{Item}
 use Rattle.jm_earley.specs.declared.future.Futures.{Futures}
 use Rattle.jm_earley.specs.Items.{IsItemSet}
 use Rattle.jm_earley.specs.Places.{AreFutures, AreEarlier}
-use Rattle.jm_earley.specs.Charts.{ChartsDefinition, ChartDefinition, HasItems, IsChartOf, IsWithPlace}
+use Rattle.jm_earley.specs.Charts.{ChartsDefinition, ItemsDefinition, ChartDefinition, HasItems, IsChartOf, IsWithPlace}
 use Rattle.jm_earley.proofs.PlaceLemmas.{place_of, slice_get-push_cases}
 use Rattle.jm_earley.proofs.DeadLemmas.{slice_get_push}
 
 module _ (charts : ChartsDefinition) where
   -- the chart stands for the word where its items are those of the word, and the futures those of the places before
-  with_place_is : (word : List ℕ) (sets : List (List Item)) (futures : List Futures) (items : List Item) (chart : ChartDefinition) → HasItems charts.grammar word chart.sets
-      → AreEarlier charts.grammar charts.letter_sets word futures → IsWithPlace charts sets futures items chart → IsChartOf charts word chart
-  with_place_is word sets futures items chart has are place =
-      let count : length sets ≡ length word = omega (arith, has.count, ap length place.items_are, length-append sets (items ∷ [])) in
-      let last : slice_get chart.sets (length sets) ≡ Some items = ap (λ (l : List (List Item)). slice_get l (length sets)) place.items_are ∙ slice_get_push sets items (length sets) refl in
-      let whole : take (length sets) word ≡ word = take_all (length sets) word (omega (arith, count)) in
-      let exact : IsItemSet charts.grammar word items = subst (λ (w : List ℕ). IsItemSet charts.grammar w items) whole (has.each (length sets) items last) in
+  with_place_is : (word : List ℕ) (before : ItemsDefinition) (futures : List Futures) (items : List Item) (chart : ChartDefinition) → HasItems charts.grammar word chart.items
+      → AreEarlier charts.grammar charts.letter_sets word futures → IsWithPlace charts before futures items chart → IsChartOf charts word chart
+  with_place_is word before futures items chart has are place =
+      let count : length before.sets ≡ length word = omega (arith, has.count, ap length place.items_are, length-append before.sets (items ∷ [])) in
+      let last : slice_get chart.items.sets (length before.sets) ≡ Some items = ap (λ (l : List (List Item)). slice_get l (length before.sets)) place.items_are ∙ slice_get_push before.sets items (length before.sets) refl in
+      let whole : take (length before.sets) word ≡ word = take_all (length before.sets) word (omega (arith, count)) in
+      let exact : IsItemSet charts.grammar word items = subst (λ (w : List ℕ). IsItemSet charts.grammar w items) whole (has.each (length before.sets) items last) in
       let here = place.follows word exact are in
       record {
         items = has;
@@ -33,14 +33,14 @@ module _ (charts : ChartsDefinition) where
         };
       }
 
-  pub begun : (sets : List (List Item)) (futures : List Futures) (items : List Item) (chart : ChartDefinition) → futures ≡ [] → HasItems charts.grammar [] chart.sets
-      → IsWithPlace charts sets futures items chart → IsChartOf charts [] chart
-  begun sets futures items chart none has place =
-      with_place_is [] sets futures items chart has (record { count = ap length none; each = λ i f at. absurd (none-some f (ap (λ (l : List Futures). slice_get l i) (sym none) ∙ at)) }) place
+  pub begun : (before : ItemsDefinition) (futures : List Futures) (items : List Item) (chart : ChartDefinition) → futures ≡ [] → HasItems charts.grammar [] chart.items
+      → IsWithPlace charts before futures items chart → IsChartOf charts [] chart
+  begun before futures items chart none has place =
+      with_place_is [] before futures items chart has (record { count = ap length none; each = λ i f at. absurd (none-some f (ap (λ (l : List Futures). slice_get l i) (sym none) ∙ at)) }) place
 
-  pub grown : (word : List ℕ) (letter : ℕ) (old : ChartDefinition) (sets : List (List Item)) (futures : List Futures) (items : List Item) (chart : ChartDefinition) → IsChartOf charts word old
-      → futures ≡ old.futures → HasItems charts.grammar (word ++ letter ∷ []) chart.sets → IsWithPlace charts sets futures items chart → IsChartOf charts (word ++ letter ∷ []) chart
-  grown word letter old sets futures items chart of_word same has place =
+  pub grown : (word : List ℕ) (letter : ℕ) (old : ChartDefinition) (before : ItemsDefinition) (futures : List Futures) (items : List Item) (chart : ChartDefinition) → IsChartOf charts word old
+      → futures ≡ old.futures → HasItems charts.grammar (word ++ letter ∷ []) chart.items → IsWithPlace charts before futures items chart → IsChartOf charts (word ++ letter ∷ []) chart
+  grown word letter old before futures items chart of_word same has place =
       let longer : List ℕ = word ++ letter ∷ [] in
       let earlier : AreEarlier charts.grammar charts.letter_sets longer futures = record {
         count = ap length same ∙ omega (arith, of_word.futures.count, length-append word (letter ∷ []));
@@ -50,7 +50,7 @@ module _ (charts : ChartsDefinition) where
             let front : take i longer ≡ take i word = take-append-le i word (letter ∷ []) (omega (arith, within, of_word.futures.count)) in
             subst (λ (w : List ℕ). AreFutures charts.grammar charts.letter_sets w f) (sym front) (of_word.futures.each i f at_old);
       } in
-      with_place_is longer sets futures items chart has earlier place
+      with_place_is longer before futures items chart has earlier place
 
   -- what is kept at the last place is what may follow the word
   pub last_future : (word : List ℕ) (chart : ChartDefinition) → IsChartOf charts word chart → (f : Futures) → slice_get chart.futures (length chart.futures - 1) ≡ Some f

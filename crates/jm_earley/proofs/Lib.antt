@@ -2,6 +2,7 @@ pub mod PlaceLemmas
 pub mod SetLemmas
 pub mod GrowthLemmas
 pub mod ItemLemmas
+pub mod WaitingLemmas
 pub mod WorkLemmas
 pub mod ChartLemmas
 pub mod ExtensionLemmas

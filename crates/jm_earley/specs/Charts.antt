@@ -9,6 +9,7 @@ use Rattle.jm_earley.specs.declared.item.Item.{Item}
 use Rattle.jm_earley.specs.declared.letter_set.LetterSet.{LetterSet}
 use Rattle.jm_earley.specs.declared.future.Futures.{Futures}
 use Rattle.jm_earley.specs.Items.{IsItemSet}
+use Rattle.jm_earley.specs.Waiting.{IsWaiting, AreWaiting}
 use Rattle.jm_earley.specs.Places.{AreFutures, AreEarlier}
 
 -- A grammar, the set of parameters of each letter, and the sets of letters for which a chart keeps what may follow.
@@ -17,9 +18,14 @@ pub record ChartsDefinition : Type 0 where
   pub params : List ℕ
   pub letter_sets : List LetterSet
 
+-- The items of each place, and again those that await a nonterminal, by its number.
+pub record ItemsDefinition : Type 0 where
+  pub sets : List (List Item)
+  pub waiting : List (List (List Item))
+
 -- The items of each place, and what may follow there.
 pub record ChartDefinition : Type 0 where
-  pub sets : List (List Item)
+  pub items : ItemsDefinition
   pub futures : List Futures
 
 -- a letter is below this number
@@ -43,9 +49,10 @@ abbrev pub AreItemSets : GrammarDefinition → List ℕ → List (List Item) →
 AreItemSets g word sets = (i : ℕ) (items : List Item) → slice_get sets i ≡ Some items → IsItemSet g (take i word) items
 
 -- there are the items of each place of the word
-pub record HasItems (g : GrammarDefinition) (word : List ℕ) (sets : List (List Item)) : Type 0 where
-  pub count : length sets ≡ length word + 1
-  pub each : AreItemSets g word sets
+pub record HasItems (g : GrammarDefinition) (word : List ℕ) (items : ItemsDefinition) : Type 0 where
+  pub count : length items.sets ≡ length word + 1
+  pub each : AreItemSets g word items.sets
+  pub waiting : AreWaiting g items.sets items.waiting
 
 -- there is what may follow at each place of the word
 pub record HasFutures (g : GrammarDefinition) (letter_sets : List LetterSet) (word : List ℕ) (futures : List Futures) : Type 0 where
@@ -54,12 +61,15 @@ pub record HasFutures (g : GrammarDefinition) (letter_sets : List LetterSet) (wo
 
 -- The chart stands for the word: it has the items of each place of it, and what may follow there.
 pub record IsChartOf (charts : ChartsDefinition) (word : List ℕ) (chart : ChartDefinition) : Type 0 where
-  pub items : HasItems charts.grammar word chart.sets
+  pub items : HasItems charts.grammar word chart.items
   pub futures : HasFutures charts.grammar charts.letter_sets word chart.futures
 
--- The chart has one place more, with these items, and with what may follow where these are its items.
-pub record IsWithPlace (charts : ChartsDefinition) (sets : List (List Item)) (futures : List Futures) (items : List Item) (chart : ChartDefinition) : Type 0 where
-  pub items_are : chart.sets ≡ sets ++ items ∷ []
+-- The chart has one place more than these, with these items, and with what may follow where these are its items.
+pub record IsWithPlace (charts : ChartsDefinition) (before : ItemsDefinition) (futures : List Futures) (items : List Item) (chart : ChartDefinition) : Type 0 where
+  pub items_are : chart.items.sets ≡ before.sets ++ items ∷ []
+  pub lists : List (List Item)
+  pub waiting_are : chart.items.waiting ≡ before.waiting ++ lists ∷ []
+  pub waits : IsWaiting charts.grammar items lists
   pub future : Futures
   pub futures_are : chart.futures ≡ futures ++ future ∷ []
   pub follows : (word : List ℕ) → IsItemSet charts.grammar word items → AreEarlier charts.grammar charts.letter_sets word futures → AreFutures charts.grammar charts.letter_sets word future

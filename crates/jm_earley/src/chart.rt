@@ -12,6 +12,7 @@ use crate::future::{Futures, is_hopeless};
 use crate::item::Item;
 use crate::set::ItemSet;
 use crate::shared::Shared;
+use crate::waiting::Waiting;
 use jm_events::EventTable;
 use jm_grammar::{Grammar, GrammarSymbol, Production};
 use jm_model::{Letter, NoMemory};
@@ -46,6 +47,7 @@ impl Model for Charts {
 #[derive(Drop)]
 pub struct Chart {
     sets: Shared<ItemSet>,
+    waiting: Shared<Waiting>,
     futures: Shared<Futures>,
 }
 
@@ -55,7 +57,7 @@ impl Model for Chart {
 
     ghost Value = { ChartDefinition };
 
-    ghost view = { λ c. record { sets = c.sets; futures = c.futures } };
+    ghost view = { λ c. record { items = record { sets = c.sets; waiting = c.waiting }; futures = c.futures } };
 
     ghost invariant = { λ c. (0 < length c.sets) × (length c.sets < 2 ^ 32) };
 }
@@ -84,11 +86,12 @@ impl Charts {
         ensures { IfOk result (IsChartOf self.now []) }
     {
         let alloc = *self.params.allocator();
-        let sets = Shared::new(alloc);
         let mut first = ItemSet::new(alloc);
         self.begin_productions(&mut first, 0, self.grammar.start())?;
-        let set = self.close(&sets, first)?;
-        self.with_place(sets, Shared::new(alloc), set)
+        let sets = Shared::new(alloc);
+        let waiting = Shared::new(alloc);
+        let set = self.close(&sets, &waiting, first)?;
+        self.with_place(sets, waiting, Shared::new(alloc), set)
     }
 
     /// A chart of the same words.
@@ -96,8 +99,13 @@ impl Charts {
         ensures { IfOk result (λ copy. copy ≡ chart.now) }
     {
         let sets = chart.sets.copy()?;
+        let waiting = chart.waiting.copy()?;
         let futures = chart.futures.copy()?;
-        Ok(Chart { sets, futures })
+        Ok(Chart {
+            sets,
+            waiting,
+            futures,
+        })
     }
 
     /// The chart of a word that has one letter more.
@@ -109,12 +117,14 @@ impl Charts {
         if place == u32::MAX as usize {
             return Err(NoMemory);
         }
-        let mut first = ItemSet::new(*self.params.allocator());
+        let alloc = *self.params.allocator();
+        let mut first = ItemSet::new(alloc);
         self.advance_over(&mut first, chart.last(), GrammarSymbol::Letter(letter))?;
-        let set = self.close(&chart.sets, first)?;
+        let set = self.close(&chart.sets, &chart.waiting, first)?;
         let sets = chart.sets.copy()?;
+        let waiting = chart.waiting.copy()?;
         let futures = chart.futures.copy()?;
-        self.with_place(sets, futures, set)
+        self.with_place(sets, waiting, futures, set)
     }
 
     /// Whether the word is in the language of the grammar.
@@ -128,6 +138,7 @@ impl Charts {
     pub fn fails(&self, chart: &Chart) -> bool
         ensures { (word : List ℕ) → IsChartOf self.now word chart.now → IsTrue result ↔ IsHopeless self.now.grammar word }
     {
+        // The grammar is reduced: the proof learns it from the fields.
         let _ = &self.grammar;
         is_hopeless(chart.last())
     }
@@ -149,17 +160,24 @@ impl Charts {
     fn with_place(
         &self,
         mut sets: Shared<ItemSet>,
+        mut waiting: Shared<Waiting>,
         mut futures: Shared<Futures>,
         set: ItemSet,
     ) -> Result<Chart, NoMemory>
         requires { length sets + 1 < 2 ^ 32 }
-        ensures { IfOk result (IsWithPlace self.now sets futures set) }
+        ensures { IfOk result (IsWithPlace self.now (record { sets = sets; waiting = waiting }) futures set) }
     {
         let alloc = *self.params.allocator();
+        let lists = self.waiting(alloc, set.as_slice())?;
         let future = Futures::new(alloc, &self.grammar, &self.dead, set.as_slice(), &futures)?;
         sets.push(set)?;
+        waiting.push(lists)?;
         futures.push(future)?;
-        Ok(Chart { sets, futures })
+        Ok(Chart {
+            sets,
+            waiting,
+            futures,
+        })
     }
 
     pub(crate) fn productions(&self) -> &[Production]
@@ -264,7 +282,7 @@ fn masks(alloc: Global, table: &EventTable) -> Result<Vec<u8>, NoMemory>
 impl Chart {
     /// The items of the last place.
     fn last(&self) -> &[Item]
-        ensures { (items : List Item) → slice_get self.now.sets (length self.now.sets - 1) ≡ Some items → result.now ≡ items }
+        ensures { (items : List Item) → slice_get self.now.items.sets (length self.now.items.sets - 1) ≡ Some items → result.now ≡ items }
     {
         match self.sets.get(self.sets.len() - 1) {
             Some(set) => set.as_slice(),

@@ -5,12 +5,14 @@ ghost use Rattle.jm_grammar.specs.Grammars.{IsSmallSymbol};
 ghost use Rattle.jm_grammar.specs.Derivations.{Derives};
 ghost use Rattle.jm_earley.specs.declared.item.Item.{Item};
 ghost use Rattle.jm_earley.specs.Items.{symbol_after, finished_left, advanced};
-ghost use Rattle.jm_earley.specs.Growth.{Grows, IsAdvancedOver, AreAdvancedOver, IsPrediction, ArePredicted, IsPredictedSet, IsStep, IsWorked, IsClosure};
+ghost use Rattle.jm_earley.specs.Growth.{Grows, IsAdvancedOver, AreAdvancedOver, IsPrediction, ArePredicted, IsPredictedSet, IsWorked, IsClosure};
+ghost use Rattle.jm_earley.specs.Waiting.{AreWaiting, IsStepOver};
 
 use crate::chart::Charts;
 use crate::item::{Item, advanced};
 use crate::set::ItemSet;
 use crate::shared::Shared;
+use crate::waiting::Waiting;
 use jm_grammar::GrammarSymbol;
 use jm_model::NoMemory;
 
@@ -23,9 +25,14 @@ struct Growth {
 
 impl Charts {
     /// The items that the rules make of the first ones, at the place behind the sets.
-    pub(crate) fn close(&self, sets: &Shared<ItemSet>, first: ItemSet) -> Result<ItemSet, NoMemory>
+    pub(crate) fn close(
+        &self,
+        sets: &Shared<ItemSet>,
+        waiting: &Shared<Waiting>,
+        first: ItemSet,
+    ) -> Result<ItemSet, NoMemory>
         requires { length sets.now < 2 ^ 32 }
-        ensures { IfOk result (λ set. IsClosure self.now.grammar sets.now first set) }
+        ensures { AreWaiting self.now.grammar sets.now waiting.now → IfOk result (λ set. IsClosure self.now.grammar sets.now first set) }
     {
         let mut growth = Growth {
             set: first,
@@ -33,7 +40,7 @@ impl Charts {
         };
         let mut number = 0;
         while let Some(item) = growth.set.get(number) {
-            self.work(sets, &mut growth, item)?;
+            self.work(sets, waiting, &mut growth, item)?;
             number += 1;
         }
         let Growth { set, .. } = growth;
@@ -41,11 +48,17 @@ impl Charts {
     }
 
     /// Adds what the rules make of an item.
-    fn work(&self, sets: &Shared<ItemSet>, growth: &mut Growth, item: Item) -> Result<(), NoMemory>
+    fn work(
+        &self,
+        sets: &Shared<ItemSet>,
+        waiting: &Shared<Waiting>,
+        growth: &mut Growth,
+        item: Item,
+    ) -> Result<(), NoMemory>
         requires place { length sets.now < 2 ^ 32 }
         requires predicted { IsPredictedSet self.now.grammar (length sets.now) growth.old.predicted growth.old.set }
-        ensures grows { OnOk result (Grows (IsStep self.now.grammar sets.now item) growth.old.set growth.new.set) }
-        ensures worked { OnOk result (IsWorked self.now.grammar sets.now growth.new.set item) }
+        ensures grows { OnOk result (Grows (IsStepOver self.now.grammar sets.now waiting.now item) growth.old.set growth.new.set) }
+        ensures worked { OnOk result (AreWaiting self.now.grammar sets.now waiting.now → IsWorked self.now.grammar sets.now growth.new.set item) }
         ensures predicted { OnOk result (IsPredictedSet self.now.grammar (length sets.now) growth.new.predicted growth.new.set) }
     {
         match self.symbol_after(item) {
@@ -54,7 +67,7 @@ impl Charts {
                 self.skip(&mut growth.set, item, n)
             }
             Some(GrammarSymbol::Letter(_)) => Ok(()),
-            None => self.complete(sets, &mut growth.set, item),
+            None => self.complete(sets, waiting, &mut growth.set, item),
         }
     }
 
@@ -113,20 +126,21 @@ impl Charts {
     fn complete(
         &self,
         sets: &Shared<ItemSet>,
+        waiting: &Shared<Waiting>,
         set: &mut ItemSet,
         item: Item,
     ) -> Result<(), NoMemory>
         requires { symbol_after self.now.grammar item ≡ None }
-        ensures grows { OnOk result (Grows (IsStep self.now.grammar sets.now item) set.old set.new) }
-        ensures worked { OnOk result (IsWorked self.now.grammar sets.now set.new item) }
+        ensures grows { OnOk result (Grows (IsStepOver self.now.grammar sets.now waiting.now item) set.old set.new) }
+        ensures worked { OnOk result (AreWaiting self.now.grammar sets.now waiting.now → IsWorked self.now.grammar sets.now set.new item) }
     {
         let Some(left) = self.finished_left(item) else {
             return Ok(());
         };
-        let Some(from) = sets.get(item.origin as usize) else {
+        let Some(from) = waiting.get(item.origin as usize) else {
             return Ok(());
         };
-        self.advance_over(set, from.as_slice(), GrammarSymbol::Nonterminal(left))
+        self.advance_over(set, from.of(left), GrammarSymbol::Nonterminal(left))
     }
 
     /// Adds each item before a symbol, advanced over it.

@@ -16,6 +16,7 @@ mod link;
 mod rule;
 mod set;
 mod shared;
+mod waiting;
 
 pub use chart::{Chart, Charts};
 

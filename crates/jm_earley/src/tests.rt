@@ -1,4 +1,4 @@
-ghost use Rattle.std.specs.Prelude.{◌≤◌, ◌↔◌, All, IsTrue, length};
+ghost use Rattle.std.specs.Prelude.{◌≡◌, ◌≤◌, ◌↔◌, All, IsTrue, IfOk, length};
 ghost use Rattle.jm_earley.specs.Charts.{IsBelow, AreBelow};
 
 use super::*;
@@ -64,7 +64,9 @@ fn are_below(productions: &[Production], letters: u8) -> bool
     productions.iter().all(|production| are_symbols_below(production.symbols.as_slice(), letters))
 }
 
-pub(crate) fn charts_of(alloc: Global, grammar: &str, table: &EventTable) -> Result<Charts, Fail> {
+pub(crate) fn charts_of(alloc: Global, grammar: &str, table: &EventTable) -> Result<Charts, Fail>
+    ensures { IfOk result (λ c. length c.params ≡ length table.now.events) }
+{
     let Some(grammar) = Grammar::of(productions_of(alloc, grammar)?, 0) else {
         return Err(Fail::from("too large"));
     };
@@ -157,5 +159,49 @@ fn what_spells_no_word(rt: HostRuntime) -> Result<(), Fail> {
 fn right_recursion(rt: HostRuntime) -> Result<(), Fail> {
     let text = matched(rt.alloc(), "SaSA Sb A", "- b ab aab aabb ba aaab")?;
     assert_eq!(rt; text.as_str(), "nyyynny");
+    Ok(())
+}
+
+/// Takes what may cross threads.
+fn crosses<T: Send + Sync>(_value: &T) {}
+
+#[test]
+fn charts_cross_threads(rt: HostRuntime) -> Result<(), Fail> {
+    let alloc = rt.alloc();
+    let table = EventTable::new(alloc);
+    let charts = charts_of(alloc, "SS S", &table)?;
+    let chart = charts.begin()?;
+    crosses(&charts);
+    crosses(&chart);
+    assert!(rt; charts.matches(&chart));
+    Ok(())
+}
+
+/// Whether `count` times `a` and then `count` times `b` is a word of the grammar.
+fn has_long_word(alloc: Global, grammar: &str, count: usize) -> Result<bool, Fail> {
+    let mut table = EventTable::new(alloc);
+    table.add_event("a", 0, false, 1)?;
+    table.add_event("b", 0, false, 1)?;
+    let charts = charts_of(alloc, grammar, &table)?;
+    let mut word = Vec::new(alloc);
+    for _a in 0..count {
+        word.push(b'a')?;
+    }
+    for _b in 0..count {
+        word.push(b'b')?;
+    }
+    let chart = chart_of(&charts, word.as_slice(), table.letters())?;
+    Ok(charts.matches(&chart))
+}
+
+#[test]
+fn a_thousand_letters(rt: HostRuntime) -> Result<(), Fail> {
+    assert!(rt; has_long_word(rt.alloc(), "SSaSb S", 500)?);
+    Ok(())
+}
+
+#[test]
+fn a_thousand_palindromes(rt: HostRuntime) -> Result<(), Fail> {
+    assert!(rt; !has_long_word(rt.alloc(), "SaSa SbSb Sa Sb S", 500)?);
     Ok(())
 }

@@ -1,7 +1,8 @@
 use Rattle.std.proofs.Common.{◌≡◌, Some, None, slice_get, sym, arith}
 use Rattle.jm_earley.specs.declared.item.Item.{Item}
 use Rattle.jm_earley.specs.Growth.{IsStep, given}
-use Rattle.jm_earley.proofs.GrowthLemmas.{grows_contains}
+use Rattle.jm_earley.specs.Waiting.{AreWaiting, IsStepOver}
+use Rattle.jm_earley.proofs.GrowthLemmas.{grows_contains, grows_weaker}
 use Rattle.jm_earley.proofs.SetLemmas.{no_bits}
 use Rattle.jm_earley.proofs.WorkLemmas.{one_worked, one_made, all_worked}
 use Rattle.jm_earley.proofs.chart.Charts.close.Goals as goal
@@ -9,8 +10,8 @@ use Rattle.jm_earley.proofs.chart.Charts.close.Goals as goal
 pub loop-item-init : goal.loop-item-init
 loop-item-init c = record {
   kept = λ x there. there;
-  worked = λ k x lt at. absurd (omega (arith, lt));
-  made = λ x there. given x there;
+  worked = λ waiting k x lt at. absurd (omega (arith, lt));
+  made = λ waiting x there. given x there;
   predicted = λ n bit. absurd (no_bits n bit);
 }
 
@@ -24,18 +25,20 @@ loop-item-preserved c =
     let at : slice_get old c.loop-item.number ≡ Some item = sym c.in-Some.ensures.value in
     let grows = c.in_ok-work.ensures.grows in
     let before = c.loop-item.invariant in
+    let P = λ (y : Item). IsStepOver g sets c.args.waiting.now item y in
+    let steps = λ (waiting : AreWaiting g sets c.args.waiting.now). grows_weaker P (λ (y : Item). IsStep g sets item y) (λ y step. step waiting) old new grows in
     record {
-      kept = λ x there. grows_contains (λ (y : Item). IsStep g sets item y) old new x grows (before.kept x there);
-      worked = one_worked g sets c.args.first c.loop-item.number item old new at grows c.in_ok-work.ensures.worked before.worked;
-      made = one_made g sets c.args.first c.loop-item.number item old new at grows before.made;
+      kept = λ x there. grows_contains P old new x grows (before.kept x there);
+      worked = λ waiting. one_worked g sets c.args.first c.loop-item.number item old new at (steps waiting) (c.in_ok-work.ensures.worked waiting) (before.worked waiting);
+      made = λ waiting. one_made g sets c.args.first c.loop-item.number item old new at (steps waiting) (before.made waiting);
       predicted = c.in_ok-work.ensures.predicted;
     }
 
 pub returns : goal.returns
-returns c =
+returns c = λ waiting.
     let end : slice_get c.loop-item.growth.set c.loop-item.number ≡ None = sym c.in_default.ensures.value in
     record {
       kept = c.loop-item.invariant.kept;
-      worked = all_worked c.args.self.now.grammar c.args.sets.now c.args.first c.loop-item.number c.loop-item.growth.set end c.loop-item.invariant.worked;
-      made = c.loop-item.invariant.made;
+      worked = all_worked c.args.self.now.grammar c.args.sets.now c.args.first c.loop-item.number c.loop-item.growth.set end (c.loop-item.invariant.worked waiting);
+      made = c.loop-item.invariant.made waiting;
     }

@@ -1,13 +1,14 @@
 use Rattle.std.proofs.Common.{ℕ, ◌<◌, ◌-◌, ◌^◌, ◌≡◌, Some, length, slice_get, Contains}
 use Rattle.jm_earley.specs.declared.item.Item.{Item}
 use Rattle.jm_earley.specs.Growth.{IsPredictedSet, IsWorked, IsMade}
+use Rattle.jm_earley.specs.Waiting.{AreWaiting}
 use Rattle.jm_earley.proofs.chart.Charts.close.Given as goal
 
 abbrev pub invariant-loop-item : goal.invariant-loop-item
 invariant-loop-item l = record {
   kept : (x : Item) → Contains l.fn.first x → Contains l.growth.set x;
-  worked : (k : ℕ) (x : Item) → k < l.number → slice_get l.growth.set k ≡ Some x → IsWorked l.self.grammar l.sets l.growth.set x;
-  made : (x : Item) → Contains l.growth.set x → IsMade l.self.grammar l.sets l.fn.first x;
+  worked : AreWaiting l.self.grammar l.sets l.waiting → (k : ℕ) (x : Item) → k < l.number → slice_get l.growth.set k ≡ Some x → IsWorked l.self.grammar l.sets l.growth.set x;
+  made : AreWaiting l.self.grammar l.sets l.waiting → (x : Item) → Contains l.growth.set x → IsMade l.self.grammar l.sets l.fn.first x;
   predicted : IsPredictedSet l.self.grammar (length l.sets) l.growth.predicted l.growth.set;
 }
 

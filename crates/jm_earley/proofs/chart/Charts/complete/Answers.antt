@@ -1,17 +1,25 @@
-use Rattle.std.proofs.Common.{List, ◌≡◌, Some, slice_get, subst, sym}
+use Rattle.std.proofs.Common.{List, subst, sym}
 use Rattle.std.proofs.lemmas.Result.{on_ok_weaker}
 use Rattle.jm_grammar.specs.declared.grammar.GrammarSymbol.TheVariants.{Nonterminal}
 use Rattle.jm_earley.specs.declared.item.Item.{Item}
-use Rattle.jm_earley.specs.Growth.{IsAdvancedOver, IsStep, completes}
-use Rattle.jm_earley.proofs.GrowthLemmas.{grows_weaker}
+use Rattle.jm_earley.specs.Growth.{Grows, IsAdvancedOver, AreAdvancedOver}
+use Rattle.jm_earley.proofs.WaitingLemmas.{completes_over, completes_worked}
 use Rattle.jm_earley.proofs.chart.Charts.complete.Goals as goal
 
 pub returns-clause-grows : goal.returns-clause-grows
 returns-clause-grows c =
     let g = c.args.self.now.grammar in
-    let from = c.as_slice.result.now in
-    let sets = c.args.sets.now in
-    let at : slice_get sets c.args.item.origin ≡ Some from = subst (λ (l : List Item). slice_get sets c.args.item.origin ≡ Some l) (sym c.as_slice.ensures) c.in-Some-get.ensures in
+    let n = c.in-Some.left in
     on_ok_weaker c.advance_over.result
-    (grows_weaker (IsAdvancedOver g from (Nonterminal c.in-Some.left)) (IsStep g sets c.args.item) (λ x over. completes c.in-Some.left from (sym c.in-Some.ensures) at over) c.args.set.now c.advance_over.new.set)
+    (λ grows. completes_over g c.args.sets.now c.args.waiting.now c.args.item n c.in-Some-get.from.now (sym c.in-Some.ensures) c.in-Some-get.ensures c.args.set.now c.advance_over.new.set
+    (subst (λ (l : List Item). Grows (IsAdvancedOver g l (Nonterminal n)) c.args.set.now c.advance_over.new.set) c.of.ensures grows))
     c.advance_over.ensures.grows
+
+pub returns-clause-worked : goal.returns-clause-worked
+returns-clause-worked c =
+    let g = c.args.self.now.grammar in
+    let n = c.in-Some.left in
+    on_ok_weaker c.advance_over.result
+    (λ all. completes_worked g c.args.sets.now c.args.waiting.now c.args.item n c.in-Some-get.from.now (sym c.in-Some.ensures) c.in-Some-get.ensures c.args.set.now c.advance_over.new.set
+    c.requires (subst (λ (l : List Item). AreAdvancedOver g l (Nonterminal n) c.advance_over.new.set) c.of.ensures all))
+    c.advance_over.ensures.all

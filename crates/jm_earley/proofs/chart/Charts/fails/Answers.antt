@@ -9,7 +9,7 @@ use Rattle.jm_earley.proofs.chart.Charts.fails.Goals as goal
 pub returns : goal.returns
 returns c = λ word of_word.
     let charts : ChartsDefinition = c.args.self.now in
-    let last = last_items charts.grammar word c.args.chart.now.sets of_word.items in
+    let last = last_items charts.grammar word c.args.chart.now.items of_word.items in
     let spell : AllSpell charts.grammar = subst (λ (d : ChartsDefinition). AllSpell d.grammar) c.self.view_is c.self.invariant.0.spell in
     let all = subst (λ (items : List Item). IsItemSet charts.grammar word items) (sym (c.last.ensures last.0 last.1)) last.2 in
     c.is_hopeless.ensures charts.grammar word spell all

@@ -1,0 +1,133 @@
+-- The items of a place by the nonterminal that they await.
+use Rattle.std.proofs.Common.{ℕ, zero, suc, All, ◌≡◌, ◌≢◌, ◌<◌, ◌+◌, ◌↔◌, ◌⊎◌, inl, inr, List, [], ◌∷◌, ◌++◌, Some, None, length, take, map, get_or, set, slice_get, Contains, refl, sym, subst, ◌∙◌, arith, length-append}
+use Rattle.std.proofs.lemmas.Bool.Decides.{eqb_tells}
+use Rattle.std.proofs.lemmas.List.{length-map, map-set, get_or-set_same, get_or-set_other}
+use Rattle.std.proofs.lemmas.List.Elements.{All-head, All-tail, Contains-push, Contains-push_cases, Contains-append_left}
+use Rattle.std.proofs.lemmas.Option.{none-some, same_Some, slice_get_within}
+use Rattle.jm_model.specs.declared.step.Letter.{Letter as LetterType}
+use Rattle.jm_grammar.specs.declared.grammar.GrammarSymbol.TheVariants.{Letter, Nonterminal}
+use Rattle.jm_grammar.specs.Grammars.{GrammarDefinition}
+use Rattle.jm_earley.specs.declared.item.Item.{Item}
+use Rattle.jm_earley.specs.Items.{symbol_after, finished_left}
+use Rattle.jm_earley.specs.Growth.{Grows, IsAdvancedOver, AreAdvancedOver, completes, IsWorked}
+use Rattle.jm_earley.specs.Waiting.{IsEmpty, IsWaiting, IsWithWaiting, AreWaiting, IsStepOver}
+use Rattle.jm_earley.proofs.PlaceLemmas.{take_next, place_of, past_end, slice_get-push_cases}
+use Rattle.jm_earley.proofs.GrowthLemmas.{grows_weaker}
+
+-- lists that are all empty
+pub no_items : {X : Type 0} (f : X → List Item) (xs : List X) → All (λ x. f x ≡ []) xs → IsEmpty (map f xs)
+no_items f [] each j = refl
+no_items f (x ∷ xs) each zero = All-head (λ y. f y ≡ []) x xs each
+no_items f (x ∷ xs) each (suc j) = no_items f xs (All-tail (λ y. f y ≡ []) x xs each) j
+
+module _ {X : Type 0} (f : X → List Item) (xs : List X) (i : ℕ) (x : X) where
+  pub written_here : i < length xs → get_or (map f (set xs i x)) i [] ≡ f x
+  written_here lt = rw (map-set f xs i x) (get_or-set_same (map f xs) i (f x) [] (omega (arith, length-map xs f)))
+
+  pub written_elsewhere : (j : ℕ) → j ≢ i → get_or (map f (set xs i x)) j [] ≡ get_or (map f xs) j []
+  written_elsewhere j other = rw (map-set f xs i x) (get_or-set_other (map f xs) i j (f x) [] other)
+
+module _ (g : GrammarDefinition) where
+  same_nonterminal : (x : Item) (n m : ℕ) → symbol_after g x ≡ Some (Nonterminal n) → symbol_after g x ≡ Some (Nonterminal m) → n ≡ m
+  same_nonterminal x n m one two = let e : Nonterminal n ≡ Nonterminal m = same_Some (Nonterminal n) (Nonterminal m) (sym one ∙ two) in cc
+
+  pub not_a_letter : (x : Item) (a : LetterType) (n : ℕ) → symbol_after g x ≡ Some (Letter a) → symbol_after g x ≡ Some (Nonterminal n) → ⊥
+  not_a_letter x a n one two = let e : Letter a ≡ Nonterminal n = same_Some (Letter a) (Nonterminal n) (sym one ∙ two) in absurd (cc)
+
+  -- no item yet
+  pub waiting_none : (lists : List (List Item)) → IsEmpty lists → IsWaiting g [] lists
+  waiting_none lists empty n x = (
+    λ there. absurd (let none : Contains [] x = subst (λ (l : List Item). Contains l x) (empty n) there in omega (arith, none.1)),
+    λ (there, after). absurd (omega (arith, there.1)),
+  )
+
+  -- an item that awaits no nonterminal
+  pub waiting_same : (lists : List (List Item)) (x : Item) → ((n : ℕ) → symbol_after g x ≡ Some (Nonterminal n) → ⊥) → IsWithWaiting g lists x lists
+  waiting_same lists x other n y = (λ there. inl there, λ either. elim either [ inl there ↦ there | inr (is, after) ↦ absurd (other n after) ])
+
+  -- an item that awaits one
+  pub waiting_more : (lists new : List (List Item)) (x : Item) (n : ℕ) → symbol_after g x ≡ Some (Nonterminal n) → get_or new n [] ≡ get_or lists n [] ++ x ∷ []
+      → ((m : ℕ) → m ≢ n → get_or new m [] ≡ get_or lists m []) → IsWithWaiting g lists x new
+  waiting_more lists new x n after here others m y = elim (eqb_tells m n) [
+    | inl same ↦ subst (λ (k : ℕ). Contains (get_or new k []) y ↔ (Contains (get_or lists k []) y ⊎ ((x ≡ y) × (symbol_after g x ≡ Some (Nonterminal k))))) (sym same.1) (
+      λ there. elim (Contains-push_cases (get_or lists n []) x y (subst (λ (l : List Item). Contains l y) here there)) [ inl old ↦ inl old | inr is ↦ inr (is, after) ],
+      λ either. subst (λ (l : List Item). Contains l y) (sym here) (elim either [
+        | inl old ↦ Contains-append_left (get_or lists n []) (x ∷ []) y old
+        | inr (is, awaits) ↦ subst (λ (z : Item). Contains (get_or lists n [] ++ x ∷ []) z) is (Contains-push (get_or lists n []) x)
+      ]),
+    )
+    | inr differs ↦ (
+      λ there. inl (subst (λ (l : List Item). Contains l y) (others m differs.1) there),
+      λ either. elim either [
+        | inl old ↦ subst (λ (l : List Item). Contains l y) (sym (others m differs.1)) old
+        | inr (is, awaits) ↦ absurd (differs.1 (same_nonterminal x m n awaits after))
+      ],
+    )
+  ]
+
+  -- one item more
+  pub waiting_next : (items : List Item) (lists new : List (List Item)) (i : ℕ) (x : Item) → slice_get items i ≡ Some x → IsWaiting g (take i items) lists → IsWithWaiting g lists x new → IsWaiting g (take (i + 1) items) new
+  waiting_next items lists new i x at before added n y =
+      let longer = take_next items i x at in (
+        λ there. elim ((added n y).0 there) [
+          | inl old ↦ let known = (before n y).0 old in (subst (λ (l : List Item). Contains l y) (sym longer) (Contains-append_left (take i items) (x ∷ []) y known.0), known.1)
+          | inr (is, after) ↦ subst (λ (z : Item). Contains (take (i + 1) items) z × (symbol_after g z ≡ Some (Nonterminal n))) is
+              (subst (λ (l : List Item). Contains l x) (sym longer) (Contains-push (take i items) x), after)
+        ],
+        λ (there, awaits). (added n y).1 (elim (Contains-push_cases (take i items) x y (subst (λ (l : List Item). Contains l y) longer there)) [
+          | inl old ↦ inl ((before n y).1 (old, awaits))
+          | inr is ↦ inr (is, subst (λ (z : Item). symbol_after g z ≡ Some (Nonterminal n)) (sym is) awaits)
+        ]),
+      )
+
+  -- ---- place by place
+
+  pub no_waiting : AreWaiting g [] []
+  no_waiting = record { count = refl; each = λ i items lists at. absurd (none-some items at) }
+
+  pub more_waiting : (sets : List (List Item)) (waiting : List (List (List Item))) (items : List Item) (lists : List (List Item)) → AreWaiting g sets waiting → IsWaiting g items lists
+      → AreWaiting g (sets ++ items ∷ []) (waiting ++ lists ∷ [])
+  more_waiting sets waiting items lists are is = record {
+    count = omega (arith, length-append sets (items ∷ []), length-append waiting (lists ∷ []), are.count);
+    each = λ i s w at_s at_w. elim (slice_get-push_cases sets items i s at_s) [
+      | inl old ↦ elim (slice_get-push_cases waiting lists i w at_w) [
+        | inl also ↦ are.each i s w old also
+        | inr (place, same) ↦ absurd (omega (arith, place, slice_get_within sets i s old, are.count))
+      ]
+      | inr (place, same) ↦ elim (slice_get-push_cases waiting lists i w at_w) [
+        | inl old ↦ absurd (omega (arith, place, slice_get_within waiting i w old, are.count))
+        | inr (also, last) ↦ subst (λ (l : List Item). IsWaiting g l w) same (subst (λ (l : List (List Item)). IsWaiting g items l) last is)
+      ]
+    ];
+  }
+
+  -- ---- completions
+
+  module _ (sets : List (List Item)) (waiting : List (List (List Item))) (x : Item) where
+    -- an item with nothing behind its dot that is not finished, or began at no place of these
+    pub ends_worked : (items : List Item) → symbol_after g x ≡ None → ((n : ℕ) (from : List Item) → finished_left g x ≡ Some n → slice_get sets x.origin ≡ Some from → ⊥) → IsWorked g sets items x
+    ends_worked items end none = record {
+      predicted = λ n after. absurd (none-some (Nonterminal n) (sym end ∙ after));
+      skipped = λ n after. absurd (none-some (Nonterminal n) (sym end ∙ after));
+      completed = λ n from finished at. absurd (none n from finished at);
+    }
+
+    pub no_place : (n : ℕ) (from : List Item) → AreWaiting g sets waiting → slice_get waiting x.origin ≡ None → slice_get sets x.origin ≡ Some from → ⊥
+    no_place n from are none at = omega (arith, are.count, past_end waiting x.origin none, slice_get_within sets x.origin from at)
+
+    module _ (n : ℕ) (lists : List (List Item)) (finished : finished_left g x ≡ Some n) (there : slice_get waiting x.origin ≡ Some lists) (old new : List Item) where
+      pub completes_over : Grows (IsAdvancedOver g (get_or lists n []) (Nonterminal n)) old new → Grows (IsStepOver g sets waiting x) old new
+      completes_over grows = grows_weaker (IsAdvancedOver g (get_or lists n []) (Nonterminal n)) (IsStepOver g sets waiting x) (λ made (y, among, after, is) are.
+          let from = place_of sets x.origin (omega (arith, are.count, slice_get_within waiting x.origin lists there)) in
+          let known = (are.each x.origin from.0 lists from.1 there n y).0 among in
+          completes n from.0 finished from.1 (y, known.0, after, is)) old new grows
+
+      pub completes_worked : symbol_after g x ≡ None → AreAdvancedOver g (get_or lists n []) (Nonterminal n) new → AreWaiting g sets waiting → IsWorked g sets new x
+      completes_worked end all are = record {
+        predicted = λ m after. absurd (none-some (Nonterminal m) (sym end ∙ after));
+        skipped = λ m after. absurd (none-some (Nonterminal m) (sym end ∙ after));
+        completed = λ m from also at y among after.
+            let same : m ≡ n = same_Some m n (sym also ∙ finished) in
+            let awaits : symbol_after g y ≡ Some (Nonterminal n) = subst (λ (k : ℕ). symbol_after g y ≡ Some (Nonterminal k)) same after in
+            all y ((are.each x.origin from lists at there n y).1 (among, awaits)) awaits;
+      }
