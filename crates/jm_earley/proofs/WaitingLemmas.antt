@@ -11,7 +11,7 @@ use Rattle.jm_earley.specs.declared.item.Item.{Item}
 use Rattle.jm_earley.specs.Items.{symbol_after, finished_left}
 use Rattle.jm_earley.specs.Growth.{Grows, IsAdvancedOver, AreAdvancedOver, completes, IsWorked}
 use Rattle.jm_earley.specs.Waiting.{IsEmpty, IsWaiting, IsWithWaiting, AreWaiting, IsStepOver}
-use Rattle.jm_earley.proofs.PlaceLemmas.{take_next, place_of, past_end, slice_get-push_cases}
+use Rattle.jm_earley.proofs.PlaceLemmas.{take_next, place_of, slice_get-push_cases}
 use Rattle.jm_earley.proofs.GrowthLemmas.{grows_weaker}
 
 -- lists that are all empty
@@ -104,17 +104,6 @@ module _ (g : GrammarDefinition) where
   -- ---- completions
 
   module _ (sets : List (List Item)) (waiting : List (List (List Item))) (x : Item) where
-    -- an item with nothing behind its dot that is not finished, or began at no place of these
-    pub ends_worked : (items : List Item) → symbol_after g x ≡ None → ((n : ℕ) (from : List Item) → finished_left g x ≡ Some n → slice_get sets x.origin ≡ Some from → ⊥) → IsWorked g sets items x
-    ends_worked items end none = record {
-      predicted = λ n after. absurd (none-some (Nonterminal n) (sym end ∙ after));
-      skipped = λ n after. absurd (none-some (Nonterminal n) (sym end ∙ after));
-      completed = λ n from finished at. absurd (none n from finished at);
-    }
-
-    pub no_place : (n : ℕ) (from : List Item) → AreWaiting g sets waiting → slice_get waiting x.origin ≡ None → slice_get sets x.origin ≡ Some from → ⊥
-    no_place n from are none at = omega (arith, are.count, past_end waiting x.origin none, slice_get_within sets x.origin from at)
-
     module _ (n : ℕ) (lists : List (List Item)) (finished : finished_left g x ≡ Some n) (there : slice_get waiting x.origin ≡ Some lists) (old new : List Item) where
       pub completes_over : Grows (IsAdvancedOver g (get_or lists n []) (Nonterminal n)) old new → Grows (IsStepOver g sets waiting x) old new
       completes_over grows = grows_weaker (IsAdvancedOver g (get_or lists n []) (Nonterminal n)) (IsStepOver g sets waiting x) (λ made (y, among, after, is) are.

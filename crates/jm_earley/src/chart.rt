@@ -1,3 +1,4 @@
+//! Charts and what is asked of them (Earley 1970).
 ghost use Rattle.std.specs.Prelude.{ℕ, ◌≡◌, ◌==◌, ◌<◌, ◌≤◌, ◌+◌, ◌-◌, ◌^◌, ◌↔◌, List, [], ◌∷◌, ◌++◌, Some, None, Any, IsTrue, IfSome, IfOk, map, length, slice_get, if◌then◌else◌};
 ghost use Rattle.jm_grammar.specs.declared.grammar.GrammarSymbol.{GrammarSymbol};
 ghost use Rattle.jm_grammar.specs.Grammars.{IsSmall, IsSmallSymbol, IsSmallProduction};
@@ -63,7 +64,7 @@ impl Model for Chart {
 }
 
 impl Charts {
-    /// Charts of a grammar, whose letters are events of the table. The grammar is reduced.
+    /// Charts of a grammar, whose letters are events of the table. They are those of the reduced grammar, which has the same words.
     pub fn new(alloc: Global, grammar: Grammar, table: &EventTable) -> Result<Charts, NoMemory>
         requires { AreBelow grammar.productions (length table.now.events) }
         ensures words { IfOk result (λ c. (word : List ℕ) → IsWord c.grammar word ↔ IsWord grammar word) }
@@ -94,7 +95,7 @@ impl Charts {
         self.with_place(sets, waiting, Shared::new(alloc), set)
     }
 
-    /// A chart of the same words.
+    /// A chart of the same words. It shares the items of each place with this one.
     pub fn copy(&self, chart: &Chart) -> Result<Chart, NoMemory>
         ensures { IfOk result (λ copy. copy ≡ chart.now) }
     {
@@ -108,7 +109,8 @@ impl Charts {
         })
     }
 
-    /// The chart of a word that has one letter more.
+    /// The chart of a word that has one letter more. It shares the items of the earlier places with this one. A chart of 2^32 - 1
+    /// places counts as want of memory.
     pub fn next(&self, chart: &Chart, letter: Letter) -> Result<Chart, NoMemory>
         requires { letter.0 < length self.now.params }
         ensures { (word : List ℕ) → IsChartOf self.now word chart.now → IfOk result (IsChartOf self.now (word ++ letter.0 ∷ [])) }
