@@ -1,8 +1,7 @@
 -- The rules that are made of a tree, and its faults.
-use Rattle.std.proofs.Common.{◌≡◌, ℕ, ◌<◌, ◌≤◌, List, Option, Some, None, map, length, refl, sym, ◌∙◌, ap, subst}
+use Rattle.std.proofs.Common.{◌≡◌, ℕ, ◌<◌, ◌≤◌, List, Option, Some, None, map, length, sym, ◌∙◌, ap, subst}
 use Rattle.std.specs.Prelude.{IsBitSet, ◌↔◌, Bool, slice_range}
 use Rattle.std.proofs.lemmas.List.{length-map}
-use Rattle.jm_model.specs.declared.fault.SpecFault.{SpecFault}
 use Rattle.jm_model.specs.declared.fault.SpecError.{SpecError}
 use Rattle.jm_model.specs.declared.fault.SpecError.TheVariants.{Bad, NoMemory}
 use Rattle.jm_text.specs.declared.token.Token.{Token}
@@ -20,7 +19,7 @@ use Rattle.jm_machine.specs.Formulas.{category_names, IsReadAs, IsTableFault}
 use Rattle.jm_machine.specs.Handlers.{handlers_fault}
 use Rattle.jm_machine.specs.Meanings.{must_bind_of, rules_of}
 use Rattle.jm_machine.specs.RuleSets.{definition_of, letters_of, IsGoalOf, IsRuleSet}
-use Rattle.jm_machine.specs.Compiling.{IsNotCompiled, IsFormula, in_formula, in_handlers, in_table}
+use Rattle.jm_machine.specs.Compiling.{IsNotCompiled, IsFormula, in_handlers, in_table}
 use Rattle.jm_machine.proofs.GoalLemmas.{same_letters, creation_below}
 
 -- ---- the rules

@@ -1,5 +1,5 @@
 -- What runs a formula tells its categories.
-use Rattle.std.proofs.Common.{[], ◌∷◌, map, length-append, ◌≡◌, ℕ, zero, suc, ◌<◌, List, ◌++◌, length, refl, sym, ap, subst, arith}
+use Rattle.std.proofs.Common.{[], ◌∷◌, map, length-append, ◌≡◌, ℕ, zero, suc, ◌<◌, List, ◌++◌, length, refl, subst, arith}
 use Rattle.std.specs.Prelude.{◌↔◌, All, Contains, codes}
 use Rattle.std.proofs.lemmas.List.{length-map}
 use Rattle.std.proofs.lemmas.List.Elements.{All-weaker, All-contains, All-contains_itself}
@@ -33,8 +33,13 @@ pub machine_count : (m : fsm.StateMachine) → length (fsm.category_names m) ≡
 machine_count m =
     let states = map (λ (s : fsm.StateDefinition). s.name) m.states in
     let aliases = map (λ (a : fsm.AliasDefinition). a.name) m.aliases in
-    omega (arith, length-append states (aliases ++ codes "fail" ∷ []), length-append aliases (codes "fail" ∷ []),
-      length-map m.states (λ (s : fsm.StateDefinition). s.name), length-map m.aliases (λ (a : fsm.AliasDefinition). a.name))
+    omega (
+      arith,
+      length-append states (aliases ++ codes "fail" ∷ []),
+      length-append aliases (codes "fail" ∷ []),
+      length-map m.states (λ (s : fsm.StateDefinition). s.name),
+      length-map m.aliases (λ (a : fsm.AliasDefinition). a.name),
+    )
 
 pub machine_compiled : (m : fsm.StateMachine) (t : Transitions) → length (fsm.category_names m) ≡ fsm.category_count m → fsm.IsCompiled m t → IsCompiled (Machine m) (States t)
 machine_compiled m t count h = λ word below some category less. h word below category (subst (λ n. category < n) count less)

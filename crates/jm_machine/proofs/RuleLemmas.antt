@@ -1,5 +1,5 @@
 -- Runs of compiled rules: the next state, and which handlers a word hits.
-use Rattle.std.proofs.Common.{◌≡◌, ◌≢◌, ℕ, zero, suc, ◌+◌, ◌<◌, ◌≤◌, ◌⊎◌, inl, inr, List, [], ◌∷◌, ◌++◌, length, get_or, Bool, true, false, Option, Some, None, map, refl, sym, ◌∙◌, ap, subst, arith}
+use Rattle.std.proofs.Common.{◌≡◌, ◌≢◌, ℕ, ◌<◌, ◌⊎◌, List, [], ◌∷◌, ◌++◌, length, get_or, Bool, true, false, Option, Some, None, map, refl, sym, ◌∙◌, subst, arith}
 use Rattle.std.specs.Prelude.{All, Contains, ◌↔◌, IsTrue, IsBitSet, IsSomeAnd, slice_get}
 use Rattle.std.specs.Str.{bytes_eq}
 use Rattle.std.proofs.lemmas.List.Quantifiers.{position-Some}
@@ -85,10 +85,10 @@ module _ (r : CompiledRules) (s : Run) (w : List ℕ) (set : IsRuleSet r) (run :
   holds : s.moved ≡ true → (k : ℕ) → IsHandledBy r w k ↔ (rules_meaning r.definition).Holds w k
   holds moved k = (
     some_more _ (IsNamedCategory r.definition w) (slice_get r.definition.handlers k)
-      (λ name at. some_more (λ category. EngineHolds r.engine category w) (λ category. CategoryHolds r.definition.formula (length r.definition.masks) category w)
+        (λ name at. some_more (λ category. EngineHolds r.engine category w) (λ category. CategoryHolds r.definition.formula (length r.definition.masks) category w)
         (number_of (category_names r.definition.formula) name) (λ category found. (held moved category (number_within (category_names r.definition.formula) name category found)).0)),
     some_more (IsNamedCategory r.definition w) _ (slice_get r.definition.handlers k)
-      (λ name at. some_more (λ category. CategoryHolds r.definition.formula (length r.definition.masks) category w) (λ category. EngineHolds r.engine category w)
+        (λ name at. some_more (λ category. CategoryHolds r.definition.formula (length r.definition.masks) category w) (λ category. EngineHolds r.engine category w)
         (number_of (category_names r.definition.formula) name) (λ category found. (held moved category (number_within (category_names r.definition.formula) name category found)).1)),
   )
 
@@ -101,8 +101,9 @@ module _ (r : CompiledRules) (s : Run) (w : List ℕ) (set : IsRuleSet r) (run :
 
   pub run_hits : (bits : ℕ) → s.moved ≡ true → s.created ≡ true → ((word : List ℕ) → IsPlaceOf r.engine s.place word → (k : ℕ) → IsBitSet bits k ↔ IsHandledBy r word k) → (k : ℕ) → IsBitSet bits k ↔ IsHit (rules_meaning r.definition) w k
   run_hits bits moved created handled k =
-      let bit = handled w run.place k in
-      (λ set_bit.
-          let h = (holds moved k).0 (bit.0 set_bit) in
-          (not_empty w (sym run.moved ∙ moved), run.created.0 created, some_within (IsNamedCategory r.definition w) r.definition.handlers k h, h),
-        λ hit. bit.1 ((holds moved k).1 hit.3))
+      let bit = handled w run.place k in (
+        λ set_bit.
+            let h = (holds moved k).0 (bit.0 set_bit) in
+            (not_empty w (sym run.moved ∙ moved), run.created.0 created, some_within (IsNamedCategory r.definition w) r.definition.handlers k h, h),
+        λ hit. bit.1 ((holds moved k).1 hit.3),
+      )

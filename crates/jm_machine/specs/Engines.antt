@@ -1,5 +1,5 @@
 -- What runs a property, and where words lead in it.
-use Rattle.std.specs.Prelude.{ℕ, zero, suc, ◌≡◌, ◌<◌, ◌↔◌, List, All, length}
+use Rattle.std.specs.Prelude.{ℕ, ◌≡◌, ◌<◌, ◌↔◌, List, All, length}
 use Rattle.jm_table.specs.Tables.{IsWord, IsInGroup, state_after_of}
 use Rattle.jm_grammar.specs.Grammars.{GrammarDefinition}
 use Rattle.jm_grammar.specs.Derivations as grammar

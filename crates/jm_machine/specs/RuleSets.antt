@@ -1,5 +1,5 @@
 -- Compiled rules: what a specification means, with what runs it.
-use Rattle.std.specs.Prelude.{ℕ, ◌≡◌, ◌<◌, ◌≤◌, ◌==◌, ◌^◌, ◌↔◌, ◌⊎◌, Bool, not, List, [], Some, Contains, IsSomeAnd, IsBitSet, bit_and, length, map, filter, slice_get}
+use Rattle.std.specs.Prelude.{ℕ, ◌≡◌, ◌<◌, ◌≤◌, ◌==◌, ◌^◌, ◌⊎◌, Bool, not, List, Some, IsSomeAnd, IsBitSet, bit_and, length, map, filter, slice_get}
 use Rattle.std.specs.List.{range_with_len}
 use Rattle.jm_events.specs.Names.{number_of}
 use Rattle.jm_goal.specs.Goals.{GoalDefinition}

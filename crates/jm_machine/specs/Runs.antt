@@ -1,8 +1,8 @@
 -- What a state of compiled rules stands for.
-use Rattle.std.specs.Prelude.{ℕ, ◌≡◌, ◌⊎◌, ◌↔◌, Bool, true, false, List, [], ◌∷◌, IsTrue, Contains}
+use Rattle.std.specs.Prelude.{ℕ, ◌≡◌, ◌↔◌, Bool, true, false, List, [], ◌∷◌, IsTrue}
 use Rattle.jm_model.specs.Meanings.{IsCreated}
 use Rattle.jm_machine.specs.declared.run.Run.{Run}
-use Rattle.jm_machine.specs.Meanings.{RuleDefinition, rules_meaning}
+use Rattle.jm_machine.specs.Meanings.{rules_meaning}
 use Rattle.jm_machine.specs.Engines.{IsPlaceOf}
 use Rattle.jm_machine.specs.RuleSets.{CompiledRules}
 

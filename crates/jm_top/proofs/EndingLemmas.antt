@@ -1,8 +1,8 @@
-use Rattle.std.proofs.Common.{◌≡◌, ℕ, List, [], inl, inr, refl, sym, ◌∙◌, ap, append-nil}
+use Rattle.std.proofs.Common.{◌≡◌, ℕ, List, [], inl, inr, refl, sym, subst, ◌∙◌, ap, append-nil}
 use Rattle.std.specs.Prelude.{Option, Some, None}
 use Rattle.jm_port.specs.Sinks.{appended, AppendsPrefix}
 use Rattle.jm_top.specs.Causes.{IsBeforeWriting}
-use Rattle.jm_top.specs.Endings.{WritesText, IsText, Writes, Reports}
+use Rattle.jm_top.specs.Endings.{WritesText, IsText, Writes, Ends, Reports}
 use Rattle.jm_top.specs.declared.status.Status.{Status}
 use Rattle.jm_top.specs.declared.status.Status.TheVariants.{Done, Usage, BadSpec, BadScript, ReadFailed, WriteFailed, NoMemory}
 
@@ -58,3 +58,9 @@ reports_weaker P Q (BadSpec f x) before after weaker h = h
 reports_weaker P Q (BadScript f x) before after weaker h = h
 reports_weaker P Q (ReadFailed f) before after weaker h = h
 reports_weaker P Q WriteFailed before after weaker h = h
+
+-- where a status was meant with which the work may have ended
+module _ {words : List (List ℕ)} {contents : List ℕ → Option (List ℕ)} {faults later : ℕ} {sink after : ℕ × Option (List ℕ)} {status : Status} where
+  pub reports_ending : (result : Status) (before reported : ℕ × Option (List ℕ)) → Ends words contents faults later sink after status → Reports (λ meant. meant ≡ status) result before reported → Reports (Ends words contents faults later sink after) result before reported
+  reports_ending result before reported ends h =
+      reports_weaker (λ meant. meant ≡ status) (Ends words contents faults later sink after) result before reported (λ meant is. subst (Ends words contents faults later sink after) (sym is) ends) h

@@ -4,16 +4,15 @@ use Rattle.std.specs.Prelude.{IfSome, IsSome}
 use Rattle.jm_port.specs.Faults.{HasRisen}
 use Rattle.jm_model.specs.declared.fault.SpecFault.TheVariants as spec
 use Rattle.jm_model.specs.declared.fault.ScriptFault.TheVariants as script
-use Rattle.jm_model.specs.declared.fault.SpecFault.{SpecFault}
 use Rattle.jm_model.specs.declared.fault.ScriptFault.{ScriptFault}
 use Rattle.jm_script.specs.declared.script.ScriptLine.{ScriptLine}
 use Rattle.jm_top.specs.declared.status.Status.{Status}
 use Rattle.jm_top.specs.declared.status.Status.TheVariants.{Done, Usage, BadSpec, BadScript, ReadFailed, WriteFailed, NoMemory}
 use Rattle.jm_top.specs.Words.{replay_names}
-use Rattle.jm_top.specs.Specifications.{Specification, IsSpecification, IsSpecFault, too_long as spec_too_long, most_bytes}
+use Rattle.jm_top.specs.Specifications.{Specification, IsSpecification, too_long as spec_too_long, most_bytes}
 use Rattle.jm_top.specs.Scripts.{IsScript, IsScriptFault, too_long, in_line}
-use Rattle.jm_top.specs.Jobs.{Job, Refused, Replay, IsJob, no_command, bad_spec, bad_script, replay, Holds, ReachesFile, first_file, second_file, IsCaused, AreTold}
-use Rattle.jm_top.specs.Causes.{IsBeforeWriting, IsSpecUnloaded, IsScriptUnloaded, IsTooLong, IsNoSpecification, IsNoScript}
+use Rattle.jm_top.specs.Jobs.{Refused, Replay, IsJob, no_command, bad_spec, bad_script, replay, Holds, ReachesFile, first_file, second_file, IsCaused, AreTold}
+use Rattle.jm_top.specs.Causes.{IsBeforeWriting, IsSpecUnloaded, IsScriptUnloaded, IsNoSpecification, IsNoScript}
 use Rattle.jm_top.specs.Replays.{IsTextOfReplay}
 use Rattle.jm_top.specs.Endings.{IsText}
 use Rattle.jm_top.proofs.OneReadingLemmas.{one_specification, specification_has_no_fault, same_some, never_some}

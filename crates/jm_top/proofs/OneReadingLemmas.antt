@@ -1,13 +1,12 @@
 -- No bytes say two specifications, or a specification and a fault; and no command has two jobs.
-use Rattle.std.proofs.Common.{◌≡◌, ℕ, ◌<◌, ◌≤◌, List, [], ◌∷◌, length, Option, Some, None, Result, Ok, Err, refl, sym, ap, subst, ◌∙◌, arith}
+use Rattle.std.proofs.Common.{◌≡◌, ℕ, List, [], ◌∷◌, length, Some, None, Result, Ok, Err, refl, sym, ap, subst, ◌∙◌, arith}
 use Rattle.jm_model.specs.declared.fault.SpecFault.{SpecFault}
 use Rattle.jm_model.specs.declared.fault.SpecFault.TheVariants.{Syntax, NotUtf8, OpenText}
 use Rattle.jm_model.specs.declared.fault.SpecError.TheVariants.{Bad}
 use Rattle.jm_text.specs.declared.token.Token.{Token}
-use Rattle.jm_text.specs.Tokens.{AreTokensOf, IsFaultOf, token_list}
+use Rattle.jm_text.specs.Tokens.{AreTokensOf, IsFaultOf}
 use Rattle.jm_reading.specs.Tokens.{name_of}
 use Rattle.jm_events.specs.Events.{EventDefinitions}
-use Rattle.jm_spec.specs.declared.property.HandlerText.{HandlerText}
 use Rattle.jm_spec.specs.declared.property.Property.{Property}
 use Rattle.jm_spec.specs.declared.frame.Frame.{Frame}
 use Rattle.jm_spec.specs.declared.tree.SpecTree.{SpecTree}
@@ -16,10 +15,10 @@ use Rattle.jm_spec.specs.Spelling.{Spells}
 use Rattle.jm_spec.specs.Trees.{IsTreeOf, IsTreeOfTokens, IsFaultOfTokens, TellsProperties}
 use Rattle.jm_spec.proofs.CompleteLemmas.{spelled_is_frame}
 use Rattle.jm_machine.specs.declared.formula.Formula.{Formula}
-use Rattle.jm_machine.specs.Formulas.{category_names, IsReadAs, IsRefusedIn, IsTableFault}
+use Rattle.jm_machine.specs.Formulas.{category_names, IsTableFault}
 use Rattle.jm_machine.specs.Handlers.{handler_names, handlers_fault}
 use Rattle.jm_machine.specs.Meanings.{RuleDefinition, rules_of}
-use Rattle.jm_machine.specs.Compiling.{formula_of, IsFormula, IsCompiledFrom, IsFaultyTree}
+use Rattle.jm_machine.specs.Compiling.{IsFormula, IsCompiledFrom}
 use Rattle.jm_machine.proofs.ReadingLemmas.{one_rules, rules_or_fault}
 use Rattle.jm_top.specs.Specifications.{Specification, IsTold, IsSpecification, IsSpecFault, too_long, no_tokens, in_frame, in_tree}
 

@@ -1,14 +1,13 @@
 -- The history of a script's steps, and its text.
-use Rattle.std.proofs.Common.{◌≡◌, ◌≢◌, ℕ, zero, suc, ◌+◌, ◌*◌, ◌^◌, ◌<◌, ◌≤◌, Bool, true, false, List, [], ◌∷◌, ◌++◌, length, pow-suc, refl, sym, ◌∙◌, ap, subst, arith}
+use Rattle.std.proofs.Common.{◌≡◌, ◌≢◌, ℕ, zero, suc, ◌^◌, ◌<◌, true, List, [], ◌∷◌, ◌++◌, length, pow-suc, refl, sym, ◌∙◌, ap, subst, arith}
 use Rattle.std.specs.Prelude.{All, Option, Some, None, ◌==◌, map, filter, slice_get, unwrap_or, option_map, Result, Ok, Err, IfOk}
 use Rattle.std.specs.Option.{option_map_or}
 use Rattle.std.specs.List.{AllByRecursion}
-use Rattle.std.proofs.lemmas.Option.{slice_get-map, slice_get_within}
+use Rattle.std.proofs.lemmas.Option.{slice_get-map}
 use Rattle.std.proofs.lemmas.List.{length-map}
 use Rattle.std.proofs.lemmas.Bool.Decides.{nat_tests}
-use Rattle.std.proofs.lemmas.List.Elements.{All-from_recursion, recursion_from_All, All-weaker, All-map, All-filter, All-head, All-tail, All-nil}
+use Rattle.std.proofs.lemmas.List.Elements.{All-from_recursion, recursion_from_All, All-weaker, All-map, All-filter, All-head, All-tail}
 use Rattle.jm_model.specs.Bindings.{object_at, objects_of, mask_of}
-use Rattle.jm_model.specs.Meanings.{Meaning}
 use Rattle.jm_model.specs.declared.binding.Binding.{Binding}
 use Rattle.jm_model.specs.declared.step.Step.{Step}
 use Rattle.jm_model.specs.declared.step.Step.TheVariants.{Event, Death, Pass}
@@ -16,9 +15,9 @@ use Rattle.jm_model.specs.declared.step.Outcome.TheVariants.{NoMemory}
 use Rattle.jm_model.specs.declared.step.Entry.{Entry}
 use Rattle.jm_semantics.specs.Scripts as semantics
 use Rattle.jm_semantics.specs.Scripts.{projection_of, is_for, steps_of, IsInterleaving}
-use Rattle.jm_semantics.specs.Legality.{IsLegal, IsStepOf}
+use Rattle.jm_semantics.specs.Legality.{IsLegal}
 use Rattle.jm_core.specs.Cores.{Core, IsEventOf, line_and_step, AreEntriesOf, Replayed}
-use Rattle.jm_events.specs.Events.{EventDefinition, EventDefinitions}
+use Rattle.jm_events.specs.Events.{EventDefinition}
 use Rattle.jm_print.specs.Lexicons.{Lexicon}
 use Rattle.jm_print.specs.Texts.{IsPrintable, history_text}
 use Rattle.jm_script.specs.declared.script.ScriptLine.{ScriptLine}
@@ -38,7 +37,7 @@ use Rattle.jm_top.specs.Reading.{Keeps, IsKept}
 use Rattle.jm_top.specs.Steps.{IsReadScript}
 use Rattle.jm_top.specs.Replays.{IsReplay, IsTextOfReplay, lexicon}
 use Rattle.jm_top.proofs.OneReadingLemmas.{same_some}
-use Rattle.jm_top.proofs.PrintLemmas.{IsNamed, IsNamedEvent, printable}
+use Rattle.jm_top.proofs.PrintLemmas.{IsNamedEvent, printable}
 
 -- ---- bindings
 

@@ -1,5 +1,5 @@
 -- What was read of a script.
-use Rattle.std.proofs.Common.{◌≡◌, ℕ, ◌≤◌, List, [], ◌∷◌, length, Option, Some, None, Result, Ok, Err, refl, sym, ap, subst, ◌∙◌}
+use Rattle.std.proofs.Common.{◌≡◌, ℕ, ◌≤◌, List, [], length, Option, Some, None, refl, sym, ap, subst, ◌∙◌}
 use Rattle.std.specs.Prelude.{All}
 use Rattle.jm_model.specs.declared.fault.ScriptFault.{ScriptFault}
 use Rattle.jm_model.specs.declared.fault.ScriptFault.TheVariants.{BadLine}
@@ -13,9 +13,8 @@ use Rattle.jm_script.specs.Fitting.{FitsCatalog}
 use Rattle.jm_script.specs.Disposals.{disposal_line, IsEvent}
 use Rattle.jm_script.proofs.DisposalLemmas.{script_is_events}
 use Rattle.jm_top.specs.declared.script.Steps.{Steps}
-use Rattle.jm_top.specs.FaultTexts.{script_line}
 use Rattle.jm_top.specs.Specifications.{Specification, most_bytes}
-use Rattle.jm_top.specs.Scripts.{IsScriptFault, in_line, catalog_of, meaning_over, with_disposal, unless_behind, lines_fault}
+use Rattle.jm_top.specs.Scripts.{IsScriptFault, in_line, catalog_of, meaning_over, with_disposal, lines_fault}
 use Rattle.jm_top.specs.Steps.{IsReadScript, IsRefusedAs}
 
 pub same_bad : {x y : ScriptFault} → Bad x ≡ Bad y → x ≡ y

@@ -3,7 +3,7 @@ use Rattle.std.specs.Prelude.{ℕ, ◌≡◌, ◌<◌, List, length, Option, IfS
 use Rattle.jm_model.specs.declared.fault.SpecFault.TheVariants as spec
 use Rattle.jm_model.specs.declared.fault.ScriptFault.TheVariants as script
 use Rattle.jm_top.specs.declared.status.Status.{Status}
-use Rattle.jm_top.specs.declared.status.Status.TheVariants.{Done, Usage, BadSpec, BadScript, ReadFailed, WriteFailed, NoMemory}
+use Rattle.jm_top.specs.declared.status.Status.TheVariants.{Done, BadSpec, BadScript, ReadFailed, WriteFailed, NoMemory}
 use Rattle.jm_top.specs.Specifications.{Specification, IsSpecFault, most_bytes}
 use Rattle.jm_top.specs.Scripts.{IsScriptFault}
 

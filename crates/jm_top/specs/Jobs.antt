@@ -4,7 +4,7 @@ use Rattle.jm_model.specs.declared.fault.SpecFault.{SpecFault}
 use Rattle.jm_model.specs.declared.fault.ScriptFault.{ScriptFault}
 use Rattle.jm_script.specs.declared.script.ScriptLine.{ScriptLine}
 use Rattle.jm_top.specs.declared.status.Status.{Status}
-use Rattle.jm_top.specs.declared.status.Status.TheVariants.{Done, Usage, BadSpec, BadScript, ReadFailed, WriteFailed, NoMemory}
+use Rattle.jm_top.specs.declared.status.Status.TheVariants.{Usage, BadSpec, BadScript, ReadFailed}
 use Rattle.jm_top.specs.Words.{replay_names}
 use Rattle.jm_top.specs.Specifications.{Specification, IsSpecification, IsSpecFault}
 use Rattle.jm_top.specs.Scripts.{IsScript, IsScriptFault}

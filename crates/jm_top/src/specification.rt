@@ -37,12 +37,7 @@ pub(crate) fn read_specification(alloc: Global, bytes: &[u8]) -> Result<Loaded, 
 }
 
 /// Puts together what is kept of a specification.
-fn load(
-    alloc: Global,
-    name: &str,
-    table: EventTable,
-    rules: Rules,
-) -> Result<Loaded, SpecError>
+fn load(alloc: Global, name: &str, table: EventTable, rules: Rules) -> Result<Loaded, SpecError>
     requires { length rules.definition.handlers ≤ 16 }
     ensures name { IfOk result (λ l. string_bytes l.name ≡ name.now) }
     ensures table { IfOk result (λ l. l.table ≡ table) }

@@ -11,10 +11,10 @@ loop-handler-preserved c = λ word place k.
     elim c.if-holds.branch [
       | then-holds w ↦ rw w.hits-is
           (hits_more c.args.goal.now.groups (λ group. EngineHolds c.args.engine.now group word) c.loop-handler.hits c.loop-handler.handler c.group.result c.group.ensures
-            (omega (arith, c.loop-handler-test.true, c.handlers-handler-end.ensures.few)) ((c.holds.ensures word place).0 w.if-holds.true) (c.loop-handler.invariant word place) k)
+          (omega (arith, c.loop-handler-test.true, c.handlers-handler-end.ensures.few)) ((c.holds.ensures word place).0 w.if-holds.true) (c.loop-handler.invariant word place) k)
       | else-holds w ↦ rw w.hits-is
           (hits_same c.args.goal.now.groups (λ group. EngineHolds c.args.engine.now group word) c.loop-handler.hits c.loop-handler.handler c.group.result c.group.ensures
-            (λ holds. false≢true (sym w.if-holds.false ∙ (c.holds.ensures word place).1 holds)) (c.loop-handler.invariant word place) k)
+          (λ holds. false≢true (sym w.if-holds.false ∙ (c.holds.ensures word place).1 holds)) (c.loop-handler.invariant word place) k)
     ]
 
 pub returns : goal.returns

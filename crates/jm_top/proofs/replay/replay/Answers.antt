@@ -1,19 +1,14 @@
-use Rattle.std.proofs.Common.{◌≡◌, ℕ, List, [], ◌∷◌, length, sym, ◌∙◌, ap, subst, All}
-use Rattle.jm_model.specs.declared.step.Step.{Step}
-use Rattle.jm_model.specs.declared.step.Entry.{Entry}
-use Rattle.jm_core.specs.Cores.{Core, IsEventOf}
+use Rattle.std.proofs.Common.{◌≡◌, ℕ, List, length, sym, ◌∙◌, ap, subst, All}
+use Rattle.jm_core.specs.Cores.{Core}
 use Rattle.jm_print.specs.Lexicons.{Lexicon, lexicon_of}
 use Rattle.std.specs.Prelude.{IfOk}
 use Rattle.jm_print.specs.Texts.{IsPrintable, history_text}
-use Rattle.jm_script.specs.Fitting.{FitsSpecification}
 use Rattle.jm_top.specs.declared.specification.Loaded.{Loaded}
-use Rattle.jm_top.specs.declared.script.Steps.{Steps}
 use Rattle.jm_top.specs.Specifications.{Specification}
 use Rattle.jm_top.specs.Scripts.{catalog_of}
 use Rattle.jm_machine.specs.RuleSets.{CompiledRules}
 use Rattle.jm_top.specs.Reading.{IsKept}
-use Rattle.jm_top.specs.Steps.{IsReadScript}
-use Rattle.jm_top.specs.Replays.{IsReplay, lexicon}
+use Rattle.jm_top.specs.Replays.{lexicon}
 use Rattle.jm_top.proofs.ReplayLemmas.{replayable, replayed, replay_printable, replay_text}
 use Rattle.jm_top.proofs.replay.replay.Goals as goal
 

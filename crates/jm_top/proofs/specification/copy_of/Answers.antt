@@ -1,4 +1,4 @@
-use Rattle.std.proofs.Common.{◌++◌, ◌∷◌, [], ◌∙◌, sym, ap, take}
+use Rattle.std.proofs.Common.{◌∙◌, sym, ap, take}
 use Rattle.jm_events.specs.Names.{with_name}
 use Rattle.jm_events.proofs.NameLemmas.{number_of-take, take-name, with_name-new}
 use Rattle.jm_top.proofs.specification.copy_of.Goals as goal

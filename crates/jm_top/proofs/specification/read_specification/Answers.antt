@@ -1,8 +1,7 @@
-use Rattle.std.proofs.Common.{Result, Ok, Err, IfOk, ◌≡◌, ◌+◌, ◌<◌, ◌≤◌, ◌^◌, length, sym, ◌∙◌, ap, subst, arith}
+use Rattle.std.proofs.Common.{Result, Ok, Err, IfOk, ◌≡◌, length, sym, ◌∙◌, ap, subst, arith}
 use Rattle.std.proofs.lemmas.Result.{err_from_is_err_and}
-use Rattle.jm_model.specs.declared.fault.SpecError.TheVariants.{Bad}
 use Rattle.jm_text.specs.Tokens.{IsFaultOf}
-use Rattle.jm_top.specs.Specifications.{no_tokens, in_frame, most_bytes}
+use Rattle.jm_top.specs.Specifications.{no_tokens, in_frame}
 use Rattle.jm_model.specs.declared.fault.SpecError.{SpecError}
 use Rattle.jm_machine.specs.Compiling.{IsNotCompiled}
 use Rattle.jm_machine.specs.RuleSets.{CompiledRules}

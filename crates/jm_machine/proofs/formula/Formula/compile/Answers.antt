@@ -1,13 +1,10 @@
-use Rattle.std.proofs.Common.{◌≡◌, Result, Ok, sym, ◌∙◌, ap, subst, length, IfOk}
+use Rattle.std.proofs.Common.{◌≡◌, Result, Ok, sym, ◌∙◌, subst, IfOk}
 use Rattle.jm_table.specs.Tables.{Transitions}
 use Rattle.jm_model.specs.declared.fault.SpecError.{SpecError}
 use Rattle.jm_fsm.specs.Machines as fsm
 use Rattle.jm_ere.specs.Groups as ere
 use Rattle.jm_ptltl.specs.Tables as past_tables
-use Rattle.jm_machine.specs.declared.formula.Formula.TheVariants.{Grammatical}
-use Rattle.jm_machine.specs.Engines.{letters_of_engine, categories_of_engine, IsCompiled, IsParserOf}
-use Rattle.jm_machine.proofs.OptionLemmas.{ok_more}
-use Rattle.jm_machine.proofs.FormulaLemmas.{machine_count, machine_compiled, regular_compiled, temporal_compiled, grammar_compiled, parser_letters, parser_categories}
+use Rattle.jm_machine.proofs.FormulaLemmas.{machine_count, machine_compiled, regular_compiled, temporal_compiled}
 use Rattle.jm_machine.proofs.formula.Formula.compile.Goals as goal
 use Rattle.jm_machine.proofs.formula.Formula.compile.Goals.{in-Machine, in-Regular, in-Temporal}
 

@@ -11,11 +11,11 @@ returns-in_err-handlers-clause-err c =
     let p = err_from_is_err_and c.from_residual-in_err-handlers.result c.from_residual-in_err-handlers.ensures.1 in
     rw (p.1, p.2)
     (handlers_refused c.args.bytes.now c.args.tokens.now c.range_of-text.result.now c.args.tree.now c.in_ok-formula.formula c.range_of-text.ensures c.in_ok-formula.ensures.ok c.in-Ok.categories c.as_slice-texts.result.now _
-      c.in-Ok.ensures.value c.as_slice-texts.ensures.value c.in_err-handlers.ensures.checked)
+    c.in-Ok.ensures.value c.as_slice-texts.ensures.value c.in_err-handlers.ensures.checked)
 
 pub returns-in_err-engine-clause-err : goal.returns-in_err-engine-clause-err
 returns-in_err-engine-clause-err c =
     let p = err_from_is_err_and c.from_residual-in_err-engine.result c.from_residual-in_err-engine.ensures.1 in
     rw (p.1, p.2)
     (table_refused c.args.bytes.now c.args.tokens.now c.range_of-text.result.now c.args.tree.now c.in_ok-formula.formula c.range_of-text.ensures c.in_ok-formula.ensures.ok c.in-Ok.categories c.as_slice-texts.result.now _
-      c.in-Ok.ensures.value c.as_slice-texts.ensures.value c.in_ok-handlers.ensures.checked c.in_err-engine.ensures.err)
+    c.in-Ok.ensures.value c.as_slice-texts.ensures.value c.in_ok-handlers.ensures.checked c.in_err-engine.ensures.err)

@@ -1,4 +1,3 @@
-use Rattle.std.proofs.Common.{length}
 use Rattle.jm_events.specs.Names.{number_of}
 use Rattle.jm_machine.specs.Formulas.{category_names}
 use Rattle.jm_machine.specs.Engines.{categories_of_engine, EngineHolds}
@@ -14,6 +13,6 @@ pub returns-clause-hits : goal.returns-clause-hits
 returns-clause-hits c =
     rw (← c.self.view_is)
     (λ word place k.
-        let same = looked_up (λ group. EngineHolds c.self.inside.engine group word) (number_of (category_names c.self.inside.formula)) c.self.inside.goal.groups c.self.inside.handlers k c.self.invariant.0.groups in
-        let hits = c.handlers_at.ensures word place k in
-        (λ set. same.0 (hits.0 set), λ held. hits.1 (same.1 held)))
+    let same = looked_up (λ group. EngineHolds c.self.inside.engine group word) (number_of (category_names c.self.inside.formula)) c.self.inside.goal.groups c.self.inside.handlers k c.self.invariant.0.groups in
+    let hits = c.handlers_at.ensures word place k in
+    (λ set. same.0 (hits.0 set), λ held. hits.1 (same.1 held)))
