@@ -1,5 +1,5 @@
 -- The property of a specification, in whichever logic: its categories, when one holds of a word, and what tokens spell it.
-use Rattle.std.specs.Prelude.{ℕ, zero, suc, ◌≡◌, List, [], ◌∷◌, codes}
+use Rattle.std.specs.Prelude.{ℕ, zero, suc, Bool, true, false, ◌≡◌, List, [], ◌∷◌, codes}
 use Rattle.jm_model.specs.declared.step.Letter.{Letter}
 use Rattle.jm_model.specs.declared.fault.SpecFault.{SpecFault}
 use Rattle.jm_model.specs.declared.fault.SpecFault.TheVariants.{TooManyStates}
@@ -25,6 +25,10 @@ use Rattle.jm_grammar.specs.Grammars.{GrammarDefinition}
 use Rattle.jm_grammar.specs.Derivations as grammar
 use Rattle.jm_grammar.specs.Trees as grammar_readings
 use Rattle.jm_earley.specs.Futures.{IsHopeless}
+
+abbrev pub is_grammar : Formula → Bool
+is_grammar (Grammatical g) = true
+is_grammar _ = false
 
 -- the categories of a grammar
 abbrev pub grammar_categories : List (List ℕ)

@@ -1,12 +1,13 @@
 -- What a specification means.
-use Rattle.std.specs.Prelude.{ℕ, ◌^◌, ◌-◌, Bool, false, List, length, map, filter, IsSomeAnd, slice_get, unwrap_or, if◌then◌else◌}
-use Rattle.std.specs.List.{range_with_len}
+use Rattle.std.specs.Prelude.{ℕ, ◌^◌, ◌-◌, Bool, false, ◌&&◌, codes, List, length, map, filter, IsSomeAnd, slice_get, unwrap_or, if◌then◌else◌}
+use Rattle.std.specs.List.{range_with_len, list_any}
+use Rattle.std.specs.Str.{bytes_eq}
 use Rattle.std.specs.Option.{option_map_or}
 use Rattle.jm_model.specs.Meanings.{Meaning}
 use Rattle.jm_events.specs.Names.{number_of}
 use Rattle.jm_events.specs.Events.{EventDefinitions}
 use Rattle.jm_machine.specs.declared.formula.Formula.{Formula}
-use Rattle.jm_machine.specs.Formulas.{category_names, CategoryHolds}
+use Rattle.jm_machine.specs.Formulas.{category_names, is_grammar, CategoryHolds}
 
 -- The rules of a specification: the parameters of each letter, as a mask; the creation letters; the parameters that a reported
 -- instance has to bind, as a mask; the property; and the name of the category that each handler is for.
@@ -21,6 +22,10 @@ pub record RuleDefinition : Type 0 where
 abbrev pub IsNamedCategory : RuleDefinition → List ℕ → List ℕ → Type 0
 IsNamedCategory r word name = IsSomeAnd (number_of (category_names r.formula) name) (λ category. CategoryHolds r.formula (length r.masks) category word)
 
+-- the property is a grammar, and `fail` is handled
+abbrev pub is_failing_grammar : RuleDefinition → Bool
+is_failing_grammar r = is_grammar r.formula && list_any (bytes_eq (codes "fail")) r.handlers
+
 -- what they mean: handler k is for the words of which its category holds
 abbrev pub rules_meaning : RuleDefinition → Meaning
 rules_meaning r = record {
@@ -31,7 +36,7 @@ rules_meaning r = record {
   handlers = length r.handlers;
   property_of = λ k. 0;
   Holds = λ word k. IsSomeAnd (slice_get r.handlers k) (IsNamedCategory r word);
-  coarse_cut = λ j. false;
+  coarse_cut = λ j. is_failing_grammar r;
 }
 
 -- ---- the rules that events, modifiers, a property and handlers say
