@@ -6,12 +6,13 @@ use Rattle.std.proofs.lemmas.List.Quantifiers.{position-Some}
 use Rattle.std.proofs.lemmas.Option.{slice_get_within, slice_get-get_or}
 use Rattle.jm_model.specs.Meanings.{Meaning, IsCreated, IsHit}
 use Rattle.jm_events.specs.Names.{number_of}
+use Rattle.jm_earley.specs.Charts.{ChartsDefinition, ChartDefinition, IsChartOf}
 use Rattle.jm_machine.specs.declared.run.Run.{Run}
 use Rattle.jm_machine.specs.declared.engine.Engine.{Engine}
 use Rattle.jm_machine.specs.declared.engine.Engine.TheVariants.{States, Parses}
 use Rattle.jm_machine.specs.declared.engine.Place.{Place}
 use Rattle.jm_machine.specs.declared.engine.Place.TheVariants.{State, Parse}
-use Rattle.jm_machine.specs.Engines.{letters_of_engine, IsPlaceOf, EngineHolds}
+use Rattle.jm_machine.specs.Engines.{letters_of_engine, IsPlaceOf, IsChartPlace, EngineHolds}
 use Rattle.jm_machine.specs.Formulas.{category_names, CategoryHolds}
 use Rattle.jm_machine.specs.Meanings.{RuleDefinition, IsNamedCategory, rules_meaning}
 use Rattle.jm_machine.specs.RuleSets.{CompiledRules, IsRuleSet, IsHandledBy}
@@ -62,8 +63,13 @@ pub created_first : (r : RuleDefinition) (b : Bool) (w : List ℕ) (e : ℕ) →
 created_first r b [] e none h = h
 created_first r b (d ∷ w) e none h = absurd cc
 
+-- the place of a chart of a word is one of the word
+pub chart_place : (c : ChartsDefinition) (chart : ChartDefinition) (place : Place) (w : List ℕ) → IsChartPlace chart place → All (λ letter. letter < length c.params) w → IsChartOf c w chart → IsPlaceOf (Parses c) place w
+chart_place c chart (State s) w here below h = absurd here
+chart_place c chart (Parse b) w here below h = (below, subst (IsChartOf c w) (sym here) h)
+
 -- a place is that of a word of letters that are there
-place_letters : (engine : Engine) (place : Place) (w : List ℕ) → IsPlaceOf engine place w → All (λ letter. letter < letters_of_engine engine) w
+pub place_letters : (engine : Engine) (place : Place) (w : List ℕ) → IsPlaceOf engine place w → All (λ letter. letter < letters_of_engine engine) w
 place_letters (States t) (State state) w h = h.0
 place_letters (States t) (Parse chart) w h = absurd h
 place_letters (Parses c) (Parse chart) w h = h.0

@@ -3,7 +3,7 @@ use Rattle.std.specs.Prelude.{ℕ, ◌≡◌, ◌<◌, ◌↔◌, List, All, len
 use Rattle.jm_table.specs.Tables.{IsWord, IsInGroup, state_after_of}
 use Rattle.jm_grammar.specs.Grammars.{GrammarDefinition}
 use Rattle.jm_grammar.specs.Derivations as grammar
-use Rattle.jm_earley.specs.Charts.{AreBelow, IsChartOf}
+use Rattle.jm_earley.specs.Charts.{ChartDefinition, AreBelow, IsChartOf}
 use Rattle.jm_machine.specs.declared.engine.Engine.{Engine}
 use Rattle.jm_machine.specs.declared.engine.Engine.TheVariants.{States, Parses}
 use Rattle.jm_machine.specs.declared.engine.Place.{Place}
@@ -24,8 +24,13 @@ categories_of_engine (Parses c) = 2
 -- the word leads to the place
 abbrev pub IsPlaceOf : Engine → Place → List ℕ → Type 0
 IsPlaceOf (States t) (State s) word = IsWord t word × (s ≡ state_after_of t word)
-IsPlaceOf (Parses c) (Parse chart) word = All (λ letter. letter < length c.params) word × IsChartOf c word chart
+IsPlaceOf (Parses c) (Parse chart) word = All (λ letter. letter < length c.params) word × IsChartOf c word chart.value
 IsPlaceOf _ _ word = ⊥
+
+-- the place has this chart
+abbrev pub IsChartPlace : ChartDefinition → Place → Type 0
+IsChartPlace chart (State s) = ⊥
+IsChartPlace chart (Parse here) = here.value ≡ chart
 
 -- the category of this number holds of the word, by what runs the property
 abbrev pub EngineHolds : Engine → ℕ → List ℕ → Type 0

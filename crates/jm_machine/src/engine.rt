@@ -1,12 +1,14 @@
 //! What runs the property of a specification.
 ghost use Rattle.std.specs.Prelude.{ℕ, ◌≡◌, ◌<◌, ◌↔◌, ◌++◌, ◌∷◌, [], List, IsTrue, IfOk};
 ghost use Rattle.jm_table.specs.Tables.{IsTable, next_of, IsInGroup};
+ghost use Rattle.jm_earley.specs.Charts.{IsChartOf};
 ghost use Rattle.jm_machine.specs.Formulas.{GrammarHolds};
-ghost use Rattle.jm_machine.specs.Engines.{letters_of_engine, categories_of_engine, IsPlaceOf, EngineHolds};
+ghost use Rattle.jm_machine.specs.Engines.{letters_of_engine, categories_of_engine, IsPlaceOf, IsChartPlace, EngineHolds};
 
 use jm_earley::{Chart, Charts};
 use jm_model::{Letter, NoMemory};
 use jm_table::Table;
+use std::alloc::Global;
 
 /// A table of states, or the charts of a grammar.
 #[derive(Drop)]
@@ -17,37 +19,37 @@ pub enum Engine {
     Parses(Charts),
 }
 
-/// Where a word leads: a state, or the chart of the word.
+/// Where a word leads: a state, or the chart of the word. It takes no more room than a pointer and a mark.
 #[derive(Drop)]
 pub enum Place {
     /// A state of the table.
     State(u16),
     /// A chart.
-    Parse(Chart),
+    Parse(Box<Chart>),
 }
 
 impl Engine {
     /// The place of the empty word.
-    pub(crate) fn begin(&self) -> Result<Place, NoMemory>
+    pub(crate) fn begin(&self, alloc: Global) -> Result<Place, NoMemory>
         ensures { IfOk result (λ place. IsPlaceOf self.now place []) }
     {
         match self {
             Engine::States(_) => Ok(Place::State(0)),
             Engine::Parses(charts) => match charts.begin() {
-                Ok(chart) => Ok(Place::Parse(chart)),
+                Ok(chart) => place_of(alloc, chart),
                 Err(error) => Err(error),
             },
         }
     }
 
     /// A place of the same words.
-    pub(crate) fn copy(&self, place: &Place) -> Result<Place, NoMemory>
-        ensures { IfOk result (λ copy. copy ≡ place.now) }
+    pub(crate) fn copy(&self, alloc: Global, place: &Place) -> Result<Place, NoMemory>
+        ensures { IfOk result (λ copy. (word : List ℕ) → IsPlaceOf self.now place.now word → IsPlaceOf self.now copy word) }
     {
         match (self, place) {
             (_, Place::State(state)) => Ok(Place::State(*state)),
             (Engine::Parses(charts), Place::Parse(chart)) => match charts.copy(chart) {
-                Ok(chart) => Ok(Place::Parse(chart)),
+                Ok(chart) => place_of(alloc, chart),
                 Err(error) => Err(error),
             },
             _ => Err(NoMemory),
@@ -55,7 +57,12 @@ impl Engine {
     }
 
     /// The place of the words that have one letter more.
-    pub(crate) fn next(&self, place: &Place, letter: Letter) -> Result<Place, NoMemory>
+    pub(crate) fn next(
+        &self,
+        alloc: Global,
+        place: &Place,
+        letter: Letter,
+    ) -> Result<Place, NoMemory>
         requires { letter.0 < letters_of_engine self.now }
         ensures { IfOk result (λ next. (word : List ℕ) → IsPlaceOf self.now place.now word → IsPlaceOf self.now next (word ++ letter.0 ∷ [])) }
     {
@@ -64,7 +71,7 @@ impl Engine {
                 Ok(Place::State(next_state(table, *state, letter)))
             }
             (Engine::Parses(charts), Place::Parse(chart)) => match charts.next(chart, letter) {
-                Ok(chart) => Ok(Place::Parse(chart)),
+                Ok(chart) => place_of(alloc, chart),
                 Err(error) => Err(error),
             },
             _ => Err(NoMemory),
@@ -81,6 +88,16 @@ impl Engine {
             (Engine::Parses(charts), Place::Parse(chart)) => parse_holds(charts, chart, category),
             _ => false,
         }
+    }
+}
+
+/// The place of a chart.
+fn place_of(alloc: Global, chart: Chart) -> Result<Place, NoMemory>
+    ensures { IfOk result (IsChartPlace chart) }
+{
+    match Box::new(alloc, chart) {
+        Ok(chart) => Ok(Place::Parse(chart)),
+        Err(_) => Err(NoMemory),
     }
 }
 
@@ -108,7 +125,7 @@ fn is_in_group(table: &Table, state: u16, group: u16) -> bool
 
 /// Whether a category of a grammar holds of the chart's words.
 fn parse_holds(charts: &Charts, chart: &Chart, category: u16) -> bool
-    ensures { (word : List ℕ) → IsPlaceOf (Engine.Parses charts.now) (Place.Parse chart.now) word → IsTrue result ↔ GrammarHolds charts.now.grammar category word }
+    ensures { (word : List ℕ) → IsChartOf charts.now word chart.now → IsTrue result ↔ GrammarHolds charts.now.grammar category word }
 {
     match category {
         0 => charts.matches(chart),

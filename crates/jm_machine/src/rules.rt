@@ -137,7 +137,7 @@ impl Rules {
         requires { letter.0 < length self.now.definition.masks }
         ensures next { IfOk result (λ next. (word : List ℕ) → IsPlaceOf self.now.engine place.now word → IsPlaceOf self.now.engine next (word ++ letter.0 ∷ [])) }
     {
-        self.engine.next(place, letter)
+        self.engine.next(*self.masks.allocator(), place, letter)
     }
 
     /// Whether a word may begin with the letter.
@@ -197,7 +197,7 @@ impl Monitor for Rules {
     }
 
     fn begin(&self) -> Result<Run, NoMemory> {
-        let place = self.engine.begin()?;
+        let place = self.engine.begin(*self.masks.allocator())?;
         Ok(Run {
             place,
             moved: false,
@@ -206,7 +206,7 @@ impl Monitor for Rules {
     }
 
     fn copy(&self, state: &Run) -> Result<Run, NoMemory> {
-        let place = self.engine.copy(&state.place)?;
+        let place = self.engine.copy(*self.masks.allocator(), &state.place)?;
         Ok(Run {
             place,
             moved: state.moved,
