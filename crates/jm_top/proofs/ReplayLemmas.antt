@@ -8,6 +8,7 @@ use Rattle.std.proofs.lemmas.List.{length-map}
 use Rattle.std.proofs.lemmas.Bool.Decides.{nat_tests}
 use Rattle.std.proofs.lemmas.List.Elements.{All-from_recursion, recursion_from_All, All-weaker, All-map, All-filter, All-head, All-tail}
 use Rattle.jm_model.specs.Bindings.{object_at, objects_of, mask_of}
+use Rattle.jm_model.specs.Meanings.{Meaning}
 use Rattle.jm_model.specs.declared.binding.Binding.{Binding}
 use Rattle.jm_model.specs.declared.step.Step.{Step}
 use Rattle.jm_model.specs.declared.step.Step.TheVariants.{Event, Death, Pass}
@@ -28,14 +29,13 @@ use Rattle.jm_script.specs.Events.{mask_at}
 use Rattle.jm_script.specs.Fitting.{FitsSpecification}
 use Rattle.jm_script.specs.Disposals.{IsEvent}
 use Rattle.jm_machine.specs.Meanings.{rules_meaning}
-use Rattle.jm_machine.specs.RuleSets.{CompiledRules}
 use Rattle.jm_top.specs.declared.specification.Loaded.{Loaded}
 use Rattle.jm_top.specs.declared.script.Steps.{Steps}
 use Rattle.jm_top.specs.Specifications.{Specification, meaning_of}
 use Rattle.jm_top.specs.Scripts.{catalog_of}
 use Rattle.jm_top.specs.Reading.{Keeps, IsKept}
 use Rattle.jm_top.specs.Steps.{IsReadScript}
-use Rattle.jm_top.specs.Replays.{IsReplay, IsTextOfReplay, lexicon}
+use Rattle.jm_top.specs.Replays.{IsReplayOf, IsPrintedReplay, lexicon}
 use Rattle.jm_top.proofs.OneReadingLemmas.{same_some}
 use Rattle.jm_top.proofs.PrintLemmas.{IsNamedEvent, printable}
 
@@ -175,37 +175,48 @@ woven own h each done = record {
     list_of (suc k) less = absurd (omega (arith, less))
 
 -- what a core without history has after a replay of the steps
-pub replayed : (s : Specification) (l : Loaded) (x : Steps) (own : List (ℕ × Step)) (before after : Core CompiledRules) (h : List Entry) → IsKept s l
-    → own ≡ projection_of (script_of x.script) 0 → before.definition ≡ l.rules → before.entries ≡ [] → Replayed 0 own before after
-    → IsLegal (rules_meaning after.definition.definition) after.entries → h ≡ after.entries → IsReplay s x.script h
-replayed s l x own before after h kept is rules none done legal same =
-    let all : h ≡ done.added = same ∙ ap (λ (c : Core CompiledRules). c.entries) done.grown ∙ ap (λ es. es ++ done.added) none in
-    let meant : after.definition ≡ l.rules = ap (λ (c : Core CompiledRules). c.definition) done.grown ∙ rules in
+pub replay_of : {D : Type 0} (mean : D → Meaning) (rules : D) (objects : ℕ) (own : List (ℕ × Step)) (before after : Core D) (h : List Entry) → before ≡ record { definition = rules; objects = objects; entries = [] } → Replayed 0 own before after
+    → IsLegal (mean after.definition) after.entries → h ≡ after.entries → IsReplayOf (mean rules) own h
+replay_of {D} mean rules objects own before after h new done legal same =
+    let all : h ≡ done.added = same ∙ ap (λ (c : Core D). c.entries) done.grown ∙ ap (λ (c : Core D). c.entries ++ done.added) new in
+    let meant : after.definition ≡ rules = ap (λ (c : Core D). c.definition) done.grown ∙ ap (λ (c : Core D). c.definition) new in
     record {
-      legal = subst (λ es. IsLegal (meaning_of s) es) (sym same) (subst (λ m. IsLegal m after.entries) (ap (λ (x : CompiledRules). rules_meaning x.definition) meant ∙ same_meaning s l kept.keeps) legal);
-      woven = subst (λ ss. IsInterleaving h (ss ∷ [])) is (subst (λ es. IsInterleaving es (own ∷ [])) (sym all) (woven own done.added done.each done.done));
+      legal = subst (λ es. IsLegal (mean rules) es) (sym same) (subst (λ m. IsLegal m after.entries) (ap mean meant) legal);
+      woven = subst (λ es. IsInterleaving es (own ∷ [])) (sym all) (woven own done.added done.each done.done);
     }
 
+-- the steps of its entries
+steps_in_order : (own : List (ℕ × Step)) (h : List Entry) → IsInterleaving h (own ∷ []) → map line_and_step h ≡ own
+steps_in_order own h is =
+    let callers : All (λ (x : Entry). x.caller ≡ 0) h = All-weaker (λ (x : Entry). x.caller < 1) (λ (x : Entry). x.caller ≡ 0) (λ x less. omega (arith, less)) h is.callers in
+    sym (same_some (is.each 0 (omega arith)) ∙ ap (λ xs. map line_and_step xs) (one_caller h (recursion_from_All (λ (x : Entry). x.caller ≡ 0) h callers)))
+
 -- it can be printed
-pub replay_printable : (s : Specification) (l : Loaded) (bytes : List ℕ) (x : Steps) (own : List (ℕ × Step)) (before after : Core CompiledRules) (h : List Entry) → IsKept s l → IsReadScript s bytes x
+pub replay_printable : (s : Specification) (l : Loaded) (bytes : List ℕ) (x : Steps) (own : List (ℕ × Step)) (h : List Entry) → IsKept s l → IsReadScript s bytes x
     → own ≡ projection_of (script_of x.script) 0
     → All (λ step. FitsSpecification (catalog_of s) (length x.objects) 0 step.1) own
-    → before.entries ≡ [] → Replayed 0 own before after → h ≡ after.entries
-    → IsReplay s x.script h → All (IsPrintable (lexicon s x.objects)) h
-replay_printable s l bytes x own before after h kept read is fits none done same valid =
-    let all : h ≡ done.added = same ∙ ap (λ (c : Core CompiledRules). c.entries) done.grown ∙ ap (λ es. es ++ done.added) none in
+    → IsReplayOf (meaning_of s) own h → All (IsPrintable (lexicon s x.objects)) h
+replay_printable s l bytes x own h kept read is fits valid =
     let small = small_params s l kept in
     let names = lexicon s x.objects in
     let steps : All (λ (step : ℕ × Step). IsNamedEvent names step.1) own =
     both_of_all (λ (step : ℕ × Step). FitsSpecification (catalog_of s) (length x.objects) 0 step.1) (λ (step : ℕ × Step). IsEventStep step.1) (λ (step : ℕ × Step). IsNamedEvent names step.1)
     (λ step. fitting_named s x.objects step.1 small) own fits (subst (λ ss. All (λ (step : ℕ × Step). IsEventStep step.1) ss) (sym is) (events_projected x.script read.events)) in
-    let entries : All (λ (e : Entry). IsNamedEvent names e.step) done.added =
-    All-from_recursion (λ (e : Entry). IsNamedEvent names e.step) done.added
-    (named_entries names done.added (recursion_from_All (λ (step : ℕ × Step). IsNamedEvent names step.1) (map line_and_step done.added) (subst (λ ss. All (λ (step : ℕ × Step). IsNamedEvent names step.1) ss) (sym done.each.in_order) steps))) in
-    printable names (meaning_of s) (omega arith) h (subst (λ es. All (λ (e : Entry). IsNamedEvent names e.step) es) (sym all) entries) valid.woven.done valid.legal
+    let entries : All (λ (e : Entry). IsNamedEvent names e.step) h =
+    All-from_recursion (λ (e : Entry). IsNamedEvent names e.step) h
+    (named_entries names h (recursion_from_All (λ (step : ℕ × Step). IsNamedEvent names step.1) (map line_and_step h) (subst (λ ss. All (λ (step : ℕ × Step). IsNamedEvent names step.1) ss) (sym (steps_in_order own h valid.woven)) steps))) in
+    printable names (meaning_of s) (omega arith) h entries valid.woven.done valid.legal
 
 -- its text, where there is one
-pub replay_text : {T E : Type 0} (items : T → List ℕ) (s : Specification) (script : List ScriptLine) (objects : List (List ℕ)) (h : List Entry) → IsReplay s script h
-    → (made : Result T E) → IfOk made (λ text. items text ≡ history_text (lexicon s objects) h) → IfOk made (λ text. IsTextOfReplay s script objects (items text))
-replay_text items s script objects h valid (Ok text) printed = record { history = h; replayed = valid; printed = printed }
-replay_text items s script objects h valid (Err e) printed = tt
+pub replay_printed : {T E : Type 0} (items : T → List ℕ) (m : Meaning) (steps : List (ℕ × Step)) (l : Lexicon) (h : List Entry) → IsReplayOf m steps h
+    → (made : Result T E) → IfOk made (λ text. items text ≡ history_text l h) → IfOk made (λ text. IsPrintedReplay m steps l (items text))
+replay_printed items m steps l h valid (Ok text) printed = record { history = h; replayed = valid; printed = printed }
+replay_printed items m steps l h valid (Err e) printed = tt
+
+-- a text of the same meaning, steps and names
+pub printed_same : {T E : Type 0} (items : T → List ℕ) (made : Result T E) (m n : Meaning) (steps other : List (ℕ × Step)) (l k : Lexicon) → m ≡ n → steps ≡ other → l ≡ k
+    → IfOk made (λ text. IsPrintedReplay m steps l (items text)) → IfOk made (λ text. IsPrintedReplay n other k (items text))
+printed_same {T} {E} items made m n steps other l k meant stepped named h =
+    subst (λ q. IfOk made (λ text. IsPrintedReplay n other q (items text))) named
+    (subst (λ ss. IfOk made (λ text. IsPrintedReplay n ss l (items text))) stepped
+    (subst (λ q. IfOk made (λ text. IsPrintedReplay q steps l (items text))) meant h))

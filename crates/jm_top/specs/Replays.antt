@@ -1,5 +1,7 @@
 -- The text of the command `replay`.
 use Rattle.std.specs.Prelude.{ℕ, ◌≡◌, List, [], ◌∷◌}
+use Rattle.jm_model.specs.Meanings.{Meaning}
+use Rattle.jm_model.specs.declared.step.Step.{Step}
 use Rattle.jm_model.specs.declared.step.Entry.{Entry}
 use Rattle.jm_semantics.specs.Scripts.{projection_of, IsInterleaving}
 use Rattle.jm_semantics.specs.Legality.{IsLegal}
@@ -10,21 +12,28 @@ use Rattle.jm_script.specs.Projections.{script_of}
 use Rattle.jm_top.specs.Specifications.{Specification, meaning_of}
 use Rattle.jm_top.specs.Jobs.{Job, Refused, Replay}
 
--- the history is legal for what the specification means, and an interleaving of the script's steps for it, which are those
--- of the one caller
-pub record IsReplay (s : Specification) (script : List ScriptLine) (h : List Entry) : Type 0 where
-  pub legal : IsLegal (meaning_of s) h
-  pub woven : IsInterleaving h (projection_of (script_of script) 0 ∷ [])
+-- the history is legal for what is meant, and an interleaving of these steps, which are those of the one caller
+pub record IsReplayOf (m : Meaning) (steps : List (ℕ × Step)) (h : List Entry) : Type 0 where
+  pub legal : IsLegal m h
+  pub woven : IsInterleaving h (steps ∷ [])
+
+-- the text is the whole printed history of such a replay
+pub record IsPrintedReplay (m : Meaning) (steps : List (ℕ × Step)) (l : Lexicon) (text : List ℕ) : Type 0 where
+  pub history : List Entry
+  pub replayed : IsReplayOf m steps history
+  pub printed : text ≡ history_text l history
+
+-- what is meant is what the specification means, and the steps are those of the script for it
+abbrev pub IsReplay : Specification → List ScriptLine → List Entry → Type 0
+IsReplay s script h = IsReplayOf (meaning_of s) (projection_of (script_of script) 0) h
 
 -- the names that it is printed with
 abbrev pub lexicon : Specification → List (List ℕ) → Lexicon
 lexicon s objects = lexicon_of s.name s.table s.rules.handlers objects
 
--- the text is the whole printed history of a replay
-pub record IsTextOfReplay (s : Specification) (script : List ScriptLine) (objects : List (List ℕ)) (text : List ℕ) : Type 0 where
-  pub history : List Entry
-  pub replayed : IsReplay s script history
-  pub printed : text ≡ history_text (lexicon s objects) history
+-- the text is the whole printed history of a replay of the script
+abbrev pub IsTextOfReplay : Specification → List ScriptLine → List (List ℕ) → List ℕ → Type 0
+IsTextOfReplay s script objects text = IsPrintedReplay (meaning_of s) (projection_of (script_of script) 0) (lexicon s objects) text
 
 -- the text is that of the job, which isn't refused
 abbrev pub IsTextOf : Job → List ℕ → Type 0

@@ -1,14 +1,19 @@
 //! Replaying a script.
-ghost use Rattle.std.specs.Prelude.{ℕ, List, IfOk};
+ghost use Rattle.std.specs.Prelude.{ℕ, List, All, IfOk, length};
+ghost use Rattle.jm_model.specs.declared.step.Entry.{Entry};
+ghost use Rattle.jm_core.specs.Cores.{IsEventOf};
+ghost use Rattle.jm_print.specs.Lexicons.{lexicon_of};
+ghost use Rattle.jm_print.specs.Texts.{IsPrintable};
 ghost use Rattle.jm_top.specs.Specifications.{Specification};
 ghost use Rattle.jm_top.specs.Reading.{IsKept};
 ghost use Rattle.jm_top.specs.Steps.{IsReadScript};
-ghost use Rattle.jm_top.specs.Replays.{IsTextOfReplay};
+ghost use Rattle.jm_top.specs.Replays.{IsReplayOf, IsPrintedReplay, IsTextOfReplay};
 
 use crate::script::Steps;
 use crate::specification::Loaded;
 use jm_core::Prop;
-use jm_model::NoMemory;
+use jm_events::{EventTable, Names};
+use jm_model::{Monitor, NoMemory, Step};
 use jm_print::render_history;
 use jm_script::project;
 use std::alloc::Global;
@@ -26,14 +31,43 @@ pub(crate) fn replay(alloc: Global, spec: Loaded, steps: &Steps) -> Result<Vec<u
         rules,
     } = spec;
     let own = project(alloc, &steps.script, 0)?;
-    let mut prop = Prop::new(alloc, rules, steps.objects.len())?;
-    prop.replay(0, own.as_slice())?;
+    let titles = Titles {
+        name: name.as_str(),
+        table: &table,
+        handlers: &handlers,
+        objects: &steps.objects,
+    };
+    history_of(alloc, rules, own.as_slice(), titles)
+}
+
+/// The names that a history is printed with.
+#[derive(Clone, Copy)]
+struct Titles<'a> {
+    name: &'a str,
+    table: &'a EventTable,
+    handlers: &'a Names,
+    objects: &'a Names,
+}
+
+/// The printed history of these steps of one caller, by these rules.
+fn history_of<M: Monitor>(
+    alloc: Global,
+    rules: M,
+    steps: &[(u32, Step)],
+    titles: Titles<'_>,
+) -> Result<Vec<u8>, NoMemory>
+    requires events { All (λ step. IsEventOf (M.meaning (M.definition rules)) (length titles.objects.now) step.1) steps.now }
+    requires printable { (h : List Entry) → IsReplayOf (M.meaning (M.definition rules)) steps.now h → All (IsPrintable (lexicon_of titles.name.now titles.table.now titles.handlers.now titles.objects.now)) h }
+    ensures { IfOk result (λ text. IsPrintedReplay (M.meaning (M.definition rules)) steps.now (lexicon_of titles.entry.name.now titles.entry.table.now titles.entry.handlers.now titles.entry.objects.now) text.items) }
+{
+    let mut prop = Prop::new(alloc, rules, titles.objects.len())?;
+    prop.replay(0, steps)?;
     render_history(
         alloc,
-        name.as_str(),
+        titles.name,
         prop.history(),
-        &table,
-        &handlers,
-        &steps.objects,
+        titles.table,
+        titles.handlers,
+        titles.objects,
     )
 }
