@@ -23,15 +23,12 @@ pub record IsPrintedReplay (m : Meaning) (steps : List (ℕ × Step)) (l : Lexic
   pub replayed : IsReplayOf m steps history
   pub printed : text ≡ history_text l history
 
--- what is meant is what the specification means, and the steps are those of the script for it
-abbrev pub IsReplay : Specification → List ScriptLine → List Entry → Type 0
-IsReplay s script h = IsReplayOf (meaning_of s) (projection_of (script_of script) 0) h
-
 -- the names that it is printed with
 abbrev pub lexicon : Specification → List (List ℕ) → Lexicon
 lexicon s objects = lexicon_of s.name s.table s.rules.handlers objects
 
--- the text is the whole printed history of a replay of the script
+-- the text is the whole printed history of a replay: what is meant is what the specification means, and the steps are those of
+-- the script for it
 abbrev pub IsTextOfReplay : Specification → List ScriptLine → List (List ℕ) → List ℕ → Type 0
 IsTextOfReplay s script objects text = IsPrintedReplay (meaning_of s) (projection_of (script_of script) 0) (lexicon s objects) text
 
