@@ -9,4 +9,3 @@ pub mod ReplaceLemmas
 pub mod StoreLemmas
 pub mod EventLemmas
 pub mod ReplayLemmas
-pub mod TableLemmas

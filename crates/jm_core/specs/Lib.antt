@@ -3,4 +3,3 @@ pub mod Stores
 pub mod Growth
 pub mod Reports
 pub mod Plans
-pub mod Tables

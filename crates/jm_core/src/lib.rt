@@ -13,8 +13,3 @@ mod report;
 mod stored;
 
 pub use prop::Prop;
-
-#[cfg(test)]
-mod table;
-#[cfg(test)]
-mod tests;

@@ -19,8 +19,3 @@ mod shared;
 mod waiting;
 
 pub use chart::{Chart, Charts};
-
-#[cfg(test)]
-mod future_tests;
-#[cfg(test)]
-mod tests;

@@ -26,8 +26,3 @@ mod written;
 pub use laws::{forms_are_normal, one_order, one_reading};
 pub use reading::read;
 pub use tree::{Ere, Tree};
-
-#[cfg(test)]
-mod compile_tests;
-#[cfg(test)]
-mod reading_tests;

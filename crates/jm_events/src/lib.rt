@@ -7,6 +7,3 @@ mod table;
 
 pub use names::Names;
 pub use table::EventTable;
-
-#[cfg(test)]
-mod tests;

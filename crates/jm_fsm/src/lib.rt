@@ -19,6 +19,3 @@ mod reading;
 pub use laws::one_reading;
 pub use machine::{Fsm, Target};
 pub use reading::read;
-
-#[cfg(test)]
-mod tests;

@@ -70,6 +70,3 @@ impl Goal {
         self.must_bind
     }
 }
-
-#[cfg(test)]
-mod tests;

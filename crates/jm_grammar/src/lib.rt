@@ -20,8 +20,3 @@ mod reduce;
 pub use grammar::{Grammar, GrammarSymbol, Production};
 pub use laws::{letters_are_events, one_reading};
 pub use reading::read;
-
-#[cfg(test)]
-mod reading_tests;
-#[cfg(test)]
-mod tests;

@@ -8,6 +8,3 @@ mod node;
 pub use history::History;
 pub use jm_model::Entry;
 pub use node::Node;
-
-#[cfg(test)]
-mod tests;

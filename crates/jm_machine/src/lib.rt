@@ -20,6 +20,3 @@ pub use formula::Formula;
 pub use laws::one_reading;
 pub use rules::Rules;
 pub use run::Run;
-
-#[cfg(test)]
-mod tests;

@@ -1,4 +1,8 @@
 //! What can be wrong with a specification or a script.
+ghost use Rattle.std.specs.Prelude.{◌≡◌};
+
+use crate::step::NoMemory;
+use std::alloc::{AllocError, AllocFailed};
 
 /// What a specification has too many of.
 #[derive(Clone, Copy, Debug, PartialEq, Eq)]
@@ -50,6 +54,36 @@ pub enum SpecError {
     NoMemory,
 }
 
+impl From<NoMemory> for SpecError {
+    ghost use Rattle.jm_model.specs.declared.fault.SpecError.TheVariants.{NoMemory};
+
+    ghost from_gives = { λ _ error. error ≡ NoMemory };
+
+    fn from(_refused: NoMemory) -> SpecError {
+        SpecError::NoMemory
+    }
+}
+
+impl From<AllocError> for SpecError {
+    ghost use Rattle.jm_model.specs.declared.fault.SpecError.TheVariants.{NoMemory};
+
+    ghost from_gives = { λ _ error. error ≡ NoMemory };
+
+    fn from(_refused: AllocError) -> SpecError {
+        SpecError::NoMemory
+    }
+}
+
+impl<T: Drop> From<AllocFailed<T>> for SpecError {
+    ghost use Rattle.jm_model.specs.declared.fault.SpecError.TheVariants.{NoMemory};
+
+    ghost from_gives = { λ _ error. error ≡ NoMemory };
+
+    fn from(_refused: AllocFailed<T>) -> SpecError {
+        SpecError::NoMemory
+    }
+}
+
 /// What is wrong with a script: the first fault of the first line that has one. Lines are counted from 1.
 #[derive(Clone, Copy, Debug, PartialEq, Eq)]
 pub enum ScriptFault {
@@ -67,4 +101,34 @@ pub enum ScriptFault {
 pub enum ScriptError {
     Bad(ScriptFault),
     NoMemory,
+}
+
+impl From<NoMemory> for ScriptError {
+    ghost use Rattle.jm_model.specs.declared.fault.ScriptError.TheVariants.{NoMemory};
+
+    ghost from_gives = { λ _ error. error ≡ NoMemory };
+
+    fn from(_refused: NoMemory) -> ScriptError {
+        ScriptError::NoMemory
+    }
+}
+
+impl From<AllocError> for ScriptError {
+    ghost use Rattle.jm_model.specs.declared.fault.ScriptError.TheVariants.{NoMemory};
+
+    ghost from_gives = { λ _ error. error ≡ NoMemory };
+
+    fn from(_refused: AllocError) -> ScriptError {
+        ScriptError::NoMemory
+    }
+}
+
+impl<T: Drop> From<AllocFailed<T>> for ScriptError {
+    ghost use Rattle.jm_model.specs.declared.fault.ScriptError.TheVariants.{NoMemory};
+
+    ghost from_gives = { λ _ error. error ≡ NoMemory };
+
+    fn from(_refused: AllocFailed<T>) -> ScriptError {
+        ScriptError::NoMemory
+    }
 }

@@ -16,6 +16,3 @@ pub use fault::{Counted, ScriptError, ScriptFault, SpecError, SpecFault};
 pub use firings::{Firing, Firings};
 pub use monitor::Monitor;
 pub use step::{Entry, Letter, NoMemory, Outcome, Step};
-
-#[cfg(test)]
-mod tests;

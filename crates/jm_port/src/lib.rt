@@ -14,6 +14,3 @@ pub use host::{HostFault, HostFolder, HostSink};
 pub use memory_folder::{MemoryFolder, SureFolder};
 pub use memory_sink::{MemorySink, SureSink};
 pub use sink::{PutFault, Sink, put_all};
-
-#[cfg(test)]
-mod tests;

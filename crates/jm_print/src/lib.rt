@@ -12,6 +12,3 @@ mod summary;
 pub use history::render_history;
 pub use laws::{text_determines_history, texts_split_in_one_way};
 pub use summary::render_summary;
-
-#[cfg(test)]
-mod tests;

@@ -22,6 +22,3 @@ mod vector;
 pub use laws::one_reading;
 pub use past::Past;
 pub use reading::read;
-
-#[cfg(test)]
-mod tests;

@@ -12,6 +12,3 @@ mod names;
 pub use cursor::Cursor;
 pub use items::Items;
 pub use names::name_of;
-
-#[cfg(test)]
-mod tests;

@@ -20,6 +20,3 @@ pub use disposal::disposal_line;
 pub use laws::{events_alone, one_reading};
 pub use reader::read_script;
 pub use script::{Script, ScriptLine, Target, project};
-
-#[cfg(test)]
-mod tests;

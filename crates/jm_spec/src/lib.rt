@@ -20,6 +20,3 @@ pub use laws::{member_ends, one_reading};
 pub use property::HandlerText;
 pub use spec::{read_frame, read_spec};
 pub use tree::{Logic, SpecTree, frame_logic, tree_of};
-
-#[cfg(test)]
-mod tests;

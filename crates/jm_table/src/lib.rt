@@ -15,6 +15,3 @@ mod table;
 pub use exploration::build;
 pub use graph::Graph;
 pub use table::Table;
-
-#[cfg(test)]
-mod tests;

@@ -15,6 +15,3 @@ pub use laws::one_reading;
 pub use lexer::tokens;
 pub use texts::{is_mark, is_name, is_word, name, text};
 pub use token::{Token, TokenKind};
-
-#[cfg(test)]
-mod tests;

@@ -20,8 +20,3 @@ pub use command::jmop;
 pub use laws::one_reading;
 pub use status::Status;
 pub use texts::fault_text;
-
-#[cfg(test)]
-mod logic_tests;
-#[cfg(test)]
-mod tests;
