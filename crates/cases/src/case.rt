@@ -11,8 +11,10 @@ pub struct Case {
     pub second: String,
     /// The lines of the text, each but the last with its line feed.
     pub text: Vec<u8>,
+    text_lines: usize,
     /// The lines of the answer, likewise.
     pub wanted: String,
+    wanted_lines: usize,
     /// The line of the case, from 1.
     pub line: usize,
 }
@@ -40,24 +42,28 @@ fn begin(alloc: Global, head: &str, line: usize) -> Result<Case, AllocError> {
         first: String::from_str(alloc, first)?,
         second: String::from_str(alloc, second)?,
         text: Vec::new(alloc),
+        text_lines: 0,
         wanted: String::new(alloc),
+        wanted_lines: 0,
         line,
     })
 }
 
 fn add(alloc: Global, case: &mut Case, line: &str) -> Result<(), AllocError> {
     if let Some(wanted) = line.strip_prefix("< ") {
-        if !case.wanted.is_empty() {
+        if case.wanted_lines > 0 {
             case.wanted.push('\n')?;
         }
+        case.wanted_lines = case.wanted_lines.wrapping_add(1);
         return case.wanted.push_str(wanted);
     }
     if line.starts_with("--") {
         return Ok(());
     }
-    if !case.text.is_empty() {
+    if case.text_lines > 0 {
         case.text.push(b'\n')?;
     }
+    case.text_lines = case.text_lines.wrapping_add(1);
     match line.strip_prefix("% ") {
         Some(line) => expand(alloc, &mut case.text, line.as_bytes()),
         None => case.text.extend_from_slice(line.as_bytes()),
