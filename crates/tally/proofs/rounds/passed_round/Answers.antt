@@ -3,7 +3,7 @@ use Rattle.std.proofs.lemmas.List.Elements.{All-pop}
 use Rattle.jm_turn.specs.Seats.{IsSeatOf}
 use Rattle.tally.specs.Runners.{IsRunnerOf}
 use Rattle.tally.proofs.Pushes.{all_pushed}
-use Rattle.tally.proofs.tests.passed_round.Goals as goal
+use Rattle.tally.proofs.rounds.passed_round.Goals as goal
 
 pub returns-clause-each : goal.returns-clause-each
 returns-clause-each c =

@@ -1,6 +1,6 @@
 use Rattle.std.proofs.Common.{◌≡◌, All, length, vec_len}
 use Rattle.jm_turn.specs.Seats.{IsSeatOf}
-use Rattle.tally.proofs.tests.all_back.Given as goal
+use Rattle.tally.proofs.rounds.all_back.Given as goal
 
 abbrev pub invariant-loop-seat : goal.invariant-loop-seat
 invariant-loop-seat l = record {

@@ -1,7 +1,7 @@
 use Rattle.std.proofs.Common.{◌≡◌, All, length, vec_len}
 use Rattle.jm_turn.specs.Seats.{IsNoteOf}
 use Rattle.tally.specs.Runners.{IsRunnerOf}
-use Rattle.tally.proofs.tests.passed_round.Given as goal
+use Rattle.tally.proofs.rounds.passed_round.Given as goal
 
 abbrev pub invariant-loop-seat : goal.invariant-loop-seat
 invariant-loop-seat l = record {

@@ -1,6 +1,6 @@
 use Rattle.std.proofs.Common.{◌≡◌, All, vec_len}
 use Rattle.jm_turn.specs.Seats.{IsSeatOf}
-use Rattle.tally.proofs.tests.all_rounds.Given as goal
+use Rattle.tally.proofs.rounds.all_rounds.Given as goal
 
 abbrev pub invariant-loop-round : goal.invariant-loop-round
 invariant-loop-round g l = record {
