@@ -19,7 +19,6 @@ fn answered(alloc: Global, case: &Case) -> Result<String, SpecError> {
         "project" => script::projected(alloc, case),
         "disposal" => script::disposal(alloc, case),
         "print" => print::print(alloc, case),
-        "empty" => print::empty(alloc, case),
         _ => laws(alloc),
     }
 }

@@ -51,9 +51,13 @@ fn read_all(
 fn with_line_feeds(alloc: Global, text: &[u8]) -> Result<Vec<u8>, AllocError> {
     let mut out = Vec::new(alloc);
     for byte in text {
-        out.push(if *byte == b';' { b'\n' } else { *byte })?;
+        out.push(resolved(*byte))?;
     }
     Ok(out)
+}
+
+fn resolved(byte: u8) -> u8 {
+    if byte == b';' { b'\n' } else { byte }
 }
 
 fn put(

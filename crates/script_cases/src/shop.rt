@@ -1,49 +1,11 @@
-//! Names, and an entry of each kind that can be printed with them.
-ghost use Rattle.std.specs.Prelude.{◌≡◌, [], ◌∷◌, codes, IfOk, false, Some, None};
+//! An entry of each kind that can be printed.
+ghost use Rattle.std.specs.Prelude.{◌≡◌, [], ◌∷◌, IfOk, Some, None};
+ghost use Rattle.jm_print.specs.Lexicons.{Lexicon};
 ghost use Rattle.jm_print.specs.Texts.{IsPrintableStep};
-ghost use Rattle.script_cases.specs.Shops.{shop};
+ghost use Rattle.script_cases.specs.Shops.{HasEnough};
 
-use jm_events::{EventTable, Names};
-use jm_model::{Binding, Firing, Firings, Letter, NoMemory, Outcome, SpecError, Step};
+use jm_model::{Binding, Firing, Firings, Letter, NoMemory, Outcome, Step};
 use std::alloc::Global;
-
-pub(crate) fn table(alloc: Global) -> Result<EventTable, SpecError>
-    ensures { IfOk result (λ t. t ≡ record {
-      parameters = codes "c" ∷ codes "i" ∷ codes "p2" ∷ codes "p3" ∷ codes "p4" ∷ codes "p5" ∷ codes "p6" ∷ codes "p7" ∷ [];
-      events = record { name = codes "create"; mask = 3; creation = false; line = 1 } ∷ record { name = codes "tick"; mask = 0; creation = false; line = 2 } ∷ [];
-    }) }
-{
-    let mut table = EventTable::new(alloc);
-    table.add_param("c", 1)?;
-    table.add_param("i", 1)?;
-    table.add_param("p2", 1)?;
-    table.add_param("p3", 1)?;
-    table.add_param("p4", 1)?;
-    table.add_param("p5", 1)?;
-    table.add_param("p6", 1)?;
-    table.add_param("p7", 1)?;
-    table.add_event("create", 3, false, 1)?;
-    table.add_event("tick", 0, false, 2)?;
-    Ok(table)
-}
-
-pub(crate) fn objects(alloc: Global) -> Result<Names, NoMemory>
-    ensures { IfOk result (λ names. names ≡ codes "c1" ∷ codes "i-1" ∷ []) }
-{
-    let mut names = Names::new(alloc);
-    names.add("c1")?;
-    names.add("i-1")?;
-    Ok(names)
-}
-
-pub(crate) fn categories(alloc: Global) -> Result<Names, NoMemory>
-    ensures { IfOk result (λ names. names ≡ codes "match" ∷ codes "fail" ∷ []) }
-{
-    let mut names = Names::new(alloc);
-    names.add("match")?;
-    names.add("fail")?;
-    Ok(names)
-}
 
 fn pair() -> Binding
     ensures { result ≡ Some 0 ∷ Some 1 ∷ None ∷ None ∷ None ∷ None ∷ None ∷ None ∷ [] }
@@ -102,7 +64,7 @@ fn tick() -> Step
 
 /// A step and its outcome.
 pub(crate) fn entry_of(alloc: Global, kind: &str) -> Result<(Step, Outcome), NoMemory>
-    ensures { IfOk result (λ entry. IsPrintableStep shop entry.0 entry.1) }
+    ensures { IfOk result (λ entry. (l : Lexicon) → HasEnough l → IsPrintableStep l entry.0 entry.1) }
 {
     match kind {
         "create" => Ok((create(), Outcome::Fired(answer(alloc)?))),
