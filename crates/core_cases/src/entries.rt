@@ -58,11 +58,21 @@ pub(crate) fn history(alloc: Global, case: &Case) -> Result<String, NoMemory> {
 }
 
 fn add(alloc: Global, history: &mut History, entry: Entry) -> Result<String, NoMemory> {
-    let node = Node::new(alloc, entry.caller, entry.line, entry.step)?;
+    let Entry {
+        caller,
+        line,
+        step,
+        outcome,
+    } = entry;
+    let node = Node::new(alloc, caller, line, step)?;
+    let told = node_shown(alloc, &node);
+    history.push(node, outcome);
+    Ok(told?)
+}
+
+fn node_shown(alloc: Global, node: &Node) -> Result<String, AllocError> {
     let step = step_shown(alloc, node.step())?;
-    let told = format!(in alloc; "{} {} {step}", node.caller(), node.line())?;
-    history.push(node, entry.outcome);
-    Ok(told)
+    format!(in alloc; "{} {} {step}", node.caller(), node.line())
 }
 
 fn put_copies(alloc: Global, out: &mut String, history: &History) -> Result<(), NoMemory> {
