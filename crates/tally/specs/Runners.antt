@@ -1,4 +1,4 @@
--- What the tests say of the seats of a lock round a tally.
+-- What is said of the seats of a lock round a tally.
 use Rattle.std.specs.Prelude.{◌≡◌, ℕ, ◌+◌}
 use Rattle.jm_turn.specs.Seats.{LockModel, SeatModel, NoteModel, IsSeatOf, IsNoteOf}
 use Rattle.tally.specs.Chains.{turns_of}

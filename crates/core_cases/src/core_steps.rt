@@ -1,0 +1,57 @@
+//! Events over tables of states.
+use crate::rig::Rig;
+use crate::text::{binding_shown, byte, entry_shown, lines_of, number, outcome_shown, put};
+use cases::Case;
+use jm_core::Prop;
+use jm_model::NoMemory;
+use std::alloc::Global;
+use table_monitor::Table;
+
+/// The table of words such as `unsafe_iter 0` or `tick 1`.
+fn table_of(text: &str) -> Table {
+    let (name, rest) = text.split_once(' ').unwrap_or((text, ""));
+    if name == "tick" {
+        Table::tick(byte(rest))
+    } else {
+        Table::unsafe_iter(number(rest))
+    }
+}
+
+/// What each line is answered: an event's `LETTER OBJECT ..` its outcome, `stored` the stored instances, and `history`
+/// the entries.
+pub(crate) fn core(alloc: Global, case: &Case) -> Result<String, NoMemory> {
+    let mut rig = Rig::new(alloc, table_of(case.first.as_str()))?;
+    let mut out = String::new(alloc);
+    for line in lines_of(case).lines() {
+        let answer = match line {
+            "stored" => stored(alloc, &rig.prop)?,
+            "history" => entries(alloc, &rig.prop)?,
+            event => outcome_shown(alloc, &rig.fire(event)?)?,
+        };
+        put(&mut out, '\n', answer.as_str())?;
+    }
+    Ok(out)
+}
+
+fn stored(alloc: Global, prop: &Prop<Table>) -> Result<String, NoMemory> {
+    let mut out = String::new(alloc);
+    for instance in &prop.stored()? {
+        put(&mut out, ' ', binding_shown(alloc, instance)?.as_str())?;
+    }
+    Ok(out)
+}
+
+fn entries(alloc: Global, prop: &Prop<Table>) -> Result<String, NoMemory> {
+    let mut out = String::new(alloc);
+    for entry in &prop.history().entries(alloc)? {
+        put(&mut out, '\n', entry_shown(alloc, entry)?.as_str())?;
+    }
+    Ok(out)
+}
+
+/// The entries after a caller's events, of lines `NUMBER LETTER OBJECT ..`.
+pub(crate) fn replay(alloc: Global, case: &Case) -> Result<String, NoMemory> {
+    let mut rig = Rig::new(alloc, table_of(case.first.as_str()))?;
+    rig.replay(number(case.second.as_str()), lines_of(case))?;
+    entries(alloc, &rig.prop)
+}
