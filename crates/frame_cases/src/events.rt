@@ -1,7 +1,7 @@
 //! Tables of names, and of parameters and events.
 ghost use Rattle.std.specs.Prelude.{◌<◌};
 
-use crate::put::{put_line, put_word};
+use crate::put::{number_of, put_word};
 use cases::Case;
 use jm_events::{EventTable, Names};
 use jm_model::{Letter, SpecError};
@@ -37,9 +37,11 @@ fn names_step(alloc: Global, names: &mut Names, step: &str) -> Result<String, Sp
 
 /// The name of a number.
 fn name_at<'a>(names: &'a Names, number: &str) -> &'a str {
-    match number.parse::<u32>() {
-        Ok(number) if number < names.len() => names.name(number),
-        _ => "no such number",
+    let number = number_of(number);
+    if number < names.len() {
+        names.name(number)
+    } else {
+        "no such number"
     }
 }
 
@@ -47,16 +49,34 @@ fn name_at<'a>(names: &'a Names, number: &str) -> &'a str {
 /// then, and a copy of it. The line of a mention is that of its step.
 pub(crate) fn events(alloc: Global, case: &Case) -> Result<String, SpecError> {
     let mut table = EventTable::new(alloc);
+    let mut out = filled(alloc, &mut table, lines_of(case))?;
+    put_both(alloc, &mut out, &table, case.first.as_str())?;
+    Ok(out)
+}
+
+/// What the steps are answered.
+fn filled(alloc: Global, table: &mut EventTable, steps: &str) -> Result<String, AllocError> {
     let mut out = String::new(alloc);
     let mut line = 0u32;
-    for step in lines_of(case).lines() {
+    for step in steps.lines() {
         line = line.wrapping_add(1);
-        let answer = events_step(alloc, &mut table, step, line)?;
+        let answer = events_step(alloc, table, step, line)?;
         put_word(&mut out, answer.as_str())?;
     }
-    put_table(alloc, &mut out, &table, case.first.as_str())?;
-    put_table(alloc, &mut out, &table.copy()?, case.first.as_str())?;
     Ok(out)
+}
+
+/// Appends the lines of a table and of a copy of it.
+fn put_both(
+    alloc: Global,
+    out: &mut String,
+    table: &EventTable,
+    asked: &str,
+) -> Result<(), SpecError> {
+    put_table(alloc, out, table, asked)?;
+    let copy = table.copy()?;
+    put_table(alloc, out, &copy, asked)?;
+    Ok(())
 }
 
 /// A step: `param NAME`, or `event NAME MASK` or `creation NAME MASK`.
@@ -71,11 +91,22 @@ fn events_step(
         return shown(alloc, table.add_param(rest, line));
     }
     let (name, mask) = rest.split_once(' ').unwrap_or((rest, "0"));
-    let mask = mask.parse::<u8>().unwrap_or(0);
+    let mask = u8::try_from(number_of(mask)).unwrap_or(0);
+    mention(alloc, table, name, mask, verb == "creation", line)
+}
+
+fn mention(
+    alloc: Global,
+    table: &mut EventTable,
+    name: &str,
+    mask: u8,
+    creation: bool,
+    line: u32,
+) -> Result<String, AllocError> {
     if u32::from(mask) >= 1u32 << table.params() {
         return String::from_str(alloc, "no such parameter");
     }
-    let letter = table.add_event(name, mask, verb == "creation", line);
+    let letter = table.add_event(name, mask, creation, line);
     shown(alloc, letter.map(|letter| letter.0))
 }
 

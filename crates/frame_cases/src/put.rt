@@ -15,3 +15,8 @@ pub(crate) fn put_line(out: &mut String, line: &str) -> Result<(), AllocError> {
     }
     out.push_str(line)
 }
+
+/// The number that a text says, or 0.
+pub(crate) fn number_of(text: &str) -> u32 {
+    text.parse::<u32>().unwrap_or(0)
+}

@@ -5,7 +5,7 @@ use crate::put::{put_line, put_word};
 use crate::text::{said, tokens_of};
 use cases::Case;
 use jm_model::{SpecError, SpecFault};
-use jm_spec::{SpecTree, frame_logic, read_frame, read_spec, tree_of};
+use jm_spec::{Frame, SpecTree, frame_logic, read_frame, read_spec, tree_of};
 use jm_text::Token;
 use std::alloc::{AllocError, Global};
 
@@ -24,15 +24,20 @@ fn tree_text(
     all: &[Token],
     tree: &SpecTree,
 ) -> Result<String, AllocError> {
+    let mut out = head_text(alloc, bytes, tree)?;
+    put_logic(alloc, &mut out, tree)?;
+    put_range(&mut out, bytes, all, tree.first, tree.last)?;
+    put_handlers(&mut out, bytes, all, tree)?;
+    Ok(out)
+}
+
+fn head_text(alloc: Global, bytes: &[u8], tree: &SpecTree) -> Result<String, AllocError> {
     let mut out = String::from_str(alloc, said(bytes, tree.name))?;
     if tree.full_binding {
         put_word(&mut out, "full")?;
     }
     put_params(&mut out, &tree.table)?;
     put_events(alloc, &mut out, &tree.table)?;
-    put_logic(alloc, &mut out, tree)?;
-    put_range(&mut out, bytes, all, tree.first, tree.last)?;
-    put_handlers(&mut out, bytes, all, tree)?;
     Ok(out)
 }
 
@@ -80,14 +85,36 @@ pub(crate) fn logic(alloc: Global, case: &Case) -> Result<String, SpecError> {
     let bytes = case.text.as_slice();
     let all = tokens_of(alloc, bytes)?;
     let frame = read_frame(alloc, bytes, all.as_slice())?;
-    let logic = frame_logic(bytes, &frame);
-    let mut out = format!(in alloc; "{logic:?}")?;
-    let tree = match tree_of(alloc, bytes, frame) {
-        Ok(tree) => tree_text(alloc, bytes, all.as_slice(), &tree)?,
-        Err(fault) => format!(in alloc; "{fault:?}")?,
-    };
+    Ok(frame_text(alloc, bytes, all.as_slice(), frame)?)
+}
+
+fn frame_text(
+    alloc: Global,
+    bytes: &[u8],
+    all: &[Token],
+    frame: Frame,
+) -> Result<String, AllocError> {
+    let mut out = logic_text(alloc, bytes, &frame)?;
+    let tree = made_text(alloc, bytes, all, frame)?;
     put_line(&mut out, tree.as_str())?;
     Ok(out)
+}
+
+fn logic_text(alloc: Global, bytes: &[u8], frame: &Frame) -> Result<String, AllocError> {
+    let logic = frame_logic(bytes, frame);
+    format!(in alloc; "{logic:?}")
+}
+
+fn made_text(
+    alloc: Global,
+    bytes: &[u8],
+    all: &[Token],
+    frame: Frame,
+) -> Result<String, AllocError> {
+    match tree_of(alloc, bytes, frame) {
+        Ok(tree) => tree_text(alloc, bytes, all, &tree),
+        Err(fault) => format!(in alloc; "{fault:?}"),
+    }
 }
 
 /// How many of the proper prefixes of a text are not refused for what is missing.

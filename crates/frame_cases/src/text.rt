@@ -2,26 +2,32 @@
 ghost use Rattle.std.specs.Prelude.{◌<◌, ◌^◌, length, IfOk};
 ghost use Rattle.jm_text.specs.Spans.{LieWithin};
 
-use crate::put::{put_line, put_word};
+use crate::put::{number_of, put_line, put_word};
 use cases::Case;
 use jm_model::SpecError;
 use jm_reading::{Cursor, Items, name_of};
 use jm_text::{Token, TokenKind, is_mark, is_name, is_word, name, text, tokens};
 use std::alloc::{AllocError, Global};
 
-/// The tokens of bytes that are few enough.
+/// The tokens of bytes, if neither are too many.
 pub(crate) fn tokens_of(alloc: Global, bytes: &[u8]) -> Result<Vec<Token>, SpecError>
     ensures within { IfOk result (λ tokens. LieWithin bytes.now tokens.items) }
     ensures few { IfOk result (λ tokens. length tokens.items < 2 ^ 32) }
 {
-    if bytes.len() > 1_000_000 {
-        return Err(SpecError::NoMemory);
-    }
-    let all = tokens(alloc, bytes)?;
+    let all = cut(alloc, bytes)?;
     if all.len() > 1_000_000 {
         return Err(SpecError::NoMemory);
     }
     Ok(all)
+}
+
+fn cut(alloc: Global, bytes: &[u8]) -> Result<Vec<Token>, SpecError>
+    ensures { IfOk result (λ tokens. LieWithin bytes.now tokens.items) }
+{
+    if bytes.len() > 1_000_000 {
+        return Err(SpecError::NoMemory);
+    }
+    tokens(alloc, bytes)
 }
 
 /// The text of a token.
@@ -56,8 +62,8 @@ fn token_shown(alloc: Global, bytes: &[u8], token: Token) -> Result<String, Allo
     format!(in alloc; "{letter}{line}:{text}")
 }
 
-/// What each token of a text is: `word` where it is the first word of the case, `mark` where it is the second as a mark,
-/// and the name that it says.
+/// Of each token of a text: whether it is the first word of the case, whether it is the second as a mark, whether it is
+/// a name, and which.
 pub(crate) fn tells(alloc: Global, case: &Case) -> Result<String, SpecError> {
     let bytes = case.text.as_slice();
     let all = tokens_of(alloc, bytes)?;
@@ -73,19 +79,11 @@ fn told(alloc: Global, bytes: &[u8], token: Token, case: &Case) -> Result<String
     if token.start > token.end || token.end as usize > bytes.len() {
         return String::from_str(alloc, "outside");
     }
-    let word = if is_word(bytes, token, case.first.as_bytes()) {
-        "word"
-    } else {
-        "-"
-    };
-    let mark = if is_mark(bytes, token, case.second.as_bytes()) {
-        "mark"
-    } else {
-        "-"
-    };
+    let is_word = is_word(bytes, token, case.first.as_bytes());
+    let is_mark = is_mark(bytes, token, case.second.as_bytes());
     let is_name = is_name(bytes, token);
-    let name = name(bytes, token);
-    format!(in alloc; "{word} {mark} {is_name} {name:?}")
+    let name = name(bytes, token).unwrap_or("");
+    format!(in alloc; "{is_word} {is_mark} {is_name} {name}")
 }
 
 /// What a cursor answers to the steps of a case, one line each. It stands before the tokens of the text, which follow a
@@ -93,7 +91,7 @@ fn told(alloc: Global, bytes: &[u8], token: Token, case: &Case) -> Result<String
 pub(crate) fn cursor(alloc: Global, case: &Case) -> Result<String, SpecError> {
     let bytes = case.text.as_slice();
     let all = tokens_of(alloc, bytes)?;
-    let line = case.first.parse::<u32>().unwrap_or(0);
+    let line = number_of(case.first.as_str());
     let mut cursor = Cursor::new(alloc, bytes, all.as_slice(), line);
     let mut out = String::new(alloc);
     for step in case.second.split_whitespace() {
@@ -138,7 +136,7 @@ fn seen(alloc: Global, cursor: &Cursor<'_>, verb: &str, rest: &str) -> Result<St
 /// Whether what a step asks for stands so far on.
 fn is_there(cursor: &Cursor<'_>, verb: &str, rest: &str) -> bool {
     let (place, wanted) = rest.split_once(':').unwrap_or((rest, ""));
-    let place = place.parse::<usize>().unwrap_or(0);
+    let place = number_of(place) as usize;
     match verb {
         "name-at" => cursor.is_name_at(place),
         "mark-at" => cursor.is_mark_at(place, wanted.as_bytes()),
@@ -148,9 +146,9 @@ fn is_there(cursor: &Cursor<'_>, verb: &str, rest: &str) -> bool {
 
 /// A list of the numbers of a case, and how many it has.
 pub(crate) fn items(alloc: Global, case: &Case) -> Result<String, SpecError> {
-    let mut numbers: Items<u8> = Items::new(alloc);
+    let mut numbers: Items<u32> = Items::new(alloc);
     for word in case.first.split_whitespace() {
-        numbers.push(word.parse::<u8>().unwrap_or(0))?;
+        numbers.push(number_of(word))?;
     }
     let mut out = format!(in alloc; "{:?}", numbers.as_slice())?;
     let count = format!(in alloc; "{}", numbers.into_vec().len())?;
