@@ -60,7 +60,10 @@ fn repeat<'a>(alloc: Global, out: &mut Vec<u8>, text: &'a [u8]) -> Result<&'a [u
     for number in 0..count {
         put_once(alloc, out, &inside[space..], number)?;
     }
-    Ok(&text[end..])
+    match &text[end..] {
+        [_, behind @ ..] => Ok(behind),
+        [] => Ok(&[]),
+    }
 }
 
 fn number_of(digits: &[u8]) -> u32 {
