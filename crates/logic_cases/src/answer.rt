@@ -5,14 +5,10 @@ use std::alloc::{AllocError, Global};
 /// The answer to a case.
 pub(crate) fn answer(alloc: Global, case: &Case) -> Result<String, AllocError> {
     match case.verb.as_str() {
-        "fsm" => fsm::words(alloc, case),
-        "fsm_categories" => fsm::categories(alloc, case),
-        "ere" => ere::words(alloc, case),
-        "ere_read" => ere::reading(alloc, case),
-        "ere_categories" => ere::categories(alloc, case),
+        "fsm" | "fsm_categories" => fsm::answer(alloc, case),
+        "ere" | "ere_read" | "ere_categories" => ere::answer(alloc, case),
         "ere_same" => ere::same(alloc, case),
-        "ptltl" => ptltl::words(alloc, case),
-        "ptltl_categories" => ptltl::categories(alloc, case),
+        "ptltl" | "ptltl_categories" => ptltl::answer(alloc, case),
         "circle" => table::circle(alloc, case),
         "next" => table::next(alloc, case),
         "word" => table::word(alloc, case),

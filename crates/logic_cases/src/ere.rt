@@ -2,7 +2,7 @@
 
 ghost use Rattle.std.specs.Prelude.{◌≡◌, length, IfOk};
 
-use crate::shown::{add_words, events_of, is_in, names_text, next, or_fault};
+use crate::shown::{events_of, is_in, names_text, next, or_fault, states_text};
 use cases::Case;
 use jm_ere::{Ere, read};
 use jm_events::EventTable;
@@ -11,55 +11,73 @@ use jm_table::Table;
 use jm_text::tokens;
 use std::alloc::{AllocError, Global};
 
-/// How many states there are and the categories that hold of each word of a case, over its events, or the fault of its
-/// expression.
-pub(crate) fn words(alloc: Global, case: &Case) -> Result<String, AllocError> {
-    or_fault(alloc, words_of(alloc, case))
+/// How many states there are and the categories that hold of each word of a case, over its events, or the names of all,
+/// or that its expression is read, or the expression's fault.
+pub(crate) fn answer(alloc: Global, case: &Case) -> Result<String, AllocError> {
+    or_fault(alloc, case_text(alloc, case))
 }
 
-fn words_of(alloc: Global, case: &Case) -> Result<String, SpecError> {
+fn case_text(alloc: Global, case: &Case) -> Result<String, SpecError> {
     let events = events_of(alloc, &case.first)?;
-    let ere = ere_of(alloc, &events, &case.text)?;
-    let names = ere.categories(alloc)?;
-    let table = ere.compile(alloc, &events)?;
-    let mut out = format!(in alloc; "{}", table.len())?;
-    add_words(&mut out, &names, &table, &case.second)?;
-    Ok(out)
+    formula_text(alloc, case, &events)
 }
 
-/// The fault of a case's expression, or that it is read.
-pub(crate) fn reading(alloc: Global, case: &Case) -> Result<String, AllocError> {
-    or_fault(alloc, reading_of(alloc, case))
+fn formula_text(alloc: Global, case: &Case, events: &EventTable) -> Result<String, SpecError> {
+    let ere = ere_of(alloc, events, &case.text)?;
+    match case.verb.as_str() {
+        "ere_read" => Ok(String::from_str(alloc, "read")?),
+        "ere_categories" => categories_text(alloc, &ere),
+        _ => table_text(alloc, case, events, &ere),
+    }
 }
 
-fn reading_of(alloc: Global, case: &Case) -> Result<String, SpecError> {
-    let events = events_of(alloc, &case.first)?;
-    let _ere = ere_of(alloc, &events, &case.text)?;
-    Ok(String::from_str(alloc, "read")?)
-}
-
-/// The names of the categories of a case's expression.
-pub(crate) fn categories(alloc: Global, case: &Case) -> Result<String, AllocError> {
-    or_fault(alloc, categories_of(alloc, case))
-}
-
-fn categories_of(alloc: Global, case: &Case) -> Result<String, SpecError> {
-    let events = events_of(alloc, &case.first)?;
-    let ere = ere_of(alloc, &events, &case.text)?;
+fn categories_text(alloc: Global, ere: &Ere) -> Result<String, SpecError> {
     let names = ere.categories(alloc)?;
     Ok(names_text(alloc, &names)?)
 }
 
-/// Whether the expressions of a case, the text's and the one behind the events, have the same table.
-pub(crate) fn same(alloc: Global, case: &Case) -> Result<String, AllocError> {
-    or_fault(alloc, same_of(alloc, case))
+fn table_text(
+    alloc: Global,
+    case: &Case,
+    events: &EventTable,
+    ere: &Ere,
+) -> Result<String, SpecError> {
+    let table = ere.compile(alloc, events)?;
+    held_text(alloc, case, ere, &table)
 }
 
-fn same_of(alloc: Global, case: &Case) -> Result<String, SpecError> {
+fn held_text(alloc: Global, case: &Case, ere: &Ere, table: &Table) -> Result<String, SpecError>
+    requires { length table.now.groups ≡ 2 }
+{
+    let names = ere.categories(alloc)?;
+    Ok(states_text(alloc, &names, table, &case.second)?)
+}
+
+/// Whether the expressions of a case, the text's and the one behind the events, have the same table.
+pub(crate) fn same(alloc: Global, case: &Case) -> Result<String, AllocError> {
+    or_fault(alloc, same_text(alloc, case))
+}
+
+fn same_text(alloc: Global, case: &Case) -> Result<String, SpecError> {
     let events = events_of(alloc, &case.first)?;
-    let one = table_of(alloc, &events, &case.text)?;
-    let other = table_of(alloc, &events, case.second.as_bytes())?;
-    let text = if is_same(&one, &other) {
+    same_over(alloc, case, &events)
+}
+
+fn same_over(alloc: Global, case: &Case, events: &EventTable) -> Result<String, SpecError> {
+    let table = table_of(alloc, events, &case.text)?;
+    same_as(alloc, case, events, &table)
+}
+
+fn same_as(
+    alloc: Global,
+    case: &Case,
+    events: &EventTable,
+    table: &Table,
+) -> Result<String, SpecError>
+    requires { length table.now.groups ≡ 2 }
+{
+    let other = table_of(alloc, events, case.second.as_bytes())?;
+    let text = if is_same(table, &other) {
         "same"
     } else {
         "different"

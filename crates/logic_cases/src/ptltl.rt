@@ -1,38 +1,54 @@
 //! Past-time formulas.
 
-use crate::shown::{add_words, events_of, names_text, or_fault};
+ghost use Rattle.std.specs.Prelude.{◌≡◌, length};
+
+use crate::shown::{events_of, names_text, or_fault, words_text};
 use cases::Case;
 use jm_events::EventTable;
 use jm_model::SpecError;
 use jm_ptltl::{Past, read};
+use jm_table::Table;
 use jm_text::tokens;
 use std::alloc::{AllocError, Global};
 
-/// The categories that hold of each word of a case, over its events, or the fault of its formula.
-pub(crate) fn words(alloc: Global, case: &Case) -> Result<String, AllocError> {
-    or_fault(alloc, words_of(alloc, case))
+/// The categories that hold of each word of a case, over its events, or the names of all, or the fault of its formula.
+pub(crate) fn answer(alloc: Global, case: &Case) -> Result<String, AllocError> {
+    or_fault(alloc, case_text(alloc, case))
 }
 
-fn words_of(alloc: Global, case: &Case) -> Result<String, SpecError> {
+fn case_text(alloc: Global, case: &Case) -> Result<String, SpecError> {
     let events = events_of(alloc, &case.first)?;
-    let past = past_of(alloc, &events, &case.text)?;
-    let names = past.categories(alloc)?;
-    let table = past.compile(alloc, &events)?;
-    let mut out = String::new(alloc);
-    add_words(&mut out, &names, &table, &case.second)?;
-    Ok(out)
+    formula_text(alloc, case, &events)
 }
 
-/// The names of the categories of a case's formula.
-pub(crate) fn categories(alloc: Global, case: &Case) -> Result<String, AllocError> {
-    or_fault(alloc, categories_of(alloc, case))
+fn formula_text(alloc: Global, case: &Case, events: &EventTable) -> Result<String, SpecError> {
+    let past = past_of(alloc, events, &case.text)?;
+    match case.verb.as_str() {
+        "ptltl_categories" => categories_text(alloc, &past),
+        _ => table_text(alloc, case, events, &past),
+    }
 }
 
-fn categories_of(alloc: Global, case: &Case) -> Result<String, SpecError> {
-    let events = events_of(alloc, &case.first)?;
-    let past = past_of(alloc, &events, &case.text)?;
+fn categories_text(alloc: Global, past: &Past) -> Result<String, SpecError> {
     let names = past.categories(alloc)?;
     Ok(names_text(alloc, &names)?)
+}
+
+fn table_text(
+    alloc: Global,
+    case: &Case,
+    events: &EventTable,
+    past: &Past,
+) -> Result<String, SpecError> {
+    let table = past.compile(alloc, events)?;
+    held_text(alloc, case, past, &table)
+}
+
+fn held_text(alloc: Global, case: &Case, past: &Past, table: &Table) -> Result<String, SpecError>
+    requires { length table.now.groups ≡ 2 }
+{
+    let names = past.categories(alloc)?;
+    Ok(words_text(alloc, &names, table, &case.second)?)
 }
 
 /// The formula of a text, which stands behind a token on line 50.

@@ -32,22 +32,45 @@ pub(crate) fn or_fault(
 /// The names with a space between any two.
 pub(crate) fn names_text(alloc: Global, names: &Names) -> Result<String, AllocError> {
     let mut out = String::new(alloc);
+    let mut separator = "";
     for number in 0..names.len() {
-        if number > 0 {
-            out.push(' ')?;
-        }
+        out.push_str(separator)?;
         out.push_str(names.name(number))?;
+        separator = " ";
     }
     Ok(out)
 }
 
-/// Adds each word with the categories that hold of it. A word is of digits, which are its letters.
-pub(crate) fn add_words(
-    out: &mut String,
+/// Each word with the categories that hold of it.
+pub(crate) fn words_text(
+    alloc: Global,
     names: &Names,
     table: &Table,
     words: &str,
-) -> Result<(), AllocError>
+) -> Result<String, AllocError>
+    requires { length names.now ≤ length table.now.groups }
+{
+    let mut out = String::new(alloc);
+    add_words(&mut out, names, table, words)?;
+    Ok(out)
+}
+
+/// How many states there are, and each word with the categories that hold of it.
+pub(crate) fn states_text(
+    alloc: Global,
+    names: &Names,
+    table: &Table,
+    words: &str,
+) -> Result<String, AllocError>
+    requires { length names.now ≤ length table.now.groups }
+{
+    let mut out = format!(in alloc; "{}", table.len())?;
+    add_words(&mut out, names, table, words)?;
+    Ok(out)
+}
+
+/// Adds each word with the categories that hold of it. A word is of digits, which are its letters.
+fn add_words(out: &mut String, names: &Names, table: &Table, words: &str) -> Result<(), AllocError>
     requires { length names.now ≤ length table.now.groups }
 {
     for word in words.split_whitespace() {

@@ -19,13 +19,21 @@ pub(crate) fn circle(alloc: Global, case: &Case) -> Result<String, AllocError> {
 
 fn circle_text(alloc: Global, case: &Case) -> Result<String, SpecError> {
     let (table, nodes) = build_circle(alloc, case)?;
-    let order = if is_in_order(&nodes) {
+    Ok(counts_text(alloc, &table, &nodes)?)
+}
+
+fn counts_text(alloc: Global, table: &Table, nodes: &[u32]) -> Result<String, AllocError> {
+    let order = if is_in_order(nodes) {
         "in order"
     } else {
         "in disorder"
     };
-    let counts = format!(in alloc; "{} {} {}", table.len(), nodes.len(), table.letters())?;
-    Ok(format!(in alloc; "{counts} {order}")?)
+    format!(in alloc;
+        "{} {} {} {order}",
+        table.len(),
+        nodes.len(),
+        table.letters()
+    )
 }
 
 fn is_in_order(nodes: &[u32]) -> bool {
@@ -35,18 +43,16 @@ fn is_in_order(nodes: &[u32]) -> bool {
         .all(|(place, node)| place == *node as usize)
 }
 
-/// Where the letters of the text, each by its number behind the state that it is to lead from, lead to.
+/// Where a letter leads from a state: the text has the numbers of the state and of the letter.
 pub(crate) fn next(alloc: Global, case: &Case) -> Result<String, AllocError> {
     or_fault(alloc, next_text(alloc, case))
 }
 
 fn next_text(alloc: Global, case: &Case) -> Result<String, SpecError> {
-    let (table, _) = build_circle(alloc, case)?;
-    let numbers = numbers_of(alloc, text_of(&case.text))?;
-    match numbers.as_slice() {
-        [state, letter] => Ok(format!(in alloc; "{}", next_of(&table, *state, *letter))?),
-        _ => Ok(String::from_str(alloc, "no such state or letter")?),
-    }
+    let (table, _nodes) = build_circle(alloc, case)?;
+    let (state, letter) = text_of(&case.text).split_once(' ').unwrap_or(("", ""));
+    let next = next_of(&table, number_of(state), number_of(letter));
+    Ok(format!(in alloc; "{next}")?)
 }
 
 fn next_of(table: &Table, state: u16, letter: u16) -> u16 {
@@ -63,13 +69,18 @@ pub(crate) fn word(alloc: Global, case: &Case) -> Result<String, AllocError> {
 }
 
 fn word_text(alloc: Global, case: &Case) -> Result<String, SpecError> {
-    let (table, _) = build_circle(alloc, case)?;
-    let word = letters_of(alloc, text_of(&case.text))?;
+    let (table, _nodes) = build_circle(alloc, case)?;
+    Ok(after_text(alloc, &table, text_of(&case.text))?)
+}
+
+/// The start, and the state after a word.
+fn after_text(alloc: Global, table: &Table, word: &str) -> Result<String, AllocError> {
+    let word = letters_of(alloc, word)?;
     if !are_letters(&word, table.letters()) {
-        return Ok(String::from_str(alloc, "no such letter")?);
+        return String::from_str(alloc, "no such letter");
     }
     let after = table.state_after(&word);
-    Ok(format!(in alloc; "{} {after}", table.start())?)
+    format!(in alloc; "{} {after}", table.start())
 }
 
 fn letters_of(alloc: Global, word: &str) -> Result<Vec<Letter>, AllocError> {
@@ -92,17 +103,14 @@ pub(crate) fn groups(alloc: Global, case: &Case) -> Result<String, AllocError> {
 }
 
 fn groups_text(alloc: Global, case: &Case) -> Result<String, SpecError> {
-    let (mut table, _) = build_circle(alloc, case)?;
+    let (mut table, _nodes) = build_circle(alloc, case)?;
     let (first, second) = text_of(&case.text).split_once('\n').unwrap_or(("", ""));
     let first = add_group(alloc, &mut table, first)?;
     let second = add_group(alloc, &mut table, second)?;
-    let mut out = members_text(alloc, &table, first)?;
-    out.push('\n')?;
-    out.push_str(&members_text(alloc, &table, second)?)?;
-    Ok(out)
+    Ok(members_text(alloc, &table, first, second)?)
 }
 
-/// Adds the group of those of these states that the table has.
+/// Adds the group of these states.
 fn add_group(alloc: Global, table: &mut Table, states: &str) -> Result<u16, SpecError>
     requires { length table.old.groups < 65535 }
     ensures number { IfOk result (λ group. group < length table.new.groups) }
@@ -121,17 +129,33 @@ fn are_states(numbers: &[u16], states: u16) -> bool
     numbers.iter().all(|state| *state < states)
 }
 
-fn members_text(alloc: Global, table: &Table, group: u16) -> Result<String, AllocError>
+fn members_text(alloc: Global, table: &Table, first: u16, second: u16) -> Result<String, AllocError>
+    requires first { first < length table.now.groups }
+    requires second { second < length table.now.groups }
+{
+    let mut out = String::new(alloc);
+    add_members(&mut out, alloc, table, first)?;
+    out.push('\n')?;
+    add_members(&mut out, alloc, table, second)?;
+    Ok(out)
+}
+
+fn add_members(out: &mut String, alloc: Global, table: &Table, group: u16) -> Result<(), AllocError>
     requires { group < length table.now.groups }
 {
-    let mut out = format!(in alloc; "{group}:")?;
+    add_number(out, alloc, "", group)?;
+    out.push(':')?;
     for state in 0..table.len() {
         if table.in_group(state, group) {
-            let member = format!(in alloc; " {state}")?;
-            out.push_str(&member)?;
+            add_number(out, alloc, " ", state)?;
         }
     }
-    Ok(out)
+    Ok(())
+}
+
+fn add_number(out: &mut String, alloc: Global, front: &str, number: u16) -> Result<(), AllocError> {
+    let text = format!(in alloc; "{front}{number}")?;
+    out.push_str(&text)
 }
 
 fn build_circle(alloc: Global, case: &Case) -> Result<(Table, Vec<u32>), SpecError>
@@ -154,7 +178,11 @@ fn text_of(text: &[u8]) -> &str {
 fn numbers_of(alloc: Global, text: &str) -> Result<Vec<u16>, AllocError> {
     let mut numbers = Vec::new(alloc);
     for word in text.split_whitespace() {
-        numbers.push(word.parse::<u16>().unwrap_or(u16::MAX))?;
+        numbers.push(number_of(word))?;
     }
     Ok(numbers)
+}
+
+fn number_of(digits: &str) -> u16 {
+    digits.parse::<u16>().unwrap_or(u16::MAX)
 }
