@@ -5,16 +5,11 @@ use std::alloc::{AllocError, Global};
 /// The answer to a case.
 pub(crate) fn answer(alloc: Global, case: &Case) -> Result<String, AllocError> {
     match case.verb.as_str() {
-        "grammar" => grammar::productions(alloc, case),
-        "size" => grammar::size(alloc, case),
-        "productive" => grammar::productive(alloc, case),
-        "reduce" => grammar::reduce(alloc, case),
+        "grammar" | "reduce" | "size" | "productive" => grammar::answer(alloc, case),
         "made" => grammar::made(alloc, case),
-        "matches" => chart::matches(alloc, case),
-        "futures" => chart::futures(alloc, case),
-        "crosses" => chart::crosses(alloc, case),
+        "matches" | "futures" | "crosses" => chart::answer(alloc, case),
         "goal" => goals::goal(alloc, case),
-        "rules" => rules::rules(alloc, case),
+        "rules" => rules::answer(alloc, case),
         "laws" => laws(alloc),
         _ => String::from_str(alloc, "no such verb"),
     }

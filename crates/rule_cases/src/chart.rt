@@ -13,43 +13,77 @@ use jm_grammar::{Grammar, GrammarSymbol, Production};
 use jm_model::{Letter, NoMemory, SpecError};
 use std::alloc::{AllocError, Global};
 
-/// Which of the words are in the language: `y` or `n` for each.
-pub(crate) fn matches(alloc: Global, case: &Case) -> Result<String, AllocError> {
-    or_fault(alloc, matches_text(alloc, case))
+/// Which of the words are in the language, `y` or `n` for each (`matches`), what may follow (`futures`), or whether the
+/// empty word is in it and charts may cross threads (`crosses`).
+pub(crate) fn answer(alloc: Global, case: &Case) -> Result<String, AllocError> {
+    or_fault(alloc, case_text(alloc, case))
 }
 
-fn matches_text(alloc: Global, case: &Case) -> Result<String, SpecError> {
+fn case_text(alloc: Global, case: &Case) -> Result<String, SpecError> {
     let events = events(alloc)?;
-    let charts = charts_of(alloc, &events, &case.first)?;
+    formula_text(alloc, case, &events)
+}
+
+fn formula_text(alloc: Global, case: &Case, events: &EventTable) -> Result<String, SpecError> {
+    let charts = charts_of(alloc, events, &case.first)?;
+    let words = text_of(&case.text);
+    match case.verb.as_str() {
+        "matches" => matches_text(alloc, &charts, words, events.letters()),
+        "futures" => futures_text(alloc, &charts, words, events.letters()),
+        _ => crosses_text(alloc, &charts),
+    }
+}
+
+fn matches_text(
+    alloc: Global,
+    charts: &Charts,
+    words: &str,
+    letters: u8,
+) -> Result<String, SpecError>
+    requires { letters ≤ length charts.now.params }
+{
     let mut out = String::new(alloc);
-    for word in text_of(&case.text).split_whitespace() {
-        let chart = chart_of(&charts, word, events.letters())?;
-        out.push(mark(charts.matches(&chart)))?;
+    for word in words.split_whitespace() {
+        out.push(mark(is_in(charts, word, letters)?))?;
     }
     Ok(out)
+}
+
+fn is_in(charts: &Charts, word: &str, letters: u8) -> Result<bool, NoMemory>
+    requires { letters ≤ length charts.now.params }
+{
+    let chart = chart_of(charts, word, letters)?;
+    Ok(charts.matches(&chart))
 }
 
 /// For each of the words, whether it fails, and whether it is alive where no parameter is dead, where that of `a` is,
 /// where that of `b` is, and where both are: `y` or `n` for each.
-pub(crate) fn futures(alloc: Global, case: &Case) -> Result<String, AllocError> {
-    or_fault(alloc, futures_text(alloc, case))
-}
-
-fn futures_text(alloc: Global, case: &Case) -> Result<String, SpecError> {
-    let events = events(alloc)?;
-    let charts = charts_of(alloc, &events, &case.first)?;
+fn futures_text(
+    alloc: Global,
+    charts: &Charts,
+    words: &str,
+    letters: u8,
+) -> Result<String, SpecError>
+    requires { letters ≤ length charts.now.params }
+{
     let mut out = String::new(alloc);
-    for word in text_of(&case.text).split_whitespace() {
-        if !out.is_empty() {
-            out.push(' ')?;
-        }
-        let chart = chart_of(&charts, word, events.letters())?;
-        add_future(&mut out, &charts, &chart)?;
+    let mut separator = "";
+    for word in words.split_whitespace() {
+        out.push_str(separator)?;
+        add_future(&mut out, charts, word, letters)?;
+        separator = " ";
     }
     Ok(out)
 }
 
-fn add_future(out: &mut String, charts: &Charts, chart: &Chart) -> Result<(), AllocError> {
+fn add_future(out: &mut String, charts: &Charts, word: &str, letters: u8) -> Result<(), SpecError>
+    requires { letters ≤ length charts.now.params }
+{
+    let chart = chart_of(charts, word, letters)?;
+    Ok(add_marks(out, charts, &chart)?)
+}
+
+fn add_marks(out: &mut String, charts: &Charts, chart: &Chart) -> Result<(), AllocError> {
     out.push(mark(charts.fails(chart)))?;
     for dead in 0..4 {
         out.push(mark(charts.alive(chart, dead)))?;
@@ -61,16 +95,9 @@ fn mark(answer: bool) -> char {
     if answer { 'y' } else { 'n' }
 }
 
-/// Whether the empty word is in the language, where charts may cross threads.
-pub(crate) fn crosses(alloc: Global, case: &Case) -> Result<String, AllocError> {
-    or_fault(alloc, crosses_text(alloc, case))
-}
-
-fn crosses_text(alloc: Global, case: &Case) -> Result<String, SpecError> {
-    let events = events(alloc)?;
-    let charts = charts_of(alloc, &events, &case.first)?;
+fn crosses_text(alloc: Global, charts: &Charts) -> Result<String, SpecError> {
     let chart = charts.begin()?;
-    may_cross(&charts);
+    may_cross(charts);
     may_cross(&chart);
     let text = if charts.matches(&chart) {
         "crosses"

@@ -1,7 +1,7 @@
 //! Context-free grammars.
 
 use crate::shown::{events_of, or_fault, text_of};
-use crate::written::{number_of, productions_of, productions_text};
+use crate::written::{add_productions, number_of, productions_of};
 use cases::Case;
 use jm_events::EventTable;
 use jm_grammar::{Grammar, read};
@@ -9,55 +9,46 @@ use jm_model::SpecError;
 use jm_text::tokens;
 use std::alloc::{AllocError, Global};
 
-/// The start and the productions of a case's formula, over its events, or the formula's fault.
-pub(crate) fn productions(alloc: Global, case: &Case) -> Result<String, AllocError> {
-    or_fault(alloc, productions_shown(alloc, case))
+/// What a case asks of its formula, over its events, or the formula's fault: the start and the productions (`grammar`),
+/// the same without what spells no word (`reduce`), how many productions there are (`size`), or the nonterminals that
+/// spell a word of the letters behind the events, by their bits (`productive`).
+pub(crate) fn answer(alloc: Global, case: &Case) -> Result<String, AllocError> {
+    or_fault(alloc, case_text(alloc, case))
 }
 
-fn productions_shown(alloc: Global, case: &Case) -> Result<String, SpecError> {
+fn case_text(alloc: Global, case: &Case) -> Result<String, SpecError> {
     let events = events_of(alloc, &case.first)?;
-    let grammar = grammar_of(alloc, &events, &case.text)?;
-    Ok(grammar_text(alloc, &grammar)?)
+    formula_text(alloc, case, &events)
 }
 
-/// How many productions of a case's formula there are, or the formula's fault.
-pub(crate) fn size(alloc: Global, case: &Case) -> Result<String, AllocError> {
-    or_fault(alloc, size_shown(alloc, case))
+fn formula_text(alloc: Global, case: &Case, events: &EventTable) -> Result<String, SpecError> {
+    let grammar = grammar_of(alloc, events, &case.text)?;
+    match case.verb.as_str() {
+        "reduce" => reduced_text(alloc, &grammar),
+        "productive" => productive_text(alloc, &grammar, &case.second),
+        "size" => size_text(alloc, &grammar),
+        _ => grammar_text(alloc, &grammar),
+    }
 }
 
-fn size_shown(alloc: Global, case: &Case) -> Result<String, SpecError> {
-    let events = events_of(alloc, &case.first)?;
-    let grammar = grammar_of(alloc, &events, &case.text)?;
-    Ok(format!(in alloc; "{}", grammar.productions().len())?)
-}
-
-/// The same without what spells no word.
-pub(crate) fn reduce(alloc: Global, case: &Case) -> Result<String, AllocError> {
-    or_fault(alloc, reduced_shown(alloc, case))
-}
-
-fn reduced_shown(alloc: Global, case: &Case) -> Result<String, SpecError> {
-    let events = events_of(alloc, &case.first)?;
-    let grammar = grammar_of(alloc, &events, &case.text)?;
+fn reduced_text(alloc: Global, grammar: &Grammar) -> Result<String, SpecError> {
     let reduced = grammar.reduce()?;
-    Ok(grammar_text(alloc, &reduced)?)
+    grammar_text(alloc, &reduced)
 }
 
-/// The nonterminals that spell a word of these letters, by their bits.
-pub(crate) fn productive(alloc: Global, case: &Case) -> Result<String, AllocError> {
-    or_fault(alloc, productive_shown(alloc, case))
-}
-
-fn productive_shown(alloc: Global, case: &Case) -> Result<String, SpecError> {
-    let events = events_of(alloc, &case.first)?;
-    let grammar = grammar_of(alloc, &events, &case.text)?;
-    let letters = case.second.parse::<u32>().unwrap_or(u32::MAX);
+fn productive_text(alloc: Global, grammar: &Grammar, letters: &str) -> Result<String, SpecError> {
+    let letters = letters.parse::<u32>().unwrap_or(u32::MAX);
     Ok(format!(in alloc; "{}", grammar.productive(letters))?)
 }
 
-fn grammar_text(alloc: Global, grammar: &Grammar) -> Result<String, AllocError> {
-    let productions = productions_text(alloc, grammar.productions())?;
-    format!(in alloc; "{}: {productions}", grammar.start())
+fn size_text(alloc: Global, grammar: &Grammar) -> Result<String, SpecError> {
+    Ok(format!(in alloc; "{}", grammar.productions().len())?)
+}
+
+fn grammar_text(alloc: Global, grammar: &Grammar) -> Result<String, SpecError> {
+    let mut out = format!(in alloc; "{}: ", grammar.start())?;
+    add_productions(alloc, &mut out, grammar.productions())?;
+    Ok(out)
 }
 
 /// Of the grammar of a case's productions and its start, if it is within the limits: how many productions there are, what
@@ -68,20 +59,27 @@ pub(crate) fn made(alloc: Global, case: &Case) -> Result<String, AllocError> {
 
 fn made_shown(alloc: Global, case: &Case) -> Result<String, SpecError> {
     let productions = productions_of(alloc, text_of(&case.text))?;
-    let Some(grammar) = Grammar::of(productions, number_of(&case.first)) else {
-        return Ok(String::from_str(alloc, "too large")?);
-    };
-    let letters = case.second.parse::<u32>().unwrap_or(u32::MAX);
-    made_text(alloc, &grammar, letters)
+    match Grammar::of(productions, number_of(&case.first)) {
+        Some(grammar) => made_text(alloc, &grammar, &case.second),
+        None => Ok(String::from_str(alloc, "too large")?),
+    }
 }
 
-fn made_text(alloc: Global, grammar: &Grammar, letters: u32) -> Result<String, SpecError> {
+fn made_text(alloc: Global, grammar: &Grammar, letters: &str) -> Result<String, SpecError> {
     let reduced = grammar.reduce()?;
+    let productive = grammar.productive(letters.parse::<u32>().unwrap_or(u32::MAX));
+    Ok(counts_text(alloc, grammar, &reduced, productive)?)
+}
+
+fn counts_text(
+    alloc: Global,
+    grammar: &Grammar,
+    reduced: &Grammar,
+    productive: u64,
+) -> Result<String, AllocError> {
     let (all, kept) = (grammar.productions().len(), reduced.productions().len());
-    let mut out = format!(in alloc; "{all} productions, {kept} from {}, ", reduced.start())?;
-    let productive = format!(in alloc; "productive {}", grammar.productive(letters))?;
-    out.push_str(&productive)?;
-    Ok(out)
+    let start = reduced.start();
+    format!(in alloc; "{all} productions, {kept} from {start}, productive {productive}")
 }
 
 /// The grammar of a formula, which stands behind a token on line 50.

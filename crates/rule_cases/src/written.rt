@@ -39,19 +39,19 @@ pub(crate) fn number_of(digits: &str) -> u8 {
     digits.parse::<u8>().unwrap_or(u8::MAX)
 }
 
-/// The productions in the same form, one after the other.
-pub(crate) fn productions_text(
+/// Adds the productions in the same form.
+pub(crate) fn add_productions(
     alloc: Global,
+    out: &mut String,
     productions: &[Production],
-) -> Result<String, AllocError> {
-    let mut out = String::new(alloc);
+) -> Result<(), AllocError> {
+    let mut separator = "";
     for production in productions {
-        if !out.is_empty() {
-            out.push_str("; ")?;
-        }
-        add_production(alloc, &mut out, production)?;
+        out.push_str(separator)?;
+        add_production(alloc, out, production)?;
+        separator = "; ";
     }
-    Ok(out)
+    Ok(())
 }
 
 fn add_production(
@@ -59,14 +59,21 @@ fn add_production(
     out: &mut String,
     production: &Production,
 ) -> Result<(), AllocError> {
-    let left = format!(in alloc; "{}", production.left)?;
-    out.push_str(&left)?;
+    add_number(alloc, out, "", production.left)?;
     for symbol in production.symbols.as_slice() {
-        let text = match *symbol {
-            GrammarSymbol::Letter(letter) => format!(in alloc; " e{}", letter.0)?,
-            GrammarSymbol::Nonterminal(n) => format!(in alloc; " n{n}")?,
-        };
-        out.push_str(&text)?;
+        add_symbol(alloc, out, *symbol)?;
     }
     Ok(())
+}
+
+fn add_symbol(alloc: Global, out: &mut String, symbol: GrammarSymbol) -> Result<(), AllocError> {
+    match symbol {
+        GrammarSymbol::Letter(letter) => add_number(alloc, out, " e", letter.0),
+        GrammarSymbol::Nonterminal(n) => add_number(alloc, out, " n", n),
+    }
+}
+
+fn add_number(alloc: Global, out: &mut String, front: &str, number: u8) -> Result<(), AllocError> {
+    let text = format!(in alloc; "{front}{number}")?;
+    out.push_str(&text)
 }
