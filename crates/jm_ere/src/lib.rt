@@ -15,6 +15,7 @@ mod keys;
 mod laws;
 mod live;
 mod order;
+mod parts;
 mod reader;
 mod reading;
 mod sizes;

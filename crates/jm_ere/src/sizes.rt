@@ -1,8 +1,8 @@
 //! The sizes of normal forms.
-ghost use Rattle.std.specs.Prelude.{◌≡◌, ◌+◌, ◌<◌, ◌≤◌, IfSome, IfNone, if◌then◌else◌, Ok};
+ghost use Rattle.std.specs.Prelude.{◌≡◌, ◌+◌, ◌<◌, ◌≤◌, IfSome, IfNone, if◌then◌else◌};
 ghost use Rattle.jm_table.specs.Graphs.{Answers};
 ghost use Rattle.jm_ere.specs.Trees.{expression_of};
-ghost use Rattle.jm_ere.specs.NormalForms.{size_of, fitting, part};
+ghost use Rattle.jm_ere.specs.NormalForms.{Formed, size_of, fitting, part};
 
 use crate::order::{is_intersection, is_union};
 use crate::tree::Tree;
@@ -62,8 +62,9 @@ pub(crate) fn fitting(tree: Tree) -> Result<Tree, SpecError>
 }
 
 /// A part, which has to fit unless it is inside a run that is made at once.
-pub(crate) fn part(inside: bool, tree: Tree) -> Result<Tree, SpecError>
-    ensures { Answers expression_of (part inside (Ok (expression_of tree))) result }
+pub(crate) fn part(inside: bool, formed: Result<Tree, SpecError>) -> Result<Tree, SpecError>
+    ensures { (r : Formed) → Answers expression_of r formed → Answers expression_of (part inside r) result }
 {
+    let tree = formed?;
     if inside { Ok(tree) } else { fitting(tree) }
 }

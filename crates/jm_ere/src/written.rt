@@ -1,11 +1,12 @@
 //! The normal forms of written expressions.
-ghost use Rattle.std.specs.Prelude.{◌≡◌};
+ghost use Rattle.std.specs.Prelude.{◌≡◌, Ok};
 ghost use Rattle.jm_table.specs.Graphs.{Answers};
 ghost use Rattle.jm_ere.specs.Trees.{expression_of};
-ghost use Rattle.jm_ere.specs.NormalForms.{normal_run, normal_form};
+ghost use Rattle.jm_ere.specs.NormalForms.{Formed, ◌>>=◌ as ◌>>>◌, fitting, product_of, star_of, normal_run, normal_form};
 
-use crate::forms::{complement_of, copy, intersection_of, product_of, star_of, union_of};
+use crate::forms::{copy, product_of, star_of};
 use crate::order::{is_intersection, is_product, is_union};
+use crate::parts::{complement_of_part, intersection_of_parts, union_of_parts};
 use crate::sizes::{fitting, part};
 use crate::tree::Tree;
 use jm_model::SpecError;
@@ -29,33 +30,54 @@ fn normal_run(alloc: Global, tree: &Tree) -> Result<Tree, SpecError>
         Tree::Letter(letter) => Ok(Tree::Letter(*letter)),
         Tree::Epsilon => Ok(Tree::Epsilon),
         Tree::Empty => Ok(Tree::Empty),
-        Tree::Not(r) => {
-            let inner = part(false, normal_run(alloc, r)?)?;
-            complement_of(alloc, inner)
-        }
-        Tree::Star(r) => {
-            let inner = part(false, normal_run(alloc, r)?)?;
-            star_of(alloc, inner)
-        }
-        Tree::Plus(r) => {
-            let inner = part(false, normal_run(alloc, r)?)?;
-            let rest = fitting(star_of(alloc, copy(alloc, &inner)?)?)?;
-            product_of(alloc, inner, rest)
-        }
+        Tree::Not(r) => complement_of_part(alloc, part(false, normal_run(alloc, r))),
+        Tree::Star(r) => star_of_part(alloc, part(false, normal_run(alloc, r))),
+        Tree::Plus(r) => repeat_of_part(alloc, part(false, normal_run(alloc, r))),
         Tree::Then(r, s) => {
-            let first = part(is_product(r), normal_run(alloc, r)?)?;
-            let rest = part(is_product(s), normal_run(alloc, s)?)?;
-            product_of(alloc, first, rest)
+            let first = part(is_product(r), normal_run(alloc, r));
+            let rest = part(is_product(s), normal_run(alloc, s));
+            product_of_parts(alloc, first, rest)
         }
         Tree::Either(r, s) => {
-            let first = part(is_union(r), normal_run(alloc, r)?)?;
-            let rest = part(is_union(s), normal_run(alloc, s)?)?;
-            union_of(alloc, first, rest)
+            let first = part(is_union(r), normal_run(alloc, r));
+            let rest = part(is_union(s), normal_run(alloc, s));
+            union_of_parts(alloc, first, rest)
         }
         Tree::Both(r, s) => {
-            let first = part(is_intersection(r), normal_run(alloc, r)?)?;
-            let rest = part(is_intersection(s), normal_run(alloc, s)?)?;
-            intersection_of(alloc, first, rest)
+            let first = part(is_intersection(r), normal_run(alloc, r));
+            let rest = part(is_intersection(s), normal_run(alloc, s));
+            intersection_of_parts(alloc, first, rest)
         }
     }
+}
+
+fn star_of_part(alloc: Global, inner: Result<Tree, SpecError>) -> Result<Tree, SpecError>
+    ensures { (n : Formed) → Answers expression_of n inner → Answers expression_of (n >>> λ n. Ok (star_of n)) result }
+{
+    let inner = inner?;
+    star_of(alloc, inner)
+}
+
+/// `r+` of a part, which is `r r*`.
+fn repeat_of_part(alloc: Global, inner: Result<Tree, SpecError>) -> Result<Tree, SpecError>
+    ensures { (n : Formed) → Answers expression_of n inner →
+        Answers expression_of (n >>> λ n. fitting (star_of n) >>> λ s. Ok (product_of n s)) result }
+{
+    let inner = inner?;
+    let rest = star_of(alloc, copy(alloc, &inner)?)?;
+    let rest = fitting(rest)?;
+    product_of(alloc, inner, rest)
+}
+
+fn product_of_parts(
+    alloc: Global,
+    first: Result<Tree, SpecError>,
+    rest: Result<Tree, SpecError>,
+) -> Result<Tree, SpecError>
+    ensures { (n m : Formed) → Answers expression_of n first → Answers expression_of m rest →
+        Answers expression_of (n >>> λ n. m >>> λ m. Ok (product_of n m)) result }
+{
+    let first = first?;
+    let rest = rest?;
+    product_of(alloc, first, rest)
 }

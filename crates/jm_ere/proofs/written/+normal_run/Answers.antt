@@ -1,0 +1,41 @@
+use Rattle.std.proofs.Common.{◌≡◌}
+use Rattle.jm_ere.proofs.written.+normal_run.Goals as goal
+
+pub returns-in-Not : goal.returns-in-Not
+returns-in-Not t c =
+    let inner = rw c.deref.ensures at c.normal_run.ensures in
+    rw c.in-Not.is (c.complement_of_part.ensures _ (c.part.ensures _ inner))
+
+pub returns-in-Star : goal.returns-in-Star
+returns-in-Star t c =
+    let inner = rw c.deref-in-Star.ensures at c.normal_run-in-Star.ensures in
+    rw c.in-Star.is (c.star_of_part.ensures _ (c.part-in-Star.ensures _ inner))
+
+pub returns-in-Plus : goal.returns-in-Plus
+returns-in-Plus t c =
+    let inner = rw c.deref-in-Plus.ensures at c.normal_run-in-Plus.ensures in
+    rw c.in-Plus.is (c.repeat_of_part.ensures _ (c.part-in-Plus.ensures _ inner))
+
+pub returns-in-Then : goal.returns-in-Then
+returns-in-Then t c =
+    let first = rw c.deref-in-Then-2.ensures at c.normal_run-in-Then.ensures in
+    let rest = rw c.deref-in-Then-4.ensures at c.normal_run-in-Then-2.ensures in
+    let first = rw (c.is_product.ensures, c.deref-in-Then.ensures) at (c.part-first.ensures _ first) in
+    let rest = rw (c.is_product-in-Then.ensures, c.deref-in-Then-3.ensures) at (c.part-rest.ensures _ rest) in
+    rw c.in-Then.is (c.product_of_parts.ensures _ _ first rest)
+
+pub returns-in-Either : goal.returns-in-Either
+returns-in-Either t c =
+    let first = rw c.deref-in-Either-2.ensures at c.normal_run-in-Either.ensures in
+    let rest = rw c.deref-in-Either-4.ensures at c.normal_run-in-Either-2.ensures in
+    let first = rw (c.is_union.ensures, c.deref-in-Either.ensures) at (c.part-first-in-Either.ensures _ first) in
+    let rest = rw (c.is_union-in-Either.ensures, c.deref-in-Either-3.ensures) at (c.part-rest-in-Either.ensures _ rest) in
+    rw c.in-Either.is (c.union_of_parts.ensures _ _ first rest)
+
+pub returns-in-Both : goal.returns-in-Both
+returns-in-Both t c =
+    let first = rw c.deref-in-Both-2.ensures at c.normal_run-in-Both.ensures in
+    let rest = rw c.deref-in-Both-4.ensures at c.normal_run-in-Both-2.ensures in
+    let first = rw (c.is_intersection.ensures, c.deref-in-Both.ensures) at (c.part-first-in-Both.ensures _ first) in
+    let rest = rw (c.is_intersection-in-Both.ensures, c.deref-in-Both-3.ensures) at (c.part-rest-in-Both.ensures _ rest) in
+    rw c.in-Both.is (c.intersection_of_parts.ensures _ _ first rest)
