@@ -257,3 +257,10 @@ below_set f os p o within before here =
     below_more (λ k. get_or (set os p o) k 0 ≡ f k) p
     (λ k h. let other : k ≢ p = omega arith in get_or-set_other os p k o 0 other ∙ before k h)
     (get_or-set_same os p o 0 within ∙ here)
+
+-- the fields of a stored binding, by what it stands for
+pub mask_bits-view : (mask : ℕ) (os : List ℕ) (b : List (Option ℕ)) → options_of mask os ≡ b → IsStored mask os → mask_bits b ≡ mask
+mask_bits-view mask os b e h = rw (← e) (mask_bits-stored mask os h)
+
+pub stored_of-view : (mask : ℕ) (os : List ℕ) (b : List (Option ℕ)) → options_of mask os ≡ b → IsStored mask os → stored_of b ≡ os
+stored_of-view mask os b e h = rw (← e) h.unbound

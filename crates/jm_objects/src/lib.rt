@@ -1,0 +1,62 @@
+//! Which objects are alive: a bit for each object. An object that died stays dead.
+#![tactic(auto)]
+
+ghost use Rattle.std.specs.Prelude.{ℕ, ◌≡◌, ◌<◌, ◌^◌, Bool, not, true, false, Some, IfOk, length, replicate, slice_get, slice_set};
+
+use std::alloc::{AllocError, Global};
+use std::marker::Model;
+
+/// The objects 0, 1, 2, .., each alive or dead. Contracts see a list of flags: true where the object is dead.
+#[derive(Drop)]
+pub struct Objects {
+    words: Vec<u64>,
+    len: u32,
+}
+
+impl Model for Objects {
+    ghost use Rattle.std.specs.Prelude.{List, Bool};
+    ghost use Rattle.jm_objects.specs.Flags.{flags_of, IsRoom};
+
+    ghost Value = { List Bool };
+
+    ghost view = { λ o. flags_of o.len o.words.items };
+
+    ghost invariant = { λ o. IsRoom o.len o.words.items };
+}
+
+impl Objects {
+    /// So many live objects.
+    pub fn new(alloc: Global, n: u32) -> Result<Objects, AllocError>
+        ensures { IfOk result (λ objects. objects ≡ replicate n false) }
+    {
+        let words = vec![in alloc; 0u64; (n as usize).div_ceil(64)]?;
+        Ok(Objects { words, len: n })
+    }
+
+    /// How many objects there are, dead ones among them.
+    pub fn len(&self) -> u32
+        ensures { result ≡ length self.now }
+    {
+        self.len
+    }
+
+    /// Whether an object is dead.
+    pub fn is_dead(&self, object: u32) -> bool
+        requires { object < length self.now }
+        ensures { slice_get self.now object ≡ Some result }
+    {
+        (self.words[object as usize / 64] >> (object % 64)) % 2 == 1
+    }
+
+    /// Lets an object die, and answers whether it was alive.
+    pub fn kill(&mut self, object: u32) -> bool
+        requires { object < length self.old }
+        ensures answer { slice_get self.old object ≡ Some (not result) }
+        ensures dead { self.new ≡ slice_set self.old object true }
+    {
+        let index = object as usize / 64;
+        let word = self.words[index];
+        self.words[index] = word | 1 << (object % 64);
+        (word >> (object % 64)) % 2 == 0
+    }
+}
