@@ -92,22 +92,22 @@ fn events_step(
     }
     let (name, mask) = rest.split_once(' ').unwrap_or((rest, "0"));
     let mask = u8::try_from(number_of(mask)).unwrap_or(0);
-    mention(alloc, table, name, mask, verb == "creation", line)
+    shown(alloc, mention(table, name, mask, verb == "creation", line))
 }
 
+/// The number of an event's letter, where its parameters are there.
 fn mention(
-    alloc: Global,
     table: &mut EventTable,
     name: &str,
     mask: u8,
     creation: bool,
     line: u32,
-) -> Result<String, AllocError> {
+) -> Result<u8, SpecError> {
     if u32::from(mask) >= 1u32 << table.params() {
-        return String::from_str(alloc, "no such parameter");
+        return Err(SpecError::NoMemory);
     }
-    let letter = table.add_event(name, mask, creation, line);
-    shown(alloc, letter.map(|letter| letter.0))
+    let letter = table.add_event(name, mask, creation, line)?;
+    Ok(letter.0)
 }
 
 /// A number or a fault.

@@ -26,9 +26,19 @@ fn tree_text(
 ) -> Result<String, AllocError> {
     let mut out = head_text(alloc, bytes, tree)?;
     put_logic(alloc, &mut out, tree)?;
-    put_range(&mut out, bytes, all, tree.first, tree.last)?;
-    put_handlers(&mut out, bytes, all, tree)?;
+    put_texts(&mut out, bytes, all, tree)?;
     Ok(out)
+}
+
+/// Appends the formula and the handlers.
+fn put_texts(
+    out: &mut String,
+    bytes: &[u8],
+    all: &[Token],
+    tree: &SpecTree,
+) -> Result<(), AllocError> {
+    put_range(out, bytes, all, tree.first, tree.last)?;
+    put_handlers(out, bytes, all, tree)
 }
 
 fn head_text(alloc: Global, bytes: &[u8], tree: &SpecTree) -> Result<String, AllocError> {
