@@ -1,5 +1,5 @@
 -- What the status of a command says of its job.
-use Rattle.std.proofs.Common.{◌≡◌, ℕ, zero, suc, ◌<◌, ◌≤◌, ◌⊎◌, inl, inr, List, [], ◌∷◌, length, Option, Some, None, refl, sym, ap, subst, ◌∙◌, arith}
+use Rattle.std.proofs.Common.{◌≡◌, ℕ, zero, suc, ◌<◌, ◌≤◌, ◌⊎◌, inl, inr, List, [], ◌∷◌, length, Option, Some, None, Result, Ok, Err, IfOk, IfErr, refl, sym, ap, subst, ◌∙◌, arith}
 use Rattle.std.specs.Prelude.{IfSome, IsSome}
 use Rattle.jm_port.specs.Faults.{HasRisen}
 use Rattle.jm_model.specs.declared.fault.SpecFault.TheVariants as spec
@@ -12,7 +12,7 @@ use Rattle.jm_top.specs.Words.{replay_names}
 use Rattle.jm_top.specs.Specifications.{Specification, IsSpecification, too_long as spec_too_long, most_bytes}
 use Rattle.jm_top.specs.Scripts.{IsScript, IsScriptFault, too_long, in_line}
 use Rattle.jm_top.specs.Jobs.{Refused, Replay, IsJob, no_command, bad_spec, bad_script, replay, Holds, ReachesFile, first_file, second_file, IsCaused, AreTold}
-use Rattle.jm_top.specs.Causes.{IsBeforeWriting, IsSpecUnloaded, IsScriptUnloaded, IsNoSpecification, IsNoScript}
+use Rattle.jm_top.specs.Causes.{IsBeforeWriting, IsSpecUnloaded, IsScriptUnloaded, IsNoSpecification, IsNoScript, IsSpecUnread, IsScriptUnread}
 use Rattle.jm_top.specs.Replays.{IsTextOfReplay}
 use Rattle.jm_top.specs.Endings.{IsText}
 use Rattle.jm_top.proofs.OneReadingLemmas.{one_specification, specification_has_no_fault, same_some, never_some}
@@ -178,3 +178,38 @@ before_script s bytes NoMemory h = tt
 -- a count that rose later rose since before
 pub risen_before : {before middle after : ℕ} → before ≤ middle → HasRisen middle after → HasRisen before after
 risen_before {before} {middle} {after} le h = elim h [ inl more ↦ inl (omega (arith, le, more)) | inr last ↦ inr last ]
+
+-- ---- what isn't read
+
+pub spec_unread : (words : List (List ℕ)) (contents : List ℕ → Option (List ℕ)) (file name : List ℕ) → replay_names words ≡ Some (file, name) → (status : Status) → IsSpecUnread contents file status → IsCaused words contents status
+spec_unread words contents file name spelled status (inl h) = spec_unloaded words contents file name spelled status h
+spec_unread words contents file name spelled status (inr h) = no_specification words contents file name spelled h.0 h.1 status h.2
+
+pub script_unread : (words : List (List ℕ)) (contents : List ℕ → Option (List ℕ)) (file name : List ℕ) → replay_names words ≡ Some (file, name) → (bytes : List ℕ) → Holds contents file bytes → (s : Specification) → IsSpecification bytes s
+    → (status : Status) → IsScriptUnread contents name s status → IsCaused words contents status
+script_unread words contents file name spelled bytes held s said status (inl h) = script_unloaded words contents file name spelled bytes held s said status h
+script_unread words contents file name spelled bytes held s said status (inr h) = no_script words contents file name spelled bytes held s said h.0 h.1 status h.2
+
+pub unread_before : (before after : List ℕ → Option (List ℕ)) (name : List ℕ) (s : Specification) (status : Status) → after name ≡ before name → IsScriptUnread after name s status → IsScriptUnread before name s status
+unread_before before after name s status same (inl h) = inl (too_long_before before after name status same h)
+unread_before before after name s status same (inr h) = inr (h.0, held_before before after name h.0 same h.1, h.2)
+
+pub before_spec_unread : (contents : List ℕ → Option (List ℕ)) (name : List ℕ) (status : Status) → IsSpecUnread contents name status → IsBeforeWriting status
+before_spec_unread contents name status (inl h) = before_spec_load contents name status h
+before_spec_unread contents name status (inr h) = before_specification h.0 status h.2
+
+pub before_script_unread : (contents : List ℕ → Option (List ℕ)) (name : List ℕ) (s : Specification) (status : Status) → IsScriptUnread contents name s status → IsBeforeWriting status
+before_script_unread contents name s status (inl h) = before_script_load contents name status h
+before_script_unread contents name s status (inr h) = before_script s h.0 status h.2
+
+-- what holds of a value or of an error that a call answers
+pub for_ok : {V E : Type 0} (P Q : V → Type 0) (r : Result V E) → ((v : V) → P v → Q v) → IfOk r P → IfOk r Q
+for_ok P Q (Ok v) f h = f v h
+for_ok P Q (Err e) f h = tt
+
+pub for_err : {V E : Type 0} (P Q : E → Type 0) (r : Result V E) → ((e : E) → P e → Q e) → IfErr r P → IfErr r Q
+for_err P Q (Ok v) f h = tt
+for_err P Q (Err e) f h = f e h
+
+pub error_is : {V E : Type 0} (P : E → Type 0) (r : Result V E) (e : E) → r ≡ Err e → IfErr r P → P e
+error_is P r e is h = subst (λ q. IfErr q P) is h

@@ -1,11 +1,12 @@
 -- Why the work of a command ends before its text is written.
-use Rattle.std.specs.Prelude.{ℕ, ◌≡◌, ◌<◌, List, length, Option, IfSome}
+use Rattle.std.specs.Prelude.{ℕ, ◌≡◌, ◌<◌, ◌⊎◌, List, length, Option, IfSome}
 use Rattle.jm_model.specs.declared.fault.SpecFault.TheVariants as spec
 use Rattle.jm_model.specs.declared.fault.ScriptFault.TheVariants as script
 use Rattle.jm_top.specs.declared.status.Status.{Status}
 use Rattle.jm_top.specs.declared.status.Status.TheVariants.{Done, BadSpec, BadScript, ReadFailed, WriteFailed, NoMemory}
 use Rattle.jm_top.specs.Specifications.{Specification, IsSpecFault, most_bytes}
 use Rattle.jm_top.specs.Scripts.{IsScriptFault}
+use Rattle.jm_top.specs.Jobs.{Holds}
 
 -- a status that comes before anything is written
 abbrev pub IsBeforeWriting : Status → Type 0
@@ -40,3 +41,12 @@ abbrev pub IsNoScript : Specification → List ℕ → Status → Type 0
 IsNoScript s bytes (BadScript number fault) = (number ≡ 0) × IsScriptFault s bytes fault
 IsNoScript s bytes NoMemory = Unit {0}
 IsNoScript s bytes _ = ⊥
+
+-- the specification, or the script, wasn't loaded, or its bytes are none
+abbrev pub IsSpecUnread : (List ℕ → Option (List ℕ)) → List ℕ → Status → Type 0
+IsSpecUnread contents name status =
+    IsSpecUnloaded contents name status ⊎ ((bytes : List ℕ) × Holds contents name bytes × IsNoSpecification bytes status)
+
+abbrev pub IsScriptUnread : (List ℕ → Option (List ℕ)) → List ℕ → Specification → Status → Type 0
+IsScriptUnread contents name s status =
+    IsScriptUnloaded contents name status ⊎ ((text : List ℕ) × Holds contents name text × IsNoScript s text status)

@@ -1,8 +1,9 @@
 -- What the calls that read a specification answer.
-use Rattle.std.specs.Prelude.{ℕ, ◌≡◌, ◌<◌, ◌≤◌, ◌^◌, List, length, map, All, string_bytes}
+use Rattle.std.specs.Prelude.{ℕ, ◌≡◌, ◌<◌, ◌≤◌, ◌^◌, List, length, map, All, Option, string_bytes}
 use Rattle.jm_top.specs.declared.specification.Loaded.{Loaded}
 use Rattle.jm_top.specs.Specifications.{Specification, IsSpecification}
 use Rattle.jm_top.specs.Scripts.{catalog_of}
+use Rattle.jm_top.specs.Jobs.{Holds}
 
 -- what is kept of a specification that was read
 pub record Keeps (s : Specification) (l : Loaded) : Type 0 where
@@ -24,3 +25,9 @@ pub record IsRead (bytes : List ℕ) (l : Loaded) : Type 0 where
   pub specification : Specification
   pub said : IsSpecification bytes specification
   pub kept : IsKept specification l
+
+-- a file that may have this name says a specification, which is kept
+pub record IsReadFrom (contents : List ℕ → Option (List ℕ)) (name : List ℕ) (l : Loaded) : Type 0 where
+  pub bytes : List ℕ
+  pub held : Holds contents name bytes
+  pub read : IsRead bytes l

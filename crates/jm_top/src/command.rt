@@ -6,10 +6,10 @@ ghost use Rattle.jm_top.specs.Words.{replay_names};
 ghost use Rattle.jm_top.specs.Specifications.{Specification, most_bytes};
 ghost use Rattle.jm_top.specs.Scripts.{catalog_of};
 ghost use Rattle.jm_top.specs.Jobs.{IsJob, Replay, Holds, IsCaused, AreTold};
-ghost use Rattle.jm_top.specs.Causes.{IsBeforeWriting, IsSpecUnloaded, IsScriptUnloaded, IsNoSpecification, IsNoScript};
+ghost use Rattle.jm_top.specs.Causes.{IsBeforeWriting, IsSpecUnloaded, IsScriptUnloaded, IsNoSpecification, IsNoScript, IsSpecUnread, IsScriptUnread};
 ghost use Rattle.jm_top.specs.Endings.{IsText, Writes, WritesText, Ends, Reports};
-ghost use Rattle.jm_top.specs.Reading.{IsRead};
-ghost use Rattle.jm_top.specs.Steps.{IsReadScript};
+ghost use Rattle.jm_top.specs.Reading.{IsRead, IsReadFrom};
+ghost use Rattle.jm_top.specs.Steps.{IsReadScript, IsScriptFrom};
 
 use crate::replay::replay;
 use crate::script::{Steps, read_steps};
@@ -121,14 +121,39 @@ fn make_text<F: Folder>(
     ensures before { IfErr result IsBeforeWriting }
     ensures read_failed { (file : ℕ) → result ≡ Err (Status.ReadFailed file) → HasRisen (F.faults files.old) (F.faults files.new) }
 {
-    let bytes = load_spec(spec, files)?;
-    let loaded = specification(alloc, bytes.as_slice())?;
-    let bytes = load_script(script, files)?;
-    let steps = steps(alloc, bytes.as_slice(), &loaded.catalog)?;
+    let loaded = spec_of(alloc, spec, files)?;
+    let steps = script_of(alloc, script, files, &loaded.catalog)?;
     match replay(alloc, loaded, &steps) {
         Ok(text) => Ok(text),
         Err(NoMemory) => Err(Status::NoMemory),
     }
+}
+
+/// The specification of this name.
+fn spec_of<F: Folder>(alloc: Global, name: &str, files: &mut F) -> Result<Loaded, Status>
+    ensures read { IfOk result (λ l. IsReadFrom (F.holds files.old) name.now l) }
+    ensures err { IfErr result (IsSpecUnread (F.holds files.old) name.now) }
+    ensures read_failed { (file : ℕ) → result ≡ Err (Status.ReadFailed file) → HasRisen (F.faults files.old) (F.faults files.new) }
+    ensures never_falls { F.faults files.old ≤ F.faults files.new }
+    ensures same { (other : List ℕ) → F.holds files.new other ≡ F.holds files.old other }
+{
+    let bytes = load_spec(name, files)?;
+    specification(alloc, bytes.as_slice())
+}
+
+/// The script of this name.
+fn script_of<F: Folder>(
+    alloc: Global,
+    name: &str,
+    files: &mut F,
+    catalog: &Catalog,
+) -> Result<Steps, Status>
+    ensures read { (s : Specification) → catalog.now ≡ catalog_of s → IfOk result (λ steps. IsScriptFrom (F.holds files.old) name.now s steps) }
+    ensures err { (s : Specification) → catalog.now ≡ catalog_of s → IfErr result (IsScriptUnread (F.holds files.old) name.now s) }
+    ensures read_failed { (s : Specification) → catalog.now ≡ catalog_of s → (file : ℕ) → result ≡ Err (Status.ReadFailed file) → HasRisen (F.faults files.old) (F.faults files.new) }
+{
+    let bytes = load_script(name, files)?;
+    steps(alloc, bytes.as_slice(), catalog)
 }
 
 /// The bytes of the specification.

@@ -1,5 +1,6 @@
 //! Replaying a script.
-ghost use Rattle.std.specs.Prelude.{ℕ, List, All, IfOk, length};
+ghost use Rattle.std.specs.Prelude.{ℕ, List, All, IfOk, length, string_bytes};
+ghost use Rattle.jm_machine.specs.Meanings.{rules_meaning};
 ghost use Rattle.jm_model.specs.declared.step.Entry.{Entry};
 ghost use Rattle.jm_core.specs.Cores.{IsEventOf};
 ghost use Rattle.jm_print.specs.Lexicons.{lexicon_of};
@@ -10,7 +11,7 @@ ghost use Rattle.jm_top.specs.Steps.{IsReadScript};
 ghost use Rattle.jm_top.specs.Replays.{IsReplayOf, IsPrintedReplay, IsTextOfReplay};
 
 use crate::script::Steps;
-use crate::specification::Loaded;
+use crate::specification::{Loaded, parts};
 use jm_core::Prop;
 use jm_events::{EventTable, Names};
 use jm_model::{Monitor, NoMemory, Step};
@@ -23,21 +24,29 @@ pub(crate) fn replay(alloc: Global, spec: Loaded, steps: &Steps) -> Result<Vec<u
     requires { (s : Specification) × IsKept s spec × ((bytes : List ℕ) × IsReadScript s bytes steps.now) }
     ensures { (s : Specification) → IsKept s spec → (bytes : List ℕ) → IsReadScript s bytes steps.now → IfOk result (λ text. IsTextOfReplay s steps.now.script steps.now.objects text.items) }
 {
-    let Loaded {
-        name,
-        table,
-        handlers,
-        catalog: _,
-        rules,
-    } = spec;
     let own = project(alloc, &steps.script, 0)?;
+    replay_own(alloc, spec, own.as_slice(), &steps.objects)
+}
+
+/// The printed history of these steps of a specification.
+fn replay_own(
+    alloc: Global,
+    spec: Loaded,
+    own: &[(u32, Step)],
+    objects: &Names,
+) -> Result<Vec<u8>, NoMemory>
+    requires events { All (λ step. IsEventOf (rules_meaning spec.rules.definition) (length objects.now) step.1) own.now }
+    requires printable { (h : List Entry) → IsReplayOf (rules_meaning spec.rules.definition) own.now h → All (IsPrintable (lexicon_of (string_bytes spec.name) spec.table spec.handlers objects.now)) h }
+    ensures { IfOk result (λ text. IsPrintedReplay (rules_meaning spec.rules.definition) own.now (lexicon_of (string_bytes spec.name) spec.table spec.handlers objects.now) text.items) }
+{
+    let (names, table, rules) = parts(spec);
     let titles = Titles {
-        name: name.as_str(),
+        name: names.name.as_str(),
         table: &table,
-        handlers: &handlers,
-        objects: &steps.objects,
+        handlers: &names.handlers,
+        objects,
     };
-    history_of(alloc, rules, own.as_slice(), titles)
+    history_of(alloc, rules, own, titles)
 }
 
 /// The names that a history is printed with.

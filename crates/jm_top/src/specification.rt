@@ -46,21 +46,85 @@ fn load(alloc: Global, name: &str, table: EventTable, rules: Rules) -> Result<Lo
     ensures rules { IfOk result (λ l. l.rules ≡ rules) }
     ensures err { IfErr result (λ e. e ≡ SpecError.NoMemory) }
 {
-    let Ok(owned) = String::from_str(alloc, name) else {
-        return Err(SpecError::NoMemory);
-    };
-    let Ok(handlers) = copy_of(alloc, rules.handlers()) else {
-        return Err(SpecError::NoMemory);
-    };
-    let Ok(catalog) = catalog_of(alloc, name, &table) else {
-        return Err(SpecError::NoMemory);
-    };
-    Ok(Loaded {
-        name: owned,
+    match names_of(alloc, name, &table, rules.handlers()) {
+        Ok(names) => Ok(with_names(names, table, rules)),
+        Err(NoMemory) => Err(SpecError::NoMemory),
+    }
+}
+
+/// The names of a specification: its own, those of its handlers' categories, and its catalog.
+#[derive(Drop)]
+pub(crate) struct SpecNames {
+    pub name: String,
+    pub handlers: Names,
+    pub catalog: Catalog,
+}
+
+/// Keeps what the names are of with them.
+fn with_names(names: SpecNames, table: EventTable, rules: Rules) -> Loaded
+    ensures name { result.name ≡ names.name }
+    ensures table { result.table ≡ table }
+    ensures handlers { result.handlers ≡ names.handlers }
+    ensures catalog { result.catalog ≡ names.catalog }
+    ensures rules { result.rules ≡ rules }
+{
+    let SpecNames {
+        name,
+        handlers,
+        catalog,
+    } = names;
+    Loaded {
+        name,
         table,
         handlers,
         catalog,
         rules,
+    }
+}
+
+/// The names, the events and the rules apart.
+pub(crate) fn parts(spec: Loaded) -> (SpecNames, EventTable, Rules)
+    ensures name { result.0.name ≡ spec.name }
+    ensures handlers { result.0.handlers ≡ spec.handlers }
+    ensures table { result.1 ≡ spec.table }
+    ensures rules { result.2 ≡ spec.rules }
+{
+    let Loaded {
+        name,
+        table,
+        handlers,
+        catalog,
+        rules,
+    } = spec;
+    let names = SpecNames {
+        name,
+        handlers,
+        catalog,
+    };
+    (names, table, rules)
+}
+
+/// Copies the names of a specification.
+fn names_of(
+    alloc: Global,
+    name: &str,
+    table: &EventTable,
+    handlers: &Names,
+) -> Result<SpecNames, NoMemory>
+    requires { length handlers.now ≤ 16 }
+    ensures name { IfOk result (λ n. string_bytes n.name ≡ name.now) }
+    ensures handlers { IfOk result (λ n. n.handlers ≡ handlers.now) }
+    ensures catalog { IfOk result (λ n. n.catalog ≡ record { name = name.now; table = table.now } ∷ []) }
+{
+    let Ok(owned) = String::from_str(alloc, name) else {
+        return Err(NoMemory);
+    };
+    let handlers = copy_of(alloc, handlers)?;
+    let catalog = catalog_of(alloc, name, table)?;
+    Ok(SpecNames {
+        name: owned,
+        handlers,
+        catalog,
     })
 }
 
