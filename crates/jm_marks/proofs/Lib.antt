@@ -1,0 +1,3 @@
+pub mod EqLemmas
+pub mod DeadLemmas
+pub mod CoverLemmas

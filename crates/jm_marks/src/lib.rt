@@ -1,0 +1,176 @@
+//! The marks: the bindings that were seen and can still matter, each once, in the order of first sight.
+//!
+//! They stand in one hash set, whose keys tell by themselves which parameters they bind. Beside it stands a list of
+//! the sets of parameters that ever were those of a mark: at most one for each letter. So to ask something of all
+//! marks below a binding takes one look-up for each of these sets, and no walk over marks.
+#![tactic(auto)]
+
+ghost use Rattle.std.specs.Prelude.{ℕ, ◌≡◌, ◌≢◌, ◌+◌, ◌<◌, ◌≤◌, ◌↔◌, [], ◌∷◌, ◌++◌, filter, Contains, IsTrue, IfOk, OnOk, false, vec_len, vec_capacity, if◌then◌else◌};
+ghost use Rattle.std.specs.List.{AllPairs};
+ghost use Rattle.jm_model.specs.declared.binding.Binding.{Binding as Bound};
+ghost use Rattle.jm_model.specs.Bindings.{object_at};
+ghost use Rattle.jm_marks.specs.Marks.{dead_mask_of, is_at_dead, has_live, IsCovered, IsCoveredAt};
+
+use indexmap::IndexSet;
+use jm_model::{Binding, NoMemory};
+use jm_objects::Objects;
+use std::alloc::Global;
+use std::marker::Model;
+
+/// The parameters that are bound to dead objects: bit p stands for parameter p. An object that isn't in the table
+/// counts as alive.
+pub fn dead_mask(objects: &Objects, binding: &Binding) -> u8
+    ensures { result ≡ dead_mask_of objects.now binding.now }
+{
+    let mut dead = 0;
+    if binding.mask() == 0 {
+        return dead;
+    }
+    let mut p = 8;
+    while p > 0 {
+        p -= 1;
+        dead = 2 * dead + dead_bit(objects, binding, p);
+    }
+    dead
+}
+
+/// 1 where a parameter is bound to a dead object, and else 0.
+fn dead_bit(objects: &Objects, binding: &Binding, p: u8) -> u8
+    requires { p < 8 }
+    ensures value { result ≡ (if is_at_dead objects.now (object_at binding.now p) then 1 else 0) }
+    ensures bit { result < 2 }
+{
+    match binding.get(p) {
+        Some(object) if object < objects.len() && objects.is_dead(object) => 1,
+        _ => 0,
+    }
+}
+
+/// Whether some object that is bound is alive.
+fn has_live(objects: &Objects, binding: &Binding) -> bool
+    ensures { result ≡ has_live objects.now binding.now }
+{
+    dead_mask(objects, binding) != binding.mask()
+}
+
+/// Adds a set of parameters to a list where it isn't there.
+fn list_mask(masks: &mut Vec<u8>, mask: u8)
+    requires { vec_len masks.old < vec_capacity masks.old }
+    ensures kept { (m : ℕ) → Contains masks.old.items m → Contains masks.new.items m }
+    ensures there { Contains masks.new.items mask }
+    ensures room { vec_len masks.new + vec_capacity masks.old ≤ vec_capacity masks.new + vec_len masks.old + 1 }
+{
+    if !masks.contains(&mask) {
+        masks.push_reserved(mask);
+    }
+}
+
+/// Distinct bindings, in order. Contracts see them as a list, and a number beside it, `spare`: so many calls of `add`
+/// can be made at least before memory is wanted again.
+#[derive(Drop)]
+pub struct Marks {
+    bindings: IndexSet<Binding>,
+    masks: Vec<u8>,
+}
+
+impl Model for Marks {
+    ghost use Rattle.jm_marks.specs.Marks.{MarkList};
+
+    ghost Value = { MarkList };
+
+    ghost use Rattle.std.specs.Prelude.{min, ◌-◌, vec_capacity, vec_len};
+    ghost use Rattle.indexmap.specs.IndexSet.{spare};
+    ghost use Rattle.jm_marks.specs.Layout.{AreMarks};
+
+    ghost view = { λ m. record { list = m.bindings.keys; spare = min (spare m.bindings) (vec_capacity m.masks - vec_len m.masks) } };
+
+    ghost invariant = { λ m. AreMarks m.bindings.keys m.masks.items };
+}
+
+impl Marks {
+    /// No mark.
+    pub fn new(alloc: Global) -> Marks
+        ensures { result.list ≡ [] }
+    {
+        Marks {
+            bindings: IndexSet::new(alloc),
+            masks: Vec::new(alloc),
+        }
+    }
+
+    /// Makes room for one `add`: a place for a binding and one for a set of parameters. Where there is room already it
+    /// costs nothing; where there is none, both places are made for many.
+    pub fn reserve(&mut self) -> Result<(), NoMemory>
+        ensures list { self.new.list ≡ self.old.list }
+        ensures room { OnOk result (1 ≤ self.new.spare) }
+    {
+        self.masks.reserve(1)?;
+        self.bindings.reserve(1)?;
+        Ok(())
+    }
+
+    /// Adds a binding where it isn't there. It takes no memory.
+    pub fn add(&mut self, binding: Binding)
+        requires { 1 ≤ self.old.spare }
+        ensures known { Contains self.old.list binding → self.new.list ≡ self.old.list }
+        ensures unknown { (Contains self.old.list binding → ⊥) → self.new.list ≡ self.old.list ++ binding ∷ [] }
+        ensures spare { self.old.spare ≤ self.new.spare + 1 }
+    {
+        list_mask(&mut self.masks, binding.mask());
+        match self.bindings.insert(binding) {
+            Ok(_) => {}
+            Err(_) => unreachable!(),
+        }
+    }
+
+    /// Whether a binding is a mark.
+    pub fn contains(&self, binding: &Binding) -> bool
+        ensures { IsTrue result ↔ Contains self.now.list binding.now }
+    {
+        self.bindings.contains(binding)
+    }
+
+    /// Whether every mark that lies below `above` lies below `below`.
+    pub fn covers(&self, above: &Binding, below: &Binding) -> bool
+        ensures { IsTrue result ↔ IsCovered self.now.list above.now below.now }
+    {
+        for mask in &self.masks {
+            if self.breaks(*mask, above, below) {
+                return false;
+            }
+        }
+        true
+    }
+
+    /// Whether a mark of these parameters lies below `above` and not below `below`: if so, it is what `above` gives to
+    /// them.
+    fn breaks(&self, mask: u8, above: &Binding, below: &Binding) -> bool
+        ensures found { IsTrue result → IsCovered self.now.list above.now below.now → ⊥ }
+        ensures none { result ≡ false → IsCoveredAt self.now.list above.now below.now mask }
+    {
+        let part = above.restrict(mask);
+        if part.mask() != mask {
+            return false;
+        }
+        if part.le(below) {
+            return false;
+        }
+        self.contains(&part)
+    }
+
+    /// Keeps exactly the marks that bind a live object.
+    pub fn sweep(&mut self, objects: &Objects)
+        ensures list { self.new.list ≡ filter (has_live objects.now) self.old.list }
+        ensures spare { self.old.spare ≤ self.new.spare }
+    {
+        self.bindings.retain(|binding| has_live(objects, binding));
+    }
+
+    /// The marks, in order.
+    pub fn to_list(&self) -> Result<Vec<Binding>, NoMemory>
+        ensures list { IfOk result (λ list. list.items ≡ self.now.list) }
+        ensures distinct { AllPairs (λ a b. a ≢ b) self.now.list }
+    {
+        Ok(self.bindings.as_slice().to_vec(*self.bindings.allocator())?)
+    }
+}
