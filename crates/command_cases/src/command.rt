@@ -6,8 +6,8 @@ use jm_port::{Folder, MemoryFolder, MemorySink, Sink, SureFolder, SureSink};
 use jm_top::{Status, fault_text, jmop, one_reading};
 use std::alloc::{AllocError, Global};
 
-/// How the command of the case's words ends, and what is written to its two sinks. The words behind the `/` say what fails:
-/// `read-fails CALL..`, or `write STEP CALL..` for a sink that takes STEP bytes at a time.
+/// How the command of the case's words ends, and what is written to its two sinks. The words behind the `/` say what
+/// fails: `read-fails CALL..`, or `write STEP CALL..` for a sink that takes STEP bytes at a time.
 pub(crate) fn run(alloc: Global, case: &Case) -> Result<String, AllocError> {
     let (kind, rest) = case
         .second
@@ -59,13 +59,29 @@ fn done<F: Folder, S: Sink>(
     files: &mut F,
     out: &mut S,
 ) -> Result<(Status, SureSink), AllocError> {
+    let words = words_of(alloc, case.first.as_str())?;
+    let mut err = SureSink::new(alloc);
+    let status = ended(alloc, words.as_slice(), files, out, &mut err);
+    Ok((status, err))
+}
+
+fn words_of(alloc: Global, line: &str) -> Result<Vec<String>, AllocError> {
     let mut words = Vec::new(alloc);
-    for word in case.first.split_whitespace() {
+    for word in line.split_whitespace() {
         words.push(String::from_str(alloc, word)?)?;
     }
-    let mut err = SureSink::new(alloc);
-    let status = jmop(alloc, &words, files, out, &mut err);
-    Ok((status, err))
+    Ok(words)
+}
+
+/// The call alone, so that its long contract ends here.
+fn ended<F: Folder, S: Sink>(
+    alloc: Global,
+    words: &[String],
+    files: &mut F,
+    out: &mut S,
+    err: &mut SureSink,
+) -> Status {
+    jmop(alloc, words, files, out, err)
 }
 
 fn shown(alloc: Global, status: &Status, out: &[u8], err: &[u8]) -> Result<String, AllocError> {

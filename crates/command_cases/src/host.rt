@@ -75,7 +75,8 @@ fn puts<S: Sink>(alloc: Global, sink: &mut S, case: &Case) -> Result<String, All
     Ok(answer)
 }
 
-/// A printer whose calls do as the words say: `interrupted`, or write so many bytes. Behind the last word the pipe is closed.
+/// A printer whose calls do as the words say: `interrupted`, or write so many bytes. Behind the last word the pipe is
+/// closed.
 #[derive(Drop)]
 struct Printer<'a> {
     words: &'a str,
