@@ -60,7 +60,10 @@ fn repeat<'a>(alloc: Global, out: &mut Vec<u8>, text: &'a [u8]) -> Result<&'a [u
     for number in 0..count {
         put_once(alloc, out, &inside[space..], number)?;
     }
-    Ok(&text[end..])
+    match &text[end..] {
+        [b'}', more @ ..] => Ok(more),
+        rest => Ok(rest),
+    }
 }
 
 fn number_of(digits: &[u8]) -> u32 {
