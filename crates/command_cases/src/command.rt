@@ -1,0 +1,121 @@
+//! Whole commands.
+use crate::files::files;
+use crate::shown::{numbers, put_text};
+use cases::Case;
+use jm_port::{Folder, MemoryFolder, MemorySink, Sink, SureFolder, SureSink};
+use jm_top::{Status, fault_text, jmop, one_reading};
+use std::alloc::{AllocError, Global};
+
+/// How the command of the case's words ends, and what is written to its two sinks. The words behind the `/` say what
+/// fails: `read-fails CALL..`, or `write STEP CALL..` for a sink that takes STEP bytes at a time.
+pub(crate) fn run(alloc: Global, case: &Case) -> Result<String, AllocError> {
+    let (kind, rest) = case
+        .second
+        .split_once(' ')
+        .unwrap_or((case.second.as_str(), ""));
+    match kind {
+        "read-fails" => read_fails(alloc, case, rest),
+        "write" => write_fails(alloc, case, rest),
+        _ => nothing_fails(alloc, case),
+    }
+}
+
+fn nothing_fails(alloc: Global, case: &Case) -> Result<String, AllocError> {
+    let mut folder = SureFolder::new(files(alloc, case.text.as_slice())?);
+    let mut out = SureSink::new(alloc);
+    let (status, err) = done(alloc, case, &mut folder, &mut out)?;
+    shown(alloc, &status, out.bytes(), err.bytes())
+}
+
+fn read_fails(alloc: Global, case: &Case, calls: &str) -> Result<String, AllocError> {
+    let mut fail = Vec::new(alloc);
+    numbers(&mut fail, calls)?;
+    let mut folder = MemoryFolder::new(files(alloc, case.text.as_slice())?, fail);
+    let mut out = SureSink::new(alloc);
+    let (status, err) = done(alloc, case, &mut folder, &mut out)?;
+    shown(alloc, &status, out.bytes(), err.bytes())
+}
+
+fn write_fails(alloc: Global, case: &Case, rest: &str) -> Result<String, AllocError> {
+    let mut folder = SureFolder::new(files(alloc, case.text.as_slice())?);
+    let mut out = sink_of(alloc, rest)?;
+    let (status, err) = done(alloc, case, &mut folder, &mut out)?;
+    shown(alloc, &status, out.bytes(), err.bytes())
+}
+
+/// The sink of `STEP CALL..`.
+pub(crate) fn sink_of(alloc: Global, words: &str) -> Result<MemorySink, AllocError> {
+    let (step, calls) = words.split_once(' ').unwrap_or((words, ""));
+    let mut fail = Vec::new(alloc);
+    numbers(&mut fail, calls)?;
+    let step = step.parse::<usize>().unwrap_or(1).max(1);
+    Ok(MemorySink::new(alloc, step, fail))
+}
+
+/// Does the command of the case's words, and gives its status and what the error sink was given.
+fn done<F: Folder, S: Sink>(
+    alloc: Global,
+    case: &Case,
+    files: &mut F,
+    out: &mut S,
+) -> Result<(Status, SureSink), AllocError> {
+    let words = words_of(alloc, case.first.as_str())?;
+    let mut err = SureSink::new(alloc);
+    let status = ended(alloc, words.as_slice(), files, out, &mut err);
+    Ok((status, err))
+}
+
+fn words_of(alloc: Global, line: &str) -> Result<Vec<String>, AllocError> {
+    let mut words = Vec::new(alloc);
+    for word in line.split_whitespace() {
+        words.push(String::from_str(alloc, word)?)?;
+    }
+    Ok(words)
+}
+
+/// The call alone, so that its long contract ends here.
+fn ended<F: Folder, S: Sink>(
+    alloc: Global,
+    words: &[String],
+    files: &mut F,
+    out: &mut S,
+    err: &mut SureSink,
+) -> Status {
+    jmop(alloc, words, files, out, err)
+}
+
+fn shown(alloc: Global, status: &Status, out: &[u8], err: &[u8]) -> Result<String, AllocError> {
+    let mut answer = format!(in alloc; "{status:?} {}", status.code())?;
+    put_text(&mut answer, "out:", out)?;
+    put_text(&mut answer, "err:", err)?;
+    Ok(answer)
+}
+
+/// What is told of the status that the words name.
+pub(crate) fn told(alloc: Global, case: &Case) -> Result<String, AllocError> {
+    let status = status_of(case.first.as_str());
+    let mut answer = format!(in alloc; "{status:?} {}", status.code())?;
+    match fault_text(alloc, &status) {
+        Ok(text) => put_text(&mut answer, "text:", text.as_slice())?,
+        Err(_) => return Err(AllocError),
+    }
+    Ok(answer)
+}
+
+fn status_of(words: &str) -> Status {
+    match words {
+        "done" => Status::Done,
+        "usage" => Status::Usage,
+        "read" => Status::ReadFailed {
+            file: 4_294_967_295,
+        },
+        "write" => Status::WriteFailed,
+        _ => Status::NoMemory,
+    }
+}
+
+/// The facts on the specifications of all files are proofs, so there is nothing to tell but that they may be called.
+pub(crate) fn laws(alloc: Global) -> Result<String, AllocError> {
+    one_reading();
+    String::from_str(alloc, "one reading")
+}
