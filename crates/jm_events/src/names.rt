@@ -9,9 +9,15 @@ use std::alloc::Global;
 use std::marker::Model;
 
 /// Distinct texts in order of first mention. The number of a text is its place. Look-ups are by hash.
-#[derive(Drop)]
 pub struct Names {
     set: IndexSet<String>,
+}
+
+// Written out, so that a drop is one call wherever names are let go.
+impl Drop for Names {
+    fn drop(self) {
+        let Names { set: _ } = self;
+    }
 }
 
 impl Model for Names {

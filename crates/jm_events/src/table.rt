@@ -31,11 +31,21 @@ fn set_row(rows: &mut Vec<Row>, letter: Letter, row: Row)
 
 /// The parameters and the events of a specification: at most 8 and 32, of distinct names. A set of parameters is a
 /// mask, whose bit p stands for parameter p. Contracts see a table as its `EventDefinitions`.
-#[derive(Drop)]
 pub struct EventTable {
     params: Names,
     events: Names,
     rows: Vec<Row>,
+}
+
+// Written out, so that a drop is one call wherever a table is let go.
+impl Drop for EventTable {
+    fn drop(self) {
+        let EventTable {
+            params: _,
+            events: _,
+            rows: _,
+        } = self;
+    }
 }
 
 impl Model for EventTable {

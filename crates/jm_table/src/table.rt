@@ -8,13 +8,24 @@ use std::marker::Model;
 
 /// A table of transitions with groups of its states. It has at most 1,024 states, of which state 0 is the start, and
 /// at most 32 letters. Contracts see it as its `Transitions`.
-#[derive(Drop)]
 pub struct Table {
     letters: u8,
     states: u16,
     /// State by state, and in each letter by letter.
     next: Vec<u16>,
     groups: Vec<StateSet>,
+}
+
+// Written out, so that a drop is one call wherever a table is let go.
+impl Drop for Table {
+    fn drop(self) {
+        let Table {
+            letters: _,
+            states: _,
+            next: _,
+            groups: _,
+        } = self;
+    }
 }
 
 impl Model for Table {
