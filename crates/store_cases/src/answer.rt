@@ -1,0 +1,21 @@
+use crate::{marks, objects, random};
+use cases::Case;
+use jm_model::NoMemory;
+use std::alloc::{AllocError, Global};
+
+/// What the case's verb answers.
+pub(crate) fn answer(alloc: Global, case: &Case) -> Result<String, AllocError> {
+    match answered(alloc, case) {
+        Ok(text) => Ok(text),
+        Err(NoMemory) => String::from_str(alloc, "want of memory"),
+    }
+}
+
+fn answered(alloc: Global, case: &Case) -> Result<String, NoMemory> {
+    match case.verb.as_str() {
+        "objects" => objects::objects(alloc, case),
+        "marks" => marks::marks(alloc, case),
+        "random_marks" => random::random_marks(alloc, case),
+        _ => Ok(String::from_str(alloc, "no such verb")?),
+    }
+}
