@@ -1,0 +1,48 @@
+ghost use Rattle.std.specs.Prelude.{ℕ, ◌≡◌, ◌<◌, ◌≤◌, ◌⊎◌, ◌↔◌, IsTrue, Contains, length};
+
+use std::marker::Model;
+
+const WORDS: usize = 4;
+
+/// A set of masks, which are numbers below 256: a bit for each. Contracts see it as the list of its masks, in order.
+#[derive(Drop)]
+pub(crate) struct MaskSet {
+    words: [u64; WORDS],
+}
+
+impl Model for MaskSet {
+    ghost use Rattle.std.specs.Prelude.{ℕ, List};
+    ghost use Rattle.jm_coenable.specs.MaskSets.{masks_in};
+
+    ghost Value = { List ℕ };
+
+    ghost view = { λ s. masks_in s.words };
+}
+
+impl MaskSet {
+    /// No mask.
+    pub(crate) fn new() -> MaskSet
+        ensures { (mask : ℕ) → ¬ Contains result mask }
+    {
+        MaskSet { words: [0; WORDS] }
+    }
+
+    /// Whether the mask is in the set.
+    pub(crate) fn contains(&self, mask: u8) -> bool
+        ensures { IsTrue result ↔ Contains self.now mask }
+    {
+        let word = self.words[mask as usize / 64];
+        (word >> (mask % 64)) & 1 == 1
+    }
+
+    /// Puts a mask into the set.
+    pub(crate) fn insert(&mut self, mask: u8)
+        ensures member { (other : ℕ) → Contains self.new other ↔ (Contains self.old other ⊎ (other ≡ mask)) }
+        ensures longer { (Contains self.old mask → ⊥) → length self.old < length self.new }
+        ensures few { length self.new ≤ 256 }
+    {
+        let at = mask as usize / 64;
+        let word = self.words[at];
+        self.words[at] = word | (1 << (mask % 64));
+    }
+}
