@@ -1,3 +1,5 @@
 pub mod MaskSetLemmas
 pub mod SetLemmas
 pub mod NeedLemmas
+pub mod ArrivalLemmas
+pub mod FillLemmas

@@ -1,7 +1,9 @@
 //! x
 #![tactic(auto)]
 
+mod arrivals;
 mod mask_set;
 mod needed;
 mod property;
+mod searches;
 mod sets;

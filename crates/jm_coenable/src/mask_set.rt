@@ -1,4 +1,4 @@
-ghost use Rattle.std.specs.Prelude.{ℕ, ◌≡◌, ◌<◌, ◌≤◌, ◌⊎◌, ◌↔◌, IsTrue, Contains, length};
+ghost use Rattle.std.specs.Prelude.{ℕ, ◌≡◌, ◌<◌, ◌≤◌, ◌⊎◌, ◌↔◌, true, IsTrue, Contains, length};
 
 use std::marker::Model;
 
@@ -29,7 +29,8 @@ impl MaskSet {
 
     /// Whether the mask is in the set.
     pub(crate) fn contains(&self, mask: u8) -> bool
-        ensures { IsTrue result ↔ Contains self.now mask }
+        ensures member { IsTrue result ↔ Contains self.now mask }
+        ensures few { (other : ℕ) → Contains self.now other → other < 256 }
     {
         let word = self.words[mask as usize / 64];
         (word >> (mask % 64)) & 1 == 1
@@ -44,5 +45,14 @@ impl MaskSet {
         let at = mask as usize / 64;
         let word = self.words[at];
         self.words[at] = word | (1 << (mask % 64));
+    }
+
+    /// Puts a mask into the set, if this is wanted.
+    pub(crate) fn insert_if(&mut self, wanted: bool, mask: u8)
+        ensures { (other : ℕ) → Contains self.new other ↔ (Contains self.old other ⊎ ((wanted ≡ true) × (other ≡ mask))) }
+    {
+        if wanted {
+            self.insert(mask);
+        }
     }
 }

@@ -1,4 +1,4 @@
-ghost use Rattle.std.specs.Prelude.{ℕ, ◌≡◌, ◌<◌, ◌↔◌, Contains, IfOk, length, vec_len};
+ghost use Rattle.std.specs.Prelude.{ℕ, ◌≡◌, ◌<◌, ◌↔◌, Contains, IfOk, length};
 ghost use Rattle.jm_coenable.specs.Needs.{AreFit, IsNeededFrom, set_at};
 ghost use Rattle.jm_coenable.specs.Rounds.{IsPart, AreNeeded, IsClosedAt, IsClosedState, IsClosed};
 
@@ -34,7 +34,7 @@ pub(crate) fn needed_masks(
 /// One round over the states. Whether it changed a set.
 fn go_back(table: &Table, goal: &Goal, events: &EventTable, needed: &mut Vec<MaskSet>) -> bool
     requires fit { AreFit table.now goal.now events.now }
-    requires count { vec_len needed.old ≡ table.now.states }
+    requires count { length needed.old.items ≡ table.now.states }
     ensures { IsPart (AreNeeded table.now goal.now events.now) (IsClosed table.now goal.now events.now) needed.old.items needed.new.items result }
 {
     let mut changed = false;
@@ -55,7 +55,7 @@ fn leave(
     state: u16,
 ) -> bool
     requires fit { AreFit table.now goal.now events.now }
-    requires count { vec_len needed.old ≡ table.now.states }
+    requires count { length needed.old.items ≡ table.now.states }
     requires state { state < table.now.states }
     ensures { IsPart (AreNeeded table.now goal.now events.now) (IsClosedState table.now goal.now events.now state) needed.old.items needed.new.items result }
 {
@@ -77,7 +77,7 @@ fn follow(
     letter: Letter,
 ) -> bool
     requires fit { AreFit table.now goal.now events.now }
-    requires count { vec_len needed.old ≡ table.now.states }
+    requires count { length needed.old.items ≡ table.now.states }
     requires state { state < table.now.states }
     requires letter { letter.0 < table.now.letters }
     ensures { IsPart (AreNeeded table.now goal.now events.now) (IsClosedAt table.now goal.now events.now state letter.0) needed.old.items needed.new.items result }

@@ -1,4 +1,4 @@
-ghost use Rattle.std.specs.Prelude.{ℕ, ◌≡◌, ◌<◌, Contains, IfOk, length, vec_len};
+ghost use Rattle.std.specs.Prelude.{ℕ, ◌≡◌, ◌<◌, Contains, IfOk, length};
 ghost use Rattle.jm_coenable.specs.Needs.{set_at};
 ghost use Rattle.jm_coenable.specs.Rounds.{IsPut};
 
@@ -20,7 +20,7 @@ pub(crate) fn empty_sets(alloc: Global, count: u16) -> Result<Vec<MaskSet>, NoMe
 
 /// Puts a member into the set of a place, if this is wanted. Whether that changed the set.
 pub(crate) fn put(sets: &mut Vec<MaskSet>, wanted: bool, place: u16, member: u8) -> bool
-    requires { place < vec_len sets.old }
+    requires { place < length sets.old.items }
     ensures { IsPut sets.old.items sets.new.items wanted place member result }
 {
     if !wanted {

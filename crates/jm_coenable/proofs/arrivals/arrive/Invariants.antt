@@ -1,0 +1,6 @@
+use Rattle.std.proofs.Common.{ℕ, ◌<◌}
+use Rattle.jm_coenable.specs.Rounds.{IsPart, AreArrivals, IsSpreadBelow, IsSpreadAt, IsSpreadState}
+use Rattle.jm_coenable.proofs.arrivals.arrive.Given as goal
+
+abbrev pub invariant-loop-last : goal.invariant-loop-last
+invariant-loop-last l = IsPart (AreArrivals l.table l.goal) (IsSpreadBelow l.table l.goal l.state l.letter.0 l.last) l.fn.arrivals.items l.arrivals.items l.changed
