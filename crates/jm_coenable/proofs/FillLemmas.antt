@@ -1,4 +1,6 @@
-use Rattle.std.proofs.Common.{ℕ, ◌≡◌, ◌<◌, ◌+◌, ◌↔◌, ◌⊎◌, inl, inr, Bool, true, List, Contains, sym, subst, arith}
+use Rattle.std.proofs.Common.{ℕ, zero, suc, ◌≡◌, ◌<◌, ◌+◌, ◌↔◌, ◌⊎◌, inl, inr, Bool, true, List, [], ◌∷◌, ◌++◌, length, get_or, Contains, sym, ap, subst, ◌∙◌, arith}
+use Rattle.std.proofs.lemmas.List.{get_or_default}
+use Rattle.jm_coenable.specs.Needs.{set_at}
 use Rattle.std.proofs.lemmas.Bool.Decides.{eqb_tells}
 
 -- the set of the numbers below one of which P holds, with the next number asked
@@ -14,3 +16,15 @@ filled_more P before after number wanted so_far tells step m = (
     | inr differs ↦ (step m).1 (inl ((so_far m).1 (omega (arith, h.0, differs.1), h.1)))
   ],
 )
+
+-- what is read at a place is the set of the place
+pub read_is : (sets : List (List ℕ)) (found : List ℕ) (place : ℕ) → found ≡ get_or sets place found → place < length sets → found ≡ set_at sets place
+read_is sets found place is lt = is ∙ get_or_default sets place found [] lt
+
+-- what holds of each set, with one more
+pub sets_push : (P : ℕ → List ℕ → Type 0) (sets : List (List ℕ)) (set : List ℕ) → ((k : ℕ) → k < length sets → P k (get_or sets k [])) → P (length sets) set
+    → (k : ℕ) → k < length (sets ++ set ∷ []) → P k (get_or (sets ++ set ∷ []) k [])
+sets_push P [] set each here zero lt = here
+sets_push P [] set each here (suc k) lt = absurd (omega (arith, lt))
+sets_push P (s ∷ sets) set each here zero lt = each 0 (omega arith)
+sets_push P (s ∷ sets) set each here (suc k) lt = sets_push (λ n. P (suc n)) sets set (λ n l. each (suc n) (omega (arith, l))) here k (omega (arith, lt))

@@ -3,3 +3,4 @@ pub mod SetLemmas
 pub mod NeedLemmas
 pub mod ArrivalLemmas
 pub mod FillLemmas
+pub mod MadeLemmas

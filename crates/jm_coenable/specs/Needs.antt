@@ -58,21 +58,18 @@ IsInFamily t g v letter mask = (state : ℕ) × IsArrival t g state letter × Is
 abbrev pub IsAlive : (ℕ → Type 0) → ℕ → Type 0
 IsAlive Needed dead = (mask : ℕ) × Needed mask × (bit_and mask dead ≡ 0)
 
--- what is kept: for each state the sets of dead parameters at which it can still be hit, those at which the empty word can,
--- and for each letter its family
+-- what is kept: for each state the sets of dead parameters at which it can still be hit, and for each letter its family
 pub record NeedSets : Type 0 where
   pub alive : List (List ℕ)
-  pub alive_at_start : List ℕ
   pub families : List (List ℕ)
 
 -- the set of this place
 abbrev pub set_at : List (List ℕ) → ℕ → List ℕ
 set_at sets place = slice_index_or sets place []
 
--- the sets are those of this property
+-- the sets are those of this property; masks are below 256
 pub record AreNeedsOf (t : Transitions) (g : GoalDefinition) (v : EventDefinitions) (n : NeedSets) : Type 0 where
   pub states : length n.alive ≡ t.states
   pub letters : length n.families ≡ t.letters
   pub alive : (state dead : ℕ) → state < t.states → dead < 256 → Contains (set_at n.alive state) dead ↔ IsAlive (IsNeededFrom t g v state) dead
-  pub alive_at_start : (dead : ℕ) → dead < 256 → Contains n.alive_at_start dead ↔ IsAlive (IsNeededAtStart t g v) dead
-  pub families : (letter mask : ℕ) → letter < t.letters → Contains (set_at n.families letter) mask ↔ IsInFamily t g v letter mask
+  pub families : (letter mask : ℕ) → letter < t.letters → mask < 256 → Contains (set_at n.families letter) mask ↔ IsInFamily t g v letter mask

@@ -1,4 +1,5 @@
 ghost use Rattle.std.specs.Prelude.{ℕ, ◌≡◌, ◌<◌, ◌≤◌, ◌⊎◌, ◌↔◌, true, IsTrue, Contains, length};
+ghost use Rattle.jm_coenable.specs.Needs.{IsAlive};
 
 use std::marker::Model;
 
@@ -54,5 +55,20 @@ impl MaskSet {
         if wanted {
             self.insert(mask);
         }
+    }
+
+    /// Whether some mask of the set has none of the dead parameters.
+    pub(crate) fn is_alive(&self, dead: u8) -> bool
+        ensures { (result ≡ true) ↔ IsAlive (Contains self.now) dead }
+    {
+        // Its masks are below 256: the proof learns it from the words.
+        let _ = &self.words;
+        for number in 0..256u16 {
+            let mask = number as u8;
+            if self.contains(mask) && mask & dead == 0 {
+                return true;
+            }
+        }
+        false
     }
 }
