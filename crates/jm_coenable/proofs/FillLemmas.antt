@@ -1,3 +1,4 @@
+use Rattle.std.specs.Prelude.{Result, Ok, Err, IfOk}
 use Rattle.std.proofs.Common.{ℕ, zero, suc, ◌≡◌, ◌<◌, ◌+◌, ◌↔◌, ◌⊎◌, inl, inr, Bool, true, List, [], ◌∷◌, ◌++◌, length, get_or, Contains, sym, ap, subst, ◌∙◌, arith}
 use Rattle.std.proofs.lemmas.List.{get_or_default}
 use Rattle.jm_coenable.specs.Needs.{set_at}
@@ -28,3 +29,10 @@ sets_push P [] set each here zero lt = here
 sets_push P [] set each here (suc k) lt = absurd (omega (arith, lt))
 sets_push P (s ∷ sets) set each here zero lt = each 0 (omega arith)
 sets_push P (s ∷ sets) set each here (suc k) lt = sets_push (λ n. P (suc n)) sets set (λ n l. each (suc n) (omega (arith, l))) here k (omega (arith, lt))
+
+-- the items are those of the set that was found, of whose masks Q holds
+pub family_is : {T E : Type 0} (items : T → List ℕ) (r : Result T E) (found : List ℕ) (Q : ℕ → Type 0)
+    → IfOk r (λ x. (mask : ℕ) → mask < 256 → Contains (items x) mask ↔ Contains found mask) → ((mask : ℕ) → mask < 256 → Contains found mask ↔ Q mask)
+    → IfOk r (λ x. (mask : ℕ) → mask < 256 → Contains (items x) mask ↔ Q mask)
+family_is items (Ok x) found Q exact told = λ mask few. (λ h. (told mask few).0 ((exact mask few).0 h), λ q. (exact mask few).1 ((told mask few).1 q))
+family_is items (Err e) found Q exact told = tt

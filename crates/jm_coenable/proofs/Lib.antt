@@ -4,3 +4,4 @@ pub mod NeedLemmas
 pub mod ArrivalLemmas
 pub mod FillLemmas
 pub mod MadeLemmas
+pub mod RiseLemmas

@@ -1,6 +1,10 @@
-ghost use Rattle.std.specs.Prelude.{ℕ, ◌≡◌, ◌<◌, ◌≤◌, ◌⊎◌, ◌↔◌, true, IsTrue, Contains, length};
+ghost use Rattle.std.specs.Prelude.{ℕ, ◌≡◌, ◌<◌, ◌≤◌, ◌⊎◌, ◌↔◌, true, false, [], ◌∷◌, ◌++◌, IsTrue, IfOk, OnOk, Contains, length};
+ghost use Rattle.std.specs.List.Sorted.{IsStrictlySortedBy};
+ghost use Rattle.std.specs.Ordering.{nat_cmp};
 ghost use Rattle.jm_coenable.specs.Needs.{IsAlive};
 
+use jm_model::NoMemory;
+use std::alloc::Global;
 use std::marker::Model;
 
 const WORDS: usize = 4;
@@ -71,4 +75,28 @@ impl MaskSet {
         }
         false
     }
+
+    /// The masks in rising order.
+    pub(crate) fn masks(&self, alloc: Global) -> Result<Vec<u8>, NoMemory>
+        ensures rising { IfOk result (λ masks. IsStrictlySortedBy nat_cmp masks.items) }
+        ensures exact { IfOk result (λ masks. (mask : ℕ) → mask < 256 → Contains masks.items mask ↔ Contains self.now mask) }
+    {
+        let mut masks = Vec::new(alloc);
+        for number in 0..256u16 {
+            let mask = number as u8;
+            let wanted = self.contains(mask);
+            push_if(&mut masks, wanted, mask)?;
+        }
+        Ok(masks)
+    }
+}
+
+fn push_if(masks: &mut Vec<u8>, wanted: bool, mask: u8) -> Result<(), NoMemory>
+    ensures pushed { wanted ≡ true → OnOk result (masks.new.items ≡ masks.old.items ++ mask ∷ []) }
+    ensures kept { wanted ≡ false → masks.new.items ≡ masks.old.items }
+{
+    if wanted {
+        masks.push(mask)?;
+    }
+    Ok(())
 }

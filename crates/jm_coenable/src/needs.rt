@@ -1,8 +1,10 @@
-ghost use Rattle.std.specs.Prelude.{◌≡◌, ◌<◌, ◌↔◌, true, IfOk, length};
+ghost use Rattle.std.specs.Prelude.{ℕ, ◌≡◌, ◌<◌, ◌↔◌, true, Contains, IfOk, length};
+ghost use Rattle.std.specs.List.Sorted.{IsStrictlySortedBy};
+ghost use Rattle.std.specs.Ordering.{nat_cmp};
 ghost use Rattle.jm_events.specs.Events.{EventDefinitions};
 ghost use Rattle.jm_goal.specs.Goals.{GoalDefinition};
 ghost use Rattle.jm_table.specs.Tables.{Transitions};
-ghost use Rattle.jm_coenable.specs.Needs.{AreFit, AreNeedsOf, IsAlive, IsNeededFrom};
+ghost use Rattle.jm_coenable.specs.Needs.{AreFit, AreNeedsOf, IsAlive, IsNeededFrom, IsInFamily};
 
 use crate::arrivals::last_letters;
 use crate::mask_set::MaskSet;
@@ -10,7 +12,7 @@ use crate::needed::needed_masks;
 use crate::searches::{alive_sets, family_sets};
 use jm_events::EventTable;
 use jm_goal::Goal;
-use jm_model::NoMemory;
+use jm_model::{Letter, NoMemory};
 use jm_table::Table;
 use std::alloc::Global;
 use std::marker::Model;
@@ -56,5 +58,16 @@ impl Needs {
             (result ≡ true) ↔ ((started ≡ true) × IsAlive (IsNeededFrom t g v state) dead) }
     {
         started && self.alive[state as usize].contains(dead)
+    }
+
+    /// The masks of the words that lead from some word that ends in the letter to a handled state, in rising order.
+    pub fn family(&self, letter: Letter) -> Result<Vec<u8>, NoMemory>
+        requires { letter.0 < length self.now.families }
+        ensures rising { IfOk result (λ masks. IsStrictlySortedBy nat_cmp masks.items) }
+        ensures exact { (t : Transitions) (g : GoalDefinition) (v : EventDefinitions) → AreNeedsOf t g v self.now →
+            IfOk result (λ masks. (mask : ℕ) → mask < 256 → Contains masks.items mask ↔ IsInFamily t g v letter.0 mask) }
+    {
+        let alloc = *self.families.allocator();
+        self.families[letter.0 as usize].masks(alloc)
     }
 }
