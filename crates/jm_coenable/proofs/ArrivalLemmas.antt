@@ -1,11 +1,11 @@
-use Rattle.std.proofs.Common.{ℕ, zero, suc, ◌≡◌, ◌<◌, ◌≤◌, ◌+◌, ◌↔◌, ◌⊎◌, inl, inr, Bool, true, List, [], ◌∷◌, ◌++◌, length, get_or, Contains, refl, sym, ap, subst, ◌∙◌, arith, ◌||◌}
+use Rattle.std.proofs.Common.{ℕ, ◌≡◌, ◌<◌, ◌+◌, ◌↔◌, inl, inr, Bool, true, List, [], ◌∷◌, ◌++◌, length, get_or, Contains, refl, sym, ap, subst, ◌∙◌, arith, ◌||◌}
 use borrow.Author.Count.{below_more}
 use Rattle.std.proofs.lemmas.List.{get_or_default}
 use Rattle.jm_goal.specs.Goals.{GoalDefinition}
 use Rattle.jm_table.specs.Tables.{Transitions, IsTable, IsWord, next_of, state_from}
 use Rattle.jm_table.proofs.PlaceLemmas.{fold_push}
 use Rattle.jm_coenable.specs.Needs.{set_at, IsFirst, IsArrival}
-use Rattle.jm_coenable.specs.Rounds.{IsPut, IsPart, AreArrivals, IsSpreadBelow, IsSpreadAt, IsSpread}
+use Rattle.jm_coenable.specs.Rounds.{IsPut, IsPart, AreArrivals, IsSpreadBelow, IsSpread}
 use Rattle.jm_coenable.proofs.SetLemmas.{part_put, part_then}
 use Rattle.jm_coenable.proofs.NeedLemmas.{word_cons, word_head, word_tail, next_within}
 
@@ -53,8 +53,8 @@ module _ (t : Transitions) (g : GoalDefinition) (state letter next : ℕ) (below
   arrive_begins a b first changed tells put =
       part_put (AreArrivals t g) (IsSpreadBelow t g state letter 0) a b first next letter changed put
       (arrivals_put t g a b first next letter changed put (λ _ is_first.
-          let start = tells.0 is_first in
-          subst (λ (s : ℕ). IsArrival t g s letter) (ap (λ (s : ℕ). next_of t s letter) (sym start.0) ∙ sym leads) (arrives_first t g letter below start.1)))
+      let start = tells.0 is_first in
+      subst (λ (s : ℕ). IsArrival t g s letter) (ap (λ (s : ℕ). next_of t s letter) (sym start.0) ∙ sym leads) (arrives_first t g letter below start.1)))
       (λ _. record {
         first = λ zero_state begins. subst (λ (s : ℕ). Contains (set_at b s) letter) leads (put.here (tells.1 (zero_state, begins)));
         more = λ last lt. absurd (omega (arith, lt));
@@ -68,12 +68,12 @@ module _ (t : Transitions) (g : GoalDefinition) (state letter next : ℕ) (below
       let Here : List (List ℕ) → Type 0 = λ sets. Contains (set_at sets state) last → Contains (set_at sets (next_of t state letter)) letter in
       part_then (AreArrivals t g) (IsSpreadBelow t g state letter last) Here (IsSpreadBelow t g state letter (last + 1)) a b c changed more part
       (part_put (AreArrivals t g) Here b c wanted next letter more put
-          (arrivals_put t g b c wanted next letter more put (λ sound is_wanted.
-              subst (λ (s : ℕ). IsArrival t g s letter) (sym leads)
-                  (arrives_more t g state last letter below (sound state last within (subst (λ (s : List ℕ). Contains s last) at (tells.0 is_wanted))))))
-          (λ same there.
-              let before : Contains (set_at b state) last = subst (λ (s : List (List ℕ)). Contains (set_at s state) last) same there in
-              subst (λ (s : ℕ). Contains (set_at c s) letter) leads (put.here (tells.1 (subst (λ (s : List ℕ). Contains s last) (sym at) before)))))
+      (arrivals_put t g b c wanted next letter more put (λ sound is_wanted.
+      subst (λ (s : ℕ). IsArrival t g s letter) (sym leads)
+      (arrives_more t g state last letter below (sound state last within (subst (λ (s : List ℕ). Contains s last) at (tells.0 is_wanted))))))
+      (λ same there.
+      let before : Contains (set_at b state) last = subst (λ (s : List (List ℕ)). Contains (set_at s state) last) same there in
+      subst (λ (s : ℕ). Contains (set_at c s) letter) leads (put.here (tells.1 (subst (λ (s : List ℕ). Contains s last) (sym at) before)))))
       (λ spread here. record {
         first = spread.first;
         more = below_more (λ (l : ℕ). Contains (set_at c state) l → Contains (set_at c (next_of t state letter)) letter) last spread.more here;
@@ -93,12 +93,12 @@ module _ (t : Transitions) (g : GoalDefinition) (sets : List (List ℕ)) (table 
       let next_below = word_head t next rest word in
       let tail : next ∷ rest ≡ before ++ last ∷ [] = cc in
       arrive_on rest before (next_of t state next) next last (next_within t state next table lt next_below) next_below ((spread state lt next next_below).more here below there)
-          (word_tail t next rest word) tail
+      (word_tail t next rest word) tail
 
   pub arrivals_all : (state last : ℕ) → IsArrival t g state last → Contains (set_at sets state) last
   arrivals_all state last a =
       let below = word_head t a.first a.rest a.letters in
       let lt : 0 < t.states = table.some_states in
       subst (λ (s : ℕ). Contains (set_at sets s) last) a.leads
-          (arrive_on a.rest a.before (next_of t 0 a.first) a.first last (next_within t 0 a.first table lt below) below ((spread 0 lt a.first below).first refl a.begins)
-              (word_tail t a.first a.rest a.letters) a.ends)
+      (arrive_on a.rest a.before (next_of t 0 a.first) a.first last (next_within t 0 a.first table lt below) below ((spread 0 lt a.first below).first refl a.begins)
+      (word_tail t a.first a.rest a.letters) a.ends)

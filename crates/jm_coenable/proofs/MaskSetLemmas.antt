@@ -153,10 +153,10 @@ unfolding masks_in
 mask_is_more words mask few whole absent =
     let lt : mask / 64 < length words = omega arith in
     let wider : (x : ℕ) → has_mask words x ≡ true → has_mask (with_mask words mask) x ≡ true = λ x passes_it.
-        elim (eqb_tells x mask) [
-          | inl same ↦ rw (same.1) (its_bit words mask lt)
-          | inr differs ↦ other_bit words mask x lt differs.1 ∙ passes_it
-        ] in
+    elim (eqb_tells x mask) [
+      | inl same ↦ rw (same.1) (its_bit words mask lt)
+      | inr differs ↦ other_bit words mask x lt differs.1 ∙ passes_it
+    ] in
     let listed : Contains (range_with_len 0 256) mask = (mask, rw (length-range_with_len 0 256) few, get_or-range_with_len 0 256 mask mask few ∙ omega arith) in
     elim (cases_Bool (has_mask words mask)) [
       | inl passes_it ↦ absurd (absent ((Contains-masks_in words mask).1 (few, passes_it)))

@@ -1,15 +1,15 @@
-use Rattle.std.proofs.Common.{ℕ, zero, suc, ◌≡◌, ◌<◌, ◌≤◌, ◌+◌, ◌*◌, ◌^◌, ◌↔◌, ◌⊎◌, inl, inr, Bool, true, List, [], ◌∷◌, length, get_or, All, Contains, bit_or, refl, sym, ap, subst, ◌∙◌, arith, rules, ◌||◌}
-use Rattle.std.specs.Prelude.{slice_get, option_map, unwrap_or, Some, Option, IsTrue}
+use Rattle.std.proofs.Common.{ℕ, zero, suc, ◌≡◌, ◌<◌, ◌+◌, ◌*◌, ◌↔◌, inl, inr, Bool, true, List, [], ◌∷◌, length, get_or, Contains, bit_or, refl, sym, ap, subst, ◌∙◌, arith, ◌||◌}
+use Rattle.std.specs.Prelude.{slice_get, option_map, unwrap_or, Some, Option}
 use Rattle.std.proofs.lemmas.Nat.{or_lt}
 use Rattle.std.specs.Int.Bits.{or_zero_r}
 use Rattle.std.proofs.lemmas.List.{get_or_default}
 use borrow.Author.Count.{below_more}
 use Rattle.jm_events.specs.Events.{EventDefinitions}
 use Rattle.jm_goal.specs.Goals.{GoalDefinition}
-use Rattle.jm_table.specs.Tables.{Transitions, IsTable, IsWord, next_of, state_from}
+use Rattle.jm_table.specs.Tables.{Transitions, IsTable, IsWord, next_of}
 use Rattle.jm_coenable.specs.Needs.{params_at, params_of, set_at, IsHandled, IsHitBy, IsNeededFrom}
 use Rattle.jm_coenable.proofs.SetLemmas.{part_put, part_then}
-use Rattle.jm_coenable.specs.Rounds.{IsPut, IsPart, AreNeeded, IsClosedBelow, IsClosedAt, IsClosed}
+use Rattle.jm_coenable.specs.Rounds.{IsPut, IsPart, AreNeeded, IsClosedBelow, IsClosed}
 
 -- ---- words
 
@@ -66,7 +66,7 @@ module _ (t : Transitions) (g : GoalDefinition) (v : EventDefinitions) (state le
   follow_begins a b hit changed few tells put =
       part_put (AreNeeded t g v) (IsClosedBelow t g v state letter 0) a b hit state params changed put
       (needs_put t g v a b hit state params changed put (λ _ is_hit.
-          subst (λ (m : ℕ). IsNeededFrom t g v state m) params_is (needs_one t g v state letter below (subst (λ (s : ℕ). IsHandled t g s) leads (tells.0 is_hit)))))
+      subst (λ (m : ℕ). IsNeededFrom t g v state m) params_is (needs_one t g v state letter below (subst (λ (s : ℕ). IsHandled t g s) leads (tells.0 is_hit)))))
       (λ _. record {
         few = subst (λ (m : ℕ). m < 256) (sym params_is) few;
         hit = λ handled. subst (λ (m : ℕ). Contains (set_at b state) m) (sym params_is) (put.here (tells.1 (subst (λ (s : ℕ). IsHandled t g s) (sym leads) handled)));
@@ -79,16 +79,16 @@ module _ (t : Transitions) (g : GoalDefinition) (v : EventDefinitions) (state le
   follow_more a b c found number wanted changed more within count is tells part put =
       let at : found ≡ get_or b next [] = is ∙ get_or_default b next found [] (omega (arith, within, count)) in
       let Here : List (List ℕ) → Type 0 =
-          λ sets. Contains (set_at sets (next_of t state letter)) number → Contains (set_at sets state) (bit_or (params_at v letter) number) in
+      λ sets. Contains (set_at sets (next_of t state letter)) number → Contains (set_at sets state) (bit_or (params_at v letter) number) in
       part_then (AreNeeded t g v) (IsClosedBelow t g v state letter number) Here (IsClosedBelow t g v state letter (number + 1)) a b c changed more part
       (part_put (AreNeeded t g v) Here b c wanted state (bit_or params number) more put
-          (needs_put t g v b c wanted state (bit_or params number) more put (λ sound is_wanted.
-              subst (λ (m : ℕ). IsNeededFrom t g v state (bit_or m number)) params_is (needs_more t g v state letter number below
-                  (subst (λ (s : ℕ). IsNeededFrom t g v s number) leads (sound next number within (subst (λ (s : List ℕ). Contains s number) at (tells.0 is_wanted)))))))
-          (λ same there.
-              let before : Contains (set_at b (next_of t state letter)) number = subst (λ (s : List (List ℕ)). Contains (set_at s (next_of t state letter)) number) same there in
-              let held : Contains found number = subst (λ (s : List ℕ). Contains s number) (sym at) (subst (λ (s : ℕ). Contains (set_at b s) number) (sym leads) before) in
-              subst (λ (m : ℕ). Contains (set_at c state) (bit_or m number)) (sym params_is) (put.here (tells.1 held))))
+      (needs_put t g v b c wanted state (bit_or params number) more put (λ sound is_wanted.
+      subst (λ (m : ℕ). IsNeededFrom t g v state (bit_or m number)) params_is (needs_more t g v state letter number below
+      (subst (λ (s : ℕ). IsNeededFrom t g v s number) leads (sound next number within (subst (λ (s : List ℕ). Contains s number) at (tells.0 is_wanted)))))))
+      (λ same there.
+      let before : Contains (set_at b (next_of t state letter)) number = subst (λ (s : List (List ℕ)). Contains (set_at s (next_of t state letter)) number) same there in
+      let held : Contains found number = subst (λ (s : List ℕ). Contains s number) (sym at) (subst (λ (s : ℕ). Contains (set_at b s) number) (sym leads) before) in
+      subst (λ (m : ℕ). Contains (set_at c state) (bit_or m number)) (sym params_is) (put.here (tells.1 held))))
       (λ closed here. record {
         few = closed.few;
         hit = closed.hit;
@@ -109,5 +109,5 @@ needs_all t g v sets table closed (second ∷ rest) state first mask lt h =
     let here = closed state lt first below in
     let few : (letter : ℕ) → letter < t.letters → params_at v letter < 256 = λ letter l. (closed state lt letter l).few in
     let there = needs_all t g v sets table closed rest (next_of t state first) second (params_of v (second ∷ rest)) (next_within t state first table lt below)
-        (record { letters = word; hit = h.hit; params = refl }) in
+    (record { letters = word; hit = h.hit; params = refl }) in
     subst (λ (m : ℕ). Contains (set_at sets state) m) (sym h.params) (here.more (params_of v (second ∷ rest)) (params_few t v few (second ∷ rest) word) there)

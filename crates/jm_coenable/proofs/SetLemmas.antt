@@ -1,5 +1,4 @@
 use Rattle.std.proofs.Common.{ℕ, zero, suc, ◌≡◌, ◌<◌, ◌≤◌, ◌-◌, ◌↔◌, ◌⊎◌, inl, inr, Bool, true, false, ◌||◌, List, [], ◌∷◌, ◌++◌, length, get_or, set, Contains, refl, sym, ap, subst, ◌∙◌, arith}
-use Rattle.std.specs.Prelude.{sum_by}
 use Rattle.std.proofs.lemmas.Bool.{false≢true}
 use Rattle.std.proofs.lemmas.Bool.Decides.{eqb_tells}
 use Rattle.std.proofs.lemmas.List.{get_or-set_same, get_or-set_other, get_or_default, set-get_or}
@@ -27,7 +26,7 @@ put_back old wanted place member found is lt there =
     let e : set old place found ≡ old = ap (λ (s : List ℕ). set old place s) is ∙ set-get_or old place found in
     let at : get_or old place [] ≡ found = get_or_default old place [] found lt ∙ sym is in
     subst (λ (new : List (List ℕ)). IsPut old new wanted place member false) (sym e)
-        (put_same old wanted place member (λ _. subst (λ (s : List ℕ). Contains s member) (sym at) there))
+    (put_same old wanted place member (λ _. subst (λ (s : List ℕ). Contains s member) (sym at) there))
 
 -- a member that wasn't there is put
 pub put_more : (old : List (List ℕ)) (wanted : Bool) (place member : ℕ) (found new : List ℕ) → found ≡ get_or old place found → place < length old → wanted ≡ true

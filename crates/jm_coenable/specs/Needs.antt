@@ -1,5 +1,5 @@
 -- What a property needs: its table, its goal, and the events whose letters are the table's.
-use Rattle.std.specs.Prelude.{ℕ, ◌≡◌, ◌<◌, ◌≤◌, ◌↔◌, ◌⊎◌, List, [], ◌∷◌, ◌++◌, Some, All, Contains, IsBitSet, length, bit_and, bit_or, slice_get, slice_index_or, option_map, unwrap_or}
+use Rattle.std.specs.Prelude.{ℕ, ◌≡◌, ◌<◌, ◌↔◌, ◌⊎◌, List, [], ◌∷◌, ◌++◌, Some, All, Contains, IsBitSet, length, bit_and, bit_or, slice_get, slice_index_or, option_map, unwrap_or}
 use Rattle.jm_events.specs.Events.{EventDefinitions}
 use Rattle.jm_goal.specs.Goals.{GoalDefinition}
 use Rattle.jm_table.specs.Tables.{Transitions, IsWord, IsInGroup, state_from}

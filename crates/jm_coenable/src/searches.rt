@@ -20,7 +20,12 @@ pub(crate) fn alive_set(needed: &MaskSet) -> MaskSet
 }
 
 /// Whether some state has the letter among its last letters, and the mask among what is needed from it.
-pub(crate) fn is_in_family(arrivals: &[MaskSet], needed: &[MaskSet], letter: Letter, mask: u8) -> bool
+pub(crate) fn is_in_family(
+    arrivals: &[MaskSet],
+    needed: &[MaskSet],
+    letter: Letter,
+    mask: u8,
+) -> bool
     requires { length arrivals.now ≡ length needed.now }
     ensures { (result ≡ true) ↔ IsTold arrivals.now needed.now letter.0 mask }
 {

@@ -1,5 +1,4 @@
-use Rattle.std.proofs.Common.{ℕ, ◌<◌}
-use Rattle.jm_coenable.specs.Rounds.{IsPart, AreArrivals, IsSpreadBelow, IsSpreadAt, IsSpreadState}
+use Rattle.jm_coenable.specs.Rounds.{IsPart, AreArrivals, IsSpreadBelow}
 use Rattle.jm_coenable.proofs.arrivals.arrive.Given as goal
 
 abbrev pub invariant-loop-last : goal.invariant-loop-last

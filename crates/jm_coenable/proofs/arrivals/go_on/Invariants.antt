@@ -1,5 +1,5 @@
 use Rattle.std.proofs.Common.{ℕ, ◌<◌}
-use Rattle.jm_coenable.specs.Rounds.{IsPart, AreArrivals, IsSpreadBelow, IsSpreadAt, IsSpreadState}
+use Rattle.jm_coenable.specs.Rounds.{IsPart, AreArrivals, IsSpreadState}
 use Rattle.jm_coenable.proofs.arrivals.go_on.Given as goal
 
 abbrev pub invariant-loop-state : goal.invariant-loop-state

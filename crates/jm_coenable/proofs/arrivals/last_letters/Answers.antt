@@ -1,4 +1,4 @@
-use Rattle.std.proofs.Common.{ℕ, ◌≡◌, ◌∙◌, sym}
+use Rattle.std.proofs.Common.{◌∙◌}
 use Rattle.jm_coenable.proofs.ArrivalLemmas.{arrivals_all}
 use Rattle.jm_coenable.proofs.arrivals.last_letters.Goals as goal
 

@@ -1,5 +1,5 @@
 use Rattle.std.proofs.Common.{ℕ, ◌<◌}
-use Rattle.jm_coenable.specs.Rounds.{IsPart, AreArrivals, IsSpreadBelow, IsSpreadAt, IsSpreadState}
+use Rattle.jm_coenable.specs.Rounds.{IsPart, AreArrivals, IsSpreadAt}
 use Rattle.jm_coenable.proofs.arrivals.spread.Given as goal
 
 abbrev pub invariant-loop-letter : goal.invariant-loop-letter

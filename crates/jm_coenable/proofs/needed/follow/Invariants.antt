@@ -1,5 +1,4 @@
-use Rattle.std.proofs.Common.{ℕ, ◌≡◌, ◌<◌, ◌≤◌, ◌+◌, List, length}
-use Rattle.jm_coenable.specs.Rounds.{room_of, IsPart, AreNeeded, IsClosedBelow, IsClosedAt, IsClosedState, IsClosed}
+use Rattle.jm_coenable.specs.Rounds.{IsPart, AreNeeded, IsClosedBelow}
 use Rattle.jm_coenable.proofs.needed.follow.Given as goal
 
 abbrev pub invariant-loop-number : goal.invariant-loop-number

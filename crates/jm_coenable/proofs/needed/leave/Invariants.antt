@@ -1,5 +1,5 @@
-use Rattle.std.proofs.Common.{ℕ, ◌≡◌, ◌<◌, ◌≤◌, ◌+◌, List, length}
-use Rattle.jm_coenable.specs.Rounds.{room_of, IsPart, AreNeeded, IsClosedBelow, IsClosedAt, IsClosedState, IsClosed}
+use Rattle.std.proofs.Common.{ℕ, ◌<◌}
+use Rattle.jm_coenable.specs.Rounds.{IsPart, AreNeeded, IsClosedAt}
 use Rattle.jm_coenable.proofs.needed.leave.Given as goal
 
 abbrev pub invariant-loop-letter : goal.invariant-loop-letter

@@ -1,5 +1,4 @@
-use Rattle.std.proofs.Common.{ℕ, ◌≡◌, ◌∙◌, sym}
-use Rattle.jm_coenable.specs.Needs.{IsHitBy}
+use Rattle.std.proofs.Common.{◌∙◌}
 use Rattle.jm_coenable.proofs.NeedLemmas.{needs_all}
 use Rattle.jm_coenable.proofs.needed.needed_masks.Goals as goal
 

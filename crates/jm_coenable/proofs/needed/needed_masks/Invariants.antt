@@ -1,4 +1,4 @@
-use Rattle.std.proofs.Common.{ℕ, ◌≡◌, length}
+use Rattle.std.proofs.Common.{◌≡◌, length}
 use Rattle.jm_coenable.specs.Rounds.{room_of, AreNeeded}
 use Rattle.jm_coenable.proofs.needed.needed_masks.Given as goal
 

@@ -1,6 +1,5 @@
-use Rattle.std.proofs.Common.{ℕ, ◌≡◌, ◌<◌, ◌↔◌, ◌+◌, Contains, bit_and}
-use Rattle.jm_coenable.specs.Needs.{set_at, IsAlive}
-use Rattle.jm_coenable.specs.Searches.{IsTold}
+use Rattle.std.proofs.Common.{ℕ, ◌<◌, ◌↔◌, Contains}
+use Rattle.jm_coenable.specs.Needs.{IsAlive}
 use Rattle.jm_coenable.proofs.searches.alive_set.Given as goal
 
 abbrev pub invariant-loop-number : goal.invariant-loop-number

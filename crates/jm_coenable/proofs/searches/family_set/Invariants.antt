@@ -1,5 +1,4 @@
-use Rattle.std.proofs.Common.{ℕ, ◌≡◌, ◌<◌, ◌↔◌, ◌+◌, Contains, bit_and}
-use Rattle.jm_coenable.specs.Needs.{set_at, IsAlive}
+use Rattle.std.proofs.Common.{ℕ, ◌<◌, ◌↔◌, Contains}
 use Rattle.jm_coenable.specs.Searches.{IsTold}
 use Rattle.jm_coenable.proofs.searches.family_set.Given as goal
 

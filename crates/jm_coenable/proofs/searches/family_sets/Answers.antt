@@ -1,7 +1,7 @@
-use Rattle.std.proofs.Common.{ℕ, ◌≡◌, ◌<◌, ◌+◌, List, [], ◌∷◌, length, length-append, sym, ap, subst, ◌∙◌, arith}
+use Rattle.std.proofs.Common.{ℕ, ◌<◌, List, [], ◌∷◌, length, length-append, sym, ap, subst, ◌∙◌, arith}
 use Rattle.jm_coenable.specs.Needs.{set_at}
-use Rattle.jm_coenable.specs.Searches.{AreDeadSets, IsFamilySet}
-use Rattle.jm_coenable.proofs.FillLemmas.{read_is, sets_push}
+use Rattle.jm_coenable.specs.Searches.{IsFamilySet}
+use Rattle.jm_coenable.proofs.FillLemmas.{sets_push}
 use Rattle.jm_coenable.proofs.searches.family_sets.Goals as goal
 
 pub loop-letter-preserved : goal.loop-letter-preserved

@@ -1,6 +1,5 @@
-use Rattle.std.proofs.Common.{ℕ, ◌≡◌, ◌<◌, ◌↔◌, ◌+◌, Contains, bit_and}
-use Rattle.jm_coenable.specs.Needs.{set_at, IsAlive}
-use Rattle.jm_coenable.specs.Searches.{IsTold}
+use Rattle.std.proofs.Common.{ℕ, ◌<◌, Contains}
+use Rattle.jm_coenable.specs.Needs.{set_at}
 use Rattle.jm_coenable.proofs.searches.is_in_family.Given as goal
 
 abbrev pub invariant-loop-state : goal.invariant-loop-state

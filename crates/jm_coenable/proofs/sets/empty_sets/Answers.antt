@@ -1,4 +1,4 @@
-use Rattle.std.proofs.Common.{ℕ, ◌≡◌, ◌+◌, List, [], ◌∷◌, ◌++◌, length, Contains, length-append, sym, subst, ap, ◌∙◌, arith}
+use Rattle.std.proofs.Common.{ℕ, List, [], ◌∷◌, length, Contains, length-append, subst, ap, ◌∙◌, arith}
 use Rattle.jm_coenable.specs.Needs.{set_at}
 use Rattle.jm_coenable.proofs.SetLemmas.{empty_more}
 use Rattle.jm_coenable.proofs.sets.empty_sets.Goals as goal

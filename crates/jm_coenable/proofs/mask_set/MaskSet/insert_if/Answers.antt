@@ -1,4 +1,4 @@
-use Rattle.std.proofs.Common.{◌⊎◌, inl, inr}
+use Rattle.std.proofs.Common.{inl, inr}
 use Rattle.jm_coenable.proofs.mask_set.MaskSet.insert_if.Goals as goal
 
 pub returns-then-wanted : goal.returns-then-wanted

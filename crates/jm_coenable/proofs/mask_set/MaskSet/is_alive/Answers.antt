@@ -1,4 +1,4 @@
-use Rattle.std.proofs.Common.{ℕ, ◌<◌, List, Contains, sym, subst, arith}
+use Rattle.std.proofs.Common.{ℕ, List, Contains, sym, subst, arith}
 use Rattle.std.proofs.lemmas.Bool.{false≢true}
 use Rattle.jm_coenable.proofs.MaskSetLemmas.{Contains-masks_in}
 use Rattle.jm_coenable.proofs.mask_set.MaskSet.is_alive.Goals as goal

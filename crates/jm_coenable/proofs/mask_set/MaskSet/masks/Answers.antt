@@ -1,4 +1,4 @@
-use Rattle.std.proofs.Common.{ℕ, ◌<◌, List, Contains, sym, subst, arith}
+use Rattle.std.proofs.Common.{ℕ, List, Contains, sym, subst, arith}
 use Rattle.std.specs.List.Sorted.{IsStrictlySortedBy}
 use Rattle.std.specs.Ordering.{nat_cmp}
 use Rattle.jm_coenable.proofs.RiseLemmas.{none_rises, rises_more, members_more}

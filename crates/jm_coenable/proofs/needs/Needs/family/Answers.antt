@@ -1,4 +1,4 @@
-use Rattle.std.proofs.Common.{ℕ, ◌≡◌, ◌<◌, ◌↔◌, List, Vec, Global, length, Contains, sym, ap, subst, ◌∙◌, arith}
+use Rattle.std.proofs.Common.{ℕ, ◌≡◌, ◌↔◌, List, Vec, Global, length, Contains, sym, ap, subst, ◌∙◌, arith}
 use Rattle.jm_coenable.specs.Needs.{NeedSets, IsInFamily, set_at}
 use Rattle.jm_coenable.proofs.FillLemmas.{read_is, family_is}
 use Rattle.jm_coenable.proofs.needs.Needs.family.Goals as goal

@@ -1,4 +1,4 @@
-use Rattle.std.proofs.Common.{ℕ, ◌≡◌, ◌<◌, List, length, Contains, sym, ap, subst, ◌∙◌, arith}
+use Rattle.std.proofs.Common.{ℕ, ◌≡◌, ◌<◌, List, length, subst, ◌∙◌}
 use Rattle.jm_coenable.specs.Needs.{set_at}
 use Rattle.jm_coenable.specs.Searches.{AreDeadSets, IsFamilySet}
 use Rattle.jm_coenable.proofs.MadeLemmas.{needs_made}
@@ -15,5 +15,5 @@ returns c =
     (subst (λ (n : List (List ℕ)). (place : ℕ) → place < length alive → AreDeadSets (set_at n place) (set_at alive place)) c.deref.ensures.value c.in_ok-alive.ensures.exact)
     (c.in_ok-families.ensures.count ∙ c.letters.ensures.value)
     (subst (λ (n : List (List ℕ)). (letter : ℕ) → letter < length families → IsFamilySet arrivals n letter (set_at families letter)) c.deref-3.ensures.value
-        (subst (λ (a : List (List ℕ)). (letter : ℕ) → letter < length families → IsFamilySet a c.deref-3.result.now letter (set_at families letter)) c.deref-2.ensures.value
-            c.in_ok-families.ensures.exact))
+    (subst (λ (a : List (List ℕ)). (letter : ℕ) → letter < length families → IsFamilySet a c.deref-3.result.now letter (set_at families letter)) c.deref-2.ensures.value
+    c.in_ok-families.ensures.exact))
