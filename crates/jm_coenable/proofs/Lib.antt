@@ -1,0 +1,7 @@
+pub mod MaskSetLemmas
+pub mod SetLemmas
+pub mod NeedLemmas
+pub mod ArrivalLemmas
+pub mod FillLemmas
+pub mod MadeLemmas
+pub mod RiseLemmas

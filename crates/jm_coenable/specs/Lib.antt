@@ -1,0 +1,4 @@
+pub mod Needs
+pub mod MaskSets
+pub mod Rounds
+pub mod Searches

@@ -1,0 +1,102 @@
+ghost use Rattle.std.specs.Prelude.{ℕ, ◌≡◌, ◌<◌, ◌≤◌, ◌⊎◌, ◌↔◌, true, false, [], ◌∷◌, ◌++◌, IsTrue, IfOk, OnOk, Contains, length};
+ghost use Rattle.std.specs.List.Sorted.{IsStrictlySortedBy};
+ghost use Rattle.std.specs.Ordering.{nat_cmp};
+ghost use Rattle.jm_coenable.specs.Needs.{IsAlive};
+
+use jm_model::NoMemory;
+use std::alloc::Global;
+use std::marker::Model;
+
+const WORDS: usize = 4;
+
+/// A set of masks, which are numbers below 256: a bit for each. Contracts see it as the list of its masks, in order.
+#[derive(Drop)]
+pub(crate) struct MaskSet {
+    words: [u64; WORDS],
+}
+
+impl Model for MaskSet {
+    ghost use Rattle.std.specs.Prelude.{ℕ, List};
+    ghost use Rattle.jm_coenable.specs.MaskSets.{masks_in};
+
+    ghost Value = { List ℕ };
+
+    ghost view = { λ s. masks_in s.words };
+}
+
+impl MaskSet {
+    /// No mask.
+    pub(crate) fn new() -> MaskSet
+        ensures { (mask : ℕ) → ¬ Contains result mask }
+    {
+        MaskSet { words: [0; WORDS] }
+    }
+
+    /// Whether the mask is in the set.
+    pub(crate) fn contains(&self, mask: u8) -> bool
+        ensures member { IsTrue result ↔ Contains self.now mask }
+        ensures few { (other : ℕ) → Contains self.now other → other < 256 }
+    {
+        let word = self.words[mask as usize / 64];
+        (word >> (mask % 64)) & 1 == 1
+    }
+
+    /// Puts a mask into the set.
+    pub(crate) fn insert(&mut self, mask: u8)
+        ensures member { (other : ℕ) → Contains self.new other ↔ (Contains self.old other ⊎ (other ≡ mask)) }
+        ensures longer { (Contains self.old mask → ⊥) → length self.old < length self.new }
+        ensures few { length self.new ≤ 256 }
+    {
+        let at = mask as usize / 64;
+        let word = self.words[at];
+        self.words[at] = word | (1 << (mask % 64));
+    }
+
+    /// Puts a mask into the set, if this is wanted.
+    pub(crate) fn insert_if(&mut self, wanted: bool, mask: u8)
+        ensures { (other : ℕ) → Contains self.new other ↔ (Contains self.old other ⊎ ((wanted ≡ true) × (other ≡ mask))) }
+    {
+        if wanted {
+            self.insert(mask);
+        }
+    }
+
+    /// Whether some mask of the set has none of the dead parameters.
+    pub(crate) fn is_alive(&self, dead: u8) -> bool
+        ensures { (result ≡ true) ↔ IsAlive (Contains self.now) dead }
+    {
+        // Its masks are below 256: the proof learns it from the words.
+        let _ = &self.words;
+        for number in 0..256u16 {
+            let mask = number as u8;
+            if self.contains(mask) && mask & dead == 0 {
+                return true;
+            }
+        }
+        false
+    }
+
+    /// The masks in rising order.
+    pub(crate) fn masks(&self, alloc: Global) -> Result<Vec<u8>, NoMemory>
+        ensures rising { IfOk result (λ masks. IsStrictlySortedBy nat_cmp masks.items) }
+        ensures exact { IfOk result (λ masks. (mask : ℕ) → mask < 256 → Contains masks.items mask ↔ Contains self.now mask) }
+    {
+        let mut masks = Vec::new(alloc);
+        for number in 0..256u16 {
+            let mask = number as u8;
+            let wanted = self.contains(mask);
+            push_if(&mut masks, wanted, mask)?;
+        }
+        Ok(masks)
+    }
+}
+
+fn push_if(masks: &mut Vec<u8>, wanted: bool, mask: u8) -> Result<(), NoMemory>
+    ensures pushed { wanted ≡ true → OnOk result (masks.new.items ≡ masks.old.items ++ mask ∷ []) }
+    ensures kept { wanted ≡ false → masks.new.items ≡ masks.old.items }
+{
+    if wanted {
+        masks.push(mask)?;
+    }
+    Ok(())
+}
