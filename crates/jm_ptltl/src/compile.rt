@@ -44,6 +44,7 @@ fn add_group(
     requires states { table.old.states ≡ length nodes.now }
     requires few { length nodes.now ≤ 1024 }
     ensures group { OnOk result (HasGroup place truth nodes.now table.old table.new) }
+    ensures few { table.old.states ≤ 1024 }
     ensures fault { IfErr result (λ e. e ≡ SpecError.NoMemory) }
 {
     let members = members(alloc, nodes, place, truth)?;

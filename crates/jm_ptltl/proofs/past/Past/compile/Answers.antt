@@ -54,5 +54,5 @@ returns-clause-refused c = λ crowd.
     let nodes = c.in_ok-table.nodes.items in
     let letters = c.in_ok-table.ensures.shape.0 ∙ c.letters.ensures.value in
     absurd (room_for_all f few c.in_ok-table.table nodes (subst (λ (l : List (Option ℕ)). Follows (graph_of f) c.in_ok-table.table l) (map_same nodes) c.in_ok-table.ensures.follows)
-    (omega (arith, c.table.invariant.few_states, ap (λ (t : Transitions). t.states) c.table.view_is, ap (λ (t : Transitions). t.states) c.in_ok-add_group.ensures.group.added))
+    c.in_ok-add_group.ensures.few
     (subst (λ n. IsCrowded f n) (sym letters) crowd))
