@@ -67,11 +67,11 @@ fn futures_text(
     requires { letters ≤ length charts.now.params }
 {
     let mut out = String::new(alloc);
-    let mut separator = "";
     for word in words.split_whitespace() {
-        out.push_str(separator)?;
+        if !out.is_empty() {
+            out.push(' ')?;
+        }
         add_future(&mut out, charts, word, letters)?;
-        separator = " ";
     }
     Ok(out)
 }
