@@ -71,15 +71,26 @@ fn put_words(
 {
     let (words, sets) = words.split_once(" | ").unwrap_or((words, ""));
     for word in words.split_whitespace() {
-        out.push_str(word)?;
-        out.push(' ')?;
-        put_sets(
-            out,
-            sets,
-            needs,
-            state_after(table, word),
-            is_started(creation, word),
-        )?;
+        put_word(out, word, sets, table, is_started(creation, word), needs)?;
+    }
+    Ok(())
+}
+
+fn put_word(
+    out: &mut String,
+    word: &str,
+    sets: &str,
+    table: &Table,
+    started: bool,
+    needs: &Needs,
+) -> Result<(), AllocError>
+    requires { length needs.now.alive ≡ table.now.states }
+{
+    out.push_str(word)?;
+    out.push(' ')?;
+    let state = state_after(table, word);
+    if state < table.len() {
+        put_sets(out, sets, needs, state, started)?;
     }
     Ok(())
 }
@@ -93,7 +104,6 @@ fn put_sets(
 ) -> Result<(), AllocError>
     requires { state < length needs.now.alive }
 {
-    out.push(' ')?;
     for set in sets.split_whitespace() {
         let alive = needs.alive(state, started, set.parse::<u8>().unwrap_or(0));
         out.push(if alive { '+' } else { '-' })?;
