@@ -3,8 +3,9 @@ use Rattle.jm_events.specs.Events.{EventDefinitions}
 use Rattle.jm_goal.specs.Goals.{GoalDefinition}
 use Rattle.jm_table.specs.Tables.{Transitions, IsTable, IsWord, next_of, state_from}
 use Rattle.jm_coenable.specs.Needs.{set_at, IsNeededFrom, IsArrival, AreNeedsOf}
-use Rattle.jm_coenable.specs.Searches.{AreDeadSets, IsFamilySet}
+use Rattle.jm_coenable.specs.Searches.{AreDeadSets, IsFamilySet, IsStart}
 use Rattle.jm_coenable.proofs.NeedLemmas.{word_head, word_tail, next_within}
+use Rattle.jm_coenable.proofs.StartLemmas.{start_sound, start_complete}
 
 word_within : (t : Transitions) (word : List ℕ) (state : ℕ) → IsTable t → state < t.states → IsWord t word → state_from t state word < t.states
 word_within t [] state table lt word = lt
@@ -17,13 +18,14 @@ arrival_within t g state last table a =
     subst (λ (s : ℕ). s < t.states) a.leads (word_within t (a.first ∷ a.rest) 0 table lt a.letters)
 
 -- what was made of needed masks and last letters are the needs
-pub needs_made : (t : Transitions) (g : GoalDefinition) (v : EventDefinitions) (arrivals needed alive families : List (List ℕ)) → IsTable t → length needed ≡ t.states
+pub needs_made : (t : Transitions) (g : GoalDefinition) (v : EventDefinitions) (arrivals needed alive families : List (List ℕ)) (first start : List ℕ) → IsTable t → length needed ≡ t.states
     → ((state mask : ℕ) → state < t.states → Contains (set_at needed state) mask ↔ IsNeededFrom t g v state mask)
     → ((state last : ℕ) → state < t.states → Contains (set_at arrivals state) last ↔ IsArrival t g state last)
     → length alive ≡ length needed → ((place : ℕ) → place < length alive → AreDeadSets (set_at needed place) (set_at alive place))
     → length families ≡ t.letters → ((letter : ℕ) → letter < length families → IsFamilySet arrivals needed letter (set_at families letter))
-    → AreNeedsOf t g v (record { alive = alive; families = families })
-needs_made t g v arrivals needed alive families table count needs arrives dead_count dead family_count family = record {
+    → ((mask : ℕ) → Contains first mask ↔ IsStart t g v needed t.letters mask) → AreDeadSets first start
+    → AreNeedsOf t g v (record { alive = alive; start = start; families = families })
+needs_made t g v arrivals needed alive families first start table count needs arrives dead_count dead family_count family begins dead_first = record {
   states = dead_count ∙ count;
   letters = family_count;
   alive = λ state d lt few.
@@ -31,6 +33,10 @@ needs_made t g v arrivals needed alive families table count needs arrives dead_c
         λ h. let a = (sets.0 h).1 in (a.0, (needs state a.0 lt).0 a.1, a.2),
         λ h. sets.1 (few, (h.0, (needs state h.0 lt).1 h.1, h.2)),
       );
+  start = λ d few. (
+    λ h. let a = ((dead_first d).0 h).1 in (a.0, start_sound t g v needed table needs a.0 ((begins a.0).0 a.1), a.2),
+    λ h. let n = h.1 in (dead_first d).1 (few, (h.0, (begins h.0).1 (start_complete t g v needed table needs n.1 h.0 n.0 n.2 n.3), h.2)),
+  );
   families = λ letter mask lt few.
       let set = family letter (omega (arith, lt, family_count)) mask in (
         λ h. let told = (set.0 h).1 in

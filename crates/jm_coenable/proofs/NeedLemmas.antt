@@ -27,7 +27,7 @@ pub next_within : (t : Transitions) (state letter : ℕ) → IsTable t → state
 next_within t state letter table lt below =
     table.within (state * t.letters + letter) 0 (grind (arith, table.whole))
 
-or_none : (n : ℕ) → bit_or n 0 ≡ n
+pub or_none : (n : ℕ) → bit_or n 0 ≡ n
 or_none n = or_zero_r n
 
 pub params_few : (t : Transitions) (v : EventDefinitions) → ((letter : ℕ) → letter < t.letters → params_at v letter < 256) → (word : List ℕ) → IsWord t word → params_of v word < 256

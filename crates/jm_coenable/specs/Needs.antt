@@ -58,9 +58,11 @@ IsInFamily t g v letter mask = (state : ℕ) × IsArrival t g state letter × Is
 abbrev pub IsAlive : (ℕ → Type 0) → ℕ → Type 0
 IsAlive Needed dead = (mask : ℕ) × Needed mask × (bit_and mask dead ≡ 0)
 
--- what is kept: for each state the sets of dead parameters at which it can still be hit, and for each letter its family
+-- what is kept: for each state, and for the empty word, the sets of dead parameters at which it can still be hit, and for
+-- each letter its family
 pub record NeedSets : Type 0 where
   pub alive : List (List ℕ)
+  pub start : List ℕ
   pub families : List (List ℕ)
 
 -- the set of this place
@@ -72,4 +74,5 @@ pub record AreNeedsOf (t : Transitions) (g : GoalDefinition) (v : EventDefinitio
   pub states : length n.alive ≡ t.states
   pub letters : length n.families ≡ t.letters
   pub alive : (state dead : ℕ) → state < t.states → dead < 256 → Contains (set_at n.alive state) dead ↔ IsAlive (IsNeededFrom t g v state) dead
+  pub start : (dead : ℕ) → dead < 256 → Contains n.start dead ↔ IsAlive (IsNeededAtStart t g v) dead
   pub families : (letter mask : ℕ) → letter < t.letters → mask < 256 → Contains (set_at n.families letter) mask ↔ IsInFamily t g v letter mask

@@ -1,6 +1,9 @@
 -- What is asked of the sets that the rounds made.
-use Rattle.std.specs.Prelude.{ℕ, ◌<◌, ◌↔◌, List, Contains, length}
-use Rattle.jm_coenable.specs.Needs.{set_at, IsAlive}
+use Rattle.std.specs.Prelude.{ℕ, ◌≡◌, ◌<◌, ◌↔◌, ◌⊎◌, List, Contains, length, bit_or}
+use Rattle.jm_events.specs.Events.{EventDefinitions}
+use Rattle.jm_goal.specs.Goals.{GoalDefinition}
+use Rattle.jm_table.specs.Tables.{Transitions, next_of}
+use Rattle.jm_coenable.specs.Needs.{params_at, set_at, IsHandled, IsFirst, IsAlive}
 
 -- some state has this last letter, and needs this mask
 abbrev pub IsTold : List (List ℕ) → List (List ℕ) → ℕ → ℕ → Type 0
@@ -13,3 +16,16 @@ AreDeadSets needed alive = (dead : ℕ) → Contains alive dead ↔ ((dead < 256
 -- the masks below 256 of the letter
 abbrev pub IsFamilySet : List (List ℕ) → List (List ℕ) → ℕ → List ℕ → Type 0
 IsFamilySet arrivals needed letter family = (mask : ℕ) → Contains family mask ↔ ((mask < 256) × IsTold arrivals needed letter mask)
+
+-- the mask is these parameters and those of a mask of the set
+abbrev pub IsJoined : ℕ → List ℕ → ℕ → Type 0
+IsJoined params rests mask = (rest : ℕ) × Contains rests rest × (mask ≡ bit_or params rest)
+
+-- the mask is needed of this letter at the start: it leads to a handled state, or more is needed from where it leads
+abbrev pub IsStep : Transitions → GoalDefinition → EventDefinitions → List (List ℕ) → ℕ → ℕ → Type 0
+IsStep t g v needed letter mask =
+    (IsHandled t g (next_of t 0 letter) × (mask ≡ params_at v letter)) ⊎ IsJoined (params_at v letter) (set_at needed (next_of t 0 letter)) mask
+
+-- the mask is needed of one of so many letters, with which a word may begin
+abbrev pub IsStart : Transitions → GoalDefinition → EventDefinitions → List (List ℕ) → ℕ → ℕ → Type 0
+IsStart t g v needed letters mask = (letter : ℕ) × (letter < letters) × IsFirst g letter × IsStep t g v needed letter mask

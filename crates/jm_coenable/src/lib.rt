@@ -11,5 +11,6 @@ mod needs;
 mod property;
 mod searches;
 mod sets;
+mod start;
 
 pub use needs::Needs;

@@ -2,6 +2,7 @@ ghost use Rattle.std.specs.Prelude.{ℕ, ◌≡◌, ◌<◌, ◌≤◌, ◌⊎�
 ghost use Rattle.std.specs.List.Sorted.{IsStrictlySortedBy};
 ghost use Rattle.std.specs.Ordering.{nat_cmp};
 ghost use Rattle.jm_coenable.specs.Needs.{IsAlive};
+ghost use Rattle.jm_coenable.specs.Searches.{IsJoined};
 
 use jm_model::NoMemory;
 use std::alloc::Global;
@@ -58,6 +59,19 @@ impl MaskSet {
     {
         if wanted {
             self.insert(mask);
+        }
+    }
+
+    /// Puts these parameters, together with those of each mask of the other set, into the set.
+    pub(crate) fn insert_joined(&mut self, params: u8, rests: &MaskSet)
+        ensures { (mask : ℕ) → Contains self.new mask ↔ (Contains self.old mask ⊎ IsJoined params rests.now mask) }
+    {
+        // Its masks are below 256: the proof learns it from the words.
+        let _ = &rests.words;
+        for number in 0..256u16 {
+            let rest = number as u8;
+            let wanted = rests.contains(rest);
+            self.insert_if(wanted, params | rest);
         }
     }
 

@@ -4,12 +4,13 @@ ghost use Rattle.std.specs.Ordering.{nat_cmp};
 ghost use Rattle.jm_events.specs.Events.{EventDefinitions};
 ghost use Rattle.jm_goal.specs.Goals.{GoalDefinition};
 ghost use Rattle.jm_table.specs.Tables.{Transitions};
-ghost use Rattle.jm_coenable.specs.Needs.{AreFit, AreNeedsOf, IsAlive, IsNeededFrom, IsInFamily};
+ghost use Rattle.jm_coenable.specs.Needs.{AreFit, AreNeedsOf, IsAlive, IsNeededFrom, IsNeededAtStart, IsInFamily};
 
 use crate::arrivals::last_letters;
 use crate::mask_set::MaskSet;
 use crate::needed::needed_masks;
-use crate::searches::{alive_sets, family_sets};
+use crate::searches::{alive_set, alive_sets, family_sets};
+use crate::start::start_masks;
 use jm_events::EventTable;
 use jm_goal::Goal;
 use jm_model::{Letter, NoMemory};
@@ -21,6 +22,7 @@ use std::marker::Model;
 #[derive(Drop)]
 pub struct Needs {
     alive: Vec<MaskSet>,
+    start: MaskSet,
     families: Vec<MaskSet>,
 }
 
@@ -29,7 +31,7 @@ impl Model for Needs {
 
     ghost Value = { NeedSets };
 
-    ghost view = { λ n. record { alive = n.alive.items; families = n.families.items } };
+    ghost view = { λ n. record { alive = n.alive.items; start = n.start; families = n.families.items } };
 }
 
 impl Needs {
@@ -47,7 +49,22 @@ impl Needs {
         let arrivals = last_letters(alloc, table, goal)?;
         let alive = alive_sets(alloc, &needed)?;
         let families = family_sets(alloc, &arrivals, &needed, table.letters())?;
-        Ok(Needs { alive, families })
+        let first = start_masks(table, goal, events, &needed);
+        let start = alive_set(&first);
+        Ok(Needs {
+            alive,
+            start,
+            families,
+        })
+    }
+
+    /// Whether some word of one or more letters without a dead parameter, which may begin as it does, leads from the start
+    /// to a handled state.
+    pub fn alive_at_start(&self, dead: u8) -> bool
+        ensures { (t : Transitions) (g : GoalDefinition) (v : EventDefinitions) → AreNeedsOf t g v self.now →
+            (result ≡ true) ↔ IsAlive (IsNeededAtStart t g v) dead }
+    {
+        self.start.contains(dead)
     }
 
     /// Whether some word of one or more letters without a dead parameter leads from the state to a handled one. `started`

@@ -10,7 +10,7 @@ use jm_model::{Letter, NoMemory, SpecError};
 use jm_table::Table;
 use std::alloc::{AllocError, Global};
 
-/// For each word of the case, whose digits are letters, whether some word that follows leads to a match and has none of the
+/// For the empty word, and for each word of the case, whose digits are letters, whether some word that follows leads to a match and has none of the
 /// dead parameters, `+` or `-` for each of the case's sets of dead parameters; and then the family of each letter. The
 /// words stand before a `|`, the sets behind it.
 pub(crate) fn needs(alloc: Global, case: &Case) -> Result<String, SpecError> {
@@ -70,10 +70,21 @@ fn put_words(
     requires { length needs.now.alive ≡ table.now.states }
 {
     let (words, sets) = words.split_once(" | ").unwrap_or((words, ""));
+    put_start(out, sets, needs)?;
     for word in words.split_whitespace() {
         put_word(out, word, sets, table, is_started(creation, word), needs)?;
     }
     Ok(())
+}
+
+/// The same of the empty word, of which nothing says yet how it may go on.
+fn put_start(out: &mut String, sets: &str, needs: &Needs) -> Result<(), AllocError> {
+    out.push_str("start ")?;
+    for set in sets.split_whitespace() {
+        let alive = needs.alive_at_start(set.parse::<u8>().unwrap_or(0));
+        out.push(if alive { '+' } else { '-' })?;
+    }
+    out.push('\n')
 }
 
 fn put_word(
