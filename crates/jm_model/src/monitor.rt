@@ -1,5 +1,5 @@
-ghost use Rattle.std.specs.Prelude.{ℕ, ◌≡◌, ◌∷◌, ◌↔◌, ◌^◌, ◌≤◌, List, [], ◌++◌, ◌<◌, IfOk, IsBitSet};
-ghost use Rattle.jm_model.specs.Meanings.{Meaning, IsHit};
+ghost use Rattle.std.specs.Prelude.{ℕ, ◌≡◌, ◌∷◌, ◌↔◌, ◌^◌, ◌≤◌, List, [], ◌++◌, ◌<◌, IfOk, IsBitSet, IsTrue};
+ghost use Rattle.jm_model.specs.Meanings.{Meaning, IsHit, IsCutWord};
 
 use crate::step::{Letter, NoMemory};
 
@@ -45,10 +45,42 @@ pub trait Monitor: Drop {
     /// A state that stands for the same words with the letter at their end.
     fn next(&self, state: &Self::State, letter: Letter) -> Result<Self::State, NoMemory>
         requires { letter.0 < (meaning (definition self.now)).letters }
-        ensures { IfOk result (λ s. (w : List ℕ) → StandsFor self.now state.now w → StandsFor self.now s (w ++ letter.0 ∷ [])) };
+        ensures { IfOk result (λ s.
+            (w : List ℕ) → StandsFor self.now state.now w → StandsFor self.now s (w ++ letter.0 ∷ [])) };
 
     /// The handlers that the word hits: bit k is set exactly where the category of handler k holds of it. None is hit by
     /// the empty word.
     fn hits(&self, state: &Self::State) -> u16
-        ensures { (w : List ℕ) → StandsFor self.now state.now w → (k : ℕ) → (IsBitSet result k ↔ IsHit (meaning (definition self.now)) w k) };
+        ensures { (w : List ℕ) → StandsFor self.now state.now w →
+            (k : ℕ) → (IsBitSet result k ↔ IsHit (meaning (definition self.now)) w k) };
+
+    /// Whether an instance with this slice can never fire again, where `dead` are the parameters that it binds to dead
+    /// objects.
+    fn cut(&self, state: &Self::State, dead: u8) -> bool
+        ensures { (w : List ℕ) → StandsFor self.now state.now w →
+            IsTrue result ↔ IsCutWord (meaning (definition self.now)) w dead };
+
+    /// The letters at which an instance rests: bit e is set only where the state also stands for its words with letter e
+    /// at their end, and these hit no handler. Such an event needn't look at the instance.
+    fn idle(&self, state: &Self::State) -> u32
+        ensures stays { (w : List ℕ) → StandsFor self.now state.now w → (e : ℕ) → IsBitSet result e →
+            StandsFor self.now state.now (w ++ e ∷ []) }
+        ensures quiet { (w : List ℕ) → StandsFor self.now state.now w → (e k : ℕ) → IsBitSet result e →
+            IsHit (meaning (definition self.now)) (w ++ e ∷ []) k → ⊥ }
+    {
+        let _state = state;
+        0
+    }
+
+    /// The letters that end an instance: bit e is set only where the words with letter e at their end hit no handler, and
+    /// an instance of theirs is cut even while nothing of it is dead. Such an event needn't make an instance.
+    fn ending(&self, state: &Self::State) -> u32
+        ensures quiet { (w : List ℕ) → StandsFor self.now state.now w → (e k : ℕ) → IsBitSet result e →
+            IsHit (meaning (definition self.now)) (w ++ e ∷ []) k → ⊥ }
+        ensures cut { (w : List ℕ) → StandsFor self.now state.now w → (e : ℕ) → IsBitSet result e →
+            IsCutWord (meaning (definition self.now)) (w ++ e ∷ []) 0 }
+    {
+        let _state = state;
+        0
+    }
 }

@@ -24,7 +24,8 @@ abbrev pub has_letter : List ℕ → Bool
 has_letter [] = false
 has_letter (e ∷ w) = true
 
--- handler k's category holds of a word where the state that it leads to has bit k
+-- Handler k's category holds of a word where the state that it leads to has bit k. An instance is cut only where no letter
+-- is available to it.
 abbrev pub table_meaning : Table → Meaning
 table_meaning t = record {
   letters = length t.params;
@@ -34,5 +35,5 @@ table_meaning t = record {
   handlers = 16;
   property_of = λ k. 0;
   Holds = λ w k. IsBitSet (slice_index t.hits (state_from t 0 w)) k;
-  coarse_cut = λ j. false;
+  coarse_cut = λ j. true;
 }

@@ -33,8 +33,9 @@ pub struct Run {
 }
 
 impl Table {
-    ghost use Rattle.std.specs.Prelude.{◌≡◌, slice_index, length};
-    ghost use Rattle.table_monitor.specs.Tables.{next_state};
+    ghost use Rattle.std.specs.Prelude.{ℕ, ◌≡◌, ◌↔◌, IsTrue, slice_index, length};
+    ghost use Rattle.jm_model.specs.Meanings.{IsAvailable};
+    ghost use Rattle.table_monitor.specs.Tables.{next_state, table_meaning};
 
     /// UnsafeIter: create of both parameters, update of the first and next of the second, where
     /// `create next* update+ next` matches. The call of `next` with this number, from 1, is refused memory; 0: none is.
@@ -65,6 +66,14 @@ impl Table {
         ensures three { length self.now.params ≡ 3 }
     {
         self.params
+    }
+
+    /// Whether each letter has a dead parameter.
+    fn has_no_letter(&self, dead: u8) -> bool
+        ensures { IsTrue result ↔ ((e : ℕ) → IsAvailable (table_meaning self.now) dead e → ⊥) }
+    {
+        let params: &[u8] = &self.params;
+        params.iter().all(|mask| mask & dead != 0)
     }
 
     /// The state that a letter leads to.
@@ -144,5 +153,10 @@ impl Monitor for Table {
             return 0;
         }
         self.hits_of(state.state)
+    }
+
+    fn cut(&self, state: &Run, dead: u8) -> bool {
+        let _state = *state;
+        self.has_no_letter(dead)
     }
 }
