@@ -3,8 +3,8 @@ use Rattle.std.proofs.lemmas.Bool.{false≢true}
 use Rattle.std.proofs.lemmas.List.{take_all}
 use Rattle.jm_machine.specs.Engines.{EngineHolds}
 use Rattle.jm_machine.proofs.GoalLemmas.{hits_more, hits_same}
-use Rattle.jm_machine.proofs.goal.handlers_at.Goals as goal
-use Rattle.jm_machine.proofs.goal.handlers_at.Goals.{then-holds, else-holds}
+use Rattle.jm_machine.proofs.engine.handlers_at.Goals as goal
+use Rattle.jm_machine.proofs.engine.handlers_at.Goals.{then-holds, else-holds}
 
 pub loop-handler-preserved : goal.loop-handler-preserved
 loop-handler-preserved c = λ word place k.
