@@ -34,9 +34,10 @@ fn quotient(alloc: Global, table: &Table, partition: &Partition) -> Result<Table
     ensures quotient { IfOk result (IsQuotient table.now partition.now.classes.items partition.now.firsts.items) }
     ensures table { IfOk result IsTable }
 {
-    let next = next_classes(alloc, table, partition)?;
+    let letters = table.letters();
     let states = partition.firsts.len() as u16;
-    let mut quotient = Table::new(alloc, table.letters(), states, next);
+    let next = next_classes(alloc, table, partition)?;
+    let mut quotient = Table::new(alloc, letters, states, next);
     for group in 0..table.group_count() {
         let members = classes_in(alloc, table, partition, group)?;
         quotient.add_group(&members)?;
@@ -74,6 +75,7 @@ fn classes_in(
 ) -> Result<Vec<u16>, NoMemory>
     requires partition { IsPartition table.now.states partition.now.classes.items partition.now.firsts.items }
     requires group { group < length table.now.groups }
+    requires few { length partition.now.firsts.items ≤ 1024 }
     ensures within { IfOk result (λ members. All (λ class. class < length partition.now.firsts.items) members.items) }
     ensures exact { IfOk result (λ members. (class : ℕ) → class < length partition.now.firsts.items →
         Contains members.items class ↔ IsInGroup table.now (slice_index partition.now.firsts.items class) group) }

@@ -20,6 +20,7 @@ pub(crate) enum Test {
 
 /// The coarsest classes of states that are in the same groups, where each letter leads from one class to one class.
 pub(crate) fn equivalence(alloc: Global, table: &Table) -> Result<Partition, NoMemory>
+    ensures table { IsTable table.now }
     ensures partition { IfOk result (λ p. IsPartition table.now.states p.classes.items p.firsts.items) }
     ensures sound { IfOk result (λ p. IsSound table.now p.classes.items) }
     ensures agrees { IfOk result (λ p. AgreesBelow table.now p.classes.items (length table.now.groups)) }
@@ -37,6 +38,7 @@ fn split_by_groups(
     table: &Table,
     partition: &mut Partition,
 ) -> Result<(), NoMemory>
+    requires table { IsTable table.now }
     requires partition { IsPartition table.now.states partition.old.classes.items partition.old.firsts.items }
     requires sound { IsSound table.now partition.old.classes.items }
     ensures partition { OnOk result (IsPartition table.now.states partition.new.classes.items partition.new.firsts.items) }
@@ -56,6 +58,7 @@ fn split_by_letters(
     table: &Table,
     partition: &mut Partition,
 ) -> Result<(), NoMemory>
+    requires table { IsTable table.now }
     requires partition { IsPartition table.now.states partition.old.classes.items partition.old.firsts.items }
     requires sound { IsSound table.now partition.old.classes.items }
     ensures partition { OnOk result (IsPartition table.now.states partition.new.classes.items partition.new.firsts.items) }
@@ -63,7 +66,7 @@ fn split_by_letters(
     ensures finer { OnOk result (IsFiner table.now.states partition.old.classes.items partition.new.classes.items) }
     ensures stable { OnOk result (IsStable table.now partition.new.classes.items) }
 {
-    loop {
+    'rounds: loop {
         let count = partition.firsts.len();
         split_by(alloc, table, partition, Test::Letters)?;
         if partition.firsts.len() == count {
@@ -80,6 +83,7 @@ fn split_by(
     test: Test,
 ) -> Result<(), NoMemory>
     requires test { IsTestOf table.now test }
+    requires table { IsTable table.now }
     requires partition { IsPartition table.now.states partition.old.classes.items partition.old.firsts.items }
     requires sound { IsSound table.now partition.old.classes.items }
     ensures partition { OnOk result (IsPartition table.now.states partition.new.classes.items partition.new.firsts.items) }
@@ -102,6 +106,7 @@ fn keys_of(
     test: Test,
 ) -> Result<Vec<u16>, NoMemory>
     requires test { IsTestOf table.now test }
+    requires table { IsTable table.now }
     requires partition { IsPartition table.now.states partition.now.classes.items partition.now.firsts.items }
     ensures { IfOk result (λ keys. AreKeys test table.now partition.now.classes.items partition.now.firsts.items keys.items) }
 {
@@ -116,6 +121,7 @@ fn keys_of(
 fn key_of(table: &Table, partition: &Partition, test: Test, state: u16) -> u16
     requires test { IsTestOf table.now test }
     requires state { state < table.now.states }
+    requires table { IsTable table.now }
     requires partition { IsPartition table.now.states partition.now.classes.items partition.now.firsts.items }
     ensures { IsKeyOf test table.now partition.now.classes.items partition.now.firsts.items state result }
 {

@@ -1,0 +1,36 @@
+use Rattle.std.proofs.Common.{ℕ, ◌≡◌, ◌≢◌, ◌<◌, ◌≤◌, ◌+◌, ◌↔◌, ◌⊎◌, inl, inr, List, [], ◌∷◌, ◌++◌, All, Contains, length, get_or, sym, subst, ◌∙◌, arith}
+use Rattle.std.proofs.lemmas.Bool.{cases_lt}
+use Rattle.std.proofs.lemmas.List.Elements.{All-push, All-weaker, All-contains, Contains-push, Contains-push_cases, Contains-append_left}
+
+-- Lists that loops over classes make.
+
+module _ (members : List ℕ) (i : ℕ) (P : ℕ → Type 0) (below : All (λ c. c < i) members) (exact : (c : ℕ) → c < i → Contains members c ↔ P c) where
+  still_below : All (λ c. c < i + 1) members
+  still_below = All-weaker (λ c. c < i) (λ c. c < i + 1) (λ c lt. omega (arith, lt)) members below
+
+  -- class i is a member
+  pub member_more : P i → All (λ c. c < i + 1) (members ++ i ∷ []) × ((c : ℕ) → c < i + 1 → Contains (members ++ i ∷ []) c ↔ P c)
+  member_more holds = (
+    All-push (λ c. c < i + 1) members i still_below (omega arith),
+    λ c within.
+      elim (cases_lt c i) [
+        | inl old ↦ (
+          λ h. elim (Contains-push_cases members i c h) [ inl there ↦ (exact c old).0 there | inr e ↦ absurd (omega (arith, old, e)) ],
+          λ p. Contains-append_left members (i ∷ []) c ((exact c old).1 p),
+        )
+        | inr last ↦ let here : i ≡ c = omega (arith, within, last) in (λ _. subst P here holds, λ _. subst (λ x. Contains (members ++ i ∷ []) x) here (Contains-push members i))
+      ],
+  )
+
+  -- class i is no member
+  pub no_member : (P i → ⊥) → All (λ c. c < i + 1) members × ((c : ℕ) → c < i + 1 → Contains members c ↔ P c)
+  no_member fails = (
+    still_below,
+    λ c within.
+      elim (cases_lt c i) [
+        | inl old ↦ exact c old
+        | inr last ↦
+            let here : c ≡ i = omega (arith, within, last) in
+            (λ there. absurd (omega (arith, last, All-contains (λ x. x < i) members c below there)), λ p. absurd (fails (subst P here p)))
+      ],
+  )
