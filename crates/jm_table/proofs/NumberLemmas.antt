@@ -1,4 +1,4 @@
-use Rattle.std.proofs.Common.{ℕ, ◌≡◌, ◌≢◌, ◌<◌, ◌≤◌, ◌+◌, ◌*◌, ◌⊎◌, inl, inr, List, length, get_or, set, true, false, sym, ap, subst, ◌∙◌, arith}
+use Rattle.std.proofs.Common.{ℕ, ◌≡◌, ◌≢◌, ◌<◌, ◌≤◌, ◌+◌, inl, inr, List, length, get_or, set, sym, ap, subst, ◌∙◌, arith}
 use Rattle.std.proofs.lemmas.Bool.{cases_lt, eqb-true}
 use Rattle.std.proofs.lemmas.Bool.Decides.{eqb_tells}
 use Rattle.std.proofs.lemmas.List.{get_or-set_same, get_or-set_other, get_or_default}
@@ -16,16 +16,16 @@ pub few_below : (xs : List ℕ) (n : ℕ) → ((i : ℕ) → i < length xs → g
 few_below xs n below apart =
     length-le_from_distinct_below xs n
     (IsDistinct-from_apart eqb xs (
-      λ i j d before within.
-        let here : i < length xs = omega (arith, before, within) in
-        elim (eqb_tells (get_or xs i d) (get_or xs j d)) [
-          | inl same ↦ absurd (omega (arith, before, apart i j here within (sym (get_or_default xs i d 0 here) ∙ same.1 ∙ get_or_default xs j d 0 within)))
-          | inr differs ↦ differs.0
-        ]
+    λ i j d before within.
+    let here : i < length xs = omega (arith, before, within) in
+    elim (eqb_tells (get_or xs i d) (get_or xs j d)) [
+      | inl same ↦ absurd (omega (arith, before, apart i j here within (sym (get_or_default xs i d 0 here) ∙ same.1 ∙ get_or_default xs j d 0 within)))
+      | inr differs ↦ differs.0
+    ]
     ))
     (λ q found.
-      let there = Contains-from_any (λ x y e. eqb-true x y e) q xs found in
-      subst (λ k. k < n) (sym (get_or_default xs there.0 q 0 there.1) ∙ there.2) (below there.0 there.1))
+    let there = Contains-from_any (λ x y e. eqb-true x y e) q xs found in
+    subst (λ k. k < n) (sym (get_or_default xs there.0 q 0 there.1) ∙ there.2) (below there.0 there.1))
 
 module _ (keys numbers firsts : List ℕ) where
   -- what is known of the states below i, after state i got its number
@@ -65,11 +65,11 @@ module _ (keys numbers firsts : List ℕ) where
     );
     grown = grown;
     more = λ p below key.
-      elim (cases_lt (get_or classes p 0) (length old_firsts)) [
-        | inl old ↦
-            let same : get_or keys p 0 ≡ get_or classes p 0 =
-                sym (seen p below).first ∙ ap (λ q. get_or keys q 0) (prefix (get_or classes p 0) old) ∙ fit.first (get_or classes p 0) old in
-            absurd (omega (arith, same, old, key))
-        | inr new ↦ omega (arith, new, (seen p below).within)
-      ];
+        elim (cases_lt (get_or classes p 0) (length old_firsts)) [
+          | inl old ↦
+              let same : get_or keys p 0 ≡ get_or classes p 0 =
+              sym (seen p below).first ∙ ap (λ q. get_or keys q 0) (prefix (get_or classes p 0) old) ∙ fit.first (get_or classes p 0) old in
+              absurd (omega (arith, same, old, key))
+          | inr new ↦ omega (arith, new, (seen p below).within)
+        ];
   }

@@ -1,12 +1,13 @@
-use Rattle.std.proofs.Common.{ℕ, zero, suc, ◌≡◌, ◌≢◌, ◌<◌, ◌≤◌, ◌+◌, ◌*◌, ◌/◌, ◌%◌, ◌↔◌, ◌⊎◌, inl, inr, List, [], ◌∷◌, ◌++◌, All, Contains, Some, length, get_or, slice_get, refl, sym, ap, subst, ◌∙◌, arith}
+use Rattle.std.proofs.Common.{ℕ, zero, suc, ◌≡◌, ◌≢◌, ◌<◌, ◌+◌, ◌*◌, ◌/◌, ◌%◌, ◌↔◌, inl, inr, List, [], ◌∷◌, ◌++◌, All, Contains, Some, length, get_or, slice_get, refl, sym, ap, subst, ◌∙◌, arith}
 use Rattle.std.specs.Prelude.{IsSomeAnd}
 use Rattle.std.proofs.lemmas.Bool.{cases_lt}
 use Rattle.std.proofs.lemmas.Nat.{div-mul-add, mod-mul-add, mul-add-lt}
-use Rattle.std.proofs.lemmas.List.Elements.{All-head, All-tail}
+use Rattle.std.proofs.lemmas.List.Elements.{All-head, All-tail, All-from_get_or}
 use Rattle.jm_table.specs.Tables.{Transitions, next_of, state_from, state_after_of, IsTable, IsWord, IsInGroup}
-use Rattle.jm_table.specs.Minimal.{GroupTells, AreDistinguishable, IsReduced, IsReachable, HaveSameGroups}
+use Rattle.jm_table.specs.Minimal.{GroupTells, IsReduced, IsReachable, HaveSameGroups}
 use Rattle.jm_table.specs.Partitions.{IsPartition, IsSound, IsStable, AgreesBelow, IsQuotient}
 use Rattle.jm_table.proofs.PlaceLemmas.{slice_get-push}
+use Rattle.jm_table.proofs.ClassLemmas.{place_within}
 use Rattle.jm_table.proofs.SplitLemmas.{next_within}
 
 -- The table of classes.
@@ -24,18 +25,19 @@ slice_get-push_old (y ∷ xs) x zero lt = refl
 slice_get-push_old (y ∷ xs) x (suc k) lt = slice_get-push_old xs x k (omega (arith, lt))
 
 -- the states of the groups below one more, where a group was added whose states are these
-pub groups_more : (groups : List (List ℕ)) (added members : List ℕ) (P : ℕ → ℕ → Type 0) (classes : ℕ)
-    → ((c group : ℕ) → c < classes → group < length groups → IsSomeAnd (slice_get groups group) (λ states. Contains states c) ↔ P c group)
+pub groups_more : (groups : List (List ℕ)) (n : ℕ) (added members : List ℕ) (P : ℕ → ℕ → Type 0) (classes : ℕ) → length groups ≡ n
+    → ((c group : ℕ) → c < classes → group < n → IsSomeAnd (slice_get groups group) (λ states. Contains states c) ↔ P c group)
     → ((c : ℕ) → Contains added c ↔ Contains members c)
-    → ((c : ℕ) → c < classes → Contains members c ↔ P c (length groups))
-    → (c group : ℕ) → c < classes → group < length groups + 1 → IsSomeAnd (slice_get (groups ++ added ∷ []) group) (λ states. Contains states c) ↔ P c group
-groups_more groups added members P classes before same exact c group below within =
-    elim (cases_lt group (length groups)) [
-      | inl old ↦ rw (slice_get-push_old groups added group old) (before c group below old)
+    → ((c : ℕ) → c < classes → Contains members c ↔ P c n)
+    → (c group : ℕ) → c < classes → group < n + 1 → IsSomeAnd (slice_get (groups ++ added ∷ []) group) (λ states. Contains states c) ↔ P c group
+groups_more groups n added members P classes count before same exact c group below within =
+    elim (cases_lt group n) [
+      | inl old ↦ let there : group < length groups = omega (arith, old, count) in rw (slice_get-push_old groups added group there) (before c group below old)
       | inr last ↦
-          let here : length groups ≡ group = omega (arith, last, within) in
+          let here : n ≡ group = omega (arith, last, within) in
+          let place : slice_get (groups ++ added ∷ []) n ≡ Some added = subst (λ k. slice_get (groups ++ added ∷ []) k ≡ Some added) count (slice_get-push groups added) in
           subst (λ g. IsSomeAnd (slice_get (groups ++ added ∷ []) g) (λ states. Contains states c) ↔ P c g) here
-          (rw (slice_get-push groups added) (λ h. (exact c below).0 ((same c).0 h), λ h. (same c).1 ((exact c below).1 h)))
+          (rw place (λ h. (exact c below).0 ((same c).0 h), λ h. (same c).1 ((exact c below).1 h)))
     ]
 
 module _ (t : Transitions) (classes firsts : List ℕ) (u : Transitions) (table : IsTable t) (partition : IsPartition t.states classes firsts) (quotient : IsQuotient t classes firsts u) where
@@ -97,30 +99,45 @@ module _ (t : Transitions) (classes firsts : List ℕ) (u : Transitions) (table 
         let apart : class_of p ≢ class_of q = λ e. differ (sym first_c.1 ∙ e ∙ first_d.1) in
         let tells = sound p q first_c.0 first_d.0 apart in
         let of_c : IsInGroup u (state_from u c tells.0) tells.2.0 ↔ IsInGroup t (state_from t p tells.0) tells.2.0 =
-            subst (λ s. IsInGroup u (state_from u s tells.0) tells.2.0 ↔ IsInGroup t (state_from t p tells.0) tells.2.0) first_c.1 (word_groups tells.0 p tells.2.0 first_c.0 tells.1) in
+        subst (λ s. IsInGroup u (state_from u s tells.0) tells.2.0 ↔ IsInGroup t (state_from t p tells.0) tells.2.0) first_c.1 (word_groups tells.0 p tells.2.0 first_c.0 tells.1) in
         let of_d : IsInGroup u (state_from u d tells.0) tells.2.0 ↔ IsInGroup t (state_from t q tells.0) tells.2.0 =
-            subst (λ s. IsInGroup u (state_from u s tells.0) tells.2.0 ↔ IsInGroup t (state_from t q tells.0) tells.2.0) first_d.1 (word_groups tells.0 q tells.2.0 first_d.0 tells.1) in
+        subst (λ s. IsInGroup u (state_from u s tells.0) tells.2.0 ↔ IsInGroup t (state_from t q tells.0) tells.2.0) first_d.1 (word_groups tells.0 q tells.2.0 first_d.0 tells.1) in
         let group_tells : GroupTells u tells.2.0 (state_from u c tells.0) (state_from u d tells.0) =
-            elim tells.2.1 [ inl a ↦ inl (of_c.1 a.0, λ h. a.1 (of_d.0 h)) | inr b ↦ inr (of_d.1 b.0, λ h. b.1 (of_c.0 h)) ] in
+        elim tells.2.1 [ inl a ↦ inl (of_c.1 a.0, λ h. a.1 (of_d.0 h)) | inr b ↦ inr (of_d.1 b.0, λ h. b.1 (of_c.0 h)) ] in
         (tells.0, subst (λ n. All (λ a. a < n) tells.0) (sym quotient.letters) tells.1, (tells.2.0, group_tells))
 
     pub is_reachable : IsReachable t → IsReachable u
     is_reachable reached c at =
         let first = partition.first c (omega (arith, at, quotient.states)) in
         let way = reached (get_or firsts c 0) first.0 in
-        let leads = word_leads way.0 0 table.some_states way.1 in
-        (
+        let leads = word_leads way.0 0 table.some_states way.1 in (
           way.0,
           subst (λ n. All (λ a. a < n) way.0) (sym quotient.letters) way.1,
           ap (λ s. state_from u s way.0) (sym start_is_class_0) ∙ leads.1 ∙ ap class_of way.2 ∙ first.1,
         )
 
--- where the table's next states are these, letters lead where they lead from the first states
-pub next_is_quotient : (t u : Transitions) (classes firsts : List ℕ) → u.letters ≡ t.letters → length u.next ≡ length firsts * t.letters
-    → ((k : ℕ) → k < length u.next → get_or u.next k 0 ≡ get_or classes (next_of t (get_or firsts (k / t.letters) 0) (k % t.letters)) 0)
-    → (c letter : ℕ) → c < length firsts → letter < t.letters → next_of u c letter ≡ get_or classes (next_of t (get_or firsts c 0) letter) 0
-next_is_quotient t u classes firsts same count each c letter at lt =
-    let within : c * t.letters + letter < length u.next = omega (arith, count, mul-add-lt c t.letters letter (length firsts) at lt) in
-    ap (λ n. get_or u.next (c * n + letter) 0) same ∙ each (c * t.letters + letter) within
-    ∙ ap (λ k. get_or classes (next_of t (get_or firsts k 0) ((c * t.letters + letter) % t.letters)) 0) (div-mul-add c t.letters letter lt)
-    ∙ ap (λ k. get_or classes (next_of t (get_or firsts c 0) k) 0) (mod-mul-add c t.letters letter lt)
+module _ (t : Transitions) (classes firsts next : List ℕ) (count : length next ≡ length firsts * t.letters)
+    (each : (k : ℕ) → k < length next → get_or next k 0 ≡ get_or classes (next_of t (get_or firsts (k / t.letters) 0) (k % t.letters)) 0) where
+  -- these next states are classes
+  pub next_are_classes : IsTable t → IsPartition t.states classes firsts → All (λ c. c < length firsts) next
+  next_are_classes table partition =
+      All-from_get_or (λ c. c < length firsts) next 0 (
+      λ k lt.
+      let place = place_within k (length firsts) t.letters (omega (arith, lt, count)) in
+      let some : 0 < t.letters = place.0 in
+      let class : k / t.letters < length firsts = place.1 in
+      let letter : k % t.letters < t.letters = omega (arith, some) in
+      let first = partition.first (k / t.letters) class in
+      subst (λ c. c < length firsts) (sym (each k lt)) (partition.within (next_of t (get_or firsts (k / t.letters) 0) (k % t.letters)) (next_within t (get_or firsts (k / t.letters) 0) (k % t.letters) table first.0 letter))
+      )
+
+  -- where a table's next states are these, letters lead where they lead from the first states
+  pub next_is_quotient : (u : Transitions) → u.letters ≡ t.letters → u.next ≡ next
+      → (c letter : ℕ) → c < length firsts → letter < t.letters → next_of u c letter ≡ get_or classes (next_of t (get_or firsts c 0) letter) 0
+  next_is_quotient u letters same c letter at lt =
+      let within : c * t.letters + letter < length next = omega (arith, count, mul-add-lt c t.letters letter (length firsts) at lt) in
+      ap (λ n. get_or u.next (c * n + letter) 0) letters
+      ∙ ap (λ xs. get_or xs (c * t.letters + letter) 0) same
+      ∙ each (c * t.letters + letter) within
+      ∙ ap (λ k. get_or classes (next_of t (get_or firsts k 0) ((c * t.letters + letter) % t.letters)) 0) (div-mul-add c t.letters letter lt)
+      ∙ ap (λ k. get_or classes (next_of t (get_or firsts c 0) k) 0) (mod-mul-add c t.letters letter lt)

@@ -1,13 +1,13 @@
-use Rattle.std.proofs.Common.{ℕ, zero, suc, ◌≡◌, ◌≢◌, ◌<◌, ◌≤◌, ◌+◌, ◌*◌, ◌↔◌, ◌⊎◌, inl, inr, Bool, true, false, List, [], ◌∷◌, All, length, get_or, refl, sym, ap, subst, ◌∙◌, arith}
+use Rattle.std.proofs.Common.{ℕ, zero, suc, ◌≡◌, ◌≢◌, ◌<◌, ◌≤◌, ◌+◌, ◌*◌, ◌↔◌, inl, inr, Bool, true, false, List, [], ◌∷◌, length, get_or, refl, sym, ap, subst, ◌∙◌, arith}
 use mathlib.Core.Bool.{not, beq}
 use Rattle.std.specs.Bool.{IsTrue, OnFalse}
 use Rattle.std.proofs.lemmas.Bool.Decides.{eqb_tells}
 use Rattle.std.proofs.lemmas.Bool.{cases_lt}
 use Rattle.std.proofs.lemmas.Nat.{mul-add-lt}
-use Rattle.std.proofs.lemmas.List.Elements.{All-nil, All-get_or, All-from_get_or, All-head, All-tail}
-use Rattle.jm_table.specs.Tables.{Transitions, next_of, state_from, IsTable, IsWord, IsInGroup}
+use Rattle.std.proofs.lemmas.List.Elements.{All-nil, All-get_or, All-from_get_or}
+use Rattle.jm_table.specs.Tables.{Transitions, next_of, IsTable, IsInGroup}
 use Rattle.jm_table.specs.Minimal.{GroupTells, AreDistinguishable}
-use Rattle.jm_table.specs.Partitions.{IsPartition, IsSound, IsStable, Tells, FindsAlike, IsKeyOf, AreKeys, AreNumbered, first_of}
+use Rattle.jm_table.specs.Partitions.{IsPartition, IsSound, IsStable, Tells, FindsAlike, AreKeys, AreNumbered, first_of}
 use Rattle.jm_table.specs.declared.refinement.Test.{Test}
 use Rattle.jm_table.specs.declared.refinement.Test.TheVariants.{Group, Letters}
 
@@ -84,20 +84,20 @@ module _ (t : Transitions) (classes : List ℕ) where
       pub split_is_stable : test ≡ Letters → IsTable t → length new_firsts ≡ length firsts → IsStable t new_classes
       split_is_stable letters table same_count p q at_p at_q same letter lt =
           let below = λ (s : ℕ) (at : s < t.states).
-              let none : length firsts ≤ get_or keys s 0 → get_or keys s 0 < length firsts = λ many. absurd (omega (arith, same_count, by_keys.more s at many)) in
-              let yes : get_or keys s 0 < length firsts = elim (cases_lt (get_or keys s 0) (length firsts)) [ inl less ↦ less | inr many ↦ none many ] in
-              yes in
+          let none : length firsts ≤ get_or keys s 0 → get_or keys s 0 < length firsts = λ many. absurd (omega (arith, same_count, by_keys.more s at many)) in
+          let yes : get_or keys s 0 < length firsts = elim (cases_lt (get_or keys s 0) (length firsts)) [ inl less ↦ less | inr many ↦ none many ] in
+          yes in
           let p_alike = key_is_alike p at_p (below p at_p) in
           let q_alike = key_is_alike q at_q (below q at_q) in
           let class : get_or classes p 0 ≡ get_or classes q 0 = sym p_alike.0 ∙ (by_keys.by_keys p q at_p at_q).0 same ∙ q_alike.0 in
           let p_next : get_or classes (next_of t p letter) 0 ≡ get_or classes (next_of t (first_of classes firsts p) letter) 0 =
-              (let h : FindsAlike Letters t classes p (first_of classes firsts p) = subst (λ x. FindsAlike x t classes p (first_of classes firsts p)) letters p_alike.1 in h letter lt) in
+          (let h : FindsAlike Letters t classes p (first_of classes firsts p) = subst (λ x. FindsAlike x t classes p (first_of classes firsts p)) letters p_alike.1 in h letter lt) in
           let q_next : get_or classes (next_of t q letter) 0 ≡ get_or classes (next_of t (first_of classes firsts q) letter) 0 =
-              (let h : FindsAlike Letters t classes q (first_of classes firsts q) = subst (λ x. FindsAlike x t classes q (first_of classes firsts q)) letters q_alike.1 in h letter lt) in
+          (let h : FindsAlike Letters t classes q (first_of classes firsts q) = subst (λ x. FindsAlike x t classes q (first_of classes firsts q)) letters q_alike.1 in h letter lt) in
           let after_p = next_within t p letter table at_p lt in
           let after_q = next_within t q letter table at_q lt in
           let one : get_or classes (next_of t p letter) 0 ≡ get_or classes (next_of t q letter) 0 =
-              p_next ∙ ap (λ c. get_or classes (next_of t (get_or firsts c 0) letter) 0) class ∙ sym q_next in
+          p_next ∙ ap (λ c. get_or classes (next_of t (get_or firsts c 0) letter) 0) class ∙ sym q_next in
           (by_keys.by_keys (next_of t p letter) (next_of t q letter) after_p after_q).1
           ((key_is_alike (next_of t p letter) after_p (below (next_of t p letter) after_p)).0 ∙ one ∙ sym (key_is_alike (next_of t q letter) after_q (below (next_of t q letter) after_q)).0)
 

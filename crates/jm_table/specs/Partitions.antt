@@ -1,4 +1,4 @@
-use Rattle.std.specs.Prelude.{ℕ, ◌≡◌, ◌≢◌, ◌<◌, ◌≤◌, ◌+◌, ◌*◌, ◌/◌, ◌%◌, ◌↔◌, ◌⊎◌, List, length, slice_index}
+use Rattle.std.specs.Prelude.{ℕ, ◌≡◌, ◌≢◌, ◌<◌, ◌≤◌, ◌+◌, ◌*◌, ◌↔◌, ◌⊎◌, List, length, slice_index}
 use Rattle.jm_table.specs.Tables.{Transitions, next_of, IsInGroup}
 use Rattle.jm_table.specs.Minimal.{GroupTells, AreDistinguishable}
 use Rattle.jm_table.specs.declared.refinement.Test.{Test}

@@ -46,11 +46,7 @@ fn quotient(alloc: Global, table: &Table, partition: &Partition) -> Result<Table
 }
 
 /// The classes that letters lead to, class by class and in each letter by letter.
-fn next_classes(
-    alloc: Global,
-    table: &Table,
-    partition: &Partition,
-) -> Result<Vec<u16>, NoMemory>
+fn next_classes(alloc: Global, table: &Table, partition: &Partition) -> Result<Vec<u16>, NoMemory>
     requires { IsPartition table.now.states partition.now.classes.items partition.now.firsts.items }
     ensures count { IfOk result (λ next. length next.items ≡ length partition.now.firsts.items * table.now.letters) }
     ensures each { IfOk result (λ next. (k : ℕ) → k < length next.items → slice_index next.items k ≡

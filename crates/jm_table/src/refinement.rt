@@ -33,11 +33,7 @@ pub(crate) fn equivalence(alloc: Global, table: &Table) -> Result<Partition, NoM
 }
 
 /// Splits classes until the states of each are in the same groups.
-fn split_by_groups(
-    alloc: Global,
-    table: &Table,
-    partition: &mut Partition,
-) -> Result<(), NoMemory>
+fn split_by_groups(alloc: Global, table: &Table, partition: &mut Partition) -> Result<(), NoMemory>
     requires table { IsTable table.now }
     requires partition { IsPartition table.now.states partition.old.classes.items partition.old.firsts.items }
     requires sound { IsSound table.now partition.old.classes.items }
@@ -53,11 +49,7 @@ fn split_by_groups(
 
 /// Splits classes until each letter leads from one class to one class: at most a round for each state, since each but
 /// the last makes a class.
-fn split_by_letters(
-    alloc: Global,
-    table: &Table,
-    partition: &mut Partition,
-) -> Result<(), NoMemory>
+fn split_by_letters(alloc: Global, table: &Table, partition: &mut Partition) -> Result<(), NoMemory>
     requires table { IsTable table.now }
     requires partition { IsPartition table.now.states partition.old.classes.items partition.old.firsts.items }
     requires sound { IsSound table.now partition.old.classes.items }

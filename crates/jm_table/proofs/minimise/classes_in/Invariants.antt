@@ -1,4 +1,4 @@
-use Rattle.std.proofs.Common.{ℕ, ◌<◌, ◌↔◌, All, Contains, length, get_or}
+use Rattle.std.proofs.Common.{ℕ, ◌<◌, ◌↔◌, All, Contains, get_or}
 use Rattle.jm_table.specs.Tables.{IsInGroup}
 use Rattle.jm_table.proofs.minimise.classes_in.Given as goal
 

@@ -1,4 +1,4 @@
-use Rattle.std.proofs.Common.{◌≡◌, ◌<◌, length, ◌∙◌, arith}
+use Rattle.std.proofs.Common.{◌<◌, length, ◌∙◌, arith}
 use Rattle.std.proofs.Math.ListN.{length-set}
 use Rattle.jm_table.proofs.NumberLemmas.{seen_more, numbered}
 use Rattle.jm_table.proofs.partition.Partition.split.Goals as goal

@@ -1,4 +1,3 @@
-use Rattle.std.proofs.Common.{List}
 use Rattle.std.proofs.lemmas.Result.{IfOk-weaker}
 use Rattle.jm_table.specs.Tables.{Transitions}
 use Rattle.jm_table.specs.Minimal.{IsReduced, IsReachable, HaveSameGroups}
