@@ -119,6 +119,9 @@ fn key_of(table: &Table, partition: &Partition, test: Test, state: u16) -> u16
 {
     let class = partition.classes[state as usize];
     let first = partition.firsts[class as usize];
+    if state == first {
+        return class;
+    }
     if tells(table, &partition.classes, test, state, first) {
         class + partition.firsts.len() as u16
     } else {
