@@ -1,0 +1,18 @@
+use Rattle.std.proofs.Common.{◌≡◌, ◌∷◌, [], sym, ◌∙◌}
+use Rattle.std.specs.List.{filter_map}
+use Rattle.jm_index.specs.Index.{asked_slots}
+use Rattle.jm_index.specs.Layout.{slot_at}
+use Rattle.jm_index.proofs.AskLemmas.{exact_slots, no_slots}
+use Rattle.jm_index.proofs.index.Index.exact.Goals as goal
+
+pub returns-in-Some : goal.returns-in-Some
+returns-in-Some c =
+    let is : filter_map (slot_at c.as_slice.result.now c.args.domain c.args.binding.now) (c.in-Some.position.now ∷ []) ≡ asked_slots c.args.domain c.args.binding.now c.args.self.now.list =
+    rw (c.as_slice.ensures.value, ← c.self.view_is) (exact_slots _ _ _ _ _ _ _ _ c.self.invariant c.requires.common c.requires.all (sym c.in-Some.ensures.value))
+    in
+    rw (← is) c.slots_at.ensures
+
+pub returns-in-None : goal.returns-in-None
+returns-in-None c =
+    rw (← c.self.view_is, c.new.ensures.items)
+    (no_slots _ _ _ _ _ _ _ c.self.invariant c.requires.common c.requires.all (sym c.in-None.ensures.value))
