@@ -1,10 +1,10 @@
 -- The live entries, by their positions.
 use Rattle.std.proofs.Common.{◌≡◌, ℕ, zero, suc, ◌+◌, ◌<◌, ◌==◌, Bool, true, false, cond, not, ◌&&◌, List, [], ◌∷◌, ◌++◌, Option, Some, None, length, get_or, refl, sym, ap, ◌∙◌, subst, arith}
-use Rattle.std.specs.Prelude.{Contains, slice_get, slice_set, option_and_then, map, filter, take}
+use Rattle.std.specs.Prelude.{◌≢◌, AllPairs, Contains, slice_get, slice_set, option_and_then, map, filter, take}
 use Rattle.std.specs.List.{cons_option, filter_map}
 use Rattle.std.proofs.lemmas.Bool.{and_parts, eqb-true, false_from_ne_true}
 use Rattle.std.proofs.lemmas.Option.{cond_some, same_Some, slice_get_within}
-use Rattle.std.proofs.lemmas.List.Elements.{filter_map-append}
+use Rattle.std.proofs.lemmas.List.Elements.{filter_map-append, Contains-get_or}
 use Rattle.std.proofs.lemmas.List.{set_at, take_more}
 use Rattle.jm_model.specs.Bindings.{is_compatible, mask_of}
 use Rattle.jm_index.specs.declared.entry.Entry.{Entry}
@@ -149,3 +149,23 @@ pub taken_dead : (es : List Entry) (i : ℕ) (e : Entry) → i < length es → e
 taken_dead es i e h at dead =
     let more : take (i + 1) es ≡ take i es ++ e ∷ [] = rw (take_more es i e h, ← at) in
     rw more (live_pairs-hole (take i es) e dead)
+
+pairs_cons : {X : Type 0} (R : X → X → Type 0) (x : X) (xs : List X) → ((y : X) → Contains xs y → R x y) → AllPairs R xs → AllPairs R (x ∷ xs)
+pairs_cons R x xs first rest zero zero d h l = absurd (omega arith)
+pairs_cons R x xs first rest zero (suc j) d h l = first (get_or xs j d) (Contains-get_or xs j d (omega (arith, l)))
+pairs_cons R x xs first rest (suc i) zero d h l = absurd (omega arith)
+pairs_cons R x xs first rest (suc i) (suc j) d h l = rest i j d (omega (arith, h)) (omega (arith, l))
+
+-- pairs that differ wherever their positions do
+pub distinct_pairs : (es : List Entry) → ((j k : ℕ) (a b : Pair) → pair_at es j ≡ Some a → pair_at es k ≡ Some b → a.binding ≡ b.binding → j ≡ k)
+    → AllPairs (λ a b. a.binding ≢ b.binding) (live_pairs es)
+distinct_pairs [] only = λ i j d h l. absurd (omega (arith, l))
+distinct_pairs (e ∷ es) only =
+    behind (distinct_pairs es (λ j k a b here there same. let next : suc j ≡ suc k = only (suc j) (suc k) a b here there same in omega (arith, next))) (pair_of e) refl
+  where
+    behind : AllPairs (λ a b. a.binding ≢ b.binding) (live_pairs es) → (o : Option Pair) → pair_of e ≡ o
+        → AllPairs (λ a b. a.binding ≢ b.binding) (cons_option o (live_pairs es))
+    behind ih None is = ih
+    behind ih (Some p) is =
+        pairs_cons (λ a b. a.binding ≢ b.binding) p (live_pairs es)
+        (λ q there same. let (k, at) = position_of es q there in let first : 0 ≡ suc k = only 0 (suc k) p q is at same in omega (arith, first)) ih

@@ -1,10 +1,10 @@
 -- What lies in memory fits together after each step of a call.
 use Rattle.std.proofs.Common.{◌≡◌, ℕ, zero, suc, ◌+◌, ◌<◌, ◌≤◌, ◌==◌, Bool, true, false, cond, not, List, [], ◌∷◌, ◌++◌, Option, Some, None, length, get_or, refl, sym, ap, ◌∙◌, subst, arith, ◌⊎◌, inl, inr}
-use Rattle.std.specs.Prelude.{Contains, slice_set, option_and_then, slice_get, take, Result, Ok, Err, OnOk, OnErr}
+use Rattle.std.specs.Prelude.{◌≢◌, AllPairs, filter, Contains, slice_set, option_and_then, slice_get, take, Result, Ok, Err, OnOk, OnErr}
 use Rattle.std.proofs.Math.ListN.{length-set}
-use Rattle.std.proofs.lemmas.Bool.{cases_eq, cases_Bool, eq-eqb, ne_eqb, both_ways, cond_both, false_from_ne_true}
+use Rattle.std.proofs.lemmas.Bool.{cases_lt, cases_eq, cases_Bool, eq-eqb, ne_eqb, both_ways, not-true, false_from_ne_true}
 use Rattle.std.proofs.lemmas.Option.{none-some, same_Some, slice_get-get_or}
-use Rattle.std.proofs.lemmas.List.{length_push, get_or_push, get_or-set_same, get_or-set_other, set_at}
+use Rattle.std.proofs.lemmas.List.{set_past, length_push, get_or_push, get_or-set_same, get_or-set_other, set_at}
 use Rattle.std.proofs.lemmas.List.Elements.{Contains-push_cases}
 use Rattle.jm_model.specs.Bindings.{mask_of, object_at}
 use Rattle.jm_marks.specs.Layout.{binding_eq}
@@ -13,7 +13,8 @@ use Rattle.jm_index.specs.declared.entry.Entry.{Entry}
 use Rattle.jm_index.specs.Index.{Pair, PairList, Binds, is_same, without, flag_of, IsKey, AreBelow, IsFitting}
 use Rattle.jm_index.specs.Layout.{pair_of, live_pairs, pair_at, is_live_at, posting_at, IsPath, AllFiled, AreFiled, AreThinned, IsIndexed}
 use Rattle.jm_index.proofs.ReadLemmas.{Contains-none, Contains-of_filter}
-use Rattle.jm_index.proofs.EntryLemmas.{pair_of_live, pair_of_dead, pair_at_within, is_live-pair_at, pair_at-hole, pair_at-set_other, pair_at-set_same, position_of, Contains-live, without-none, live_pairs-removed, live_pairs-push, live_pairs-hole, pair_at_past, pair_at-take, pair_at-entry}
+use Rattle.jm_index.proofs.BindingLemmas.{is_same-same}
+use Rattle.jm_index.proofs.EntryLemmas.{pair_of_live, pair_of_dead, pair_at_within, is_live-pair_at, pair_at-hole, pair_at-set_other, pair_at-set_same, position_of, Contains-live, without-none, live_pairs-removed, live_pairs-push, live_pairs-hole, pair_at_past, pair_at-take, pair_at-entry, distinct_pairs}
 
 abbrev Bound : Type 0
 Bound = List (Option ℕ)
@@ -350,3 +351,37 @@ IsFitting-added (Err u) old before new dead b slot list flags ok err same fits b
 pub on_err : {T E : Type 0} (r : Result T E) (P : Type 0) → P → OnErr r P
 on_err (Ok x) P h = tt
 on_err (Err e) P h = h
+
+-- no two pairs have one binding
+pub list_distinct : (entries : List Entry) (place : Bound → Option ℕ) (trees : Trees) (d : List Bool) → IsIndexed entries place trees d
+    → AllPairs (λ a b. a.binding ≢ b.binding) (live_pairs entries)
+list_distinct entries place trees d i =
+    distinct_pairs entries (λ j k a b here there same. same_Some j k (sym (i.placed j a here) ∙ ap place same ∙ i.placed k b there))
+
+passes : {X : Type 0} (test : X → Bool) (xs : List X) (x : X) → Contains (filter test xs) x → test x ≡ true
+passes test [] x h = absurd (Contains-none x h)
+passes {X} test (y ∷ xs) x h = at (passes test xs x) (test y) refl h
+  where
+    at : (Contains (filter test xs) x → test x ≡ true) → (v : Bool) → test y ≡ v → Contains (cond v (y ∷ filter test xs) (filter test xs)) x → test x ≡ true
+    at ih true is (zero, l, e) = ap test (sym e) ∙ is
+    at ih true is (suc k, l, e) = ih (k, (omega arith), e)
+    at ih false is g = ih g
+
+-- what is left without a binding hasn't it
+pub without_absent : (b : Bound) (list : List Pair) (pair : Pair) → Contains (without b list) pair → pair.binding ≡ b → ⊥
+without_absent b list pair there same =
+    let kept : not (is_same b pair.binding) ≡ true = passes (λ p. not (is_same b p.binding)) list pair there in
+    both_ways (is_same b pair.binding) (not-true (is_same b pair.binding) kept) (is_same-same b pair.binding (sym same))
+
+-- an object more is dead
+pub IsFitting-death : (index : PairList) (dead : List Bool) (o : ℕ) → IsFitting index dead → IsFitting index (slice_set dead o true)
+IsFitting-death index dead o fits =
+    record {
+      within = λ pair there. rw (length-set dead o true) (fits.within pair there);
+      reached = λ x gone. dies x (cases_eq x o) (cases_lt o (length dead)) (fits.reached x gone);
+    }
+  where
+    dies : (x : ℕ) → (x ≡ o) ⊎ (x ≡ o → ⊥) → (o < length dead) ⊎ (length dead ≤ o) → flag_of dead x ≡ true → flag_of (slice_set dead o true) x ≡ true
+    dies x (inl is) (inl h) was = rw is (get_or-set_same dead o true false h)
+    dies x (inl is) (inr past) was = rw (set_past dead o true past) was
+    dies x (inr apart) h was = get_or-set_other dead o x true false apart ∙ was

@@ -1,4 +1,4 @@
-ghost use Rattle.std.specs.Prelude.{◌≡◌, ◌≢◌, ℕ, Bool, List, [], ◌∷◌, ◌++◌, ◌⊎◌, true, false, length, Contains, IfOk, OnOk, OnErr};
+ghost use Rattle.std.specs.Prelude.{◌≡◌, ◌≢◌, ℕ, Bool, List, [], ◌∷◌, ◌++◌, ◌⊎◌, true, false, length, AllPairs, Contains, IfOk, OnOk, OnErr};
 ghost use Rattle.jm_model.specs.Bindings.{mask_of, restriction};
 ghost use Rattle.jm_index.specs.Index.{Pair, flag_of, IsKey, AreBelow, IsFitting, AreLive, without, asked_slots};
 
@@ -135,6 +135,7 @@ impl Index {
     /// Takes the pair of a binding out, where it is there. The index fits what it fitted.
     pub fn remove(&mut self, binding: &Binding)
         ensures list { self.new.list ≡ without binding.now self.old.list }
+        ensures absent { (pair : Pair) → Contains self.new.list pair → pair.binding ≢ binding.now }
         ensures dropped { self.new.dropped ≡ self.old.dropped }
         ensures fits { (dead : List Bool) → IsFitting self.old dead → IsFitting self.new dead }
     {
@@ -157,7 +158,8 @@ impl Index {
     ) -> Result<Vec<usize>, NoMemory>
         requires fits { IsFitting self.now objects.now }
         requires live { AreLive objects.now binding.now }
-        ensures { IfOk result (λ slots. slots.items ≡ asked_slots domain binding.now self.now.list) }
+        ensures slots { IfOk result (λ slots. slots.items ≡ asked_slots domain binding.now self.now.list) }
+        ensures distinct { AllPairs (λ a b. a.binding ≢ b.binding) self.now.list }
     {
         let common = binding.restrict(domain);
         if common.mask() == domain {
@@ -173,7 +175,8 @@ impl Index {
     fn exact(&self, domain: u8, binding: &Binding, common: &Binding) -> Result<Vec<usize>, NoMemory>
         requires common { common.now ≡ restriction binding.now domain }
         requires all { mask_of common.now ≡ domain }
-        ensures { IfOk result (λ slots. slots.items ≡ asked_slots domain binding.now self.now.list) }
+        ensures slots { IfOk result (λ slots. slots.items ≡ asked_slots domain binding.now self.now.list) }
+        ensures distinct { AllPairs (λ a b. a.binding ≢ b.binding) self.now.list }
     {
         let alloc = *self.entries.allocator();
         match self.places.get(common) {
@@ -193,7 +196,8 @@ impl Index {
         ensures list { self.new.list ≡ self.old.list }
         ensures gone { IsKey self.new object → ⊥ }
         ensures kept { (o : ℕ) → flag_of self.old.dropped o ≡ true → flag_of self.new.dropped o ≡ true }
-        ensures only { (o : ℕ) → flag_of self.new.dropped o ≡ true → (flag_of self.old.dropped o ≡ true) ⊎ (o ≡ object) }
+        ensures only { (o : ℕ) → flag_of self.new.dropped o ≡ true
+            → (flag_of self.old.dropped o ≡ true) ⊎ (o ≡ object) }
     {
         let place = object as usize;
         if place < self.dropped.len() && !self.dropped[place] {

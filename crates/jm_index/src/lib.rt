@@ -10,7 +10,9 @@
 mod entry;
 mod flags;
 mod index;
+mod laws;
 mod posting;
 mod trees;
 
 pub use index::Index;
+pub use laws::fits_after_death;

@@ -1,7 +1,9 @@
-use Rattle.std.proofs.Common.{◌<◌, length, refl, sym, arith}
+use Rattle.std.proofs.Common.{◌<◌, List, length, refl, sym, subst, arith}
+use Rattle.std.specs.Prelude.{Contains}
 use Rattle.std.proofs.lemmas.Grind.{common_steps}
+use Rattle.jm_index.specs.Index.{Pair}
 use Rattle.jm_index.proofs.EntryLemmas.{pair_at_within}
-use Rattle.jm_index.proofs.IndexLemmas.{IsIndexed-removed, list_removed, list_absent, IsFitting-without}
+use Rattle.jm_index.proofs.IndexLemmas.{IsIndexed-removed, list_removed, list_absent, IsFitting-without, without_absent}
 use Rattle.jm_index.proofs.index.Index.remove.Goals as goal
 
 pub index_mut-requires : goal.index_mut-requires
@@ -26,3 +28,12 @@ returns-in-Some-clause-fits c =
 pub returns-in_default-clause-list : goal.returns-in_default-clause-list
 returns-in_default-clause-list c =
     rw (← c.self.view_is) (list_absent _ _ _ _ _ c.self.invariant (sym c.in_default.ensures.value))
+
+pub returns-in-Some-clause-absent : goal.returns-in-Some-clause-absent
+returns-in-Some-clause-absent c =
+    λ pair there. without_absent c.args.binding.now _ pair
+    (subst (λ (v : List Pair). Contains v pair) (list_removed _ _ _ _ _ _ _ c.self.invariant (sym c.in-Some.ensures.value) refl) there)
+
+pub returns-in_default-clause-absent : goal.returns-in_default-clause-absent
+returns-in_default-clause-absent c =
+    λ pair there. without_absent c.args.binding.now _ pair (subst (λ (v : List Pair). Contains v pair) (list_absent _ _ _ _ _ c.self.invariant (sym c.in_default.ensures.value)) there)
