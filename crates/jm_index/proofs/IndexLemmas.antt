@@ -385,3 +385,16 @@ IsFitting-death index dead o fits =
     dies x (inl is) (inl h) was = rw is (get_or-set_same dead o true false h)
     dies x (inl is) (inr past) was = rw (set_past dead o true past) was
     dies x (inr apart) h was = get_or-set_other dead o x true false apart ∙ was
+
+-- a binding with a position has a pair, and one without has none
+pub list_found : (entries : List Entry) (place : Bound → Option ℕ) (trees : Trees) (d : List Bool) (b : Bound) (k : ℕ) → IsIndexed entries place trees d → place b ≡ Some k
+    → (pair : Pair) × Contains (live_pairs entries) pair × (pair.binding ≡ b)
+list_found entries place trees d b k i there =
+    let (slot, at) = i.found b k there in
+    (record { binding = b; slot = slot }, Contains-live entries k (record { binding = b; slot = slot }) at, refl)
+
+pub list_missing : (entries : List Entry) (place : Bound → Option ℕ) (trees : Trees) (d : List Bool) (b : Bound) → IsIndexed entries place trees d → place b ≡ None
+    → (pair : Pair) → Contains (live_pairs entries) pair → pair.binding ≡ b → ⊥
+list_missing entries place trees d b i there pair within same =
+    let (k, at) = position_of entries pair within in
+    none-some k (sym there ∙ ap place (sym same) ∙ i.placed k pair at)

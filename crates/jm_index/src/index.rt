@@ -145,6 +145,19 @@ impl Index {
         }
     }
 
+    /// Whether a binding has a pair.
+    pub fn has(&self, binding: &Binding) -> bool
+        ensures yes { result ≡ true → (pair : Pair) × Contains self.now.list pair × (pair.binding ≡ binding.now) }
+        ensures no { result ≡ false → (pair : Pair) → Contains self.now.list pair → pair.binding ≢ binding.now }
+        ensures distinct { AllPairs (λ a b. a.binding ≢ b.binding) self.now.list }
+    {
+        let _entries = &self.entries;
+        match self.places.get(binding) {
+            Some(_) => true,
+            None => false,
+        }
+    }
+
     /// The slots of the bindings that bind exactly the parameters of `domain` and agree with `binding`, in the order
     /// in which they were added.
     ///
