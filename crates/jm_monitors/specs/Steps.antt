@@ -6,7 +6,6 @@ use Rattle.jm_model.specs.Bindings.{is_below, is_compatible, join, mask_of, obje
 use Rattle.jm_model.specs.Meanings.{Meaning, IsHit, IsCutWord}
 use Rattle.jm_model.specs.declared.binding.Binding.{Binding}
 use Rattle.jm_model.specs.declared.firings.Firing.{Firing}
-use Rattle.jm_semantics.specs.Traces.{ParametricEvent, slice_of}
 use Rattle.jm_semantics.specs.Answers.{firing_cmp}
 use Rattle.jm_marks.specs.Marks.{dead_mask_of, is_dead_object, has_live, IsCovered}
 use Rattle.jm_monitors.specs.declared.stored.Stored.{Stored}

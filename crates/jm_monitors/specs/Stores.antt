@@ -1,5 +1,5 @@
 -- Which monitors a store has, and which marks, after a trace and some deaths.
-use Rattle.std.specs.Prelude.{ℕ, ◌≡◌, ◌≢◌, Bool, true, List, Contains, length}
+use Rattle.std.specs.Prelude.{ℕ, ◌≡◌, ◌≢◌, Bool, true, List, Contains}
 use Rattle.std.specs.List.{AllPairs}
 use Rattle.jm_model.specs.Meanings.{Meaning, IsCutWord}
 use Rattle.jm_model.specs.declared.binding.Binding.{Binding}
