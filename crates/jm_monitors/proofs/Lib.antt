@@ -1,0 +1,4 @@
+pub mod BaseLemmas
+pub mod ReachLemmas
+pub mod EventLemmas
+pub mod PassLemmas

@@ -1,0 +1,5 @@
+pub mod Slots
+pub mod Moves
+pub mod Contents
+pub mod Housing
+pub mod Reports

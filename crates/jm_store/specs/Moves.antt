@@ -1,0 +1,76 @@
+-- What an event makes of one stored monitor, and what plans do to the slots.
+use Rattle.std.specs.Prelude.{ℕ, ◌≡◌, ◌+◌, Bool, true, false, cond, List, [], ◌∷◌, ◌++◌, Option, Some, None, map, filter, flat_map, MatchOption, Contains, slice_set, ◌⊎◌, ◌==◌, bit_and}
+use Rattle.std.specs.List.{cons_option}
+use Rattle.jm_model.specs.Bindings.{is_below, is_compatible, join, mask_of}
+use Rattle.jm_model.specs.Meanings.{Meaning}
+use Rattle.jm_model.specs.declared.binding.Binding.{Binding}
+use Rattle.jm_marks.specs.Marks.{dead_mask_of}
+use Rattle.jm_monitors.specs.declared.stored.Stored.{Stored}
+use Rattle.jm_monitors.specs.Steps.{Follows, IsBase, IsLost, IsCutState, IsAliveState}
+use Rattle.jm_index.specs.Index.{Pair, asked_slots}
+use Rattle.jm_store.specs.declared.moves.Move.{Move}
+use Rattle.jm_store.specs.Slots.{monitor_at}
+
+-- the monitor of instance t whose state follows a base by the letter, and whether it isn't cut
+pub record IsAdvanced (m : Meaning) {S : Type 0} (Stands : S → List ℕ → Type 0) (letter : ℕ) (dead : List Bool) (slot : Option ℕ) (t : Binding) (base : S) (move : Move S) : Type 0 where
+  pub slot : move.slot ≡ slot
+  pub instance : move.monitor.instance ≡ t
+  pub next : Follows Stands letter base move.monitor.state
+  pub alive : move.stays ≡ true → IsAliveState m Stands move.monitor.state (dead_mask_of dead t)
+  pub cut : move.stays ≡ false → IsCutState m Stands move.monitor.state (dead_mask_of dead t)
+
+-- The monitor s of slot k moves: the event's binding lies below its instance; or it makes a new instance, which has no slot.
+pub record IsMoved (m : Meaning) {S : Type 0} (Stands : S → List ℕ → Type 0) (letter : ℕ) (b : Binding) (dead : List Bool) (marks : List Binding) (k : ℕ) (s : Stored S) (move : Move S) : Type 0 where
+  pub is_base : IsBase b marks s
+  pub advanced : IsAdvanced m Stands letter dead (cond (is_below b s.instance) (Some k) None) (join s.instance b) s.state move
+
+-- The event makes nothing of the monitor s: it doesn't reach it, or the new instance is lost at once.
+abbrev pub IsLeft : Meaning → {S : Type 0} → (S → List ℕ → Type 0) → ℕ → Binding → List Bool → List Binding → Stored S → Type 0
+IsLeft m {S} Stands letter b dead marks s =
+    (IsBase b marks s → ⊥)
+    ⊎ ((is_below b s.instance ≡ false)
+    × ((state : S) × Follows Stands letter s.state state × IsLost m Stands state (dead_mask_of dead (join s.instance b))))
+
+-- what the event makes of the monitor s of slot k
+abbrev pub IsOutcome : Meaning → {S : Type 0} → (S → List ℕ → Type 0) → ℕ → Binding → List Bool → List Binding → ℕ → Stored S → Option (Move S) → Type 0
+IsOutcome m {S} Stands letter b dead marks k s None = IsLeft m Stands letter b dead marks s
+IsOutcome m {S} Stands letter b dead marks k s (Some move) = IsMoved m Stands letter b dead marks k s move
+
+-- and of slot k, whatever is in it
+abbrev pub IsOutcomeIn : Meaning → {S : Type 0} → (S → List ℕ → Type 0) → ℕ → Binding → List Bool → List Binding → ℕ → Option (Stored S) → Option (Move S) → Type 0
+IsOutcomeIn m {S} Stands letter b dead marks k None move = move ≡ None
+IsOutcomeIn m {S} Stands letter b dead marks k (Some s) move = IsOutcome m Stands letter b dead marks k s move
+
+abbrev pub IsOutcomeAt : Meaning → {S : Type 0} → (S → List ℕ → Type 0) → ℕ → Binding → List Bool → List Binding → List (Option (Stored S)) → ℕ → Option (Move S) → Type 0
+IsOutcomeAt m {S} Stands letter b dead marks monitors k move = IsOutcomeIn m Stands letter b dead marks k (monitor_at monitors k) move
+
+-- ys has what R gives for each of xs, in order, where it gives something
+abbrev pub AreGiven : {X Y : Type 0} → (X → Option Y → Type 0) → List X → List Y → Type 0
+AreGiven {X} {Y} R [] ys = ys ≡ []
+AreGiven {X} {Y} R (x ∷ xs) ys = (o : Option Y) × R x o × ((rest : List Y) × AreGiven R xs rest × (ys ≡ cons_option o rest))
+
+-- Whether an event reads the monitors with this set of parameters: where its binding is a mark only those that it can lie below.
+abbrev pub is_asked : Bool → Binding → ℕ → Bool
+is_asked false b domain = true
+is_asked true b domain = bit_and (mask_of b) domain == mask_of b
+
+-- the slots that an event reads, by the sets of parameters
+abbrev pub visited : Bool → Binding → List Pair → List ℕ → List ℕ
+visited known b pairs domains = flat_map (λ d. cond (is_asked known b d) (asked_slots d b pairs) []) domains
+
+-- the monitors by slot after a move
+abbrev pub moved_at : {S : Type 0} → Option ℕ → Option (Stored S) → List (Option (Stored S)) → List (Option (Stored S))
+moved_at None next monitors = monitors
+moved_at (Some k) next monitors = slice_set monitors k next
+
+abbrev pub after_move : {S : Type 0} → Move S → List (Option (Stored S)) → List (Option (Stored S))
+after_move move monitors = moved_at move.slot (cond move.stays (Some move.monitor) None) monitors
+
+-- and after all moves, in order
+abbrev pub after_moves : {S : Type 0} → List (Move S) → List (Option (Stored S)) → List (Option (Stored S))
+after_moves [] monitors = monitors
+after_moves (move ∷ moves) monitors = after_moves moves (after_move move monitors)
+
+-- the monitors that a plan reaches
+abbrev pub reached_by : {S : Type 0} → List (Move S) → List (Stored S)
+reached_by moves = map (λ move. move.monitor) moves

@@ -1,0 +1,90 @@
+//! What an event makes of one stored monitor.
+ghost use Rattle.std.specs.Prelude.{◌≡◌, ◌<◌, ℕ, IfOk, IsTrue, ◌↔◌, Contains, true, false, ◌==◌, bit_and};
+ghost use Rattle.jm_model.specs.Bindings.{is_compatible, is_below, mask_of, join as union};
+ghost use Rattle.jm_model.specs.Meanings.{IsHit};
+ghost use Rattle.jm_monitors.specs.Steps.{IsLost};
+ghost use Rattle.jm_marks.specs.Marks.{dead_mask_of};
+ghost use Rattle.jm_store.specs.Moves.{IsAdvanced, IsOutcome, is_asked};
+
+use crate::moves::Move;
+use jm_marks::{Marks, dead_mask};
+use jm_model::{Binding, Letter, Monitor, NoMemory};
+use jm_monitors::Stored;
+use jm_objects::Objects;
+
+/// An event, and what it is worked out with.
+#[derive(Drop)]
+pub(crate) struct Event<'a, M: Monitor> {
+    pub(crate) rules: &'a M,
+    pub(crate) objects: &'a Objects,
+    pub(crate) marks: &'a Marks,
+    pub(crate) letter: Letter,
+    pub(crate) binding: &'a Binding,
+    /// Whether the binding is a mark.
+    pub(crate) known: bool,
+}
+
+impl<M: Monitor> Event<'_, M> {
+    /// Whether monitors with this set of parameters are read. Where the binding is a mark, it makes no new instance.
+    pub(crate) fn asks(&self, domain: u8) -> bool
+        ensures { result ≡ is_asked self.now.known self.now.binding.now domain }
+    {
+        if !self.known {
+            return true;
+        }
+        let mask = self.binding.mask();
+        mask & domain == mask
+    }
+
+    /// What the monitor of a slot becomes, or the new instance that it makes, if it does either.
+    pub(crate) fn outcome(
+        &self,
+        slot: usize,
+        base: &Stored<M::State>,
+    ) -> Result<Option<Move<M::State>>, NoMemory>
+        requires letter { self.now.letter.0 < (M.meaning (M.definition self.now.rules.now)).letters }
+        requires known { IsTrue self.now.known ↔ Contains self.now.marks.now.list self.now.binding.now }
+        requires compatible { IsTrue (is_compatible base.now.instance self.now.binding.now) }
+        ensures { IfOk result (λ o. IsOutcome (M.meaning (M.definition self.now.rules.now)) (M.StandsFor self.now.rules.now)
+            self.now.letter.0 self.now.binding.now self.now.objects.now self.now.marks.now.list slot base.now o) }
+    {
+        let instance = base.instance.join(self.binding);
+        if self.binding.le(&base.instance) {
+            return Ok(Some(self.advance(Some(slot), instance, &base.state)?));
+        }
+        if self.known || !self.marks.covers(&instance, &base.instance) {
+            return Ok(None);
+        }
+        let made = self.advance(None, instance, &base.state)?;
+        if self.is_lost(&made) { Ok(None) } else { Ok(Some(made)) }
+    }
+
+    /// The monitor of an instance, moved on from a base.
+    fn advance(
+        &self,
+        slot: Option<usize>,
+        instance: Binding,
+        base: &M::State,
+    ) -> Result<Move<M::State>, NoMemory>
+        requires { self.now.letter.0 < (M.meaning (M.definition self.now.rules.now)).letters }
+        ensures { IfOk result (λ move. IsAdvanced (M.meaning (M.definition self.now.rules.now)) (M.StandsFor self.now.rules.now)
+            self.now.letter.0 self.now.objects.now slot instance base.now move) }
+    {
+        let state = self.rules.next(base, self.letter)?;
+        let stays = !self.rules.cut(&state, dead_mask(self.objects, &instance));
+        Ok(Move {
+            slot,
+            monitor: Stored { instance, state },
+            stays,
+        })
+    }
+
+    /// Whether a new instance hits nothing and is cut at once.
+    fn is_lost(&self, made: &Move<M::State>) -> bool
+        ensures quiet { IsTrue result → (w : List ℕ) → M.StandsFor self.now.rules.now made.now.monitor.state w
+            → (k : ℕ) → IsHit (M.meaning (M.definition self.now.rules.now)) w k → ⊥ }
+        ensures cut { IsTrue result → made.now.stays ≡ false }
+    {
+        !made.stays && self.rules.hits(&made.monitor.state) == 0
+    }
+}

@@ -1,0 +1,164 @@
+//! The container of the monitors.
+ghost use Rattle.std.specs.Prelude.{◌≡◌, ℕ, ◌+◌, ◌<◌, [], true, List, map, length, slice_set, IfOk, OnErr, MatchOption, IsTrue, Some, None, ◌⊎◌};
+ghost use Rattle.jm_monitors.specs.Steps.{IsCutState, IsAliveState};
+ghost use Rattle.jm_marks.specs.Marks.{dead_mask_of};
+ghost use Rattle.jm_store.specs.Slots.{monitors_of, monitor_at, stored_in, slot_at, IsReserved};
+
+use crate::steps::Steps;
+use jm_marks::dead_mask;
+use jm_model::{Binding, Monitor, NoMemory};
+use jm_monitors::Stored;
+use jm_objects::Objects;
+use std::alloc::Global;
+use std::sync::ledger::Ledger;
+
+/// A place for a monitor.
+#[derive(Drop)]
+pub(crate) enum Slot<S> {
+    /// Nothing, and the number of another free slot, if there is one.
+    Free(usize),
+    /// Nothing yet: an open plan has it.
+    Planned,
+    /// A monitor.
+    Taken(Stored<S>),
+}
+
+/// Monitors by slot.
+#[derive(Drop)]
+pub(crate) struct Monitors<S> {
+    pub(crate) slots: Vec<Slot<S>>,
+    /// The number of a free slot, if there is one.
+    pub(crate) free: usize,
+}
+
+impl<S: Drop> Monitors<S> {
+    /// No slot.
+    pub(crate) fn new(alloc: Global) -> Monitors<S>
+        ensures { result.slots.items ≡ [] }
+    {
+        Monitors {
+            slots: Vec::new(alloc),
+            free: 0,
+        }
+    }
+
+    /// The monitor of a slot, which is one step.
+    pub(crate) fn lend<L: Ledger>(&self, slot: usize, steps: &mut Steps<L>) -> Option<&Stored<S>>
+        ensures value { MatchOption result (monitor_at (monitors_of self.now.slots.items) slot ≡ None)
+            (λ s. monitor_at (monitors_of self.now.slots.items) slot ≡ Some s.now) }
+        ensures steps { MatchOption result (steps.new ≡ steps.old) (λ s. steps.new ≡ steps.old + 1) }
+    {
+        match self.slots.get(slot) {
+            Some(Slot::Taken(monitor)) => {
+                steps.tick();
+                Some(monitor)
+            }
+            _ => None,
+        }
+    }
+
+    /// Makes a free slot planned, or adds a planned one.
+    pub(crate) fn reserve(&mut self) -> Result<usize, NoMemory>
+        ensures reserved { IfOk result (λ k. IsReserved self.old.slots.items self.new.slots.items k) }
+        ensures stored { stored_in (monitors_of self.new.slots.items) ≡ stored_in (monitors_of self.old.slots.items) }
+        ensures same { OnErr result (self.new.slots.items ≡ self.old.slots.items) }
+    {
+        let slot = self.free;
+        match self.slots.get(slot) {
+            Some(Slot::Free(next)) => {
+                self.free = *next;
+                self.slots[slot] = Slot::Planned;
+                Ok(slot)
+            }
+            _ => self.grow(),
+        }
+    }
+
+    /// Adds a planned slot.
+    fn grow(&mut self) -> Result<usize, NoMemory>
+        ensures reserved { IfOk result (λ k. IsReserved self.old.slots.items self.new.slots.items k) }
+        ensures stored { stored_in (monitors_of self.new.slots.items) ≡ stored_in (monitors_of self.old.slots.items) }
+        ensures same { OnErr result (self.new.slots.items ≡ self.old.slots.items) }
+    {
+        let slot = self.slots.len();
+        self.slots.push(Slot::Planned)?;
+        Ok(slot)
+    }
+
+    /// Whether a slot is planned.
+    pub(crate) fn is_planned(&self, slot: usize) -> bool
+        ensures { IsTrue result ↔ (slot_at self.now.slots.items slot ≡ Planned) }
+    {
+        match self.slots.get(slot) {
+            Some(Slot::Planned) => true,
+            _ => false,
+        }
+    }
+
+    /// Frees a slot.
+    pub(crate) fn release(&mut self, slot: usize)
+        ensures { self.new.slots.items ≡ slice_set self.old.slots.items slot (Free self.old.free) }
+    {
+        if slot < self.slots.len() {
+            self.slots[slot] = Slot::Free(self.free);
+            self.free = slot;
+        }
+    }
+
+    /// Puts a monitor into a slot.
+    pub(crate) fn put(&mut self, slot: usize, monitor: Stored<S>)
+        ensures { self.new.slots.items ≡ slice_set self.old.slots.items slot (Taken monitor) }
+    {
+        if slot < self.slots.len() {
+            self.slots[slot] = Slot::Taken(monitor);
+        }
+    }
+
+    /// The instance of a slot's monitor, if that is cut.
+    pub(crate) fn cut_instance<M: Monitor<State = S>>(
+        &self,
+        rules: &M,
+        objects: &Objects,
+        slot: usize,
+    ) -> Option<Binding>
+    {
+        match self.slots.get(slot) {
+            Some(Slot::Taken(monitor)) if is_cut(rules, objects, monitor) => Some(monitor.instance),
+            _ => None,
+        }
+    }
+
+    /// How many monitors there are.
+    pub(crate) fn len(&self) -> u64
+        ensures { result ≡ length (stored_in (monitors_of self.now.slots.items)) }
+    {
+        let mut count = 0;
+        for slot in &self.slots {
+            if let Slot::Taken(_) = slot {
+                count += 1;
+            }
+        }
+        count
+    }
+
+    /// The instances of the monitors, in the order of their slots.
+    pub(crate) fn instances(&self) -> Result<Vec<Binding>, NoMemory>
+        ensures { IfOk result (λ list. list.items ≡ map (λ s. s.instance) (stored_in (monitors_of self.now.slots.items))) }
+    {
+        let mut list = Vec::new(*self.slots.allocator());
+        for slot in &self.slots {
+            if let Slot::Taken(monitor) = slot {
+                list.push(monitor.instance)?;
+            }
+        }
+        Ok(list)
+    }
+}
+
+/// Whether a monitor is cut.
+fn is_cut<M: Monitor>(rules: &M, objects: &Objects, monitor: &Stored<M::State>) -> bool
+    ensures yes { result ≡ true → IsCutState (M.meaning (M.definition rules.now)) (M.StandsFor rules.now) monitor.now.state (dead_mask_of objects.now monitor.now.instance) }
+    ensures no { result ≡ false → IsAliveState (M.meaning (M.definition rules.now)) (M.StandsFor rules.now) monitor.now.state (dead_mask_of objects.now monitor.now.instance) }
+{
+    rules.cut(&monitor.state, dead_mask(objects, &monitor.instance))
+}

@@ -1,0 +1,318 @@
+ghost use Rattle.std.specs.Prelude.{◌≡◌, ℕ, ◌+◌, ◌<◌, ◌≤◌, ◌↔◌, List, Bool, [], ◌∷◌, true, false, Contains, IfOk, OnOk, OnErr, IsTrue, Some, None, map, length, count_by, ◌⊎◌, MatchOption};
+ghost use Rattle.std.specs.List.Sorted.{IsPermutation, IsSortedBy};
+ghost use Rattle.std.specs.Ordering.{is_lt};
+ghost use Rattle.jm_model.specs.Bindings.{empty, is_compatible, binding_cmp, mask_of};
+ghost use Rattle.jm_model.specs.declared.binding.Binding.{Binding as Bound};
+ghost use Rattle.jm_semantics.specs.Traces.{ParametricEvent};
+ghost use Rattle.jm_index.specs.Index.{Pair, IsKey, flag_of, AreBelow, AreLive, IsFitting, without};
+ghost use Rattle.jm_monitors.specs.Stores.{IsStoreOf};
+ghost use Rattle.jm_monitors.specs.Steps.{IsLiveEvent, IsAfterPass, AreMarksAfter, IsCutState, IsAliveState};
+ghost use Rattle.jm_store.specs.Slots.{monitor_at, stored_in};
+ghost use Rattle.jm_store.specs.Moves.{AreGiven, IsOutcomeAt, visited, after_moves, moved_at};
+ghost use Rattle.jm_store.specs.Contents.{Contents, stored_of, IsFit, IsPlanFor, IsPlanOf};
+
+use crate::event::Event;
+use crate::monitors::Monitors;
+use crate::moves::{Move, Plan};
+use crate::report::{arrange, report};
+use crate::steps::Steps;
+use jm_index::Index;
+use jm_marks::{Marks, dead_mask};
+use jm_model::{Binding, Firings, Letter, Monitor, NoMemory};
+use jm_monitors::Stored;
+use jm_objects::Objects;
+use std::alloc::Global;
+use std::marker::Model;
+use std::sync::ledger::Ledger;
+
+/// The stored monitors of one specification, and its marks.
+#[derive(Drop)]
+pub struct Store<M: Monitor> {
+    monitors: Monitors<M::State>,
+    index: Index,
+    marks: Marks,
+    /// The sets of parameters that bindings of the index ever had.
+    domains: Vec<u8>,
+    is_open: bool,
+}
+
+impl<M: Monitor> Model for Store<M> {
+    ghost use Rattle.jm_store.specs.Slots.{monitors_of};
+    ghost use Rattle.jm_store.specs.Contents.{Contents};
+    ghost use Rattle.jm_store.specs.Housing.{IsKept};
+
+    ghost Value = { Contents M.State };
+
+    ghost view = { λ s. record {
+        monitors = monitors_of s.monitors.slots.items; marks = s.marks.list; is_open = s.is_open; index = s.index } };
+
+    ghost invariant = { λ s. IsKept s.monitors.slots.items s.index.list s.domains.items s.is_open s.marks.spare };
+}
+
+impl<M: Monitor> Store<M> {
+    /// The empty binding with a state that stands for the empty word, unless that is cut; and no mark.
+    pub fn new(alloc: Global, rules: &M) -> Result<Store<M>, NoMemory>
+        ensures stored { IfOk result (λ store. IsStoreOf (M.meaning (M.definition rules.now)) (M.StandsFor rules.now) [] [] (stored_of store) store.marks) }
+        ensures marks { IfOk result (λ store. store.marks ≡ []) }
+        ensures closed { IfOk result (λ store. store.is_open ≡ false) }
+        ensures fits { IfOk result (λ store. (dead : List Bool) → IsFit store dead) }
+    {
+        let mut store = Store::vacant(alloc);
+        let state = rules.begin()?;
+        if !rules.cut(&state, 0) {
+            store.begin(state)?;
+        }
+        Ok(store)
+    }
+
+    /// No monitor and no mark.
+    fn vacant(alloc: Global) -> Store<M>
+        ensures monitors { result.monitors ≡ [] }
+        ensures marks { result.marks ≡ [] }
+        ensures closed { result.is_open ≡ false }
+        ensures index { result.index.list ≡ [] }
+        ensures fits { (dead : List Bool) → IsFit result dead }
+    {
+        Store {
+            monitors: Monitors::new(alloc),
+            index: Index::new(alloc),
+            marks: Marks::new(alloc),
+            domains: Vec::new(alloc),
+            is_open: false,
+        }
+    }
+
+    /// Stores the first monitor, that of the empty binding.
+    fn begin(&mut self, state: M::State) -> Result<(), NoMemory>
+        requires { self.old.index.list ≡ [] }
+    {
+        let instance = Binding::empty();
+        if let Some(slot) = self.place(&instance)? {
+            self.monitors.put(slot, Stored { instance, state });
+        }
+        Ok(())
+    }
+
+    /// Works out an event, and makes all growths. The contents are as before. Only monitors that are compatible with the
+    /// binding are read, each once.
+    pub fn plan<L: Ledger>(
+        &mut self,
+        rules: &M,
+        objects: &Objects,
+        letter: Letter,
+        binding: &Binding,
+        steps: &mut Steps<L>,
+    ) -> Result<Plan<M::State>, NoMemory>
+        requires closed { self.old.is_open ≡ false }
+        requires fits { IsFit self.old objects.now }
+        requires event { IsLiveEvent (M.meaning (M.definition rules.now)) objects.now letter.0 binding.now }
+        requires there { AreBelow (length objects.now) binding.now }
+        ensures stored { stored_of self.new ≡ stored_of self.old }
+        ensures marks { self.new.marks ≡ self.old.marks }
+        ensures fits { IsFit self.new objects.now }
+        ensures closed { OnErr result (self.new.is_open ≡ false) }
+        ensures opened { OnOk result (self.new.is_open ≡ true) }
+        ensures binding { IfOk result (λ plan. plan.binding ≡ binding.now) }
+        ensures plan { IfOk result (λ plan. IsPlanFor self.new plan) }
+        ensures works { IfOk result (λ plan. (trace : List ParametricEvent)
+            → IsStoreOf (M.meaning (M.definition rules.now)) (M.StandsFor rules.now) trace objects.now (stored_of self.old) self.old.marks
+            → IsPlanOf (M.meaning (M.definition rules.now)) (M.StandsFor rules.now) trace objects.now letter.0 self.new plan) }
+        ensures steps { steps.new ≤ steps.old + count_by (λ s. is_compatible s.instance binding.now) (stored_of self.old) }
+    {
+        let event = Event {
+            rules,
+            objects,
+            marks: &self.marks,
+            letter,
+            binding,
+            known: self.marks.contains(binding),
+        };
+        let mut moves = self.reach(&event, steps)?;
+        if moves.len() > 1 {
+            arrange(&mut moves);
+        }
+        let alloc = *self.domains.allocator();
+        let answer = report(alloc, rules, &moves)?;
+        let copy = answer.copy()?;
+        self.marks.reserve()?;
+        self.open_plan(&mut moves)?;
+        Ok(Plan {
+            binding: *binding,
+            moves,
+            answer,
+            copy,
+        })
+    }
+
+    /// What the event makes of the stored monitors.
+    fn reach<L: Ledger>(
+        &self,
+        event: &Event<'_, M>,
+        steps: &mut Steps<L>,
+    ) -> Result<Vec<Move<M::State>>, NoMemory> {
+        let mut moves = Vec::new(*self.domains.allocator());
+        for domain in &self.domains {
+            if event.asks(*domain) {
+                let slots = self.index.compatible(event.objects, *domain, event.binding)?;
+                self.reach_slots(event, &slots, &mut moves, steps)?;
+            }
+        }
+        Ok(moves)
+    }
+
+    /// What it makes of those in some slots.
+    fn reach_slots<L: Ledger>(
+        &self,
+        event: &Event<'_, M>,
+        slots: &[usize],
+        moves: &mut Vec<Move<M::State>>,
+        steps: &mut Steps<L>,
+    ) -> Result<(), NoMemory> {
+        for slot in slots {
+            self.reach_slot(event, *slot, moves, steps)?;
+        }
+        Ok(())
+    }
+
+    /// What it makes of the one in a slot.
+    fn reach_slot<L: Ledger>(
+        &self,
+        event: &Event<'_, M>,
+        slot: usize,
+        moves: &mut Vec<Move<M::State>>,
+        steps: &mut Steps<L>,
+    ) -> Result<(), NoMemory> {
+        let Some(base) = self.monitors.lend(slot, steps) else {
+            return Ok(());
+        };
+        if let Some(outcome) = event.outcome(slot, base)? {
+            moves.push(outcome)?;
+        }
+        Ok(())
+    }
+
+    /// Opens a plan with these moves: new instances get slots. Where memory is wanting they are taken out again, and no
+    /// plan is open.
+    fn open_plan(&mut self, moves: &mut Vec<Move<M::State>>) -> Result<(), NoMemory> {
+        self.is_open = true;
+        let placed = self.place_all(moves);
+        if placed.is_err() {
+            self.take_back(moves);
+            self.is_open = false;
+        }
+        placed
+    }
+
+    /// Gives each new instance a slot.
+    fn place_all(&mut self, moves: &mut Vec<Move<M::State>>) -> Result<(), NoMemory> {
+        for i in 0..moves.len() {
+            if moves[i].slot.is_none() {
+                let slot = self.place(&moves[i].monitor.instance)?;
+                moves[i].slot = slot;
+            }
+        }
+        Ok(())
+    }
+
+    /// A planned slot for an instance, unless the index has the instance already.
+    fn place(&mut self, instance: &Binding) -> Result<Option<usize>, NoMemory> {
+        if self.index.has(instance) {
+            return Ok(None);
+        }
+        self.list_domain(instance.mask())?;
+        let slot = self.monitors.reserve()?;
+        let added = self.index.add(*instance, slot);
+        if added.is_err() {
+            self.monitors.release(slot);
+        }
+        added?;
+        Ok(Some(slot))
+    }
+
+    /// Adds a set of parameters to the list, where it isn't there.
+    fn list_domain(&mut self, domain: u8) -> Result<(), NoMemory> {
+        if !self.domains.contains(&domain) {
+            self.domains.push(domain)?;
+        }
+        Ok(())
+    }
+
+    /// Takes planned instances out again.
+    fn take_back(&mut self, moves: &[Move<M::State>]) {
+        for step in moves {
+            if let Some(slot) = step.slot {
+                self.free(slot, &step.monitor.instance);
+            }
+        }
+    }
+
+    /// Frees a slot, if it is planned.
+    fn free(&mut self, slot: usize, instance: &Binding) {
+        if self.monitors.is_planned(slot) {
+            self.index.remove(instance);
+            self.monitors.release(slot);
+        }
+    }
+
+    /// Carries a plan out, and gives its answer twice. It takes no memory.
+    pub fn commit(&mut self, plan: Plan<M::State>) -> (Firings, Firings) {
+        let Plan {
+            binding,
+            mut moves,
+            answer,
+            copy,
+        } = plan;
+        while let Some(step) = moves.pop() {
+            self.carry_out(step);
+        }
+        self.marks.add(binding);
+        self.is_open = false;
+        (answer, copy)
+    }
+
+    /// Carries a move out.
+    fn carry_out(&mut self, step: Move<M::State>) {
+        let Some(slot) = step.slot else { return };
+        if step.stays {
+            self.monitors.put(slot, step.monitor);
+        } else {
+            self.index.remove(&step.monitor.instance);
+            self.monitors.release(slot);
+        }
+    }
+
+    /// Drops the monitors that are cut and the marks without a live object, and answers how many monitors are left. It
+    /// takes no memory.
+    pub fn dispose(&mut self, rules: &M, objects: &Objects) -> u64 {
+        for slot in 0..self.monitors.slots.len() {
+            self.drop_cut(rules, objects, slot);
+        }
+        self.marks.sweep(objects);
+        self.index.drop_dead(objects);
+        self.monitors.len()
+    }
+
+    /// Drops the monitor of a slot, if it is cut.
+    fn drop_cut(&mut self, rules: &M, objects: &Objects, slot: usize) {
+        if let Some(instance) = self.monitors.cut_instance(rules, objects, slot) {
+            self.index.remove(&instance);
+            self.monitors.release(slot);
+        }
+    }
+
+    /// The stored bindings, in the order of bindings.
+    pub fn stored(&self) -> Result<Vec<Binding>, NoMemory>
+    {
+        let mut list = self.monitors.instances()?;
+        list.sort_unstable_by(|a, b| a.cmp(b));
+        Ok(list)
+    }
+
+    /// The marks, in the order of bindings.
+    pub fn marks(&self) -> Result<Vec<Binding>, NoMemory>
+    {
+        let mut list = self.marks.to_list()?;
+        list.sort_unstable_by(|a, b| a.cmp(b));
+        Ok(list)
+    }
+}
