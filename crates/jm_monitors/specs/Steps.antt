@@ -2,7 +2,7 @@
 use Rattle.std.specs.Prelude.{ℕ, ◌≡◌, ◌≢◌, ◌<◌, ◌↔◌, ◌⊎◌, Bool, true, false, List, [], ◌∷◌, ◌++◌, Contains, length, bit_and, slice_set}
 use Rattle.std.specs.List.{AllPairs}
 use Rattle.std.specs.List.Sorted.{IsStrictlySortedBy}
-use Rattle.jm_model.specs.Bindings.{is_below, is_compatible, join, mask_of, objects_of}
+use Rattle.jm_model.specs.Bindings.{empty, is_below, is_compatible, join, mask_of, objects_of}
 use Rattle.jm_model.specs.Meanings.{Meaning, IsHit, IsCutWord}
 use Rattle.jm_model.specs.declared.binding.Binding.{Binding}
 use Rattle.jm_model.specs.declared.firings.Firing.{Firing}
@@ -10,6 +10,12 @@ use Rattle.jm_semantics.specs.Answers.{firing_cmp}
 use Rattle.jm_marks.specs.Marks.{dead_mask_of, is_dead_object, has_live, IsCovered}
 use Rattle.jm_monitors.specs.declared.stored.Stored.{Stored}
 use Rattle.jm_monitors.specs.Stores.{HasInstance}
+
+-- before the first event: the monitor of the empty binding, whose state stands for the empty word, unless that is cut
+abbrev pub IsAtStart : Meaning → {S : Type 0} → (S → List ℕ → Type 0) → List (Stored S) → Type 0
+IsAtStart m {S} Stands stored =
+    ((state : S) × Stands state [] × (stored ≡ record { instance = empty; state = state } ∷ []))
+    ⊎ ((stored ≡ []) × IsCutWord m [] 0)
 
 -- the state stands for the words of the other with the letter at their end
 abbrev pub Follows : {S : Type 0} → (S → List ℕ → Type 0) → ℕ → S → S → Type 0
