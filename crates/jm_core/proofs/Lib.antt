@@ -1,11 +1,6 @@
-pub mod ListLemmas
-pub mod OrderLemmas
-pub mod CandidateLemmas
-pub mod ReachLemmas
-pub mod GrowthLemmas
-pub mod ReportLemmas
-pub mod CommitLemmas
-pub mod ReplaceLemmas
-pub mod StoreLemmas
-pub mod EventLemmas
+pub mod FlagLemmas
+pub mod FitLemmas
+pub mod FireLemmas
+pub mod ResultLemmas
+pub mod CoreLemmas
 pub mod ReplayLemmas

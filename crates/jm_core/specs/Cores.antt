@@ -1,58 +1,86 @@
-use Rattle.std.specs.Prelude.{ℕ, ◌≡◌, ◌≢◌, ◌<◌, List, [], ◌∷◌, ◌++◌, map, All, ◌⊎◌}
-use mathlib.Core.List.{IsPrefix}
+-- What contracts see of a core, and what holds of it after each step.
+use Rattle.std.specs.Prelude.{ℕ, ◌≡◌, ◌≢◌, ◌↔◌, Bool, true, not, List, [], ◌∷◌, ◌++◌, Option, Some, None, Contains, MatchOption}
+use Rattle.std.specs.List.{AllPairs, list_any}
+use Rattle.std.specs.List.Sorted.{IsPermutation, IsSorted}
 use Rattle.jm_model.specs.Meanings.{Meaning}
-use Rattle.jm_model.specs.Bindings.{objects_of}
+use Rattle.jm_model.specs.Bindings.{is_below, objects_of, binding_cmp}
+use Rattle.jm_model.specs.declared.binding.Binding.{Binding}
 use Rattle.jm_model.specs.declared.step.Step.{Step}
-use Rattle.jm_model.specs.declared.step.Step.TheVariants.{Event, Death, Pass}
-use Rattle.jm_model.specs.declared.step.Outcome.TheVariants.{NoMemory}
+use Rattle.jm_model.specs.declared.step.Step.TheVariants.{Event, Pass}
+use Rattle.jm_model.specs.declared.step.Outcome.{Outcome}
+use Rattle.jm_model.specs.declared.step.Outcome.TheVariants.{Fired, Kept}
 use Rattle.jm_model.specs.declared.step.Entry.{Entry}
-use Rattle.jm_semantics.specs.Histories.{trace_of, dead_of}
-use Rattle.jm_semantics.specs.Legality.{IsLegal, IsStepOf}
-use Rattle.jm_core.specs.declared.stored.Stored.{Stored}
-use Rattle.jm_core.specs.Stores.{IsStoreOf}
+use Rattle.jm_semantics.specs.Traces.{seen_of}
+use Rattle.jm_semantics.specs.Histories.{trace_of, is_dead}
+use Rattle.jm_semantics.specs.Instances.{IsInstance}
+use Rattle.jm_semantics.specs.Disposal.{IsCut}
 
--- what a core is seen as: what its specification means, as plain data, how many objects there are, and its history
+-- What a core is seen as: what its specification means, as plain data, how many objects there are, its history, and what it
+-- keeps in memory beside the history: the bindings that have a monitor, and the marks.
 pub record Core (D : Type 0) : Type 0 where
   pub definition : D
   pub objects : ℕ
   pub entries : List Entry
+  pub stored : List Binding
+  pub marks : List Binding
 
--- the step is an event of the specification, of objects below n
-abbrev pub IsEventOf : Meaning → ℕ → Step → Type 0
-IsEventOf m n (Event e b) = IsStepOf m (Event e b) × All (λ o. o < n) (objects_of b)
-IsEventOf m n (Death o) = ⊥
-IsEventOf m n Pass = ⊥
+-- the core has these entries more, at the end of its history, and the same specification and objects
+pub record IsExtended {D : Type 0} (before after : Core D) (added : List Entry) : Type 0 where
+  pub definition : after.definition ≡ before.definition
+  pub objects : after.objects ≡ before.objects
+  pub entries : after.entries ≡ before.entries ++ added
 
--- A core's history is legal, its monitors are those of the history, and nothing has died so far.
-pub record IsCore (m : Meaning) {S : Type 0} (Stands : S → List ℕ → Type 0) (entries : List Entry) (stored : List (Stored S)) : Type 0 where
-  pub legal : IsLegal m entries
-  pub store : IsStoreOf Stands (trace_of entries) stored
-  pub no_death : dead_of entries ≡ []
+-- what the core keeps in memory is as before
+pub record KeepsMemory {D : Type 0} (before after : Core D) : Type 0 where
+  pub stored : after.stored ≡ before.stored
+  pub marks : after.marks ≡ before.marks
 
--- an entry's line and step
-abbrev pub line_and_step : Entry → ℕ × Step
-line_and_step x = (x.line, x.step)
+-- it is as before unless the outcome is an answer
+abbrev pub KeepsMemoryUnlessFired : {D : Type 0} → Outcome → Core D → Core D → Type 0
+KeepsMemoryUnlessFired (Fired firings) before after = Unit {0}
+KeepsMemoryUnlessFired _ before after = KeepsMemory before after
 
--- entries of one caller, for these steps in order
-pub record AreEntriesOf (caller : ℕ) (steps : List (ℕ × Step)) (entries : List Entry) : Type 0 where
-  pub by_caller : All (λ x. x.caller ≡ caller) entries
-  pub in_order : map line_and_step entries ≡ steps
+-- b binds an object that is alive
+abbrev pub binds_live : List Entry → Binding → Bool
+binds_live h b = list_any (λ o. not (is_dead h o)) (objects_of b)
 
--- a core to whose history entries were added, one for each of the steps
-pub record Replayed {D : Type 0} (caller : ℕ) (steps : List (ℕ × Step)) (before after : Core D) : Type 0 where
-  pub added : List Entry
-  pub grown : after ≡ record before { entries = before.entries ++ added }
-  pub each : AreEntriesOf caller steps added
-  pub done : All (λ x. x.outcome ≢ NoMemory) added
+-- the last entry
+abbrev pub last_of : List Entry → Option Entry
+last_of [] = None
+last_of (x ∷ []) = Some x
+last_of (x ∷ y ∷ h) = last_of (y ∷ h)
 
--- a core to whose history entries were added for the first of the steps, of which only the last may have met want
--- of memory
-pub record ReplayedInPart {D : Type 0} (caller : ℕ) (steps : List (ℕ × Step)) (before after : Core D) : Type 0 where
-  pub first : List (ℕ × Step)
-  pub is_prefix : IsPrefix first steps
-  pub added : List Entry
-  pub last : List Entry
-  pub few : (last ≡ []) ⊎ ((x : Entry) × (last ≡ x ∷ []) × (x.outcome ≡ NoMemory))
-  pub grown : after ≡ record before { entries = before.entries ++ added ++ last }
-  pub each : AreEntriesOf caller first (added ++ last)
-  pub done : All (λ x. x.outcome ≢ NoMemory) added
+-- no binding above b that is stored is cut
+abbrev pub NoneCut : Meaning → List Entry → List Binding → Binding → Type 0
+NoneCut m h stored b = (t : Binding) → Contains stored t → is_below b t ≡ true → IsCut m h t → ⊥
+
+-- stored are exactly the instances that aren't cut, and marks are exactly the seen bindings with a live object
+pub record IsSwept (m : Meaning) (h : List Entry) (stored marks : List Binding) : Type 0 where
+  pub exact : (t : Binding) → (Contains stored t ↔ (IsInstance (trace_of h) t × (IsCut m h t → ⊥)))
+  pub live : (b : Binding) → (Contains marks b ↔ (Contains (seen_of (trace_of h)) b × (binds_live h b ≡ true)))
+
+-- what holds directly after this step with this outcome
+abbrev pub IsTidyAfter : Meaning → List Entry → List Binding → List Binding → Step → Outcome → Type 0
+IsTidyAfter m h stored marks (Event e b) (Fired firings) = NoneCut m h stored b
+IsTidyAfter m h stored marks Pass (Kept n) = IsSwept m h stored marks
+IsTidyAfter m h stored marks _ _ = Unit {0}
+
+-- Directly after an event that was answered, no binding above the event's that is stored is cut. Directly after a pass, the
+-- memory is swept.
+abbrev pub IsTidy : Meaning → List Entry → List Binding → List Binding → Type 0
+IsTidy m h stored marks = MatchOption (last_of h) (Unit {0}) (λ x. IsTidyAfter m h stored marks x.step x.outcome)
+
+-- What is kept in memory fits the history: stored are distinct instances, and each other instance is cut, so that no later
+-- outcome names it. Each mark was seen, and each seen binding with a live object is a mark.
+pub record FitsHistory (m : Meaning) (h : List Entry) (stored marks : List Binding) : Type 0 where
+  pub distinct : AllPairs (λ t u. t ≢ u) stored
+  pub instances : (t : Binding) → Contains stored t → IsInstance (trace_of h) t
+  pub others_cut : (t : Binding) → IsInstance (trace_of h) t → (Contains stored t → ⊥) → IsCut m h t
+  pub seen : (b : Binding) → Contains marks b → Contains (seen_of (trace_of h)) b
+  pub marked : (b : Binding) → Contains (seen_of (trace_of h)) b → binds_live h b ≡ true → Contains marks b
+  pub tidy : IsTidy m h stored marks
+
+-- the list has the bindings, in order
+pub record AreInOrder (bindings list : List Binding) : Type 0 where
+  pub same : IsPermutation bindings list
+  pub ordered : IsSorted binding_cmp list

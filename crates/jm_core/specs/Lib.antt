@@ -1,5 +1,4 @@
+pub mod Steps
 pub mod Cores
-pub mod Stores
-pub mod Growth
-pub mod Reports
-pub mod Plans
+pub mod Replays
+pub mod Inside

@@ -1,15 +1,11 @@
-//! One specification's core: it takes steps one after another, moves the monitors of the instances that a step
-//! concerns, and records what each step was answered.
+//! One specification's core: it takes events, deaths and passes one after another, and records what each was answered.
 //!
-//! `Prop` is the core. Its monitors lie in the order of their instances (`stored`); `growth` finds the instances that an
-//! event reaches and the states that they reach, by joins (Chen and Rosu 2009); `report` lists the handlers that run;
-//! `plan` puts these together before anything changes.
+//! `Prop` is the core. It keeps a history of all steps, and beside it only what can still matter: the monitors and marks of a
+//! store, from which the instances go that can't fire any more. Its contracts say that this forgets nothing: the history
+//! is legal after every step, so each outcome is that of a core which forgets nothing.
 #![tactic(auto)]
 
-mod growth;
-mod plan;
+mod firing;
 mod prop;
-mod report;
-mod stored;
 
 pub use prop::Prop;

@@ -1,14 +1,16 @@
-ghost use Rattle.std.specs.Prelude.{◌≡◌, ◌<◌, [], ◌∷◌, ◌++◌, All, IfOk, OnOk, OnErr};
+ghost use Rattle.std.specs.Prelude.{◌≡◌, [], ◌∷◌, All, IfOk, OnOk, OnErr};
 ghost use Rattle.jm_history.specs.Nodes.{answered};
+ghost use Rattle.jm_model.specs.declared.step.Step.TheVariants.{Pass};
 ghost use Rattle.jm_semantics.specs.Legality.{IsLegal};
-ghost use Rattle.jm_semantics.specs.Histories.{trace_of};
-ghost use Rattle.jm_core.specs.Cores.{IsEventOf, Replayed, ReplayedInPart};
-ghost use Rattle.jm_core.specs.Stores.{AreInstances};
+ghost use Rattle.jm_core.specs.Steps.{IsEventOf, IsDeathOf, IsFitStep};
+ghost use Rattle.jm_core.specs.Cores.{IsExtended, KeepsMemory, KeepsMemoryUnlessFired, FitsHistory, AreInOrder};
+ghost use Rattle.jm_core.specs.Replays.{Replayed, ReplayedInPart};
 
-use crate::plan::work_out;
-use crate::stored::{Stored, commit};
+use crate::firing::perform;
 use jm_history::{History, Node};
 use jm_model::{Binding, Monitor, NoMemory, Outcome, Step};
+use jm_objects::Objects;
+use jm_store::Store;
 use std::alloc::Global;
 use std::marker::Model;
 
@@ -16,87 +18,142 @@ use std::marker::Model;
 #[derive(Drop)]
 pub struct Prop<M: Monitor> {
     rules: M,
-    objects: u32,
-    /// A monitor for each instance, in the order of instances.
-    stored: Vec<Stored<M::State>>,
+    objects: Objects,
+    store: Store<M>,
     history: History,
     alloc: Global,
 }
 
 impl<M: Monitor> Model for Prop<M> {
-    ghost use Rattle.jm_core.specs.Cores.{Core, IsCore};
+    ghost use Rattle.std.specs.Prelude.{length};
+    ghost use Rattle.jm_store.specs.Contents.{stored_of};
+    ghost use Rattle.jm_core.specs.Cores.{Core};
+    ghost use Rattle.jm_core.specs.Inside.{IsCore, instances_of};
 
     ghost Value = { Core M.Definition };
 
-    ghost view = { λ p. record { definition = M.definition p.rules; objects = p.objects; entries = p.history } };
+    ghost view = { λ p. record {
+      definition = M.definition p.rules;
+      objects = length p.objects;
+      entries = p.history;
+      stored = instances_of (stored_of p.store);
+      marks = p.store.marks;
+    } };
 
-    ghost invariant = { λ p. IsCore (M.meaning (M.definition p.rules)) (M.StandsFor p.rules) p.history p.stored.items };
+    ghost invariant = { λ p. IsCore (M.meaning (M.definition p.rules)) (M.StandsFor p.rules) p.history p.objects p.store };
 }
 
 impl<M: Monitor> Prop<M> {
     /// A core without history. All its objects live.
     pub fn new(alloc: Global, rules: M, objects: u32) -> Result<Prop<M>, NoMemory>
-        ensures value { IfOk result (λ prop. prop ≡ record { definition = M.definition rules; objects = objects; entries = [] }) }
+        ensures definition { IfOk result (λ prop. prop.definition ≡ M.definition rules) }
+        ensures objects { IfOk result (λ prop. prop.objects ≡ objects) }
+        ensures entries { IfOk result (λ prop. prop.entries ≡ []) }
         ensures legal { IfOk result (λ prop. IsLegal (M.meaning prop.definition) prop.entries) }
+        ensures fits { IfOk result (λ prop. FitsHistory (M.meaning prop.definition) prop.entries prop.stored prop.marks) }
     {
-        let state = rules.begin()?;
-        let mut stored = Vec::new(alloc);
-        let monitor = Stored {
-            instance: Binding::empty(),
-            state,
-        };
-        if stored.push(monitor).is_err() {
-            return Err(NoMemory);
-        }
+        let objects = Objects::new(alloc, objects)?;
+        let store = Store::new(alloc, &rules)?;
         Ok(Prop {
             rules,
             objects,
-            stored,
+            store,
             history: History::new(),
             alloc,
         })
     }
 
-    /// Does an event, and records it with the outcome that it answers. At NoMemory all but the history is as before.
+    /// Does an event, and records it with the outcome that it answers: it is refused exactly where it binds a dead object,
+    /// with the first one. Where memory is wanting, the entry stands with NoMemory. Monitors and marks stay as they are
+    /// unless the event is answered.
     pub fn event(&mut self, node: Node) -> Outcome
         requires { IsEventOf (M.meaning self.old.definition) self.old.objects node.step }
-        ensures added { self.new ≡ record self.old { entries = self.old.entries ++ answered node result ∷ [] } }
+        ensures added { IsExtended self.old self.new (answered node result ∷ []) }
+        ensures memory { KeepsMemoryUnlessFired result self.old self.new }
         ensures legal { IsLegal (M.meaning self.new.definition) self.new.entries }
+        ensures fits { FitsHistory (M.meaning self.new.definition) self.new.entries self.new.stored self.new.marks }
     {
         let Step::Event { letter, binding } = node.step() else {
             unreachable!()
         };
-        match work_out(self.alloc, &self.rules, &mut self.stored, *letter, binding) {
-            Ok(plan) => {
-                commit(binding, &mut self.stored, plan.reached);
-                self.history.push(node, Outcome::Fired(plan.copy));
-                Outcome::Fired(plan.answer)
-            }
-            Err(NoMemory) => {
-                self.history.push(node, Outcome::NoMemory);
-                Outcome::NoMemory
-            }
+        let (outcome, copy) = perform(
+            &self.rules,
+            &self.objects,
+            &mut self.store,
+            *letter,
+            binding,
+        );
+        self.history.push(node, copy);
+        outcome
+    }
+
+    /// Lets an object die, and records it: it is refused exactly where the object is dead. It takes no memory, and
+    /// monitors and marks stay as they are.
+    pub fn death(&mut self, node: Node) -> Outcome
+        requires { IsDeathOf self.old.objects node.step }
+        ensures added { IsExtended self.old self.new (answered node result ∷ []) }
+        ensures memory { KeepsMemory self.old self.new }
+        ensures legal { IsLegal (M.meaning self.new.definition) self.new.entries }
+        ensures fits { FitsHistory (M.meaning self.new.definition) self.new.entries self.new.stored self.new.marks }
+    {
+        let Step::Death { object } = node.step() else {
+            unreachable!()
+        };
+        let object = *object;
+        if self.objects.kill(object) {
+            self.history.push(node, Outcome::Done);
+            Outcome::Done
+        } else {
+            self.history.push(node, Outcome::Refused(object));
+            Outcome::Refused(object)
         }
     }
 
-    /// Does a caller's steps in order, and records each with its line. It stops at the first that meets want of
-    /// memory. So far the steps are events.
+    /// Drops the monitors of instances that can't fire any more and the marks without a live object, and records how many
+    /// monitors are kept. It takes no memory.
+    pub fn pass(&mut self, node: Node) -> Outcome
+        requires { node.step ≡ Pass }
+        ensures added { IsExtended self.old self.new (answered node result ∷ []) }
+        ensures legal { IsLegal (M.meaning self.new.definition) self.new.entries }
+        ensures fits { FitsHistory (M.meaning self.new.definition) self.new.entries self.new.stored self.new.marks }
+    {
+        let kept = self.store.dispose(&self.rules, &self.objects);
+        self.history.push(node, Outcome::Kept(kept));
+        Outcome::Kept(kept)
+    }
+
+    /// Does a caller's steps in order, and records each with its line. It stops at the first that meets want of memory.
     pub fn replay(&mut self, caller: u32, steps: &[(u32, Step)]) -> Result<(), NoMemory>
-        requires { All (λ s. IsEventOf (M.meaning self.old.definition) self.old.objects s.1) steps.now }
+        requires { All (λ s. IsFitStep (M.meaning self.old.definition) self.old.objects s.1) steps.now }
         ensures ok { OnOk result (Replayed caller steps.now self.old self.new) }
         ensures err { OnErr result (ReplayedInPart caller steps.now self.old self.new) }
         ensures legal { IsLegal (M.meaning self.new.definition) self.new.entries }
+        ensures fits { FitsHistory (M.meaning self.new.definition) self.new.entries self.new.stored self.new.marks }
     {
         let alloc = self.alloc;
         for (line, step) in steps {
             let Ok(node) = Node::new(alloc, caller, *line, *step) else {
                 return Err(NoMemory);
             };
-            if let Outcome::NoMemory = self.event(node) {
+            if let Outcome::NoMemory = self.step(node) {
                 return Err(NoMemory);
             }
         }
         Ok(())
+    }
+
+    /// Does a step, and records it with the outcome that it answers.
+    fn step(&mut self, node: Node) -> Outcome
+        requires { IsFitStep (M.meaning self.old.definition) self.old.objects node.step }
+        ensures added { IsExtended self.old self.new (answered node result ∷ []) }
+        ensures legal { IsLegal (M.meaning self.new.definition) self.new.entries }
+        ensures fits { FitsHistory (M.meaning self.new.definition) self.new.entries self.new.stored self.new.marks }
+    {
+        match node.step() {
+            Step::Event { .. } => self.event(node),
+            Step::Death { .. } => self.death(node),
+            Step::Pass => self.pass(node),
+        }
     }
 
     /// The history.
@@ -107,17 +164,19 @@ impl<M: Monitor> Prop<M> {
         &self.history
     }
 
-    /// The stored instances: those of the history, in order.
+    /// The bindings that have a monitor, in the order of bindings.
     pub fn stored(&self) -> Result<Vec<Binding>, NoMemory>
-        ensures value { IfOk result (λ instances. AreInstances (trace_of self.now.entries) instances.items) }
-        ensures legal { IsLegal (M.meaning self.now.definition) self.now.entries }
+        ensures value { IfOk result (λ list. AreInOrder self.now.stored list.items) }
+        ensures fits { FitsHistory (M.meaning self.now.definition) self.now.entries self.now.stored self.now.marks }
     {
-        let mut instances = Vec::new(self.alloc);
-        for monitor in &self.stored {
-            if instances.push(monitor.instance).is_err() {
-                return Err(NoMemory);
-            }
-        }
-        Ok(instances)
+        self.store.stored()
+    }
+
+    /// The marks, in the order of bindings.
+    pub fn marks(&self) -> Result<Vec<Binding>, NoMemory>
+        ensures value { IfOk result (λ list. AreInOrder self.now.marks list.items) }
+        ensures fits { FitsHistory (M.meaning self.now.definition) self.now.entries self.now.stored self.now.marks }
+    {
+        self.store.marks()
     }
 }

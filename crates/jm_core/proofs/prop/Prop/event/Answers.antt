@@ -1,81 +1,80 @@
-use Rattle.std.proofs.Common.{◌≡◌, ◌++◌, List, [], ◌∷◌, sym, ◌∙◌, ap, subst}
-use Rattle.jm_model.specs.declared.firings.Firing.{Firing}
+use Rattle.std.proofs.Common.{◌≡◌, List, [], ◌∷◌, ◌++◌, length, refl, sym, ◌∙◌, ap, subst}
 use Rattle.jm_model.specs.declared.step.Step.{Step}
 use Rattle.jm_model.specs.declared.step.Step.TheVariants.{Event}
-use Rattle.jm_model.specs.declared.step.Outcome.TheVariants.{Fired, NoMemory}
+use Rattle.jm_model.specs.declared.step.Outcome.{Outcome}
 use Rattle.jm_model.specs.declared.step.Entry.{Entry}
 use Rattle.jm_history.specs.Nodes.{answered}
 use Rattle.jm_semantics.specs.Traces.{ParametricEvent}
 use Rattle.jm_semantics.specs.Histories.{trace_of}
-use Rattle.jm_semantics.specs.Answers.{IsAnswer}
-use Rattle.jm_core.specs.declared.stored.Stored.{Stored}
-use Rattle.jm_core.specs.Cores.{Core, IsCore, IsEventOf}
-use Rattle.jm_core.specs.Stores.{IsCommitted}
-use Rattle.std.specs.Prelude.{Contains}
-use Rattle.jm_semantics.proofs.InstanceLemmas.{instance-append}
-use Rattle.jm_core.proofs.StoreLemmas.{store_from_commit}
-use Rattle.jm_core.proofs.EventLemmas.{core_after, core_forgot}
+use Rattle.jm_store.specs.Contents.{stored_of}
+use Rattle.jm_core.specs.Steps.{IsEventOf}
+use Rattle.jm_core.specs.Cores.{Core}
+use Rattle.jm_core.specs.Inside.{IsCore, instances_of}
+use Rattle.jm_core.proofs.FlagLemmas.{live_event, objects_below}
+use Rattle.jm_core.proofs.FitLemmas.{fits_history}
+use Rattle.jm_core.proofs.FireLemmas.{keeps_memory}
+use Rattle.jm_core.proofs.CoreLemmas.{core_after_event}
 use Rattle.jm_core.proofs.prop.Prop.event.Goals as goal
 
-pub commit-requires-clause-reached : goal.commit-requires-clause-reached
-commit-requires-clause-reached g c = (c.in-Ok.ensures.works (trace_of c.self.inside.history) c.self.invariant.store).reached.increasing
+pub perform-outcome-requires-clause-eight : goal.perform-outcome-requires-clause-eight
+perform-outcome-requires-clause-eight g c =
+    let m = g.M.Monitor.meaning (g.M.Monitor.definition c.self.inside.rules) in
+    let is : c.args.node.step ≡ Event c.in-Event.letter c.in-Event.binding = sym c.step.ensures ∙ c.in-Event.is in
+    let fits : IsEventOf m c.args.self.now.objects (Event c.in-Event.letter c.in-Event.binding) =
+    subst (λ (s : Step). IsEventOf m c.args.self.now.objects s) is
+    (subst (λ (core : Core g.row.M-Definition.Denot). IsEventOf (g.M.Monitor.meaning core.definition) c.args.self.now.objects c.args.node.step) (sym c.self.view_is) c.requires) in
+    fits.0.1
 
-pub commit-requires-clause-above : goal.commit-requires-clause-above
-commit-requires-clause-above g c = (c.in-Ok.ensures.works (trace_of c.self.inside.history) c.self.invariant.store).reached.above
+pub perform-outcome-requires-clause-event : goal.perform-outcome-requires-clause-event
+perform-outcome-requires-clause-event g c =
+    let m = g.M.Monitor.meaning (g.M.Monitor.definition c.self.inside.rules) in
+    let is : c.args.node.step ≡ Event c.in-Event.letter c.in-Event.binding = sym c.step.ensures ∙ c.in-Event.is in
+    let fits : IsEventOf m c.args.self.now.objects (Event c.in-Event.letter c.in-Event.binding) =
+    subst (λ (s : Step). IsEventOf m c.args.self.now.objects s) is
+    (subst (λ (core : Core g.row.M-Definition.Denot). IsEventOf (g.M.Monitor.meaning core.definition) c.args.self.now.objects c.args.node.step) (sym c.self.view_is) c.requires) in
+    λ none. live_event m c.self.inside.objects c.in-Event.letter c.in-Event.binding fits.0 none
 
-pub commit-requires-clause-covered : goal.commit-requires-clause-covered
-commit-requires-clause-covered g c =
-    let store = c.self.invariant.store in
-    let works = c.in-Ok.ensures.works (trace_of c.self.inside.history) store in
-    let a : ParametricEvent = record { letter = c.in-Event.letter.0; binding = c.in-Event.binding } in
-    λ s h above.
-    let there : Contains c.self.inside.stored.items s = subst (λ (l : List (Stored g.row.M-State.Denot)). Contains l s) c.in-Ok.ensures.same h in
-    works.reached.all s.instance (instance-append (trace_of c.self.inside.history) (a ∷ []) s.instance (store.each s there).0) above
+pub perform-outcome-requires-clause-there : goal.perform-outcome-requires-clause-there
+perform-outcome-requires-clause-there g c =
+    let m = g.M.Monitor.meaning (g.M.Monitor.definition c.self.inside.rules) in
+    let is : c.args.node.step ≡ Event c.in-Event.letter c.in-Event.binding = sym c.step.ensures ∙ c.in-Event.is in
+    let fits : IsEventOf m (length c.self.inside.objects) (Event c.in-Event.letter c.in-Event.binding) =
+    subst (λ (s : Step). IsEventOf m (length c.self.inside.objects) s) is
+    (subst (λ (core : Core g.row.M-Definition.Denot). IsEventOf (g.M.Monitor.meaning core.definition) core.objects c.args.node.step) (sym c.self.view_is) c.requires) in
+    objects_below (length c.self.inside.objects) c.in-Event.binding fits.1
 
 pub invariant_of-self : goal.invariant_of-self
 invariant_of-self g c =
-    let Monitors = List (Stored g.row.M-State.Denot) in
     let m = g.M.Monitor.meaning (g.M.Monitor.definition c.self.inside.rules) in
     let Stands = g.M.Monitor.StandsFor c.self.inside.rules in
     let h = c.self.inside.history in
-    let b = c.in-Event.binding in
-    let a : ParametricEvent = record { letter = c.in-Event.letter.0; binding = b } in
-    let is : c.args.node.step ≡ Event c.in-Event.letter b = sym c.step.ensures ∙ c.in-Event.is in
-    let fits : IsEventOf m c.args.self.now.objects (Event c.in-Event.letter b) =
+    let dead = c.self.inside.objects in
+    let before = c.self.inside.store in
+    let after = c.perform-outcome.new.store in
+    let done = c.perform-outcome.ensures in
+    let is : c.args.node.step ≡ Event c.in-Event.letter c.in-Event.binding = sym c.step.ensures ∙ c.in-Event.is in
+    let fits : IsEventOf m c.args.self.now.objects (Event c.in-Event.letter c.in-Event.binding) =
     subst (λ (s : Step). IsEventOf m c.args.self.now.objects s) is
     (subst (λ (core : Core g.row.M-Definition.Denot). IsEventOf (g.M.Monitor.meaning core.definition) c.args.self.now.objects c.args.node.step) (sym c.self.view_is) c.requires) in
-    let works = c.in-Ok.ensures.works (trace_of h) c.self.invariant.store in
-    let commit : IsCommitted b c.self.inside.stored.items c.in-Ok.plan.reached.items c.commit.new.stored.items =
-    subst (λ (l : Monitors). IsCommitted b l c.in-Ok.plan.reached.items c.commit.new.stored.items) c.in-Ok.ensures.same c.commit.ensures in
-    let store = store_from_commit Stands (trace_of h) a c.self.inside.stored.items c.in-Ok.plan.reached.items c.commit.new.stored.items c.self.invariant.store works.reached commit in
-    let answer : IsAnswer m (trace_of h) a c.in-Ok.plan.copy = subst (λ (l : List Firing). IsAnswer m (trace_of h) a l) (sym works.twice) works.answer in
-    subst (λ (l : List Entry). IsCore m Stands l c.commit.new.stored.items) (sym c.push.ensures)
-    (core_after m Stands h c.self.inside.stored.items c.commit.new.stored.items c.args.node c.in-Event.letter b c.in-Ok.plan.copy c.self.invariant is fits.0 store answer)
+    subst (λ (l : List Entry). IsCore m Stands l dead after) (sym c.push.ensures)
+    (subst (λ (o : Outcome). IsCore m Stands (h ++ answered c.args.node o ∷ []) dead after) (sym done.twice)
+    (core_after_event m Stands h dead before after c.args.node c.in-Event.letter c.in-Event.binding c.perform-outcome.result.0 c.self.invariant is fits.0 done.closed done.fits
+    (done.works (trace_of h) c.self.invariant.monitors)))
 
-pub invariant_of-self-in-Err : goal.invariant_of-self-in-Err
-invariant_of-self-in-Err g c =
+pub returns-clause-memory : goal.returns-clause-memory
+returns-clause-memory g c =
     let m = g.M.Monitor.meaning (g.M.Monitor.definition c.self.inside.rules) in
     let Stands = g.M.Monitor.StandsFor c.self.inside.rules in
-    let b = c.in-Event.binding in
-    let is : c.args.node.step ≡ Event c.in-Event.letter b = sym c.step.ensures ∙ c.in-Event.is in
-    let fits : IsEventOf m c.args.self.now.objects (Event c.in-Event.letter b) =
-    subst (λ (s : Step). IsEventOf m c.args.self.now.objects s) is
-    (subst (λ (core : Core g.row.M-Definition.Denot). IsEventOf (g.M.Monitor.meaning core.definition) c.args.self.now.objects c.args.node.step) (sym c.self.view_is) c.requires) in
-    subst (λ (l : List Entry). IsCore m Stands l c.work_out.new.stored.items) (sym c.push-in-Err.ensures)
-    (subst (λ (l : List (Stored g.row.M-State.Denot)). IsCore m Stands (c.self.inside.history ++ answered c.args.node NoMemory ∷ []) l) (sym c.in-Err.ensures.same)
-    (core_forgot m Stands c.self.inside.history c.self.inside.stored.items c.args.node c.in-Event.letter b c.self.invariant is fits.0))
+    let h = c.self.inside.history in
+    let after = c.perform-outcome.new.store in
+    let a : ParametricEvent = record { letter = c.in-Event.letter.0; binding = c.in-Event.binding } in
+    let next : Core g.row.M-Definition.Denot = record { definition = g.M.Monitor.definition c.self.inside.rules; objects = length c.self.inside.objects; entries = c.push.new.self; stored = instances_of (stored_of after); marks = after.marks } in
+    keeps_memory m Stands (trace_of h) c.self.inside.objects a c.self.inside.store after c.perform-outcome.result.0 c.args.self.now next
+    (c.perform-outcome.ensures.works (trace_of h) c.self.invariant.monitors) (sym (ap (λ core. core.stored) c.self.view_is)) (sym (ap (λ core. core.marks) c.self.view_is)) refl refl
 
-pub returns-in-Ok-clause-added : goal.returns-in-Ok-clause-added
-returns-in-Ok-clause-added g c =
-    let works = c.in-Ok.ensures.works (trace_of c.self.inside.history) c.self.invariant.store in
-    let x : Entry = answered c.args.node (Fired c.in-Ok.plan.answer) in
-    let entries : c.push.new.self ≡ c.self.inside.history ++ x ∷ [] =
-    c.push.ensures ∙ ap (λ (l : List Firing). c.self.inside.history ++ answered c.args.node (Fired l) ∷ []) works.twice in
-    (λ j. record { definition = g.M.Monitor.definition c.self.inside.rules; objects = c.self.inside.objects; entries = entries j })
-    ∙ ap (λ (core : Core g.row.M-Definition.Denot). record core { entries = core.entries ++ x ∷ [] }) c.self.view_is
+pub returns-clause-legal : goal.returns-clause-legal
+returns-clause-legal g c = (invariant_of-self g c).legal
 
-pub returns-in-Ok-clause-legal : goal.returns-in-Ok-clause-legal
-returns-in-Ok-clause-legal g c = (invariant_of-self g c).legal
-
-pub returns-in-Err-clause-legal : goal.returns-in-Err-clause-legal
-returns-in-Err-clause-legal g c = (invariant_of-self-in-Err g c).legal
+pub returns-clause-fits : goal.returns-clause-fits
+returns-clause-fits g c =
+    fits_history (g.M.Monitor.meaning (g.M.Monitor.definition c.self.inside.rules)) (g.M.Monitor.StandsFor c.self.inside.rules) c.push.new.self c.self.inside.objects c.perform-outcome.new.store (invariant_of-self g c)

@@ -1,17 +1,23 @@
-use Rattle.std.proofs.Common.{◌≡◌, List, sym, ◌∙◌, ap, subst}
-use Rattle.std.proofs.lemmas.List.{take_all}
+use Rattle.std.proofs.Common.{List, ap, subst}
+use Rattle.std.specs.Prelude.{IfOk}
+use Rattle.std.specs.List.Sorted.{IsPermutation, IsSorted}
+use Rattle.jm_model.specs.Bindings.{binding_cmp}
 use Rattle.jm_model.specs.declared.binding.Binding.{Binding}
-use Rattle.jm_model.specs.declared.step.Entry.{Entry}
-use Rattle.jm_semantics.specs.Histories.{trace_of}
-use Rattle.jm_core.specs.declared.stored.Stored.{Stored}
-use Rattle.jm_core.specs.Stores.{AreInstances, instances_of}
-use Rattle.jm_core.proofs.StoreLemmas.{instances_of_store}
+use Rattle.jm_store.specs.Contents.{stored_of}
+use Rattle.jm_core.specs.Inside.{instances_of}
+use Rattle.jm_core.specs.Cores.{Core, FitsHistory, AreInOrder}
+use Rattle.jm_core.proofs.FitLemmas.{fits_history}
+use Rattle.jm_core.proofs.ResultLemmas.{both_ok}
 use Rattle.jm_core.proofs.prop.Prop.stored.Goals as goal
 
 pub returns-clause-value : goal.returns-clause-value
 returns-clause-value g c =
-    let all : c.loop-monitor.instances.items ≡ instances_of c.self.inside.stored.items =
-    c.loop-monitor.invariant ∙ ap (λ (l : List (Stored g.row.M-State.Denot)). instances_of l) (take_all c.loop-monitor.monitor-index c.deref-monitor-items.result.now c.loop-monitor-test.false ∙ c.deref-monitor-items.ensures.value) in
-    subst (λ (h : List Entry). AreInstances (trace_of h) c.loop-monitor.instances.items) (ap (λ core. core.entries) c.self.view_is)
-    (subst (λ (l : List Binding). AreInstances (trace_of c.self.inside.history) l) (sym all)
-    (instances_of_store (g.M.Monitor.StandsFor c.self.inside.rules) (trace_of c.self.inside.history) c.self.inside.stored.items c.self.invariant.store))
+    let kept = instances_of (stored_of c.self.inside.store) in
+    subst (λ (l : List Binding). IfOk c.stored.result (λ list. AreInOrder l list.items)) (ap (λ core. core.stored) c.self.view_is)
+    (both_ok c.stored.result (λ list. IsPermutation kept list.items) (λ list. IsSorted binding_cmp list.items) (λ list. AreInOrder kept list.items)
+    (λ list same ordered. record { same = same; ordered = ordered }) c.stored.ensures.same c.stored.ensures.ordered)
+
+pub returns-clause-fits : goal.returns-clause-fits
+returns-clause-fits g c =
+    subst (λ (core : Core g.row.M-Definition.Denot). FitsHistory (g.M.Monitor.meaning core.definition) core.entries core.stored core.marks) c.self.view_is
+    (fits_history (g.M.Monitor.meaning (g.M.Monitor.definition c.self.inside.rules)) (g.M.Monitor.StandsFor c.self.inside.rules) c.self.inside.history c.self.inside.objects c.self.inside.store c.self.invariant)

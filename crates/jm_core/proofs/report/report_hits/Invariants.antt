@@ -1,6 +1,0 @@
-use Rattle.std.proofs.Common.{◌≡◌, ◌++◌}
-use Rattle.jm_core.specs.Reports.{firings_below}
-use Rattle.jm_core.proofs.report.report_hits.Given as goal
-
-abbrev pub invariant-loop-handler : goal.invariant-loop-handler
-invariant-loop-handler l = l.firings ≡ l.initial.firings ++ firings_below l.instance l.hits l.handler

@@ -1,0 +1,144 @@
+//! What an event comes to in a store.
+ghost use Rattle.std.specs.Prelude.{◌≡◌, ◌<◌, false, None, List, IfOk, OnErr, OnOk, length, true};
+ghost use Rattle.jm_semantics.specs.Traces.{ParametricEvent};
+ghost use Rattle.jm_index.specs.Index.{AreBelow};
+ghost use Rattle.jm_monitors.specs.Stores.{IsStoreOf};
+ghost use Rattle.jm_monitors.specs.Steps.{IsLiveEvent};
+ghost use Rattle.jm_store.specs.Contents.{stored_of, IsFit, IsPlanFor, IsPlanOf};
+ghost use Rattle.jm_core.specs.Inside.{first_dead_by, IsUntouched, IsOutcomeOf};
+
+use jm_model::{Binding, Letter, Monitor, NoMemory, Outcome};
+use jm_objects::Objects;
+use jm_store::{Plan, Steps, Store};
+use std::marker::Brand;
+use std::sync::ledger::{Blank, Ledger};
+
+/// What an event comes to, twice: it is refused where it binds a dead object, with the first one. Unless it is answered,
+/// monitors and marks stay as they are.
+pub(crate) fn perform<M: Monitor>(
+    rules: &M,
+    objects: &Objects,
+    store: &mut Store<M>,
+    letter: Letter,
+    binding: &Binding,
+) -> (Outcome, Outcome)
+    requires closed { store.old.is_open ≡ false }
+    requires fits { IsFit store.old objects.now }
+    requires eight { length binding.now ≡ 8 }
+    requires event { first_dead_by objects.now binding.now ≡ None
+        → IsLiveEvent (M.meaning (M.definition rules.now)) objects.now letter.0 binding.now }
+    requires there { AreBelow (length objects.now) binding.now }
+    ensures twice { result.1 ≡ result.0 }
+    ensures closed { store.new.is_open ≡ false }
+    ensures fits { IsFit store.new objects.now }
+    ensures works { (trace : List ParametricEvent)
+        → IsStoreOf (M.meaning (M.definition rules.now)) (M.StandsFor rules.now) trace objects.now (stored_of store.old) store.old.marks
+        → IsOutcomeOf (M.meaning (M.definition rules.now)) (M.StandsFor rules.now) trace objects.now
+        (record { letter = letter.0; binding = binding.now }) store.old store.new result.0 }
+{
+    match first_dead(objects, binding) {
+        Some(object) => (Outcome::Refused(object), Outcome::Refused(object)),
+        None => fire(rules, objects, store, letter, binding),
+    }
+}
+
+/// The first dead object that a binding binds, in the order of the parameters.
+fn first_dead(objects: &Objects, binding: &Binding) -> Option<u32>
+    requires eight { length binding.now ≡ 8 }
+    requires there { AreBelow (length objects.now) binding.now }
+    ensures { result ≡ first_dead_by objects.now binding.now }
+{
+    for p in 0..8 {
+        if let Some(object) = binding.get(p) {
+            if objects.is_dead(object) {
+                return Some(object);
+            }
+        }
+    }
+    None
+}
+
+/// What an event comes to that binds no dead object.
+fn fire<M: Monitor>(
+    rules: &M,
+    objects: &Objects,
+    store: &mut Store<M>,
+    letter: Letter,
+    binding: &Binding,
+) -> (Outcome, Outcome)
+    requires closed { store.old.is_open ≡ false }
+    requires fits { IsFit store.old objects.now }
+    requires event { IsLiveEvent (M.meaning (M.definition rules.now)) objects.now letter.0 binding.now }
+    requires there { AreBelow (length objects.now) binding.now }
+    requires live { first_dead_by objects.now binding.now ≡ None }
+    ensures twice { result.1 ≡ result.0 }
+    ensures closed { store.new.is_open ≡ false }
+    ensures fits { IsFit store.new objects.now }
+    ensures works { (trace : List ParametricEvent)
+        → IsStoreOf (M.meaning (M.definition rules.now)) (M.StandsFor rules.now) trace objects.now (stored_of store.old) store.old.marks
+        → IsOutcomeOf (M.meaning (M.definition rules.now)) (M.StandsFor rules.now) trace objects.now
+        (record { letter = letter.0; binding = binding.now }) store.old store.new result.0 }
+{
+    match plan(rules, objects, store, letter, binding) {
+        Ok(plan) => {
+            let (answer, copy) = store.commit(plan);
+            (Outcome::Fired(answer), Outcome::Fired(copy))
+        }
+        Err(NoMemory) => (Outcome::NoMemory, Outcome::NoMemory),
+    }
+}
+
+/// Plans an event, with a counter of its own.
+fn plan<M: Monitor>(
+    rules: &M,
+    objects: &Objects,
+    store: &mut Store<M>,
+    letter: Letter,
+    binding: &Binding,
+) -> Result<Plan<M::State>, NoMemory>
+    requires closed { store.old.is_open ≡ false }
+    requires fits { IsFit store.old objects.now }
+    requires event { IsLiveEvent (M.meaning (M.definition rules.now)) objects.now letter.0 binding.now }
+    requires there { AreBelow (length objects.now) binding.now }
+    ensures untouched { IsUntouched store.old store.new }
+    ensures fits { IsFit store.new objects.now }
+    ensures closed { OnErr result (store.new.is_open ≡ false) }
+    ensures opened { OnOk result (store.new.is_open ≡ true) }
+    ensures binding { IfOk result (λ plan. plan.binding ≡ binding.now) }
+    ensures plan { IfOk result (λ plan. IsPlanFor store.new plan) }
+    ensures works { IfOk result (λ plan. (trace : List ParametricEvent)
+        → IsStoreOf (M.meaning (M.definition rules.now)) (M.StandsFor rules.now) trace objects.now (stored_of store.old) store.old.marks
+        → IsPlanOf (M.meaning (M.definition rules.now)) (M.StandsFor rules.now) trace objects.now letter.0 store.new plan) }
+{
+    counted_plan::<M, Brand>(rules, objects, store, letter, binding, Blank::new(1))
+}
+
+/// Plans an event, with a counter made of a ledger of one part.
+fn counted_plan<M: Monitor, L: Ledger>(
+    rules: &M,
+    objects: &Objects,
+    store: &mut Store<M>,
+    letter: Letter,
+    binding: &Binding,
+    blank: Blank,
+) -> Result<Plan<M::State>, NoMemory>
+    requires name { blank.name ≡ L.name }
+    requires parts { blank.parts ≡ L.parts }
+    requires one { blank.parts ≡ 1 }
+    requires closed { store.old.is_open ≡ false }
+    requires fits { IsFit store.old objects.now }
+    requires event { IsLiveEvent (M.meaning (M.definition rules.now)) objects.now letter.0 binding.now }
+    requires there { AreBelow (length objects.now) binding.now }
+    ensures untouched { IsUntouched store.old store.new }
+    ensures fits { IsFit store.new objects.now }
+    ensures closed { OnErr result (store.new.is_open ≡ false) }
+    ensures opened { OnOk result (store.new.is_open ≡ true) }
+    ensures binding { IfOk result (λ plan. plan.binding ≡ binding.now) }
+    ensures plan { IfOk result (λ plan. IsPlanFor store.new plan) }
+    ensures works { IfOk result (λ plan. (trace : List ParametricEvent)
+        → IsStoreOf (M.meaning (M.definition rules.now)) (M.StandsFor rules.now) trace objects.now (stored_of store.old) store.old.marks
+        → IsPlanOf (M.meaning (M.definition rules.now)) (M.StandsFor rules.now) trace objects.now letter.0 store.new plan) }
+{
+    let mut steps = Steps::<L>::new(blank);
+    store.plan(rules, objects, letter, binding, &mut steps)
+}
