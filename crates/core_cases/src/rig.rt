@@ -1,6 +1,6 @@
 //! A core over a table of states.
 ghost use Rattle.std.specs.Prelude.{◌≡◌, ◌<◌, IfSome, IfOk, All, length};
-ghost use Rattle.jm_core.specs.Cores.{IsEventOf};
+ghost use Rattle.jm_core.specs.Steps.{IsEventOf};
 ghost use Rattle.table_monitor.specs.Tables.{table_meaning};
 
 use crate::text::{byte, number, numbers};

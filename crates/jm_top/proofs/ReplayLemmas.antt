@@ -17,7 +17,9 @@ use Rattle.jm_model.specs.declared.step.Entry.{Entry}
 use Rattle.jm_semantics.specs.Scripts as semantics
 use Rattle.jm_semantics.specs.Scripts.{projection_of, is_for, steps_of, IsInterleaving}
 use Rattle.jm_semantics.specs.Legality.{IsLegal}
-use Rattle.jm_core.specs.Cores.{Core, IsEventOf, line_and_step, AreEntriesOf, Replayed}
+use Rattle.jm_core.specs.Steps.{IsFitStep}
+use Rattle.jm_core.specs.Cores.{Core}
+use Rattle.jm_core.specs.Replays.{line_and_step, AreEntriesOf, Replayed}
 use Rattle.jm_events.specs.Events.{EventDefinition}
 use Rattle.jm_print.specs.Lexicons.{Lexicon}
 use Rattle.jm_print.specs.Texts.{IsPrintable, history_text}
@@ -100,7 +102,7 @@ events_projected script all =
     (All-weaker (λ (l : ScriptLine). IsEvent l.target) (λ (l : ScriptLine). IsEventStep (step_of l.target)) (λ l. event_step l.target) script all)))
 
 -- an event that fits the specification is one of its meaning
-fitting_event : (s : Specification) → s.rules.masks ≡ map (λ e. e.mask) s.table.events → (n : ℕ) (x : Step) → FitsSpecification (catalog_of s) n 0 x → IsEventStep x → IsEventOf (meaning_of s) n x
+fitting_event : (s : Specification) → s.rules.masks ≡ map (λ e. e.mask) s.table.events → (n : ℕ) (x : Step) → FitsSpecification (catalog_of s) n 0 x → IsEventStep x → IsFitStep (meaning_of s) n x
 fitting_event s masks n (Event e b) fits is =
     ((subst (λ k. e.0 < k) (letters_of_rules s masks) fits.event.event, fits.eight, fits.event.parameters ∙ mask_of_rules s masks e.0), fits.named)
 fitting_event s masks n (Death o) fits is = absurd is
@@ -142,10 +144,10 @@ module _ {A : Type 0} (P Q R : A → Type 0) (both : (x : A) → P x → Q x →
 pub replayable : (s : Specification) (l : Loaded) (bytes : List ℕ) (x : Steps) (own : List (ℕ × Step)) → IsKept s l → IsReadScript s bytes x
     → own ≡ projection_of (script_of x.script) 0
     → All (λ step. FitsSpecification (catalog_of s) (length x.objects) 0 step.1) own
-    → All (λ step. IsEventOf (rules_meaning l.rules.definition) (length x.objects) step.1) own
+    → All (λ step. IsFitStep (rules_meaning l.rules.definition) (length x.objects) step.1) own
 replayable s l bytes x own kept read is fits =
-    subst (λ m. All (λ (step : ℕ × Step). IsEventOf m (length x.objects) step.1) own) (sym (same_meaning s l kept.keeps))
-    (both_of_all (λ (step : ℕ × Step). FitsSpecification (catalog_of s) (length x.objects) 0 step.1) (λ (step : ℕ × Step). IsEventStep step.1) (λ (step : ℕ × Step). IsEventOf (meaning_of s) (length x.objects) step.1)
+    subst (λ m. All (λ (step : ℕ × Step). IsFitStep m (length x.objects) step.1) own) (sym (same_meaning s l kept.keeps))
+    (both_of_all (λ (step : ℕ × Step). FitsSpecification (catalog_of s) (length x.objects) 0 step.1) (λ (step : ℕ × Step). IsEventStep step.1) (λ (step : ℕ × Step). IsFitStep (meaning_of s) (length x.objects) step.1)
     (λ step. fitting_event s kept.masks (length x.objects) step.1) own fits (subst (λ ss. All (λ (step : ℕ × Step). IsEventStep step.1) ss) (sym is) (events_projected x.script read.events)))
 
 -- ---- the history
@@ -175,11 +177,11 @@ woven own h each done = record {
     list_of (suc k) less = absurd (omega (arith, less))
 
 -- what a core without history has after a replay of the steps
-pub replay_of : {D : Type 0} (mean : D → Meaning) (rules : D) (objects : ℕ) (own : List (ℕ × Step)) (before after : Core D) (h : List Entry) → before ≡ record { definition = rules; objects = objects; entries = [] } → Replayed 0 own before after
+pub replay_of : {D : Type 0} (mean : D → Meaning) (rules : D) (own : List (ℕ × Step)) (before after : Core D) (h : List Entry) → before.definition ≡ rules → before.entries ≡ [] → Replayed 0 own before after
     → IsLegal (mean after.definition) after.entries → h ≡ after.entries → IsReplayOf (mean rules) own h
-replay_of {D} mean rules objects own before after h new done legal same =
-    let all : h ≡ done.added = same ∙ ap (λ (c : Core D). c.entries) done.grown ∙ ap (λ (c : Core D). c.entries ++ done.added) new in
-    let meant : after.definition ≡ rules = ap (λ (c : Core D). c.definition) done.grown ∙ ap (λ (c : Core D). c.definition) new in
+replay_of {D} mean rules own before after h new none done legal same =
+    let all : h ≡ done.added = same ∙ done.grown.entries ∙ ap (λ es. es ++ done.added) none in
+    let meant : after.definition ≡ rules = done.grown.definition ∙ new in
     record {
       legal = subst (λ es. IsLegal (mean rules) es) (sym same) (subst (λ m. IsLegal m after.entries) (ap mean meant) legal);
       woven = subst (λ es. IsInterleaving es (own ∷ [])) (sym all) (woven own done.added done.each done.done);

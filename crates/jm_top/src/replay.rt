@@ -2,7 +2,7 @@
 ghost use Rattle.std.specs.Prelude.{ℕ, List, All, IfOk, length, string_bytes};
 ghost use Rattle.jm_machine.specs.Meanings.{rules_meaning};
 ghost use Rattle.jm_model.specs.declared.step.Entry.{Entry};
-ghost use Rattle.jm_core.specs.Cores.{IsEventOf};
+ghost use Rattle.jm_core.specs.Steps.{IsFitStep};
 ghost use Rattle.jm_print.specs.Lexicons.{lexicon_of};
 ghost use Rattle.jm_print.specs.Texts.{IsPrintable};
 ghost use Rattle.jm_top.specs.Specifications.{Specification};
@@ -35,7 +35,7 @@ fn replay_own(
     own: &[(u32, Step)],
     objects: &Names,
 ) -> Result<Vec<u8>, NoMemory>
-    requires events { All (λ step. IsEventOf (rules_meaning spec.rules.definition) (length objects.now) step.1) own.now }
+    requires events { All (λ step. IsFitStep (rules_meaning spec.rules.definition) (length objects.now) step.1) own.now }
     requires printable { (h : List Entry) → IsReplayOf (rules_meaning spec.rules.definition) own.now h → All (IsPrintable (lexicon_of (string_bytes spec.name) spec.table spec.handlers objects.now)) h }
     ensures { IfOk result (λ text. IsPrintedReplay (rules_meaning spec.rules.definition) own.now (lexicon_of (string_bytes spec.name) spec.table spec.handlers objects.now) text.items) }
 {
@@ -65,7 +65,7 @@ fn history_of<M: Monitor>(
     steps: &[(u32, Step)],
     titles: Titles<'_>,
 ) -> Result<Vec<u8>, NoMemory>
-    requires events { All (λ step. IsEventOf (M.meaning (M.definition rules)) (length titles.objects.now) step.1) steps.now }
+    requires events { All (λ step. IsFitStep (M.meaning (M.definition rules)) (length titles.objects.now) step.1) steps.now }
     requires printable { (h : List Entry) → IsReplayOf (M.meaning (M.definition rules)) steps.now h → All (IsPrintable (lexicon_of titles.name.now titles.table.now titles.handlers.now titles.objects.now)) h }
     ensures { IfOk result (λ text. IsPrintedReplay (M.meaning (M.definition rules)) steps.now (lexicon_of titles.entry.name.now titles.entry.table.now titles.entry.handlers.now titles.entry.objects.now) text.items) }
 {

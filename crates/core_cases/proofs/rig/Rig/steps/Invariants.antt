@@ -1,5 +1,5 @@
 use Rattle.std.proofs.Common.{All}
-use Rattle.jm_core.specs.Cores.{IsEventOf}
+use Rattle.jm_core.specs.Steps.{IsEventOf}
 use Rattle.table_monitor.specs.Tables.{table_meaning}
 use Rattle.core_cases.proofs.rig.Rig.steps.Given as goal
 
