@@ -1,9 +1,6 @@
 //! Marks against a plain list of bindings, over rows of random steps.
 use crate::draw::Draw;
-use crate::marks::add;
-use crate::objects::{is_dead, kill};
-use crate::text::number;
-use cases::Case;
+use cases::{Case, number_of};
 use jm_marks::Marks;
 use jm_model::{Binding, NoMemory};
 use jm_objects::Objects;
@@ -29,15 +26,15 @@ pub(crate) fn random_marks(alloc: Global, case: &Case) -> Result<String, NoMemor
     let mut rows = Rows {
         marks: Marks::new(alloc),
         list: Vec::new(alloc),
-        objects: Objects::new(alloc, number(objects))?,
+        objects: Objects::new(alloc, number_of(objects))?,
         parameters: parameters.parse::<u8>().unwrap_or(8),
         differ: 0,
         covered: 0,
         uncovered: 0,
         dropped: 0,
     };
-    let mut draw = Draw::new(number(parameters));
-    for _ in 0..number(case.second.as_str()) {
+    let mut draw = Draw::new(number_of(parameters));
+    for _ in 0..number_of(case.second.as_str()) {
         rows.step(&mut draw)?;
     }
     rows.told(alloc)
@@ -50,7 +47,10 @@ impl Rows {
         match draw.below(64) {
             0 => self.sweep()?,
             1 => {
-                kill(&mut self.objects, draw.below(objects));
+                let object = draw.below(objects);
+                if object < objects {
+                    self.objects.kill(object);
+                }
             }
             2..=21 => self.add(binding)?,
             _ => self.ask(&binding, draw),
@@ -65,7 +65,9 @@ impl Rows {
         if !known {
             self.list.push(binding)?;
         }
-        add(&mut self.marks, binding)
+        self.marks.reserve()?;
+        self.marks.add(binding);
+        Ok(())
     }
 
     fn ask(&mut self, above: &Binding, draw: &mut Draw) {
@@ -118,7 +120,8 @@ fn covers(list: &[Binding], above: &Binding, below: &Binding) -> bool {
 fn lives(objects: &Objects, mark: &Binding) -> bool {
     for p in 0..8 {
         if let Some(object) = mark.get(p)
-            && is_dead(objects, object) == Some(false)
+            && object < objects.len()
+            && !objects.is_dead(object)
         {
             return true;
         }

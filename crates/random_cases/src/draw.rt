@@ -1,5 +1,5 @@
 //! Numbers that look random, the same at each run.
-use crate::text::with_pair;
+use case_steps::with_pair;
 use jm_model::Binding;
 
 #[derive(Drop)]
