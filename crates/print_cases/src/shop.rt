@@ -2,7 +2,7 @@
 ghost use Rattle.std.specs.Prelude.{◌≡◌, [], ◌∷◌, IfOk, Some, None};
 ghost use Rattle.jm_print.specs.Lexicons.{Lexicon};
 ghost use Rattle.jm_print.specs.Texts.{IsPrintableStep};
-ghost use Rattle.script_cases.specs.Shops.{HasEnough};
+ghost use Rattle.print_cases.specs.Shops.{HasEnough};
 
 use jm_model::{Binding, Firing, Firings, Letter, NoMemory, Outcome, Step};
 use std::alloc::Global;

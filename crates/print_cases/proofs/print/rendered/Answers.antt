@@ -1,6 +1,6 @@
 use Rattle.std.proofs.Common.{arith}
-use Rattle.script_cases.proofs.Printable.{are_printable, has_enough}
-use Rattle.script_cases.proofs.print.rendered.Goals as goal
+use Rattle.print_cases.proofs.Printable.{are_printable, has_enough}
+use Rattle.print_cases.proofs.print.rendered.Goals as goal
 
 pub render_history-requires : goal.render_history-requires
 render_history-requires c =

@@ -6,7 +6,7 @@ use Rattle.jm_events.specs.Events.{EventDefinitions}
 use Rattle.jm_model.specs.declared.step.Entry.{Entry}
 use Rattle.jm_print.specs.Lexicons.{Lexicon, lexicon_of}
 use Rattle.jm_print.specs.Texts.{IsPrintable}
-use Rattle.script_cases.specs.Shops.{HasEnough, IsModest}
+use Rattle.print_cases.specs.Shops.{HasEnough, IsModest}
 
 pub are_printable : (l : Lexicon) → HasEnough l → (h : List Entry) → All IsModest h → All (IsPrintable l) h
 are_printable l enough h modest = All-weaker IsModest (IsPrintable l) (λ x is. is l enough) h modest

@@ -1,10 +1,10 @@
 //! Printed histories.
 ghost use Rattle.std.specs.Prelude.{OnOk, All};
-ghost use Rattle.script_cases.specs.Shops.{IsModest};
+ghost use Rattle.print_cases.specs.Shops.{IsModest};
 
-use crate::catalog::table_of;
 use crate::shop::entry_of;
-use cases::Case;
+use case_events::table_of;
+use cases::{Case, text_of};
 use jm_events::{EventTable, Names};
 use jm_history::{History, Node};
 use jm_model::{NoMemory, SpecError};
@@ -80,8 +80,4 @@ fn joined(alloc: Global, page: &[u8], summary: &[u8]) -> Result<String, AllocErr
     let line = summary.trim_end();
     out.push_str(line)?;
     Ok(out)
-}
-
-fn text_of(bytes: &[u8]) -> &str {
-    std::str::from_utf8(bytes).unwrap_or("no text")
 }
