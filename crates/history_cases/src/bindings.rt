@@ -1,6 +1,6 @@
 //! What the operations of bindings give.
-use crate::text::{binding_of, binding_shown, byte, lines_of, number, numbers, put, with_pair};
-use cases::Case;
+use case_steps::{binding_of, binding_shown, with_pair};
+use cases::{Case, byte_of, number_of, numbers_of, put_line, text_of};
 use jm_model::{Binding, NoMemory};
 use std::alloc::{AllocError, Global};
 
@@ -8,10 +8,10 @@ use std::alloc::{AllocError, Global};
 pub(crate) fn binding(alloc: Global, case: &Case) -> Result<String, NoMemory> {
     let binding = binding_of(case.first.as_str());
     let mut out = String::new(alloc);
-    for line in lines_of(case).lines() {
+    for line in text_of(&case.text).lines() {
         let (verb, rest) = line.split_once(' ').unwrap_or((line, ""));
         let given = given(alloc, &binding, verb, rest)?;
-        put(&mut out, '\n', given.as_str())?;
+        put_line(&mut out, given.as_str())?;
     }
     Ok(out)
 }
@@ -19,7 +19,7 @@ pub(crate) fn binding(alloc: Global, case: &Case) -> Result<String, NoMemory> {
 fn given(alloc: Global, binding: &Binding, verb: &str, rest: &str) -> Result<String, AllocError> {
     match verb {
         "mask" => format!(in alloc; "{}", binding.mask()),
-        "get" => format!(in alloc; "{:?}", object_of(binding, byte(rest))),
+        "get" => format!(in alloc; "{:?}", object_of(binding, byte_of(rest))),
         "le" => format!(in alloc; "{}", binding.le(&binding_of(rest))),
         "compatible" => format!(in alloc; "{}", binding.compatible(&binding_of(rest))),
         "cmp" => format!(in alloc; "{:?}", binding.cmp(&binding_of(rest))),
@@ -34,10 +34,10 @@ fn object_of(binding: &Binding, p: u8) -> Option<u32> {
 fn made(alloc: Global, binding: &Binding, verb: &str, rest: &str) -> Result<Binding, AllocError> {
     let (first, others) = rest.split_once(' ').unwrap_or((rest, ""));
     match verb {
-        "bind" => Ok(with_pair(*binding, byte(first), number(others))),
+        "bind" => Ok(with_pair(*binding, byte_of(first), number_of(others))),
         "join" => Ok(joined(binding, &binding_of(rest))),
-        "restrict" => Ok(binding.restrict(byte(rest))),
-        _ => Ok(of(byte(first), &numbers(alloc, others)?)),
+        "restrict" => Ok(binding.restrict(byte_of(rest))),
+        _ => Ok(of(byte_of(first), &numbers_of(alloc, others)?)),
     }
 }
 

@@ -1,8 +1,6 @@
 //! Copies of outcomes and entries, and histories.
-use crate::text::{
-    entry_shown, lines_of, number, outcome_of, outcome_shown, put, step_of, step_shown,
-};
-use cases::Case;
+use case_steps::{entry_shown, outcome_of, outcome_shown, step_of, step_shown};
+use cases::{Case, number_of, put_line, text_of};
 use jm_history::{History, Node};
 use jm_model::{Entry, NoMemory, Outcome, Step};
 use std::alloc::{AllocError, Global};
@@ -10,9 +8,9 @@ use std::alloc::{AllocError, Global};
 /// Copies of the outcomes of the text's lines.
 pub(crate) fn outcomes(alloc: Global, case: &Case) -> Result<String, NoMemory> {
     let mut out = String::new(alloc);
-    for line in lines_of(case).lines() {
+    for line in text_of(&case.text).lines() {
         let copy = outcome_of(alloc, line)?.copy()?;
-        put(&mut out, '\n', outcome_shown(alloc, &copy)?.as_str())?;
+        put_line(&mut out, outcome_shown(alloc, &copy)?.as_str())?;
     }
     Ok(out)
 }
@@ -20,9 +18,9 @@ pub(crate) fn outcomes(alloc: Global, case: &Case) -> Result<String, NoMemory> {
 /// Copies of the entries of the text's lines, each `CALLER LINE STEP OUTCOME`.
 pub(crate) fn entries(alloc: Global, case: &Case) -> Result<String, NoMemory> {
     let mut out = String::new(alloc);
-    for line in lines_of(case).lines() {
+    for line in text_of(&case.text).lines() {
         let copy = entry_of(alloc, line)?.copy()?;
-        put(&mut out, '\n', entry_shown(alloc, &copy)?.as_str())?;
+        put_line(&mut out, entry_shown(alloc, &copy)?.as_str())?;
     }
     Ok(out)
 }
@@ -32,8 +30,8 @@ fn entry_of(alloc: Global, line: &str) -> Result<Entry, NoMemory> {
     let (line, rest) = rest.split_once(' ').unwrap_or((rest, ""));
     let (step, outcome) = rest.split_once(' ').unwrap_or((rest, ""));
     Ok(Entry {
-        caller: number(caller),
-        line: number(line),
+        caller: number_of(caller),
+        line: number_of(line),
         step: step_of(step),
         outcome: outcome_of(alloc, outcome)?,
     })
@@ -44,14 +42,14 @@ fn entry_of(alloc: Global, line: &str) -> Result<Entry, NoMemory> {
 pub(crate) fn history(alloc: Global, case: &Case) -> Result<String, NoMemory> {
     let mut history = History::new();
     let mut out = String::new(alloc);
-    for line in lines_of(case).lines() {
+    for line in text_of(&case.text).lines() {
         let told = add(alloc, &mut history, entry_of(alloc, line)?)?;
-        put(&mut out, '\n', told.as_str())?;
+        put_line(&mut out, told.as_str())?;
     }
     let count = format!(in alloc; "{}", history.len())?;
-    put(&mut out, '\n', count.as_str())?;
+    put_line(&mut out, count.as_str())?;
     for entry in &history.entries(alloc)? {
-        put(&mut out, '\n', entry_shown(alloc, entry)?.as_str())?;
+        put_line(&mut out, entry_shown(alloc, entry)?.as_str())?;
     }
     put_copies(alloc, &mut out, &history)?;
     Ok(out)
@@ -77,7 +75,7 @@ fn node_shown(alloc: Global, node: &Node) -> Result<String, AllocError> {
 
 fn put_copies(alloc: Global, out: &mut String, history: &History) -> Result<(), NoMemory> {
     for entry in &history.to_list(alloc)? {
-        put(out, '\n', entry_shown(alloc, entry)?.as_str())?;
+        put_line(out, entry_shown(alloc, entry)?.as_str())?;
     }
     Ok(())
 }
@@ -85,7 +83,7 @@ fn put_copies(alloc: Global, out: &mut String, history: &History) -> Result<(), 
 /// How many entries a history of so many has. It is dropped on a stack that has no room for a call for each.
 pub(crate) fn long(alloc: Global, case: &Case) -> Result<String, NoMemory> {
     let mut history = History::new();
-    for line in 0..number(case.first.as_str()) {
+    for line in 0..number_of(case.first.as_str()) {
         let node = Node::new(alloc, 0, line, Step::Pass)?;
         history.push(node, Outcome::Kept(1));
     }
