@@ -1,25 +1,21 @@
 //! Tables of names, and of parameters and events.
 ghost use Rattle.std.specs.Prelude.{◌<◌};
 
-use crate::put::{number_of, put_word};
-use cases::Case;
+use case_events::{put_events, put_params};
+use cases::{Case, number_of, put_word, text_of};
 use jm_events::{EventTable, Names};
-use jm_model::{Letter, SpecError};
+use jm_model::SpecError;
 use std::alloc::{AllocError, Global};
 
 /// What the steps of a case are answered, over names of which none is there at first.
 pub(crate) fn names(alloc: Global, case: &Case) -> Result<String, SpecError> {
     let mut names = Names::new(alloc);
     let mut out = String::new(alloc);
-    for step in lines_of(case).lines() {
+    for step in text_of(&case.text).lines() {
         let answer = names_step(alloc, &mut names, step)?;
         put_word(&mut out, answer.as_str())?;
     }
     Ok(out)
-}
-
-fn lines_of(case: &Case) -> &str {
-    std::str::from_utf8(case.text.as_slice()).unwrap_or("")
 }
 
 fn names_step(alloc: Global, names: &mut Names, step: &str) -> Result<String, SpecError> {
@@ -49,7 +45,7 @@ fn name_at<'a>(names: &'a Names, number: &str) -> &'a str {
 /// then, and a copy of it. The line of a mention is that of its step.
 pub(crate) fn events(alloc: Global, case: &Case) -> Result<String, SpecError> {
     let mut table = EventTable::new(alloc);
-    let mut out = filled(alloc, &mut table, lines_of(case))?;
+    let mut out = filled(alloc, &mut table, text_of(&case.text))?;
     put_both(alloc, &mut out, &table, case.first.as_str())?;
     Ok(out)
 }
@@ -133,32 +129,6 @@ fn put_table(
         let letter = table.letter(name).map(|letter| letter.0);
         let found = format!(in alloc; "{name}={param:?}/{letter:?}")?;
         put_word(out, found.as_str())?;
-    }
-    Ok(())
-}
-
-/// Appends the parameters.
-pub(crate) fn put_params(out: &mut String, table: &EventTable) -> Result<(), AllocError> {
-    for param in 0..table.params() {
-        put_word(out, table.param_name(param))?;
-    }
-    Ok(())
-}
-
-/// Appends the events, each with its mask, its line and a `+` where it is a creation event.
-pub(crate) fn put_events(
-    alloc: Global,
-    out: &mut String,
-    table: &EventTable,
-) -> Result<(), AllocError> {
-    let creation = table.creation();
-    for letter in 0..table.letters() {
-        let sign = if creation >> letter & 1 == 1 { "+" } else { "" };
-        let name = table.event_name(Letter(letter));
-        let mask = table.mask(Letter(letter));
-        let line = table.event_line(Letter(letter));
-        let event = format!(in alloc; "{sign}{name}/{mask}/{line}")?;
-        put_word(out, event.as_str())?;
     }
     Ok(())
 }

@@ -1,43 +1,10 @@
 //! Tokens, and a place among them from which a reader goes on.
-ghost use Rattle.std.specs.Prelude.{◌<◌, ◌^◌, length, IfOk};
-ghost use Rattle.jm_text.specs.Spans.{LieWithin};
-
-use crate::put::{number_of, put_line, put_word};
-use cases::Case;
+use case_events::{said, tokens_of};
+use cases::{Case, number_of, put_line, put_word};
 use jm_model::SpecError;
 use jm_reading::{Cursor, Items, name_of};
-use jm_text::{Token, TokenKind, is_mark, is_name, is_word, name, text, tokens};
+use jm_text::{Token, TokenKind, is_mark, is_name, is_word, name};
 use std::alloc::{AllocError, Global};
-
-/// The tokens of bytes, if neither are too many.
-pub(crate) fn tokens_of(alloc: Global, bytes: &[u8]) -> Result<Vec<Token>, SpecError>
-    ensures within { IfOk result (λ tokens. LieWithin bytes.now tokens.items) }
-    ensures few { IfOk result (λ tokens. length tokens.items < 2 ^ 32) }
-{
-    let all = cut(alloc, bytes)?;
-    if all.len() > 1_000_000 {
-        return Err(SpecError::NoMemory);
-    }
-    Ok(all)
-}
-
-fn cut(alloc: Global, bytes: &[u8]) -> Result<Vec<Token>, SpecError>
-    ensures { IfOk result (λ tokens. LieWithin bytes.now tokens.items) }
-{
-    if bytes.len() > 1_000_000 {
-        return Err(SpecError::NoMemory);
-    }
-    tokens(alloc, bytes)
-}
-
-/// The text of a token.
-pub(crate) fn said(bytes: &[u8], token: Token) -> &str {
-    if token.start <= token.end && token.end as usize <= bytes.len() {
-        std::str::from_utf8(text(bytes, token)).unwrap_or("?")
-    } else {
-        "?"
-    }
-}
 
 /// The tokens of a text, each as its kind's first letter, its line and its text.
 pub(crate) fn tokens_shown(alloc: Global, case: &Case) -> Result<String, SpecError> {
