@@ -2,13 +2,12 @@
 
 ghost use Rattle.std.specs.Prelude.{◌≡◌, length, IfOk};
 
-use crate::shown::{events_of, is_in, names_text, next, or_fault, states_text};
+use case_events::{events_of, is_in, names_text, next, or_fault, states_text, tokens_of};
 use cases::Case;
 use jm_ere::{Ere, read};
 use jm_events::EventTable;
 use jm_model::SpecError;
 use jm_table::Table;
-use jm_text::tokens;
 use std::alloc::{AllocError, Global};
 
 /// How many states there are and the categories that hold of each word of a case, over its events, or the names of all,
@@ -119,9 +118,6 @@ fn is_same_at(one: &Table, other: &Table, state: u16) -> bool
 
 /// The expression of a formula, which stands behind a token on line 50.
 fn ere_of(alloc: Global, events: &EventTable, formula: &[u8]) -> Result<Ere, SpecError> {
-    if formula.len() > 1_000_000 {
-        return Err(SpecError::NoMemory);
-    }
-    let all = tokens(alloc, formula)?;
+    let all = tokens_of(alloc, formula)?;
     read(alloc, formula, &all, 50, events)
 }

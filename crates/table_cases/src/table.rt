@@ -4,8 +4,8 @@
 ghost use Rattle.std.specs.Prelude.{ℕ, ◌≡◌, ◌<◌, ◌≤◌, ◌+◌, ◌↔◌, [], All, IsTrue, IfOk, OnOk, length};
 
 use crate::circle::Circle;
-use crate::shown::or_fault;
-use cases::Case;
+use case_events::or_fault;
+use cases::{Case, text_of};
 use jm_model::{Letter, SpecError};
 use jm_table::{Table, build};
 use std::alloc::{AllocError, Global};
@@ -169,10 +169,6 @@ fn build_circle(alloc: Global, case: &Case) -> Result<(Table, Vec<u32>), SpecErr
     };
     let letters = case.second.parse::<u8>().unwrap_or(0);
     build(alloc, &circle, letters.min(32))
-}
-
-fn text_of(text: &[u8]) -> &str {
-    std::str::from_utf8(text).unwrap_or("")
 }
 
 fn numbers_of(alloc: Global, text: &str) -> Result<Vec<u16>, AllocError> {
