@@ -1,4 +1,4 @@
-//! The cases of tables.
+//! The cases of tables: circles of numbers.
 #![tactic(auto)]
 
 mod answer;
