@@ -2,7 +2,7 @@
 
 ghost use Rattle.jm_text.specs.Spans.{LieWithin};
 
-use crate::shown::or_fault;
+use case_events::or_fault;
 use cases::Case;
 use jm_machine::Rules;
 use jm_model::{Letter, Monitor, SpecError};

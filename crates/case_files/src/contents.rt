@@ -1,13 +1,12 @@
-//! Files as a case's text holds them.
-
+use cases::text_of;
 use std::alloc::{AllocError, Global};
 
 /// A file's name and its bytes.
-pub(crate) type File = (String, Vec<u8>);
+pub type File = (String, Vec<u8>);
 
 /// The files of a text. A line `== NAME` begins a file, and each line below it is one of the file with its line feed; a
 /// line `==` takes the last line feed away again.
-pub(crate) fn files(alloc: Global, text: &[u8]) -> Result<Vec<File>, AllocError> {
+pub fn files(alloc: Global, text: &[u8]) -> Result<Vec<File>, AllocError> {
     let mut files = Vec::new(alloc);
     let mut line = Vec::new(alloc);
     for byte in text {
@@ -41,9 +40,4 @@ fn add(alloc: Global, files: &mut Vec<File>, line: &[u8]) -> Result<(), AllocErr
         }
     }
     Ok(())
-}
-
-/// The text that the bytes are.
-pub(crate) fn text_of(bytes: &[u8]) -> &str {
-    std::str::from_utf8(bytes).unwrap_or("not UTF-8")
 }

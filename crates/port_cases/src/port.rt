@@ -1,15 +1,12 @@
 //! Folders and sinks in memory.
-use crate::command::sink_of;
-use crate::files::{files, text_of};
-use crate::shown::{numbers, put_line};
-use cases::Case;
+use case_files::{calls_of, files, sink_of};
+use cases::{Case, put_line, text_of};
 use jm_port::{Folder, MemoryFolder, MemorySink, PutFault, Sink, SureFolder, SureSink, put_all};
 use std::alloc::{AllocError, Global};
 
 /// The loads `NAME:LIMIT` of the words from a folder of the text's files, of which those behind the `/` fail.
 pub(crate) fn memory_folder(alloc: Global, case: &Case) -> Result<String, AllocError> {
-    let mut fail = Vec::new(alloc);
-    numbers(&mut fail, case.second.as_str())?;
+    let fail = calls_of(alloc, case.second.as_str())?;
     let mut folder = MemoryFolder::new(files(alloc, case.text.as_slice())?, fail);
     loads(alloc, &mut folder, case.first.as_str())
 }

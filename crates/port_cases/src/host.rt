@@ -1,8 +1,7 @@
 //! The folder and the sinks over the system, and over a printer that is none.
-use crate::files::files;
 use crate::port::put;
-use crate::shown::put_line;
-use cases::Case;
+use case_files::files;
+use cases::{Case, put_line};
 use jm_port::{Folder, HostFault, HostFolder, HostSink, Sink};
 use std::alloc::{AllocError, Global};
 use std::cell::Cell;
@@ -33,7 +32,7 @@ pub(crate) fn answer(
 fn real_file(rt: HostRuntime, case: &Case) -> io::Result<String> {
     let alloc = rt.alloc();
     let mut path = env::temp_dir(&rt)?;
-    path.push(format!(in alloc; "command_cases_{}", process::id(rt.process()))?)?;
+    path.push(format!(in alloc; "port_cases_{}", process::id(rt.process()))?)?;
     let name = path.as_path().as_str();
     fs::write(&rt, name, case.text.as_slice())?;
     let mut folder = HostFolder::new(rt);

@@ -4,12 +4,11 @@
 ghost use Rattle.std.specs.Prelude.{◌≡◌, ◌≤◌, ◌↔◌, All, IsTrue, IfOk, length};
 ghost use Rattle.jm_earley.specs.Charts.{IsBelow, AreBelow};
 
-use crate::grammar::grammar_of;
-use crate::shown::{or_fault, text_of};
-use cases::Case;
+use case_events::{or_fault, tokens_of};
+use cases::{Case, text_of};
 use jm_earley::{Chart, Charts};
 use jm_events::EventTable;
-use jm_grammar::{Grammar, GrammarSymbol, Production};
+use jm_grammar::{Grammar, GrammarSymbol, Production, read};
 use jm_model::{Letter, NoMemory, SpecError};
 use std::alloc::{AllocError, Global};
 
@@ -135,6 +134,11 @@ fn charts_of(alloc: Global, events: &EventTable, formula: &str) -> Result<Charts
         return Err(SpecError::NoMemory);
     }
     Ok(Charts::new(alloc, grammar, events)?)
+}
+
+fn grammar_of(alloc: Global, events: &EventTable, formula: &[u8]) -> Result<Grammar, SpecError> {
+    let all = tokens_of(alloc, formula)?;
+    read(alloc, formula, &all, 50, events)
 }
 
 fn are_below(productions: &[Production], letters: u8) -> bool
