@@ -94,6 +94,7 @@ impl MaskSet {
     pub(crate) fn masks(&self, alloc: Global) -> Result<Vec<u8>, NoMemory>
         ensures rising { IfOk result (λ masks. IsStrictlySortedBy nat_cmp masks.items) }
         ensures exact { IfOk result (λ masks. (mask : ℕ) → mask < 256 → Contains masks.items mask ↔ Contains self.now mask) }
+        ensures few { IfOk result (λ masks. (mask : ℕ) → Contains masks.items mask → mask < 256) }
     {
         let mut masks = Vec::new(alloc);
         for number in 0..256u16 {

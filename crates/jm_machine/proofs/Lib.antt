@@ -6,3 +6,9 @@ pub mod FormulaLemmas
 pub mod ReadingLemmas
 pub mod RuleLemmas
 pub mod CompileLemmas
+pub mod NeedLemmas
+pub mod CutLemmas
+pub mod ParseLemmas
+pub mod FamilyLemmas
+pub mod OutlookLemmas
+pub mod KnownLemmas

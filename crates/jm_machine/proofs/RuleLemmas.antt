@@ -1,6 +1,6 @@
--- Runs of compiled rules: the next state, and which handlers a word hits.
-use Rattle.std.proofs.Common.{◌≡◌, ◌≢◌, ℕ, ◌<◌, ◌⊎◌, List, [], ◌∷◌, ◌++◌, length, get_or, Bool, true, false, Option, Some, None, map, refl, sym, ◌∙◌, subst, arith}
-use Rattle.std.specs.Prelude.{All, Contains, ◌↔◌, IsTrue, IsBitSet, IsSomeAnd, slice_get}
+-- Runs of compiled rules: the next run, and which handlers a word hits.
+use Rattle.std.proofs.Common.{◌≡◌, ◌≢◌, ℕ, ◌<◌, List, [], ◌∷◌, ◌++◌, length, get_or, Option, Some, None, map, refl, sym, subst, arith}
+use Rattle.std.specs.Prelude.{All, ◌↔◌, IsBitSet, IsSomeAnd, slice_get}
 use Rattle.std.specs.Str.{bytes_eq}
 use Rattle.std.proofs.lemmas.List.Quantifiers.{position-Some}
 use Rattle.std.proofs.lemmas.Option.{slice_get_within, slice_get-get_or}
@@ -8,15 +8,14 @@ use Rattle.jm_model.specs.Meanings.{Meaning, IsCreated, IsHit}
 use Rattle.jm_events.specs.Names.{number_of}
 use Rattle.jm_earley.specs.Charts.{ChartsDefinition, ChartDefinition, IsChartOf}
 use Rattle.jm_machine.specs.declared.run.Run.{Run}
+use Rattle.jm_machine.specs.declared.run.Run.TheVariants.{Start, Barren, State, Parse}
 use Rattle.jm_machine.specs.declared.engine.Engine.{Engine}
 use Rattle.jm_machine.specs.declared.engine.Engine.TheVariants.{States, Parses}
-use Rattle.jm_machine.specs.declared.engine.Place.{Place}
-use Rattle.jm_machine.specs.declared.engine.Place.TheVariants.{State, Parse}
 use Rattle.jm_machine.specs.Engines.{letters_of_engine, IsPlaceOf, IsChartPlace, EngineHolds}
 use Rattle.jm_machine.specs.Formulas.{category_names, CategoryHolds}
-use Rattle.jm_machine.specs.Meanings.{RuleDefinition, IsNamedCategory, rules_meaning}
+use Rattle.jm_machine.specs.Meanings.{IsNamedCategory, rules_meaning}
 use Rattle.jm_machine.specs.RuleSets.{CompiledRules, IsRuleSet, IsHandledBy}
-use Rattle.jm_machine.specs.Runs.{has_letter, IsRunOf}
+use Rattle.jm_machine.specs.Runs.{IsRunOf, IsBegun, IsBarren}
 use Rattle.jm_machine.proofs.OptionLemmas.{some_more, looked_up}
 
 -- ---- groups and categories
@@ -41,75 +40,102 @@ groups_within names handlers groups bound same found = λ k d less.
 
 -- ---- a letter more
 
-some_letter : (w : List ℕ) → has_letter w ≡ true → 0 < length w
-some_letter [] e = absurd cc
-some_letter (d ∷ w) e = omega arith
+some_letter : (w : List ℕ) → w ≢ [] → 0 < length w
+some_letter [] some = absurd (some refl)
+some_letter (d ∷ w) some = omega arith
 
-not_empty : (w : List ℕ) → has_letter w ≡ true → w ≢ []
-not_empty [] e = absurd cc
-not_empty (d ∷ w) e = λ (none : d ∷ w ≡ []). absurd cc
+pub letter_there : (w : List ℕ) (e : ℕ) → (w ++ e ∷ []) ≢ []
+letter_there [] e = λ (none : e ∷ [] ≡ []). absurd cc
+letter_there (d ∷ w) e = λ (none : d ∷ (w ++ e ∷ []) ≡ []). absurd cc
 
-has_letter-push : (w : List ℕ) (e : ℕ) → has_letter (w ++ e ∷ []) ≡ true
-has_letter-push [] e = refl
-has_letter-push (d ∷ w) e = refl
+-- what follows a word with a letter doesn't change how it begins
+pub created_later : (m : Meaning) (w u : List ℕ) → w ≢ [] → IsCreated m w ↔ IsCreated m (w ++ u)
+created_later m [] u some = absurd (some refl)
+created_later m (d ∷ w) u some = (λ h. h, λ h. h)
 
--- the first letter of a word that has one stays the first
-pub created_later : (m : Meaning) (b : Bool) (w : List ℕ) (e : ℕ) → has_letter w ≡ true → (IsTrue b ↔ IsCreated m w) → IsTrue b ↔ IsCreated m (w ++ e ∷ [])
-created_later m b [] e some h = absurd cc
-created_later m b (d ∷ w) e some h = h
+pub begun_later : (r : CompiledRules) (w : List ℕ) (e : ℕ) → IsBegun r w → IsBegun r (w ++ e ∷ [])
+begun_later r w e h = (letter_there w e, (created_later (rules_meaning r.definition) w (e ∷ []) h.0).0 h.1)
 
--- a letter behind the empty word is the first
-pub created_first : (r : RuleDefinition) (b : Bool) (w : List ℕ) (e : ℕ) → has_letter w ≡ false → (IsTrue b ↔ ((r.creation ≡ []) ⊎ Contains r.creation e)) → IsTrue b ↔ IsCreated (rules_meaning r) (w ++ e ∷ [])
-created_first r b [] e none h = h
-created_first r b (d ∷ w) e none h = absurd cc
+pub barren_later : (r : CompiledRules) (w : List ℕ) (e : ℕ) → IsBarren r w → IsBarren r (w ++ e ∷ [])
+barren_later r w e h = (letter_there w e, λ created. h.1 ((created_later (rules_meaning r.definition) w (e ∷ []) h.0).1 created))
 
--- the place of a chart of a word is one of the word
-pub chart_place : (c : ChartsDefinition) (chart : ChartDefinition) (place : Place) (w : List ℕ) → IsChartPlace chart place → All (λ letter. letter < length c.params) w → IsChartOf c w chart → IsPlaceOf (Parses c) place w
-chart_place c chart (State s) w here below h = absurd here
+-- a run whose place is that of a word that began so is one of the word
+pub place_run : (r : CompiledRules) (run : Run) (w : List ℕ) → IsBegun r w → IsPlaceOf r.engine run w → IsRunOf r run w
+place_run r Start w begun h = by_engine r.engine h
+  where
+    by_engine : (e : Engine) → IsPlaceOf e Start w → w ≡ []
+    by_engine (States t) k = absurd k
+    by_engine (Parses c) k = absurd k
+place_run r Barren w begun h = by_engine r.engine h
+  where
+    by_engine : (e : Engine) → IsPlaceOf e Barren w → IsBarren r w
+    by_engine (States t) k = absurd k
+    by_engine (Parses c) k = absurd k
+place_run r (State s) w begun h = (begun, h)
+place_run r (Parse c) w begun h = (begun, h)
+
+-- the chart of a word is the place of it
+pub chart_place : (c : ChartsDefinition) (chart : ChartDefinition) (run : Run) (w : List ℕ) → IsChartPlace chart run → All (λ letter. letter < length c.params) w → IsChartOf c w chart → IsPlaceOf (Parses c) run w
 chart_place c chart (Parse b) w here below h = (below, subst (IsChartOf c w) (sym here) h)
+chart_place c chart Start w here below h = absurd here
+chart_place c chart Barren w here below h = absurd here
+chart_place c chart (State s) w here below h = absurd here
 
 -- a place is that of a word of letters that are there
-pub place_letters : (engine : Engine) (place : Place) (w : List ℕ) → IsPlaceOf engine place w → All (λ letter. letter < letters_of_engine engine) w
+pub place_letters : (engine : Engine) (run : Run) (w : List ℕ) → IsPlaceOf engine run w → All (λ letter. letter < letters_of_engine engine) w
 place_letters (States t) (State state) w h = h.0
 place_letters (States t) (Parse chart) w h = absurd h
+place_letters (States t) Start w h = absurd h
+place_letters (States t) Barren w h = absurd h
 place_letters (Parses c) (Parse chart) w h = h.0
 place_letters (Parses c) (State state) w h = absurd h
-
-pub next_run : (r : CompiledRules) (s : Run) (w : List ℕ) → IsRunOf r s w → (e : ℕ) (place : Place) (created : Bool) → (IsPlaceOf r.engine s.place w → IsPlaceOf r.engine place (w ++ e ∷ [])) → (IsTrue created ↔ IsCreated (rules_meaning r.definition) (w ++ e ∷ []))
-    → IsRunOf r (record { place = place; moved = true; created = created }) (w ++ e ∷ [])
-next_run r s w run e place created leads begun = record { place = leads run.place; moved = sym (has_letter-push w e); created = begun }
+place_letters (Parses c) Start w h = absurd h
+place_letters (Parses c) Barren w h = absurd h
 
 -- ---- what hits
 
-module _ (r : CompiledRules) (s : Run) (w : List ℕ) (set : IsRuleSet r) (run : IsRunOf r s w) where
-  -- what runs the property tells the categories that hold of the word
-  held : s.moved ≡ true → (category : ℕ) → category < length (category_names r.definition.formula) → EngineHolds r.engine category w ↔ CategoryHolds r.definition.formula (length r.definition.masks) category w
-  held moved category less =
-      subst (λ n. EngineHolds r.engine category w ↔ CategoryHolds r.definition.formula n category w) set.letters
-      (set.compiled w (place_letters r.engine s.place w run.place) (some_letter w (sym run.moved ∙ moved)) category less)
+some_within : {X : Type 0} (P : X → Type 0) (xs : List X) (k : ℕ) → IsSomeAnd (slice_get xs k) P → k < length xs
+some_within {X} P xs k h = by_case (slice_get xs k) refl h
+  where
+    by_case : (o : Option X) → slice_get xs k ≡ o → IsSomeAnd o P → k < length xs
+    by_case None at g = absurd g
+    by_case (Some x) at g = slice_get_within xs k x at
 
-  holds : s.moved ≡ true → (k : ℕ) → IsHandledBy r w k ↔ (rules_meaning r.definition).Holds w k
-  holds moved k = (
+module _ (r : CompiledRules) (set : IsRuleSet r) (w : List ℕ) (letters : All (λ letter. letter < letters_of_engine r.engine) w) (begun : IsBegun r w) where
+  -- what runs the property tells the categories that hold of the word
+  held : (category : ℕ) → category < length (category_names r.definition.formula) → EngineHolds r.engine category w ↔ CategoryHolds r.definition.formula (length r.definition.masks) category w
+  held category less =
+      subst (λ n. EngineHolds r.engine category w ↔ CategoryHolds r.definition.formula n category w) set.letters
+      (set.compiled w letters (some_letter w begun.0) category less)
+
+  holds : (k : ℕ) → IsHandledBy r w k ↔ (rules_meaning r.definition).Holds w k
+  holds k = (
     some_more _ (IsNamedCategory r.definition w) (slice_get r.definition.handlers k)
         (λ name at. some_more (λ category. EngineHolds r.engine category w) (λ category. CategoryHolds r.definition.formula (length r.definition.masks) category w)
-        (number_of (category_names r.definition.formula) name) (λ category found. (held moved category (number_within (category_names r.definition.formula) name category found)).0)),
+        (number_of (category_names r.definition.formula) name) (λ category found. (held category (number_within (category_names r.definition.formula) name category found)).0)),
     some_more (IsNamedCategory r.definition w) _ (slice_get r.definition.handlers k)
         (λ name at. some_more (λ category. CategoryHolds r.definition.formula (length r.definition.masks) category w) (λ category. EngineHolds r.engine category w)
-        (number_of (category_names r.definition.formula) name) (λ category found. (held moved category (number_within (category_names r.definition.formula) name category found)).1)),
+        (number_of (category_names r.definition.formula) name) (λ category found. (held category (number_within (category_names r.definition.formula) name category found)).1)),
   )
 
-  some_within : {X : Type 0} (P : X → Type 0) (xs : List X) (k : ℕ) → IsSomeAnd (slice_get xs k) P → k < length xs
-  some_within {X} P xs k h = by_case (slice_get xs k) refl h
-    where
-      by_case : (o : Option X) → slice_get xs k ≡ o → IsSomeAnd o P → k < length xs
-      by_case None at g = absurd g
-      by_case (Some x) at g = slice_get_within xs k x at
+  pub hit_handled : (k : ℕ) → IsHandledBy r w k ↔ IsHit (rules_meaning r.definition) w k
+  hit_handled k = (
+    λ handled.
+        let h = (holds k).0 handled in
+        (begun.0, begun.1, some_within (IsNamedCategory r.definition w) r.definition.handlers k h, h),
+    λ hit. (holds k).1 hit.3,
+  )
 
-  pub run_hits : (bits : ℕ) → s.moved ≡ true → s.created ≡ true → ((word : List ℕ) → IsPlaceOf r.engine s.place word → (k : ℕ) → IsBitSet bits k ↔ IsHandledBy r word k) → (k : ℕ) → IsBitSet bits k ↔ IsHit (rules_meaning r.definition) w k
-  run_hits bits moved created handled k =
-      let bit = handled w run.place k in (
-        λ set_bit.
-            let h = (holds moved k).0 (bit.0 set_bit) in
-            (not_empty w (sym run.moved ∙ moved), run.created.0 created, some_within (IsNamedCategory r.definition w) r.definition.handlers k h, h),
-        λ hit. bit.1 ((holds moved k).1 hit.3),
-      )
+-- the bits of the handlers of a run's words
+pub run_hits : (r : CompiledRules) (set : IsRuleSet r) (run : Run) (w : List ℕ) → IsBegun r w → IsPlaceOf r.engine run w → (bits : ℕ) → ((k : ℕ) → IsBitSet bits k ↔ IsHandledBy r w k) → (k : ℕ) → IsBitSet bits k ↔ IsHit (rules_meaning r.definition) w k
+run_hits r set run w begun place bits handled k =
+    let hit = hit_handled r set w (place_letters r.engine run w place) begun k in
+    let bit = handled k in
+    (λ b. hit.0 (bit.0 b), λ h. bit.1 (hit.1 h))
+
+-- a run of its own is that of the empty word, or of one that began otherwise; any other has a place
+pub run_split : (r : CompiledRules) (run : Run) (w : List ℕ) → (run ≡ Start → ⊥) → (run ≡ Barren → ⊥) → IsRunOf r run w → IsBegun r w × IsPlaceOf r.engine run w
+run_split r Start w start barren h = absurd (start refl)
+run_split r Barren w start barren h = absurd (barren refl)
+run_split r (State s) w start barren h = (h.0, h.1)
+run_split r (Parse c) w start barren h = (h.0, h.1)

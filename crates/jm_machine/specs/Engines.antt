@@ -1,13 +1,13 @@
 -- What runs a property, and where words lead in it.
-use Rattle.std.specs.Prelude.{ℕ, ◌≡◌, ◌<◌, ◌↔◌, List, All, length}
+use Rattle.std.specs.Prelude.{ℕ, ◌≡◌, ◌<◌, ◌↔◌, Bool, true, false, List, All, length}
 use Rattle.jm_table.specs.Tables.{IsWord, IsInGroup, state_after_of}
 use Rattle.jm_grammar.specs.Grammars.{GrammarDefinition}
 use Rattle.jm_grammar.specs.Derivations as grammar
 use Rattle.jm_earley.specs.Charts.{ChartDefinition, AreBelow, IsChartOf}
 use Rattle.jm_machine.specs.declared.engine.Engine.{Engine}
 use Rattle.jm_machine.specs.declared.engine.Engine.TheVariants.{States, Parses}
-use Rattle.jm_machine.specs.declared.engine.Place.{Place}
-use Rattle.jm_machine.specs.declared.engine.Place.TheVariants.{State, Parse}
+use Rattle.jm_machine.specs.declared.run.Run.{Run}
+use Rattle.jm_machine.specs.declared.run.Run.TheVariants.{State, Parse}
 use Rattle.jm_machine.specs.declared.formula.Formula.{Formula}
 use Rattle.jm_machine.specs.declared.formula.Formula.TheVariants.{Grammatical}
 use Rattle.jm_machine.specs.Formulas.{category_names, CategoryHolds, GrammarHolds}
@@ -21,16 +21,26 @@ abbrev pub categories_of_engine : Engine → ℕ
 categories_of_engine (States t) = length t.groups
 categories_of_engine (Parses c) = 2
 
--- the word leads to the place
-abbrev pub IsPlaceOf : Engine → Place → List ℕ → Type 0
+-- it is the charts of a grammar
+abbrev pub is_parsing : Engine → Bool
+is_parsing (States t) = false
+is_parsing (Parses c) = true
+
+-- charts know the letters by these parameters
+abbrev pub HasParams : List ℕ → Engine → Type 0
+HasParams masks (States t) = Unit {0}
+HasParams masks (Parses c) = c.params ≡ masks
+
+-- the word leads to the state, or to the chart
+abbrev pub IsPlaceOf : Engine → Run → List ℕ → Type 0
 IsPlaceOf (States t) (State s) word = IsWord t word × (s ≡ state_after_of t word)
 IsPlaceOf (Parses c) (Parse chart) word = All (λ letter. letter < length c.params) word × IsChartOf c word chart.value
 IsPlaceOf _ _ word = ⊥
 
--- the place has this chart
-abbrev pub IsChartPlace : ChartDefinition → Place → Type 0
-IsChartPlace chart (State s) = ⊥
+-- the run has this chart
+abbrev pub IsChartPlace : ChartDefinition → Run → Type 0
 IsChartPlace chart (Parse here) = here.value ≡ chart
+IsChartPlace chart _ = ⊥
 
 -- the category of this number holds of the word, by what runs the property
 abbrev pub EngineHolds : Engine → ℕ → List ℕ → Type 0

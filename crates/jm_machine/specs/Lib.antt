@@ -5,3 +5,5 @@ pub mod Compiling
 pub mod Engines
 pub mod RuleSets
 pub mod Runs
+pub mod Outlooks
+pub mod Known

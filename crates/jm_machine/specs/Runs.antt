@@ -1,18 +1,24 @@
 -- What a state of compiled rules stands for.
-use Rattle.std.specs.Prelude.{ℕ, ◌≡◌, ◌↔◌, Bool, true, false, List, [], ◌∷◌, IsTrue}
+use Rattle.std.specs.Prelude.{ℕ, ◌≡◌, ◌≢◌, List, []}
 use Rattle.jm_model.specs.Meanings.{IsCreated}
 use Rattle.jm_machine.specs.declared.run.Run.{Run}
+use Rattle.jm_machine.specs.declared.run.Run.TheVariants.{Start, Barren, State, Parse}
 use Rattle.jm_machine.specs.Meanings.{rules_meaning}
 use Rattle.jm_machine.specs.Engines.{IsPlaceOf}
 use Rattle.jm_machine.specs.RuleSets.{CompiledRules}
 
--- whether the word has a letter
-abbrev pub has_letter : List ℕ → Bool
-has_letter [] = false
-has_letter (e ∷ w) = true
+-- the word has a letter, and its first one may begin an instance's life
+abbrev pub IsBegun : CompiledRules → List ℕ → Type 0
+IsBegun r w = (w ≢ []) × IsCreated (rules_meaning r.definition) w
 
--- The run of a word: the place that it leads to, whether it has a letter, and whether it may begin an instance's life.
-pub record IsRunOf (r : CompiledRules) (s : Run) (w : List ℕ) : Type 0 where
-  pub place : IsPlaceOf r.engine s.place w
-  pub moved : s.moved ≡ has_letter w
-  pub created : IsTrue s.created ↔ IsCreated (rules_meaning r.definition) w
+-- the word has a letter, and its first one may not
+abbrev pub IsBarren : CompiledRules → List ℕ → Type 0
+IsBarren r w = (w ≢ []) × (IsCreated (rules_meaning r.definition) w → ⊥)
+
+-- the run of a word: that of the empty word, that of words that can't begin so, and those of the states and charts that the
+-- others lead to
+abbrev pub IsRunOf : CompiledRules → Run → List ℕ → Type 0
+IsRunOf r Start w = w ≡ []
+IsRunOf r Barren w = IsBarren r w
+IsRunOf r (State s) w = IsBegun r w × IsPlaceOf r.engine (State s) w
+IsRunOf r (Parse c) w = IsBegun r w × IsPlaceOf r.engine (Parse c) w

@@ -1,11 +1,13 @@
 //! What runs the property of a specification.
-ghost use Rattle.std.specs.Prelude.{ℕ, ◌≡◌, ◌<◌, ◌↔◌, ◌++◌, ◌∷◌, [], List, IsTrue, IfOk};
+ghost use Rattle.std.specs.Prelude.{ℕ, ◌≡◌, ◌<◌, ◌↔◌, ◌++◌, ◌∷◌, [], List, All, Some, IsTrue, IsBitSet, IsSomeAnd, IfOk, slice_get};
 ghost use Rattle.jm_table.specs.Tables.{IsTable, next_of, IsInGroup};
 ghost use Rattle.jm_earley.specs.Charts.{IsChartOf};
 ghost use Rattle.jm_machine.specs.Formulas.{GrammarHolds};
 ghost use Rattle.jm_machine.specs.Engines.{letters_of_engine, categories_of_engine, IsPlaceOf, IsChartPlace, EngineHolds};
 
+use crate::run::Run;
 use jm_earley::{Chart, Charts};
+use jm_goal::Goal;
 use jm_model::{Letter, NoMemory};
 use jm_table::Table;
 use std::alloc::Global;
@@ -19,90 +21,73 @@ pub enum Engine {
     Parses(Charts),
 }
 
-/// Where a word leads: a state, or the chart of the word. It takes no more room than a pointer and a mark.
-#[derive(Drop)]
-pub enum Place {
-    /// A state of the table.
-    State(u16),
-    /// A chart.
-    Parse(Box<Chart>),
-}
-
 impl Engine {
-    /// The place of the empty word.
-    pub(crate) fn begin(&self, alloc: Global) -> Result<Place, NoMemory>
-        ensures { IfOk result (λ place. IsPlaceOf self.now place []) }
+    /// A run of the same words.
+    pub(crate) fn copy(&self, alloc: Global, run: &Run) -> Result<Run, NoMemory>
+        ensures { IfOk result (λ copy. (word : List ℕ) → IsPlaceOf self.now run.now word → IsPlaceOf self.now copy word) }
     {
-        match self {
-            Engine::States(_) => Ok(Place::State(0)),
-            Engine::Parses(charts) => match charts.begin() {
-                Ok(chart) => place_of(alloc, chart),
-                Err(error) => Err(error),
-            },
+        match (self, run) {
+            (_, Run::State(state)) => Ok(Run::State(*state)),
+            (Engine::Parses(charts), Run::Parse(chart)) => run_of(alloc, charts.copy(chart)?),
+            _ => Ok(Run::Barren),
         }
     }
 
-    /// A place of the same words.
-    pub(crate) fn copy(&self, alloc: Global, place: &Place) -> Result<Place, NoMemory>
-        ensures { IfOk result (λ copy. (word : List ℕ) → IsPlaceOf self.now place.now word → IsPlaceOf self.now copy word) }
-    {
-        match (self, place) {
-            (_, Place::State(state)) => Ok(Place::State(*state)),
-            (Engine::Parses(charts), Place::Parse(chart)) => match charts.copy(chart) {
-                Ok(chart) => place_of(alloc, chart),
-                Err(error) => Err(error),
-            },
-            _ => Err(NoMemory),
-        }
-    }
-
-    /// The place of the words that have one letter more.
-    pub(crate) fn next(
-        &self,
-        alloc: Global,
-        place: &Place,
-        letter: Letter,
-    ) -> Result<Place, NoMemory>
+    /// The run of the words that have one letter more.
+    pub(crate) fn next(&self, alloc: Global, run: &Run, letter: Letter) -> Result<Run, NoMemory>
         requires { letter.0 < letters_of_engine self.now }
-        ensures { IfOk result (λ next. (word : List ℕ) → IsPlaceOf self.now place.now word → IsPlaceOf self.now next (word ++ letter.0 ∷ [])) }
+        ensures { IfOk result (λ next.
+            (word : List ℕ) → IsPlaceOf self.now run.now word → IsPlaceOf self.now next (word ++ letter.0 ∷ [])) }
     {
-        match (self, place) {
-            (Engine::States(table), Place::State(state)) => {
-                Ok(Place::State(next_state(table, *state, letter)))
+        match (self, run) {
+            (Engine::States(table), Run::State(state)) => {
+                Ok(Run::State(next_state(table, *state, letter)))
             }
-            (Engine::Parses(charts), Place::Parse(chart)) => match charts.next(chart, letter) {
-                Ok(chart) => place_of(alloc, chart),
-                Err(error) => Err(error),
-            },
-            _ => Err(NoMemory),
+            (Engine::Parses(charts), Run::Parse(chart)) => {
+                run_of(alloc, charts.next(chart, letter)?)
+            }
+            _ => Ok(Run::Barren),
         }
     }
 
-    /// Whether the category of this number holds of the words that lead to the place.
-    pub(crate) fn holds(&self, place: &Place, category: u16) -> bool
+    /// Whether the category of this number holds of the words of the run.
+    pub(crate) fn holds(&self, run: &Run, category: u16) -> bool
         requires { category < categories_of_engine self.now }
-        ensures { (word : List ℕ) → IsPlaceOf self.now place.now word → IsTrue result ↔ EngineHolds self.now category word }
+        ensures { (word : List ℕ) → IsPlaceOf self.now run.now word → IsTrue result ↔ EngineHolds self.now category word }
     {
-        match (self, place) {
-            (Engine::States(table), Place::State(state)) => is_in_group(table, *state, category),
-            (Engine::Parses(charts), Place::Parse(chart)) => parse_holds(charts, chart, category),
+        match (self, run) {
+            (Engine::States(table), Run::State(state)) => is_in_group(table, *state, category),
+            (Engine::Parses(charts), Run::Parse(chart)) => parse_holds(charts, chart, category),
             _ => false,
         }
     }
 }
 
-/// The place of a chart.
-fn place_of(alloc: Global, chart: Chart) -> Result<Place, NoMemory>
+/// The handlers whose category holds of the words of a run: bit k stands for handler k.
+pub(crate) fn handlers_at(goal: &Goal, engine: &Engine, run: &Run) -> u16
+    requires { All (λ group. group < categories_of_engine engine.now) goal.now.groups }
+    ensures { (word : List ℕ) → IsPlaceOf engine.now run.now word → (k : ℕ) →
+        IsBitSet result k ↔ IsSomeAnd (slice_get goal.now.groups k) (λ group. EngineHolds engine.now group word) }
+{
+    let mut hits = 0;
+    for handler in 0..goal.handlers() {
+        if engine.holds(run, goal.group(handler)) {
+            hits |= 1 << handler;
+        }
+    }
+    hits
+}
+
+/// The run of a chart.
+pub(crate) fn run_of(alloc: Global, chart: Chart) -> Result<Run, NoMemory>
     ensures { IfOk result (IsChartPlace chart) }
 {
-    match Box::new(alloc, chart) {
-        Ok(chart) => Ok(Place::Parse(chart)),
-        Err(_) => Err(NoMemory),
-    }
+    let chart = Box::new(alloc, chart)?;
+    Ok(Run::Parse(chart))
 }
 
 /// The state that a letter leads to, from a state of the table.
-fn next_state(table: &Table, state: u16, letter: Letter) -> u16
+pub(crate) fn next_state(table: &Table, state: u16, letter: Letter) -> u16
     requires { letter.0 < table.now.letters }
     ensures next { state < table.now.states → result ≡ next_of table.now state letter.0 }
     ensures table { IsTable table.now }
@@ -125,7 +110,8 @@ fn is_in_group(table: &Table, state: u16, group: u16) -> bool
 
 /// Whether a category of a grammar holds of the chart's words.
 fn parse_holds(charts: &Charts, chart: &Chart, category: u16) -> bool
-    ensures { (word : List ℕ) → IsChartOf charts.now word chart.now → IsTrue result ↔ GrammarHolds charts.now.grammar category word }
+    ensures { (word : List ℕ) → IsChartOf charts.now word chart.now →
+        IsTrue result ↔ GrammarHolds charts.now.grammar category word }
 {
     match category {
         0 => charts.matches(chart),

@@ -1,11 +1,11 @@
 //! The property of a specification, in whichever logic.
-ghost use Rattle.std.specs.Prelude.{ℕ, ◌≡◌, ◌≤◌, length, IfOk, IfErr};
+ghost use Rattle.std.specs.Prelude.{ℕ, ◌≡◌, ◌≤◌, length, map, IfOk, IfErr};
 ghost use Rattle.jm_model.specs.declared.fault.SpecFault.{SpecFault};
 ghost use Rattle.jm_text.specs.Spans.{LieWithin};
 ghost use Rattle.jm_table.specs.Explorations.{IfBad};
 ghost use Rattle.jm_earley.specs.Charts.{AreBelow};
-ghost use Rattle.jm_machine.specs.Formulas.{category_names, grammar_categories, IsReadAs, IsRefusedIn, IsTableFault};
-ghost use Rattle.jm_machine.specs.Engines.{letters_of_engine, categories_of_engine, HasLetters, IsParserOf, IsCompiled};
+ghost use Rattle.jm_machine.specs.Formulas.{category_names, grammar_categories, is_grammar, IsReadAs, IsRefusedIn, IsTableFault};
+ghost use Rattle.jm_machine.specs.Engines.{letters_of_engine, categories_of_engine, is_parsing, HasLetters, HasParams, IsParserOf, IsCompiled};
 
 use crate::engine::Engine;
 use jm_earley::Charts;
@@ -48,22 +48,22 @@ impl Formula {
         ensures err { IfErr result (λ e. IfBad e (IsRefusedIn bytes.now tokens.now tree.now.table tree.now.logic)) }
     {
         match tree.logic {
-            Logic::Fsm => match jm_fsm::read(alloc, bytes, tokens, line, &tree.table) {
-                Ok(machine) => Ok(Formula::Machine(machine)),
-                Err(error) => Err(error),
-            },
-            Logic::Ere => match jm_ere::read(alloc, bytes, tokens, line, &tree.table) {
-                Ok(expression) => Ok(Formula::Regular(expression)),
-                Err(error) => Err(error),
-            },
-            Logic::Ptltl => match jm_ptltl::read(alloc, bytes, tokens, line, &tree.table) {
-                Ok(past) => Ok(Formula::Temporal(past)),
-                Err(error) => Err(error),
-            },
-            Logic::Cfg => match jm_grammar::read(alloc, bytes, tokens, line, &tree.table) {
-                Ok(grammar) => Ok(Formula::Grammatical(grammar)),
-                Err(error) => Err(error),
-            },
+            Logic::Fsm => {
+                let machine = jm_fsm::read(alloc, bytes, tokens, line, &tree.table)?;
+                Ok(Formula::Machine(machine))
+            }
+            Logic::Ere => {
+                let expression = jm_ere::read(alloc, bytes, tokens, line, &tree.table)?;
+                Ok(Formula::Regular(expression))
+            }
+            Logic::Ptltl => {
+                let past = jm_ptltl::read(alloc, bytes, tokens, line, &tree.table)?;
+                Ok(Formula::Temporal(past))
+            }
+            Logic::Cfg => {
+                let grammar = jm_grammar::read(alloc, bytes, tokens, line, &tree.table)?;
+                Ok(Formula::Grammatical(grammar))
+            }
         }
     }
 
@@ -88,18 +88,16 @@ impl Formula {
         ensures letters { IfOk result (λ engine. letters_of_engine engine ≡ length events.now.events) }
         ensures groups { IfOk result (λ engine. categories_of_engine engine ≡ length (category_names self.now)) }
         ensures compiled { IfOk result (IsCompiled self.now) }
+        ensures kind { IfOk result (λ engine. is_parsing engine ≡ is_grammar self.now) }
+        ensures params { IfOk result (HasParams (map (λ e. e.mask) events.now.events)) }
         ensures settled { IfOk result (λ _. (fault : SpecFault) → IsTableFault self.now (length events.now.events) fault → ⊥) }
         ensures err { IfErr result (λ e. IfBad e (IsTableFault self.now (length events.now.events))) }
     {
-        let table = match self {
-            Formula::Machine(machine) => machine.compile(alloc, events),
-            Formula::Regular(expression) => expression.compile(alloc, events),
-            Formula::Temporal(past) => past.compile(alloc, events),
-            Formula::Grammatical(grammar) => return parses(alloc, grammar, events),
-        };
-        match table {
-            Ok(table) => Ok(Engine::States(table)),
-            Err(error) => Err(error),
+        match self {
+            Formula::Machine(machine) => Ok(Engine::States(machine.compile(alloc, events)?)),
+            Formula::Regular(expression) => Ok(Engine::States(expression.compile(alloc, events)?)),
+            Formula::Temporal(past) => Ok(Engine::States(past.compile(alloc, events)?)),
+            Formula::Grammatical(grammar) => parses(alloc, grammar, events),
         }
     }
 }
@@ -118,13 +116,10 @@ fn grammar_categories(alloc: Global) -> Result<Names, NoMemory>
 fn parses(alloc: Global, grammar: &Grammar, events: &EventTable) -> Result<Engine, SpecError>
     requires { AreBelow grammar.now.productions (length events.now.events) }
     ensures parses { IfOk result (IsParserOf grammar.now (length events.now.events)) }
+    ensures params { IfOk result (HasParams (map (λ e. e.mask) events.now.events)) }
     ensures err { IfErr result (λ e. e ≡ SpecError.NoMemory) }
 {
-    let Ok(reduced) = grammar.reduce() else {
-        return Err(SpecError::NoMemory);
-    };
-    let Ok(charts) = Charts::new(alloc, reduced, events) else {
-        return Err(SpecError::NoMemory);
-    };
+    let reduced = grammar.reduce()?;
+    let charts = Charts::new(alloc, reduced, events)?;
     Ok(Engine::Parses(charts))
 }

@@ -1,12 +1,10 @@
 //! What the rules of a specification are run for.
-ghost use Rattle.std.specs.Prelude.{ℕ, List, ◌≡◌, ◌<◌, ◌≤◌, ◌^◌, ◌-◌, ◌↔◌, All, Some, IsTrue, IsSomeAnd, IsBitSet, IfOk, IfErr, length, map, slice_get};
+ghost use Rattle.std.specs.Prelude.{ℕ, ◌≡◌, ◌<◌, ◌≤◌, ◌^◌, ◌-◌, ◌↔◌, All, Some, IsTrue, IsBitSet, IfOk, IfErr, length, map};
 ghost use Rattle.jm_events.specs.Names.{number_of};
 ghost use Rattle.jm_events.specs.Events.{IsCreation};
 ghost use Rattle.jm_machine.specs.Meanings.{must_bind_of};
-ghost use Rattle.jm_machine.specs.Engines.{categories_of_engine, IsPlaceOf, EngineHolds};
 ghost use Rattle.jm_machine.specs.RuleSets.{may_begin};
 
-use crate::engine::{Engine, Place};
 use crate::handlers::groups_of;
 use jm_events::{EventTable, Names};
 use jm_goal::Goal;
@@ -28,10 +26,7 @@ pub(crate) fn goal_of(
     ensures must_bind { IfOk result (λ goal. goal.must_bind ≡ must_bind_of tree.now.table tree.now.full_binding) }
     ensures err { IfErr result (λ e. e ≡ SpecError.NoMemory) }
 {
-    let groups = match groups_of(alloc, categories, handlers) {
-        Ok(groups) => groups,
-        Err(error) => return Err(error),
-    };
+    let groups = groups_of(alloc, categories, handlers)?;
     let must_bind = must_bind_of(&tree.table, tree.full_binding);
     Ok(Goal::new(groups, tree.table.creation(), must_bind))
 }
@@ -60,13 +55,12 @@ pub(crate) fn masks_of(alloc: Global, table: &EventTable) -> Result<Vec<u8>, Spe
     ensures value { IfOk result (λ masks. masks.items ≡ map (λ e. e.mask) table.now.events) }
     ensures few { IfOk result (λ masks. length masks.items ≤ 32) }
     ensures fit { IfOk result (λ masks. All (λ mask. mask < 2 ^ length table.now.parameters) masks.items) }
+    ensures bytes { IfOk result (λ masks. All (λ mask. mask < 256) masks.items) }
     ensures err { IfErr result (λ e. e ≡ SpecError.NoMemory) }
 {
     let mut masks = Vec::new(alloc);
     for letter in 0..table.letters() {
-        let Ok(()) = masks.push(table.mask(Letter(letter))) else {
-            return Err(SpecError::NoMemory);
-        };
+        masks.push(table.mask(Letter(letter)))?;
     }
     Ok(masks)
 }
@@ -78,18 +72,4 @@ pub(crate) fn may_begin(goal: &Goal, letter: Letter) -> bool
 {
     let creation = goal.creation();
     creation == 0 || creation & (1 << letter.0) != 0
-}
-
-/// The handlers whose category holds of the words that lead to a place: bit k stands for handler k.
-pub(crate) fn handlers_at(goal: &Goal, engine: &Engine, place: &Place) -> u16
-    requires { All (λ group. group < categories_of_engine engine.now) goal.now.groups }
-    ensures { (word : List ℕ) → IsPlaceOf engine.now place.now word → (k : ℕ) → IsBitSet result k ↔ IsSomeAnd (slice_get goal.now.groups k) (λ group. EngineHolds engine.now group word) }
-{
-    let mut hits = 0;
-    for handler in 0..goal.handlers() {
-        if engine.holds(place, goal.group(handler)) {
-            hits |= 1 << handler;
-        }
-    }
-    hits
 }

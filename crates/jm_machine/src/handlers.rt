@@ -63,9 +63,7 @@ fn distinct(alloc: Global, bytes: &[u8], handlers: &[HandlerText]) -> Result<Nam
             let line = handler.category.line;
             return Err(SpecError::Bad(SpecFault::DuplicateHandler { line }));
         }
-        let Ok(_) = names.add(name) else {
-            return Err(SpecError::NoMemory);
-        };
+        names.add(name)?;
     }
     Ok(names)
 }
@@ -123,9 +121,7 @@ pub(crate) fn groups_of(
         let Some(category) = categories.find(handlers.name(handler)) else {
             return Err(SpecError::NoMemory);
         };
-        let Ok(()) = groups.push(category as u16) else {
-            return Err(SpecError::NoMemory);
-        };
+        groups.push(category as u16)?;
     }
     Ok(groups)
 }

@@ -9,13 +9,16 @@
 mod engine;
 mod formula;
 mod goal;
+mod grammar_outlook;
 mod handlers;
 mod laws;
+mod outlook;
 mod ranges;
 mod rules;
 mod run;
+mod table_outlook;
 
-pub use engine::{Engine, Place};
+pub use engine::Engine;
 pub use formula::Formula;
 pub use laws::one_reading;
 pub use rules::Rules;

@@ -1,19 +1,21 @@
 //! The monitor of a specification.
-ghost use Rattle.std.specs.Prelude.{ℕ, ◌≡◌, ◌<◌, ◌≤◌, ◌^◌, ◌↔◌, ◌⊎◌, [], ◌∷◌, ◌++◌, List, All, Contains, Some, IsTrue, IsBitSet, IfOk, IfErr, length, slice_get};
+ghost use Rattle.std.specs.Prelude.{ℕ, ◌&&◌, codes, ◌≡◌, ◌<◌, ◌≤◌, ◌^◌, ◌↔◌, ◌⊎◌, [], ◌∷◌, ◌++◌, List, All, Contains, Some, None, true, false, IsTrue, IsSomeAnd, IsBitSet, IfOk, IfErr, length, map, slice_get};
+ghost use Rattle.std.specs.List.{list_any};
+ghost use Rattle.std.specs.Str.{bytes_eq};
 ghost use Rattle.jm_text.specs.Spans.{LieWithin};
 ghost use Rattle.jm_model.specs.declared.fault.SpecFault.{SpecFault};
-ghost use Rattle.jm_machine.specs.Formulas.{category_names};
-ghost use Rattle.jm_model.specs.Meanings.{IsCreated};
-ghost use Rattle.jm_machine.specs.Meanings.{rules_of, rules_meaning};
-ghost use Rattle.jm_machine.specs.Runs.{IsRunOf};
-ghost use Rattle.jm_machine.specs.Engines.{letters_of_engine, categories_of_engine, IsPlaceOf, IsCompiled};
+ghost use Rattle.jm_semantics.specs.Families.{IsFamily};
+ghost use Rattle.jm_machine.specs.Formulas.{category_names, is_grammar};
+ghost use Rattle.jm_machine.specs.Meanings.{rules_of, rules_meaning, is_failing_grammar};
+ghost use Rattle.jm_machine.specs.Engines.{letters_of_engine, categories_of_engine, is_parsing, HasParams, IsPlaceOf, IsCompiled};
 ghost use Rattle.jm_machine.specs.RuleSets.{IsRuleSet, IsHandledBy};
 ghost use Rattle.jm_machine.specs.Compiling.{IsCompiledFrom, IsNotCompiled};
 
-use crate::engine::{Engine, Place};
+use crate::engine::{Engine, handlers_at, next_state};
 use crate::formula::Formula;
-use crate::goal::{goal_of, handlers_at, masks_of, may_begin};
+use crate::goal::{goal_of, masks_of, may_begin};
 use crate::handlers::handled;
+use crate::outlook::Outlook;
 use crate::ranges::{line_before, range_of};
 use crate::run::Run;
 use jm_events::Names;
@@ -25,18 +27,33 @@ use std::alloc::Global;
 use std::marker::Model;
 
 /// The rules of a specification: the parameters of its events, its property, the categories that are handled, what it is run
-/// for, and what runs its property. Contracts see them as `CompiledRules`.
-#[derive(Drop)]
+/// for, what runs its property, and what may still follow. Contracts see them as `CompiledRules`.
 pub struct Rules {
     masks: Vec<u8>,
     formula: Formula,
     handlers: Names,
     goal: Goal,
     engine: Engine,
+    outlook: Outlook,
+}
+
+// Written out, so that a drop is one call wherever rules are let go.
+impl Drop for Rules {
+    fn drop(self) {
+        let Rules {
+            masks: _,
+            formula: _,
+            handlers: _,
+            goal: _,
+            engine: _,
+            outlook: _,
+        } = self;
+    }
 }
 
 impl Model for Rules {
     ghost use Rattle.jm_machine.specs.RuleSets.{CompiledRules, definition_of, IsRuleSet, IsGoalOf};
+    ghost use Rattle.jm_machine.specs.Known.{IsKnown};
 
     ghost Value = { CompiledRules };
 
@@ -48,7 +65,8 @@ impl Model for Rules {
 
     ghost view = { λ r. record { definition = definition_of r.masks.items r.formula r.handlers r.goal; engine = r.engine } };
 
-    ghost invariant = { λ r. IsGoalOf r.masks.items r.formula r.handlers r.goal × IsRuleSet (record { definition = definition_of r.masks.items r.formula r.handlers r.goal; engine = r.engine }) };
+    ghost invariant = { λ r. let d = definition_of r.masks.items r.formula r.handlers r.goal in
+        IsGoalOf r.masks.items r.formula r.handlers r.goal × IsRuleSet (record { definition = d; engine = r.engine }) × IsKnown d r.goal r.engine r.outlook };
 }
 
 impl Rules {
@@ -72,9 +90,7 @@ impl Rules {
         let text = range_of(tokens, tree.first, tree.last);
         let line = line_before(tokens, tree.first);
         let formula = Formula::read(alloc, bytes, text, line, tree)?;
-        let Ok(categories) = formula.categories(alloc) else {
-            return Err(SpecError::NoMemory);
-        };
+        let categories = formula.categories(alloc)?;
         let texts = tree.handlers.as_slice();
         let handlers = handled(alloc, bytes, tokens, &categories, texts)?;
         let engine = formula.compile(alloc, &tree.table)?;
@@ -96,24 +112,23 @@ impl Rules {
         requires letters { letters_of_engine engine ≡ length tree.now.table.events }
         requires groups { categories_of_engine engine ≡ length categories.now }
         requires compiled { IsCompiled formula engine }
+        requires kind { is_parsing engine ≡ is_grammar formula }
+        requires params { HasParams (map (λ e. e.mask) tree.now.table.events) engine }
         ensures rules { IfOk result (λ r. r.definition ≡ rules_of tree.now.table tree.now.full_binding formula handlers) }
         ensures fit { IfOk result (λ r. All (λ mask. mask < 2 ^ length tree.now.table.parameters) r.definition.masks) }
         ensures err { IfErr result (λ e. e ≡ SpecError.NoMemory) }
     {
-        let masks = match masks_of(alloc, &tree.table) {
-            Ok(masks) => masks,
-            Err(error) => return Err(error),
-        };
-        let goal = match goal_of(alloc, tree, categories, &handlers) {
-            Ok(goal) => goal,
-            Err(error) => return Err(error),
-        };
+        let masks = masks_of(alloc, &tree.table)?;
+        let goal = goal_of(alloc, tree, categories, &handlers)?;
+        let failing = is_failing(&formula, &handlers);
+        let outlook = Outlook::new(alloc, &engine, &goal, &tree.table, failing)?;
         Ok(Rules {
             masks,
             formula,
             handlers,
             goal,
             engine,
+            outlook,
         })
     }
 
@@ -132,12 +147,18 @@ impl Rules {
         self.handlers.name(handler as u32)
     }
 
-    /// The place that a letter leads to.
-    fn step(&self, place: &Place, letter: Letter) -> Result<Place, NoMemory>
+    /// The coenable family of a letter: the sets of parameters of the words that lead to a handled category from some word that
+    /// ends in the letter, in rising order. There is none for a grammar.
+    pub fn family(&self, letter: Letter) -> Result<Option<Vec<u8>>, NoMemory>
         requires { letter.0 < length self.now.definition.masks }
-        ensures next { IfOk result (λ next. (word : List ℕ) → IsPlaceOf self.now.engine place.now word → IsPlaceOf self.now.engine next (word ++ letter.0 ∷ [])) }
+        ensures family { is_grammar self.now.definition.formula ≡ false →
+            IfOk result (λ family. IsSomeAnd family (λ masks. IsFamily (rules_meaning self.now.definition) letter.0 masks.items)) }
+        ensures none { is_grammar self.now.definition.formula ≡ true → IfOk result (λ family. family ≡ None) }
     {
-        self.engine.next(*self.masks.allocator(), place, letter)
+        match &self.outlook {
+            Outlook::Table(outlook) => Ok(Some(outlook.family(letter)?)),
+            Outlook::Grammar(_) => Ok(None),
+        }
     }
 
     /// Whether a word may begin with the letter.
@@ -148,24 +169,51 @@ impl Rules {
         may_begin(&self.goal, letter)
     }
 
-    /// Whether the run's words with the letter at their end may begin an instance's life.
-    fn is_created(&self, state: &Run, letter: Letter) -> bool
+    /// The run of the word of one letter, with which words may begin.
+    fn first(&self, letter: Letter) -> Result<Run, NoMemory>
         requires { letter.0 < length self.now.definition.masks }
-        ensures { (word : List ℕ) → IsRunOf self.now state.now word → IsTrue result ↔ IsCreated (rules_meaning self.now.definition) (word ++ letter.0 ∷ []) }
+        ensures { IfOk result (λ run. IsPlaceOf self.now.engine run (letter.0 ∷ [])) }
     {
-        if state.moved {
-            state.created
-        } else {
-            self.may_begin(letter)
+        match (&self.engine, &self.outlook) {
+            (Engine::States(table), _) => {
+                Ok(Run::State(next_state(table, table.start(), letter)))
+            }
+            (Engine::Parses(charts), Outlook::Grammar(outlook)) => {
+                outlook.first(*self.masks.allocator(), charts, letter)
+            }
+            _ => unreachable!(),
         }
     }
 
-    /// The handlers whose categories hold of the words that lead to a place: bit k stands for handler k.
-    fn handlers_at(&self, place: &Place) -> u16
-        ensures hits { (word : List ℕ) → IsPlaceOf self.now.engine place.now word → (k : ℕ) → IsBitSet result k ↔ IsHandledBy self.now word k }
+    /// The run of the words that have one letter more, of which there is one already.
+    fn step(&self, run: &Run, letter: Letter) -> Result<Run, NoMemory>
+        requires { letter.0 < length self.now.definition.masks }
+        ensures { IfOk result (λ next. (word : List ℕ) →
+            IsPlaceOf self.now.engine run.now word → IsPlaceOf self.now.engine next (word ++ letter.0 ∷ [])) }
+    {
+        self.engine.next(*self.masks.allocator(), run, letter)
+    }
+
+    /// The handlers whose categories hold of the words of a run: bit k stands for handler k.
+    fn handlers_at(&self, run: &Run) -> u16
+        ensures hits { (word : List ℕ) → IsPlaceOf self.now.engine run.now word →
+            (k : ℕ) → IsBitSet result k ↔ IsHandledBy self.now word k }
         ensures rules { IsRuleSet self.now }
     {
-        handlers_at(&self.goal, &self.engine, place)
+        match (&self.outlook, run) {
+            (Outlook::Table(outlook), Run::State(state)) => outlook.hits(*state),
+            _ => handlers_at(&self.goal, &self.engine, run),
+        }
+    }
+}
+
+/// Whether the property is a grammar with a handler for `fail`.
+fn is_failing(formula: &Formula, handlers: &Names) -> bool
+    ensures { result ≡ (is_grammar formula.now && list_any (bytes_eq (codes "fail")) handlers.now) }
+{
+    match formula {
+        Formula::Grammatical(_) => handlers.find("fail").is_some(),
+        _ => false,
     }
 }
 
@@ -197,38 +245,56 @@ impl Monitor for Rules {
     }
 
     fn begin(&self) -> Result<Run, NoMemory> {
-        let place = self.engine.begin(*self.masks.allocator())?;
-        Ok(Run {
-            place,
-            moved: false,
-            created: true,
-        })
+        Ok(Run::Start)
     }
 
     fn copy(&self, state: &Run) -> Result<Run, NoMemory> {
-        let place = self.engine.copy(*self.masks.allocator(), &state.place)?;
-        Ok(Run {
-            place,
-            moved: state.moved,
-            created: state.created,
-        })
+        match state {
+            Run::Start => Ok(Run::Start),
+            Run::Barren => Ok(Run::Barren),
+            _ => self.engine.copy(*self.masks.allocator(), state),
+        }
     }
 
     fn next(&self, state: &Run, letter: Letter) -> Result<Run, NoMemory> {
-        let created = self.is_created(state, letter);
-        let place = self.step(&state.place, letter)?;
-        Ok(Run {
-            place,
-            moved: true,
-            created,
-        })
+        match state {
+            Run::Start if self.may_begin(letter) => self.first(letter),
+            Run::Start | Run::Barren => Ok(Run::Barren),
+            _ => self.step(state, letter),
+        }
     }
 
     fn hits(&self, state: &Run) -> u16 {
-        if state.moved && state.created {
-            self.handlers_at(&state.place)
-        } else {
-            0
+        match state {
+            Run::Start | Run::Barren => 0,
+            _ => self.handlers_at(state),
+        }
+    }
+
+    fn cut(&self, state: &Run, dead: u8) -> bool {
+        match (&self.outlook, &self.engine) {
+            (Outlook::Table(outlook), _) => !outlook.can_hit(state, dead),
+            (Outlook::Grammar(outlook), Engine::Parses(charts)) => {
+                outlook.is_cut(charts, &self.goal, self.masks.as_slice(), state, dead)
+            }
+            _ => unreachable!(),
+        }
+    }
+
+    fn idle(&self, state: &Run) -> u32 {
+        match (&self.outlook, state) {
+            (_, Run::Barren) => u32::MAX,
+            (Outlook::Table(outlook), Run::State(state)) => outlook.idle(*state),
+            _ => 0,
+        }
+    }
+
+    fn ending(&self, state: &Run) -> u32 {
+        match (&self.outlook, state) {
+            (Outlook::Table(_), Run::Barren) => u32::MAX,
+            (Outlook::Table(outlook), Run::Start) => outlook.first_ending(),
+            (Outlook::Table(outlook), Run::State(state)) => outlook.ending(*state),
+            _ => 0,
         }
     }
 }

@@ -1,13 +1,18 @@
 //! A state of the rules.
-use crate::engine::Place;
+use jm_earley::Chart;
 
-/// Where words lead in what runs the property, with what is known of these words.
+/// Where a word leads in the rules. It takes 16 bytes.
+///
+/// A run stands for words by `IsRunOf`. One that stands for no word, as a chart where the rules have a table, may be answered
+/// anything.
 #[derive(Drop)]
-pub struct Run {
-    /// The state, or the chart.
-    pub place: Place,
-    /// Whether a letter led here.
-    pub moved: bool,
-    /// Whether the first letter is a creation letter. It is set where there is none, and before the first letter.
-    pub created: bool,
+pub enum Run {
+    /// The run of the empty word.
+    Start,
+    /// The run of the words that begin with another letter than a creation letter, where there are creation letters.
+    Barren,
+    /// A state of the table.
+    State(u16),
+    /// A chart.
+    Parse(Box<Chart>),
 }

@@ -4,3 +4,7 @@ pub mod BucketLemmas
 pub mod ExplorationLemmas
 pub mod FollowLemmas
 pub mod WordLemmas
+pub mod ClassLemmas
+pub mod NumberLemmas
+pub mod SplitLemmas
+pub mod QuotientLemmas

@@ -3,3 +3,5 @@ pub mod Explorations
 pub mod Tables
 pub mod Buckets
 pub mod StateSets
+pub mod Minimal
+pub mod Partitions

@@ -9,6 +9,9 @@
 mod exploration;
 mod graph;
 mod known;
+mod minimise;
+mod partition;
+mod refinement;
 mod state_set;
 mod table;
 

@@ -79,6 +79,18 @@ impl Table {
         self.letters
     }
 
+    /// How many groups there are, at most 65,535.
+    pub(crate) fn group_count(&self) -> u16
+        ensures { result ≡ length self.now.groups }
+    {
+        self.groups.len() as u16
+    }
+
+    /// What memory is taken from.
+    pub(crate) fn allocator(&self) -> Global {
+        *self.next.allocator()
+    }
+
     /// The state that a letter leads to.
     pub fn next(&self, state: u16, letter: Letter) -> u16
         requires state { state < self.now.states }

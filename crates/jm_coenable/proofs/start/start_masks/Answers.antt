@@ -1,4 +1,4 @@
-use Rattle.std.proofs.Common.{ℕ, ◌≡◌, ◌↔◌, Contains, subst, ◌∙◌, arith}
+use Rattle.std.proofs.Common.{ℕ, ◌≡◌, ◌↔◌, Contains, subst, arith}
 use Rattle.jm_coenable.specs.Needs.{IsFirst}
 use Rattle.jm_coenable.specs.Searches.{IsStart, IsStep}
 use Rattle.jm_coenable.proofs.StartLemmas.{start_more}

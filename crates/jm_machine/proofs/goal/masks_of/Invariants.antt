@@ -6,4 +6,5 @@ abbrev pub invariant-loop-letter : goal.invariant-loop-letter
 invariant-loop-letter l = record {
   filled : l.masks.items ≡ map (λ e. e.mask) (take l.letter l.table.events);
   fit : All (λ mask. mask < 2 ^ length l.table.parameters) l.masks.items;
+  bytes : All (λ mask. mask < 256) l.masks.items;
 }

@@ -11,6 +11,6 @@ pub loop-handler-preserved : goal.loop-handler-preserved
 loop-handler-preserved c =
     let none = sym c.if-is_some.ensures in
     record {
-      named = rw c.in-Ok.ensures.ok (names_more c.args.bytes.now c.loop-handler.names c.args.handlers.now c.loop-handler.handler-index _ c.name_of-name.result.now c.find.result c.loop-handler-test.true c.name_of-name.ensures c.find.ensures.value none c.loop-handler.invariant.named);
-      rest = rw c.in-Ok.ensures.ok (new_here c.args.bytes.now c.loop-handler.names c.args.handlers.now c.loop-handler.handler-index _ c.name_of-name.result.now c.find.result c.loop-handler-test.true c.name_of-name.ensures c.find.ensures.value none ∙ c.loop-handler.invariant.rest);
+      named = rw c.in_ok-add.ensures.ok (names_more c.args.bytes.now c.loop-handler.names c.args.handlers.now c.loop-handler.handler-index _ c.name_of-name.result.now c.find.result c.loop-handler-test.true c.name_of-name.ensures c.find.ensures.value none c.loop-handler.invariant.named);
+      rest = rw c.in_ok-add.ensures.ok (new_here c.args.bytes.now c.loop-handler.names c.args.handlers.now c.loop-handler.handler-index _ c.name_of-name.result.now c.find.result c.loop-handler-test.true c.name_of-name.ensures c.find.ensures.value none ∙ c.loop-handler.invariant.rest);
     }

@@ -3,5 +3,5 @@ use Rattle.jm_machine.proofs.handlers.groups_of.Goals as goal
 
 pub loop-handler-preserved : goal.loop-handler-preserved
 loop-handler-preserved c =
-    rw c.in-Ok.ensures.items
+    rw c.in_ok-push.ensures.items
     (groups_more c.args.categories.now c.args.handlers.now c.loop-handler.handler c.loop-handler.groups.items c.name.result.now c.in-Some.category c.loop-handler.invariant c.name.ensures c.in-Some.ensures.value)

@@ -10,12 +10,12 @@ pub returns-in_err-handlers-clause-err : goal.returns-in_err-handlers-clause-err
 returns-in_err-handlers-clause-err c =
     let p = err_from_is_err_and c.from_residual-in_err-handlers.result c.from_residual-in_err-handlers.ensures.1 in
     rw (p.1, p.2)
-    (handlers_refused c.args.bytes.now c.args.tokens.now c.range_of-text.result.now c.args.tree.now c.in_ok-formula.formula c.range_of-text.ensures c.in_ok-formula.ensures.ok c.in-Ok.categories c.as_slice-texts.result.now _
-    c.in-Ok.ensures.value c.as_slice-texts.ensures.value c.in_err-handlers.ensures.checked)
+    (handlers_refused c.args.bytes.now c.args.tokens.now c.range_of-text.result.now c.args.tree.now c.in_ok-formula.formula c.range_of-text.ensures c.in_ok-formula.ensures.ok c.in_ok-categories.categories c.as_slice-texts.result.now _
+    c.in_ok-categories.ensures.value c.as_slice-texts.ensures.value c.in_err-handlers.ensures.checked)
 
 pub returns-in_err-engine-clause-err : goal.returns-in_err-engine-clause-err
 returns-in_err-engine-clause-err c =
     let p = err_from_is_err_and c.from_residual-in_err-engine.result c.from_residual-in_err-engine.ensures.1 in
     rw (p.1, p.2)
-    (table_refused c.args.bytes.now c.args.tokens.now c.range_of-text.result.now c.args.tree.now c.in_ok-formula.formula c.range_of-text.ensures c.in_ok-formula.ensures.ok c.in-Ok.categories c.as_slice-texts.result.now _
-    c.in-Ok.ensures.value c.as_slice-texts.ensures.value c.in_ok-handlers.ensures.checked c.in_err-engine.ensures.err)
+    (table_refused c.args.bytes.now c.args.tokens.now c.range_of-text.result.now c.args.tree.now c.in_ok-formula.formula c.range_of-text.ensures c.in_ok-formula.ensures.ok c.in_ok-categories.categories c.as_slice-texts.result.now _
+    c.in_ok-categories.ensures.value c.as_slice-texts.ensures.value c.in_ok-handlers.ensures.checked c.in_err-engine.ensures.err)

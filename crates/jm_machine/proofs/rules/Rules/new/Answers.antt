@@ -1,13 +1,28 @@
+use Rattle.std.proofs.Common.{sym, subst}
+use Rattle.jm_machine.specs.Engines.{HasParams, categories_of_engine}
+use Rattle.jm_machine.specs.Known.{IsOutlookOf}
 use Rattle.jm_machine.proofs.CompileLemmas.{made_rules, made_goal, made_set}
+use Rattle.jm_machine.proofs.RuleLemmas.{groups_within}
 use Rattle.jm_machine.proofs.rules.Rules.new.Goals as goal
+
+pub new-requires-clause-groups : goal.new-requires-clause-groups
+new-requires-clause-groups c = groups_within c.args.categories.now c.args.handlers c.in_ok-goal.goal.groups (categories_of_engine c.args.engine) c.requires.groups c.in_ok-goal.ensures.groups
 
 pub invariant_of-result : goal.invariant_of-result
 invariant_of-result c =
     let t = c.args.tree.now.table in (
-      made_goal t c.args.formula c.in-Ok.masks.items c.args.handlers c.in-Ok-goal_of.goal c.in-Ok.ensures.value c.in-Ok-goal_of.ensures.creation c.args.categories.now c.requires.categories c.in-Ok-goal_of.ensures.groups c.in-Ok.ensures.few,
-      made_set t c.args.formula c.in-Ok.masks.items c.args.handlers c.in-Ok-goal_of.goal c.in-Ok.ensures.value c.in-Ok-goal_of.ensures.creation c.args.categories.now c.args.engine c.requires.categories c.requires.letters c.requires.groups c.requires.compiled,
+      made_goal t c.args.formula c.in_ok-masks.masks.items c.args.handlers c.in_ok-goal.goal c.in_ok-masks.ensures.value c.in_ok-goal.ensures.creation c.args.categories.now c.requires.categories c.in_ok-goal.ensures.groups c.in_ok-masks.ensures.few,
+      made_set t c.args.formula c.in_ok-masks.masks.items c.args.handlers c.in_ok-goal.goal c.in_ok-masks.ensures.value c.in_ok-goal.ensures.creation c.args.categories.now c.args.engine c.requires.categories c.requires.letters c.requires.groups c.requires.compiled,
+      record {
+        events = t;
+        masks = c.in_ok-masks.ensures.value;
+        few = c.in_ok-masks.ensures.bytes;
+        kind = c.requires.kind;
+        bound = subst (λ masks. HasParams masks c.args.engine) (sym c.in_ok-masks.ensures.value) c.requires.params;
+        told = subst (λ failing. IsOutlookOf c.args.engine c.in_ok-goal.goal t failing c.in_ok-outlook.outlook) c.is_failing-failing.ensures c.in_ok-outlook.ensures;
+      },
     )
 
 pub returns-clause-rules : goal.returns-clause-rules
 returns-clause-rules c =
-    made_rules c.args.tree.now.table c.args.formula c.in-Ok.masks.items c.args.handlers c.in-Ok-goal_of.goal c.in-Ok.ensures.value c.in-Ok-goal_of.ensures.creation c.args.tree.now.full_binding c.in-Ok-goal_of.ensures.must_bind
+    made_rules c.args.tree.now.table c.args.formula c.in_ok-masks.masks.items c.args.handlers c.in_ok-goal.goal c.in_ok-masks.ensures.value c.in_ok-goal.ensures.creation c.args.tree.now.full_binding c.in_ok-goal.ensures.must_bind

@@ -1,0 +1,93 @@
+use jm_machine::{Rules, Run};
+use jm_model::{Letter, Monitor, NoMemory};
+use std::alloc::{AllocError, Global};
+
+/// For the empty word and after each letter, whether each set of dead parameters cuts the instance.
+pub(crate) fn cuts(
+    alloc: Global,
+    out: &mut String,
+    rules: &Rules,
+    word: &str,
+    dead: &str,
+) -> Result<(), AllocError> {
+    let Ok(mut run) = rules.begin() else {
+        return out.push_str("no memory");
+    };
+    add_cuts(out, rules, &run, dead)?;
+    for digit in word.bytes() {
+        let Ok(next) = later(rules, &run, digit) else {
+            return out.push_str("no memory");
+        };
+        run = next;
+        out.push_str(" ")?;
+        add_cuts(out, rules, &run, dead)?;
+    }
+    let _ = alloc;
+    Ok(())
+}
+
+/// The run with the letter of a digit at its end.
+fn later(rules: &Rules, run: &Run, digit: u8) -> Result<Run, NoMemory> {
+    let letter = digit.saturating_sub(b'0');
+    if letter < rules.letters() {
+        rules.next(run, Letter(letter))
+    } else {
+        rules.copy(run)
+    }
+}
+
+fn add_cuts(out: &mut String, rules: &Rules, run: &Run, dead: &str) -> Result<(), AllocError> {
+    for mask in dead.split_whitespace() {
+        let cut = rules.cut(run, mask.parse().unwrap_or(255));
+        out.push_str(if cut { "1" } else { "0" })?;
+    }
+    Ok(())
+}
+
+/// For the empty word and after each letter, the letters at which the instance rests, and those that end it.
+pub(crate) fn rests(
+    alloc: Global,
+    out: &mut String,
+    rules: &Rules,
+    word: &str,
+) -> Result<(), AllocError> {
+    let Ok(mut run) = rules.begin() else {
+        return out.push_str("no memory");
+    };
+    add_rests(alloc, out, rules, &run)?;
+    for digit in word.bytes() {
+        let Ok(next) = later(rules, &run, digit) else {
+            return out.push_str("no memory");
+        };
+        run = next;
+        out.push_str(" ")?;
+        add_rests(alloc, out, rules, &run)?;
+    }
+    Ok(())
+}
+
+fn add_rests(alloc: Global, out: &mut String, rules: &Rules, run: &Run) -> Result<(), AllocError> {
+    add_letters(alloc, out, rules, rules.idle(run))?;
+    out.push_str("/")?;
+    add_letters(alloc, out, rules, rules.ending(run))
+}
+
+/// The letters of a mask, as digits, or a dash where there is none.
+fn add_letters(
+    alloc: Global,
+    out: &mut String,
+    rules: &Rules,
+    mask: u32,
+) -> Result<(), AllocError> {
+    let before = out.len();
+    for letter in 0..rules.letters() {
+        if letter < 32 && mask & (1 << letter) != 0 {
+            let digit = format!(in alloc; "{letter}")?;
+            out.push_str(&digit)?;
+        }
+    }
+    if out.len() == before {
+        out.push_str("-")?;
+    }
+    Ok(())
+}

@@ -1,0 +1,28 @@
+use jm_machine::Rules;
+use jm_model::{Letter, Monitor};
+use std::alloc::{AllocError, Global};
+
+/// The coenable family of each letter, or that there is none.
+pub(crate) fn families(alloc: Global, out: &mut String, rules: &Rules) -> Result<(), AllocError> {
+    for letter in 0..rules.letters() {
+        if letter != 0 {
+            out.push_str(" ")?;
+        }
+        match rules.family(Letter(letter)) {
+            Ok(Some(masks)) => add_masks(alloc, out, masks.as_slice())?,
+            Ok(None) => out.push_str("none")?,
+            Err(_) => out.push_str("no memory")?,
+        }
+    }
+    Ok(())
+}
+
+fn add_masks(alloc: Global, out: &mut String, masks: &[u8]) -> Result<(), AllocError> {
+    out.push_str("[")?;
+    for (place, mask) in masks.iter().enumerate() {
+        let gap = if place == 0 { "" } else { " " };
+        let shown = format!(in alloc; "{gap}{mask}")?;
+        out.push_str(&shown)?;
+    }
+    out.push_str("]")
+}

@@ -1,0 +1,15 @@
+//! The cases of what may still follow: which dead parameters cut an instance after each letter of a word, the coenable
+//! families, and the letters at which an instance rests or ends.
+#![tactic(auto)]
+
+mod answer;
+mod cuts;
+mod families;
+mod rules;
+
+use answer::answer;
+use std::io;
+
+fn main(rt: HostRuntime) -> io::Result<()> {
+    cases::run(&rt, answer)
+}

@@ -1,0 +1,105 @@
+-- What may still follow the runs of compiled rules, as it is kept.
+use Rattle.std.specs.Prelude.{ℕ, ◌≡◌, ◌<◌, ◌↔◌, ◌⊎◌, Bool, List, [], ◌∷◌, Some, IsBitSet, IsSomeAnd, length, slice_get, slice_index}
+use Rattle.jm_events.specs.Events.{EventDefinitions}
+use Rattle.jm_goal.specs.Goals.{GoalDefinition}
+use Rattle.jm_table.specs.Tables.{Transitions, IsTable, next_of}
+use Rattle.jm_coenable.specs.Needs.{NeedSets, AreNeedsOf, IsAlive, IsNeededFrom, IsNeededAtStart}
+use Rattle.jm_grammar.specs.Derivations.{IsWord}
+use Rattle.jm_earley.specs.Charts.{ChartsDefinition, ChartDefinition, IsChartOf}
+use Rattle.jm_earley.specs.DeadSets.{IsAvailable}
+use Rattle.jm_earley.specs.Places.{IsAliveFor}
+use Rattle.jm_machine.specs.declared.run.Run.{Run}
+use Rattle.jm_machine.specs.declared.run.Run.TheVariants.{Start, State, Parse}
+use Rattle.jm_machine.specs.declared.engine.Engine.{Engine}
+use Rattle.jm_machine.specs.declared.engine.Engine.TheVariants.{States}
+use Rattle.jm_machine.specs.Engines.{IsPlaceOf, EngineHolds}
+use Rattle.jm_machine.specs.RuleSets.{may_begin}
+
+-- ---- of a table
+
+-- For each state the handlers that it hits, the letters that leave it as it is, and those that end an instance, each as a mask;
+-- the letters that end an instance of the empty word; and what is needed.
+pub record StateFacts : Type 0 where
+  pub hits : List ℕ
+  pub idle : List ℕ
+  pub ending : List ℕ
+  pub first_ending : ℕ
+  pub needs : NeedSets
+
+-- bit k of a state's mask is set where the category of handler k holds of the words that lead to the state
+abbrev pub AreHandlerMasks : Engine → GoalDefinition → List ℕ → Type 0
+AreHandlerMasks engine goal hits =
+    (state : ℕ) → state < length hits → (word : List ℕ) → IsPlaceOf engine (State state) word → (k : ℕ) →
+    IsBitSet (slice_index hits state) k ↔ IsSomeAnd (slice_get goal.groups k) (λ group. EngineHolds engine group word)
+
+-- the letter leaves the state as it is, which hits nothing
+pub record IsIdleLetter (t : Transitions) (hits : List ℕ) (state e : ℕ) : Type 0 where
+  pub letter : e < t.letters
+  pub stays : next_of t state e ≡ state
+  pub quiet : slice_index hits state ≡ 0
+
+-- the letter leads from the state to one that hits nothing, and from which no word leads to a handled one
+pub record IsEndingLetter (t : Transitions) (hits : List ℕ) (needs : NeedSets) (state e : ℕ) : Type 0 where
+  pub letter : e < t.letters
+  pub quiet : slice_index hits (next_of t state e) ≡ 0
+  pub ends : (u : Transitions) (g : GoalDefinition) (v : EventDefinitions) → AreNeedsOf u g v needs → IsAlive (IsNeededFrom u g v (next_of t state e)) 0 → ⊥
+
+-- words can't begin with the letter, or it leads from the start to such a state
+abbrev pub IsFirstEnding : Transitions → GoalDefinition → List ℕ → NeedSets → ℕ → Type 0
+IsFirstEnding t goal hits needs e = (e < t.letters) × ((may_begin goal e → ⊥) ⊎ IsEndingLetter t hits needs 0 e)
+
+abbrev pub AreIdle : Transitions → List ℕ → List ℕ → Type 0
+AreIdle t hits idle = (state e : ℕ) → state < t.states → IsBitSet (slice_index idle state) e → IsIdleLetter t hits state e
+
+abbrev pub AreEnding : Transitions → List ℕ → NeedSets → List ℕ → Type 0
+AreEnding t hits needs ending =
+    (state e : ℕ) → state < t.states → IsBitSet (slice_index ending state) e → IsEndingLetter t hits needs state e
+
+-- the facts of a table for this goal, whose letters are the events
+pub record AreFactsOf (t : Transitions) (goal : GoalDefinition) (events : EventDefinitions) (f : StateFacts) : Type 0 where
+  pub table : IsTable t
+  pub count : length f.hits ≡ t.states
+  pub hits : AreHandlerMasks (States t) goal f.hits
+  pub idle : AreIdle t f.hits f.idle
+  pub ending : AreEnding t f.hits f.needs f.ending
+  pub first_ending : (e : ℕ) → IsBitSet f.first_ending e → IsFirstEnding t goal f.hits f.needs e
+  pub needs : AreNeedsOf t goal events f.needs
+
+-- some word of one or more letters without a dead parameter leads from the run's state to a handled one; from the empty word it
+-- is one that may begin so
+abbrev pub CanHitFrom : Transitions → GoalDefinition → EventDefinitions → Run → ℕ → Type 0
+CanHitFrom t g v Start dead = IsAlive (IsNeededAtStart t g v) dead
+CanHitFrom t g v (State s) dead = (s < t.states) × IsAlive (IsNeededFrom t g v s) dead
+CanHitFrom t g v _ dead = ⊥
+
+-- ---- of a grammar
+
+-- The charts of the words of one letter, and whether `fail` is handled.
+pub record ParseFacts : Type 0 where
+  pub firsts : List ChartDefinition
+  pub failing : Bool
+
+-- chart e is that of the word of letter e alone
+pub record AreFirstCharts (c : ChartsDefinition) (firsts : List ChartDefinition) : Type 0 where
+  pub count : length firsts ≡ length c.params
+  pub each : (e : ℕ) (chart : ChartDefinition) → slice_get firsts e ≡ Some chart → IsChartOf c (e ∷ []) chart
+
+-- the word of letter e alone is in the language, or one that goes on with letters without a dead parameter is
+abbrev pub GoesOn : ChartsDefinition → ℕ → ℕ → Type 0
+GoesOn c dead e = IsWord c.grammar (e ∷ []) ⊎ IsAliveFor c.grammar c.params dead (e ∷ [])
+
+-- words may begin with letter e, which has no dead parameter, and go on so
+abbrev pub BeginsWith : ChartsDefinition → GoalDefinition → ℕ → ℕ → Type 0
+BeginsWith c goal dead e = may_begin goal e × IsAvailable c.params dead e × GoesOn c dead e
+
+-- the run is that of a word, so far as its chart tells
+abbrev pub IsParseOf : ChartsDefinition → Run → List ℕ → Type 0
+IsParseOf c (Parse chart) word = IsChartOf c word chart.value
+IsParseOf c _ word = Unit {0}
+
+-- some word of one or more letters without a dead parameter, put after the run's word, is in the language; after the empty word
+-- it is one that may begin so
+abbrev pub CanMatch : ChartsDefinition → GoalDefinition → Run → List ℕ → ℕ → Type 0
+CanMatch c goal Start word dead = (e : ℕ) × BeginsWith c goal dead e
+CanMatch c goal (Parse chart) word dead = IsAliveFor c.grammar c.params dead word
+CanMatch c goal _ word dead = ⊥

@@ -1,0 +1,177 @@
+//! What may still follow the charts of a grammar.
+ghost use Rattle.std.specs.Prelude.{ℕ, ◌≡◌, ◌≢◌, ◌<◌, ◌≤◌, ◌↔◌, ◌∷◌, [], List, true, false, IsTrue, IfOk, length};
+ghost use Rattle.jm_earley.specs.DeadSets.{IsAvailable};
+ghost use Rattle.jm_machine.specs.declared.engine.Engine.TheVariants.{Parses};
+ghost use Rattle.jm_machine.specs.Engines.{IsPlaceOf};
+ghost use Rattle.jm_machine.specs.Outlooks.{AreFirstCharts, BeginsWith, GoesOn, IsParseOf, CanMatch};
+
+use crate::engine::run_of;
+use crate::goal::may_begin;
+use crate::run::Run;
+use jm_earley::{Chart, Charts};
+use jm_goal::Goal;
+use jm_model::{Letter, NoMemory};
+use std::alloc::Global;
+use std::marker::Model;
+
+/// The charts of the words of one letter, and whether `fail` is handled. Contracts see it as its `ParseFacts`.
+pub(crate) struct GrammarOutlook {
+    firsts: Vec<Chart>,
+    failing: bool,
+}
+
+// Written out, so that a drop is one call.
+impl Drop for GrammarOutlook {
+    fn drop(self) {
+        let GrammarOutlook {
+            firsts: _,
+            failing: _,
+        } = self;
+    }
+}
+
+impl Model for GrammarOutlook {
+    ghost use Rattle.jm_machine.specs.Outlooks.{ParseFacts};
+
+    ghost Value = { ParseFacts };
+
+    ghost view = { λ o. record { firsts = o.firsts.items; failing = o.failing } };
+}
+
+impl GrammarOutlook {
+    /// The outlook of a grammar of so many letters.
+    pub(crate) fn new(
+        alloc: Global,
+        charts: &Charts,
+        letters: u8,
+        failing: bool,
+    ) -> Result<GrammarOutlook, NoMemory>
+        requires { letters ≡ length charts.now.params }
+        ensures firsts { IfOk result (λ o. AreFirstCharts charts.now o.firsts) }
+        ensures failing { IfOk result (λ o. o.failing ≡ failing) }
+    {
+        let firsts = first_charts(alloc, charts, letters)?;
+        Ok(GrammarOutlook { firsts, failing })
+    }
+
+    /// The run of the word of one letter.
+    pub(crate) fn first(
+        &self,
+        alloc: Global,
+        charts: &Charts,
+        letter: Letter,
+    ) -> Result<Run, NoMemory>
+        requires firsts { AreFirstCharts charts.now self.now.firsts }
+        requires letter { letter.0 < length self.now.firsts }
+        ensures { IfOk result (λ run. IsPlaceOf (Parses charts.now) run (letter.0 ∷ [])) }
+    {
+        let chart = charts.copy(&self.firsts[letter.0 as usize])?;
+        run_of(alloc, chart)
+    }
+
+    /// Whether an instance with this run can never fire again. Where `fail` is handled that is so only where no letter is without
+    /// a dead parameter. The masks are the parameters of the letters.
+    pub(crate) fn is_cut(
+        &self,
+        charts: &Charts,
+        goal: &Goal,
+        masks: &[u8],
+        run: &Run,
+        dead: u8,
+    ) -> bool
+        requires firsts { AreFirstCharts charts.now self.now.firsts }
+        requires masks { masks.now ≡ charts.now.params }
+        requires few { length masks.now ≤ 32 }
+        ensures failing { self.now.failing ≡ true →
+            IsTrue result ↔ ((e : ℕ) → IsAvailable charts.now.params dead e → ⊥) }
+        ensures matching { self.now.failing ≡ false → (word : List ℕ) → IsParseOf charts.now run.now word →
+            IsTrue result ↔ ((goal.now.groups ≢ []) × CanMatch charts.now goal.now run.now word dead → ⊥) }
+    {
+        if self.failing {
+            masks.iter().all(|mask| mask & dead != 0)
+        } else {
+            goal.handlers() == 0 || !self.can_match(charts, goal, masks, run, dead)
+        }
+    }
+
+    /// Whether some word of one or more letters without a dead parameter, put after the word of the run, is in the language.
+    /// After the empty word it is one that may begin so. The masks are the parameters of the letters.
+    pub(crate) fn can_match(
+        &self,
+        charts: &Charts,
+        goal: &Goal,
+        masks: &[u8],
+        run: &Run,
+        dead: u8,
+    ) -> bool
+        requires firsts { AreFirstCharts charts.now self.now.firsts }
+        requires masks { masks.now ≡ charts.now.params }
+        requires few { length masks.now ≤ 32 }
+        ensures { (word : List ℕ) → IsParseOf charts.now run.now word →
+            IsTrue result ↔ CanMatch charts.now goal.now run.now word dead }
+    {
+        match run {
+            Run::Start => self.can_begin(charts, goal, masks, dead),
+            Run::Parse(chart) => charts.alive(chart, dead),
+            _ => false,
+        }
+    }
+
+    /// Whether some word of letters without a dead parameter, which may begin so, is in the language.
+    fn can_begin(&self, charts: &Charts, goal: &Goal, masks: &[u8], dead: u8) -> bool
+        requires firsts { AreFirstCharts charts.now self.now.firsts }
+        requires masks { masks.now ≡ charts.now.params }
+        requires few { length masks.now ≤ 32 }
+        ensures { IsTrue result ↔ ((e : ℕ) × BeginsWith charts.now goal.now dead e) }
+    {
+        for letter in 0..masks.len() as u8 {
+            if self.begins_with(charts, goal, masks, Letter(letter), dead) {
+                return true;
+            }
+        }
+        false
+    }
+
+    /// Whether some word of letters without a dead parameter, which may begin so and begins with the letter, is in the language.
+    fn begins_with(
+        &self,
+        charts: &Charts,
+        goal: &Goal,
+        masks: &[u8],
+        letter: Letter,
+        dead: u8,
+    ) -> bool
+        requires firsts { AreFirstCharts charts.now self.now.firsts }
+        requires masks { masks.now ≡ charts.now.params }
+        requires few { length masks.now ≤ 32 }
+        requires letter { letter.0 < length masks.now }
+        ensures { IsTrue result ↔ BeginsWith charts.now goal.now dead letter.0 }
+    {
+        may_begin(goal, letter)
+            && masks[letter.0 as usize] & dead == 0
+            && self.goes_on(charts, letter, dead)
+    }
+
+    /// Whether the word of the letter alone is in the language, or one that goes on with letters without a dead parameter.
+    fn goes_on(&self, charts: &Charts, letter: Letter, dead: u8) -> bool
+        requires firsts { AreFirstCharts charts.now self.now.firsts }
+        requires letter { letter.0 < length self.now.firsts }
+        ensures { IsTrue result ↔ GoesOn charts.now dead letter.0 }
+    {
+        let chart = &self.firsts[letter.0 as usize];
+        charts.matches(chart) || charts.alive(chart, dead)
+    }
+}
+
+/// The charts of the words of one letter.
+fn first_charts(alloc: Global, charts: &Charts, letters: u8) -> Result<Vec<Chart>, NoMemory>
+    requires { letters ≡ length charts.now.params }
+    ensures { IfOk result (λ firsts. AreFirstCharts charts.now firsts.items) }
+{
+    let start = charts.begin()?;
+    let mut firsts = Vec::with_capacity(alloc, letters as usize)?;
+    for letter in 0..letters {
+        firsts.push(charts.next(&start, Letter(letter))?)?;
+    }
+    Ok(firsts)
+}

@@ -1,0 +1,288 @@
+//! What may still follow the states of a table.
+ghost use Rattle.std.specs.Prelude.{ℕ, ◌≡◌, ◌<◌, ◌↔◌, All, Contains, IsTrue, IsBitSet, IfOk, length, slice_index};
+ghost use Rattle.std.specs.List.Sorted.{IsStrictlySortedBy};
+ghost use Rattle.std.specs.Ordering.{nat_cmp};
+ghost use Rattle.jm_events.specs.Events.{EventDefinitions};
+ghost use Rattle.jm_goal.specs.Goals.{GoalDefinition};
+ghost use Rattle.jm_table.specs.Tables.{Transitions};
+ghost use Rattle.jm_coenable.specs.Needs.{AreFit, AreNeedsOf, IsAlive, IsNeededFrom, IsInFamily};
+ghost use Rattle.jm_machine.specs.declared.engine.Engine.TheVariants.{States};
+ghost use Rattle.jm_machine.specs.Engines.{categories_of_engine};
+ghost use Rattle.jm_machine.specs.Outlooks.{AreHandlerMasks, IsIdleLetter, IsEndingLetter, IsFirstEnding, AreIdle, AreEnding, AreFactsOf, CanHitFrom};
+
+use crate::engine::{Engine, handlers_at};
+use crate::goal::may_begin;
+use crate::run::Run;
+use jm_coenable::Needs;
+use jm_events::EventTable;
+use jm_goal::Goal;
+use jm_model::{Letter, NoMemory};
+use jm_table::Table;
+use std::alloc::Global;
+use std::marker::Model;
+
+/// For each state the handlers that it hits, the letters that leave it as it is, those that end an instance, and what is needed
+/// to be hit again. Contracts see it as its `StateFacts`.
+pub(crate) struct TableOutlook {
+    hits: Vec<u16>,
+    idle: Vec<u32>,
+    ending: Vec<u32>,
+    /// The letters that end an instance of the empty word.
+    first_ending: u32,
+    needs: Needs,
+}
+
+// Written out, so that a drop is one call.
+impl Drop for TableOutlook {
+    fn drop(self) {
+        let TableOutlook {
+            hits: _,
+            idle: _,
+            ending: _,
+            first_ending: _,
+            needs: _,
+        } = self;
+    }
+}
+
+impl Model for TableOutlook {
+    ghost use Rattle.std.specs.Prelude.{◌≡◌, length};
+    ghost use Rattle.jm_machine.specs.Outlooks.{StateFacts};
+
+    ghost Value = { StateFacts };
+
+    ghost view = { λ o. record {
+      hits = o.hits.items;
+      idle = o.idle.items;
+      ending = o.ending.items;
+      first_ending = o.first_ending;
+      needs = o.needs;
+    } };
+
+    ghost invariant = { λ o. length o.needs.alive ≡ length o.hits.items };
+}
+
+impl TableOutlook {
+    /// The outlook of a table for this goal; the engine is the table's.
+    pub(crate) fn new(
+        alloc: Global,
+        engine: &Engine,
+        table: &Table,
+        goal: &Goal,
+        events: &EventTable,
+    ) -> Result<TableOutlook, NoMemory>
+        requires engine { engine.now ≡ States table.now }
+        requires fit { AreFit table.now goal.now events.now }
+        ensures { IfOk result (AreFactsOf table.now goal.now events.now) }
+    {
+        let needs = Needs::new(alloc, table, goal, events)?;
+        let hits = handler_masks(alloc, goal, engine, table.len())?;
+        let idle = idle_masks(alloc, table, hits.as_slice())?;
+        let ending = ending_masks(alloc, table, hits.as_slice(), &needs)?;
+        let first_ending = first_ending(table, goal, hits.as_slice(), &needs);
+        Ok(TableOutlook {
+            hits,
+            idle,
+            ending,
+            first_ending,
+            needs,
+        })
+    }
+
+    /// The handlers that a state hits: bit k stands for handler k.
+    pub(crate) fn hits(&self, state: u16) -> u16
+        ensures { state < length self.now.hits → result ≡ slice_index self.now.hits state }
+    {
+        match self.hits.get(state as usize) {
+            Some(hits) => *hits,
+            None => 0,
+        }
+    }
+
+    /// The letters that leave a state as it is and hit nothing.
+    pub(crate) fn idle(&self, state: u16) -> u32
+        ensures { result ≡ slice_index self.now.idle state }
+    {
+        match self.idle.get(state as usize) {
+            Some(idle) => *idle,
+            None => 0,
+        }
+    }
+
+    /// The letters that end an instance.
+    pub(crate) fn ending(&self, state: u16) -> u32
+        ensures { result ≡ slice_index self.now.ending state }
+    {
+        match self.ending.get(state as usize) {
+            Some(ending) => *ending,
+            None => 0,
+        }
+    }
+
+    /// The letters that end an instance of the empty word.
+    pub(crate) fn first_ending(&self) -> u32
+        ensures { result ≡ self.now.first_ending }
+    {
+        self.first_ending
+    }
+
+    /// Whether some word of one or more letters without a dead parameter, put after the words of the run, hits a handler.
+    pub(crate) fn can_hit(&self, run: &Run, dead: u8) -> bool
+        ensures { (t : Transitions) (g : GoalDefinition) (v : EventDefinitions) → AreNeedsOf t g v self.now.needs →
+            IsTrue result ↔ CanHitFrom t g v run.now dead }
+    {
+        match run {
+            Run::Start => self.needs.alive_at_start(dead),
+            Run::State(state) => self.is_alive(*state, dead),
+            _ => false,
+        }
+    }
+
+    /// Whether some word of one or more letters without a dead parameter leads from the state to a handled one.
+    fn is_alive(&self, state: u16, dead: u8) -> bool
+        ensures { (t : Transitions) (g : GoalDefinition) (v : EventDefinitions) → AreNeedsOf t g v self.now.needs →
+            IsTrue result ↔ ((state < t.states) × IsAlive (IsNeededFrom t g v state) dead) }
+    {
+        (state as usize) < self.hits.len() && self.needs.alive(state, true, dead)
+    }
+
+    /// What is needed after a word that ends in the letter, in rising order.
+    pub(crate) fn family(&self, letter: Letter) -> Result<Vec<u8>, NoMemory>
+        requires { letter.0 < length self.now.needs.families }
+        ensures rising { IfOk result (λ masks. IsStrictlySortedBy nat_cmp masks.items) }
+        ensures exact { (t : Transitions) (g : GoalDefinition) (v : EventDefinitions) → AreNeedsOf t g v self.now.needs →
+            IfOk result (λ masks. (mask : ℕ) → mask < 256 → Contains masks.items mask ↔ IsInFamily t g v letter.0 mask) }
+        ensures few { IfOk result (λ masks. (mask : ℕ) → Contains masks.items mask → mask < 256) }
+    {
+        self.needs.family(letter)
+    }
+}
+
+/// The handlers that each state hits.
+fn handler_masks(
+    alloc: Global,
+    goal: &Goal,
+    engine: &Engine,
+    states: u16,
+) -> Result<Vec<u16>, NoMemory>
+    requires { All (λ group. group < categories_of_engine engine.now) goal.now.groups }
+    ensures count { IfOk result (λ masks. length masks.items ≡ states) }
+    ensures masks { IfOk result (λ masks. AreHandlerMasks engine.now goal.now masks.items) }
+{
+    let mut masks = Vec::with_capacity(alloc, states as usize)?;
+    for state in 0..states {
+        masks.push(handlers_at(goal, engine, &Run::State(state)))?;
+    }
+    Ok(masks)
+}
+
+/// The letters that leave each state as it is and hit nothing.
+fn idle_masks(alloc: Global, table: &Table, hits: &[u16]) -> Result<Vec<u32>, NoMemory>
+    requires { length hits.now ≡ table.now.states }
+    ensures { IfOk result (λ masks. AreIdle table.now hits.now masks.items) }
+{
+    let mut masks = Vec::with_capacity(alloc, hits.len())?;
+    for state in 0..table.len() {
+        masks.push(idle_letters(table, hits, state))?;
+    }
+    Ok(masks)
+}
+
+/// The letters that leave a state as it is and hit nothing.
+fn idle_letters(table: &Table, hits: &[u16], state: u16) -> u32
+    requires state { state < table.now.states }
+    requires count { length hits.now ≡ table.now.states }
+    ensures { (e : ℕ) → IsBitSet result e → IsIdleLetter table.now hits.now state e }
+{
+    let mut idle = 0;
+    for letter in 0..table.letters() {
+        if is_idle(table, hits, state, Letter(letter)) {
+            idle |= 1 << letter;
+        }
+    }
+    idle
+}
+
+/// Whether a letter leaves a state as it is and hits nothing.
+fn is_idle(table: &Table, hits: &[u16], state: u16, letter: Letter) -> bool
+    requires state { state < table.now.states }
+    requires count { length hits.now ≡ table.now.states }
+    requires letter { letter.0 < table.now.letters }
+    ensures { IsTrue result → IsIdleLetter table.now hits.now state letter.0 }
+{
+    hits[state as usize] == 0 && table.next(state, letter) == state
+}
+
+/// The letters that end an instance, for each state.
+fn ending_masks(
+    alloc: Global,
+    table: &Table,
+    hits: &[u16],
+    needs: &Needs,
+) -> Result<Vec<u32>, NoMemory>
+    requires count { length hits.now ≡ table.now.states }
+    requires needs { length needs.now.alive ≡ table.now.states }
+    ensures { IfOk result (λ masks. AreEnding table.now hits.now needs.now masks.items) }
+{
+    let mut masks = Vec::with_capacity(alloc, hits.len())?;
+    for state in 0..table.len() {
+        masks.push(ending_letters(table, hits, needs, state))?;
+    }
+    Ok(masks)
+}
+
+/// The letters that end an instance whose words lead to a state.
+fn ending_letters(table: &Table, hits: &[u16], needs: &Needs, state: u16) -> u32
+    requires state { state < table.now.states }
+    requires count { length hits.now ≡ table.now.states }
+    requires needs { length needs.now.alive ≡ table.now.states }
+    ensures { (e : ℕ) → IsBitSet result e → IsEndingLetter table.now hits.now needs.now state e }
+{
+    let mut ending = 0;
+    for letter in 0..table.letters() {
+        if is_ending(table, hits, needs, state, Letter(letter)) {
+            ending |= 1 << letter;
+        }
+    }
+    ending
+}
+
+/// Whether a letter leads from a state to one that hits nothing, and from which nothing is hit.
+fn is_ending(table: &Table, hits: &[u16], needs: &Needs, state: u16, letter: Letter) -> bool
+    requires state { state < table.now.states }
+    requires count { length hits.now ≡ table.now.states }
+    requires needs { length needs.now.alive ≡ table.now.states }
+    requires letter { letter.0 < table.now.letters }
+    ensures { IsTrue result → IsEndingLetter table.now hits.now needs.now state letter.0 }
+{
+    let next = table.next(state, letter);
+    hits[next as usize] == 0 && !needs.alive(next, true, 0)
+}
+
+/// The letters that end an instance of the empty word: words can't begin with them, or they end one at the start.
+fn first_ending(table: &Table, goal: &Goal, hits: &[u16], needs: &Needs) -> u32
+    requires count { length hits.now ≡ table.now.states }
+    requires needs { length needs.now.alive ≡ table.now.states }
+    ensures { (e : ℕ) → IsBitSet result e → IsFirstEnding table.now goal.now hits.now needs.now e }
+{
+    let mut ending = 0;
+    for letter in 0..table.letters() {
+        if is_first_ending(table, goal, hits, needs, Letter(letter)) {
+            ending |= 1 << letter;
+        }
+    }
+    ending
+}
+
+/// Whether words can't begin with a letter, or it ends an instance at the start.
+fn is_first_ending(table: &Table, goal: &Goal, hits: &[u16], needs: &Needs, letter: Letter) -> bool
+    requires count { length hits.now ≡ table.now.states }
+    requires needs { length needs.now.alive ≡ table.now.states }
+    requires letter { letter.0 < table.now.letters }
+    ensures { IsTrue result → IsFirstEnding table.now goal.now hits.now needs.now letter.0 }
+{
+    let start = table.start();
+    // A table has few letters: the proof learns it from the call.
+    letter.0 < table.letters()
+        && (!may_begin(goal, letter) || is_ending(table, hits, needs, start, letter))
+}

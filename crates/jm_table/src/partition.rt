@@ -1,0 +1,100 @@
+ghost use Rattle.std.specs.Prelude.{ℕ, ◌≡◌, ◌<◌, ◌≤◌, ◌+◌, ◌*◌, ◌↔◌, IsTrue, IfOk, OnOk, length, slice_index};
+ghost use Rattle.jm_table.specs.Partitions.{IsPartition, IsKnown, AreGiven, FitClasses, AreNumbered};
+
+use jm_model::NoMemory;
+use std::alloc::Global;
+
+/// Classes of the states of a table.
+#[derive(Drop)]
+pub(crate) struct Partition {
+    /// The class of each state.
+    pub(crate) classes: Vec<u16>,
+    /// A state of each class; that of class 0 is the start.
+    pub(crate) firsts: Vec<u16>,
+}
+
+impl Partition {
+    /// One class of all states.
+    pub(crate) fn whole(alloc: Global, states: u16) -> Result<Partition, NoMemory>
+        requires { 0 < states }
+        ensures partition { IfOk result (λ p. IsPartition states p.classes.items p.firsts.items) }
+        ensures one { IfOk result (λ p. (state : ℕ) → state < states → slice_index p.classes.items state ≡ 0) }
+    {
+        let mut firsts = Vec::new(alloc);
+        firsts.push(0)?;
+        let classes = vec![in alloc; 0u16; states as usize]?;
+        Ok(Partition { classes, firsts })
+    }
+
+    /// Makes classes of the states that have one key. A key that is the number of a class keeps this number, and keys
+    /// of other numbers get the next ones in the order of their states.
+    pub(crate) fn split(&mut self, alloc: Global, keys: &[u16]) -> Result<(), NoMemory>
+        requires partition { IsPartition (length keys.now) self.old.classes.items self.old.firsts.items }
+        requires fit { FitClasses (length keys.now) self.old.firsts.items keys.now }
+        requires few { length keys.now ≤ 1024 }
+        ensures { OnOk result (AreNumbered (length keys.now) keys.now self.old.firsts.items self.new.classes.items self.new.firsts.items) }
+    {
+        let mut numbers = numbers_below(alloc, 2 * self.firsts.len() as u16)?;
+        for state in 0..keys.len() {
+            let number = number_of(&mut self.firsts, &mut numbers, keys, state)?;
+            self.classes[state] = number;
+        }
+        Ok(())
+    }
+}
+
+/// The numbers below this one.
+fn numbers_below(alloc: Global, end: u16) -> Result<Vec<u16>, NoMemory>
+    ensures count { IfOk result (λ numbers. length numbers.items ≡ end) }
+    ensures each { IfOk result (λ numbers. (k : ℕ) → k < end → slice_index numbers.items k ≡ k) }
+{
+    let mut numbers = Vec::with_capacity(alloc, end as usize)?;
+    for number in 0..end {
+        numbers.push(number)?;
+    }
+    Ok(numbers)
+}
+
+/// The number of a state's key, which is a new one where the key has none.
+///
+/// What stands in `numbers` at a key counts only where that number's first state has the key.
+fn number_of(
+    firsts: &mut Vec<u16>,
+    numbers: &mut Vec<u16>,
+    keys: &[u16],
+    state: usize,
+) -> Result<u16, NoMemory>
+    requires state { state < length keys.now }
+    requires few { length keys.now ≤ 1024 }
+    requires room { length firsts.old.items < 2048 }
+    requires key { slice_index keys.now state < length numbers.old.items }
+    requires given { AreGiven (length keys.now) keys.now numbers.old.items firsts.old.items }
+    ensures known { IfOk result (IsKnown keys.now numbers.new.items firsts.new.items (slice_index keys.now state)) }
+    ensures kept { OnOk result ((key number : ℕ) → IsKnown keys.now numbers.old.items firsts.old.items key number
+        → IsKnown keys.now numbers.new.items firsts.new.items key number) }
+    ensures given { OnOk result (AreGiven (length keys.now) keys.now numbers.new.items firsts.new.items) }
+    ensures firsts { OnOk result ((c : ℕ) → c < length firsts.old.items → slice_index firsts.new.items c ≡ slice_index firsts.old.items c) }
+    ensures grown { OnOk result ((length firsts.old.items ≤ length firsts.new.items) × (length firsts.new.items ≤ length firsts.old.items + 1)) }
+    ensures numbers { OnOk result (length numbers.new.items ≡ length numbers.old.items) }
+{
+    let key = keys[state];
+    let number = numbers[key as usize];
+    if is_number_of(firsts, keys, number, key) {
+        return Ok(number);
+    }
+    let number = firsts.len() as u16;
+    firsts.push(state as u16)?;
+    numbers[key as usize] = number;
+    Ok(number)
+}
+
+/// Whether the number is there, and its first state has the key.
+fn is_number_of(firsts: &[u16], keys: &[u16], number: u16, key: u16) -> bool
+    requires { (c : ℕ) → c < length firsts.now → slice_index firsts.now c < length keys.now }
+    ensures { IsTrue result ↔ ((number < length firsts.now) × (slice_index keys.now (slice_index firsts.now number) ≡ key)) }
+{
+    if number as usize >= firsts.len() {
+        return false;
+    }
+    keys[firsts[number as usize] as usize] == key
+}
