@@ -14,7 +14,7 @@ use Rattle.jm_spec.specs.declared.property.HandlerText.{HandlerText}
 use Rattle.jm_spec.specs.declared.tree.SpecTree.{SpecTree}
 use Rattle.jm_machine.specs.declared.formula.Formula.{Formula}
 use Rattle.jm_machine.specs.declared.engine.Engine.{Engine}
-use Rattle.jm_machine.specs.Engines.{letters_of_engine, categories_of_engine, IsCompiled}
+use Rattle.jm_machine.specs.Engines.{letters_of_engine, categories_of_engine, IsCompiled, IsMinimal}
 use Rattle.jm_machine.specs.Formulas.{category_names, IsReadAs, IsTableFault}
 use Rattle.jm_machine.specs.Handlers.{handlers_fault}
 use Rattle.jm_machine.specs.Meanings.{must_bind_of, rules_of}
@@ -40,12 +40,13 @@ module _ (t : EventDefinitions) (formula : Formula) (masks : List ℕ) (handlers
     groups = subst (λ cs. map {A = ℕ} {B = Option ℕ} Some goal.groups ≡ map (number_of cs) handlers) named groups;
   }
 
-  pub made_set : (categories : List (List ℕ)) (engine : Engine) → categories ≡ category_names formula → letters_of_engine engine ≡ length t.events → categories_of_engine engine ≡ length categories → IsCompiled formula engine
+  pub made_set : (categories : List (List ℕ)) (engine : Engine) → categories ≡ category_names formula → letters_of_engine engine ≡ length t.events → categories_of_engine engine ≡ length categories → IsCompiled formula engine → IsMinimal engine
       → IsRuleSet (record { definition = definition_of masks formula handlers goal; engine = engine })
-  made_set categories engine named letters groups compiled = record {
+  made_set categories engine named letters groups compiled minimal = record {
     letters = letters ∙ sym masks_each;
     categories = groups ∙ ap length named;
     compiled = compiled;
+    minimal = minimal;
   }
 
 -- ---- the faults

@@ -1,9 +1,10 @@
 -- What runs a formula tells its categories.
-use Rattle.std.proofs.Common.{[], ◌∷◌, map, length-append, ◌≡◌, ℕ, zero, suc, ◌<◌, List, ◌++◌, length, refl, subst, arith}
-use Rattle.std.specs.Prelude.{◌↔◌, All, Contains, codes}
+use Rattle.std.proofs.Common.{[], ◌∷◌, map, length-append, ◌≡◌, ℕ, zero, suc, ◌<◌, List, ◌++◌, length, Result, Ok, Err, refl, sym, subst, arith}
+use Rattle.std.specs.Prelude.{◌↔◌, All, Contains, IfOk, codes}
 use Rattle.std.proofs.lemmas.List.{length-map}
 use Rattle.std.proofs.lemmas.List.Elements.{All-weaker, All-contains, All-contains_itself}
 use Rattle.jm_model.specs.declared.step.Letter.{Letter as LetterType}
+use Rattle.jm_model.specs.declared.fault.SpecError.{SpecError}
 use Rattle.jm_text.specs.declared.token.Token.{Token}
 use Rattle.jm_events.specs.Events.{EventDefinitions}
 use Rattle.jm_table.specs.Tables.{Transitions, IsWord, IsInGroup, state_after_of}
@@ -26,8 +27,8 @@ use Rattle.jm_machine.specs.declared.formula.Formula.{Formula}
 use Rattle.jm_machine.specs.declared.formula.Formula.TheVariants.{Machine, Regular, Temporal, Grammatical}
 use Rattle.jm_machine.specs.declared.engine.Engine.{Engine}
 use Rattle.jm_machine.specs.declared.engine.Engine.TheVariants.{States, Parses}
-use Rattle.jm_machine.specs.Formulas.{IsReadAs, ExpressionHolds, PastHolds, GrammarHolds}
-use Rattle.jm_machine.specs.Engines.{letters_of_engine, categories_of_engine, HasLetters, IsParserOf, IsCompiled}
+use Rattle.jm_machine.specs.Formulas.{IsReadAs, CategoryHolds, ExpressionHolds, PastHolds, GrammarHolds}
+use Rattle.jm_machine.specs.Engines.{letters_of_engine, categories_of_engine, EngineHolds, HasLetters, IsParserOf, IsCompiled}
 
 pub machine_count : (m : fsm.StateMachine) → length (fsm.category_names m) ≡ fsm.category_count m
 machine_count m =
@@ -59,6 +60,16 @@ temporal_at f t word (suc (suc category)) h below some less = absurd (omega (ari
 
 pub temporal_compiled : (f : past.Formula LetterType) (t : Transitions) → past_tables.IsCompiled f t → IsCompiled (Temporal f) (States t)
 temporal_compiled f t h = λ word below some category less. temporal_at f t word category h below some less
+
+-- what is compiled is so by a table with the same groups after each word
+pub compiled_by : (formula : Formula) (t : Transitions) (r : Result Engine SpecError) → IsCompiled formula (States t) → IfOk r (λ e. letters_of_engine e ≡ t.letters)
+    → IfOk r (λ e. (word : List ℕ) → IsWord t word → (category : ℕ) → EngineHolds e category word ↔ IsInGroup t (state_after_of t word) category) → IfOk r (IsCompiled formula)
+compiled_by formula t (Err x) compiled letters same = tt
+compiled_by formula t (Ok e) compiled letters same = λ word below some category less.
+    let w : IsWord t word = subst (λ (n : ℕ). All (λ x. x < n) word) letters below in
+    let s = same word w category in
+    let h = compiled word w some category less in
+    subst (λ (n : ℕ). EngineHolds e category word ↔ CategoryHolds formula n category word) (sym letters) (λ at. h.0 (s.0 at), λ holds. s.1 (h.1 holds))
 
 grammar_at : (g h : GrammarDefinition) (word : List ℕ) (category : ℕ) → ((w : List ℕ) → grammar.IsWord h w ↔ grammar.IsWord g w) → GrammarHolds h category word ↔ GrammarHolds g category word
 grammar_at g h word zero same = same word

@@ -1,6 +1,7 @@
 -- What runs a property, and where words lead in it.
 use Rattle.std.specs.Prelude.{ℕ, ◌≡◌, ◌<◌, ◌↔◌, Bool, true, false, List, All, length}
 use Rattle.jm_table.specs.Tables.{IsWord, IsInGroup, state_after_of}
+use Rattle.jm_table.specs.Minimal.{IsReduced}
 use Rattle.jm_grammar.specs.Grammars.{GrammarDefinition}
 use Rattle.jm_grammar.specs.Derivations as grammar
 use Rattle.jm_earley.specs.Charts.{ChartDefinition, AreBelow, IsChartOf}
@@ -25,6 +26,11 @@ categories_of_engine (Parses c) = 2
 abbrev pub is_parsing : Engine → Bool
 is_parsing (States t) = false
 is_parsing (Parses c) = true
+
+-- no two states of a table agree in groups after all words
+abbrev pub IsMinimal : Engine → Type 0
+IsMinimal (States t) = IsReduced t
+IsMinimal (Parses c) = Unit {0}
 
 -- charts know the letters by these parameters
 abbrev pub HasParams : List ℕ → Engine → Type 0

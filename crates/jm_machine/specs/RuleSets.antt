@@ -6,7 +6,7 @@ use Rattle.jm_goal.specs.Goals.{GoalDefinition}
 use Rattle.jm_machine.specs.declared.formula.Formula.{Formula}
 use Rattle.jm_machine.specs.declared.engine.Engine.{Engine}
 use Rattle.jm_machine.specs.Formulas.{category_names}
-use Rattle.jm_machine.specs.Engines.{letters_of_engine, categories_of_engine, EngineHolds, IsCompiled}
+use Rattle.jm_machine.specs.Engines.{letters_of_engine, categories_of_engine, EngineHolds, IsCompiled, IsMinimal}
 use Rattle.jm_machine.specs.Meanings.{RuleDefinition}
 
 -- the rules, and what runs their property
@@ -14,11 +14,12 @@ pub record CompiledRules : Type 0 where
   pub definition : RuleDefinition
   pub engine : Engine
 
--- it runs the property, with a letter for each mask, and knows each category
+-- it runs the property, with a letter for each mask, knows each category, and a table of it is minimal
 pub record IsRuleSet (r : CompiledRules) : Type 0 where
   pub letters : letters_of_engine r.engine ≡ length r.definition.masks
   pub categories : categories_of_engine r.engine ≡ length (category_names r.definition.formula)
   pub compiled : IsCompiled r.definition.formula r.engine
+  pub minimal : IsMinimal r.engine
 
 -- ---- the rules that a goal says
 

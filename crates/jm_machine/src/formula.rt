@@ -1,11 +1,12 @@
 //! The property of a specification, in whichever logic.
-ghost use Rattle.std.specs.Prelude.{ℕ, ◌≡◌, ◌≤◌, length, map, IfOk, IfErr};
+ghost use Rattle.std.specs.Prelude.{ℕ, ◌≡◌, ◌≤◌, ◌↔◌, List, false, length, map, IfOk, IfErr};
 ghost use Rattle.jm_model.specs.declared.fault.SpecFault.{SpecFault};
 ghost use Rattle.jm_text.specs.Spans.{LieWithin};
 ghost use Rattle.jm_table.specs.Explorations.{IfBad};
+ghost use Rattle.jm_table.specs.Tables.{IsWord, IsInGroup, state_after_of};
 ghost use Rattle.jm_earley.specs.Charts.{AreBelow};
 ghost use Rattle.jm_machine.specs.Formulas.{category_names, grammar_categories, is_grammar, IsReadAs, IsRefusedIn, IsTableFault};
-ghost use Rattle.jm_machine.specs.Engines.{letters_of_engine, categories_of_engine, is_parsing, HasLetters, HasParams, IsParserOf, IsCompiled};
+ghost use Rattle.jm_machine.specs.Engines.{letters_of_engine, categories_of_engine, is_parsing, EngineHolds, HasLetters, HasParams, IsParserOf, IsCompiled, IsMinimal};
 
 use crate::engine::Engine;
 use jm_earley::Charts;
@@ -16,6 +17,7 @@ use jm_grammar::Grammar;
 use jm_model::{NoMemory, SpecError};
 use jm_ptltl::Past;
 use jm_spec::{Logic, SpecTree};
+use jm_table::Table;
 use jm_text::Token;
 use std::alloc::Global;
 
@@ -80,23 +82,24 @@ impl Formula {
         }
     }
 
-    /// What runs the formula, whose letters are events of the table.
+    /// What runs the formula, whose letters are events of the table. A table is minimal.
     ///
-    /// The fault is that of the logic's table.
+    /// The fault is that of the logic's table, before it is made minimal.
     pub(crate) fn compile(&self, alloc: Global, events: &EventTable) -> Result<Engine, SpecError>
         requires { HasLetters (length events.now.events) self.now }
         ensures letters { IfOk result (λ engine. letters_of_engine engine ≡ length events.now.events) }
         ensures groups { IfOk result (λ engine. categories_of_engine engine ≡ length (category_names self.now)) }
         ensures compiled { IfOk result (IsCompiled self.now) }
+        ensures minimal { IfOk result IsMinimal }
         ensures kind { IfOk result (λ engine. is_parsing engine ≡ is_grammar self.now) }
         ensures params { IfOk result (HasParams (map (λ e. e.mask) events.now.events)) }
         ensures settled { IfOk result (λ _. (fault : SpecFault) → IsTableFault self.now (length events.now.events) fault → ⊥) }
         ensures err { IfErr result (λ e. IfBad e (IsTableFault self.now (length events.now.events))) }
     {
         match self {
-            Formula::Machine(machine) => Ok(Engine::States(machine.compile(alloc, events)?)),
-            Formula::Regular(expression) => Ok(Engine::States(expression.compile(alloc, events)?)),
-            Formula::Temporal(past) => Ok(Engine::States(past.compile(alloc, events)?)),
+            Formula::Machine(machine) => minimal(machine.compile(alloc, events)?),
+            Formula::Regular(expression) => minimal(expression.compile(alloc, events)?),
+            Formula::Temporal(past) => minimal(past.compile(alloc, events)?),
             Formula::Grammatical(grammar) => parses(alloc, grammar, events),
         }
     }
@@ -110,6 +113,19 @@ fn grammar_categories(alloc: Global) -> Result<Names, NoMemory>
     names.add("match")?;
     names.add("fail")?;
     Ok(names)
+}
+
+/// The minimal table of a table.
+fn minimal(table: Table) -> Result<Engine, SpecError>
+    ensures letters { IfOk result (λ engine. letters_of_engine engine ≡ table.letters) }
+    ensures groups { IfOk result (λ engine. categories_of_engine engine ≡ length table.groups) }
+    ensures same { IfOk result (λ engine. (word : List ℕ) → IsWord table word → (category : ℕ) →
+        EngineHolds engine category word ↔ IsInGroup table (state_after_of table word) category) }
+    ensures minimal { IfOk result IsMinimal }
+    ensures kind { IfOk result (λ engine. is_parsing engine ≡ false) }
+    ensures err { IfErr result (λ e. e ≡ SpecError.NoMemory) }
+{
+    Ok(Engine::States(table.minimise()?))
 }
 
 /// The charts of a grammar, whose letters are events of the table.

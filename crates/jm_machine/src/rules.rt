@@ -1,13 +1,14 @@
 //! The monitor of a specification.
-ghost use Rattle.std.specs.Prelude.{ℕ, ◌&&◌, codes, ◌≡◌, ◌<◌, ◌≤◌, ◌^◌, ◌↔◌, ◌⊎◌, [], ◌∷◌, ◌++◌, List, All, Contains, Some, None, true, false, IsTrue, IsSomeAnd, IsBitSet, IfOk, IfErr, length, map, slice_get};
+ghost use Rattle.std.specs.Prelude.{ℕ, ◌&&◌, codes, ◌≡◌, ◌<◌, ◌≤◌, ◌^◌, ◌↔◌, ◌⊎◌, [], ◌∷◌, ◌++◌, List, All, Contains, Some, None, true, false, IsTrue, IsSomeAnd, IsNone, IsBitSet, IfOk, IfErr, IfSome, length, map, slice_get};
 ghost use Rattle.std.specs.List.{list_any};
 ghost use Rattle.std.specs.Str.{bytes_eq};
+ghost use Rattle.jm_table.specs.Minimal.{IsReduced};
 ghost use Rattle.jm_text.specs.Spans.{LieWithin};
 ghost use Rattle.jm_model.specs.declared.fault.SpecFault.{SpecFault};
 ghost use Rattle.jm_semantics.specs.Families.{IsFamily};
 ghost use Rattle.jm_machine.specs.Formulas.{category_names, is_grammar};
 ghost use Rattle.jm_machine.specs.Meanings.{rules_of, rules_meaning, is_failing_grammar};
-ghost use Rattle.jm_machine.specs.Engines.{letters_of_engine, categories_of_engine, is_parsing, HasParams, IsPlaceOf, IsCompiled};
+ghost use Rattle.jm_machine.specs.Engines.{letters_of_engine, categories_of_engine, is_parsing, HasParams, IsPlaceOf, IsCompiled, IsMinimal};
 ghost use Rattle.jm_machine.specs.RuleSets.{IsRuleSet, IsHandledBy};
 ghost use Rattle.jm_machine.specs.Compiling.{IsCompiledFrom, IsNotCompiled};
 
@@ -22,6 +23,7 @@ use jm_events::Names;
 use jm_goal::Goal;
 use jm_model::{Letter, Monitor, NoMemory, SpecError};
 use jm_spec::SpecTree;
+use jm_table::Table;
 use jm_text::Token;
 use std::alloc::Global;
 use std::marker::Model;
@@ -112,6 +114,7 @@ impl Rules {
         requires letters { letters_of_engine engine ≡ length tree.now.table.events }
         requires groups { categories_of_engine engine ≡ length categories.now }
         requires compiled { IsCompiled formula engine }
+        requires minimal { IsMinimal engine }
         requires kind { is_parsing engine ≡ is_grammar formula }
         requires params { HasParams (map (λ e. e.mask) tree.now.table.events) engine }
         ensures rules { IfOk result (λ r. r.definition ≡ rules_of tree.now.table tree.now.full_binding formula handlers) }
@@ -145,6 +148,22 @@ impl Rules {
         ensures { slice_get self.now.definition.handlers handler ≡ Some result.now }
     {
         self.handlers.name(handler as u32)
+    }
+
+    /// The table that runs the property. No two of its states agree in groups after all words, and after a word that isn't empty
+    /// the groups are the categories that hold of it. There is none for a grammar.
+    pub fn table(&self) -> Option<&Table>
+        ensures none { IsNone result ↔ (is_grammar self.now.definition.formula ≡ true) }
+        ensures table { IfSome result (λ t. self.now.engine ≡ Engine.States t.now) }
+        ensures minimal { IfSome result (λ t. IsReduced t.now) }
+        ensures rules { IsRuleSet self.now }
+    {
+        // The rules are those of the property: the proof learns it from the fields.
+        let _ = &self.outlook;
+        match &self.engine {
+            Engine::States(table) => Some(table),
+            Engine::Parses(_) => None,
+        }
     }
 
     /// The coenable family of a letter: the sets of parameters of the words that lead to a handled category from some word that

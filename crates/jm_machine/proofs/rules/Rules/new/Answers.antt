@@ -12,7 +12,7 @@ pub invariant_of-result : goal.invariant_of-result
 invariant_of-result c =
     let t = c.args.tree.now.table in (
       made_goal t c.args.formula c.in_ok-masks.masks.items c.args.handlers c.in_ok-goal.goal c.in_ok-masks.ensures.value c.in_ok-goal.ensures.creation c.args.categories.now c.requires.categories c.in_ok-goal.ensures.groups c.in_ok-masks.ensures.few,
-      made_set t c.args.formula c.in_ok-masks.masks.items c.args.handlers c.in_ok-goal.goal c.in_ok-masks.ensures.value c.in_ok-goal.ensures.creation c.args.categories.now c.args.engine c.requires.categories c.requires.letters c.requires.groups c.requires.compiled,
+      made_set t c.args.formula c.in_ok-masks.masks.items c.args.handlers c.in_ok-goal.goal c.in_ok-masks.ensures.value c.in_ok-goal.ensures.creation c.args.categories.now c.args.engine c.requires.categories c.requires.letters c.requires.groups c.requires.compiled c.requires.minimal,
       record {
         events = t;
         masks = c.in_ok-masks.ensures.value;
