@@ -1,6 +1,6 @@
 //! Steps over marks and the objects that they bind.
 use crate::objects::kill;
-use crate::text::{binding_of, binding_shown, lines_of, number, put};
+use case_bindings::{binding_of, binding_shown, lines_of, number, put};
 use cases::Case;
 use jm_marks::{Marks, dead_mask};
 use jm_model::{Binding, NoMemory};

@@ -1,5 +1,5 @@
 //! Steps over a table of objects.
-use crate::text::{lines_of, number, put};
+use case_bindings::{lines_of, number, put};
 use cases::Case;
 use jm_model::NoMemory;
 use jm_objects::Objects;

@@ -1,8 +1,7 @@
 //! Marks against a plain list of bindings, over rows of random steps.
-use crate::draw::Draw;
 use crate::marks::add;
 use crate::objects::{is_dead, kill};
-use crate::text::number;
+use case_bindings::{Draw, number};
 use cases::Case;
 use jm_marks::Marks;
 use jm_model::{Binding, NoMemory};

@@ -3,23 +3,23 @@ use cases::Case;
 use jm_model::Binding;
 use std::alloc::{AllocError, Global};
 
-pub(crate) fn lines_of(case: &Case) -> &str {
+pub fn lines_of(case: &Case) -> &str {
     std::str::from_utf8(case.text.as_slice()).unwrap_or("")
 }
 
-pub(crate) fn number(word: &str) -> u32 {
+pub fn number(word: &str) -> u32 {
     word.parse::<u32>().unwrap_or(0)
 }
 
 /// Appends a word, or a line.
-pub(crate) fn put(out: &mut String, between: char, text: &str) -> Result<(), AllocError> {
+pub fn put(out: &mut String, between: char, text: &str) -> Result<(), AllocError> {
     if !out.is_empty() {
         out.push(between)?;
     }
     out.push_str(text)
 }
 
-pub(crate) fn binding_of(text: &str) -> Binding {
+pub fn binding_of(text: &str) -> Binding {
     let mut binding = Binding::empty();
     for pair in text.split(',') {
         if let Some((p, object)) = pair.split_once('=') {
@@ -30,7 +30,7 @@ pub(crate) fn binding_of(text: &str) -> Binding {
 }
 
 /// The binding with a pair more, unless its parameter is bound.
-pub(crate) fn with_pair(binding: Binding, p: u8, object: u32) -> Binding {
+pub fn with_pair(binding: Binding, p: u8, object: u32) -> Binding {
     if p < 8 && binding.get(p).is_none() {
         binding.bind(p, object)
     } else {
@@ -38,7 +38,7 @@ pub(crate) fn with_pair(binding: Binding, p: u8, object: u32) -> Binding {
     }
 }
 
-pub(crate) fn binding_shown(alloc: Global, binding: &Binding) -> Result<String, AllocError> {
+pub fn binding_shown(alloc: Global, binding: &Binding) -> Result<String, AllocError> {
     let mut out = String::new(alloc);
     for p in 0..8 {
         if let Some(object) = binding.get(p) {
