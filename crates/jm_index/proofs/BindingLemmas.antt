@@ -1,9 +1,8 @@
 -- Bindings that agree, and what they share.
-use Rattle.std.proofs.Common.{◌≡◌, ℕ, zero, suc, ◌+◌, ◌*◌, ◌/◌, ◌%◌, ◌==◌, ◌<◌, Bool, true, false, cond, List, [], ◌∷◌, Option, Some, None, length, refl, sym, ap, ◌∙◌, subst, arith, eqb}
-use Rattle.std.specs.Prelude.{slice_get, option_and_then}
+use Rattle.std.proofs.Common.{◌≡◌, ℕ, zero, suc, ◌+◌, ◌*◌, ◌/◌, ◌%◌, ◌==◌, ◌<◌, Bool, true, false, cond, List, [], ◌∷◌, Option, Some, None, length, refl, ap, ◌∙◌, subst, arith, eqb}
+use Rattle.std.specs.Prelude.{option_and_then}
 use Rattle.std.proofs.lemmas.Bool.{and_parts, eqb-true, eq-eqb, ne_eqb}
-use Rattle.std.proofs.lemmas.Option.{slice_get_within}
-use Rattle.jm_model.specs.Bindings.{agrees, is_compatible, object_at, restriction, mask_of}
+use Rattle.jm_model.specs.Bindings.{is_compatible, object_at, restriction, mask_of}
 use Rattle.jm_index.specs.Index.{is_same}
 
 even_bit : (k : ℕ) → (2 * k % 2 == 1) ≡ false
