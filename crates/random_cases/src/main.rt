@@ -2,7 +2,6 @@
 #![tactic(auto)]
 
 mod answer;
-mod draw;
 mod random;
 
 use std::io;

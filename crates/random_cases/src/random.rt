@@ -1,5 +1,5 @@
 //! Marks against a plain list of bindings, over rows of random steps.
-use crate::draw::Draw;
+use case_steps::Draw;
 use cases::{Case, number_of};
 use jm_marks::Marks;
 use jm_model::{Binding, NoMemory};

@@ -1,21 +1,23 @@
 //! Numbers that look random, the same at each run.
-use case_steps::with_pair;
+use crate::bindings::with_pair;
 use jm_model::Binding;
 
+/// What numbers are drawn from.
 #[derive(Drop)]
-pub(crate) struct Draw {
+pub struct Draw {
     state: u64,
 }
 
 impl Draw {
-    pub(crate) fn new(seed: u32) -> Draw {
+    /// The numbers of a seed.
+    pub fn new(seed: u32) -> Draw {
         Draw {
             state: u64::from(seed),
         }
     }
 
     /// A number below `n`, or 0.
-    pub(crate) fn below(&mut self, n: u32) -> u32 {
+    pub fn below(&mut self, n: u32) -> u32 {
         self.state = self
             .state
             .wrapping_mul(6364136223846793005)
@@ -27,7 +29,7 @@ impl Draw {
     }
 
     /// A binding that binds each of the parameters with one chance in two, to one of few objects.
-    pub(crate) fn binding(&mut self, parameters: u8, objects: u32) -> Binding {
+    pub fn binding(&mut self, parameters: u8, objects: u32) -> Binding {
         let mut binding = Binding::empty();
         for p in 0..parameters {
             if self.below(2) == 1 {
@@ -38,7 +40,7 @@ impl Draw {
     }
 
     /// Some of the parameters.
-    pub(crate) fn mask(&mut self) -> u8 {
+    pub fn mask(&mut self) -> u8 {
         (self.below(256) % 256) as u8
     }
 }

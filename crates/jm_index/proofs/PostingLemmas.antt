@@ -1,0 +1,93 @@
+-- Postings that rise, and what is left of one that was thinned out.
+use Rattle.std.proofs.Common.{◌≡◌, ℕ, zero, suc, ◌-◌, ◌<◌, ◌≤◌, Bool, true, false, cond, List, [], ◌∷◌, ◌++◌, Some, length, refl, sym, ap, ◌∙◌, subst, arith, ◌⊎◌, inl, inr}
+use Rattle.std.specs.Prelude.{Contains, slice_get, filter}
+use Rattle.std.specs.List.Retain.{RetainsInTurn}
+use Rattle.std.proofs.lemmas.Bool.{cases_eq}
+use Rattle.jm_index.specs.Layout.{Rises}
+use Rattle.jm_index.proofs.ReadLemmas.{Contains-none, Contains-tail, Contains-cons, Contains-of_filter, Rises-lower}
+
+-- a number above all goes to the end
+pub Rises-push : (low k : ℕ) (ps : List ℕ) → low ≤ k → Rises low ps → ((x : ℕ) → Contains ps x → x < k) → Rises low (ps ++ k ∷ [])
+Rises-push low k [] h r below = (h, tt)
+Rises-push low k (x ∷ ps) h r below =
+    let first : x < k = below x (0, (omega arith), refl) in
+    (r.0, Rises-push (suc x) k ps (omega (arith, first)) r.1 (λ y there. below y (Contains-cons x y ps there)))
+
+-- what is at most k is below k, unless the last is k
+pub below_last : (low k : ℕ) (ps : List ℕ) → Rises low ps → ((x : ℕ) → Contains ps x → x ≤ k) → (slice_get ps (length ps - 1) ≡ Some k → ⊥)
+    → (x : ℕ) → Contains ps x → x < k
+below_last low k [] r most last x there = absurd (Contains-none x there)
+below_last low k (y ∷ []) r most last x (zero, h, e) =
+    let top : y ≤ k = most y (0, (omega arith), refl) in
+    let apart : y ≡ k → ⊥ = λ same. last (ap (λ (n : ℕ). Some n) same) in
+    omega (arith, top, apart, e)
+below_last low k (y ∷ []) r most last x (suc j, h, e) = absurd (omega arith)
+below_last low k (y ∷ z ∷ ps) r most last x there =
+    at (below_last (suc y) k (z ∷ ps) r.1 (λ v h. most v (Contains-cons y v (z ∷ ps) h)) rest_last) (cases_eq y x)
+  where
+    next : suc (suc (length ps)) - 1 ≡ suc (length ps)
+    next = omega arith
+
+    rest_next : suc (length ps) - 1 ≡ length ps
+    rest_next = omega arith
+
+    rest_last : slice_get (z ∷ ps) (length (z ∷ ps) - 1) ≡ Some k → ⊥
+    rest_last is =
+        let here : slice_get (z ∷ ps) (length ps) ≡ Some k = rw rest_next at is in
+        let there : slice_get (y ∷ z ∷ ps) (suc (length ps)) ≡ Some k = here in
+        last (subst (λ (n : ℕ). slice_get (y ∷ z ∷ ps) n ≡ Some k) (sym next) there)
+
+    at : ((w : ℕ) → Contains (z ∷ ps) w → w < k) → (y ≡ x) ⊎ (y ≡ x → ⊥) → x < k
+    at rest (inl same) =
+        let up : z < k = rest z (0, (omega arith), refl) in
+        let low : suc y ≤ z = r.1.0 in
+        omega (arith, up, low, same)
+    at rest (inr apart) = rest x (Contains-tail y x (z ∷ ps) there apart)
+
+pub Rises-filter : (test : ℕ → Bool) (low : ℕ) (ps : List ℕ) → Rises low ps → Rises low (filter test ps)
+Rises-filter test low [] r = tt
+Rises-filter test low (x ∷ ps) r = at (Rises-filter test (suc x) ps r.1) (test x)
+  where
+    at : Rises (suc x) (filter test ps) → (v : Bool) → Rises low (cond v (x ∷ filter test ps) (filter test ps))
+    at rest true = (r.0, rest)
+    at rest false = Rises-lower low (suc x) (filter test ps) (omega (arith, r.0)) rest
+
+pub Contains-in_filter : (test : ℕ → Bool) (ps : List ℕ) (x : ℕ) → test x ≡ true → Contains ps x → Contains (filter test ps) x
+Contains-in_filter test [] x pass there = there
+Contains-in_filter test (y ∷ ps) x pass there = at (Contains-in_filter test ps x pass) (cases_eq y x)
+  where
+    kept : (v : Bool) → Contains (filter test ps) x → Contains (cond v (y ∷ filter test ps) (filter test ps)) x
+    kept true h = Contains-cons y x (filter test ps) h
+    kept false h = h
+
+    at : (Contains ps x → Contains (filter test ps) x) → (y ≡ x) ⊎ (y ≡ x → ⊥) → Contains (cond (test y) (y ∷ filter test ps) (filter test ps)) x
+    at ih (inl same) =
+        let passes : test y ≡ true = ap test same ∙ pass in
+        rw passes (0, (omega arith), same)
+    at ih (inr apart) = kept (test y) (ih (Contains-tail y x ps there apart))
+
+-- what `retain` leaves, where the closure asks the test of each element and changes nothing
+pub retained : {S X : Type 0} (R : S → X → Bool → S → X → Type 0) (test : X → Bool) (s : S) (says : (x : X) (b : Bool) (t : S) (y : X) → R s x b t y → (b ≡ test x) × (t ≡ s) × (y ≡ x))
+    → (xs ys : List X) → RetainsInTurn R s xs ys → ys ≡ filter test xs
+retained R test s says [] ys h = h
+retained {S} {X} R test s says (x ∷ xs) ys (b, t, y, call, zs, rest, is) =
+    let told = says x b t y call in
+    let same : RetainsInTurn R s xs zs = subst (λ (u : S). RetainsInTurn R u xs zs) told.1 rest in
+    let ih : zs ≡ filter test xs = retained R test s says xs zs same in
+    is ∙ rw (told.0, told.2, ih)
+
+-- a posting in which a number was filed at the end, by what it stands for
+pub rising_pushed : (items value list : List ℕ) (k : ℕ) → items ≡ value → list ≡ items → Rises 0 items → ((x : ℕ) → Contains value x → x ≤ k)
+    → (slice_get list (length list - 1) ≡ Some k → ⊥) → Rises 0 (items ++ k ∷ [])
+rising_pushed items value list k is same rises most last =
+    let all : (x : ℕ) → Contains items x → x ≤ k = subst (λ (v : List ℕ). (x : ℕ) → Contains v x → x ≤ k) (sym is) most in
+    let end : slice_get items (length items - 1) ≡ Some k → ⊥ = subst (λ (v : List ℕ). slice_get v (length v - 1) ≡ Some k → ⊥) same last in
+    Rises-push 0 k items (omega arith) rises (below_last 0 k items rises all end)
+
+pub thinned_within : (test : ℕ → Bool) (items value new : List ℕ) → items ≡ value → new ≡ filter test items → (x : ℕ) → Contains new x → Contains value x
+thinned_within test items value new is kept x there =
+    subst (λ (v : List ℕ). Contains v x) is (Contains-of_filter test items x (subst (λ (v : List ℕ). Contains v x) kept there))
+
+pub thinned_live : (test : ℕ → Bool) (items value new : List ℕ) → items ≡ value → new ≡ filter test items → (x : ℕ) → test x ≡ true → Contains value x → Contains new x
+thinned_live test items value new is kept x pass there =
+    subst (λ (v : List ℕ). Contains v x) (sym kept) (Contains-in_filter test items x pass (subst (λ (v : List ℕ). Contains v x) (sym is) there))

@@ -1,0 +1,59 @@
+use Rattle.std.specs.Prelude.{◌≡◌, ℕ, ◌<◌, ◌==◌, Bool, true, false, not, ◌&&◌, List, Some, Contains, filter, map, length, slice_index_or}
+use Rattle.std.specs.Option.{option_eq}
+use Rattle.std.specs.Cmp.Lexicographic.{pointwise}
+use Rattle.std.specs.Prelude.{nat_eq}
+use Rattle.jm_model.specs.declared.binding.Binding.{Binding}
+use Rattle.jm_model.specs.Bindings.{object_at, is_compatible, mask_of}
+
+-- a binding, and the slot that the caller keeps with it
+pub record Pair : Type 0 where
+  pub binding : Binding
+  pub slot : ℕ
+
+-- what contracts see of an index: its pairs, in the order in which they were added, and the objects that were dropped,
+-- by their flags
+pub record PairList : Type 0 where
+  pub list : List Pair
+  pub dropped : List Bool
+
+-- a flag of an object; one that has none is unset
+abbrev pub flag_of : List Bool → ℕ → Bool
+flag_of flags o = slice_index_or flags o false
+
+-- b binds object o
+abbrev pub Binds : Binding → ℕ → Type 0
+Binds b o = (p : ℕ) × (object_at b p ≡ Some o)
+
+-- object o is a key: the index reaches by it each pair that binds it
+abbrev pub IsKey : PairList → ℕ → Type 0
+IsKey index o = (pair : Pair) × Contains index.list pair × Binds pair.binding o × (flag_of index.dropped o ≡ false)
+
+-- b's objects are below n
+abbrev pub AreBelow : ℕ → Binding → Type 0
+AreBelow n b = (o : ℕ) → Binds b o → o < n
+
+-- the index fits a table of objects, given by its flags of dead objects: the objects of its pairs stand in the table,
+-- and each live one is a key, since only dead objects were dropped
+pub record IsFitting (index : PairList) (dead : List Bool) : Type 0 where
+  pub within : (pair : Pair) → Contains index.list pair → AreBelow (length dead) pair.binding
+  pub reached : (o : ℕ) → flag_of index.dropped o ≡ true → flag_of dead o ≡ true
+
+-- no object that b binds is dead
+abbrev pub AreLive : List Bool → Binding → Type 0
+AreLive dead b = (o : ℕ) → Binds b o → flag_of dead o ≡ false
+
+-- the two bindings are one
+abbrev pub is_same : Binding → Binding → Bool
+is_same a b = pointwise (option_eq nat_eq) a b
+
+-- the pairs but that of b
+abbrev pub without : Binding → List Pair → List Pair
+without b list = filter (λ pair. not (is_same b pair.binding)) list
+
+-- the pairs that bind exactly the parameters of `domain`, and agree with b
+abbrev pub asked : ℕ → Binding → List Pair → List Pair
+asked domain b list = filter (λ pair. (mask_of pair.binding == domain) && is_compatible pair.binding b) list
+
+-- the slots of these
+abbrev pub asked_slots : ℕ → Binding → List Pair → List ℕ
+asked_slots domain b list = map (λ pair. pair.slot) (asked domain b list)

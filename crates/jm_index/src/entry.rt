@@ -1,0 +1,67 @@
+//! The entries of an index.
+ghost use Rattle.std.specs.Prelude.{◌≡◌, IfOk};
+ghost use Rattle.std.specs.List.{filter_map};
+ghost use Rattle.jm_index.specs.Layout.{is_live_at, slot_of, slot_at};
+
+use jm_model::{Binding, NoMemory};
+use std::alloc::Global;
+
+/// A binding and its slot. One that is no longer live counts for nothing.
+#[derive(Drop)]
+pub(crate) struct Entry {
+    pub(crate) binding: Binding,
+    pub(crate) slot: usize,
+    pub(crate) live: bool,
+}
+
+impl Entry {
+    /// The slot, if the entry is live, binds exactly the parameters of `domain` and agrees with `binding`.
+    fn slot(&self, domain: u8, binding: &Binding) -> Option<usize>
+        ensures { result ≡ slot_of domain binding.now self.now }
+    {
+        if self.live && self.binding.mask() == domain && self.binding.compatible(binding) {
+            Some(self.slot)
+        } else {
+            None
+        }
+    }
+}
+
+/// Whether the entry at a position is live.
+pub(crate) fn is_live_at(entries: &[Entry], position: usize) -> bool
+    ensures { result ≡ is_live_at entries.now position }
+{
+    match entries.get(position) {
+        Some(entry) => entry.live,
+        None => false,
+    }
+}
+
+/// The slot of the entry at a position, if it is asked for.
+fn slot_at(entries: &[Entry], domain: u8, binding: &Binding, position: usize) -> Option<usize>
+    ensures { result ≡ slot_at entries.now domain binding.now position }
+{
+    match entries.get(position) {
+        Some(entry) => entry.slot(domain, binding),
+        None => None,
+    }
+}
+
+/// The slots of the entries at these positions that are asked for.
+pub(crate) fn slots_at(
+    alloc: Global,
+    entries: &[Entry],
+    domain: u8,
+    binding: &Binding,
+    positions: &[usize],
+) -> Result<Vec<usize>, NoMemory>
+    ensures { IfOk result (λ slots. slots.items ≡ filter_map (slot_at entries.now domain binding.now) positions.now) }
+{
+    let mut slots = Vec::new(alloc);
+    for position in positions {
+        if let Some(slot) = slot_at(entries, domain, binding, *position) {
+            slots.push(slot)?;
+        }
+    }
+    Ok(slots)
+}

@@ -1,0 +1,222 @@
+ghost use Rattle.std.specs.Prelude.{◌≡◌, ◌≢◌, ℕ, Bool, List, [], ◌∷◌, ◌++◌, ◌⊎◌, true, false, length, AllPairs, Contains, IfOk, OnOk, OnErr};
+ghost use Rattle.jm_model.specs.Bindings.{mask_of, restriction};
+ghost use Rattle.jm_index.specs.Index.{Pair, flag_of, IsKey, AreBelow, IsFitting, AreLive, without, asked_slots};
+
+use crate::entry::{Entry, slots_at};
+use crate::flags::{cover, is_set};
+use crate::trees::Trees;
+use jm_model::{Binding, NoMemory};
+use jm_objects::Objects;
+use std::alloc::Global;
+use std::collections::HashMap;
+use std::marker::Model;
+
+/// Pairs of a binding and a slot, each binding once, in the order in which they were added. Contracts see them as a
+/// list, and beside it the objects that were dropped.
+#[derive(Drop)]
+pub struct Index {
+    entries: Vec<Entry>,
+    places: HashMap<Binding, usize>,
+    trees: Trees,
+    dropped: Vec<bool>,
+}
+
+impl Model for Index {
+    ghost use Rattle.jm_index.specs.Index.{PairList};
+
+    ghost Value = { PairList };
+
+    ghost use Rattle.std.specs.HashMap.{get};
+    ghost use Rattle.jm_marks.specs.Layout.{binding_eq};
+    ghost use Rattle.jm_index.specs.Layout.{live_pairs, IsIndexed};
+
+    ghost view = { λ i. record { list = live_pairs i.entries.items; dropped = i.dropped.items } };
+
+    ghost invariant = { λ i. IsIndexed i.entries.items (get binding_eq i.places) i.trees i.dropped.items };
+}
+
+impl Index {
+    /// No pair. It fits each table of objects.
+    pub fn new(alloc: Global) -> Index
+        ensures list { result.list ≡ [] }
+        ensures fits { (dead : List Bool) → IsFitting result dead }
+    {
+        Index {
+            entries: Vec::new(alloc),
+            places: HashMap::new(alloc),
+            trees: Trees::new(alloc),
+            dropped: Vec::new(alloc),
+        }
+    }
+
+    /// Adds a pair at the end. Where memory is wanting, the pairs are as before. The index fits what it fitted, if the
+    /// objects of the binding stand in the table.
+    ///
+    /// Where there is no room for an entry and more than half of the entries aren't live, the index is made anew of
+    /// those that are.
+    pub fn add(&mut self, binding: Binding, slot: usize) -> Result<(), NoMemory>
+        requires { (pair : Pair) → Contains self.old.list pair → pair.binding ≢ binding }
+        ensures added { OnOk result (self.new.list ≡ self.old.list ++ record { binding = binding; slot = slot } ∷ []) }
+        ensures same { OnErr result (self.new.list ≡ self.old.list) }
+        ensures dropped { (o : ℕ) → flag_of self.new.dropped o ≡ flag_of self.old.dropped o }
+        ensures fits { (dead : List Bool) → IsFitting self.old dead → AreBelow (length dead) binding
+            → IsFitting self.new dead }
+    {
+        self.make_room()?;
+        self.append(binding, slot)
+    }
+
+    /// Makes the index anew, where the next entry would need memory while more than half of the entries aren't live.
+    fn make_room(&mut self) -> Result<(), NoMemory>
+        ensures list { self.new.list ≡ self.old.list }
+        ensures dropped { (o : ℕ) → flag_of self.new.dropped o ≡ flag_of self.old.dropped o }
+    {
+        if self.is_sparse() {
+            *self = self.rebuilt()?;
+        }
+        Ok(())
+    }
+
+    /// Whether it is time for that.
+    fn is_sparse(&self) -> bool {
+        self.entries.len() == self.entries.capacity() && self.places.len() < self.entries.len() / 2
+    }
+
+    /// The same pairs, with no entry that isn't live.
+    fn rebuilt(&self) -> Result<Index, NoMemory>
+        ensures list { IfOk result (λ index. index.list ≡ self.now.list) }
+        ensures dropped { IfOk result (λ index. (o : ℕ) → flag_of index.dropped o ≡ flag_of self.now.dropped o) }
+    {
+        let mut index = self.emptied()?;
+        for entry in &self.entries {
+            if entry.live {
+                index.append(entry.binding, entry.slot)?;
+            }
+        }
+        Ok(index)
+    }
+
+    /// No pair, and the same objects dropped.
+    fn emptied(&self) -> Result<Index, NoMemory>
+        ensures list { IfOk result (λ index. index.list ≡ []) }
+        ensures dropped { IfOk result (λ index. (o : ℕ) → flag_of index.dropped o ≡ flag_of self.now.dropped o) }
+    {
+        let alloc = *self.entries.allocator();
+        let dropped = Vec::from_slice(alloc, self.dropped.as_slice())?;
+        Ok(Index {
+            entries: Vec::new(alloc),
+            places: HashMap::new(alloc),
+            trees: Trees::new(alloc),
+            dropped,
+        })
+    }
+
+    /// Adds a pair as the last entry. The entry comes to live last, so that it counts for nothing until then.
+    fn append(&mut self, binding: Binding, slot: usize) -> Result<(), NoMemory>
+        requires { (pair : Pair) → Contains self.old.list pair → pair.binding ≢ binding }
+        ensures added { OnOk result (self.new.list ≡ self.old.list ++ record { binding = binding; slot = slot } ∷ []) }
+        ensures same { OnErr result (self.new.list ≡ self.old.list) }
+        ensures dropped { (o : ℕ) → flag_of self.new.dropped o ≡ flag_of self.old.dropped o }
+    {
+        cover(&mut self.dropped, &binding)?;
+        let position = self.entries.len();
+        self.entries.push(Entry {
+            binding,
+            slot,
+            live: false,
+        })?;
+        self.trees
+            .file_all(self.dropped.as_slice(), &binding, position)?;
+        self.places.insert(binding, position)?;
+        self.entries[position].live = true;
+        Ok(())
+    }
+
+    /// Takes the pair of a binding out, where it is there. The index fits what it fitted.
+    pub fn remove(&mut self, binding: &Binding)
+        ensures list { self.new.list ≡ without binding.now self.old.list }
+        ensures absent { (pair : Pair) → Contains self.new.list pair → pair.binding ≢ binding.now }
+        ensures dropped { self.new.dropped ≡ self.old.dropped }
+        ensures fits { (dead : List Bool) → IsFitting self.old dead → IsFitting self.new dead }
+    {
+        if let Some(position) = self.places.remove(binding) {
+            self.entries[position].live = false;
+            self.trees.thin_all(self.entries.as_slice(), binding);
+        }
+    }
+
+    /// The slots of the bindings that bind exactly the parameters of `domain` and agree with `binding`, in the order
+    /// in which they were added.
+    ///
+    /// Where `binding` binds them all, that is one look-up. Else the fewest positions are read that stand under one of
+    /// the objects that are common, and all of the tree's where none is.
+    pub fn compatible(
+        &self,
+        objects: &Objects,
+        domain: u8,
+        binding: &Binding,
+    ) -> Result<Vec<usize>, NoMemory>
+        requires fits { IsFitting self.now objects.now }
+        requires live { AreLive objects.now binding.now }
+        ensures slots { IfOk result (λ slots. slots.items ≡ asked_slots domain binding.now self.now.list) }
+        ensures distinct { AllPairs (λ a b. a.binding ≢ b.binding) self.now.list }
+    {
+        let common = binding.restrict(domain);
+        if common.mask() == domain {
+            return self.exact(domain, binding, &common);
+        }
+        let path = self.trees.shortest(domain, &common);
+        let positions = self.trees.positions(domain, path);
+        let alloc = *self.entries.allocator();
+        slots_at(alloc, self.entries.as_slice(), domain, binding, positions)
+    }
+
+    /// The same where `binding` binds all parameters of `domain`, to what `common` does.
+    fn exact(&self, domain: u8, binding: &Binding, common: &Binding) -> Result<Vec<usize>, NoMemory>
+        requires common { common.now ≡ restriction binding.now domain }
+        requires all { mask_of common.now ≡ domain }
+        ensures slots { IfOk result (λ slots. slots.items ≡ asked_slots domain binding.now self.now.list) }
+        ensures distinct { AllPairs (λ a b. a.binding ≢ b.binding) self.now.list }
+    {
+        let alloc = *self.entries.allocator();
+        match self.places.get(common) {
+            Some(position) => slots_at(
+                alloc,
+                self.entries.as_slice(),
+                domain,
+                binding,
+                &[*position],
+            ),
+            None => Ok(Vec::new(alloc)),
+        }
+    }
+
+    /// Drops an object, where it has a flag.
+    fn let_go(&mut self, object: u32)
+        ensures list { self.new.list ≡ self.old.list }
+        ensures gone { IsKey self.new object → ⊥ }
+        ensures kept { (o : ℕ) → flag_of self.old.dropped o ≡ true → flag_of self.new.dropped o ≡ true }
+        ensures only { (o : ℕ) → flag_of self.new.dropped o ≡ true
+            → (flag_of self.old.dropped o ≡ true) ⊎ (o ≡ object) }
+    {
+        let place = object as usize;
+        if place < self.dropped.len() && !self.dropped[place] {
+            self.dropped[place] = true;
+            self.trees.clear(object);
+        }
+    }
+
+    /// Lets go of the paths of dead objects. The pairs stay, and the index fits what it fitted. It takes no memory.
+    pub fn drop_dead(&mut self, objects: &Objects)
+        requires { IsFitting self.old objects.now }
+        ensures list { self.new.list ≡ self.old.list }
+        ensures keys { (o : ℕ) → IsKey self.new o → flag_of objects.now o ≡ false }
+        ensures fits { IsFitting self.new objects.now }
+    {
+        for object in 0..objects.len() {
+            if objects.is_dead(object) {
+                self.let_go(object);
+            }
+        }
+    }
+}
