@@ -24,7 +24,8 @@ impl Table {
     {
         let alloc = self.allocator();
         let partition = equivalence(alloc, &self)?;
-        quotient(alloc, &self, &partition)
+        let minimal = quotient(alloc, &self, &partition)?;
+        Ok(minimal)
     }
 }
 
@@ -78,7 +79,8 @@ fn classes_in(
 {
     let mut members = Vec::new(alloc);
     for class in 0..partition.firsts.len() {
-        if table.in_group(partition.firsts[class], group) {
+        let first = partition.firsts[class];
+        if table.in_group(first, group) {
             members.push(class as u16)?;
         }
     }
