@@ -11,11 +11,11 @@ use std::alloc::{AllocError, Global};
 
 /// The minimal table of the rows of the text. A case has how many letters there are, and the states of the two
 /// groups with a semicolon between them.
-pub(crate) fn rows(alloc: Global, case: &Case) -> Result<String, AllocError> {
-    or_fault(alloc, rows_text(alloc, case))
+pub(crate) fn table(alloc: Global, case: &Case) -> Result<String, AllocError> {
+    or_fault(alloc, minimal_text(alloc, case))
 }
 
-fn rows_text(alloc: Global, case: &Case) -> Result<String, SpecError> {
+fn minimal_text(alloc: Global, case: &Case) -> Result<String, SpecError> {
     let next = numbers_of(alloc, std::str::from_utf8(&case.text).unwrap_or(""))?;
     let table = table_of(alloc, letters_of(&case.first), next, &case.second)?;
     let table = table.minimise()?;
