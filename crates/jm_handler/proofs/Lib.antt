@@ -1,0 +1,5 @@
+pub mod RenderLemmas
+pub mod TermLemmas
+pub mod StatementLemmas
+pub mod BlockLemmas
+pub mod CutLemmas
