@@ -10,7 +10,7 @@ use Rattle.jm_handler.proofs.StatementLemmas.{statements-same}
 use Rattle.jm_handler.proofs.TermLemmas.{terms-same}
 
 -- a statement in front of others
-statement_first : (bytes : List ℕ) (rest : List Token) (n : ℕ) (runs : List (List Token)) → IsStatement bytes rest n → AreStatements bytes (drop n rest) runs
+pub statement_first : (bytes : List ℕ) (rest : List Token) (n : ℕ) (runs : List (List Token)) → IsStatement bytes rest n → AreStatements bytes (drop n rest) runs
     → AreStatements bytes rest (take n rest ∷ runs)
 statement_first bytes rest n runs is are =
     let long : n ≡ length (take n rest) = omega (arith, length-take n rest, is.within) in

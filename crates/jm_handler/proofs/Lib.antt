@@ -3,3 +3,4 @@ pub mod TermLemmas
 pub mod StatementLemmas
 pub mod BlockLemmas
 pub mod CutLemmas
+pub mod TotalLemmas
