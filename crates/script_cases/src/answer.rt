@@ -28,6 +28,7 @@ fn laws(alloc: Global) -> Result<String, SpecError> {
     jm_script::one_reading();
     jm_script::events_alone();
     jm_print::text_determines_history();
+    jm_print::marked_lines_can_be_dropped();
     jm_print::texts_split_in_one_way();
-    Ok(String::from_str(alloc, "four laws")?)
+    Ok(String::from_str(alloc, "five laws")?)
 }
