@@ -14,6 +14,7 @@ pub(crate) fn answer(alloc: Global, case: &Case) -> Result<String, AllocError> {
 /// Names the laws, of which each is proved.
 fn laws(alloc: Global) -> Result<String, AllocError> {
     jm_print::text_determines_history();
+    jm_print::marked_lines_can_be_dropped();
     jm_print::texts_split_in_one_way();
-    String::from_str(alloc, "two laws")
+    String::from_str(alloc, "three laws")
 }

@@ -6,12 +6,15 @@ use crate::shop::entry_of;
 use case_events::table_of;
 use cases::{Case, text_of};
 use jm_events::{EventTable, Names};
+use jm_handler::{Handler, read_handler};
 use jm_history::{History, Node};
 use jm_model::{NoMemory, SpecError};
 use jm_print::{render_history, render_summary};
+use jm_text::tokens;
 use std::alloc::{AllocError, Global};
 
-/// The history of a text's lines, each a line's number and a kind of entry, and its summary.
+/// The history of a text's lines, each a line's number and a kind of entry, and its summary. Behind the `/` stand the
+/// blocks of the handlers, with `|` between.
 pub(crate) fn print(alloc: Global, case: &Case) -> Result<String, SpecError> {
     let text = text_of(case.text.as_slice());
     let mut history = History::new();
@@ -19,7 +22,9 @@ pub(crate) fn print(alloc: Global, case: &Case) -> Result<String, SpecError> {
         add(alloc, &mut history, line)?;
     }
     let name = case.first.as_str();
-    let page = page(alloc, name, &history)?;
+    let table = table_of(alloc, "c i p2 p3 p4 p5 p6 p7 create=3 tick=0")?;
+    let handlers = handlers_of(alloc, case.second.as_str(), &table)?;
+    let page = page(alloc, name, &history, &table, handlers.as_slice())?;
     let summary = render_summary(alloc, name, &history)?;
     Ok(joined(alloc, &page, &summary)?)
 }
@@ -36,13 +41,30 @@ fn add(alloc: Global, history: &mut History, line: &str) -> Result<(), NoMemory>
 }
 
 /// The text of a history, with the names of a shop.
-fn page(alloc: Global, name: &str, history: &History) -> Result<Vec<u8>, SpecError>
+fn page(
+    alloc: Global,
+    name: &str,
+    history: &History,
+    table: &EventTable,
+    handlers: &[Handler],
+) -> Result<Vec<u8>, NoMemory>
     requires { All IsModest history.now }
 {
-    let table = table_of(alloc, "c i p2 p3 p4 p5 p6 p7 create=3 tick=0")?;
-    let handlers = names(alloc, "match fail")?;
+    let categories = names(alloc, "match fail")?;
     let objects = names(alloc, "c1 i-1")?;
-    Ok(rendered(alloc, name, history, &table, &handlers, &objects)?)
+    rendered(alloc, name, history, table, &categories, handlers, &objects)
+}
+
+/// What the blocks say.
+fn handlers_of(alloc: Global, blocks: &str, table: &EventTable) -> Result<Vec<Handler>, SpecError> {
+    let mut handlers = Vec::new(alloc);
+    for block in blocks.split('|') {
+        if block.len() < 1_000_000 {
+            let tokens = tokens(alloc, block.as_bytes())?;
+            handlers.push(read_handler(alloc, block.as_bytes(), tokens.as_slice(), table)?)?;
+        }
+    }
+    Ok(handlers)
 }
 
 fn names(alloc: Global, words: &str) -> Result<Names, NoMemory> {
@@ -61,15 +83,16 @@ fn rendered(
     name: &str,
     history: &History,
     table: &EventTable,
-    handlers: &Names,
+    categories: &Names,
+    handlers: &[Handler],
     objects: &Names,
 ) -> Result<Vec<u8>, NoMemory>
     requires { All IsModest history.now }
 {
-    if table.params() != 8 || table.letters() != 2 || handlers.len() != 2 || objects.len() != 2 {
+    if table.params() != 8 || table.letters() != 2 || categories.len() != 2 || objects.len() != 2 {
         return Err(NoMemory);
     }
-    render_history(alloc, name, history, table, handlers, objects)
+    render_history(alloc, name, history, table, categories, handlers, objects)
 }
 
 /// Two texts without the line feed at the end of the second.

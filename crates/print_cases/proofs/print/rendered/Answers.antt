@@ -5,4 +5,4 @@ use Rattle.print_cases.proofs.print.rendered.Goals as goal
 pub render_history-requires : goal.render_history-requires
 render_history-requires c =
     let a = c.args in
-    are_printable _ (has_enough a.name.now a.table.now a.handlers.now a.objects.now (omega arith) (omega arith) (omega arith) (omega arith)) a.history.now c.requires
+    are_printable _ (has_enough a.name.now a.table.now a.categories.now a.objects.now a.handlers.now (omega arith) (omega arith) (omega arith) (omega arith)) a.history.now c.requires
