@@ -9,6 +9,8 @@
 mod case;
 mod expand;
 mod program;
+mod words;
 
 pub use case::{Case, cases};
 pub use program::run;
+pub use words::{byte_of, number_of, numbers_of, put, put_line, put_word, text_of};

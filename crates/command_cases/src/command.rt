@@ -1,8 +1,8 @@
 //! Whole commands.
-use crate::files::files;
-use crate::shown::{numbers, put_text};
+use crate::shown::put_text;
+use case_files::{calls_of, files, sink_of};
 use cases::Case;
-use jm_port::{Folder, MemoryFolder, MemorySink, Sink, SureFolder, SureSink};
+use jm_port::{Folder, MemoryFolder, Sink, SureFolder, SureSink};
 use jm_top::{Status, fault_text, jmop, one_reading};
 use std::alloc::{AllocError, Global};
 
@@ -28,8 +28,7 @@ fn nothing_fails(alloc: Global, case: &Case) -> Result<String, AllocError> {
 }
 
 fn read_fails(alloc: Global, case: &Case, calls: &str) -> Result<String, AllocError> {
-    let mut fail = Vec::new(alloc);
-    numbers(&mut fail, calls)?;
+    let fail = calls_of(alloc, calls)?;
     let mut folder = MemoryFolder::new(files(alloc, case.text.as_slice())?, fail);
     let mut out = SureSink::new(alloc);
     let (status, err) = done(alloc, case, &mut folder, &mut out)?;
@@ -41,15 +40,6 @@ fn write_fails(alloc: Global, case: &Case, rest: &str) -> Result<String, AllocEr
     let mut out = sink_of(alloc, rest)?;
     let (status, err) = done(alloc, case, &mut folder, &mut out)?;
     shown(alloc, &status, out.bytes(), err.bytes())
-}
-
-/// The sink of `STEP CALL..`.
-pub(crate) fn sink_of(alloc: Global, words: &str) -> Result<MemorySink, AllocError> {
-    let (step, calls) = words.split_once(' ').unwrap_or((words, ""));
-    let mut fail = Vec::new(alloc);
-    numbers(&mut fail, calls)?;
-    let step = step.parse::<usize>().unwrap_or(1).max(1);
-    Ok(MemorySink::new(alloc, step, fail))
 }
 
 /// Does the command of the case's words, and gives its status and what the error sink was given.

@@ -1,17 +1,12 @@
-//! Cases of whole commands, with the files that they read and the text that they write, and of the folders and sinks
-//! below them.
+//! Cases of whole commands, with the files that they read and the text that they write.
 #![tactic(auto)]
 
 mod answer;
 mod command;
-mod files;
-mod host;
-mod port;
 mod shown;
 
-use answer::answer;
 use std::io;
 
 fn main(rt: HostRuntime) -> io::Result<()> {
-    cases::run(&rt, |alloc, case| answer(rt, alloc, case))
+    cases::run(&rt, answer::answer)
 }

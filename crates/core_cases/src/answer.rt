@@ -1,4 +1,4 @@
-use crate::{bindings, core_steps, entries};
+use crate::core_steps;
 use cases::Case;
 use jm_model::NoMemory;
 use std::alloc::{AllocError, Global};
@@ -13,11 +13,6 @@ pub(crate) fn answer(alloc: Global, case: &Case) -> Result<String, AllocError> {
 
 fn answered(alloc: Global, case: &Case) -> Result<String, NoMemory> {
     match case.verb.as_str() {
-        "binding" => bindings::binding(alloc, case),
-        "outcomes" => entries::outcomes(alloc, case),
-        "entries" => entries::entries(alloc, case),
-        "history" => entries::history(alloc, case),
-        "long" => entries::long(alloc, case),
         "core" => core_steps::core(alloc, case),
         "replay" => core_steps::replay(alloc, case),
         _ => Ok(String::from_str(alloc, "no such verb")?),

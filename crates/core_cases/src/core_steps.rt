@@ -1,7 +1,7 @@
 //! Events over tables of states.
 use crate::rig::Rig;
-use crate::text::{binding_shown, byte, entry_shown, lines_of, number, outcome_shown, put};
-use cases::Case;
+use case_steps::{binding_shown, entry_shown, outcome_shown};
+use cases::{Case, byte_of, number_of, put_line, put_word, text_of};
 use jm_core::Prop;
 use jm_model::NoMemory;
 use std::alloc::Global;
@@ -11,9 +11,9 @@ use table_monitor::Table;
 fn table_of(text: &str) -> Table {
     let (name, rest) = text.split_once(' ').unwrap_or((text, ""));
     if name == "tick" {
-        Table::tick(byte(rest))
+        Table::tick(byte_of(rest))
     } else {
-        Table::unsafe_iter(number(rest))
+        Table::unsafe_iter(number_of(rest))
     }
 }
 
@@ -22,13 +22,13 @@ fn table_of(text: &str) -> Table {
 pub(crate) fn core(alloc: Global, case: &Case) -> Result<String, NoMemory> {
     let mut rig = Rig::new(alloc, table_of(case.first.as_str()))?;
     let mut out = String::new(alloc);
-    for line in lines_of(case).lines() {
+    for line in text_of(&case.text).lines() {
         let answer = match line {
             "stored" => stored(alloc, &rig.prop)?,
             "history" => entries(alloc, &rig.prop)?,
             event => outcome_shown(alloc, &rig.fire(event)?)?,
         };
-        put(&mut out, '\n', answer.as_str())?;
+        put_line(&mut out, answer.as_str())?;
     }
     Ok(out)
 }
@@ -36,7 +36,7 @@ pub(crate) fn core(alloc: Global, case: &Case) -> Result<String, NoMemory> {
 fn stored(alloc: Global, prop: &Prop<Table>) -> Result<String, NoMemory> {
     let mut out = String::new(alloc);
     for instance in &prop.stored()? {
-        put(&mut out, ' ', binding_shown(alloc, instance)?.as_str())?;
+        put_word(&mut out, binding_shown(alloc, instance)?.as_str())?;
     }
     Ok(out)
 }
@@ -44,7 +44,7 @@ fn stored(alloc: Global, prop: &Prop<Table>) -> Result<String, NoMemory> {
 fn entries(alloc: Global, prop: &Prop<Table>) -> Result<String, NoMemory> {
     let mut out = String::new(alloc);
     for entry in &prop.history().entries(alloc)? {
-        put(&mut out, '\n', entry_shown(alloc, entry)?.as_str())?;
+        put_line(&mut out, entry_shown(alloc, entry)?.as_str())?;
     }
     Ok(out)
 }
@@ -52,6 +52,6 @@ fn entries(alloc: Global, prop: &Prop<Table>) -> Result<String, NoMemory> {
 /// The entries after a caller's events, of lines `NUMBER LETTER OBJECT ..`.
 pub(crate) fn replay(alloc: Global, case: &Case) -> Result<String, NoMemory> {
     let mut rig = Rig::new(alloc, table_of(case.first.as_str()))?;
-    rig.replay(number(case.second.as_str()), lines_of(case))?;
+    rig.replay(number_of(case.second.as_str()), text_of(&case.text))?;
     entries(alloc, &rig.prop)
 }

@@ -1,16 +1,12 @@
-//! The cases of bindings, outcomes, histories and the core.
+//! The cases of the core over tables of states.
 #![tactic(auto)]
 
 mod answer;
-mod bindings;
 mod core_steps;
-mod entries;
 mod rig;
-mod text;
 
-use answer::answer;
 use std::io;
 
 fn main(rt: HostRuntime) -> io::Result<()> {
-    cases::run(&rt, answer)
+    cases::run(&rt, answer::answer)
 }

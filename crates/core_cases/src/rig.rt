@@ -3,7 +3,7 @@ ghost use Rattle.std.specs.Prelude.{◌≡◌, ◌<◌, IfSome, IfOk, All, lengt
 ghost use Rattle.jm_core.specs.Steps.{IsEventOf};
 ghost use Rattle.table_monitor.specs.Tables.{table_meaning};
 
-use crate::text::{byte, number, numbers};
+use cases::{byte_of, number_of, numbers_of};
 use jm_core::Prop;
 use jm_history::Node;
 use jm_model::{Binding, Letter, NoMemory, Outcome, Step};
@@ -59,8 +59,8 @@ impl Rig {
         ensures { IfOk result (λ step. IfSome step (λ step. IsEventOf (table_meaning self.now.prop.definition) 8 step)) }
     {
         let (letter, objects) = line.split_once(' ').unwrap_or((line, ""));
-        let objects = numbers(self.alloc, objects)?;
-        Ok(self.step(byte(letter), &objects))
+        let objects = numbers_of(self.alloc, objects)?;
+        Ok(self.step(byte_of(letter), &objects))
     }
 
     /// Does the event of a line, and gives its answer. A line that is no event is answered `Done`.
@@ -80,7 +80,7 @@ impl Rig {
         for line in text.lines() {
             let (place, event) = line.split_once(' ').unwrap_or((line, ""));
             if let Some(step) = self.step_of(event)? {
-                steps.push((number(place), step))?;
+                steps.push((number_of(place), step))?;
             }
         }
         Ok(steps)

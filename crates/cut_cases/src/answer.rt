@@ -1,5 +1,5 @@
 use crate::cuts::{cuts, rests};
-use crate::families::families;
+use crate::families::{families, states};
 use crate::rules::rules_of;
 use cases::Case;
 use jm_machine::Rules;
@@ -24,6 +24,7 @@ fn rules_text(alloc: Global, case: &Case, rules: &Rules) -> Result<String, Alloc
     match case.verb.as_str() {
         "cut" => cuts(alloc, &mut out, rules, &case.first, &case.second)?,
         "family" => families(alloc, &mut out, rules)?,
+        "states" => states(alloc, &mut out, rules)?,
         "rests" => rests(alloc, &mut out, rules, &case.first)?,
         _ => out.push_str("no such verb")?,
     }

@@ -26,3 +26,14 @@ fn add_masks(alloc: Global, out: &mut String, masks: &[u8]) -> Result<(), AllocE
     }
     out.push_str("]")
 }
+
+/// How many states the table has, or that there is none.
+pub(crate) fn states(alloc: Global, out: &mut String, rules: &Rules) -> Result<(), AllocError> {
+    match rules.table() {
+        Some(table) => {
+            let shown = format!(in alloc; "{}", table.len())?;
+            out.push_str(&shown)
+        }
+        None => out.push_str("none"),
+    }
+}

@@ -1,15 +1,11 @@
-//! The cases of what is read before a formula: tokens, places among them, tables of names and events, and frames.
+//! The cases of frames of specifications.
 #![tactic(auto)]
 
 mod answer;
-mod events;
-mod put;
 mod spec;
-mod text;
 
-use answer::answer;
 use std::io;
 
 fn main(rt: HostRuntime) -> io::Result<()> {
-    cases::run(&rt, answer)
+    cases::run(&rt, answer::answer)
 }

@@ -1,9 +1,7 @@
 //! Frames of specifications.
 
-use crate::events::{put_events, put_params};
-use crate::put::{put_line, put_word};
-use crate::text::{said, tokens_of};
-use cases::Case;
+use case_events::{put_events, put_params, said, tokens_of};
+use cases::{Case, put_line, put_word};
 use jm_model::{SpecError, SpecFault};
 use jm_spec::{Frame, SpecTree, frame_logic, read_frame, read_spec, tree_of};
 use jm_text::Token;

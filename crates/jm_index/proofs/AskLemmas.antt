@@ -1,13 +1,13 @@
 -- What is asked for stands at the positions that are read.
-use Rattle.std.proofs.Common.{◌≡◌, ℕ, zero, suc, ◌+◌, ◌<◌, ◌≤◌, Bool, true, false, List, [], ◌∷◌, Option, Some, None, length, refl, sym, ap, ◌∙◌, subst, arith, ◌⊎◌, inl, inr}
-use Rattle.std.specs.Prelude.{Contains, slice_get, option_and_then}
+use Rattle.std.proofs.Common.{◌≡◌, ℕ, Bool, true, false, List, [], ◌∷◌, Option, Some, None, sym, ap, ◌∙◌, subst, arith, inl, inr}
+use Rattle.std.specs.Prelude.{Contains, slice_get}
 use Rattle.std.specs.List.{filter_map}
 use Rattle.std.proofs.lemmas.Bool.{both_ways, false_from_ne_true}
 use Rattle.std.proofs.lemmas.Option.{none-some, same_Some}
 use Rattle.jm_model.specs.Bindings.{mask_of, object_at, restriction, is_compatible}
 use Rattle.jm_index.specs.declared.entry.Entry.{Entry}
-use Rattle.jm_index.specs.Index.{Pair, PairList, flag_of, IsFitting, AreLive, asked_slots}
-use Rattle.jm_index.specs.Layout.{Rises, slot_of, slot_at, live_pairs, pair_at, posting_at, IsPath, IsPathBelow, IsIndexed}
+use Rattle.jm_index.specs.Index.{PairList, flag_of, IsFitting, AreLive, asked_slots}
+use Rattle.jm_index.specs.Layout.{Rises, slot_of, slot_at, live_pairs, posting_at, IsPath, IsPathBelow, IsIndexed}
 use Rattle.jm_index.proofs.ReadLemmas.{read_all}
 use Rattle.jm_index.proofs.BindingLemmas.{shared, object_at-restriction, exact}
 use Rattle.jm_index.proofs.EntryLemmas.{asked_slots-live, slot_of_some, pair_at-entry}

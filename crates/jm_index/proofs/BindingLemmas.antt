@@ -1,40 +1,34 @@
 -- Bindings that agree, and what they share.
-use Rattle.std.proofs.Common.{◌≡◌, ℕ, zero, suc, ◌+◌, ◌*◌, ◌/◌, ◌%◌, ◌==◌, ◌<◌, Bool, true, false, cond, List, [], ◌∷◌, Option, Some, None, length, refl, sym, ap, ◌∙◌, subst, arith, eqb}
-use Rattle.std.specs.Prelude.{slice_get, option_and_then}
+use Rattle.std.proofs.Common.{◌≡◌, ℕ, zero, suc, ◌+◌, ◌*◌, ◌/◌, ◌%◌, ◌==◌, ◌<◌, Bool, true, false, cond, List, [], ◌∷◌, Option, Some, None, length, refl, ap, ◌∙◌, subst, arith, eqb}
+use Rattle.std.specs.Prelude.{option_and_then}
 use Rattle.std.proofs.lemmas.Bool.{and_parts, eqb-true, eq-eqb, ne_eqb}
-use Rattle.std.proofs.lemmas.Option.{slice_get_within}
-use Rattle.jm_model.specs.Bindings.{agrees, is_compatible, object_at, restriction, mask_of}
+use Rattle.jm_model.specs.Bindings.{is_compatible, object_at, restriction, mask_of}
 use Rattle.jm_index.specs.Index.{is_same}
 
-even_bit : (k : ℕ) → (2 * k % 2 == 1) ≡ false
-even_bit k = ne_eqb (2 * k % 2) 1 (omega arith)
+-- the lowest bit of a set of parameters, and the rest, by whether the first parameter is bound
+even : (k : ℕ) → ((2 * k % 2 == 1) ≡ false) × (2 * k / 2 ≡ k)
+even k = (ne_eqb (2 * k % 2) 1 (omega arith), omega arith)
 
-odd_bit : (k : ℕ) → ((1 + 2 * k) % 2 == 1) ≡ true
-odd_bit k = eq-eqb ((1 + 2 * k) % 2) 1 (omega arith)
-
-even_half : (k : ℕ) → 2 * k / 2 ≡ k
-even_half k = omega arith
-
-odd_half : (k : ℕ) → (1 + 2 * k) / 2 ≡ k
-odd_half k = omega arith
+odd : (k : ℕ) → (((1 + 2 * k) % 2 == 1) ≡ true) × ((1 + 2 * k) / 2 ≡ k)
+odd k = (eq-eqb ((1 + 2 * k) % 2) 1 (omega arith), omega arith)
 
 -- what b gives to the parameters of a, where the two agree, a gives too
 pub shared : (a b : List (Option ℕ)) (p o : ℕ) → is_compatible a b ≡ true → object_at (restriction b (mask_of a)) p ≡ Some o → object_at a p ≡ Some o
 shared [] [] p o agree at = at
 shared [] (y ∷ b) p o agree at = cc
 shared (x ∷ a) [] p o agree at = cc
-shared (None ∷ a) (y ∷ b) zero o agree at = rw (even_bit (mask_of a)) at at
-shared (None ∷ a) (y ∷ b) (suc p) o agree at = shared a b p o agree (rw (even_half (mask_of a)) at at)
-shared (Some x ∷ a) (None ∷ b) zero o agree at = let none : None ≡ Some o = rw (odd_bit (mask_of a)) at at in cc
-shared (Some x ∷ a) (None ∷ b) (suc p) o agree at = shared a b p o agree (rw (odd_half (mask_of a)) at at)
+shared (None ∷ a) (y ∷ b) zero o agree at = rw (even (mask_of a)).0 at at
+shared (None ∷ a) (y ∷ b) (suc p) o agree at = shared a b p o agree (rw (even (mask_of a)).1 at at)
+shared (Some x ∷ a) (None ∷ b) zero o agree at = let none : None ≡ Some o = rw (odd (mask_of a)).0 at at in cc
+shared (Some x ∷ a) (None ∷ b) (suc p) o agree at = shared a b p o agree (rw (odd (mask_of a)).1 at at)
 shared (Some x ∷ a) (Some y ∷ b) zero o agree at =
     let parts = and_parts (x == y) (is_compatible a b) agree in
     let same : x ≡ y = eqb-true x y parts.0 in
-    let is : Some y ≡ Some o = rw (odd_bit (mask_of a)) at at in
+    let is : Some y ≡ Some o = rw (odd (mask_of a)).0 at at in
     ap (λ (n : ℕ). Some n) same ∙ is
 shared (Some x ∷ a) (Some y ∷ b) (suc p) o agree at =
     let parts = and_parts (x == y) (is_compatible a b) agree in
-    shared a b p o parts.1 (rw (odd_half (mask_of a)) at at)
+    shared a b p o parts.1 (rw (odd (mask_of a)).1 at at)
 
 -- .. and so does b
 pub object_at-restriction : (b : List (Option ℕ)) (mask p o : ℕ) → object_at (restriction b mask) p ≡ Some o → object_at b p ≡ Some o
@@ -52,18 +46,18 @@ exact [] [] agree all = refl
 exact [] (y ∷ b) agree all = cc
 exact (x ∷ a) [] agree all = cc
 exact (None ∷ a) (y ∷ b) agree all =
-    let masks : 2 * mask_of (restriction b (mask_of a)) ≡ 2 * mask_of a = rw (even_bit (mask_of a), even_half (mask_of a)) at all in
+    let masks : 2 * mask_of (restriction b (mask_of a)) ≡ 2 * mask_of a = rw ((even (mask_of a)).0, (even (mask_of a)).1) at all in
     let rest = exact a b agree (omega (arith, masks)) in
-    rw (even_bit (mask_of a), even_half (mask_of a)) (ap (λ (v : List (Option ℕ)). None ∷ v) rest)
+    rw ((even (mask_of a)).0, (even (mask_of a)).1) (ap (λ (v : List (Option ℕ)). None ∷ v) rest)
 exact (Some x ∷ a) (None ∷ b) agree all =
-    let masks : 2 * mask_of (restriction b (mask_of a)) ≡ 1 + 2 * mask_of a = rw (odd_bit (mask_of a), odd_half (mask_of a)) at all in
+    let masks : 2 * mask_of (restriction b (mask_of a)) ≡ 1 + 2 * mask_of a = rw ((odd (mask_of a)).0, (odd (mask_of a)).1) at all in
     absurd (omega (arith, masks))
 exact (Some x ∷ a) (Some y ∷ b) agree all =
     let parts = and_parts (x == y) (is_compatible a b) agree in
     let same : x ≡ y = eqb-true x y parts.0 in
-    let masks : 1 + 2 * mask_of (restriction b (mask_of a)) ≡ 1 + 2 * mask_of a = rw (odd_bit (mask_of a), odd_half (mask_of a)) at all in
+    let masks : 1 + 2 * mask_of (restriction b (mask_of a)) ≡ 1 + 2 * mask_of a = rw ((odd (mask_of a)).0, (odd (mask_of a)).1) at all in
     let rest = exact a b parts.1 (omega (arith, masks)) in
-    rw (odd_bit (mask_of a), odd_half (mask_of a), same) (ap (λ (v : List (Option ℕ)). Some y ∷ v) rest)
+    rw ((odd (mask_of a)).0, (odd (mask_of a)).1, same) (ap (λ (v : List (Option ℕ)). Some y ∷ v) rest)
 
 -- only a parameter of the binding is bound
 pub object_at_within : (b : List (Option ℕ)) (p o : ℕ) → object_at b p ≡ Some o → p < length b

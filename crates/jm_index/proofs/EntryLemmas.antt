@@ -1,15 +1,15 @@
 -- The live entries, by their positions.
-use Rattle.std.proofs.Common.{◌≡◌, ℕ, zero, suc, ◌+◌, ◌<◌, ◌==◌, Bool, true, false, cond, not, ◌&&◌, List, [], ◌∷◌, ◌++◌, Option, Some, None, length, get_or, refl, sym, ap, ◌∙◌, subst, arith}
-use Rattle.std.specs.Prelude.{◌≢◌, AllPairs, Contains, slice_get, slice_set, option_and_then, map, filter, take}
+use Rattle.std.proofs.Common.{◌≡◌, ℕ, zero, suc, ◌+◌, ◌<◌, ◌==◌, Bool, true, false, cond, ◌&&◌, List, [], ◌∷◌, ◌++◌, Option, Some, None, length, get_or, refl, sym, ap, ◌∙◌, subst, arith}
+use Rattle.std.specs.Prelude.{◌≢◌, AllPairs, Contains, slice_get, slice_set, take}
 use Rattle.std.specs.List.{cons_option, filter_map}
 use Rattle.std.proofs.lemmas.Bool.{and_parts, eqb-true, false_from_ne_true}
-use Rattle.std.proofs.lemmas.Option.{cond_some, same_Some, slice_get_within}
+use Rattle.std.proofs.lemmas.Option.{cond_some}
 use Rattle.std.proofs.lemmas.List.Elements.{filter_map-append, Contains-get_or}
-use Rattle.std.proofs.lemmas.List.{set_at, take_more}
+use Rattle.std.proofs.lemmas.List.{take_more}
 use Rattle.jm_model.specs.Bindings.{is_compatible, mask_of}
 use Rattle.jm_index.specs.declared.entry.Entry.{Entry}
-use Rattle.jm_index.specs.Index.{Pair, is_same, without, asked, asked_slots}
-use Rattle.jm_index.specs.Layout.{pair_of, live_pairs, pair_at, live_of, is_live_at, slot_of}
+use Rattle.jm_index.specs.Index.{Pair, is_same, without, asked_slots}
+use Rattle.jm_index.specs.Layout.{pair_of, live_pairs, pair_at, is_live_at, slot_of}
 use Rattle.jm_index.proofs.ReadLemmas.{Contains-none, Contains-cons}
 use Rattle.jm_index.proofs.BindingLemmas.{is_same-true, is_same-same}
 

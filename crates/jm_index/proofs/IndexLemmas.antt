@@ -1,20 +1,20 @@
 -- What lies in memory fits together after each step of a call.
 use Rattle.std.proofs.Common.{◌≡◌, ℕ, zero, suc, ◌+◌, ◌<◌, ◌≤◌, ◌==◌, Bool, true, false, cond, not, List, [], ◌∷◌, ◌++◌, Option, Some, None, length, get_or, refl, sym, ap, ◌∙◌, subst, arith, ◌⊎◌, inl, inr}
-use Rattle.std.specs.Prelude.{◌≢◌, AllPairs, filter, Contains, slice_set, option_and_then, slice_get, take, Result, Ok, Err, OnOk, OnErr}
+use Rattle.std.specs.Prelude.{◌≢◌, AllPairs, filter, Contains, slice_set, take, Result, Ok, Err, OnOk, OnErr}
 use Rattle.std.proofs.Math.ListN.{length-set}
 use Rattle.std.proofs.lemmas.Bool.{cases_lt, cases_eq, cases_Bool, eq-eqb, ne_eqb, both_ways, not-true, false_from_ne_true}
 use Rattle.std.proofs.lemmas.Option.{none-some, same_Some, slice_get-get_or}
 use Rattle.std.proofs.lemmas.List.{set_past, length_push, get_or_push, get_or-set_same, get_or-set_other, set_at}
 use Rattle.std.proofs.lemmas.List.Elements.{Contains-push_cases}
-use Rattle.jm_model.specs.Bindings.{mask_of, object_at}
+use Rattle.jm_model.specs.Bindings.{mask_of}
 use Rattle.jm_marks.specs.Layout.{binding_eq}
 use Rattle.jm_marks.proofs.EqLemmas.{binding_eq-Decides}
 use Rattle.jm_index.specs.declared.entry.Entry.{Entry}
 use Rattle.jm_index.specs.Index.{Pair, PairList, Binds, is_same, without, flag_of, IsKey, AreBelow, IsFitting}
-use Rattle.jm_index.specs.Layout.{pair_of, live_pairs, pair_at, is_live_at, posting_at, IsPath, AllFiled, AreFiled, AreThinned, IsIndexed}
+use Rattle.jm_index.specs.Layout.{pair_of, live_pairs, pair_at, posting_at, IsPath, AreFiled, AreThinned, IsIndexed}
 use Rattle.jm_index.proofs.ReadLemmas.{Contains-none, Contains-of_filter}
 use Rattle.jm_index.proofs.BindingLemmas.{is_same-same}
-use Rattle.jm_index.proofs.EntryLemmas.{pair_of_live, pair_of_dead, pair_at_within, is_live-pair_at, pair_at-hole, pair_at-set_other, pair_at-set_same, position_of, Contains-live, without-none, live_pairs-removed, live_pairs-push, live_pairs-hole, pair_at_past, pair_at-take, pair_at-entry, distinct_pairs}
+use Rattle.jm_index.proofs.EntryLemmas.{pair_of_live, pair_of_dead, pair_at_within, is_live-pair_at, pair_at-hole, pair_at-set_other, pair_at-set_same, position_of, Contains-live, without-none, live_pairs-removed, live_pairs-push, pair_at_past, pair_at-take, pair_at-entry, distinct_pairs}
 
 abbrev Bound : Type 0
 Bound = List (Option ℕ)
@@ -398,3 +398,8 @@ pub list_missing : (entries : List Entry) (place : Bound → Option ℕ) (trees 
 list_missing entries place trees d b i there pair within same =
     let (k, at) = position_of entries pair within in
     none-some k (sym there ∙ ap place (sym same) ∙ i.placed k pair at)
+
+-- a live object of a pair is a key
+pub live_key : (index : PairList) (dead : List Bool) (pair : Pair) (o : ℕ) → IsFitting index dead → Contains index.list pair → Binds pair.binding o → flag_of dead o ≡ false → IsKey index o
+live_key index dead pair o fits there binds lives =
+    (pair, there, binds, false_from_ne_true (flag_of index.dropped o) (λ gone. both_ways (flag_of dead o) lives (fits.reached o gone)))

@@ -5,7 +5,7 @@ use Rattle.std.proofs.lemmas.Bool.{cases_eq, cases_lt}
 use Rattle.std.proofs.lemmas.List.{get_or-set_same, get_or-set_other, get_or_default, get_or_past}
 use Rattle.jm_model.specs.Bindings.{object_at}
 use Rattle.jm_index.specs.declared.entry.Entry.{Entry}
-use Rattle.jm_index.specs.Index.{Binds, flag_of}
+use Rattle.jm_index.specs.Index.{flag_of}
 use Rattle.jm_index.specs.Layout.{posting_of, posting_at, is_live_at, IsFiled, IsPath, IsPathBelow, AllFiled, AreFiled, AreThinned}
 
 -- one more of what stands past the end

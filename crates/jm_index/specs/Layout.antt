@@ -1,7 +1,7 @@
 -- How an index lies in memory: entries in the order in which they were added, some no longer live; for each binding
 -- the position of its entry; and trees, by the set of bound parameters, whose postings are lists of positions. Path 0
 -- of a tree has all its entries, and path o + 1 those that bind object o.
-use Rattle.std.specs.Prelude.{◌≡◌, ℕ, ◌+◌, ◌<◌, ◌≤◌, ◌==◌, Bool, true, false, cond, ◌&&◌, ◌⊎◌, List, [], ◌∷◌, ◌++◌, Option, Some, None, Contains, length, slice_get, slice_index_or, option_and_then}
+use Rattle.std.specs.Prelude.{◌≡◌, ℕ, ◌+◌, ◌<◌, ◌≤◌, ◌==◌, Bool, true, false, cond, ◌&&◌, ◌⊎◌, List, [], ◌∷◌, Option, Some, None, Contains, length, slice_get, slice_index_or, option_and_then}
 use Rattle.std.specs.List.{filter_map}
 use Rattle.std.proofs.Common.{suc}
 use Rattle.jm_model.specs.declared.binding.Binding.{Binding}
@@ -75,13 +75,16 @@ pub record AreFiled (dropped : List Bool) (k : ℕ) (old new : List (List (List 
 -- nothing is added, and no position of a live entry is lost
 pub record AreThinned (entries : List Entry) (old new : List (List (List ℕ))) : Type 0 where
   pub within : (mask path x : ℕ) → Contains (posting_at new mask path) x → Contains (posting_at old mask path) x
-  pub live : (mask path x : ℕ) → is_live_at entries x ≡ true → Contains (posting_at old mask path) x → Contains (posting_at new mask path) x
+  pub live : (mask path x : ℕ) → is_live_at entries x ≡ true → Contains (posting_at old mask path) x
+      → Contains (posting_at new mask path) x
 
 -- what lies in memory fits together
-pub record IsIndexed (entries : List Entry) (place : Binding → Option ℕ) (trees : List (List (List ℕ))) (dropped : List Bool) : Type 0 where
+pub record IsIndexed (entries : List Entry) (place : Binding → Option ℕ) (trees : List (List (List ℕ)))
+    (dropped : List Bool) : Type 0 where
   -- each pair's binding has its position, and each position is that of its binding's pair
   pub placed : (k : ℕ) (pair : Pair) → pair_at entries k ≡ Some pair → place pair.binding ≡ Some k
-  pub found : (b : Binding) (k : ℕ) → place b ≡ Some k → (slot : ℕ) × (pair_at entries k ≡ Some (record { binding = b; slot = slot }))
+  pub found : (b : Binding) (k : ℕ) → place b ≡ Some k
+      → (slot : ℕ) × (pair_at entries k ≡ Some (record { binding = b; slot = slot }))
   -- each pair is reached by each of its objects that wasn't dropped, and by the list of its tree
   pub reached : (k : ℕ) (pair : Pair) → pair_at entries k ≡ Some pair → (path : ℕ) → IsPath dropped pair.binding path
       → Contains (posting_at trees (mask_of pair.binding) path) k

@@ -15,4 +15,4 @@ mod posting;
 mod trees;
 
 pub use index::Index;
-pub use laws::fits_after_death;
+pub use laws::{fits_after_death, live_objects_are_keys};

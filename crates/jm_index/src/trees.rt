@@ -149,7 +149,8 @@ impl Trees {
     ) -> Result<(), NoMemory>
         requires { AllFiled (λ x. x ≤ position) self.old }
         ensures filed { AreFiled dropped.now position self.old self.new }
-        ensures there { OnOk result (flag_of dropped.now object ≡ false → Contains (posting_at self.new mask (object + 1)) position) }
+        ensures there { OnOk result (flag_of dropped.now object ≡ false
+            → Contains (posting_at self.new mask (object + 1)) position) }
     {
         if is_set(dropped, object) {
             return Ok(());

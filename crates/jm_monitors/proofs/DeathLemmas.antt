@@ -8,7 +8,7 @@ use Rattle.jm_model.specs.Bindings.{object_at, objects_of, mask_where}
 use Rattle.jm_model.specs.Meanings.{Meaning, IsCutWord}
 use Rattle.jm_model.specs.declared.binding.Binding.{Binding}
 use Rattle.jm_model.specs.declared.step.Entry.{Entry}
-use Rattle.jm_semantics.specs.Histories.{accepted_death, dead_of, is_dead, dead_mask}
+use Rattle.jm_semantics.specs.Histories.{accepted_death, dead_of, is_dead}
 use Rattle.jm_semantics.proofs.ListLemmas.{Contains-nil, Contains-cons_cases}
 use Rattle.jm_semantics.proofs.BindingLemmas.{below-refl}
 use Rattle.jm_semantics.proofs.DecidingLists.{list_any-at, list_any-from}

@@ -61,8 +61,8 @@ DeathKeepsStore m {S} Stands =
     (trace : List ParametricEvent) (dead : List Bool) (stored : List (Stored S)) (marks : List Binding) (o : ℕ)
     → IsStoreOf m Stands trace dead stored marks → IsStoreOf m Stands trace (after_death dead o) stored marks
 
--- A pass keeps a store. After it exactly the instances that aren't cut are stored, and the marks are exactly the seen bindings
--- with a live object.
+-- A pass keeps a store. After it exactly the instances that aren't cut are stored, and the marks are exactly the seen
+-- bindings with a live object.
 abbrev pub PassKeepsStore : Meaning → {S : Type 0} → (S → List ℕ → Type 0) → Type 0
 PassKeepsStore m {S} Stands =
     (trace : List ParametricEvent) (dead : List Bool) (stored after : List (Stored S)) (marks left : List Binding)

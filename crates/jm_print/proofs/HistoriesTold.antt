@@ -14,17 +14,17 @@ use Rattle.jm_model.specs.declared.step.Outcome.{Outcome}
 use Rattle.jm_model.specs.declared.step.Outcome.TheVariants.{Fired, Refused, Done, Kept, NoMemory}
 use Rattle.jm_model.specs.declared.step.Entry.{Entry}
 use Rattle.jm_print.specs.Lexicons.{Lexicon, name_of}
-use Rattle.jm_print.specs.Texts.{binding_text, firing_text, step_text, entry_text, history_text, HasNamesFrom, IsPrintableFiring, IsPrintableStep}
-use Rattle.jm_print.specs.Told.{IsName, AreNames, HasNames, BindsSome, HaveEight, FitsStep, IsTold, AreTold, HaveNames, AreToldBy, texts_of}
+use Rattle.jm_print.specs.Texts.{binding_text, firing_text, step_text, entry_text, HasNamesFrom, IsPrintableFiring, IsPrintableStep}
+use Rattle.jm_print.specs.Told.{IsName, AreNames, HasNames, BindsSome, HaveEight, FitsStep, IsTold, AreTold}
 use Rattle.jm_print.proofs.Cutting.{Lacks, cut, name-lacks_line_feed, name-lacks_space, name-lacks_equals, AreDigits, decimal-digits, digits-lack}
 use Rattle.jm_print.proofs.BindingsTold.{name-plain, name-same, pairs-same, pairs_cases, lacks_pairs, no_name}
 
 -- two numbers that a test tells apart
-apart : (m n : ℕ) → (m == n) ≡ false → m ≡ n → ⊥
+pub apart : (m n : ℕ) → (m == n) ≡ false → m ≡ n → ⊥
 apart m n other same = true≢false (sym (eq-eqb m n same) ∙ other)
 
 -- the same front
-same_front : (a b c : List ℕ) → a ++ b ≡ a ++ c → b ≡ c
+pub same_front : (a b c : List ℕ) → a ++ b ≡ a ++ c → b ≡ c
 same_front [] b c e = e
 same_front (x ∷ a) b c e = same_front a b c (let i : a ++ b ≡ a ++ c = cc in i)
 
@@ -46,7 +46,7 @@ name-line names j k s t h here there e =
     (name-same names j k h here there parts.0, parts.1)
 
 -- ---- firings
-firing_text-cons : (l : Lexicon) (f : Firing) (rest : List ℕ) → firing_text l f ++ rest ≡ 32 ∷ 32 ∷ 64 ∷ (name_of l.handlers f.handler ++ 32 ∷ (binding_text l f.instance ++ 10 ∷ rest))
+pub firing_text-cons : (l : Lexicon) (f : Firing) (rest : List ℕ) → firing_text l f ++ rest ≡ 32 ∷ 32 ∷ 64 ∷ (name_of l.handlers f.handler ++ 32 ∷ (binding_text l f.instance ++ 10 ∷ rest))
 firing_text-cons l f rest = simp append_assoc
 
 firing-same : (l : Lexicon) (f g : Firing) (s t : List ℕ) → HasNames l → IsPrintableFiring l f → IsPrintableFiring l g → length f.instance ≡ 8 → length g.instance ≡ 8
@@ -71,7 +71,7 @@ abbrev pub ArePrintable : Lexicon → List Firing → Type 0
 ArePrintable l [] = Unit {0}
 ArePrintable l (f ∷ fs) = IsPrintableFiring l f × ArePrintable l fs
 
-printable_firings : (l : Lexicon) (fs : List Firing) → All (IsPrintableFiring l) fs → ArePrintable l fs
+pub printable_firings : (l : Lexicon) (fs : List Firing) → All (IsPrintableFiring l) fs → ArePrintable l fs
 printable_firings l [] all = tt
 printable_firings l (f ∷ fs) all = (all 0 f (omega arith), printable_firings l fs (λ k d within. all (suc k) d (omega arith)))
 
@@ -89,21 +89,21 @@ firings-same l (f ∷ fs) (g ∷ gs) s t h m n i j long e =
     ((λ k. first.0 k ∷ rest.0 k), rest.1)
 
 -- ---- the kinds of rows
-data Row : Type 0 where
+pub data Row : Type 0 where
   fired : Letter → Binding → List Firing → Row
   unfired : Letter → Binding → ℕ → Row
   died : ℕ → Row
   dead : ℕ → ℕ → Row
   passed : ℕ → Row
 
-abbrev step_of : Row → Step
+abbrev pub step_of : Row → Step
 step_of (fired e b fs) = Event e b
 step_of (unfired e b o) = Event e b
 step_of (died o) = Death o
 step_of (dead o q) = Death o
 step_of (passed n) = Pass
 
-abbrev outcome_of : Row → Outcome
+abbrev pub outcome_of : Row → Outcome
 outcome_of (fired e b fs) = Fired fs
 outcome_of (unfired e b o) = Refused o
 outcome_of (died o) = Done
@@ -111,11 +111,11 @@ outcome_of (dead o q) = Refused q
 outcome_of (passed n) = Kept n
 
 -- a row has its names, and fits
-abbrev IsRow : Lexicon → Row → Type 0
+abbrev pub IsRow : Lexicon → Row → Type 0
 IsRow l r = IsPrintableStep l (step_of r) (outcome_of r) × FitsStep (step_of r) (outcome_of r)
 
 -- what is printed is one of the rows
-row_of : (l : Lexicon) (s : Step) (o : Outcome) → IsPrintableStep l s o → (r : Row) × (s ≡ step_of r) × (o ≡ outcome_of r)
+pub row_of : (l : Lexicon) (s : Step) (o : Outcome) → IsPrintableStep l s o → (r : Row) × (s ≡ step_of r) × (o ≡ outcome_of r)
 row_of l (Event e b) (Fired fs) h = (fired e b fs, refl, refl)
 row_of l (Event e b) (Refused o) h = (unfired e b o, refl, refl)
 row_of l (Death o) Done h = (died o, refl, refl)
@@ -323,7 +323,7 @@ end_no_entry : (l : Lexicon) (x : Entry) (s t : List ℕ) → IsTold l x → 101
 end_no_entry l x s t m e =
     no_digit 101 58 (decimal x.caller) s (decimal x.line ++ 32 ∷ (step_text l x.step x.outcome ++ t)) (omega arith) (apart 101 58 refl) (decimal-digits x.caller m.caller) (e ∙ entry_text-cons l x t)
 
-entries-same : (l : Lexicon) (h g : List Entry) (s t : List ℕ) → HasNames l → AreTold l h → AreTold l g → flat_map (entry_text l) h ++ 101 ∷ s ≡ flat_map (entry_text l) g ++ 101 ∷ t → (h ≡ g) × (s ≡ t)
+pub entries-same : (l : Lexicon) (h g : List Entry) (s t : List ℕ) → HasNames l → AreTold l h → AreTold l g → flat_map (entry_text l) h ++ 101 ∷ s ≡ flat_map (entry_text l) g ++ 101 ∷ t → (h ≡ g) × (s ≡ t)
 entries-same l [] [] s t names m n e = (refl, same_front (101 ∷ []) s t e)
 entries-same l [] (y ∷ g) s t names m n e = absurd (end_no_entry l y s (flat_map (entry_text l) g ++ 101 ∷ t) n.0 (e ∙ append_assoc (entry_text l y) (flat_map (entry_text l) g) (101 ∷ t)))
 entries-same l (x ∷ h) [] s t names m n e = absurd (end_no_entry l x t (flat_map (entry_text l) h ++ 101 ∷ s) m.0 (sym e ∙ append_assoc (entry_text l x) (flat_map (entry_text l) h) (101 ∷ s)))
@@ -333,32 +333,4 @@ entries-same l (x ∷ h) (y ∷ g) s t names m n e =
     let whole : entry_text l x ++ A ≡ entry_text l y ++ B = sym (append_assoc (entry_text l x) (flat_map (entry_text l) h) (101 ∷ s)) ∙ e ∙ append_assoc (entry_text l y) (flat_map (entry_text l) g) (101 ∷ t) in
     let first = entry-same l x y A B names m.0 n.0 whole in
     let rest = entries-same l h g s t names m.1 n.1 first.1 in
-    ((λ j. first.0 j ∷ rest.0 j), rest.1)
-
--- ---- whole texts
-history_text-cons : (l : Lexicon) (h : List Entry) (s : List ℕ) → history_text l h ++ s ≡ codes "spec " ++ (l.specification ++ 10 ∷ (flat_map (entry_text l) h ++ 101 ∷ (codes "nd " ++ (decimal (length h) ++ 10 ∷ s))))
-history_text-cons l h s = simp append_assoc
-
-pub histories_are_told : (l : Lexicon) (h g : List Entry) (s t : List ℕ) → HasNames l → AreTold l h → AreTold l g → history_text l h ++ s ≡ history_text l g ++ t → (h ≡ g) × (s ≡ t)
-histories_are_told l h g s t names m n e =
-    let S = codes "nd " ++ (decimal (length h) ++ 10 ∷ s) in
-    let T = codes "nd " ++ (decimal (length g) ++ 10 ∷ t) in
-    let A = 10 ∷ (flat_map (entry_text l) h ++ 101 ∷ S) in
-    let B = 10 ∷ (flat_map (entry_text l) g ++ 101 ∷ T) in
-    let whole = sym (history_text-cons l h s) ∙ e ∙ history_text-cons l g t in
-    let named = same_front l.specification A B (same_front (codes "spec ") (l.specification ++ A) (l.specification ++ B) whole) in
-    let entries = entries-same l h g S T names m n (same_front (10 ∷ []) (flat_map (entry_text l) h ++ 101 ∷ S) (flat_map (entry_text l) g ++ 101 ∷ T) named) in
-    let counts = same_front (codes "nd ") (decimal (length h) ++ 10 ∷ s) (decimal (length g) ++ 10 ∷ t) entries.1 in
-    let here : decimal (length h) ++ 10 ∷ s ≡ decimal (length h) ++ 10 ∷ t = counts ∙ ap (λ k. decimal (length k) ++ 10 ∷ t) (sym entries.0) in
-    (entries.0, same_front (10 ∷ []) s t (same_front (decimal (length h)) (10 ∷ s) (10 ∷ t) here))
-
-pub texts_are_told : (ls : List Lexicon) (hs gs : List (List Entry)) (s t : List ℕ) → HaveNames ls → AreToldBy ls hs → AreToldBy ls gs → texts_of ls hs ++ s ≡ texts_of ls gs ++ t → (hs ≡ gs) × (s ≡ t)
-texts_are_told [] [] [] s t names m n e = (refl, e)
-texts_are_told [] [] (g ∷ gs) s t names m n e = absurd n
-texts_are_told [] (h ∷ hs) gs s t names m n e = absurd m
-texts_are_told (l ∷ ls) [] gs s t names m n e = absurd m
-texts_are_told (l ∷ ls) (h ∷ hs) [] s t names m n e = absurd n
-texts_are_told (l ∷ ls) (h ∷ hs) (g ∷ gs) s t names m n e =
-    let first = histories_are_told l h g (texts_of ls hs ++ s) (texts_of ls gs ++ t) names.0 m.0 n.0 (sym (append_assoc (history_text l h) (texts_of ls hs) s) ∙ e ∙ append_assoc (history_text l g) (texts_of ls gs) t) in
-    let rest = texts_are_told ls hs gs s t names.1 m.1 n.1 first.1 in
     ((λ j. first.0 j ∷ rest.0 j), rest.1)

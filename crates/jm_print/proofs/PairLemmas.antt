@@ -1,5 +1,5 @@
 -- The pairs of a binding, printed parameter by parameter.
-use Rattle.std.proofs.Common.{◌≡◌, ◌≢◌, ℕ, ◌+◌, ◌<◌, ◌≤◌, Bool, true, false, List, [], ◌∷◌, ◌++◌, length, get_or, drop, take, refl, sym, ◌∙◌, ap, subst, arith, append_assoc, append-nil}
+use Rattle.std.proofs.Common.{◌≡◌, ◌≢◌, ℕ, zero, suc, ◌+◌, ◌<◌, ◌≤◌, Bool, true, false, List, [], ◌∷◌, ◌++◌, length, get_or, drop, take, refl, sym, ◌∙◌, ap, subst, arith, append_assoc, append-nil}
 use Rattle.std.specs.Prelude.{Option, Some, None, codes, if◌then◌else◌, option_and_then}
 use Rattle.std.specs.List.{flat_map}
 use Rattle.std.proofs.lemmas.List.{drop_more, drop_all, take_more}
@@ -7,8 +7,12 @@ use Rattle.std.proofs.lemmas.Option.{slice_get-get_or}
 use Rattle.std.proofs.lemmas.Grind.{flat_map-append}
 use Rattle.jm_model.specs.declared.binding.Binding.{Binding}
 use Rattle.jm_model.specs.Bindings.{object_at, mask_of}
+use Rattle.jm_handler.specs.Renderings.{AreNamed}
 use Rattle.jm_print.specs.Lexicons.{Lexicon}
 use Rattle.jm_print.specs.Texts.{pair_text, later_pairs_text, pairs_text, HasNamesFrom}
+
+none_some : (o : ℕ) → None ≡ Some o → ⊥
+none_some o is = cc
 
 -- what is still to be printed of the parameters from p on
 abbrev pub rest_text : Bool → Lexicon → ℕ → Binding → List ℕ
@@ -39,6 +43,14 @@ names-next l p b h names = go (get_or b p None) (subst (HasNamesFrom l p) (drop_
 
 pub names-here : (l : Lexicon) (p o : ℕ) (b : Binding) → p < length b → object_at b p ≡ Some o → HasNamesFrom l p (drop p b) → (p < length l.parameters) × (o < length l.objects)
 names-here l p o b h at names = let n = subst (HasNamesFrom l p) (next_place b p (Some o) h at) names in (n.0, n.1)
+
+-- each object that is bound has a name
+pub names-bound : (l : Lexicon) (p : ℕ) (b : Binding) → HasNamesFrom l p b → AreNamed l.objects b
+names-bound l p [] names q o is = absurd (none_some o is)
+names-bound l p (None ∷ b) names zero o is = absurd (none_some o is)
+names-bound l p (None ∷ b) names (suc q) o is = names-bound l (p + 1) b names q o is
+names-bound l p (Some x ∷ b) names zero o is = let same : x ≡ o = cc in omega (arith, names.1)
+names-bound l p (Some x ∷ b) names (suc q) o is = names-bound l (p + 1) b names.2 q o is
 
 -- a binding of no parameter prints a dash
 pub unbound_text : (l : Lexicon) (p : ℕ) (b : Binding) → mask_of b ≡ 0 → pairs_text l p b ≡ codes "-"

@@ -2,3 +2,4 @@ pub mod Lexicons
 pub mod Texts
 pub mod Summaries
 pub mod Told
+pub mod Unmarked

@@ -8,7 +8,8 @@ use Rattle.jm_model.specs.declared.step.Step.TheVariants.{Event, Death, Pass}
 use Rattle.jm_model.specs.declared.step.Outcome.{Outcome}
 use Rattle.jm_model.specs.declared.step.Outcome.TheVariants.{Fired, Refused, Done, Kept}
 use Rattle.jm_model.specs.declared.step.Entry.{Entry}
-use Rattle.jm_print.specs.Lexicons.{Lexicon, name_of}
+use Rattle.jm_handler.specs.Renderings.{occasion, handler_text}
+use Rattle.jm_print.specs.Lexicons.{Lexicon, name_of, statements_of}
 
 -- a parameter with its object
 abbrev pub pair_text : Lexicon → ℕ → ℕ → List ℕ
@@ -30,26 +31,54 @@ pairs_text l p (Some o ∷ b) = pair_text l p o ++ later_pairs_text l (p + 1) b
 abbrev pub binding_text : Lexicon → Binding → List ℕ
 binding_text l b = pairs_text l 0 b
 
+-- ---- the lines of the entries
 -- the line of a handler that ran
 abbrev pub firing_text : Lexicon → Firing → List ℕ
 firing_text l f = codes "  @" ++ name_of l.handlers f.handler ++ codes " " ++ binding_text l f.instance ++ codes "\n"
 
--- what is said of a step and its outcome, with the lines that follow
-abbrev pub step_text : Lexicon → Step → Outcome → List ℕ
-step_text l (Event e b) (Fired firings) = name_of l.events e.0 ++ codes " " ++ binding_text l b ++ codes " fired " ++ decimal (length firings) ++ codes "\n" ++ flat_map (firing_text l) firings
-step_text l (Event e b) (Refused o) = name_of l.events e.0 ++ codes " " ++ binding_text l b ++ codes " refused " ++ name_of l.objects o ++ codes "\n"
-step_text l (Death o) Done = codes "death " ++ name_of l.objects o ++ codes " done\n"
-step_text l (Death o) (Refused q) = codes "death " ++ name_of l.objects o ++ codes " refused " ++ name_of l.objects q ++ codes "\n"
-step_text l Pass (Kept n) = codes "pass kept " ++ decimal n ++ codes "\n"
-step_text l _ _ = []
+-- what is said of a step and its outcome, with the lines that follow, where this is the text of a handler that ran
+abbrev pub outcome_text : (Firing → List ℕ) → Lexicon → Step → Outcome → List ℕ
+outcome_text run l (Event e b) (Fired firings) =
+    name_of l.events e.0 ++ codes " " ++ binding_text l b ++ codes " fired " ++ decimal (length firings) ++ codes "\n"
+    ++ flat_map run firings
+outcome_text run l (Event e b) (Refused o) =
+    name_of l.events e.0 ++ codes " " ++ binding_text l b ++ codes " refused " ++ name_of l.objects o ++ codes "\n"
+outcome_text run l (Death o) Done = codes "death " ++ name_of l.objects o ++ codes " done\n"
+outcome_text run l (Death o) (Refused q) =
+    codes "death " ++ name_of l.objects o ++ codes " refused " ++ name_of l.objects q ++ codes "\n"
+outcome_text run l Pass (Kept n) = codes "pass kept " ++ decimal n ++ codes "\n"
+outcome_text run l _ _ = []
 
--- an entry
+-- the same without the handlers' own lines
+abbrev pub step_text : Lexicon → Step → Outcome → List ℕ
+step_text l s o = outcome_text (firing_text l) l s o
+
+-- an entry, without the handlers' own lines
 abbrev pub entry_text : Lexicon → Entry → List ℕ
 entry_text l x = decimal x.caller ++ codes ":" ++ decimal x.line ++ codes " " ++ step_text l x.step x.outcome
 
+-- the lines of a history without the handlers' own
+abbrev pub bare_text : Lexicon → List Entry → List ℕ
+bare_text l h =
+    codes "spec " ++ l.specification ++ codes "\n" ++ flat_map (entry_text l) h
+    ++ codes "end " ++ decimal (length h) ++ codes "\n"
+
+-- ---- with the handlers' own lines
+-- a handler that ran at an entry: its line, and what it prints
+abbrev pub run_text : Lexicon → Entry → Firing → List ℕ
+run_text l x f =
+    firing_text l f ++ handler_text (occasion f.instance l.objects x.caller x.line) (statements_of l.statements f.handler)
+
+-- an entry
+abbrev pub full_entry_text : Lexicon → Entry → List ℕ
+full_entry_text l x =
+    decimal x.caller ++ codes ":" ++ decimal x.line ++ codes " " ++ outcome_text (run_text l x) l x.step x.outcome
+
 -- a history
 abbrev pub history_text : Lexicon → List Entry → List ℕ
-history_text l h = codes "spec " ++ l.specification ++ codes "\n" ++ flat_map (entry_text l) h ++ codes "end " ++ decimal (length h) ++ codes "\n"
+history_text l h =
+    codes "spec " ++ l.specification ++ codes "\n" ++ flat_map (full_entry_text l) h
+    ++ codes "end " ++ decimal (length h) ++ codes "\n"
 
 -- ---- what can be printed
 -- each parameter from p on that is bound has a name, and so has its object

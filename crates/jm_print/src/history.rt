@@ -1,21 +1,28 @@
 ghost use Rattle.std.specs.Prelude.{◌≡◌, ◌<◌, ◌++◌, [], codes, length, map, All, IfOk, OnOk, if◌then◌else◌};
 ghost use Rattle.std.specs.List.{flat_map};
 ghost use Rattle.jm_print.specs.Lexicons.{name_of, lexicon_of};
-ghost use Rattle.jm_print.specs.Texts.{pair_text, binding_text, firing_text, step_text, entry_text, history_text, HasNamesFrom, IsPrintableFiring, IsPrintableStep, IsPrintable};
+ghost use Rattle.jm_handler.specs.Renderings.{occasion, handler_text};
+ghost use Rattle.jm_print.specs.Lexicons.{statements_of};
+ghost use Rattle.jm_print.specs.Texts.{pair_text, binding_text, firing_text, run_text, outcome_text};
+ghost use Rattle.jm_print.specs.Texts.{full_entry_text, history_text};
+ghost use Rattle.jm_print.specs.Texts.{HasNamesFrom, IsPrintableFiring, IsPrintableStep, IsPrintable};
 
 use crate::page::Page;
 use jm_events::{EventTable, Names};
+use jm_handler::Handler;
 use jm_history::{Entry, History};
 use jm_model::{Binding, Firing, Firings, Letter, NoMemory, Outcome, Step};
 use std::alloc::Global;
 use std::marker::Model;
 
-/// The names that a history is printed with.
+/// The names that a history is printed with, and what the handlers print.
 #[derive(Drop)]
 struct Printer<'a> {
+    alloc: Global,
     specification: &'a str,
     table: &'a EventTable,
-    handlers: &'a Names,
+    categories: &'a Names,
+    handlers: &'a [Handler],
     objects: &'a Names,
 }
 
@@ -24,26 +31,32 @@ impl<'a> Model for Printer<'a> {
 
     ghost Value = { Lexicon };
 
-    ghost view = { λ p. lexicon_of p.specification.now p.table.now p.handlers.now p.objects.now };
+    ghost view = { λ p. lexicon_of p.specification.now p.table.now p.categories.now p.objects.now p.handlers.now };
 }
 
-/// The text of a history: its specification, a line for each entry and for each handler that ran, and how many entries
-/// there are. No entry may have met want of memory, and each letter, parameter, handler and object has its name.
+/// The text of a history: its specification, a line for each entry and for each handler that ran, with the lines that the
+/// handler prints behind it, and how many entries there are. No entry may have met want of memory, and each letter,
+/// parameter, handler and object has its name. The handlers stand in the order of their categories; one that isn't there
+/// prints nothing.
 pub fn render_history(
     alloc: Global,
     name: &str,
     history: &History,
     table: &EventTable,
     categories: &Names,
+    handlers: &[Handler],
     objects: &Names,
 ) -> Result<Vec<u8>, NoMemory>
-    requires { All (IsPrintable (lexicon_of name.now table.now categories.now objects.now)) history.now }
-    ensures { IfOk result (λ text. text.items ≡ history_text (lexicon_of name.now table.now categories.now objects.now) history.now) }
+    requires { All (IsPrintable (lexicon_of name.now table.now categories.now objects.now handlers.now)) history.now }
+    ensures { IfOk result (λ text.
+        text.items ≡ history_text (lexicon_of name.now table.now categories.now objects.now handlers.now) history.now) }
 {
     let printer = Printer {
+        alloc,
         specification: name,
         table,
-        handlers: categories,
+        categories,
+        handlers,
         objects,
     };
     let entries = history.entries(alloc)?;
@@ -62,7 +75,8 @@ impl Printer<'_> {
     /// The entries.
     fn entries(&self, page: &mut Page, entries: &[&Entry]) -> Result<(), NoMemory>
         requires { All (IsPrintable self.now) (map (λ entry. entry.now) entries.now) }
-        ensures { OnOk result (page.new ≡ page.old ++ flat_map (entry_text self.now) (map (λ entry. entry.now) entries.now)) }
+        ensures { OnOk result (page.new ≡ page.old
+            ++ flat_map (full_entry_text self.now) (map (λ entry. entry.now) entries.now)) }
     {
         for entry in entries {
             self.entry(page, entry)?;
@@ -73,23 +87,30 @@ impl Printer<'_> {
     /// An entry, with the lines that follow.
     fn entry(&self, page: &mut Page, entry: &Entry) -> Result<(), NoMemory>
         requires { IsPrintable self.now entry.now }
-        ensures { OnOk result (page.new ≡ page.old ++ entry_text self.now entry.now) }
+        ensures { OnOk result (page.new ≡ page.old ++ full_entry_text self.now entry.now) }
     {
         page.number(u64::from(entry.caller))?;
         page.text(":")?;
         page.number(u64::from(entry.line))?;
         page.text(" ")?;
-        self.step(page, &entry.step, &entry.outcome)
+        self.step(page, entry, &entry.step, &entry.outcome)
     }
 
-    /// What is said of a step and its outcome.
-    fn step(&self, page: &mut Page, step: &Step, outcome: &Outcome) -> Result<(), NoMemory>
+    /// What is said of a step of an entry and its outcome.
+    fn step(
+        &self,
+        page: &mut Page,
+        entry: &Entry,
+        step: &Step,
+        outcome: &Outcome,
+    ) -> Result<(), NoMemory>
         requires { IsPrintableStep self.now step.now outcome.now }
-        ensures { OnOk result (page.new ≡ page.old ++ step_text self.now step.now outcome.now) }
+        ensures { OnOk result (page.new ≡ page.old
+            ++ outcome_text (run_text self.now entry.now) self.now step.now outcome.now) }
     {
         match (step, outcome) {
             (Step::Event { letter, binding }, Outcome::Fired(firings)) => {
-                self.fired(page, *letter, binding, firings)
+                self.fired(page, entry, *letter, binding, firings)
             }
             (Step::Event { letter, binding }, Outcome::Refused(object)) => {
                 self.event(page, *letter, binding)?;
@@ -122,39 +143,77 @@ impl Printer<'_> {
     fn fired(
         &self,
         page: &mut Page,
+        entry: &Entry,
         letter: Letter,
         binding: &Binding,
         firings: &Firings,
     ) -> Result<(), NoMemory>
         requires event { (letter.0 < length self.now.events) × HasNamesFrom self.now 0 binding.now }
         requires firings { All (IsPrintableFiring self.now) firings.now }
-        ensures { OnOk result (page.new ≡ page.old ++ step_text self.now (Step.Event letter binding.now) (Outcome.Fired firings.now)) }
+        ensures { OnOk result (page.new ≡ page.old
+            ++ outcome_text (run_text self.now entry.now) self.now (Step.Event letter binding.now) (Outcome.Fired firings.now)) }
     {
         self.event(page, letter, binding)?;
         page.text(" fired ")?;
         page.number(firings.len() as u64)?;
         page.text("\n")?;
-        self.firings(page, firings)
+        self.firings(page, entry, firings)
     }
 
-    /// A line for each handler that ran.
-    fn firings(&self, page: &mut Page, firings: &Firings) -> Result<(), NoMemory>
+    /// The lines of each handler that ran at an entry.
+    fn firings(&self, page: &mut Page, entry: &Entry, firings: &Firings) -> Result<(), NoMemory>
         requires { All (IsPrintableFiring self.now) firings.now }
-        ensures { OnOk result (page.new ≡ page.old ++ flat_map (firing_text self.now) firings.now) }
+        ensures { OnOk result (page.new ≡ page.old ++ flat_map (run_text self.now entry.now) firings.now) }
     {
         for i in 0..firings.len() {
-            self.firing(page, firings.get(i))?;
+            let firing = firings.get(i);
+            self.run(page, entry, &firing)?;
         }
         Ok(())
     }
 
+    /// The line of a handler that ran at an entry, and what it prints.
+    fn run(&self, page: &mut Page, entry: &Entry, firing: &Firing) -> Result<(), NoMemory>
+        requires { IsPrintableFiring self.now firing.now }
+        ensures { OnOk result (page.new ≡ page.old ++ run_text self.now entry.now firing.now) }
+    {
+        self.firing(page, firing)?;
+        match self.handlers.get(usize::from(firing.handler)) {
+            Some(handler) => self.handler(page, entry, handler, firing),
+            None => Ok(()),
+        }
+    }
+
+    /// What a handler that ran at an entry prints.
+    fn handler(
+        &self,
+        page: &mut Page,
+        entry: &Entry,
+        handler: &Handler,
+        firing: &Firing,
+    ) -> Result<(), NoMemory>
+        requires { IsPrintableFiring self.now firing.now }
+        ensures { OnOk result (page.new ≡ page.old
+            ++ handler_text (occasion firing.now.instance self.now.objects entry.now.caller entry.now.line)
+            handler.now) }
+    {
+        let text = handler.render(
+            self.alloc,
+            &firing.instance,
+            self.objects,
+            entry.caller,
+            entry.line,
+        )?;
+        page.bytes(text.as_slice())
+    }
+
     /// The line of a handler that ran.
-    fn firing(&self, page: &mut Page, firing: Firing) -> Result<(), NoMemory>
-        requires { IsPrintableFiring self.now firing }
-        ensures { OnOk result (page.new ≡ page.old ++ firing_text self.now firing) }
+    fn firing(&self, page: &mut Page, firing: &Firing) -> Result<(), NoMemory>
+        requires { IsPrintableFiring self.now firing.now }
+        ensures { OnOk result (page.new ≡ page.old ++ firing_text self.now firing.now) }
     {
         page.text("  @")?;
-        page.text(self.handlers.name(u32::from(firing.handler)))?;
+        page.text(self.categories.name(u32::from(firing.handler)))?;
         page.text(" ")?;
         self.binding(page, &firing.instance)?;
         page.text("\n")

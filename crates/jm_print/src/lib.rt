@@ -10,5 +10,5 @@ mod page;
 mod summary;
 
 pub use history::render_history;
-pub use laws::{text_determines_history, texts_split_in_one_way};
+pub use laws::{marked_lines_can_be_dropped, text_determines_history, texts_split_in_one_way};
 pub use summary::render_summary;

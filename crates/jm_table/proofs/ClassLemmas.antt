@@ -48,7 +48,7 @@ values_more xs v i f count each value k within =
     ]
 
 -- a place in rows of this width is in one of the rows
-pub place_within : (k rows width : ℕ) → k < rows * width → (0 < width) × (k / width < rows)
-place_within k rows width lt =
-    let some : 0 < width = elim (cases_lt 0 width) [ inl some ↦ some | inr none ↦ absurd (omega (arith, lt, mul-le rows width rows 0 (le_refl rows) none)) ] in
-    (some, div_below k width rows some lt)
+pub place_within : (k count width : ℕ) → k < count * width → (0 < width) × (k / width < count)
+place_within k count width lt =
+    let some : 0 < width = elim (cases_lt 0 width) [ inl some ↦ some | inr none ↦ absurd (omega (arith, lt, mul-le count width count 0 (le_refl count) none)) ] in
+    (some, div_below k width count some lt)

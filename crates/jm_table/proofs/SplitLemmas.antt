@@ -1,6 +1,8 @@
 use Rattle.std.proofs.Common.{ℕ, zero, suc, ◌≡◌, ◌≢◌, ◌<◌, ◌≤◌, ◌+◌, ◌*◌, ◌↔◌, inl, inr, Bool, true, false, List, [], ◌∷◌, length, get_or, refl, sym, ap, subst, ◌∙◌, arith}
 use mathlib.Core.Bool.{not, beq}
 use Rattle.std.specs.Bool.{IsTrue, OnFalse}
+use Rattle.std.specs.Prelude.{Result, OnOk}
+use Rattle.std.proofs.lemmas.Result.{IfOk-weaker}
 use Rattle.std.proofs.lemmas.Bool.Decides.{eqb_tells}
 use Rattle.std.proofs.lemmas.Bool.{cases_lt}
 use Rattle.std.proofs.lemmas.Nat.{mul-add-lt}
@@ -128,8 +130,9 @@ module _ (t : Transitions) (classes : List ℕ) where
             ]
           ]
 
--- the same of the states that there are keys of
-pub numbered_of : (n : ℕ) (keys list firsts classes new_firsts : List ℕ) → list ≡ keys → length keys ≡ n
-    → AreNumbered (length list) list firsts classes new_firsts → AreNumbered n keys firsts classes new_firsts
-numbered_of n keys list firsts classes new_firsts same count h =
-    subst (λ m. AreNumbered m keys firsts classes new_firsts) count (subst (λ ks. AreNumbered (length ks) ks firsts classes new_firsts) same h)
+-- what follows from classes by keys, where the keys are lent as this list
+pub on_split : {E : Type 0} (r : Result (Unit {0}) E) (n : ℕ) (keys list firsts classes new_firsts : List ℕ) (Q : Type 0) → list ≡ keys → length keys ≡ n
+    → (AreNumbered n keys firsts classes new_firsts → Q) → OnOk r (AreNumbered (length list) list firsts classes new_firsts) → OnOk r Q
+on_split r n keys list firsts classes new_firsts Q same count follows =
+    IfOk-weaker r (λ _. AreNumbered (length list) list firsts classes new_firsts) (λ _. Q)
+    (λ _ h. follows (subst (λ m. AreNumbered m keys firsts classes new_firsts) count (subst (λ ks. AreNumbered (length ks) ks firsts classes new_firsts) same h)))

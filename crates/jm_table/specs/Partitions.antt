@@ -13,38 +13,51 @@ pub record IsPartition (n : ℕ) (classes firsts : List ℕ) : Type 0 where
   pub few : length firsts ≤ n
   pub start : slice_index firsts 0 ≡ 0
   pub within : (p : ℕ) → p < n → slice_index classes p < length firsts
-  pub first : (c : ℕ) → c < length firsts → (slice_index firsts c < n) × (slice_index classes (slice_index firsts c) ≡ c)
+  pub first : (c : ℕ) → c < length firsts
+      → (slice_index firsts c < n) × (slice_index classes (slice_index firsts c) ≡ c)
 
 -- states of different classes can be told apart
 abbrev pub IsSound : Transitions → List ℕ → Type 0
-IsSound t classes = (p q : ℕ) → p < t.states → q < t.states → slice_index classes p ≢ slice_index classes q → AreDistinguishable t p q
+IsSound t classes =
+    (p q : ℕ) → p < t.states → q < t.states → slice_index classes p ≢ slice_index classes q → AreDistinguishable t p q
 
--- states of one class are in the same groups, of those below this number
+-- of each class all states are in the group, or none
+abbrev pub AgreesIn : Transitions → List ℕ → ℕ → Type 0
+AgreesIn t classes group =
+    (p q : ℕ) → p < t.states → q < t.states → slice_index classes p ≡ slice_index classes q
+    → IsInGroup t p group ↔ IsInGroup t q group
+
+-- the same of each group below this number
 abbrev pub AgreesBelow : Transitions → List ℕ → ℕ → Type 0
-AgreesBelow t classes groups =
-    (group : ℕ) → group < groups → (p q : ℕ) → p < t.states → q < t.states → slice_index classes p ≡ slice_index classes q → IsInGroup t p group ↔ IsInGroup t q group
+AgreesBelow t classes groups = (group : ℕ) → group < groups → AgreesIn t classes group
 
 -- each letter leads from states of one class to states of one class
 abbrev pub IsStable : Transitions → List ℕ → Type 0
 IsStable t classes =
     (p q : ℕ) → p < t.states → q < t.states → slice_index classes p ≡ slice_index classes q
-    → (letter : ℕ) → letter < t.letters → slice_index classes (next_of t p letter) ≡ slice_index classes (next_of t q letter)
+    → (letter : ℕ) → letter < t.letters
+    → slice_index classes (next_of t p letter) ≡ slice_index classes (next_of t q letter)
 
 -- states of one class were of one class before
 abbrev pub IsFiner : ℕ → List ℕ → List ℕ → Type 0
-IsFiner n old new = (p q : ℕ) → p < n → q < n → slice_index new p ≡ slice_index new q → slice_index old p ≡ slice_index old q
+IsFiner n old new =
+    (p q : ℕ) → p < n → q < n → slice_index new p ≡ slice_index new q → slice_index old p ≡ slice_index old q
 
 -- ---- tests of two states
 
 -- the test tells the states apart
 abbrev pub Tells : Test → Transitions → List ℕ → ℕ → ℕ → Type 0
 Tells (Group group) t classes p q = GroupTells t group p q
-Tells Letters t classes p q = (letter : ℕ) × (letter < t.letters) × (slice_index classes (next_of t p letter) ≢ slice_index classes (next_of t q letter))
+Tells Letters t classes p q =
+    (letter : ℕ) × (letter < t.letters)
+    × (slice_index classes (next_of t p letter) ≢ slice_index classes (next_of t q letter))
 
 -- the test finds no difference
 abbrev pub FindsAlike : Test → Transitions → List ℕ → ℕ → ℕ → Type 0
 FindsAlike (Group group) t classes p q = IsInGroup t p group ↔ IsInGroup t q group
-FindsAlike Letters t classes p q = (letter : ℕ) → letter < t.letters → slice_index classes (next_of t p letter) ≡ slice_index classes (next_of t q letter)
+FindsAlike Letters t classes p q =
+    (letter : ℕ) → letter < t.letters
+    → slice_index classes (next_of t p letter) ≡ slice_index classes (next_of t q letter)
 
 -- the test is of a group that is there, or of letters
 abbrev pub IsTestOf : Transitions → Test → Type 0
@@ -55,7 +68,8 @@ IsTestOf t Letters = Unit {0}
 abbrev pub first_of : List ℕ → List ℕ → ℕ → ℕ
 first_of classes firsts p = slice_index firsts (slice_index classes p)
 
--- the key of a state is its class, where the test finds it like the first state of its class, and else a number behind all classes
+-- the key of a state is its class, where the test finds it like the first state of its class, and else a number behind
+-- all classes
 abbrev pub IsKeyOf : Test → Transitions → List ℕ → List ℕ → ℕ → ℕ → Type 0
 IsKeyOf test t classes firsts p key =
     ((key ≡ slice_index classes p) × FindsAlike test t classes p (first_of classes firsts p))
@@ -77,7 +91,8 @@ pub record IsKnown (keys numbers firsts : List ℕ) (key number : ℕ) : Type 0 
 -- each number that was given is that of the key of its first state, which is below n
 abbrev pub AreGiven : ℕ → List ℕ → List ℕ → List ℕ → Type 0
 AreGiven n keys numbers firsts =
-    (c : ℕ) → c < length firsts → (slice_index firsts c < n) × (slice_index numbers (slice_index keys (slice_index firsts c)) ≡ c)
+    (c : ℕ) → c < length firsts
+    → (slice_index firsts c < n) × (slice_index numbers (slice_index keys (slice_index firsts c)) ≡ c)
 
 -- the keys can give classes in which the first states keep their classes
 pub record FitClasses (n : ℕ) (firsts keys : List ℕ) : Type 0 where
@@ -85,10 +100,12 @@ pub record FitClasses (n : ℕ) (firsts keys : List ℕ) : Type 0 where
   pub within : (p : ℕ) → p < n → slice_index keys p < 2 * length firsts
   pub first : (c : ℕ) → c < length firsts → slice_index keys (slice_index firsts c) ≡ c
 
--- states have one class exactly where they have one key; there is a class more where a key is none of the classes that were there
+-- States have one class exactly where they have one key; there is a class more where a key is none of the classes that
+-- were there.
 pub record AreNumbered (n : ℕ) (keys firsts new_classes new_firsts : List ℕ) : Type 0 where
   pub partition : IsPartition n new_classes new_firsts
-  pub by_keys : (p q : ℕ) → p < n → q < n → (slice_index new_classes p ≡ slice_index new_classes q) ↔ (slice_index keys p ≡ slice_index keys q)
+  pub by_keys : (p q : ℕ) → p < n → q < n
+      → (slice_index new_classes p ≡ slice_index new_classes q) ↔ (slice_index keys p ≡ slice_index keys q)
   pub grown : length firsts ≤ length new_firsts
   pub more : (p : ℕ) → p < n → length firsts ≤ slice_index keys p → length firsts < length new_firsts
 
@@ -99,5 +116,7 @@ pub record IsQuotient (t : Transitions) (classes firsts : List ℕ) (u : Transit
   pub states : u.states ≡ length firsts
   pub letters : u.letters ≡ t.letters
   pub groups : length u.groups ≡ length t.groups
-  pub next : (c letter : ℕ) → c < length firsts → letter < t.letters → next_of u c letter ≡ slice_index classes (next_of t (slice_index firsts c) letter)
-  pub each : (c group : ℕ) → c < length firsts → group < length t.groups → IsInGroup u c group ↔ IsInGroup t (slice_index firsts c) group
+  pub next : (c letter : ℕ) → c < length firsts → letter < t.letters
+      → next_of u c letter ≡ slice_index classes (next_of t (slice_index firsts c) letter)
+  pub each : (c group : ℕ) → c < length firsts → group < length t.groups
+      → IsInGroup u c group ↔ IsInGroup t (slice_index firsts c) group

@@ -10,8 +10,8 @@ use jm_model::{Letter, NoMemory};
 use std::alloc::Global;
 
 impl Table {
-    /// The table that is in the same groups after every word, the empty one included, and of whose states no two agree in
-    /// groups after all words. `NoMemory` comes for want of memory alone; the table is gone then.
+    /// The table that is in the same groups after every word, the empty one included, and of which no two states agree
+    /// in groups after all words. After want of memory the table is gone.
     ///
     /// Its states are the classes that Moore's refinement finds (Moore 1956), in at most a round for each state.
     pub fn minimise(self) -> Result<Table, NoMemory>
@@ -24,7 +24,8 @@ impl Table {
     {
         let alloc = self.allocator();
         let partition = equivalence(alloc, &self)?;
-        quotient(alloc, &self, &partition)
+        let minimal = quotient(alloc, &self, &partition)?;
+        Ok(minimal)
     }
 }
 
@@ -50,7 +51,8 @@ fn next_classes(alloc: Global, table: &Table, partition: &Partition) -> Result<V
     requires { IsPartition table.now.states partition.now.classes.items partition.now.firsts.items }
     ensures count { IfOk result (λ next. length next.items ≡ length partition.now.firsts.items * table.now.letters) }
     ensures each { IfOk result (λ next. (k : ℕ) → k < length next.items → slice_index next.items k ≡
-        slice_index partition.now.classes.items (next_of table.now (slice_index partition.now.firsts.items (k / table.now.letters)) (k % table.now.letters))) }
+        slice_index partition.now.classes.items (next_of table.now
+        (slice_index partition.now.firsts.items (k / table.now.letters)) (k % table.now.letters))) }
 {
     let letters = table.letters() as usize;
     let mut next = Vec::new(alloc);
@@ -78,7 +80,8 @@ fn classes_in(
 {
     let mut members = Vec::new(alloc);
     for class in 0..partition.firsts.len() {
-        if table.in_group(partition.firsts[class], group) {
+        let first = partition.firsts[class];
+        if table.in_group(first, group) {
             members.push(class as u16)?;
         }
     }

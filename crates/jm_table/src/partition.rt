@@ -32,7 +32,8 @@ impl Partition {
         requires partition { IsPartition (length keys.now) self.old.classes.items self.old.firsts.items }
         requires fit { FitClasses (length keys.now) self.old.firsts.items keys.now }
         requires few { length keys.now ≤ 1024 }
-        ensures { OnOk result (AreNumbered (length keys.now) keys.now self.old.firsts.items self.new.classes.items self.new.firsts.items) }
+        ensures { OnOk result (AreNumbered (length keys.now) keys.now self.old.firsts.items
+            self.new.classes.items self.new.firsts.items) }
     {
         let mut numbers = numbers_below(alloc, 2 * self.firsts.len() as u16)?;
         for state in 0..keys.len() {
@@ -73,8 +74,10 @@ fn number_of(
     ensures kept { OnOk result ((key number : ℕ) → IsKnown keys.now numbers.old.items firsts.old.items key number
         → IsKnown keys.now numbers.new.items firsts.new.items key number) }
     ensures given { OnOk result (AreGiven (length keys.now) keys.now numbers.new.items firsts.new.items) }
-    ensures firsts { OnOk result ((c : ℕ) → c < length firsts.old.items → slice_index firsts.new.items c ≡ slice_index firsts.old.items c) }
-    ensures grown { OnOk result ((length firsts.old.items ≤ length firsts.new.items) × (length firsts.new.items ≤ length firsts.old.items + 1)) }
+    ensures firsts { OnOk result ((c : ℕ) → c < length firsts.old.items
+        → slice_index firsts.new.items c ≡ slice_index firsts.old.items c) }
+    ensures grown { OnOk result ((length firsts.old.items ≤ length firsts.new.items)
+        × (length firsts.new.items ≤ length firsts.old.items + 1)) }
     ensures numbers { OnOk result (length numbers.new.items ≡ length numbers.old.items) }
 {
     let key = keys[state];
@@ -91,7 +94,8 @@ fn number_of(
 /// Whether the number is there, and its first state has the key.
 fn is_number_of(firsts: &[u16], keys: &[u16], number: u16, key: u16) -> bool
     requires { (c : ℕ) → c < length firsts.now → slice_index firsts.now c < length keys.now }
-    ensures { IsTrue result ↔ ((number < length firsts.now) × (slice_index keys.now (slice_index firsts.now number) ≡ key)) }
+    ensures { IsTrue result ↔
+        ((number < length firsts.now) × (slice_index keys.now (slice_index firsts.now number) ≡ key)) }
 {
     if number as usize >= firsts.len() {
         return false;

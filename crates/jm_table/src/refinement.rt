@@ -2,7 +2,7 @@ ghost use Rattle.std.specs.Prelude.{ℕ, ◌≡◌, ◌<◌, ◌≤◌, ◌↔�
 ghost use Rattle.std.specs.Bool.{OnTrue, OnFalse};
 ghost use Rattle.jm_table.specs.Tables.{Transitions, next_of, IsTable, IsInGroup};
 ghost use Rattle.jm_table.specs.Minimal.{GroupTells};
-ghost use Rattle.jm_table.specs.Partitions.{IsPartition, IsSound, AgreesBelow, IsStable, IsFiner, Tells, FindsAlike, IsTestOf, AreKeys, IsKeyOf};
+ghost use Rattle.jm_table.specs.Partitions.{IsPartition, IsSound, AgreesIn, AgreesBelow, IsStable, IsFiner, Tells, FindsAlike, IsTestOf, AreKeys, IsKeyOf};
 
 use crate::partition::Partition;
 use crate::table::Table;
@@ -37,7 +37,8 @@ fn split_by_groups(alloc: Global, table: &Table, partition: &mut Partition) -> R
     requires table { IsTable table.now }
     requires partition { IsPartition table.now.states partition.old.classes.items partition.old.firsts.items }
     requires sound { IsSound table.now partition.old.classes.items }
-    ensures partition { OnOk result (IsPartition table.now.states partition.new.classes.items partition.new.firsts.items) }
+    ensures partition { OnOk result
+        (IsPartition table.now.states partition.new.classes.items partition.new.firsts.items) }
     ensures sound { OnOk result (IsSound table.now partition.new.classes.items) }
     ensures agrees { OnOk result (AgreesBelow table.now partition.new.classes.items (length table.now.groups)) }
 {
@@ -53,7 +54,8 @@ fn split_by_letters(alloc: Global, table: &Table, partition: &mut Partition) -> 
     requires table { IsTable table.now }
     requires partition { IsPartition table.now.states partition.old.classes.items partition.old.firsts.items }
     requires sound { IsSound table.now partition.old.classes.items }
-    ensures partition { OnOk result (IsPartition table.now.states partition.new.classes.items partition.new.firsts.items) }
+    ensures partition { OnOk result
+        (IsPartition table.now.states partition.new.classes.items partition.new.firsts.items) }
     ensures sound { OnOk result (IsSound table.now partition.new.classes.items) }
     ensures finer { OnOk result (IsFiner table.now.states partition.old.classes.items partition.new.classes.items) }
     ensures stable { OnOk result (IsStable table.now partition.new.classes.items) }
@@ -78,13 +80,16 @@ fn split_by(
     requires table { IsTable table.now }
     requires partition { IsPartition table.now.states partition.old.classes.items partition.old.firsts.items }
     requires sound { IsSound table.now partition.old.classes.items }
-    ensures partition { OnOk result (IsPartition table.now.states partition.new.classes.items partition.new.firsts.items) }
+    ensures partition { OnOk result
+        (IsPartition table.now.states partition.new.classes.items partition.new.firsts.items) }
     ensures sound { OnOk result (IsSound table.now partition.new.classes.items) }
     ensures finer { OnOk result (IsFiner table.now.states partition.old.classes.items partition.new.classes.items) }
     ensures grown { OnOk result (length partition.old.firsts.items ≤ length partition.new.firsts.items) }
-    ensures agrees { (group : ℕ) → test ≡ Test.Group group → OnOk result ((p q : ℕ) → p < table.now.states → q < table.now.states
-        → slice_index partition.new.classes.items p ≡ slice_index partition.new.classes.items q → IsInGroup table.now p group ↔ IsInGroup table.now q group) }
-    ensures stable { test ≡ Test.Letters → OnOk result (length partition.new.firsts.items ≡ length partition.old.firsts.items → IsStable table.now partition.new.classes.items) }
+    ensures agrees { (group : ℕ) → test ≡ Test.Group group
+        → OnOk result (AgreesIn table.now partition.new.classes.items group) }
+    ensures stable { test ≡ Test.Letters → OnOk result
+        (length partition.new.firsts.items ≡ length partition.old.firsts.items
+        → IsStable table.now partition.new.classes.items) }
 {
     let keys = keys_of(alloc, table, partition, test)?;
     partition.split(alloc, &keys)
@@ -100,7 +105,8 @@ fn keys_of(
     requires test { IsTestOf table.now test }
     requires table { IsTable table.now }
     requires partition { IsPartition table.now.states partition.now.classes.items partition.now.firsts.items }
-    ensures { IfOk result (λ keys. AreKeys test table.now partition.now.classes.items partition.now.firsts.items keys.items) }
+    ensures { IfOk result (λ keys.
+        AreKeys test table.now partition.now.classes.items partition.now.firsts.items keys.items) }
 {
     let mut keys = Vec::with_capacity(alloc, table.len() as usize)?;
     for state in 0..table.len() {

@@ -5,3 +5,4 @@ pub mod OneReadingLemmas
 pub mod JobLemmas
 pub mod StepLemmas
 pub mod TreeLemmas
+pub mod BlockLemmas

@@ -7,6 +7,10 @@ use Rattle.jm_text.specs.declared.token.Token.{Token}
 use Rattle.jm_text.specs.Tokens.{AreTokensOf, IsFaultOf}
 use Rattle.jm_reading.specs.Tokens.{name_of}
 use Rattle.jm_events.specs.Events.{EventDefinitions}
+use Rattle.std.specs.Prelude.{slice_range}
+use Rattle.jm_handler.specs.declared.term.Term.{Term}
+use Rattle.jm_handler.proofs.BlockLemmas.{says-same}
+use Rattle.jm_spec.specs.declared.property.HandlerText.{HandlerText}
 use Rattle.jm_spec.specs.declared.property.Property.{Property}
 use Rattle.jm_spec.specs.declared.frame.Frame.{Frame}
 use Rattle.jm_spec.specs.declared.tree.SpecTree.{SpecTree}
@@ -20,7 +24,7 @@ use Rattle.jm_machine.specs.Handlers.{handler_names, handlers_fault}
 use Rattle.jm_machine.specs.Meanings.{RuleDefinition, rules_of}
 use Rattle.jm_machine.specs.Compiling.{IsFormula, IsCompiledFrom}
 use Rattle.jm_machine.proofs.ReadingLemmas.{one_rules, rules_or_fault}
-use Rattle.jm_top.specs.Specifications.{Specification, IsTold, IsSpecification, IsSpecFault, too_long, no_tokens, in_frame, in_tree}
+use Rattle.jm_top.specs.Specifications.{Specification, IsTold, IsSpecification, BlocksSay, IsSpecFault, too_long, no_tokens, in_frame, in_tree}
 
 pub same_ok : {X E : Type 0} {x y : X} → ◌≡◌ {A = Result X E} (Ok x) (Ok y) → x ≡ y
 same_ok e = cc
@@ -137,6 +141,14 @@ cut_has_no_fault bytes tokens _ cut h = h
 
 -- ---- specifications
 
+-- no blocks say two things
+blocks-same : (bytes : List ℕ) (tokens : List Token) (ps : List (List ℕ)) (hs : List HandlerText) (a b : List (List (List Term))) → BlocksSay bytes tokens ps hs a → BlocksSay bytes tokens ps hs b → a ≡ b
+blocks-same bytes tokens ps [] a b h k = h ∙ sym k
+blocks-same bytes tokens ps (x ∷ hs) a b (text, more, e, says, h) (other, others, f, tells, k) =
+    let same = says-same bytes ps (slice_range tokens x.first x.last) text other says tells in
+    let rest = blocks-same bytes tokens ps hs more others h k in
+    e ∙ (λ i. same i ∷ rest i) ∙ sym f
+
 -- no bytes say two specifications
 pub one_specification : (bytes : List ℕ) (s t : Specification) → IsSpecification bytes s → IsSpecification bytes t → s ≡ t
 one_specification bytes s t h k =
@@ -144,7 +156,11 @@ one_specification bytes s t h k =
     let rules = one_rules bytes k.tokens k.tree s.rules (compiled_moved bytes h.tokens k.tokens h.tree k.tree told s.rules h.rules) t.rules k.rules in
     let name = h.name ∙ ap (name_of bytes) told.tree.name ∙ sym k.name in
     let table = h.table ∙ told.tree.table ∙ sym k.table in
-    λ i. record { name = name i; table = table i; rules = rules i }
+    let tree = told.tree in
+    let moved : BlocksSay bytes k.tokens k.tree.table.parameters k.tree.handlers.items s.texts =
+    rw (sym told.tokens, sym tree.table, sym tree.handlers) h.texts in
+    let texts = blocks-same bytes k.tokens k.tree.table.parameters k.tree.handlers.items s.texts t.texts moved k.texts in
+    λ i. record { name = name i; table = table i; rules = rules i; texts = texts i }
 
 -- no bytes say a specification and a fault
 pub specification_has_no_fault : (bytes : List ℕ) (s : Specification) (fault : SpecFault) → IsSpecification bytes s → IsSpecFault bytes fault → ⊥

@@ -10,6 +10,7 @@ pub record Keeps (s : Specification) (l : Loaded) : Type 0 where
   pub name : string_bytes l.name ≡ s.name
   pub table : l.table ≡ s.table
   pub handlers : l.handlers ≡ s.rules.handlers
+  pub texts : l.texts.items ≡ s.texts
   pub catalog : l.catalog ≡ catalog_of s
   pub rules : l.rules.definition ≡ s.rules
 

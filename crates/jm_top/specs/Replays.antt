@@ -23,9 +23,9 @@ pub record IsPrintedReplay (m : Meaning) (steps : List (ℕ × Step)) (l : Lexic
   pub replayed : IsReplayOf m steps history
   pub printed : text ≡ history_text l history
 
--- the names that it is printed with
+-- the names that it is printed with, and what the handlers print
 abbrev pub lexicon : Specification → List (List ℕ) → Lexicon
-lexicon s objects = lexicon_of s.name s.table s.rules.handlers objects
+lexicon s objects = lexicon_of s.name s.table s.rules.handlers objects s.texts
 
 -- the text is the whole printed history of a replay: what is meant is what the specification means, and the steps are those of
 -- the script for it

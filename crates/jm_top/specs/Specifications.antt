@@ -1,5 +1,5 @@
 -- What a file says that is a specification, and what is wrong with one that isn't.
-use Rattle.std.specs.Prelude.{ℕ, ◌≡◌, ◌<◌, ◌≤◌, List, length}
+use Rattle.std.specs.Prelude.{ℕ, ◌≡◌, ◌<◌, ◌≤◌, List, [], ◌∷◌, length, slice_range}
 use Rattle.jm_model.specs.Meanings.{Meaning}
 use Rattle.jm_model.specs.declared.fault.SpecFault.{SpecFault}
 use Rattle.jm_model.specs.declared.fault.SpecFault.TheVariants.{TooLong}
@@ -8,16 +8,21 @@ use Rattle.jm_text.specs.declared.token.Token.{Token}
 use Rattle.jm_text.specs.Tokens.{AreTokensOf, IsFaultOf}
 use Rattle.jm_events.specs.Events.{EventDefinitions}
 use Rattle.jm_reading.specs.Tokens.{name_of}
+use Rattle.jm_handler.specs.declared.term.Term.{Term}
+use Rattle.jm_handler.specs.Blocks.{Says}
+use Rattle.jm_spec.specs.declared.property.HandlerText.{HandlerText}
 use Rattle.jm_spec.specs.declared.tree.SpecTree.{SpecTree}
 use Rattle.jm_spec.specs.Trees.{IsTreeOfTokens, IsFaultOfTokens}
 use Rattle.jm_machine.specs.Meanings.{RuleDefinition, rules_meaning}
 use Rattle.jm_machine.specs.Compiling.{IsCompiledFrom, IsFaultyTree}
 
--- a specification: its name, its parameters and events, and its rules
+-- a specification: its name, its parameters and events, its rules, and what each of its handlers prints: a list of terms for
+-- each statement
 pub record Specification : Type 0 where
   pub name : List ℕ
   pub table : EventDefinitions
   pub rules : RuleDefinition
+  pub texts : List (List (List Term))
 
 -- what it means is what its rules mean
 abbrev pub meaning_of : Specification → Meaning
@@ -37,6 +42,13 @@ pub record IsTold (bytes : List ℕ) (tokens : List Token) (tree : SpecTree) : T
   pub cut : AreTokensOf bytes tokens
   pub told : IsTreeOfTokens bytes tokens tree
 
+-- what the blocks of handlers say, one by one
+abbrev pub BlocksSay : List ℕ → List Token → List (List ℕ) → List HandlerText → List (List (List Term)) → Type 0
+BlocksSay bytes tokens parameters [] texts = texts ≡ []
+BlocksSay bytes tokens parameters (h ∷ hs) texts =
+    (text : List (List Term)) × (more : List (List (List Term))) × (texts ≡ text ∷ more)
+    × Says bytes parameters (slice_range tokens h.first h.last) text × BlocksSay bytes tokens parameters hs more
+
 -- the bytes say this specification: no step has a fault
 pub record IsSpecification (bytes : List ℕ) (s : Specification) : Type 0 where
   pub tokens : List Token
@@ -45,6 +57,7 @@ pub record IsSpecification (bytes : List ℕ) (s : Specification) : Type 0 where
   pub rules : IsCompiledFrom bytes tokens tree s.rules
   pub name : s.name ≡ name_of bytes tree.name
   pub table : s.table ≡ tree.table
+  pub texts : BlocksSay bytes tokens tree.table.parameters tree.handlers.items s.texts
 
 -- The first fault of the bytes, step by step: they are too many; they have no tokens; these spell no frame, or one with a fault;
 -- its formula, its handlers or the table of its formula has one. The line of `Syntax` is left open.

@@ -14,6 +14,7 @@ use crate::script::Steps;
 use crate::specification::{Loaded, parts};
 use jm_core::Prop;
 use jm_events::{EventTable, Names};
+use jm_handler::Handler;
 use jm_model::{Monitor, NoMemory, Step};
 use jm_print::render_history;
 use jm_script::project;
@@ -36,25 +37,27 @@ fn replay_own(
     objects: &Names,
 ) -> Result<Vec<u8>, NoMemory>
     requires events { All (λ step. IsFitStep (rules_meaning spec.rules.definition) (length objects.now) step.1) own.now }
-    requires printable { (h : List Entry) → IsReplayOf (rules_meaning spec.rules.definition) own.now h → All (IsPrintable (lexicon_of (string_bytes spec.name) spec.table spec.handlers objects.now)) h }
-    ensures { IfOk result (λ text. IsPrintedReplay (rules_meaning spec.rules.definition) own.now (lexicon_of (string_bytes spec.name) spec.table spec.handlers objects.now) text.items) }
+    requires printable { (h : List Entry) → IsReplayOf (rules_meaning spec.rules.definition) own.now h → All (IsPrintable (lexicon_of (string_bytes spec.name) spec.table spec.handlers objects.now spec.texts.items)) h }
+    ensures { IfOk result (λ text. IsPrintedReplay (rules_meaning spec.rules.definition) own.now (lexicon_of (string_bytes spec.name) spec.table spec.handlers objects.now spec.texts.items) text.items) }
 {
-    let (names, table, rules) = parts(spec);
+    let (names, table, rules, texts) = parts(spec);
     let titles = Titles {
         name: names.name.as_str(),
         table: &table,
         handlers: &names.handlers,
+        texts: texts.as_slice(),
         objects,
     };
     history_of(alloc, rules, own, titles)
 }
 
-/// The names that a history is printed with.
+/// The names that a history is printed with, and what the handlers print.
 #[derive(Clone, Copy)]
 struct Titles<'a> {
     name: &'a str,
     table: &'a EventTable,
     handlers: &'a Names,
+    texts: &'a [Handler],
     objects: &'a Names,
 }
 
@@ -66,8 +69,8 @@ fn history_of<M: Monitor>(
     titles: Titles<'_>,
 ) -> Result<Vec<u8>, NoMemory>
     requires events { All (λ step. IsFitStep (M.meaning (M.definition rules)) (length titles.objects.now) step.1) steps.now }
-    requires printable { (h : List Entry) → IsReplayOf (M.meaning (M.definition rules)) steps.now h → All (IsPrintable (lexicon_of titles.name.now titles.table.now titles.handlers.now titles.objects.now)) h }
-    ensures { IfOk result (λ text. IsPrintedReplay (M.meaning (M.definition rules)) steps.now (lexicon_of titles.entry.name.now titles.entry.table.now titles.entry.handlers.now titles.entry.objects.now) text.items) }
+    requires printable { (h : List Entry) → IsReplayOf (M.meaning (M.definition rules)) steps.now h → All (IsPrintable (lexicon_of titles.name.now titles.table.now titles.handlers.now titles.objects.now titles.texts.now)) h }
+    ensures { IfOk result (λ text. IsPrintedReplay (M.meaning (M.definition rules)) steps.now (lexicon_of titles.entry.name.now titles.entry.table.now titles.entry.handlers.now titles.entry.objects.now titles.entry.texts.now) text.items) }
 {
     let mut prop = Prop::new(alloc, rules, titles.objects.len())?;
     prop.replay(0, steps)?;
@@ -77,6 +80,7 @@ fn history_of<M: Monitor>(
         prop.history(),
         titles.table,
         titles.handlers,
+        titles.texts,
         titles.objects,
     )
 }

@@ -3,13 +3,12 @@
 ghost use Rattle.std.specs.Prelude.{◌≡◌, length};
 ghost use Rattle.jm_fsm.specs.Machines.{category_count};
 
-use crate::shown::{events_of, names_text, or_fault, words_text};
+use case_events::{events_of, names_text, or_fault, tokens_of, words_text};
 use cases::Case;
 use jm_events::EventTable;
 use jm_fsm::{Fsm, read};
 use jm_model::SpecError;
 use jm_table::Table;
-use jm_text::tokens;
 use std::alloc::{AllocError, Global};
 
 /// The categories that hold of each word of a case, over its events, or the names of all, or the fault of its machine.
@@ -54,9 +53,6 @@ fn held_text(alloc: Global, case: &Case, machine: &Fsm, table: &Table) -> Result
 
 /// The machine of a formula, which stands behind a token on line 50.
 fn machine_of(alloc: Global, events: &EventTable, formula: &[u8]) -> Result<Fsm, SpecError> {
-    if formula.len() > 1_000_000 {
-        return Err(SpecError::NoMemory);
-    }
-    let all = tokens(alloc, formula)?;
+    let all = tokens_of(alloc, formula)?;
     read(alloc, formula, &all, 50, events)
 }

@@ -1,14 +1,9 @@
-//! Cases of the three logics that run on tables, state machines, regular expressions and past-time formulas, and of the
-//! tables themselves.
+//! The cases of state machines and of past-time formulas.
 #![tactic(auto)]
 
 mod answer;
-mod circle;
-mod ere;
 mod fsm;
 mod ptltl;
-mod shown;
-mod table;
 
 use std::io;
 

@@ -2,13 +2,12 @@
 
 ghost use Rattle.std.specs.Prelude.{◌≡◌, length};
 
-use crate::shown::{events_of, names_text, or_fault, words_text};
+use case_events::{events_of, names_text, or_fault, tokens_of, words_text};
 use cases::Case;
 use jm_events::EventTable;
 use jm_model::SpecError;
 use jm_ptltl::{Past, read};
 use jm_table::Table;
-use jm_text::tokens;
 use std::alloc::{AllocError, Global};
 
 /// The categories that hold of each word of a case, over its events, or the names of all, or the fault of its formula.
@@ -53,9 +52,6 @@ fn held_text(alloc: Global, case: &Case, past: &Past, table: &Table) -> Result<S
 
 /// The formula of a text, which stands behind a token on line 50.
 fn past_of(alloc: Global, events: &EventTable, formula: &[u8]) -> Result<Past, SpecError> {
-    if formula.len() > 1_000_000 {
-        return Err(SpecError::NoMemory);
-    }
-    let all = tokens(alloc, formula)?;
+    let all = tokens_of(alloc, formula)?;
     read(alloc, formula, &all, 50, events)
 }

@@ -2,6 +2,7 @@ ghost use Rattle.std.specs.Prelude.{◌≡◌, ◌<◌, length};
 ghost use Rattle.jm_coenable.specs.Needs.{AreFit};
 
 use crate::property::{events_of, goal_of, table_of};
+use case_events::next;
 use cases::Case;
 use jm_coenable::Needs;
 use jm_events::EventTable;
@@ -129,15 +130,6 @@ fn state_after(table: &Table, word: &str) -> u16 {
         state = next(table, state, letter_of(digit));
     }
     state
-}
-
-/// Where a letter leads, or the state itself where the letter isn't there.
-fn next(table: &Table, state: u16, letter: u8) -> u16 {
-    if state < table.len() && letter < table.letters() {
-        table.next(state, Letter(letter))
-    } else {
-        state
-    }
 }
 
 /// The letter of a digit, and 255 for another byte: `-` is the empty word.

@@ -1,12 +1,12 @@
 //! The events, the table and the goal of a case.
 ghost use Rattle.std.specs.Prelude.{◌≡◌, [], ◌∷◌, length, IfOk};
 
+use case_events::tokens_of;
 use jm_ere::read;
 use jm_events::EventTable;
 use jm_goal::Goal;
 use jm_model::{NoMemory, SpecError};
 use jm_table::Table;
-use jm_text::tokens;
 use std::alloc::Global;
 
 /// The events of a text, as `create/3`, of which a `+` in front makes a creation event, over eight parameters.
@@ -39,10 +39,7 @@ pub(crate) fn table_of(
 ) -> Result<Table, SpecError>
     ensures { IfOk result (λ table. length table.groups ≡ 2) }
 {
-    if formula.len() > 1_000_000 {
-        return Err(SpecError::NoMemory);
-    }
-    let all = tokens(alloc, formula)?;
+    let all = tokens_of(alloc, formula)?;
     let ere = read(alloc, formula, &all, 1, events)?;
     ere.compile(alloc, events)
 }

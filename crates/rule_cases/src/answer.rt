@@ -1,13 +1,10 @@
-use crate::{chart, goals, grammar, rules};
+use crate::{goals, rules};
 use cases::Case;
 use std::alloc::{AllocError, Global};
 
 /// The answer to a case.
 pub(crate) fn answer(alloc: Global, case: &Case) -> Result<String, AllocError> {
     match case.verb.as_str() {
-        "grammar" | "reduce" | "size" | "productive" => grammar::answer(alloc, case),
-        "made" => grammar::made(alloc, case),
-        "matches" | "futures" | "crosses" => chart::answer(alloc, case),
         "goal" => goals::goal(alloc, case),
         "rules" => rules::answer(alloc, case),
         "laws" => laws(alloc),
@@ -15,10 +12,8 @@ pub(crate) fn answer(alloc: Global, case: &Case) -> Result<String, AllocError> {
     }
 }
 
-/// The laws are proved: that they can be called is all that is to be seen.
+/// The law is proved: that it can be called is all that is to be seen.
 fn laws(alloc: Global) -> Result<String, AllocError> {
-    jm_grammar::one_reading();
-    jm_grammar::letters_are_events();
     jm_machine::one_reading();
     String::from_str(alloc, "called")
 }

@@ -1,13 +1,14 @@
 //! The rules of whole specifications.
 
+ghost use Rattle.std.specs.Prelude.{◌<◌, ◌^◌, length};
 ghost use Rattle.jm_text.specs.Spans.{LieWithin};
 
-use crate::shown::or_fault;
+use case_events::{or_fault, tokens_of};
 use cases::Case;
 use jm_machine::Rules;
 use jm_model::{Letter, Monitor, SpecError};
 use jm_spec::read_spec;
-use jm_text::{Token, tokens};
+use jm_text::Token;
 use std::alloc::{AllocError, Global};
 
 /// What the specification of a case says, or its fault: what has to be bound, the parameters of each event, the names of
@@ -31,19 +32,14 @@ fn rules_text(alloc: Global, rules: &Rules, word: &str) -> Result<String, SpecEr
 }
 
 fn rules_of(alloc: Global, bytes: &[u8]) -> Result<Rules, SpecError> {
-    if bytes.len() > 100_000 {
-        return Err(SpecError::NoMemory);
-    }
-    let all = tokens(alloc, bytes)?;
+    let all = tokens_of(alloc, bytes)?;
     compiled(alloc, bytes, &all)
 }
 
 fn compiled(alloc: Global, bytes: &[u8], tokens: &[Token]) -> Result<Rules, SpecError>
-    requires { LieWithin bytes.now tokens.now }
+    requires within { LieWithin bytes.now tokens.now }
+    requires few { length tokens.now < 2 ^ 32 }
 {
-    if tokens.len() > 100_000 {
-        return Err(SpecError::NoMemory);
-    }
     let tree = read_spec(alloc, bytes, tokens)?;
     Rules::compile(alloc, bytes, tokens, &tree)
 }

@@ -1,14 +1,12 @@
-use crate::{print, script};
+use crate::script;
+use case_events::or_fault;
 use cases::Case;
 use jm_model::SpecError;
 use std::alloc::{AllocError, Global};
 
 /// What the case's verb answers, or the fault that its catalog meets.
 pub(crate) fn answer(alloc: Global, case: &Case) -> Result<String, AllocError> {
-    match answered(alloc, case) {
-        Ok(text) => Ok(text),
-        Err(fault) => format!(in alloc; "{fault:?}"),
-    }
+    or_fault(alloc, answered(alloc, case))
 }
 
 fn answered(alloc: Global, case: &Case) -> Result<String, SpecError> {
@@ -18,7 +16,6 @@ fn answered(alloc: Global, case: &Case) -> Result<String, SpecError> {
         "ending" => script::ending(alloc, case),
         "project" => script::projected(alloc, case),
         "disposal" => script::disposal(alloc, case),
-        "print" => print::print(alloc, case),
         _ => laws(alloc),
     }
 }
@@ -27,7 +24,5 @@ fn answered(alloc: Global, case: &Case) -> Result<String, SpecError> {
 fn laws(alloc: Global) -> Result<String, SpecError> {
     jm_script::one_reading();
     jm_script::events_alone();
-    jm_print::text_determines_history();
-    jm_print::texts_split_in_one_way();
-    Ok(String::from_str(alloc, "four laws")?)
+    Ok(String::from_str(alloc, "two laws")?)
 }

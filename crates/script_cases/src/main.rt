@@ -1,15 +1,12 @@
-//! The cases of scripts and of printed histories.
+//! The cases of scripts.
 #![tactic(auto)]
 
 mod answer;
 mod catalog;
-mod print;
 mod script;
-mod shop;
 
-use answer::answer;
 use std::io;
 
 fn main(rt: HostRuntime) -> io::Result<()> {
-    cases::run(&rt, answer)
+    cases::run(&rt, answer::answer)
 }

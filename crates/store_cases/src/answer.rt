@@ -1,4 +1,4 @@
-use crate::{marks, objects, random};
+use crate::{marks, objects};
 use cases::Case;
 use jm_model::NoMemory;
 use std::alloc::{AllocError, Global};
@@ -15,7 +15,6 @@ fn answered(alloc: Global, case: &Case) -> Result<String, NoMemory> {
     match case.verb.as_str() {
         "objects" => objects::objects(alloc, case),
         "marks" => marks::marks(alloc, case),
-        "random_marks" => random::random_marks(alloc, case),
         _ => Ok(String::from_str(alloc, "no such verb")?),
     }
 }

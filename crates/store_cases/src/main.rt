@@ -2,11 +2,8 @@
 #![tactic(auto)]
 
 mod answer;
-mod draw;
 mod marks;
 mod objects;
-mod random;
-mod text;
 
 use std::io;
 

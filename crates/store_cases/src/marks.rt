@@ -1,7 +1,7 @@
 //! Steps over marks and the objects that they bind.
 use crate::objects::kill;
-use crate::text::{binding_of, binding_shown, lines_of, number, put};
-use cases::Case;
+use case_steps::{binding_of, binding_shown};
+use cases::{Case, number_of, put_line, put_word, text_of};
 use jm_marks::{Marks, dead_mask};
 use jm_model::{Binding, NoMemory};
 use jm_objects::Objects;
@@ -9,14 +9,14 @@ use std::alloc::{AllocError, Global};
 
 /// What each step of the text's lines answers, a line for each.
 pub(crate) fn marks(alloc: Global, case: &Case) -> Result<String, NoMemory> {
-    let mut objects = Objects::new(alloc, number(case.first.as_str()))?;
+    let mut objects = Objects::new(alloc, number_of(case.first.as_str()))?;
     let mut marks = Marks::new(alloc);
     let mut out = String::new(alloc);
-    for line in lines_of(case).lines() {
+    for line in text_of(&case.text).lines() {
         let (verb, rest) = line.split_once(' ').unwrap_or((line, ""));
         act(&mut objects, &mut marks, verb, rest)?;
         let text = told(alloc, &objects, &marks, verb, rest)?;
-        put(&mut out, '\n', text.as_str())?;
+        put_line(&mut out, text.as_str())?;
     }
     Ok(out)
 }
@@ -26,14 +26,14 @@ fn act(objects: &mut Objects, marks: &mut Marks, verb: &str, rest: &str) -> Resu
         "add" => add(marks, binding_of(rest))?,
         "sweep" => marks.sweep(objects),
         "kill" => {
-            kill(objects, number(rest));
+            kill(objects, number_of(rest));
         }
         _ => {}
     }
     Ok(())
 }
 
-pub(crate) fn add(marks: &mut Marks, binding: Binding) -> Result<(), NoMemory> {
+fn add(marks: &mut Marks, binding: Binding) -> Result<(), NoMemory> {
     marks.reserve()?;
     marks.add(binding);
     Ok(())
@@ -63,7 +63,7 @@ fn covers(marks: &Marks, words: &str) -> bool {
 fn list_shown(alloc: Global, marks: &Marks) -> Result<String, NoMemory> {
     let mut out = String::new(alloc);
     for mark in &marks.to_list()? {
-        put(&mut out, ' ', binding_shown(alloc, mark)?.as_str())?;
+        put_word(&mut out, binding_shown(alloc, mark)?.as_str())?;
     }
     if out.is_empty() {
         out.push_str("none")?;

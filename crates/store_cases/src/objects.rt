@@ -1,17 +1,16 @@
 //! Steps over a table of objects.
-use crate::text::{lines_of, number, put};
-use cases::Case;
+use cases::{Case, number_of, put_word, text_of};
 use jm_model::NoMemory;
 use jm_objects::Objects;
 use std::alloc::{AllocError, Global};
 
 /// What each step of the text's lines answers.
 pub(crate) fn objects(alloc: Global, case: &Case) -> Result<String, NoMemory> {
-    let mut objects = Objects::new(alloc, number(case.first.as_str()))?;
+    let mut objects = Objects::new(alloc, number_of(case.first.as_str()))?;
     let mut out = String::new(alloc);
-    for line in lines_of(case).lines() {
+    for line in text_of(&case.text).lines() {
         let word = step(alloc, &mut objects, line)?;
-        put(&mut out, ' ', word.as_str())?;
+        put_word(&mut out, word.as_str())?;
     }
     Ok(out)
 }
@@ -19,9 +18,9 @@ pub(crate) fn objects(alloc: Global, case: &Case) -> Result<String, NoMemory> {
 fn step(alloc: Global, objects: &mut Objects, line: &str) -> Result<String, AllocError> {
     let (verb, rest) = line.split_once(' ').unwrap_or((line, ""));
     match verb {
-        "kill" => format!(in alloc; "{:?}", kill(objects, number(rest))),
+        "kill" => format!(in alloc; "{:?}", kill(objects, number_of(rest))),
         "kill_all" => format!(in alloc; "{}", kill_all(objects)),
-        "is_dead" => format!(in alloc; "{:?}", is_dead(objects, number(rest))),
+        "is_dead" => format!(in alloc; "{:?}", is_dead(objects, number_of(rest))),
         "dead" => format!(in alloc; "{}", dead_count(objects)),
         _ => format!(in alloc; "{}", objects.len()),
     }
@@ -36,7 +35,7 @@ pub(crate) fn kill(objects: &mut Objects, object: u32) -> Option<bool> {
     }
 }
 
-pub(crate) fn is_dead(objects: &Objects, object: u32) -> Option<bool> {
+fn is_dead(objects: &Objects, object: u32) -> Option<bool> {
     if object < objects.len() {
         Some(objects.is_dead(object))
     } else {

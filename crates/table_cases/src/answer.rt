@@ -5,7 +5,7 @@ use std::alloc::{AllocError, Global};
 /// The answer to a case.
 pub(crate) fn answer(alloc: Global, case: &Case) -> Result<String, AllocError> {
     match case.verb.as_str() {
-        "rows" => made::rows(alloc, case),
+        "table" => made::table(alloc, case),
         "chain" => made::chain(alloc, case),
         "circle" => made::circle(alloc, case),
         "ere" => ere::answer(alloc, case),

@@ -9,21 +9,21 @@ use jm_model::{NoMemory, SpecError};
 use jm_table::{Table, build};
 use std::alloc::{AllocError, Global};
 
-/// The minimal table of the rows of the text. A case has how many letters there are, and the states of the two groups with
-/// a semicolon between them.
-pub(crate) fn rows(alloc: Global, case: &Case) -> Result<String, AllocError> {
-    or_fault(alloc, rows_text(alloc, case))
+/// The minimal table of the rows of the text. A case has how many letters there are, and the states of the two
+/// groups with a semicolon between them.
+pub(crate) fn table(alloc: Global, case: &Case) -> Result<String, AllocError> {
+    or_fault(alloc, minimal_text(alloc, case))
 }
 
-fn rows_text(alloc: Global, case: &Case) -> Result<String, SpecError> {
+fn minimal_text(alloc: Global, case: &Case) -> Result<String, SpecError> {
     let next = numbers_of(alloc, std::str::from_utf8(&case.text).unwrap_or(""))?;
     let table = table_of(alloc, letters_of(&case.first), next, &case.second)?;
     let table = table.minimise()?;
     Ok(table_text(alloc, &table)?)
 }
 
-/// How many states a chain and its minimal table have: the first letter goes on by one up to the last state, which alone is
-/// in a group, and the other letters stay. A case has how many states and letters there are.
+/// How many states a chain and its minimal table have: the first letter goes on by one up to the last state, which
+/// alone is in a group, and the other letters stay. A case has how many states and letters there are.
 pub(crate) fn chain(alloc: Global, case: &Case) -> Result<String, AllocError> {
     or_fault(alloc, chain_text(alloc, case))
 }
@@ -50,8 +50,8 @@ fn chain_rows(alloc: Global, states: u16, letters: u8) -> Result<Vec<u16>, Alloc
     Ok(next)
 }
 
-/// How many states a circle and its minimal table have: each letter goes on by one, and no state is in a group. A case has
-/// how many states and letters there are.
+/// How many states a circle and its minimal table have: each letter goes on by one, and no state is in a group. A
+/// case has how many states and letters there are.
 pub(crate) fn circle(alloc: Global, case: &Case) -> Result<String, AllocError> {
     or_fault(alloc, circle_text(alloc, case))
 }

@@ -1,5 +1,5 @@
 use Rattle.std.proofs.Common.{◌++◌, ℕ, List, [], ap}
-use Rattle.jm_print.proofs.HistoriesTold.{texts_are_told}
+use Rattle.jm_print.proofs.TextsTold.{texts_are_told}
 use Rattle.jm_print.proofs.laws.texts_split_in_one_way.Goals as goal
 
 pub returns : goal.returns

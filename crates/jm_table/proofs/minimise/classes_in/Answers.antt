@@ -14,7 +14,7 @@ loop-class-preserved c =
     let class = c.loop-class.class in
     let P = λ (k : ℕ). IsInGroup t (get_or firsts k 0) c.args.group in
     let within : class < length firsts = omega (arith, c.loop-class-test.true, c.len-class-end.ensures, c.args.partition.now.firsts.ok.0) in
-    let first : c.index.result.now ≡ get_or firsts class 0 = c.index.ensures ∙ get_or_default firsts class c.index.result.now 0 within in
+    let first : c.index-first.result.now ≡ get_or firsts class 0 = c.index-first.ensures ∙ get_or_default firsts class c.index-first.result.now 0 within in
     elim c.if-in_group.branch [
       | then-in_group+in_ok-push w ↦
           let items : c.if-in_group.members.items ≡ before ++ class ∷ [] = ap (λ v. v.items) w.members-is ∙ w.in_ok-push.ensures.items in

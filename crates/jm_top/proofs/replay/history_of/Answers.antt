@@ -13,4 +13,4 @@ returns g c =
     let valid = replay_of g.M.Monitor.meaning (g.M.Monitor.definition c.args.rules) c.args.steps.now c.in_ok-prop.prop c.replay.new.self c.history.result.now c.in_ok-prop.ensures.definition c.in_ok-prop.ensures.entries c.in_ok-replay.ensures.ok
     c.history.ensures.legal c.history.ensures.value in
     replay_printed (λ text. text.items) (g.M.Monitor.meaning (g.M.Monitor.definition c.args.rules)) c.args.steps.now
-    (lexicon_of c.args.titles.name.now c.args.titles.table.now c.args.titles.handlers.now c.args.titles.objects.now) c.history.result.now valid c.render_history.result c.render_history.ensures
+    (lexicon_of c.args.titles.name.now c.args.titles.table.now c.args.titles.handlers.now c.args.titles.objects.now c.args.titles.texts.now) c.history.result.now valid c.render_history.result c.render_history.ensures

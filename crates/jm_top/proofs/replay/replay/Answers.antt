@@ -12,8 +12,8 @@ use Rattle.jm_top.proofs.ReplayLemmas.{replayable, replay_printable, printed_sam
 use Rattle.jm_top.proofs.replay.replay.Goals as goal
 
 -- the names that are printed are those of the specification
-names_are : (s : Specification) (l : Loaded) (name : List ℕ) (objects : List (List ℕ)) → IsKept s l → name ≡ s.name → lexicon_of name l.table l.handlers objects ≡ lexicon s objects
-names_are s l name objects kept is = λ i. lexicon_of (is i) (kept.keeps.table i) (kept.keeps.handlers i) objects
+names_are : (s : Specification) (l : Loaded) (name : List ℕ) (objects : List (List ℕ)) → IsKept s l → name ≡ s.name → lexicon_of name l.table l.handlers objects l.texts.items ≡ lexicon s objects
+names_are s l name objects kept is = λ i. lexicon_of (is i) (kept.keeps.table i) (kept.keeps.handlers i) objects (kept.keeps.texts i)
 
 pub replay_own-requires-clause-events : goal.replay_own-requires-clause-events
 replay_own-requires-clause-events c =

@@ -5,8 +5,8 @@ history_of-requires-clause-events c = rw c.parts-names.ensures.rules c.requires.
 
 pub history_of-requires-clause-printable : goal.history_of-requires-clause-printable
 history_of-requires-clause-printable c =
-    rw (c.as_str.ensures.value, c.parts-names.ensures.name, c.parts-names.ensures.table, c.parts-names.ensures.handlers, c.parts-names.ensures.rules) c.requires.printable
+    rw (c.as_str.ensures.value, c.parts-names.ensures.name, c.parts-names.ensures.table, c.parts-names.ensures.handlers, c.as_slice.ensures.value, c.parts-names.ensures.texts, c.parts-names.ensures.rules) c.requires.printable
 
 pub returns : goal.returns
 returns c =
-    rw (c.as_str.ensures.value, c.parts-names.ensures.name, c.parts-names.ensures.table, c.parts-names.ensures.handlers, c.parts-names.ensures.rules) at c.history_of.ensures
+    rw (c.as_str.ensures.value, c.parts-names.ensures.name, c.parts-names.ensures.table, c.parts-names.ensures.handlers, c.as_slice.ensures.value, c.parts-names.ensures.texts, c.parts-names.ensures.rules) at c.history_of.ensures

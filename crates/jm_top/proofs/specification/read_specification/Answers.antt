@@ -46,6 +46,7 @@ rules_kept (Err e) rules is = tt
 pub returns-clause-ok : goal.returns-clause-ok
 returns-clause-ok c =
     let told = rw c.as_slice.ensures.value at c.in_ok-tree.ensures.ok in
+    let say = rw c.as_slice-3.ensures.value at c.in_ok-texts.ensures.ok in
     let compiled = rw c.as_slice-2.ensures.value at c.in_ok-rules.ensures.ok in
-    read_of c.args.bytes.now c.in_ok-tokens.tokens.items c.requires c.in_ok-tokens.ensures.ok c.in_ok-tree.tree c.in_ok-rules.rules.definition c.name_of.result.now c.load.result told compiled c.name_of.ensures
-    c.in_ok-rules.ensures.fit c.in_ok-rules.ensures.few c.load.ensures.name c.load.ensures.table c.load.ensures.handlers c.load.ensures.catalog (rules_kept c.load.result c.in_ok-rules.rules c.load.ensures.rules)
+    read_of c.args.bytes.now c.in_ok-tokens.tokens.items c.requires c.in_ok-tokens.ensures.ok c.in_ok-tree.tree c.in_ok-rules.rules.definition c.name_of.result.now c.in_ok-texts.texts.items c.load.result told compiled c.name_of.ensures
+    c.in_ok-rules.ensures.fit c.in_ok-rules.ensures.few say c.load.ensures.texts c.load.ensures.name c.load.ensures.table c.load.ensures.handlers c.load.ensures.catalog (rules_kept c.load.result c.in_ok-rules.rules c.load.ensures.rules)

@@ -1,4 +1,4 @@
-use Rattle.std.proofs.Common.{◌≡◌, ◌∙◌}
+use Rattle.std.proofs.Common.{◌≡◌}
 use Rattle.std.specs.List.{filter_map}
 use Rattle.jm_index.specs.Index.{IsFitting, asked_slots}
 use Rattle.jm_index.specs.Layout.{Rises, live_pairs, posting_at, slot_at}

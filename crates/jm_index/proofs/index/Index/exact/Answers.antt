@@ -1,4 +1,4 @@
-use Rattle.std.proofs.Common.{◌≡◌, ◌∷◌, [], sym, ◌∙◌}
+use Rattle.std.proofs.Common.{◌≡◌, ◌∷◌, [], sym}
 use Rattle.std.specs.List.{filter_map}
 use Rattle.jm_index.specs.Index.{asked_slots}
 use Rattle.jm_index.specs.Layout.{slot_at}

@@ -1,4 +1,4 @@
-use Rattle.std.proofs.Common.{◌≡◌, List, ℕ, rules}
+use Rattle.std.proofs.Common.{◌≡◌, rules}
 use Rattle.std.specs.Prelude.{filter}
 use Rattle.jm_index.specs.Layout.{is_live_at}
 use Rattle.jm_index.proofs.PostingLemmas.{retained, Rises-filter, thinned_within, thinned_live}

@@ -1,6 +1,6 @@
 use Rattle.std.proofs.Common.{◌≡◌, ℕ, ◌+◌, ◌<◌, Some, false}
 use Rattle.std.specs.Prelude.{Contains}
-use Rattle.jm_model.specs.Bindings.{object_at, mask_of}
+use Rattle.jm_model.specs.Bindings.{object_at}
 use Rattle.jm_index.specs.Index.{flag_of}
 use Rattle.jm_index.specs.Layout.{posting_at, AreFiled}
 use Rattle.jm_index.proofs.trees.Trees.file_all.Given as goal

@@ -1,4 +1,4 @@
-use Rattle.std.proofs.Common.{◌≡◌, ◌+◌, ℕ, true, false, arith, sym, ◌∙◌, subst}
+use Rattle.std.proofs.Common.{◌≡◌, ℕ, false, arith, sym, ◌∙◌, subst}
 use Rattle.std.proofs.lemmas.Bool.{both_ways}
 use Rattle.jm_index.specs.Index.{flag_of}
 use Rattle.jm_index.proofs.TreeLemmas.{AreFiled-one}

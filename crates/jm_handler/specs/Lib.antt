@@ -1,0 +1,6 @@
+pub mod Statements
+pub mod Terms
+pub mod Blocks
+pub mod Renderings
+pub mod Broken
+pub mod Answers

@@ -1,0 +1,129 @@
+//! What a handler prints when it runs.
+ghost use Rattle.std.specs.Prelude.{◌≡◌, ◌++◌, IfOk, OnOk};
+ghost use Rattle.std.specs.List.{flat_map};
+ghost use Rattle.jm_model.specs.Bindings.{object_at};
+ghost use Rattle.jm_handler.specs.Broken.{broken};
+ghost use Rattle.jm_handler.specs.Renderings.{AreNamed, occasion, object_text, term_text};
+ghost use Rattle.jm_handler.specs.Renderings.{statement_text, marked_lines, handler_text};
+
+use crate::handler::{Handler, Statement};
+use crate::page::Page;
+use crate::term::Term;
+use jm_events::Names;
+use jm_model::{Binding, NoMemory};
+use std::alloc::Global;
+use std::marker::Model;
+
+/// What a handler runs for.
+#[derive(Drop)]
+struct Occasion<'a> {
+    instance: &'a Binding,
+    objects: &'a Names,
+    caller: u32,
+    line: u32,
+}
+
+impl<'a> Model for Occasion<'a> {
+    ghost use Rattle.jm_handler.specs.Renderings.{Occasion as OccasionOf, occasion};
+
+    ghost Value = { OccasionOf };
+
+    ghost view = { λ o. occasion o.instance.now o.objects.now o.caller o.line };
+}
+
+impl Handler {
+    /// The text of the handler where it runs for an instance, at an event on this line of this caller: that of each
+    /// statement in order, cut at its line breaks, each piece on a line of its own behind two spaces, `>` and a space.
+    /// A parameter that the instance doesn't bind is `null`. Each object that is bound has its name.
+    pub fn render(
+        &self,
+        alloc: Global,
+        instance: &Binding,
+        objects: &Names,
+        caller: u32,
+        line: u32,
+    ) -> Result<Vec<u8>, NoMemory>
+        requires { AreNamed objects.now instance.now }
+        ensures { IfOk result (λ text.
+            text.items ≡ handler_text (occasion instance.now objects.now caller line) self.now) }
+    {
+        let occasion = Occasion {
+            instance,
+            objects,
+            caller,
+            line,
+        };
+        let mut page = Page::new(alloc);
+        occasion.statements(&mut page, self.statements())?;
+        Ok(page.into_bytes())
+    }
+}
+
+impl Occasion<'_> {
+    /// The statements.
+    fn statements(&self, page: &mut Page, statements: &[Statement]) -> Result<(), NoMemory>
+        requires { AreNamed self.now.objects self.now.instance }
+        ensures { OnOk result (page.new ≡ page.old ++ handler_text self.now statements.now) }
+    {
+        for statement in statements {
+            self.statement(page, statement)?;
+        }
+        Ok(())
+    }
+
+    /// The lines of a statement.
+    fn statement(&self, page: &mut Page, statement: &Statement) -> Result<(), NoMemory>
+        requires { AreNamed self.now.objects self.now.instance }
+        ensures { OnOk result (page.new ≡ page.old ++ marked_lines (statement_text self.now statement.now)) }
+    {
+        page.begin()?;
+        self.terms(page, statement.terms())?;
+        page.end()
+    }
+
+    /// The terms of a statement.
+    fn terms(&self, page: &mut Page, terms: &[Term]) -> Result<(), NoMemory>
+        requires { AreNamed self.now.objects self.now.instance }
+        ensures { OnOk result (page.new ≡ page.old ++ broken (statement_text self.now terms.now)) }
+    {
+        for term in terms {
+            self.term(page, term)?;
+        }
+        Ok(())
+    }
+
+    /// A term.
+    fn term(&self, page: &mut Page, term: &Term) -> Result<(), NoMemory>
+        requires { AreNamed self.now.objects self.now.instance }
+        ensures { OnOk result (page.new ≡ page.old ++ broken (term_text self.now term.now)) }
+    {
+        match term {
+            Term::Literal(text) => page.text(text.as_slice()),
+            Term::Parameter(p) => page.text(self.object(*p)),
+            Term::Place => self.place(page),
+        }
+    }
+
+    /// The caller's number and the line.
+    fn place(&self, page: &mut Page) -> Result<(), NoMemory>
+        ensures { OnOk result (page.new ≡ page.old ++ broken (term_text self.now Term.Place)) }
+    {
+        page.number(self.caller)?;
+        page.text(b":")?;
+        page.number(self.line)
+    }
+
+    /// The name of the object that a parameter is bound to.
+    fn object(&self, p: u8) -> &[u8]
+        requires { AreNamed self.now.objects self.now.instance }
+        ensures { result.now ≡ object_text self.now.objects (object_at self.now.instance p) }
+    {
+        if self.instance.mask() == 0 || p >= 8 {
+            return b"null";
+        }
+        match self.instance.get(p) {
+            Some(object) => self.objects.name(object).as_bytes(),
+            None => b"null",
+        }
+    }
+}

@@ -1,0 +1,24 @@
+-- What a handler that ran prints behind its line.
+use Rattle.std.proofs.Common.{◌≡◌, ℕ, zero, suc, List, [], ◌∷◌, ◌++◌, get_or, refl, sym, ◌∙◌, append_assoc}
+use Rattle.jm_model.specs.declared.firings.Firing.{Firing}
+use Rattle.jm_model.specs.declared.step.Entry.{Entry}
+use Rattle.jm_handler.specs.declared.term.Term.{Term}
+use Rattle.jm_handler.specs.Renderings.{occasion, handler_text}
+use Rattle.jm_print.specs.Lexicons.{Lexicon, statements_of}
+use Rattle.jm_print.specs.Texts.{firing_text, run_text}
+
+statements_of-get_or : (statements : List (List (List Term))) (k : ℕ) → statements_of statements k ≡ get_or statements k []
+statements_of-get_or [] k = refl
+statements_of-get_or (x ∷ xs) zero = refl
+statements_of-get_or (x ∷ xs) (suc k) = statements_of-get_or xs k
+
+pub printed_at : (statements handlers : List (List (List Term))) (k n : ℕ) (printed : List (List Term)) → handlers ≡ statements → n ≡ k → printed ≡ get_or handlers n []
+    → printed ≡ statements_of statements k
+printed_at statements handlers k n printed same number is = is ∙ (λ j. get_or (same j) (number j) []) ∙ sym (statements_of-get_or statements k)
+
+pub run_text-written : (l : Lexicon) (x : Entry) (f : Firing) (start page : List ℕ) (printed : List (List Term)) → page ≡ start ++ firing_text l f
+    → printed ≡ statements_of l.statements f.handler → page ++ handler_text (occasion f.instance l.objects x.caller x.line) printed ≡ start ++ run_text l x f
+run_text-written l x f start page printed first is =
+    let at = occasion f.instance l.objects x.caller x.line in
+    let own = handler_text at (statements_of l.statements f.handler) in
+    (λ j. first j ++ handler_text at (is j)) ∙ append_assoc start (firing_text l f) own
