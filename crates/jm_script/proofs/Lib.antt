@@ -8,4 +8,3 @@ pub mod MeaningLemmas
 pub mod ReadingLemmas
 pub mod SpellingLemmas
 pub mod FittingLemmas
-pub mod DisposalLemmas

@@ -8,4 +8,3 @@ pub mod Answers
 pub mod Projections
 pub mod Spelling
 pub mod Fitting
-pub mod Disposals

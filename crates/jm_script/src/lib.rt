@@ -5,7 +5,6 @@
 #![tactic(auto)]
 
 mod catalog;
-mod disposal;
 mod event;
 mod laws;
 mod line;
@@ -16,7 +15,6 @@ mod statement;
 mod words;
 
 pub use catalog::Catalog;
-pub use disposal::disposal_line;
-pub use laws::{events_alone, one_reading};
+pub use laws::one_reading;
 pub use reader::read_script;
 pub use script::{Script, ScriptLine, Target, project};

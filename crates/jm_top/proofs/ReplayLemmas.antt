@@ -6,7 +6,7 @@ use Rattle.std.specs.List.{AllByRecursion}
 use Rattle.std.proofs.lemmas.Option.{slice_get-map}
 use Rattle.std.proofs.lemmas.List.{length-map}
 use Rattle.std.proofs.lemmas.Bool.Decides.{nat_tests}
-use Rattle.std.proofs.lemmas.List.Elements.{All-from_recursion, recursion_from_All, All-weaker, All-map, All-filter, All-head, All-tail}
+use Rattle.std.proofs.lemmas.List.Elements.{All-from_recursion, recursion_from_All, All-weaker, All-head, All-tail}
 use Rattle.jm_model.specs.Bindings.{object_at, objects_of, mask_of}
 use Rattle.jm_model.specs.Meanings.{Meaning}
 use Rattle.jm_model.specs.declared.binding.Binding.{Binding}
@@ -14,8 +14,7 @@ use Rattle.jm_model.specs.declared.step.Step.{Step}
 use Rattle.jm_model.specs.declared.step.Step.TheVariants.{Event, Death, Pass}
 use Rattle.jm_model.specs.declared.step.Outcome.TheVariants.{NoMemory}
 use Rattle.jm_model.specs.declared.step.Entry.{Entry}
-use Rattle.jm_semantics.specs.Scripts as semantics
-use Rattle.jm_semantics.specs.Scripts.{projection_of, is_for, steps_of, IsInterleaving}
+use Rattle.jm_semantics.specs.Scripts.{steps_of, IsInterleaving}
 use Rattle.jm_semantics.specs.Legality.{IsLegal}
 use Rattle.jm_core.specs.Steps.{IsFitStep}
 use Rattle.jm_core.specs.Cores.{Core}
@@ -23,23 +22,16 @@ use Rattle.jm_core.specs.Replays.{line_and_step, AreEntriesOf, Replayed}
 use Rattle.jm_events.specs.Events.{EventDefinition}
 use Rattle.jm_print.specs.Lexicons.{Lexicon}
 use Rattle.jm_print.specs.Texts.{IsPrintable, history_text}
-use Rattle.jm_script.specs.declared.script.ScriptLine.{ScriptLine}
-use Rattle.jm_script.specs.declared.script.Target.{Target}
-use Rattle.jm_script.specs.declared.script.Target.TheVariants as target
-use Rattle.jm_script.specs.Projections.{script_of, line_of, step_of}
 use Rattle.jm_script.specs.Events.{mask_at}
 use Rattle.jm_script.specs.Fitting.{FitsSpecification}
-use Rattle.jm_script.specs.Disposals.{IsEvent}
 use Rattle.jm_machine.specs.Meanings.{rules_meaning}
 use Rattle.jm_top.specs.declared.specification.Loaded.{Loaded}
-use Rattle.jm_top.specs.declared.script.Steps.{Steps}
 use Rattle.jm_top.specs.Specifications.{Specification, meaning_of}
 use Rattle.jm_top.specs.Scripts.{catalog_of}
 use Rattle.jm_top.specs.Reading.{Keeps, IsKept}
-use Rattle.jm_top.specs.Steps.{IsReadScript}
 use Rattle.jm_top.specs.Replays.{IsReplayOf, IsPrintedReplay, lexicon}
 use Rattle.jm_top.proofs.OneReadingLemmas.{same_some}
-use Rattle.jm_top.proofs.PrintLemmas.{IsNamedEvent, printable}
+use Rattle.jm_top.proofs.PrintLemmas.{IsNamedStep, printable}
 
 -- ---- bindings
 
@@ -82,40 +74,21 @@ same_meaning s l h = ap rules_meaning h.rules
 
 -- ---- the steps
 
--- an event
-abbrev pub IsEventStep : Step → Type 0
-IsEventStep (Event e b) = Unit {0}
-IsEventStep (Death o) = ⊥
-IsEventStep Pass = ⊥
-
-event_step : (t : Target) → IsEvent t → IsEventStep (step_of t)
-event_step (target.Event spec letter binding) is = tt
-event_step (target.Death object) is = absurd is
-event_step (target.Pass spec) is = absurd is
-
--- the steps of a script of events are events
-events_projected : (script : List ScriptLine) → All (λ l. IsEvent l.target) script → All (λ s. IsEventStep s.1) (projection_of (script_of script) 0)
-events_projected script all =
-    All-map (λ (s : ℕ × Step). IsEventStep s.1) (λ (l : semantics.ScriptLine). (l.line, l.step)) (filter (λ (l : semantics.ScriptLine). is_for 0 l.spec) (script_of script))
-    (All-filter (λ (l : semantics.ScriptLine). is_for 0 l.spec) (λ (l : semantics.ScriptLine). IsEventStep l.step) (script_of script)
-    (All-map (λ (l : semantics.ScriptLine). IsEventStep l.step) line_of script
-    (All-weaker (λ (l : ScriptLine). IsEvent l.target) (λ (l : ScriptLine). IsEventStep (step_of l.target)) (λ l. event_step l.target) script all)))
-
--- an event that fits the specification is one of its meaning
-fitting_event : (s : Specification) → s.rules.masks ≡ map (λ e. e.mask) s.table.events → (n : ℕ) (x : Step) → FitsSpecification (catalog_of s) n 0 x → IsEventStep x → IsFitStep (meaning_of s) n x
-fitting_event s masks n (Event e b) fits is =
+-- a step that fits the specification is one of its meaning
+fitting_step : (s : Specification) → s.rules.masks ≡ map (λ e. e.mask) s.table.events → (n : ℕ) (x : Step) → FitsSpecification (catalog_of s) n 0 x → IsFitStep (meaning_of s) n x
+fitting_step s masks n (Event e b) fits =
     ((subst (λ k. e.0 < k) (letters_of_rules s masks) fits.event.event, fits.eight, fits.event.parameters ∙ mask_of_rules s masks e.0), fits.named)
-fitting_event s masks n (Death o) fits is = absurd is
-fitting_event s masks n Pass fits is = absurd is
+fitting_step s masks n (Death o) fits = fits
+fitting_step s masks n Pass fits = tt
 
 -- and has names
-fitting_named : (s : Specification) (objects : List (List ℕ)) (x : Step) → ((e : ℕ) → mask_at s.table e < 2 ^ length s.table.parameters) → FitsSpecification (catalog_of s) (length objects) 0 x → IsEventStep x → IsNamedEvent (lexicon s objects) x
-fitting_named s objects (Event e b) small fits is = (
+fitting_named : (s : Specification) (objects : List (List ℕ)) (x : Step) → ((e : ℕ) → mask_at s.table e < 2 ^ length s.table.parameters) → FitsSpecification (catalog_of s) (length objects) 0 x → IsNamedStep (lexicon s objects) x
+fitting_named s objects (Event e b) small fits = (
   subst (λ n. e.0 < n) (sym (length-map s.table.events (λ (x : EventDefinition). x.name))) fits.event.event,
   λ p o at. (bound_parameter b (length s.table.parameters) p o (subst (λ m. m < 2 ^ length s.table.parameters) (sym fits.event.parameters) (small e.0)) at, named_object b (length objects) p o fits.named at),
 )
-fitting_named s objects (Death o) small fits is = absurd is
-fitting_named s objects Pass small fits is = absurd is
+fitting_named s objects (Death o) small fits = fits
+fitting_named s objects Pass small fits = tt
 
 -- the set of parameters of each event is one of these
 small_masks : (masks : List ℕ) (bound : ℕ) → 0 < bound → All (λ m. m < bound) masks → (e : ℕ) → unwrap_or (slice_get masks e) 0 < bound
@@ -131,29 +104,17 @@ small_params : (s : Specification) (l : Loaded) → IsKept s l → (e : ℕ) →
 small_params s l h e =
     subst (λ m. m < 2 ^ length s.table.parameters) (sym (mask_of_rules s h.masks e)) (small_masks s.rules.masks (2 ^ length s.table.parameters) (power_some (length s.table.parameters)) h.fit e)
 
--- both together, of steps
-module _ {A : Type 0} (P Q R : A → Type 0) (both : (x : A) → P x → Q x → R x) where
-  all_both : (xs : List A) → AllByRecursion P xs → AllByRecursion Q xs → AllByRecursion R xs
-  all_both [] p q = tt
-  all_both (x ∷ xs) p q = (both x p.0 q.0, all_both xs p.1 q.1)
-
-  pub both_of_all : (xs : List A) → All P xs → All Q xs → All R xs
-  both_of_all xs p q = All-from_recursion R xs (all_both xs (recursion_from_All P xs p) (recursion_from_All Q xs q))
-
 -- the steps may be replayed
-pub replayable : (s : Specification) (l : Loaded) (bytes : List ℕ) (x : Steps) (own : List (ℕ × Step)) → IsKept s l → IsReadScript s bytes x
-    → own ≡ projection_of (script_of x.script) 0
-    → All (λ step. FitsSpecification (catalog_of s) (length x.objects) 0 step.1) own
-    → All (λ step. IsFitStep (rules_meaning l.rules.definition) (length x.objects) step.1) own
-replayable s l bytes x own kept read is fits =
-    subst (λ m. All (λ (step : ℕ × Step). IsFitStep m (length x.objects) step.1) own) (sym (same_meaning s l kept.keeps))
-    (both_of_all (λ (step : ℕ × Step). FitsSpecification (catalog_of s) (length x.objects) 0 step.1) (λ (step : ℕ × Step). IsEventStep step.1) (λ (step : ℕ × Step). IsFitStep (meaning_of s) (length x.objects) step.1)
-    (λ step. fitting_event s kept.masks (length x.objects) step.1) own fits (subst (λ ss. All (λ (step : ℕ × Step). IsEventStep step.1) ss) (sym is) (events_projected x.script read.events)))
+pub replayable : (s : Specification) (l : Loaded) (own : List (ℕ × Step)) (n : ℕ) → IsKept s l → All (λ step. FitsSpecification (catalog_of s) n 0 step.1) own
+    → All (λ step. IsFitStep (rules_meaning l.rules.definition) n step.1) own
+replayable s l own n kept fits =
+    subst (λ m. All (λ (step : ℕ × Step). IsFitStep m n step.1) own) (sym (same_meaning s l kept.keeps))
+    (All-weaker (λ (step : ℕ × Step). FitsSpecification (catalog_of s) n 0 step.1) (λ (step : ℕ × Step). IsFitStep (meaning_of s) n step.1) (λ step. fitting_step s kept.masks n step.1) own fits)
 
 -- ---- the history
 
 -- entries of such steps
-named_entries : (l : Lexicon) (xs : List Entry) → AllByRecursion (λ s. IsNamedEvent l s.1) (map line_and_step xs) → AllByRecursion (λ x. IsNamedEvent l x.step) xs
+named_entries : (l : Lexicon) (xs : List Entry) → AllByRecursion (λ s. IsNamedStep l s.1) (map line_and_step xs) → AllByRecursion (λ x. IsNamedStep l x.step) xs
 named_entries l [] h = tt
 named_entries l (x ∷ xs) h = (h.0, named_entries l xs h.1)
 
@@ -194,19 +155,17 @@ steps_in_order own h is =
     sym (same_some (is.each 0 (omega arith)) ∙ ap (λ xs. map line_and_step xs) (one_caller h (recursion_from_All (λ (x : Entry). x.caller ≡ 0) h callers)))
 
 -- it can be printed
-pub replay_printable : (s : Specification) (l : Loaded) (bytes : List ℕ) (x : Steps) (own : List (ℕ × Step)) (h : List Entry) → IsKept s l → IsReadScript s bytes x
-    → own ≡ projection_of (script_of x.script) 0
-    → All (λ step. FitsSpecification (catalog_of s) (length x.objects) 0 step.1) own
-    → IsReplayOf (meaning_of s) own h → All (IsPrintable (lexicon s x.objects)) h
-replay_printable s l bytes x own h kept read is fits valid =
+pub replay_printable : (s : Specification) (l : Loaded) (objects : List (List ℕ)) (own : List (ℕ × Step)) (h : List Entry) → IsKept s l
+    → All (λ step. FitsSpecification (catalog_of s) (length objects) 0 step.1) own
+    → IsReplayOf (meaning_of s) own h → All (IsPrintable (lexicon s objects)) h
+replay_printable s l objects own h kept fits valid =
     let small = small_params s l kept in
-    let names = lexicon s x.objects in
-    let steps : All (λ (step : ℕ × Step). IsNamedEvent names step.1) own =
-    both_of_all (λ (step : ℕ × Step). FitsSpecification (catalog_of s) (length x.objects) 0 step.1) (λ (step : ℕ × Step). IsEventStep step.1) (λ (step : ℕ × Step). IsNamedEvent names step.1)
-    (λ step. fitting_named s x.objects step.1 small) own fits (subst (λ ss. All (λ (step : ℕ × Step). IsEventStep step.1) ss) (sym is) (events_projected x.script read.events)) in
-    let entries : All (λ (e : Entry). IsNamedEvent names e.step) h =
-    All-from_recursion (λ (e : Entry). IsNamedEvent names e.step) h
-    (named_entries names h (recursion_from_All (λ (step : ℕ × Step). IsNamedEvent names step.1) (map line_and_step h) (subst (λ ss. All (λ (step : ℕ × Step). IsNamedEvent names step.1) ss) (sym (steps_in_order own h valid.woven)) steps))) in
+    let names = lexicon s objects in
+    let steps : All (λ (step : ℕ × Step). IsNamedStep names step.1) own =
+    All-weaker (λ (step : ℕ × Step). FitsSpecification (catalog_of s) (length objects) 0 step.1) (λ (step : ℕ × Step). IsNamedStep names step.1) (λ step. fitting_named s objects step.1 small) own fits in
+    let entries : All (λ (e : Entry). IsNamedStep names e.step) h =
+    All-from_recursion (λ (e : Entry). IsNamedStep names e.step) h
+    (named_entries names h (recursion_from_All (λ (step : ℕ × Step). IsNamedStep names step.1) (map line_and_step h) (subst (λ ss. All (λ (step : ℕ × Step). IsNamedStep names step.1) ss) (sym (steps_in_order own h valid.woven)) steps))) in
     printable names (meaning_of s) (omega arith) h entries valid.woven.done valid.legal
 
 -- its text, where there is one

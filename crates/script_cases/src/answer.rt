@@ -15,14 +15,12 @@ fn answered(alloc: Global, case: &Case) -> Result<String, SpecError> {
         "script" => script::script(alloc, case),
         "ending" => script::ending(alloc, case),
         "project" => script::projected(alloc, case),
-        "disposal" => script::disposal(alloc, case),
         _ => laws(alloc),
     }
 }
 
-/// Names the laws, of which each is proved.
+/// Names the law, which is proved.
 fn laws(alloc: Global) -> Result<String, SpecError> {
     jm_script::one_reading();
-    jm_script::events_alone();
-    Ok(String::from_str(alloc, "two laws")?)
+    Ok(String::from_str(alloc, "one reading")?)
 }

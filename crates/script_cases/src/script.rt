@@ -3,7 +3,7 @@ use crate::catalog::catalog_of;
 use cases::Case;
 use jm_events::Names;
 use jm_model::{Binding, ScriptError, SpecError, Step};
-use jm_script::{Catalog, Script, Target, disposal_line, project, read_script};
+use jm_script::{Catalog, Script, Target, project, read_script};
 use std::alloc::{AllocError, Global};
 
 /// How many specifications the catalog has.
@@ -169,14 +169,4 @@ fn step_shown(alloc: Global, step: &Step) -> Result<String, AllocError> {
         Step::Death { object } => format!(in alloc; "death {object}"),
         Step::Pass => String::from_str(alloc, "pass"),
     }
-}
-
-/// The line of the first step that is no event.
-pub(crate) fn disposal(alloc: Global, case: &Case) -> Result<String, SpecError> {
-    let bytes = case.text.as_slice();
-    if bytes.len() > 1_000_000 {
-        return Err(SpecError::NoMemory);
-    }
-    let line = disposal_line(alloc, bytes)?;
-    Ok(format!(in alloc; "{line:?}")?)
 }

@@ -20,7 +20,7 @@ replay_own-requires-clause-events c =
     let s = c.requires.0 in
     let read = c.requires.2.1 in
     let fits = c.in_ok-own.ensures.fitting (catalog_of s) (length c.args.steps.now.objects) read.fitting in
-    rw c.as_slice.ensures.value (replayable s c.args.spec c.requires.2.0 c.args.steps.now c.in_ok-own.own.items c.requires.1 read c.in_ok-own.ensures.value fits)
+    rw c.as_slice.ensures.value (replayable s c.args.spec c.in_ok-own.own.items (length c.args.steps.now.objects) c.requires.1 fits)
 
 pub replay_own-requires-clause-printable : goal.replay_own-requires-clause-printable
 replay_own-requires-clause-printable c = λ h is.
@@ -32,7 +32,7 @@ replay_own-requires-clause-printable c = λ h is.
     let fits = c.in_ok-own.ensures.fitting (catalog_of s) (length x.objects) read.fitting in
     let of_own = rw c.as_slice.ensures.value at is in
     let valid : IsReplayOf (meaning_of s) own h = subst (λ (m : Meaning). IsReplayOf m own h) (same_meaning s c.args.spec kept.keeps) of_own in
-    let can = replay_printable s c.args.spec c.requires.2.0 x own h kept read c.in_ok-own.ensures.value fits valid in
+    let can = replay_printable s c.args.spec x.objects own h kept fits valid in
     subst (λ (l : Lexicon). All (IsPrintable l) h) (sym (names_are s c.args.spec (string_bytes c.args.spec.name) x.objects kept kept.keeps.name)) can
 
 pub returns : goal.returns
