@@ -6,6 +6,7 @@ use std::alloc::{AllocError, Global};
 pub(crate) fn answer(alloc: Global, case: &Case) -> Result<String, AllocError> {
     match case.verb.as_str() {
         "run" => command::run(alloc, case),
+        "long" => command::long(alloc, case),
         "told" => command::told(alloc, case),
         "laws" => command::laws(alloc),
         _ => String::from_str(alloc, "no such verb"),

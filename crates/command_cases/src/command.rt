@@ -1,5 +1,5 @@
 //! Whole commands.
-use crate::shown::put_text;
+use crate::shown::{last_line, put_text};
 use case_files::{calls_of, files, sink_of};
 use cases::Case;
 use jm_port::{Folder, MemoryFolder, Sink, SureFolder, SureSink};
@@ -79,6 +79,25 @@ fn shown(alloc: Global, status: &Status, out: &[u8], err: &[u8]) -> Result<Strin
     put_text(&mut answer, "out:", out)?;
     put_text(&mut answer, "err:", err)?;
     Ok(answer)
+}
+
+/// The same where nothing fails and the files are long: how many bytes are written, and their last line. In the files a
+/// `;` stands for a line feed.
+pub(crate) fn long(alloc: Global, case: &Case) -> Result<String, AllocError> {
+    let text = with_line_feeds(alloc, case.text.as_slice())?;
+    let mut folder = SureFolder::new(files(alloc, text.as_slice())?);
+    let mut out = SureSink::new(alloc);
+    let (status, _) = done(alloc, case, &mut folder, &mut out)?;
+    let bytes = out.bytes();
+    format!(in alloc; "{status:?} {} bytes\n{}", bytes.len(), last_line(bytes))
+}
+
+fn with_line_feeds(alloc: Global, text: &[u8]) -> Result<Vec<u8>, AllocError> {
+    let mut out = Vec::new(alloc);
+    for byte in text {
+        out.push(if *byte == b';' { b'\n' } else { *byte })?;
+    }
+    Ok(out)
 }
 
 /// What is told of the status that the words name.

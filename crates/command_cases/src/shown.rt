@@ -14,3 +14,12 @@ pub(crate) fn put_text(answer: &mut String, heading: &str, bytes: &[u8]) -> Resu
     }
     Ok(())
 }
+
+/// The last line of a text.
+pub(crate) fn last_line(bytes: &[u8]) -> &str {
+    let mut last = "";
+    for line in text_of(bytes).lines() {
+        last = line;
+    }
+    last
+}
