@@ -1,4 +1,4 @@
--- The statements of a block: its tokens, one run behind the other, each up to and with a `;` or a block outside brackets.
+-- The statements of a block: its tokens, run by run, each up to and with a `;` or a block outside brackets.
 use Rattle.std.specs.Prelude.{ℕ, ◌≡◌, ◌+◌, ◌-◌, ◌<◌, ◌≤◌, Bool, true, ◌||◌, ◌⊎◌, List, [], ◌∷◌, length, take, drop, fold, slice_get, codes, IsSomeAnd, if◌then◌else◌}
 use Rattle.jm_text.specs.declared.token.Token.{Token}
 use Rattle.jm_text.specs.Texts.{is_mark}

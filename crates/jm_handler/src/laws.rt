@@ -8,6 +8,7 @@ ghost use Rattle.jm_handler.specs.Blocks.{Says};
 pub fn one_reading()
     ensures some { (bytes : List ℕ) (parameters : List (List ℕ)) (tokens : List Token)
         → (printed : List (List Term)) × Says bytes parameters tokens printed }
-    ensures one { (bytes : List ℕ) (parameters : List (List ℕ)) (tokens : List Token) (printed others : List (List Term))
+    ensures one { (bytes : List ℕ) (parameters : List (List ℕ)) (tokens : List Token)
+        → (printed others : List (List Term))
         → Says bytes parameters tokens printed → Says bytes parameters tokens others → printed ≡ others }
 {}

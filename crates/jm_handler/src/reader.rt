@@ -15,8 +15,8 @@ use jm_reading::Cursor;
 use jm_text::{Token, is_mark, is_word, name, text};
 use std::alloc::Global;
 
-/// What the tokens inside a handler's block say, where the specification has the parameters of this table. The tokens are
-/// of these bytes.
+/// What the tokens inside a handler's block say, where the specification has the parameters of this table. The tokens
+/// are of these bytes.
 ///
 /// The statements are looked at one by one. Any tokens are taken: brackets are counted, and not compared.
 pub fn read_handler(

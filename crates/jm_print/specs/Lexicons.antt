@@ -3,8 +3,8 @@ use Rattle.std.specs.Prelude.{ℕ, List, [], slice_get, unwrap_or}
 use Rattle.jm_events.specs.Events.{EventDefinitions, event_names}
 use Rattle.jm_handler.specs.declared.term.Term.{Term}
 
--- the names of a specification, of its parameters, events and handlers, and of the objects; and what each handler prints:
--- a list of terms for each of its statements
+-- the names of a specification, of its parameters, events and handlers, and of the objects; and what each handler
+-- prints: a list of terms for each of its statements
 pub record Lexicon : Type 0 where
   pub specification : List ℕ
   pub parameters : List (List ℕ)

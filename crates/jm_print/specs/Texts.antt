@@ -67,7 +67,8 @@ bare_text l h =
 -- a handler that ran at an entry: its line, and what it prints
 abbrev pub run_text : Lexicon → Entry → Firing → List ℕ
 run_text l x f =
-    firing_text l f ++ handler_text (occasion f.instance l.objects x.caller x.line) (statements_of l.statements f.handler)
+    firing_text l f
+    ++ handler_text (occasion f.instance l.objects x.caller x.line) (statements_of l.statements f.handler)
 
 -- an entry
 abbrev pub full_entry_text : Lexicon → Entry → List ℕ

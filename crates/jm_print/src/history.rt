@@ -34,10 +34,10 @@ impl<'a> Model for Printer<'a> {
     ghost view = { λ p. lexicon_of p.specification.now p.table.now p.categories.now p.objects.now p.handlers.now };
 }
 
-/// The text of a history: its specification, a line for each entry and for each handler that ran, with the lines that the
-/// handler prints behind it, and how many entries there are. No entry may have met want of memory, and each letter,
-/// parameter, handler and object has its name. The handlers stand in the order of their categories; one that isn't there
-/// prints nothing.
+/// The text of a history: its specification, a line for each entry and for each handler that ran, with the lines that
+/// the handler prints behind it, and how many entries there are. No entry may have met want of memory, and each letter,
+/// parameter, handler and object has its name. The handlers stand in the order of their categories; one that isn't
+/// there prints nothing.
 pub fn render_history(
     alloc: Global,
     name: &str,
@@ -151,7 +151,8 @@ impl Printer<'_> {
         requires event { (letter.0 < length self.now.events) × HasNamesFrom self.now 0 binding.now }
         requires firings { All (IsPrintableFiring self.now) firings.now }
         ensures { OnOk result (page.new ≡ page.old
-            ++ outcome_text (run_text self.now entry.now) self.now (Step.Event letter binding.now) (Outcome.Fired firings.now)) }
+            ++ outcome_text (run_text self.now entry.now) self.now (Step.Event letter binding.now)
+            (Outcome.Fired firings.now)) }
     {
         self.event(page, letter, binding)?;
         page.text(" fired ")?;

@@ -16,8 +16,8 @@ use Rattle.jm_spec.specs.Trees.{IsTreeOfTokens, IsFaultOfTokens}
 use Rattle.jm_machine.specs.Meanings.{RuleDefinition, rules_meaning}
 use Rattle.jm_machine.specs.Compiling.{IsCompiledFrom, IsFaultyTree}
 
--- a specification: its name, its parameters and events, its rules, and what each of its handlers prints: a list of terms for
--- each statement
+-- a specification: its name, its parameters and events, its rules, and what each of its handlers prints: a list of
+-- terms for each statement
 pub record Specification : Type 0 where
   pub name : List ℕ
   pub table : EventDefinitions

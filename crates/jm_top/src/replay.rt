@@ -36,9 +36,11 @@ fn replay_own(
     own: &[(u32, Step)],
     objects: &Names,
 ) -> Result<Vec<u8>, NoMemory>
-    requires events { All (λ step. IsFitStep (rules_meaning spec.rules.definition) (length objects.now) step.1) own.now }
-    requires printable { (h : List Entry) → IsReplayOf (rules_meaning spec.rules.definition) own.now h → All (IsPrintable (lexicon_of (string_bytes spec.name) spec.table spec.handlers objects.now spec.texts.items)) h }
-    ensures { IfOk result (λ text. IsPrintedReplay (rules_meaning spec.rules.definition) own.now (lexicon_of (string_bytes spec.name) spec.table spec.handlers objects.now spec.texts.items) text.items) }
+    requires steps { All (λ step. IsFitStep (rules_meaning spec.rules.definition) (length objects.now) step.1) own.now }
+    requires printable { (h : List Entry) → IsReplayOf (rules_meaning spec.rules.definition) own.now h
+        → All (IsPrintable (lexicon_of (string_bytes spec.name) spec.table spec.handlers objects.now spec.texts.items)) h }
+    ensures { IfOk result (λ text. IsPrintedReplay (rules_meaning spec.rules.definition) own.now
+        (lexicon_of (string_bytes spec.name) spec.table spec.handlers objects.now spec.texts.items) text.items) }
 {
     let (names, table, rules, texts) = parts(spec);
     let titles = Titles {
@@ -68,9 +70,13 @@ fn history_of<M: Monitor>(
     steps: &[(u32, Step)],
     titles: Titles<'_>,
 ) -> Result<Vec<u8>, NoMemory>
-    requires events { All (λ step. IsFitStep (M.meaning (M.definition rules)) (length titles.objects.now) step.1) steps.now }
-    requires printable { (h : List Entry) → IsReplayOf (M.meaning (M.definition rules)) steps.now h → All (IsPrintable (lexicon_of titles.name.now titles.table.now titles.handlers.now titles.objects.now titles.texts.now)) h }
-    ensures { IfOk result (λ text. IsPrintedReplay (M.meaning (M.definition rules)) steps.now (lexicon_of titles.entry.name.now titles.entry.table.now titles.entry.handlers.now titles.entry.objects.now titles.entry.texts.now) text.items) }
+    requires steps { All (λ step. IsFitStep (M.meaning (M.definition rules)) (length titles.objects.now) step.1) steps.now }
+    requires printable { (h : List Entry) → IsReplayOf (M.meaning (M.definition rules)) steps.now h
+        → All (IsPrintable (lexicon_of titles.name.now titles.table.now titles.handlers.now titles.objects.now
+        titles.texts.now)) h }
+    ensures { IfOk result (λ text. IsPrintedReplay (M.meaning (M.definition rules)) steps.now
+        (lexicon_of titles.entry.name.now titles.entry.table.now titles.entry.handlers.now titles.entry.objects.now
+        titles.entry.texts.now) text.items) }
 {
     let mut prop = Prop::new(alloc, rules, titles.objects.len())?;
     prop.replay(0, steps)?;

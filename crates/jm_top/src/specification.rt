@@ -15,8 +15,8 @@ use jm_spec::{SpecTree, read_spec};
 use jm_text::{Token, tokens};
 use std::alloc::Global;
 
-/// A specification that was read: its name, its parameters and events, the categories of its handlers and what they print, a
-/// catalog of it alone, and its rules.
+/// A specification that was read: its name, its parameters and events, the categories of its handlers and what they
+/// print, a catalog of it alone, and its rules.
 #[derive(Drop)]
 pub(crate) struct Loaded {
     pub name: String,

@@ -15,8 +15,8 @@ use Rattle.jm_top.proofs.replay.replay.Goals as goal
 names_are : (s : Specification) (l : Loaded) (name : List ℕ) (objects : List (List ℕ)) → IsKept s l → name ≡ s.name → lexicon_of name l.table l.handlers objects l.texts.items ≡ lexicon s objects
 names_are s l name objects kept is = λ i. lexicon_of (is i) (kept.keeps.table i) (kept.keeps.handlers i) objects (kept.keeps.texts i)
 
-pub replay_own-requires-clause-events : goal.replay_own-requires-clause-events
-replay_own-requires-clause-events c =
+pub replay_own-requires-clause-steps : goal.replay_own-requires-clause-steps
+replay_own-requires-clause-steps c =
     let s = c.requires.0 in
     let read = c.requires.2.1 in
     let fits = c.in_ok-own.ensures.fitting (catalog_of s) (length c.args.steps.now.objects) read.fitting in

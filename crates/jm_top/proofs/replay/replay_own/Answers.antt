@@ -1,7 +1,7 @@
 use Rattle.jm_top.proofs.replay.replay_own.Goals as goal
 
-pub history_of-requires-clause-events : goal.history_of-requires-clause-events
-history_of-requires-clause-events c = rw c.parts-names.ensures.rules c.requires.events
+pub history_of-requires-clause-steps : goal.history_of-requires-clause-steps
+history_of-requires-clause-steps c = rw c.parts-names.ensures.rules c.requires.steps
 
 pub history_of-requires-clause-printable : goal.history_of-requires-clause-printable
 history_of-requires-clause-printable c =
