@@ -16,7 +16,8 @@ abbrev pub meaning_over : Specification → List ℕ → ScriptMeaning
 meaning_over s bytes = script_meaning (catalog_of s) 0 bytes []
 
 -- the bytes say these steps, by these names of objects: no line has a fault
-pub record IsScript (s : Specification) (bytes : List ℕ) (script : List ScriptLine) (objects : List (List ℕ)) : Type 0 where
+pub record IsScript (s : Specification) (bytes : List ℕ) (script : List ScriptLine) (objects : List (List ℕ))
+    : Type 0 where
   pub small : length bytes ≤ most_bytes
   pub sound : (meaning_over s bytes).fault ≡ None
   pub lines : script ≡ (meaning_over s bytes).lines
@@ -25,4 +26,7 @@ pub record IsScript (s : Specification) (bytes : List ℕ) (script : List Script
 -- the first fault of the bytes: they are too many, or a line has it
 pub data IsScriptFault (s : Specification) (bytes : List ℕ) : ScriptFault → Type 0 where
   too_long : most_bytes < length bytes → IsScriptFault s bytes TooLong
-  in_line : (fault : ScriptFault) → length bytes ≤ most_bytes → (meaning_over s bytes).fault ≡ Some fault → IsScriptFault s bytes fault
+  in_line : (fault : ScriptFault)
+      → length bytes ≤ most_bytes
+      → (meaning_over s bytes).fault ≡ Some fault
+      → IsScriptFault s bytes fault

@@ -6,7 +6,7 @@ use Rattle.jm_top.specs.Specifications.{Specification}
 use Rattle.jm_top.specs.Scripts.{catalog_of, IsScript}
 use Rattle.jm_top.specs.Jobs.{Holds}
 
--- the bytes say these steps, which fit the specification: its events, deaths and passes on it, of objects that have names
+-- the bytes say these steps, which fit the specification: its events, deaths and its passes, of objects with names
 pub record IsReadScript (s : Specification) (bytes : List ℕ) (steps : Steps) : Type 0 where
   pub said : IsScript s bytes steps.script steps.objects
   pub fitting : FitsCatalog (catalog_of s) (length steps.objects) steps.script

@@ -17,7 +17,7 @@ pub(crate) struct Steps {
     pub objects: Names,
 }
 
-/// The script that the bytes say, over a catalog of one specification. The fault is that of the first line that has one.
+/// The script that the bytes say, over a catalog of one specification. The fault is that of the first line with one.
 pub(crate) fn read_steps(
     alloc: Global,
     bytes: &[u8],
@@ -25,7 +25,8 @@ pub(crate) fn read_steps(
 ) -> Result<Steps, ScriptError>
     requires { length bytes.now ≤ most_bytes }
     ensures ok { (s : Specification) → catalog.now ≡ catalog_of s → IfOk result (IsReadScript s bytes.now) }
-    ensures err { (s : Specification) (fault : ScriptFault) → catalog.now ≡ catalog_of s → result ≡ Err (ScriptError.Bad fault) → IsScriptFault s bytes.now fault }
+    ensures err { (s : Specification) (fault : ScriptFault) → catalog.now ≡ catalog_of s → result ≡ Err (ScriptError.Bad fault)
+        → IsScriptFault s bytes.now fault }
 {
     let mut objects = Names::new(alloc);
     let mut count = 0;
