@@ -156,6 +156,20 @@ impl<M: Monitor> Prop<M> {
         }
     }
 
+    /// The rules.
+    pub fn rules(&self) -> &M
+        ensures { M.definition result.now ≡ self.now.definition }
+    {
+        &self.rules
+    }
+
+    /// How many objects there are, dead ones among them.
+    pub fn objects(&self) -> u32
+        ensures { result ≡ self.now.objects }
+    {
+        self.objects.len()
+    }
+
     /// The history.
     pub fn history(&self) -> &History
         ensures value { result.now ≡ self.now.entries }
