@@ -1,5 +1,5 @@
 -- What contracts see of a store, and what a plan is for it.
-use Rattle.std.specs.Prelude.{ℕ, ◌≡◌, Bool, List, [], ◌∷◌, ◌++◌, Option, Some, Contains, length, ◌⊎◌}
+use Rattle.std.specs.Prelude.{ℕ, ◌≡◌, Bool, List, [], ◌∷◌, ◌++◌, Option, Some, None, Contains, length, ◌⊎◌}
 use Rattle.jm_model.specs.Meanings.{Meaning}
 use Rattle.jm_model.specs.declared.binding.Binding.{Binding}
 use Rattle.jm_semantics.specs.Traces.{ParametricEvent}
@@ -11,7 +11,7 @@ use Rattle.jm_monitors.specs.Steps.{AreMarksAfter, NoneCutAbove}
 use Rattle.jm_store.specs.declared.moves.Move.{Move}
 use Rattle.jm_store.specs.declared.moves.Plan.{Plan}
 use Rattle.jm_store.specs.Slots.{monitor_at, stored_in}
-use Rattle.jm_store.specs.Moves.{after_moves}
+use Rattle.jm_store.specs.Moves.{after_moves, AreApart}
 
 -- The monitors by slot, the marks, whether a plan is open, and the index, which has a pair for each monitor. What the
 -- store is to have where a plan is open isn't among the monitors.
@@ -32,13 +32,22 @@ pub record IsFit {S : Type 0} (store : Contents S) (dead : List Bool) : Type 0 w
   pub marks : (b : Binding) → Contains store.marks b → AreBelow (length dead) b
   pub index : IsFitting store.index dead
 
+-- the pair's slot has a monitor
+abbrev pub IsFilled : {S : Type 0} → Contents S → Pair → Type 0
+IsFilled {S} store pair = (s : Stored S) × (monitor_at store.monitors pair.slot ≡ Some s)
+
+-- one of the moves is for the pair
+abbrev pub IsPlannedBy : {S : Type 0} → List (Move S) → Pair → Type 0
+IsPlannedBy {S} moves pair = (move : Move S) × Contains moves move × (move.slot ≡ Some pair.slot) × (move.monitor.instance ≡ pair.binding)
+
 -- The plan is for the store: where one of its moves has a slot, the index leads to it, and a slot to which the index leads
 -- has a monitor, or one of the moves is for it. It has its answer twice.
 pub record IsPlanFor {S : Type 0} (store : Contents S) (plan : Plan S) : Type 0 where
   pub twice : plan.copy ≡ plan.answer
+  pub apart : AreApart plan.moves.items
   pub placed : (move : Move S) (k : ℕ) → Contains plan.moves.items move → move.slot ≡ Some k → Contains store.index.list (record { binding = move.monitor.instance; slot = k })
   pub filled : (pair : Pair) → Contains store.index.list pair
-      → ((s : Stored S) × (monitor_at store.monitors pair.slot ≡ Some s)) ⊎ ((move : Move S) × Contains plan.moves.items move × (move.slot ≡ Some pair.slot))
+      → IsFilled store pair ⊎ IsPlannedBy plan.moves.items pair
 
 -- the monitors by slot that the store is to have
 abbrev pub monitors_after : {S : Type 0} → Contents S → Plan S → List (Option (Stored S))
@@ -46,8 +55,26 @@ monitors_after store plan = after_moves plan.moves.items store.monitors
 
 -- The plan is that of the event with this letter after the trace: what the store is to have is a store of the trace with the
 -- event, in which no monitor above the event's binding is cut, and the answer is the event's.
-pub record IsPlanOf (m : Meaning) {S : Type 0} (Stands : S → List ℕ → Type 0) (trace : List ParametricEvent) (dead : List Bool) (letter : ℕ) (store : Contents S) (plan : Plan S) : Type 0 where
-  pub store : (marks : List Binding) → AreMarksAfter plan.binding store.marks marks
-      → IsStoreOf m Stands (trace ++ record { letter = letter; binding = plan.binding } ∷ []) dead (stored_in (monitors_after store plan)) marks
-  pub none_cut : NoneCutAbove m Stands plan.binding dead (stored_in (monitors_after store plan))
+pub record IsPlanOf (m : Meaning) {S : Type 0} (Stands : S → List ℕ → Type 0) (trace : List ParametricEvent) (dead : List Bool) (letter : ℕ) (contents : Contents S) (plan : Plan S) : Type 0 where
+  pub store : (marks : List Binding) → AreMarksAfter plan.binding contents.marks marks
+      → IsStoreOf m Stands (trace ++ record { letter = letter; binding = plan.binding } ∷ []) dead (stored_in (monitors_after contents plan)) marks
+  pub none_cut : NoneCutAbove m Stands plan.binding dead (stored_in (monitors_after contents plan))
   pub answer : IsAnswer m trace (record { letter = letter; binding = plan.binding }) plan.answer
+
+-- Instance t has the pair of a slot which no pair had and in which there was no monitor; or it had a pair before.
+abbrev pub IsPlaced : {S : Type 0} → Contents S → Contents S → Binding → Option ℕ → Type 0
+IsPlaced old new t None = (new.index.list ≡ old.index.list) × ((pair : Pair) × Contains old.index.list pair × (pair.binding ≡ t))
+IsPlaced old new t (Some k) =
+    (new.index.list ≡ old.index.list ++ record { binding = t; slot = k } ∷ [])
+    × ((pair : Pair) → Contains old.index.list pair → pair.slot ≡ k → ⊥)
+    × (monitor_at old.monitors k ≡ None)
+
+-- The move has got a slot, if it had none: one that no pair of the index had, or none because its instance had a pair.
+pub record IsSlotted {S : Type 0} (old new : Contents S) (before after : Move S) : Type 0 where
+  pub monitor : after.monitor ≡ before.monitor
+  pub stays : after.stays ≡ before.stays
+  pub had : (k : ℕ) → before.slot ≡ Some k → after.slot ≡ Some k
+  pub got : (k : ℕ) → before.slot ≡ None → after.slot ≡ Some k
+      → Contains new.index.list (record { binding = after.monitor.instance; slot = k })
+      × (((pair : Pair) → Contains old.index.list pair → pair.slot ≡ k → ⊥) × (monitor_at old.monitors k ≡ None))
+  pub missed : before.slot ≡ None → after.slot ≡ None → (pair : Pair) × Contains new.index.list pair × (pair.binding ≡ before.monitor.instance)
