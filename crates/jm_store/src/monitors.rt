@@ -50,11 +50,17 @@ impl<S: Drop> Monitors<S> {
             (λ s. monitor_at (monitors_of self.now.slots.items) slot ≡ Some s.now) }
         ensures steps { MatchOption result (steps.new ≡ steps.old) (λ s. steps.new ≡ steps.old + 1) }
     {
+        let monitor = self.peek(slot)?;
+        steps.tick();
+        Some(monitor)
+    }
+
+    fn peek(&self, slot: usize) -> Option<&Stored<S>>
+        ensures { MatchOption result (monitor_at (monitors_of self.now.slots.items) slot ≡ None)
+            (λ s. monitor_at (monitors_of self.now.slots.items) slot ≡ Some s.now) }
+    {
         match self.slots.get(slot) {
-            Some(Slot::Taken(monitor)) => {
-                steps.tick();
-                Some(monitor)
-            }
+            Some(Slot::Taken(monitor)) => Some(monitor),
             _ => None,
         }
     }
@@ -128,9 +134,11 @@ impl<S: Drop> Monitors<S> {
             (λ t. (s : Kept S) × (monitor_at (monitors_of self.now.slots.items) slot ≡ Some s) × (s.instance ≡ t)
             × IsCutState (M.meaning (M.definition rules.now)) (M.StandsFor rules.now) s.state (dead_mask_of objects.now t)) }
     {
-        match self.slots.get(slot) {
-            Some(Slot::Taken(monitor)) if is_cut(rules, objects, monitor) => Some(monitor.instance),
-            _ => None,
+        let monitor = self.peek(slot)?;
+        if is_cut(rules, objects, monitor) {
+            Some(monitor.instance)
+        } else {
+            None
         }
     }
 

@@ -249,12 +249,14 @@ impl<M: Monitor> Store<M> {
     {
         self.marks.reserve()?;
         self.is_open = true;
-        let placed = self.place_all(moves);
-        if placed.is_err() {
-            self.take_back(moves);
-            self.is_open = false;
+        match self.place_all(moves) {
+            Ok(()) => Ok(()),
+            Err(NoMemory) => {
+                self.take_back(moves);
+                self.is_open = false;
+                Err(NoMemory)
+            }
         }
-        placed
     }
 
     /// Gives each new instance a slot.
@@ -300,12 +302,13 @@ impl<M: Monitor> Store<M> {
         }
         Self::list_domain(&mut self.domains, instance.mask())?;
         let slot = self.monitors.reserve()?;
-        let added = self.index.add(*instance, slot);
-        if added.is_err() {
-            self.monitors.release(slot);
+        match self.index.add(*instance, slot) {
+            Ok(()) => Ok(Some(slot)),
+            Err(NoMemory) => {
+                self.monitors.release(slot);
+                Err(NoMemory)
+            }
         }
-        added?;
-        Ok(Some(slot))
     }
 
     /// Adds a set of parameters to the list, where it isn't there.
