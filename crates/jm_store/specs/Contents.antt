@@ -69,12 +69,35 @@ IsPlaced old new t (Some k) =
     × ((pair : Pair) → Contains old.index.list pair → pair.slot ≡ k → ⊥)
     × (monitor_at old.monitors k ≡ None)
 
--- The move has got a slot, if it had none: one that no pair of the index had, or none because its instance had a pair.
-pub record IsSlotted {S : Type 0} (old new : Contents S) (before after : Move S) : Type 0 where
-  pub monitor : after.monitor ≡ before.monitor
-  pub stays : after.stays ≡ before.stays
-  pub had : (k : ℕ) → before.slot ≡ Some k → after.slot ≡ Some k
-  pub got : (k : ℕ) → before.slot ≡ None → after.slot ≡ Some k
-      → Contains new.index.list (record { binding = after.monitor.instance; slot = k })
-      × (((pair : Pair) → Contains old.index.list pair → pair.slot ≡ k → ⊥) × (monitor_at old.monitors k ≡ None))
-  pub missed : before.slot ≡ None → after.slot ≡ None → (pair : Pair) × Contains new.index.list pair × (pair.binding ≡ before.monitor.instance)
+-- where a move has a slot, the index leads to it
+abbrev pub ArePlaced : {S : Type 0} → Contents S → List (Move S) → Type 0
+ArePlaced {S} store moves =
+    (move : Move S) (k : ℕ) → Contains moves move → move.slot ≡ Some k → Contains store.index.list (record { binding = move.monitor.instance; slot = k })
+
+-- a move that had no slot gets that of its new pair, or none where its instance had a pair; one that had a slot keeps it
+abbrev pub IsSlotted : {S : Type 0} → Contents S → Contents S → Move S → Option ℕ → Type 0
+IsSlotted old new move slot =
+    ((new.index.list ≡ old.index.list) × ((k : ℕ) × (move.slot ≡ Some k) × (slot ≡ Some k)))
+    ⊎ ((move.slot ≡ None) × IsPlaced old new move.monitor.instance slot)
+
+-- the move was put at the end, with its slot
+pub record IsPlacedNext {S : Type 0} (old new : Contents S) (move : Move S) (before after : List (Move S)) : Type 0 where
+  pub slot : Option ℕ
+  pub slotted : IsSlotted old new move slot
+  pub grown : after ≡ before ++ record { slot = slot; monitor = move.monitor; stays = move.stays } ∷ []
+
+-- the move is another with a slot: the one it had, or that of a new pair where there was no monitor; or its instance had a pair
+pub record IsPlacedFrom {S : Type 0} (old new : Contents S) (move placed : Move S) : Type 0 where
+  pub monitor : placed.monitor ≡ move.monitor
+  pub stays : placed.stays ≡ move.stays
+  pub kept : (k : ℕ) → move.slot ≡ Some k → placed.slot ≡ Some k
+  pub got : (k : ℕ) → move.slot ≡ None → placed.slot ≡ Some k → monitor_at old.monitors k ≡ None
+  pub missed : move.slot ≡ None → placed.slot ≡ None → (pair : Pair) × Contains new.index.list pair × (pair.binding ≡ move.monitor.instance)
+
+-- the moves of a plan that was opened: one for each that was to be placed
+pub record ArePlacedOf {S : Type 0} (old new : Contents S) (moves placed : List (Move S)) : Type 0 where
+  pub apart : AreApart placed
+  pub leads : ArePlaced new placed
+  pub filled : (pair : Pair) → Contains new.index.list pair → IsFilled new pair ⊎ IsPlannedBy placed pair
+  pub each : (move : Move S) → Contains placed move → (first : Move S) × Contains moves first × IsPlacedFrom old new first move
+  pub all : (first : Move S) → Contains moves first → (move : Move S) × Contains placed move × IsPlacedFrom old new first move

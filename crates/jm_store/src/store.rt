@@ -11,7 +11,7 @@ ghost use Rattle.jm_monitors.specs.Stores.{IsStoreOf};
 ghost use Rattle.jm_monitors.specs.Steps.{IsLiveEvent, IsAfterPass, AreMarksAfter, IsCutState, IsAliveState};
 ghost use Rattle.jm_store.specs.Slots.{monitor_at, stored_in};
 ghost use Rattle.jm_store.specs.Moves.{AreGiven, IsOutcomeAt, IsPushed, IsCompatibleAt, AreMovesOf, AreApart, LieWithin, IsSwept, after_move, pairs_after};
-ghost use Rattle.jm_store.specs.Contents.{Contents, stored_of, monitors_after, IsFit, IsFilled, IsPlannedBy, IsPlaced, IsSlotted, IsPlanFor, IsPlanOf};
+ghost use Rattle.jm_store.specs.Contents.{Contents, stored_of, monitors_after, IsFit, IsFilled, IsPlannedBy, IsPlaced, ArePlaced, IsPlacedNext, ArePlacedOf, IsPlanFor, IsPlanOf};
 
 use crate::event::Event;
 use crate::monitors::Monitors;
@@ -144,10 +144,9 @@ impl<M: Monitor> Store<M> {
         if moves.len() > 1 {
             arrange(&mut moves);
         }
-        let alloc = *self.domains.allocator();
-        let answer = report(alloc, rules, &moves)?;
+        let answer = report(*self.domains.allocator(), rules, &moves)?;
         let copy = answer.copy()?;
-        self.open_plan(&mut moves)?;
+        let moves = self.open_plan(moves)?;
         Ok(Plan {
             binding: *binding,
             moves,
@@ -230,29 +229,25 @@ impl<M: Monitor> Store<M> {
 
     /// Opens a plan with these moves: new instances get slots. Where memory is wanting they are taken out again, and no
     /// plan is open.
-    fn open_plan(&mut self, moves: &mut Vec<Move<M::State>>) -> Result<(), NoMemory>
+    fn open_plan(&mut self, moves: Vec<Move<M::State>>) -> Result<Vec<Move<M::State>>, NoMemory>
         requires closed { self.old.is_open ≡ false }
-        requires apart { AreApart moves.old.items }
-        requires placed { (move : Change M.State) (k : ℕ) → Contains moves.old.items move → move.slot ≡ Some k
-            → Contains self.old.index.list (record { binding = move.monitor.instance; slot = k }) }
+        requires apart { AreApart moves.items }
+        requires leads { ArePlaced self.old moves.items }
         ensures stored { stored_of self.new ≡ stored_of self.old }
         ensures monitors { (k : ℕ) → monitor_at self.new.monitors k ≡ monitor_at self.old.monitors k }
         ensures marks { self.new.marks ≡ self.old.marks }
-        ensures fits { (dead : List Bool) → IsFitting self.old.index dead → LieWithin (length dead) moves.old.items → IsFitting self.new.index dead }
+        ensures fits { (dead : List Bool) → IsFitting self.old.index dead → LieWithin (length dead) moves.items → IsFitting self.new.index dead }
         ensures closed { OnErr result (self.new.is_open ≡ false) }
         ensures opened { OnOk result (self.new.is_open ≡ true) }
-        ensures apart { OnOk result (AreApart moves.new.items) }
-        ensures slotted { OnOk result (AllZip (IsSlotted self.old self.new) moves.old.items moves.new.items) }
-        ensures placed { OnOk result ((move : Change M.State) (k : ℕ) → Contains moves.new.items move → move.slot ≡ Some k
-            → Contains self.new.index.list (record { binding = move.monitor.instance; slot = k })) }
-        ensures filled { OnOk result ((pair : Pair) → Contains self.new.index.list pair → IsFilled self.new pair ⊎ IsPlannedBy moves.new.items pair) }
+        ensures placed { IfOk result (λ placed. ArePlacedOf self.old self.new moves.items placed.items) }
     {
         self.marks.reserve()?;
         self.is_open = true;
-        match self.place_all(moves) {
-            Ok(()) => Ok(()),
+        let mut placed = Vec::new(*self.domains.allocator());
+        match self.place_all(moves, &mut placed) {
+            Ok(()) => Ok(placed),
             Err(NoMemory) => {
-                self.take_back(moves);
+                self.take_back(&placed);
                 self.is_open = false;
                 Err(NoMemory)
             }
@@ -260,29 +255,52 @@ impl<M: Monitor> Store<M> {
     }
 
     /// Gives each new instance a slot.
-    fn place_all(&mut self, moves: &mut Vec<Move<M::State>>) -> Result<(), NoMemory>
+    fn place_all(
+        &mut self,
+        mut moves: Vec<Move<M::State>>,
+        placed: &mut Vec<Move<M::State>>,
+    ) -> Result<(), NoMemory>
         requires open { self.old.is_open ≡ true }
         requires settled { (pair : Pair) → Contains self.old.index.list pair → IsFilled self.old pair }
-        requires apart { AreApart moves.old.items }
-        requires placed { (move : Change M.State) (k : ℕ) → Contains moves.old.items move → move.slot ≡ Some k
-            → Contains self.old.index.list (record { binding = move.monitor.instance; slot = k }) }
+        requires apart { AreApart moves.items }
+        requires leads { ArePlaced self.old moves.items }
+        requires none { placed.old.items ≡ [] }
         ensures open { self.new.is_open ≡ true }
         ensures stored { stored_of self.new ≡ stored_of self.old }
         ensures monitors { (k : ℕ) → monitor_at self.new.monitors k ≡ monitor_at self.old.monitors k }
         ensures marks { self.new.marks ≡ self.old.marks }
-        ensures fits { (dead : List Bool) → IsFitting self.old.index dead → LieWithin (length dead) moves.old.items → IsFitting self.new.index dead }
-        ensures apart { AreApart moves.new.items }
-        ensures placed { (move : Change M.State) (k : ℕ) → Contains moves.new.items move → move.slot ≡ Some k
-            → Contains self.new.index.list (record { binding = move.monitor.instance; slot = k }) }
-        ensures filled { (pair : Pair) → Contains self.new.index.list pair → IsFilled self.new pair ⊎ IsPlannedBy moves.new.items pair }
-        ensures slotted { OnOk result (AllZip (IsSlotted self.old self.new) moves.old.items moves.new.items) }
+        ensures fits { (dead : List Bool) → IsFitting self.old.index dead → LieWithin (length dead) moves.items → IsFitting self.new.index dead }
+        ensures leads { ArePlaced self.new placed.new.items }
+        ensures filled { (pair : Pair) → Contains self.new.index.list pair → IsFilled self.new pair ⊎ IsPlannedBy placed.new.items pair }
+        ensures placed { OnOk result (ArePlacedOf self.old self.new moves.items placed.new.items) }
     {
-        for i in 0..moves.len() {
-            if moves[i].slot.is_none() {
-                let slot = self.place(&moves[i].monitor.instance)?;
-                moves[i].slot = slot;
-            }
+        while let Some(step) = moves.pop() {
+            self.place_next(step, placed)?;
         }
+        Ok(())
+    }
+
+    /// Puts a move at the end of those that have a slot, if it can get one.
+    fn place_next(
+        &mut self,
+        mut step: Move<M::State>,
+        placed: &mut Vec<Move<M::State>>,
+    ) -> Result<(), NoMemory>
+        requires { self.old.is_open ≡ true }
+        ensures open { self.new.is_open ≡ true }
+        ensures stored { stored_of self.new ≡ stored_of self.old }
+        ensures monitors { (k : ℕ) → monitor_at self.new.monitors k ≡ monitor_at self.old.monitors k }
+        ensures marks { self.new.marks ≡ self.old.marks }
+        ensures fits { (dead : List Bool) → IsFitting self.old.index dead → AreBelow (length dead) step.monitor.instance → IsFitting self.new.index dead }
+        ensures next { OnOk result (IsPlacedNext self.old self.new step placed.old.items placed.new.items) }
+        ensures same { OnErr result (self.new.index.list ≡ self.old.index.list) }
+        ensures none { OnErr result (placed.new.items ≡ placed.old.items) }
+    {
+        placed.reserve(1)?;
+        if step.slot.is_none() {
+            step.slot = self.place(&step.monitor.instance)?;
+        }
+        placed.push_reserved(step);
         Ok(())
     }
 
@@ -327,8 +345,7 @@ impl<M: Monitor> Store<M> {
     /// Takes planned instances out again.
     fn take_back(&mut self, moves: &[Move<M::State>])
         requires open { self.old.is_open ≡ true }
-        requires placed { (move : Change M.State) (k : ℕ) → Contains moves.now move → move.slot ≡ Some k
-            → Contains self.old.index.list (record { binding = move.monitor.instance; slot = k }) }
+        requires placed { ArePlaced self.old moves.now }
         requires filled { (pair : Pair) → Contains self.old.index.list pair → IsFilled self.old pair ⊎ IsPlannedBy moves.now pair }
         ensures open { self.new.is_open ≡ true }
         ensures stored { stored_of self.new ≡ stored_of self.old }
@@ -337,6 +354,7 @@ impl<M: Monitor> Store<M> {
         ensures fits { (dead : List Bool) → IsFitting self.old.index dead → IsFitting self.new.index dead }
         ensures filled { (pair : Pair) → Contains self.new.index.list pair → IsFilled self.new pair }
     {
+        let _monitors = &self.monitors;
         for step in moves {
             if let Some(slot) = step.slot {
                 self.free(slot, &step.monitor.instance);

@@ -14,7 +14,7 @@ returns-then-self g c =
       | then-self-via-then-self w ↦ left_known m Stands _ _ _ _ c.args.base.now apart (c.requires.known.0 w.if-self.true)
       | then-self-via-else-self+then-not-covers w ↦
           left_uncovered m Stands _ _ _ _ c.args.base.now c.join-instance.result c.join-instance.ensures apart
-          (λ covered. both_ways w.covers.result w.if-not-covers.false (w.covers.ensures.1 covered))
+          (λ covered. both_ways w.covers.result w.if-not-covers.true (w.covers.ensures.1 covered))
     ]
 
 pub returns-then-is_lost : goal.returns-then-is_lost
