@@ -114,10 +114,11 @@ module _ {S : Type 0} where
   taken_else (Taken s) used other = (s, refl)
 
   pub filled_unplanned : (slots : List (Slot S)) (pairs : List Pair) (k : ℕ) → IsHoused slots pairs → (pair : Pair) → Contains pairs pair → pair.slot ≡ k
-      → (slot_at slots k ≡ Planned → ⊥) → (s : Stored S) × (monitor_at (monitors_of slots) pair.slot ≡ Some s)
+      → (slot_at slots k ≡ Planned → ⊥) → (s : Stored S) × (monitor_at (monitors_of slots) pair.slot ≡ Some s) × (s.instance ≡ pair.binding)
   filled_unplanned slots pairs k h pair within same other =
       let (s, is) = taken_else (slot_at slots pair.slot) (h.used pair within) (λ planned. other (ap (slot_at slots) (sym same) ∙ planned)) in
-      (s, monitor_at-slot slots pair.slot ∙ is)
+      let at = monitor_at-slot slots pair.slot ∙ is in
+      (s, at, sym (pair_by_slot slots pairs pair.slot s.instance h (h.paired pair.slot s at) pair within refl))
 
   -- a slot is planned, and freed again
   pub released_stored : (slots new : List (Slot S)) (k n : ℕ) → slot_at new k ≡ Planned → stored_in (monitors_of new) ≡ stored_in (monitors_of slots)

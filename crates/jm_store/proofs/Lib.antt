@@ -6,6 +6,7 @@ pub mod GivenLemmas
 pub mod VisitLemmas
 pub mod MoveLemmas
 pub mod AfterLemmas
+pub mod PlacingLemmas
 pub mod EventLemmas
 pub mod FitLemmas
 pub mod ListLemmas

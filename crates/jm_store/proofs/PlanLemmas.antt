@@ -32,4 +32,4 @@ module _ {S : Type 0} where
   planned_none moves i pair le (other, (k, lt, is), slot, binding) = omega (arith, lt, length-drop i moves, le)
 
   pub filled_same : (old new : Contents S) (pair : Pair) → ((k : ℕ) → monitor_at old.monitors k ≡ monitor_at new.monitors k) → IsFilled old pair → IsFilled new pair
-  filled_same old new pair same (s, at) = (s, sym (same pair.slot) ∙ at)
+  filled_same old new pair same (s, at, is) = (s, sym (same pair.slot) ∙ at, is)

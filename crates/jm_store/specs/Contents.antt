@@ -1,12 +1,12 @@
 -- What contracts see of a store, and what a plan is for it.
-use Rattle.std.specs.Prelude.{ℕ, ◌≡◌, Bool, List, [], ◌∷◌, ◌++◌, Option, Some, None, Contains, length, ◌⊎◌}
+use Rattle.std.specs.Prelude.{ℕ, ◌≡◌, Bool, List, [], ◌∷◌, ◌++◌, Option, Some, None, Contains, length, ◌⊎◌, ◌≢◌, AllPairs}
 use Rattle.jm_model.specs.Meanings.{Meaning}
 use Rattle.jm_model.specs.declared.binding.Binding.{Binding}
 use Rattle.jm_semantics.specs.Traces.{ParametricEvent}
 use Rattle.jm_semantics.specs.Answers.{IsAnswer}
 use Rattle.jm_index.specs.Index.{Pair, PairList, IsFitting, AreBelow}
 use Rattle.jm_monitors.specs.declared.stored.Stored.{Stored}
-use Rattle.jm_monitors.specs.Stores.{IsStoreOf}
+use Rattle.jm_monitors.specs.Stores.{IsStoreOf, HasInstance}
 use Rattle.jm_monitors.specs.Steps.{AreMarksAfter, NoneCutAbove}
 use Rattle.jm_store.specs.declared.moves.Move.{Move}
 use Rattle.jm_store.specs.declared.moves.Plan.{Plan}
@@ -32,9 +32,9 @@ pub record IsFit {S : Type 0} (store : Contents S) (dead : List Bool) : Type 0 w
   pub marks : (b : Binding) → Contains store.marks b → AreBelow (length dead) b
   pub index : IsFitting store.index dead
 
--- the pair's slot has a monitor
+-- the pair's slot has a monitor, of its binding
 abbrev pub IsFilled : {S : Type 0} → Contents S → Pair → Type 0
-IsFilled {S} store pair = (s : Stored S) × (monitor_at store.monitors pair.slot ≡ Some s)
+IsFilled {S} store pair = (s : Stored S) × (monitor_at store.monitors pair.slot ≡ Some s) × (s.instance ≡ pair.binding)
 
 -- one of the moves is for the pair
 abbrev pub IsPlannedBy : {S : Type 0} → List (Move S) → Pair → Type 0
@@ -86,18 +86,24 @@ pub record IsPlacedNext {S : Type 0} (old new : Contents S) (move : Move S) (bef
   pub slotted : IsSlotted old new move slot
   pub grown : after ≡ before ++ record { slot = slot; monitor = move.monitor; stays = move.stays } ∷ []
 
--- the move is another with a slot: the one it had, or that of a new pair where there was no monitor; or its instance had a pair
-pub record IsPlacedFrom {S : Type 0} (old new : Contents S) (move placed : Move S) : Type 0 where
-  pub monitor : placed.monitor ≡ move.monitor
-  pub stays : placed.stays ≡ move.stays
-  pub kept : (k : ℕ) → move.slot ≡ Some k → placed.slot ≡ Some k
-  pub got : (k : ℕ) → move.slot ≡ None → placed.slot ≡ Some k → monitor_at old.monitors k ≡ None
-  pub missed : move.slot ≡ None → placed.slot ≡ None → (pair : Pair) × Contains new.index.list pair × (pair.binding ≡ move.monitor.instance)
+-- the move is another with a slot: the one it had, or one in which there was no monitor
+pub record IsPlacedFrom {S : Type 0} (old : Contents S) (first move : Move S) : Type 0 where
+  pub monitor : move.monitor ≡ first.monitor
+  pub stays : move.stays ≡ first.stays
+  pub kept : (k : ℕ) → first.slot ≡ Some k → move.slot ≡ Some k
+  pub got : (k : ℕ) → first.slot ≡ None → move.slot ≡ Some k → monitor_at old.monitors k ≡ None
 
--- the moves of a plan that was opened: one for each that was to be placed
-pub record ArePlacedOf {S : Type 0} (old new : Contents S) (moves placed : List (Move S)) : Type 0 where
+-- the moves of distinct instances
+abbrev pub AreDistinct : {S : Type 0} → List (Move S) → Type 0
+AreDistinct moves = AllPairs (λ x y. x.monitor.instance ≢ y.monitor.instance) moves
+
+-- The moves of a plan that is being opened: one for each of those that were done, each with a slot, unless its instance was
+-- stored before or another move has its instance.
+pub record ArePlacedOf {S : Type 0} (old new : Contents S) (moves done placed : List (Move S)) : Type 0 where
   pub apart : AreApart placed
   pub leads : ArePlaced new placed
   pub filled : (pair : Pair) → Contains new.index.list pair → IsFilled new pair ⊎ IsPlannedBy placed pair
-  pub each : (move : Move S) → Contains placed move → (first : Move S) × Contains moves first × IsPlacedFrom old new first move
-  pub all : (first : Move S) → Contains moves first → (move : Move S) × Contains placed move × IsPlacedFrom old new first move
+  pub each : (move : Move S) → Contains placed move → (first : Move S) × Contains done first × IsPlacedFrom old first move
+  pub all : (first : Move S) → Contains done first → (move : Move S) × Contains placed move × IsPlacedFrom old first move
+      × (AreDistinct moves → move.slot ≡ None → HasInstance (stored_of old) first.monitor.instance)
+  pub kept : (pair : Pair) → Contains old.index.list pair → Contains new.index.list pair

@@ -239,7 +239,7 @@ impl<M: Monitor> Store<M> {
         ensures fits { (dead : List Bool) → IsFitting self.old.index dead → LieWithin (length dead) moves.items → IsFitting self.new.index dead }
         ensures closed { OnErr result (self.new.is_open ≡ false) }
         ensures opened { OnOk result (self.new.is_open ≡ true) }
-        ensures placed { IfOk result (λ placed. ArePlacedOf self.old self.new moves.items placed.items) }
+        ensures placed { IfOk result (λ placed. ArePlacedOf self.old self.new moves.items moves.items placed.items) }
     {
         self.marks.reserve()?;
         self.is_open = true;
@@ -272,7 +272,7 @@ impl<M: Monitor> Store<M> {
         ensures fits { (dead : List Bool) → IsFitting self.old.index dead → LieWithin (length dead) moves.items → IsFitting self.new.index dead }
         ensures leads { ArePlaced self.new placed.new.items }
         ensures filled { (pair : Pair) → Contains self.new.index.list pair → IsFilled self.new pair ⊎ IsPlannedBy placed.new.items pair }
-        ensures placed { OnOk result (ArePlacedOf self.old self.new moves.items placed.new.items) }
+        ensures placed { OnOk result (ArePlacedOf self.old self.new moves.items moves.items placed.new.items) }
     {
         while let Some(step) = moves.pop() {
             self.place_next(step, placed)?;
