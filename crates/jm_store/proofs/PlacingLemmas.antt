@@ -1,5 +1,5 @@
 -- The next move gets its slot.
-use Rattle.std.proofs.Common.{◌≡◌, ◌≢◌, ℕ, ◌<◌, ◌≤◌, ◌⊎◌, inl, inr, Bool, List, [], ◌∷◌, ◌++◌, length, get_or, refl, sym, ap, ◌∙◌, subst, arith}
+use Rattle.std.proofs.Common.{◌≡◌, ◌≢◌, ℕ, ◌<◌, ◌≤◌, ◌⊎◌, inl, inr, Bool, List, [], ◌∷◌, ◌++◌, length, get_or, refl, sym, ap, ◌∙◌, subst, append_assoc, arith}
 use Rattle.std.specs.Prelude.{Option, Some, None, Contains, AllPairs}
 use Rattle.std.proofs.lemmas.Option.{same_Some, none-some}
 use Rattle.std.proofs.lemmas.List.Elements.{Contains-append_left, Contains-append_right, Contains-push, Contains-push_cases, Contains-get_or}
@@ -180,3 +180,36 @@ module _ {S : Type 0} where
         by_slot : (slot : Option ℕ) → IsSlotted mid new step slot → ArePlacedOf old new moves (step ∷ done) (placed ++ with_slot step slot ∷ [])
         by_slot slot (inl (same, (k, had, is))) = subst (λ (o : Option ℕ). ArePlacedOf old new moves (step ∷ done) (placed ++ with_slot step o ∷ [])) (sym is) (placed_had k had same)
         by_slot slot (inr (none, is)) = fresh slot none is
+
+pub step_split : {X : Type 0} (all before rest done : List X) (step : X) → all ≡ before ++ done → before ≡ rest ++ step ∷ [] → all ≡ rest ++ step ∷ done
+step_split {X} all before rest done step is last = is ∙ ap (λ (l : List X). l ++ done) last ∙ append_assoc rest (step ∷ []) done
+
+pub split_among : {X : Type 0} (all rest done : List X) (step : X) → all ≡ rest ++ step ∷ done → Contains all step
+split_among {X} all rest done step is = subst (λ (l : List X). Contains l step) (sym is) (Contains-append_right rest (step ∷ done) step (Contains-head step done))
+
+module _ {S : Type 0} where
+  from_same : (old other : Contents S) (first move : Move S) → other.monitors ≡ old.monitors → IsPlacedFrom old first move → IsPlacedFrom other first move
+  from_same old other first move same h = record {
+    monitor = h.monitor;
+    stays = h.stays;
+    kept = h.kept;
+    got = λ k none slot. ap (λ (l : List (Option (Stored S))). monitor_at l k) same ∙ h.got k none slot;
+  }
+
+  -- only the monitors and the pairs of a store count
+  pub placed_same : (old other new : Contents S) (moves done placed : List (Move S)) → other.monitors ≡ old.monitors → other.index.list ≡ old.index.list → ArePlacedOf old new moves done placed
+      → ArePlacedOf other new moves done placed
+  placed_same old other new moves done placed same pairs h = record {
+    apart = h.apart;
+    leads = h.leads;
+    filled = h.filled;
+    each = λ move there. let (first, among, is) = h.each move there in (first, among, from_same old other first move same is);
+    all = λ first there.
+        let (move, among, is, missed) = h.all first there in
+        (move, among, from_same old other first move same is, λ distinct none. subst (λ (l : List (Option (Stored S))). HasInstance (stored_in l) first.monitor.instance) (sym same) (missed distinct none));
+    kept = λ pair there. h.kept pair (subst (λ (l : List Pair). Contains l pair) pairs there);
+  }
+
+  pub all_placed : (old new : Contents S) (moves rest done placed : List (Move S)) → moves ≡ rest ++ done → length rest ≡ 0 → ArePlacedOf old new moves done placed → ArePlacedOf old new moves moves placed
+  all_placed old new moves [] done placed split none h = subst (λ (l : List (Move S)). ArePlacedOf old new moves l placed) (sym split) h
+  all_placed old new moves (x ∷ rest) done placed split none h = absurd (omega (arith, none))

@@ -1,21 +1,23 @@
-use Rattle.std.proofs.Common.{◌≡◌, ◌≢◌, ℕ, ◌+◌, ◌<◌, ◌≤◌, ◌↔◌, ◌++◌, AllPairs, List, Bool, [], ◌∷◌, true, false, Contains, IfOk, OnOk, OnErr, IsTrue, Some, None, map, length, count_by, ◌⊎◌, MatchOption, ◌-◌, ◌*◌}
-use Rattle.std.specs.List.{AllZip}
-use Rattle.jm_store.specs.declared.moves.Move.{Move as Change}
-use Rattle.std.specs.List.Sorted.{IsPermutation, IsSortedBy}
-use Rattle.std.specs.Ordering.{is_lt}
-use Rattle.jm_model.specs.Bindings.{empty, is_compatible, binding_cmp, mask_of}
-use Rattle.jm_model.specs.declared.binding.Binding.{Binding as Bound}
-use Rattle.jm_semantics.specs.Traces.{ParametricEvent}
-use Rattle.jm_index.specs.Index.{Pair, IsKey, flag_of, AreBelow, AreLive, IsFitting, without}
-use Rattle.jm_monitors.specs.Stores.{IsStoreOf}
-use Rattle.jm_monitors.specs.Steps.{IsLiveEvent, IsAfterPass, AreMarksAfter, IsCutState, IsAliveState}
-use Rattle.jm_store.specs.Slots.{monitor_at, stored_in}
-use Rattle.jm_store.specs.Moves.{AreGiven, IsOutcomeAt, IsPushed, IsCompatibleAt, AreMovesOf, AreApart, LieWithin, IsSwept, after_move, pairs_after}
-use Rattle.jm_store.specs.Contents.{Contents, stored_of, monitors_after, IsFit, IsFilled, IsPlannedBy, IsPlaced, ArePlaced, IsPlacedNext, ArePlacedOf, IsPlanFor, IsPlanOf}
+use Rattle.std.proofs.Common.{◌≡◌, ◌++◌, ◌+◌, ◌≤◌, ℕ, List, length, true}
+use Rattle.std.specs.Prelude.{Bool, Contains}
+use Rattle.jm_index.specs.Index.{Pair, IsFitting}
+use Rattle.jm_store.specs.declared.moves.Move.{Move}
+use Rattle.jm_store.specs.Slots.{monitor_at}
+use Rattle.jm_store.specs.Moves.{LieWithin}
+use Rattle.jm_store.specs.Contents.{stored_of, ArePlacedOf}
 use Rattle.jm_store.proofs.store.Store.place_all.Given as goal
 
 abbrev pub invariant-loop-step : goal.invariant-loop-step
-invariant-loop-step g l = ?
+invariant-loop-step g l = record {
+  open_now : l.self.is_open ≡ true;
+  stored : stored_of l.self ≡ stored_of l.initial.self;
+  monitors : (k : ℕ) → monitor_at l.self.monitors k ≡ monitor_at l.initial.self.monitors k;
+  marks : l.self.marks ≡ l.initial.self.marks;
+  fits : (dead : List Bool) → IsFitting l.initial.self.index dead → LieWithin (length dead) l.initial.moves.items → IsFitting l.self.index dead;
+  done : List (Move g.row.M-State.Denot);
+  split : l.initial.moves.items ≡ l.moves.items ++ done;
+  placed : ArePlacedOf l.initial.self l.self l.initial.moves.items done l.placed.items;
+}
 
 abbrev pub decreases-loop-step : goal.decreases-loop-step
-decreases-loop-step g l = ?
+decreases-loop-step g l = length l.moves.items
