@@ -1,17 +1,17 @@
 -- What contracts see of a store, and what a plan is for it.
-use Rattle.std.specs.Prelude.{ℕ, ◌≡◌, Bool, List, [], ◌∷◌, ◌++◌, Option, Some, Contains, length, ◌⊎◌}
+use Rattle.std.specs.Prelude.{ℕ, ◌≡◌, Bool, List, [], ◌∷◌, ◌++◌, Option, Some, None, Contains, length, ◌⊎◌, ◌≢◌, AllPairs}
 use Rattle.jm_model.specs.Meanings.{Meaning}
 use Rattle.jm_model.specs.declared.binding.Binding.{Binding}
 use Rattle.jm_semantics.specs.Traces.{ParametricEvent}
 use Rattle.jm_semantics.specs.Answers.{IsAnswer}
 use Rattle.jm_index.specs.Index.{Pair, PairList, IsFitting, AreBelow}
 use Rattle.jm_monitors.specs.declared.stored.Stored.{Stored}
-use Rattle.jm_monitors.specs.Stores.{IsStoreOf}
+use Rattle.jm_monitors.specs.Stores.{IsStoreOf, HasInstance}
 use Rattle.jm_monitors.specs.Steps.{AreMarksAfter, NoneCutAbove}
 use Rattle.jm_store.specs.declared.moves.Move.{Move}
 use Rattle.jm_store.specs.declared.moves.Plan.{Plan}
 use Rattle.jm_store.specs.Slots.{monitor_at, stored_in}
-use Rattle.jm_store.specs.Moves.{after_moves}
+use Rattle.jm_store.specs.Moves.{after_moves, AreApart}
 
 -- The monitors by slot, the marks, whether a plan is open, and the index, which has a pair for each monitor. What the
 -- store is to have where a plan is open isn't among the monitors.
@@ -32,13 +32,22 @@ pub record IsFit {S : Type 0} (store : Contents S) (dead : List Bool) : Type 0 w
   pub marks : (b : Binding) → Contains store.marks b → AreBelow (length dead) b
   pub index : IsFitting store.index dead
 
+-- the pair's slot has a monitor, of its binding
+abbrev pub IsFilled : {S : Type 0} → Contents S → Pair → Type 0
+IsFilled {S} store pair = (s : Stored S) × (monitor_at store.monitors pair.slot ≡ Some s) × (s.instance ≡ pair.binding)
+
+-- one of the moves is for the pair
+abbrev pub IsPlannedBy : {S : Type 0} → List (Move S) → Pair → Type 0
+IsPlannedBy {S} moves pair = (move : Move S) × Contains moves move × (move.slot ≡ Some pair.slot) × (move.monitor.instance ≡ pair.binding)
+
 -- The plan is for the store: where one of its moves has a slot, the index leads to it, and a slot to which the index leads
 -- has a monitor, or one of the moves is for it. It has its answer twice.
 pub record IsPlanFor {S : Type 0} (store : Contents S) (plan : Plan S) : Type 0 where
   pub twice : plan.copy ≡ plan.answer
+  pub apart : AreApart plan.moves.items
   pub placed : (move : Move S) (k : ℕ) → Contains plan.moves.items move → move.slot ≡ Some k → Contains store.index.list (record { binding = move.monitor.instance; slot = k })
   pub filled : (pair : Pair) → Contains store.index.list pair
-      → ((s : Stored S) × (monitor_at store.monitors pair.slot ≡ Some s)) ⊎ ((move : Move S) × Contains plan.moves.items move × (move.slot ≡ Some pair.slot))
+      → IsFilled store pair ⊎ IsPlannedBy plan.moves.items pair
 
 -- the monitors by slot that the store is to have
 abbrev pub monitors_after : {S : Type 0} → Contents S → Plan S → List (Option (Stored S))
@@ -46,8 +55,55 @@ monitors_after store plan = after_moves plan.moves.items store.monitors
 
 -- The plan is that of the event with this letter after the trace: what the store is to have is a store of the trace with the
 -- event, in which no monitor above the event's binding is cut, and the answer is the event's.
-pub record IsPlanOf (m : Meaning) {S : Type 0} (Stands : S → List ℕ → Type 0) (trace : List ParametricEvent) (dead : List Bool) (letter : ℕ) (store : Contents S) (plan : Plan S) : Type 0 where
-  pub store : (marks : List Binding) → AreMarksAfter plan.binding store.marks marks
-      → IsStoreOf m Stands (trace ++ record { letter = letter; binding = plan.binding } ∷ []) dead (stored_in (monitors_after store plan)) marks
-  pub none_cut : NoneCutAbove m Stands plan.binding dead (stored_in (monitors_after store plan))
+pub record IsPlanOf (m : Meaning) {S : Type 0} (Stands : S → List ℕ → Type 0) (trace : List ParametricEvent) (dead : List Bool) (letter : ℕ) (contents : Contents S) (plan : Plan S) : Type 0 where
+  pub store : (marks : List Binding) → AreMarksAfter plan.binding contents.marks marks
+      → IsStoreOf m Stands (trace ++ record { letter = letter; binding = plan.binding } ∷ []) dead (stored_in (monitors_after contents plan)) marks
+  pub none_cut : NoneCutAbove m Stands plan.binding dead (stored_in (monitors_after contents plan))
   pub answer : IsAnswer m trace (record { letter = letter; binding = plan.binding }) plan.answer
+
+-- Instance t has the pair of a slot which no pair had and in which there was no monitor; or it had a pair before.
+abbrev pub IsPlaced : {S : Type 0} → Contents S → Contents S → Binding → Option ℕ → Type 0
+IsPlaced old new t None = (new.index.list ≡ old.index.list) × ((pair : Pair) × Contains old.index.list pair × (pair.binding ≡ t))
+IsPlaced old new t (Some k) =
+    (new.index.list ≡ old.index.list ++ record { binding = t; slot = k } ∷ [])
+    × ((pair : Pair) → Contains old.index.list pair → pair.slot ≡ k → ⊥)
+    × (monitor_at old.monitors k ≡ None)
+
+-- where a move has a slot, the index leads to it
+abbrev pub ArePlaced : {S : Type 0} → Contents S → List (Move S) → Type 0
+ArePlaced {S} store moves =
+    (move : Move S) (k : ℕ) → Contains moves move → move.slot ≡ Some k → Contains store.index.list (record { binding = move.monitor.instance; slot = k })
+
+-- a move that had no slot gets that of its new pair, or none where its instance had a pair; one that had a slot keeps it
+abbrev pub IsSlotted : {S : Type 0} → Contents S → Contents S → Move S → Option ℕ → Type 0
+IsSlotted old new move slot =
+    ((new.index.list ≡ old.index.list) × ((k : ℕ) × (move.slot ≡ Some k) × (slot ≡ Some k)))
+    ⊎ ((move.slot ≡ None) × IsPlaced old new move.monitor.instance slot)
+
+-- the move was put at the end, with its slot
+pub record IsPlacedNext {S : Type 0} (old new : Contents S) (move : Move S) (before after : List (Move S)) : Type 0 where
+  pub slot : Option ℕ
+  pub slotted : IsSlotted old new move slot
+  pub grown : after ≡ before ++ record { slot = slot; monitor = move.monitor; stays = move.stays } ∷ []
+
+-- the move is another with a slot: the one it had, or one in which there was no monitor
+pub record IsPlacedFrom {S : Type 0} (old : Contents S) (first move : Move S) : Type 0 where
+  pub monitor : move.monitor ≡ first.monitor
+  pub stays : move.stays ≡ first.stays
+  pub kept : (k : ℕ) → first.slot ≡ Some k → move.slot ≡ Some k
+  pub got : (k : ℕ) → first.slot ≡ None → move.slot ≡ Some k → monitor_at old.monitors k ≡ None
+
+-- the moves of distinct instances
+abbrev pub AreDistinct : {S : Type 0} → List (Move S) → Type 0
+AreDistinct moves = AllPairs (λ x y. x.monitor.instance ≢ y.monitor.instance) moves
+
+-- The moves of a plan that is being opened: one for each of those that were done, each with a slot, unless its instance was
+-- stored before or another move has its instance.
+pub record ArePlacedOf {S : Type 0} (old new : Contents S) (moves done placed : List (Move S)) : Type 0 where
+  pub apart : AreApart placed
+  pub leads : ArePlaced new placed
+  pub filled : (pair : Pair) → Contains new.index.list pair → IsFilled new pair ⊎ IsPlannedBy placed pair
+  pub each : (move : Move S) → Contains placed move → (first : Move S) × Contains done first × IsPlacedFrom old first move
+  pub all : (first : Move S) → Contains done first → (move : Move S) × Contains placed move × IsPlacedFrom old first move
+      × (AreDistinct moves → move.slot ≡ None → HasInstance (stored_of old) first.monitor.instance)
+  pub kept : (pair : Pair) → Contains old.index.list pair → Contains new.index.list pair

@@ -26,8 +26,8 @@ pub record AreDomains (domains : List ℕ) (pairs : List Pair) : Type 0 where
 
 -- what lies in memory fits together; where no plan is open, each pair's slot has a monitor, and where one is open there is
 -- room for a mark
-pub record IsKept {S : Type 0} (slots : List (Slot S)) (pairs : List Pair) (domains : List ℕ) (is_open : Bool) (spare : ℕ) : Type 0 where
+pub record IsKept {S : Type 0} (slots : List (Slot S)) (pairs : List Pair) (listed : List ℕ) (is_open : Bool) (spare : ℕ) : Type 0 where
   pub housed : IsHoused slots pairs
-  pub domains : AreDomains domains pairs
+  pub domains : AreDomains listed pairs
   pub settled : is_open ≡ false → IsSettled slots pairs
   pub room : is_open ≡ true → 1 ≤ spare

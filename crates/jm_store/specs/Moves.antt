@@ -1,5 +1,6 @@
 -- What an event makes of one stored monitor, and what plans do to the slots.
-use Rattle.std.specs.Prelude.{ℕ, ◌≡◌, ◌+◌, Bool, true, false, cond, List, [], ◌∷◌, ◌++◌, Option, Some, None, map, filter, flat_map, MatchOption, Contains, slice_set, ◌⊎◌, ◌==◌, bit_and}
+use Rattle.std.specs.Prelude.{ℕ, ◌≡◌, ◌+◌, Bool, true, false, cond, List, [], ◌∷◌, ◌++◌, Option, Some, None, map, Contains, slice_set, ◌⊎◌, ◌==◌, ◌≢◌, bit_and, AllPairs, IsTrue}
+use Rattle.std.specs.Option.{option_to_list}
 use Rattle.std.specs.List.{cons_option}
 use Rattle.jm_model.specs.Bindings.{is_below, is_compatible, join, mask_of}
 use Rattle.jm_model.specs.Meanings.{Meaning}
@@ -7,13 +8,13 @@ use Rattle.jm_model.specs.declared.binding.Binding.{Binding}
 use Rattle.jm_marks.specs.Marks.{dead_mask_of}
 use Rattle.jm_monitors.specs.declared.stored.Stored.{Stored}
 use Rattle.jm_monitors.specs.Steps.{Follows, IsBase, IsLost, IsCutState, IsAliveState}
-use Rattle.jm_index.specs.Index.{Pair, asked_slots}
+use Rattle.jm_index.specs.Index.{Pair, AreBelow, asked_slots, without}
 use Rattle.jm_store.specs.declared.moves.Move.{Move}
 use Rattle.jm_store.specs.Slots.{monitor_at}
 
 -- the monitor of instance t whose state follows a base by the letter, and whether it isn't cut
-pub record IsAdvanced (m : Meaning) {S : Type 0} (Stands : S → List ℕ → Type 0) (letter : ℕ) (dead : List Bool) (slot : Option ℕ) (t : Binding) (base : S) (move : Move S) : Type 0 where
-  pub slot : move.slot ≡ slot
+pub record IsAdvanced (m : Meaning) {S : Type 0} (Stands : S → List ℕ → Type 0) (letter : ℕ) (dead : List Bool) (k : Option ℕ) (t : Binding) (base : S) (move : Move S) : Type 0 where
+  pub slot : move.slot ≡ k
   pub instance : move.monitor.instance ≡ t
   pub next : Follows Stands letter base move.monitor.state
   pub alive : move.stays ≡ true → IsAliveState m Stands move.monitor.state (dead_mask_of dead t)
@@ -56,7 +57,21 @@ is_asked true b domain = bit_and (mask_of b) domain == mask_of b
 
 -- the slots that an event reads, by the sets of parameters
 abbrev pub visited : Bool → Binding → List Pair → List ℕ → List ℕ
-visited known b pairs domains = flat_map (λ d. cond (is_asked known b d) (asked_slots d b pairs) []) domains
+visited known b pairs [] = []
+visited known b pairs (d ∷ domains) = cond (is_asked known b d) (asked_slots d b pairs) [] ++ visited known b pairs domains
+
+-- The slots that an event reads are distinct, and each has a monitor that is compatible with its binding. Those of which it may
+-- make something are among them.
+pub record AreVisited {S : Type 0} (known : Bool) (b : Binding) (monitors : List (Option (Stored S))) (slots : List ℕ) : Type 0 where
+  pub apart : AllPairs (λ j k. j ≢ k) slots
+  pub each : (k : ℕ) → Contains slots k → (s : Stored S) × (monitor_at monitors k ≡ Some s) × (is_compatible s.instance b ≡ true)
+  pub all : (k : ℕ) (s : Stored S) → monitor_at monitors k ≡ Some s → is_compatible s.instance b ≡ true → (known ≡ false) ⊎ (is_below b s.instance ≡ true) → Contains slots k
+
+-- the moves that an event makes, for all slots that it reads
+pub record AreMovesOf (m : Meaning) {S : Type 0} (Stands : S → List ℕ → Type 0) (letter : ℕ) (b : Binding) (dead : List Bool) (marks : List Binding) (known : Bool) (monitors : List (Option (Stored S))) (moves : List (Move S)) : Type 0 where
+  pub slots : List ℕ
+  pub visit : AreVisited known b monitors slots
+  pub given : AreGiven (IsOutcomeAt m Stands letter b dead marks monitors) slots moves
 
 -- the monitors by slot after a move
 abbrev pub moved_at : {S : Type 0} → Option ℕ → Option (Stored S) → List (Option (Stored S)) → List (Option (Stored S))
@@ -66,11 +81,42 @@ moved_at (Some k) next monitors = slice_set monitors k next
 abbrev pub after_move : {S : Type 0} → Move S → List (Option (Stored S)) → List (Option (Stored S))
 after_move move monitors = moved_at move.slot (cond move.stays (Some move.monitor) None) monitors
 
--- and after all moves, in order
+-- and after all moves, the last one first
 abbrev pub after_moves : {S : Type 0} → List (Move S) → List (Option (Stored S)) → List (Option (Stored S))
 after_moves [] monitors = monitors
-after_moves (move ∷ moves) monitors = after_moves moves (after_move move monitors)
+after_moves (move ∷ moves) monitors = after_move move (after_moves moves monitors)
 
 -- the monitors that a plan reaches
 abbrev pub reached_by : {S : Type 0} → List (Move S) → List (Stored S)
 reached_by moves = map (λ move. move.monitor) moves
+
+-- no two moves have one slot
+abbrev pub AreApart : {S : Type 0} → List (Move S) → Type 0
+AreApart {S} moves = AllPairs (λ a b. (k : ℕ) → a.slot ≡ Some k → b.slot ≡ Some k → ⊥) moves
+
+-- y is what R gives for x, put at the end of ys where it gives something
+abbrev pub IsPushed : {X Y : Type 0} → (X → Option Y → Type 0) → X → List Y → List Y → Type 0
+IsPushed {X} {Y} R x old new = (o : Option Y) × R x o × (new ≡ old ++ option_to_list o)
+
+-- a monitor, where there is one, is compatible with b
+abbrev pub IsCompatibleAt : {S : Type 0} → Binding → Option (Stored S) → Type 0
+IsCompatibleAt b None = Unit {0}
+IsCompatibleAt b (Some s) = IsTrue (is_compatible s.instance b)
+
+-- the objects of the moves' instances are below n
+abbrev pub LieWithin : {S : Type 0} → ℕ → List (Move S) → Type 0
+LieWithin {S} n moves = (move : Move S) → Contains moves move → AreBelow n move.monitor.instance
+
+abbrev pub pairs_at : Option ℕ → List Pair → List Pair → List Pair
+pairs_at None next pairs = pairs
+pairs_at (Some k) next pairs = next
+
+-- the pairs of the index after a move
+abbrev pub pairs_after : {S : Type 0} → Move S → List Pair → List Pair
+pairs_after move pairs = pairs_at move.slot (cond move.stays pairs (without move.monitor.instance pairs)) pairs
+
+-- a slot's monitor after a pass: gone, if it is cut
+abbrev pub IsSwept : Meaning → {S : Type 0} → (S → List ℕ → Type 0) → List Bool → Option (Stored S) → Option (Stored S) → Type 0
+IsSwept m Stands dead None new = new ≡ None
+IsSwept m Stands dead (Some s) None = IsCutState m Stands s.state (dead_mask_of dead s.instance)
+IsSwept m Stands dead (Some s) (Some t) = (t ≡ s) × IsAliveState m Stands s.state (dead_mask_of dead s.instance)

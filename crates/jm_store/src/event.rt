@@ -1,5 +1,5 @@
 //! What an event makes of one stored monitor.
-ghost use Rattle.std.specs.Prelude.{◌≡◌, ◌<◌, ℕ, IfOk, IsTrue, ◌↔◌, Contains, true, false, ◌==◌, bit_and};
+ghost use Rattle.std.specs.Prelude.{◌≡◌, ◌<◌, ℕ, List, IfOk, IsTrue, ◌↔◌, Contains, true, false, ◌==◌, bit_and};
 ghost use Rattle.jm_model.specs.Bindings.{is_compatible, is_below, mask_of, join as union};
 ghost use Rattle.jm_model.specs.Meanings.{IsHit};
 ghost use Rattle.jm_monitors.specs.Steps.{IsLost};

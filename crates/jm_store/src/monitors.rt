@@ -1,8 +1,10 @@
 //! The container of the monitors.
-ghost use Rattle.std.specs.Prelude.{◌≡◌, ℕ, ◌+◌, ◌<◌, [], true, List, map, length, slice_set, IfOk, OnErr, MatchOption, IsTrue, Some, None, ◌⊎◌};
+ghost use Rattle.std.specs.Prelude.{◌≡◌, ℕ, ◌+◌, ◌↔◌, [], true, false, List, map, length, slice_set, IfOk, OnErr, MatchOption, IsTrue, Some, None};
+ghost use Rattle.jm_monitors.specs.declared.stored.Stored.{Stored as Kept};
 ghost use Rattle.jm_monitors.specs.Steps.{IsCutState, IsAliveState};
 ghost use Rattle.jm_marks.specs.Marks.{dead_mask_of};
 ghost use Rattle.jm_store.specs.Slots.{monitors_of, monitor_at, stored_in, slot_at, IsReserved};
+ghost use Rattle.jm_store.specs.declared.monitors.Slot.TheVariants.{Free, Planned, Taken};
 
 use crate::steps::Steps;
 use jm_marks::dead_mask;
@@ -48,11 +50,17 @@ impl<S: Drop> Monitors<S> {
             (λ s. monitor_at (monitors_of self.now.slots.items) slot ≡ Some s.now) }
         ensures steps { MatchOption result (steps.new ≡ steps.old) (λ s. steps.new ≡ steps.old + 1) }
     {
+        let monitor = self.peek(slot)?;
+        steps.tick();
+        Some(monitor)
+    }
+
+    fn peek(&self, slot: usize) -> Option<&Stored<S>>
+        ensures { MatchOption result (monitor_at (monitors_of self.now.slots.items) slot ≡ None)
+            (λ s. monitor_at (monitors_of self.now.slots.items) slot ≡ Some s.now) }
+    {
         match self.slots.get(slot) {
-            Some(Slot::Taken(monitor)) => {
-                steps.tick();
-                Some(monitor)
-            }
+            Some(Slot::Taken(monitor)) => Some(monitor),
             _ => None,
         }
     }
@@ -121,10 +129,16 @@ impl<S: Drop> Monitors<S> {
         objects: &Objects,
         slot: usize,
     ) -> Option<Binding>
+        ensures cut { MatchOption result (MatchOption (monitor_at (monitors_of self.now.slots.items) slot) (Unit {0}) (λ s.
+            IsAliveState (M.meaning (M.definition rules.now)) (M.StandsFor rules.now) s.state (dead_mask_of objects.now s.instance)))
+            (λ t. (s : Kept S) × (monitor_at (monitors_of self.now.slots.items) slot ≡ Some s) × (s.instance ≡ t)
+            × IsCutState (M.meaning (M.definition rules.now)) (M.StandsFor rules.now) s.state (dead_mask_of objects.now t)) }
     {
-        match self.slots.get(slot) {
-            Some(Slot::Taken(monitor)) if is_cut(rules, objects, monitor) => Some(monitor.instance),
-            _ => None,
+        let monitor = self.peek(slot)?;
+        if is_cut(rules, objects, monitor) {
+            Some(monitor.instance)
+        } else {
+            None
         }
     }
 

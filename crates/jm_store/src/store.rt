@@ -1,4 +1,6 @@
-ghost use Rattle.std.specs.Prelude.{◌≡◌, ℕ, ◌+◌, ◌<◌, ◌≤◌, ◌↔◌, List, Bool, [], ◌∷◌, true, false, Contains, IfOk, OnOk, OnErr, IsTrue, Some, None, map, length, count_by, ◌⊎◌, MatchOption};
+ghost use Rattle.std.specs.Prelude.{◌≡◌, ◌≢◌, ℕ, ◌+◌, ◌<◌, ◌≤◌, ◌↔◌, ◌++◌, AllPairs, List, Bool, [], ◌∷◌, true, false, Contains, IfOk, OnOk, OnErr, IsTrue, Some, None, map, length, count_by, ◌⊎◌, MatchOption};
+ghost use Rattle.std.specs.List.{AllZip};
+ghost use Rattle.jm_store.specs.declared.moves.Move.{Move as Change};
 ghost use Rattle.std.specs.List.Sorted.{IsPermutation, IsSortedBy};
 ghost use Rattle.std.specs.Ordering.{is_lt};
 ghost use Rattle.jm_model.specs.Bindings.{empty, is_compatible, binding_cmp, mask_of};
@@ -8,8 +10,8 @@ ghost use Rattle.jm_index.specs.Index.{Pair, IsKey, flag_of, AreBelow, AreLive, 
 ghost use Rattle.jm_monitors.specs.Stores.{IsStoreOf};
 ghost use Rattle.jm_monitors.specs.Steps.{IsLiveEvent, IsAfterPass, AreMarksAfter, IsCutState, IsAliveState};
 ghost use Rattle.jm_store.specs.Slots.{monitor_at, stored_in};
-ghost use Rattle.jm_store.specs.Moves.{AreGiven, IsOutcomeAt, visited, after_moves, moved_at};
-ghost use Rattle.jm_store.specs.Contents.{Contents, stored_of, IsFit, IsPlanFor, IsPlanOf};
+ghost use Rattle.jm_store.specs.Moves.{AreGiven, IsOutcomeAt, IsPushed, IsCompatibleAt, AreMovesOf, AreApart, LieWithin, IsSwept, after_move, pairs_after};
+ghost use Rattle.jm_store.specs.Contents.{Contents, stored_of, monitors_after, IsFit, IsFilled, IsPlannedBy, IsPlaced, ArePlaced, IsPlacedNext, ArePlacedOf, IsPlanFor, IsPlanOf};
 
 use crate::event::Event;
 use crate::monitors::Monitors;
@@ -84,12 +86,23 @@ impl<M: Monitor> Store<M> {
 
     /// Stores the first monitor, that of the empty binding.
     fn begin(&mut self, state: M::State) -> Result<(), NoMemory>
-        requires { self.old.index.list ≡ [] }
+        requires vacant { self.old.index.list ≡ [] }
+        requires none { stored_of self.old ≡ [] }
+        ensures marks { self.new.marks ≡ self.old.marks }
+        ensures closed { OnOk result (self.new.is_open ≡ false) }
+        ensures stored { OnOk result (stored_of self.new ≡ record { instance = empty; state = state } ∷ []) }
+        ensures fits { (dead : List Bool) → IsFit self.old dead → IsFit self.new dead }
     {
         let instance = Binding::empty();
-        if let Some(slot) = self.place(&instance)? {
-            self.monitors.put(slot, Stored { instance, state });
-        }
+        self.marks.reserve()?;
+        self.is_open = true;
+        let slot = self.place(&instance)?;
+        self.carry_out(Move {
+            slot,
+            monitor: Stored { instance, state },
+            stays: true,
+        });
+        self.is_open = false;
         Ok(())
     }
 
@@ -131,11 +144,9 @@ impl<M: Monitor> Store<M> {
         if moves.len() > 1 {
             arrange(&mut moves);
         }
-        let alloc = *self.domains.allocator();
-        let answer = report(alloc, rules, &moves)?;
+        let answer = report(*self.domains.allocator(), rules, &moves)?;
         let copy = answer.copy()?;
-        self.marks.reserve()?;
-        self.open_plan(&mut moves)?;
+        let moves = self.open_plan(moves)?;
         Ok(Plan {
             binding: *binding,
             moves,
@@ -149,7 +160,16 @@ impl<M: Monitor> Store<M> {
         &self,
         event: &Event<'_, M>,
         steps: &mut Steps<L>,
-    ) -> Result<Vec<Move<M::State>>, NoMemory> {
+    ) -> Result<Vec<Move<M::State>>, NoMemory>
+        requires closed { self.now.is_open ≡ false }
+        requires letter { event.now.letter.0 < (M.meaning (M.definition event.now.rules.now)).letters }
+        requires known { IsTrue event.now.known ↔ Contains event.now.marks.now.list event.now.binding.now }
+        requires fits { IsFitting self.now.index event.now.objects.now }
+        requires live { AreLive event.now.objects.now event.now.binding.now }
+        ensures moves { IfOk result (λ moves. AreMovesOf (M.meaning (M.definition event.now.rules.now)) (M.StandsFor event.now.rules.now) event.now.letter.0 event.now.binding.now
+            event.now.objects.now event.now.marks.now.list event.now.known self.now.monitors moves.items) }
+        ensures steps { steps.new ≤ steps.old + count_by (λ s. is_compatible s.instance event.now.binding.now) (stored_of self.now) }
+    {
         let mut moves = Vec::new(*self.domains.allocator());
         for domain in &self.domains {
             if event.asks(*domain) {
@@ -167,7 +187,16 @@ impl<M: Monitor> Store<M> {
         slots: &[usize],
         moves: &mut Vec<Move<M::State>>,
         steps: &mut Steps<L>,
-    ) -> Result<(), NoMemory> {
+    ) -> Result<(), NoMemory>
+        requires letter { event.now.letter.0 < (M.meaning (M.definition event.now.rules.now)).letters }
+        requires known { IsTrue event.now.known ↔ Contains event.now.marks.now.list event.now.binding.now }
+        requires compatible { (k : ℕ) → Contains slots.now k → IsCompatibleAt event.now.binding.now (monitor_at self.now.monitors k) }
+        ensures moves { OnOk result ((slots_before : List ℕ) → AreGiven (IsOutcomeAt (M.meaning (M.definition event.now.rules.now)) (M.StandsFor event.now.rules.now) event.now.letter.0 event.now.binding.now
+            event.now.objects.now event.now.marks.now.list self.now.monitors) slots_before moves.old.items
+            → AreGiven (IsOutcomeAt (M.meaning (M.definition event.now.rules.now)) (M.StandsFor event.now.rules.now) event.now.letter.0 event.now.binding.now
+            event.now.objects.now event.now.marks.now.list self.now.monitors) (slots_before ++ slots.now) moves.new.items) }
+        ensures steps { steps.new ≤ steps.old + length slots.now }
+    {
         for slot in slots {
             self.reach_slot(event, *slot, moves, steps)?;
         }
@@ -181,7 +210,14 @@ impl<M: Monitor> Store<M> {
         slot: usize,
         moves: &mut Vec<Move<M::State>>,
         steps: &mut Steps<L>,
-    ) -> Result<(), NoMemory> {
+    ) -> Result<(), NoMemory>
+        requires letter { event.now.letter.0 < (M.meaning (M.definition event.now.rules.now)).letters }
+        requires known { IsTrue event.now.known ↔ Contains event.now.marks.now.list event.now.binding.now }
+        requires compatible { IsCompatibleAt event.now.binding.now (monitor_at self.now.monitors slot) }
+        ensures moves { OnOk result (IsPushed (IsOutcomeAt (M.meaning (M.definition event.now.rules.now)) (M.StandsFor event.now.rules.now) event.now.letter.0 event.now.binding.now
+            event.now.objects.now event.now.marks.now.list self.now.monitors) slot moves.old.items moves.new.items) }
+        ensures steps { steps.new ≤ steps.old + 1 }
+    {
         let Some(base) = self.monitors.lend(slot, steps) else {
             return Ok(());
         };
@@ -193,52 +229,132 @@ impl<M: Monitor> Store<M> {
 
     /// Opens a plan with these moves: new instances get slots. Where memory is wanting they are taken out again, and no
     /// plan is open.
-    fn open_plan(&mut self, moves: &mut Vec<Move<M::State>>) -> Result<(), NoMemory> {
+    fn open_plan(&mut self, moves: Vec<Move<M::State>>) -> Result<Vec<Move<M::State>>, NoMemory>
+        requires closed { self.old.is_open ≡ false }
+        requires apart { AreApart moves.items }
+        requires leads { ArePlaced self.old moves.items }
+        ensures stored { stored_of self.new ≡ stored_of self.old }
+        ensures monitors { (k : ℕ) → monitor_at self.new.monitors k ≡ monitor_at self.old.monitors k }
+        ensures marks { self.new.marks ≡ self.old.marks }
+        ensures fits { (dead : List Bool) → IsFitting self.old.index dead → LieWithin (length dead) moves.items → IsFitting self.new.index dead }
+        ensures closed { OnErr result (self.new.is_open ≡ false) }
+        ensures opened { OnOk result (self.new.is_open ≡ true) }
+        ensures placed { IfOk result (λ placed. ArePlacedOf self.old self.new moves.items moves.items placed.items) }
+    {
+        self.marks.reserve()?;
         self.is_open = true;
-        let placed = self.place_all(moves);
-        if placed.is_err() {
-            self.take_back(moves);
-            self.is_open = false;
+        let mut placed = Vec::new(*self.domains.allocator());
+        match self.place_all(moves, &mut placed) {
+            Ok(()) => Ok(placed),
+            Err(NoMemory) => {
+                self.take_back(&placed);
+                self.is_open = false;
+                Err(NoMemory)
+            }
         }
-        placed
     }
 
     /// Gives each new instance a slot.
-    fn place_all(&mut self, moves: &mut Vec<Move<M::State>>) -> Result<(), NoMemory> {
-        for i in 0..moves.len() {
-            if moves[i].slot.is_none() {
-                let slot = self.place(&moves[i].monitor.instance)?;
-                moves[i].slot = slot;
-            }
+    fn place_all(
+        &mut self,
+        mut moves: Vec<Move<M::State>>,
+        placed: &mut Vec<Move<M::State>>,
+    ) -> Result<(), NoMemory>
+        requires open { self.old.is_open ≡ true }
+        requires settled { (pair : Pair) → Contains self.old.index.list pair → IsFilled self.old pair }
+        requires apart { AreApart moves.items }
+        requires leads { ArePlaced self.old moves.items }
+        requires none { placed.old.items ≡ [] }
+        ensures open { self.new.is_open ≡ true }
+        ensures stored { stored_of self.new ≡ stored_of self.old }
+        ensures monitors { (k : ℕ) → monitor_at self.new.monitors k ≡ monitor_at self.old.monitors k }
+        ensures marks { self.new.marks ≡ self.old.marks }
+        ensures fits { (dead : List Bool) → IsFitting self.old.index dead → LieWithin (length dead) moves.items → IsFitting self.new.index dead }
+        ensures leads { ArePlaced self.new placed.new.items }
+        ensures filled { (pair : Pair) → Contains self.new.index.list pair → IsFilled self.new pair ⊎ IsPlannedBy placed.new.items pair }
+        ensures placed { OnOk result (ArePlacedOf self.old self.new moves.items moves.items placed.new.items) }
+    {
+        while let Some(step) = moves.pop() {
+            self.place_next(step, placed)?;
         }
         Ok(())
     }
 
+    /// Puts a move at the end of those that have a slot, if it can get one.
+    fn place_next(
+        &mut self,
+        mut step: Move<M::State>,
+        placed: &mut Vec<Move<M::State>>,
+    ) -> Result<(), NoMemory>
+        requires { self.old.is_open ≡ true }
+        ensures open { self.new.is_open ≡ true }
+        ensures stored { stored_of self.new ≡ stored_of self.old }
+        ensures monitors { (k : ℕ) → monitor_at self.new.monitors k ≡ monitor_at self.old.monitors k }
+        ensures marks { self.new.marks ≡ self.old.marks }
+        ensures fits { (dead : List Bool) → IsFitting self.old.index dead → AreBelow (length dead) step.monitor.instance → IsFitting self.new.index dead }
+        ensures next { OnOk result (IsPlacedNext self.old self.new step placed.old.items placed.new.items) }
+        ensures same { OnErr result (self.new.index.list ≡ self.old.index.list) }
+        ensures none { OnErr result (placed.new.items ≡ placed.old.items) }
+    {
+        placed.reserve(1)?;
+        if step.slot.is_none() {
+            step.slot = self.place(&step.monitor.instance)?;
+        }
+        placed.push_reserved(step);
+        Ok(())
+    }
+
     /// A planned slot for an instance, unless the index has the instance already.
-    fn place(&mut self, instance: &Binding) -> Result<Option<usize>, NoMemory> {
+    fn place(&mut self, instance: &Binding) -> Result<Option<usize>, NoMemory>
+        requires open { self.old.is_open ≡ true }
+        ensures open { self.new.is_open ≡ true }
+        ensures stored { stored_of self.new ≡ stored_of self.old }
+        ensures monitors { (k : ℕ) → monitor_at self.new.monitors k ≡ monitor_at self.old.monitors k }
+        ensures marks { self.new.marks ≡ self.old.marks }
+        ensures fits { (dead : List Bool) → IsFitting self.old.index dead → AreBelow (length dead) instance.now → IsFitting self.new.index dead }
+        ensures placed { IfOk result (λ slot. IsPlaced self.old self.new instance.now slot) }
+        ensures same { OnErr result (self.new.index.list ≡ self.old.index.list) }
+    {
         if self.index.has(instance) {
             return Ok(None);
         }
-        self.list_domain(instance.mask())?;
+        Self::list_domain(&mut self.domains, instance.mask())?;
         let slot = self.monitors.reserve()?;
-        let added = self.index.add(*instance, slot);
-        if added.is_err() {
-            self.monitors.release(slot);
+        match self.index.add(*instance, slot) {
+            Ok(()) => Ok(Some(slot)),
+            Err(NoMemory) => {
+                self.monitors.release(slot);
+                Err(NoMemory)
+            }
         }
-        added?;
-        Ok(Some(slot))
     }
 
     /// Adds a set of parameters to the list, where it isn't there.
-    fn list_domain(&mut self, domain: u8) -> Result<(), NoMemory> {
-        if !self.domains.contains(&domain) {
-            self.domains.push(domain)?;
+    fn list_domain(domains: &mut Vec<u8>, domain: u8) -> Result<(), NoMemory>
+        requires { AllPairs (λ a b. a ≢ b) domains.old.items }
+        ensures distinct { AllPairs (λ a b. a ≢ b) domains.new.items }
+        ensures kept { (d : ℕ) → Contains domains.old.items d → Contains domains.new.items d }
+        ensures listed { OnOk result (Contains domains.new.items domain) }
+    {
+        if !domains.contains(&domain) {
+            domains.push(domain)?;
         }
         Ok(())
     }
 
     /// Takes planned instances out again.
-    fn take_back(&mut self, moves: &[Move<M::State>]) {
+    fn take_back(&mut self, moves: &[Move<M::State>])
+        requires open { self.old.is_open ≡ true }
+        requires placed { ArePlaced self.old moves.now }
+        requires filled { (pair : Pair) → Contains self.old.index.list pair → IsFilled self.old pair ⊎ IsPlannedBy moves.now pair }
+        ensures open { self.new.is_open ≡ true }
+        ensures stored { stored_of self.new ≡ stored_of self.old }
+        ensures monitors { (k : ℕ) → monitor_at self.new.monitors k ≡ monitor_at self.old.monitors k }
+        ensures marks { self.new.marks ≡ self.old.marks }
+        ensures fits { (dead : List Bool) → IsFitting self.old.index dead → IsFitting self.new.index dead }
+        ensures filled { (pair : Pair) → Contains self.new.index.list pair → IsFilled self.new pair }
+    {
+        let _monitors = &self.monitors;
         for step in moves {
             if let Some(slot) = step.slot {
                 self.free(slot, &step.monitor.instance);
@@ -247,7 +363,18 @@ impl<M: Monitor> Store<M> {
     }
 
     /// Frees a slot, if it is planned.
-    fn free(&mut self, slot: usize, instance: &Binding) {
+    fn free(&mut self, slot: usize, instance: &Binding)
+        requires open { self.old.is_open ≡ true }
+        requires paired { (pair : Pair) → Contains self.old.index.list pair → pair.slot ≡ slot → pair.binding ≡ instance.now }
+        requires bound { (pair : Pair) → Contains self.old.index.list pair → pair.binding ≡ instance.now → pair.slot ≡ slot }
+        ensures open { self.new.is_open ≡ true }
+        ensures stored { stored_of self.new ≡ stored_of self.old }
+        ensures monitors { (k : ℕ) → monitor_at self.new.monitors k ≡ monitor_at self.old.monitors k }
+        ensures marks { self.new.marks ≡ self.old.marks }
+        ensures fits { (dead : List Bool) → IsFitting self.old.index dead → IsFitting self.new.index dead }
+        ensures within { (pair : Pair) → Contains self.new.index.list pair → Contains self.old.index.list pair }
+        ensures gone { (pair : Pair) → Contains self.new.index.list pair → pair.slot ≡ slot → IsFilled self.new pair }
+    {
         if self.monitors.is_planned(slot) {
             self.index.remove(instance);
             self.monitors.release(slot);
@@ -255,7 +382,16 @@ impl<M: Monitor> Store<M> {
     }
 
     /// Carries a plan out, and gives its answer twice. It takes no memory.
-    pub fn commit(&mut self, plan: Plan<M::State>) -> (Firings, Firings) {
+    pub fn commit(&mut self, plan: Plan<M::State>) -> (Firings, Firings)
+        requires open { self.old.is_open ≡ true }
+        requires plan { IsPlanFor self.old plan }
+        ensures monitors { self.new.monitors ≡ monitors_after self.old plan }
+        ensures marks { AreMarksAfter plan.binding self.old.marks self.new.marks }
+        ensures closed { self.new.is_open ≡ false }
+        ensures fits { (dead : List Bool) → IsFit self.old dead → AreBelow (length dead) plan.binding → IsFit self.new dead }
+        ensures answer { result.0 ≡ plan.answer }
+        ensures copy { result.1 ≡ plan.answer }
+    {
         let Plan {
             binding,
             mut moves,
@@ -271,7 +407,15 @@ impl<M: Monitor> Store<M> {
     }
 
     /// Carries a move out.
-    fn carry_out(&mut self, step: Move<M::State>) {
+    fn carry_out(&mut self, step: Move<M::State>)
+        requires open { self.old.is_open ≡ true }
+        requires placed { (k : ℕ) → step.slot ≡ Some k → Contains self.old.index.list (record { binding = step.monitor.instance; slot = k }) }
+        ensures open { self.new.is_open ≡ true }
+        ensures monitors { self.new.monitors ≡ after_move step self.old.monitors }
+        ensures marks { self.new.marks ≡ self.old.marks }
+        ensures fits { (dead : List Bool) → IsFitting self.old.index dead → IsFitting self.new.index dead }
+        ensures index { self.new.index.list ≡ pairs_after step self.old.index.list }
+    {
         let Some(slot) = step.slot else { return };
         if step.stays {
             self.monitors.put(slot, step.monitor);
@@ -283,7 +427,16 @@ impl<M: Monitor> Store<M> {
 
     /// Drops the monitors that are cut and the marks without a live object, and answers how many monitors are left. It
     /// takes no memory.
-    pub fn dispose(&mut self, rules: &M, objects: &Objects) -> u64 {
+    pub fn dispose(&mut self, rules: &M, objects: &Objects) -> u64
+        requires closed { self.old.is_open ≡ false }
+        requires fits { IsFit self.old objects.now }
+        ensures pass { IsAfterPass (M.meaning (M.definition rules.now)) (M.StandsFor rules.now) objects.now (stored_of self.old) (stored_of self.new)
+            self.old.marks self.new.marks }
+        ensures left { result ≡ length (stored_of self.new) }
+        ensures closed { self.new.is_open ≡ false }
+        ensures fits { IsFit self.new objects.now }
+        ensures keys { (o : ℕ) → IsKey self.new.index o → flag_of objects.now o ≡ false }
+    {
         for slot in 0..self.monitors.slots.len() {
             self.drop_cut(rules, objects, slot);
         }
@@ -293,7 +446,15 @@ impl<M: Monitor> Store<M> {
     }
 
     /// Drops the monitor of a slot, if it is cut.
-    fn drop_cut(&mut self, rules: &M, objects: &Objects, slot: usize) {
+    fn drop_cut(&mut self, rules: &M, objects: &Objects, slot: usize)
+        requires closed { self.old.is_open ≡ false }
+        ensures closed { self.new.is_open ≡ false }
+        ensures monitors { (k : ℕ) → (k ≡ slot → ⊥) → monitor_at self.new.monitors k ≡ monitor_at self.old.monitors k }
+        ensures here { IsSwept (M.meaning (M.definition rules.now)) (M.StandsFor rules.now) objects.now (monitor_at self.old.monitors slot) (monitor_at self.new.monitors slot) }
+        ensures length { length self.new.monitors ≡ length self.old.monitors }
+        ensures marks { self.new.marks ≡ self.old.marks }
+        ensures fits { (dead : List Bool) → IsFitting self.old.index dead → IsFitting self.new.index dead }
+    {
         if let Some(instance) = self.monitors.cut_instance(rules, objects, slot) {
             self.index.remove(&instance);
             self.monitors.release(slot);
@@ -302,6 +463,8 @@ impl<M: Monitor> Store<M> {
 
     /// The stored bindings, in the order of bindings.
     pub fn stored(&self) -> Result<Vec<Binding>, NoMemory>
+        ensures same { IfOk result (λ list. IsPermutation (map (λ s. s.instance) (stored_of self.now)) list.items) }
+        ensures ordered { IfOk result (λ list. IsSortedBy (λ a b. is_lt (binding_cmp a b)) list.items) }
     {
         let mut list = self.monitors.instances()?;
         list.sort_unstable_by(|a, b| a.cmp(b));
@@ -310,6 +473,8 @@ impl<M: Monitor> Store<M> {
 
     /// The marks, in the order of bindings.
     pub fn marks(&self) -> Result<Vec<Binding>, NoMemory>
+        ensures same { IfOk result (λ list. IsPermutation self.now.marks list.items) }
+        ensures ordered { IfOk result (λ list. IsSortedBy (λ a b. is_lt (binding_cmp a b)) list.items) }
     {
         let mut list = self.marks.to_list()?;
         list.sort_unstable_by(|a, b| a.cmp(b));

@@ -1,0 +1,13 @@
+pub mod SlotLemmas
+pub mod HousingLemmas
+pub mod KeptLemmas
+pub mod PlanLemmas
+pub mod GivenLemmas
+pub mod VisitLemmas
+pub mod MoveLemmas
+pub mod AfterLemmas
+pub mod PlacingLemmas
+pub mod EventLemmas
+pub mod FitLemmas
+pub mod ListLemmas
+pub mod ReportLemmas

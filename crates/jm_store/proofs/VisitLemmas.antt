@@ -1,0 +1,200 @@
+-- The slots that an event reads.
+use Rattle.std.proofs.Common.{◌≡◌, ◌≢◌, ℕ, zero, suc, ◌+◌, ◌<◌, ◌≤◌, ◌==◌, ◌⊎◌, inl, inr, Bool, true, false, cond, ◌&&◌, List, [], ◌∷◌, ◌++◌, length, take, map, get_or, refl, sym, ap, ◌∙◌, subst, append_assoc, append-nil, arith}
+use Rattle.std.specs.Prelude.{Option, Some, None, Contains, AllPairs, filter, count_by, slice_set, bit_and, IsTrue}
+use Rattle.std.specs.List.{cons_option}
+use Rattle.std.proofs.lemmas.Bool.{and_parts, and_from, eqb-true, eq-eqb, both_ways, cases_eq}
+use Rattle.std.proofs.lemmas.List.{take_more, length-append, get_or-set_other}
+use Rattle.std.proofs.lemmas.List.Elements.{Contains-append_left, Contains-append_right, Contains-append_cases}
+use Rattle.std.proofs.lemmas.List.Kept.{AllPairs-filter}
+use Rattle.std.proofs.lemmas.List.Sums.{sum_by-cons}
+use Rattle.std.proofs.lemmas.Nat.Bits.{bit_at_and, same_from_bits}
+use Rattle.std.proofs.lemmas.Option.{same_Some}
+use Rattle.jm_model.specs.Bindings.{is_below, is_compatible, mask_of}
+use Rattle.jm_model.specs.declared.binding.Binding.{Binding}
+use Rattle.jm_semantics.proofs.ListLemmas.{Contains-cons_cases, Contains-head, Contains-filter, Contains-from_filter, Contains-map}
+use Rattle.jm_semantics.proofs.MaskLemmas.{mask_where-mono}
+use Rattle.jm_index.specs.Index.{Pair, asked, asked_slots}
+use Rattle.jm_index.proofs.ReadLemmas.{Contains-none, Contains-cons}
+use Rattle.jm_monitors.specs.declared.stored.Stored.{Stored}
+use Rattle.jm_store.specs.declared.monitors.Slot.{Slot}
+use Rattle.jm_store.specs.Slots.{monitors_of, monitor_at, stored_in}
+use Rattle.jm_store.specs.Moves.{is_asked, visited, AreVisited, IsCompatibleAt}
+use Rattle.jm_store.specs.Housing.{IsHoused, IsSettled, AreDomains}
+use Rattle.jm_store.proofs.HousingLemmas.{same_one, pair_by_slot}
+use Rattle.jm_store.proofs.GivenLemmas.{Contains-from_map, pairs_head, pairs_tail, pairs_none, pairs_append, pairs_map, pairs_weaker}
+
+-- one set of parameters more
+pub visited_more : (known : Bool) (b : Binding) (pairs : List Pair) (ds : List ℕ) (d : ℕ) → visited known b pairs (ds ++ d ∷ []) ≡ visited known b pairs ds ++ cond (is_asked known b d) (asked_slots d b pairs) []
+visited_more known b pairs [] d = append-nil (cond (is_asked known b d) (asked_slots d b pairs) [])
+visited_more known b pairs (e ∷ ds) d =
+    ap (λ (l : List ℕ). cond (is_asked known b e) (asked_slots e b pairs) [] ++ l) (visited_more known b pairs ds d)
+    ∙ sym (append_assoc (cond (is_asked known b e) (asked_slots e b pairs) []) (visited known b pairs ds) (cond (is_asked known b d) (asked_slots d b pairs) []))
+
+pub visited_taken : (known : Bool) (b : Binding) (pairs : List Pair) (ds : List ℕ) (i : ℕ) (t : Bool) → i < length ds → is_asked known b (get_or ds i 0) ≡ t
+    → visited known b pairs (take (i + 1) ds) ≡ visited known b pairs (take i ds) ++ cond t (asked_slots (get_or ds i 0) b pairs) []
+visited_taken known b pairs ds i t lt is =
+    ap (visited known b pairs) (take_more ds i 0 lt) ∙ visited_more known b pairs (take i ds) (get_or ds i 0)
+    ∙ ap (λ (v : Bool). visited known b pairs (take i ds) ++ cond v (asked_slots (get_or ds i 0) b pairs) []) is
+
+-- the slots for some of the sets are no more than those for all
+visited_fewer : (known : Bool) (b : Binding) (pairs : List Pair) (ds : List ℕ) (i : ℕ) → length (visited known b pairs (take i ds)) ≤ length (visited known b pairs ds)
+visited_fewer known b pairs ds zero = omega arith
+visited_fewer known b pairs [] (suc i) = omega arith
+visited_fewer known b pairs (d ∷ ds) (suc i) =
+    let first = cond (is_asked known b d) (asked_slots d b pairs) [] in
+    omega (arith, length-append first (visited known b pairs (take i ds)), length-append first (visited known b pairs ds), visited_fewer known b pairs ds i)
+
+-- a slot that is read is that of a pair
+record IsAskedBy (b : Binding) (pairs : List Pair) (d k : ℕ) : Type 0 where
+  pair : Pair
+  among : Contains pairs pair
+  slot : pair.slot ≡ k
+  domain : mask_of pair.binding ≡ d
+  compatible : is_compatible pair.binding b ≡ true
+
+asked_by : (b : Binding) (pairs : List Pair) (d k : ℕ) → Contains (asked_slots d b pairs) k → IsAskedBy b pairs d k
+asked_by b pairs d k there =
+    let test : Pair → Bool = λ pair. (mask_of pair.binding == d) && is_compatible pair.binding b in
+    let (pair, kept, is) = Contains-from_map (λ (p : Pair). p.slot) (filter test pairs) k there in
+    let (among, passes) = Contains-from_filter test pairs pair kept in
+    let parts = and_parts (mask_of pair.binding == d) (is_compatible pair.binding b) passes in
+    record { pair = pair; among = among; slot = is; domain = eqb-true (mask_of pair.binding) d parts.0; compatible = parts.1 }
+
+-- .. and its set of parameters is one of those asked
+record IsVisitedBy (b : Binding) (pairs : List Pair) (ds : List ℕ) (k : ℕ) : Type 0 where
+  domain : ℕ
+  listed : Contains ds domain
+  asked_for : IsAskedBy b pairs domain k
+
+visited_by : (known : Bool) (b : Binding) (pairs : List Pair) (ds : List ℕ) (k : ℕ) → Contains (visited known b pairs ds) k → IsVisitedBy b pairs ds k
+visited_by known b pairs [] k there = absurd (Contains-none k there)
+visited_by known b pairs (d ∷ ds) k there =
+    elim (Contains-append_cases (cond (is_asked known b d) (asked_slots d b pairs) []) (visited known b pairs ds) k there) [
+      | inl here ↦ record { domain = d; listed = Contains-head d ds; asked_for = at (is_asked known b d) here }
+      | inr later ↦ let v = visited_by known b pairs ds k later in record { domain = v.domain; listed = Contains-cons d v.domain ds v.listed; asked_for = v.asked_for }
+    ]
+  where
+    at : (t : Bool) → Contains (cond t (asked_slots d b pairs) []) k → IsAskedBy b pairs d k
+    at true h = asked_by b pairs d k h
+    at false h = absurd (Contains-none k h)
+
+-- a pair's slot is read, where its set of parameters is asked
+visited_has : (known : Bool) (b : Binding) (pairs : List Pair) (ds : List ℕ) (pair : Pair) → Contains pairs pair → is_compatible pair.binding b ≡ true → is_asked known b (mask_of pair.binding) ≡ true
+    → Contains ds (mask_of pair.binding) → Contains (visited known b pairs ds) pair.slot
+visited_has known b pairs [] pair among compatible asks listed = absurd (Contains-none (mask_of pair.binding) listed)
+visited_has known b pairs (d ∷ ds) pair among compatible asks listed =
+    elim (Contains-cons_cases d ds (mask_of pair.binding) listed) [
+      | inl same ↦ Contains-append_left (cond (is_asked known b d) (asked_slots d b pairs) []) (visited known b pairs ds) pair.slot (here same)
+      | inr later ↦ Contains-append_right (cond (is_asked known b d) (asked_slots d b pairs) []) (visited known b pairs ds) pair.slot (visited_has known b pairs ds pair among compatible asks later)
+    ]
+  where
+    here : d ≡ mask_of pair.binding → Contains (cond (is_asked known b d) (asked_slots d b pairs) []) pair.slot
+    here same =
+        let test : Pair → Bool = λ p. (mask_of p.binding == d) && is_compatible p.binding b in
+        let passes : test pair ≡ true = and_from (mask_of pair.binding == d) (is_compatible pair.binding b) (eq-eqb (mask_of pair.binding) d (sym same)) compatible in
+        rw (ap (is_asked known b) same ∙ asks) (Contains-map (λ (p : Pair). p.slot) (filter test pairs) pair (Contains-filter test pairs pair among passes))
+
+-- no slot is read twice
+visited_apart : (known : Bool) (b : Binding) (pairs : List Pair) (ds : List ℕ) → AllPairs (λ x y. x.slot ≢ y.slot) pairs → AllPairs (λ x y. x ≢ y) ds → AllPairs (λ j k. j ≢ k) (visited known b pairs ds)
+visited_apart known b pairs [] apart distinct = pairs_none (λ j k. j ≢ k)
+visited_apart known b pairs (d ∷ ds) apart distinct =
+    pairs_append (λ j k. j ≢ k) (cond (is_asked known b d) (asked_slots d b pairs) []) (visited known b pairs ds) (one (is_asked known b d)) (visited_apart known b pairs ds apart (pairs_tail (λ x y. x ≢ y) d ds distinct))
+    (λ j k here later same.
+    let mine = mine_of (is_asked known b d) j here in
+    let other = visited_by known b pairs ds k later in
+    let pair = same_one (λ (p : Pair). p.slot) pairs mine.pair other.asked_for.pair apart mine.among other.asked_for.among (mine.slot ∙ same ∙ sym other.asked_for.slot) in
+    pairs_head (λ x y. x ≢ y) d ds distinct other.domain other.listed (sym mine.domain ∙ ap (λ (p : Pair). mask_of p.binding) pair ∙ other.asked_for.domain))
+  where
+    one : (t : Bool) → AllPairs (λ j k. j ≢ k) (cond t (asked_slots d b pairs) [])
+    one true = pairs_map (λ j k. j ≢ k) (λ (p : Pair). p.slot) (asked d b pairs) (AllPairs-filter (λ x y. x.slot ≢ y.slot) (λ (pair : Pair). (mask_of pair.binding == d) && is_compatible pair.binding b) pairs apart)
+    one false = pairs_none (λ j k. j ≢ k)
+
+    mine_of : (t : Bool) (j : ℕ) → Contains (cond t (asked_slots d b pairs) []) j → IsAskedBy b pairs d j
+    mine_of true j h = asked_by b pairs d j h
+    mine_of false j h = absurd (Contains-none j h)
+
+-- the parameters of a binding are bound above it
+pub mask_within : (b t : Binding) → is_below b t ≡ true → bit_and (mask_of b) (mask_of t) ≡ mask_of b
+mask_within b t below =
+    same_from_bits (bit_and (mask_of b) (mask_of t)) (mask_of b)
+    (λ p. omega (arith, bit_at_and (mask_of b) (mask_of t) p, mask_where-mono (λ _. true) (λ _. true) b t (λ o h. h) below p))
+
+count_cons : {X : Type 0} (p : X → Bool) (x : X) (xs : List X) → count_by p (x ∷ xs) ≡ cond (p x) 1 0 + count_by p xs
+count_cons p x xs = sum_by-cons (λ y. cond (p y) 1 0) x xs
+
+module _ {S : Type 0} where
+  -- the monitor of a pair's slot is of the pair's binding
+  pub settled_monitor : (slots : List (Slot S)) (pairs : List Pair) → IsHoused slots pairs → IsSettled slots pairs → (pair : Pair) → Contains pairs pair
+      → (s : Stored S) × (monitor_at (monitors_of slots) pair.slot ≡ Some s) × (s.instance ≡ pair.binding)
+  settled_monitor slots pairs h settled pair among =
+      let (s, at) = settled pair among in
+      (s, at, sym (pair_by_slot slots pairs pair.slot s.instance h (h.paired pair.slot s at) pair among refl))
+
+  pub compatible_there : (slots : List (Slot S)) (pairs : List Pair) (b : Binding) (d k : ℕ) → IsHoused slots pairs → IsSettled slots pairs → Contains (asked_slots d b pairs) k
+      → (s : Stored S) × (monitor_at (monitors_of slots) k ≡ Some s) × (is_compatible s.instance b ≡ true)
+  compatible_there slots pairs b d k h settled there =
+      let by = asked_by b pairs d k there in
+      let (s, at, is) = settled_monitor slots pairs h settled by.pair by.among in
+      (s, subst (λ (n : ℕ). monitor_at (monitors_of slots) n ≡ Some s) by.slot at, ap (λ (t : Binding). is_compatible t b) is ∙ by.compatible)
+
+  pub are_visited : (known : Bool) (b : Binding) (slots : List (Slot S)) (pairs : List Pair) (ds : List ℕ) → IsHoused slots pairs → IsSettled slots pairs → AreDomains ds pairs
+      → AreVisited known b (monitors_of slots) (visited known b pairs ds)
+  are_visited known b slots pairs ds h settled domains = record {
+    apart = visited_apart known b pairs ds h.slots_apart domains.distinct;
+    each = λ k there.
+        let v = visited_by known b pairs ds k there in
+        let by = v.asked_for in
+        let (s, at, is) = settled_monitor slots pairs h settled by.pair by.among in
+        (s, subst (λ (n : ℕ). monitor_at (monitors_of slots) n ≡ Some s) by.slot at, ap (λ (t : Binding). is_compatible t b) is ∙ by.compatible);
+    all = λ k s at compatible may.
+        let there = h.paired k s at in
+        visited_has known b pairs ds (record { binding = s.instance; slot = k }) there compatible (asks s known may) (domains.listed (record { binding = s.instance; slot = k }) there);
+  }
+    where
+      asks : (s : Stored S) (t : Bool) → (t ≡ false) ⊎ (is_below b s.instance ≡ true) → is_asked t b (mask_of s.instance) ≡ true
+      asks s false may = refl
+      asks s true (inl unknown) = absurd (both_ways true unknown refl)
+      asks s true (inr below) = eq-eqb (bit_and (mask_of b) (mask_of s.instance)) (mask_of b) (mask_within b s.instance below)
+
+  -- ---- as many monitors as slots that are read
+  removed_counts : (monitors : List (Option (Stored S))) (p : Stored S → Bool) (k : ℕ) (s : Stored S) → monitor_at monitors k ≡ Some s → p s ≡ true
+      → count_by p (stored_in monitors) ≡ count_by p (stored_in (slice_set monitors k None)) + 1
+  removed_counts [] p k s at holds = cc
+  removed_counts (x ∷ monitors) p zero s at holds = here x at
+    where
+      one : (r : Stored S) → p r ≡ true → count_by p (r ∷ stored_in monitors) ≡ count_by p (stored_in monitors) + 1
+      one r is = omega (arith, count_cons p r (stored_in monitors), ap {B = ℕ} (λ (t : Bool). cond t 1 0) is)
+
+      here : (o : Option (Stored S)) → o ≡ Some s → count_by p (cons_option o (stored_in monitors)) ≡ count_by p (stored_in monitors) + 1
+      here None e = cc
+      here (Some r) e = let same : r ≡ s = cc in one r (ap p same ∙ holds)
+  removed_counts (x ∷ monitors) p (suc k) s at holds = behind x (removed_counts monitors p k s at holds)
+    where
+      behind : (o : Option (Stored S)) → count_by p (stored_in monitors) ≡ count_by p (stored_in (slice_set monitors k None)) + 1
+          → count_by p (cons_option o (stored_in monitors)) ≡ count_by p (cons_option o (stored_in (slice_set monitors k None))) + 1
+      behind None ih = ih
+      behind (Some r) ih = omega (arith, ih, count_cons p r (stored_in monitors), count_cons p r (stored_in (slice_set monitors k None)))
+
+  slots_counted : (monitors : List (Option (Stored S))) (p : Stored S → Bool) (slots : List ℕ) → AllPairs (λ j k. j ≢ k) slots
+      → ((k : ℕ) → Contains slots k → (s : Stored S) × (monitor_at monitors k ≡ Some s) × (p s ≡ true)) → length slots ≤ count_by p (stored_in monitors)
+  slots_counted monitors p [] apart each = omega arith
+  slots_counted monitors p (k ∷ slots) apart each =
+      let (s, at, holds) = each k (Contains-head k slots) in
+      let fewer = slots_counted (slice_set monitors k None) p slots (pairs_tail (λ j n. j ≢ n) k slots apart)
+      (λ j there.
+      let (r, is, passes) = each j (Contains-cons k j slots there) in
+      (r, get_or-set_other monitors k j None None (λ same. pairs_head (λ x y. x ≢ y) k slots apart j there (sym same)) ∙ is, passes)) in
+      omega (arith, fewer, removed_counts monitors p k s at holds)
+
+  pub visited_bound : (known : Bool) (b : Binding) (slots : List (Slot S)) (pairs : List Pair) (ds : List ℕ) (i : ℕ) → IsHoused slots pairs → IsSettled slots pairs → AreDomains ds pairs
+      → length (visited known b pairs (take i ds)) ≤ count_by (λ s. is_compatible s.instance b) (stored_in (monitors_of slots))
+  visited_bound known b slots pairs ds i h settled domains =
+      let visit = are_visited known b slots pairs ds h settled domains in
+      let all = slots_counted (monitors_of slots) (λ s. is_compatible s.instance b) (visited known b pairs ds) visit.apart visit.each in
+      omega (arith, all, visited_fewer known b pairs ds i)
+
+  pub compatible_at : (slots : List (Slot S)) (pairs : List Pair) (b : Binding) (d : ℕ) → IsHoused slots pairs → IsSettled slots pairs → (k : ℕ) → Contains (asked_slots d b pairs) k
+      → IsCompatibleAt b (monitor_at (monitors_of slots) k)
+  compatible_at slots pairs b d h settled k there =
+      let (s, at, is) = compatible_there slots pairs b d k h settled there in
+      subst (IsCompatibleAt b) (sym at) is

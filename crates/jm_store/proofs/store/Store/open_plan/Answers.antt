@@ -1,0 +1,29 @@
+use Rattle.std.proofs.Common.{◌≡◌, List, refl, sym, ap, ◌∙◌, subst, true, false}
+use Rattle.std.specs.Prelude.{Contains}
+use Rattle.std.proofs.lemmas.Bool.{false≢true}
+use Rattle.jm_store.proofs.VisitLemmas.{settled_monitor}
+use Rattle.jm_store.proofs.PlacingLemmas.{placed_same}
+use Rattle.jm_store.proofs.store.Store.open_plan.Goals as goal
+
+pub place_all-requires-clause-settled : goal.place_all-requires-clause-settled
+place_all-requires-clause-settled g c =
+    let closed = rw (← c.self.view_is) at c.requires.closed in
+    settled_monitor _ _ c.self.invariant.housed (c.self.invariant.settled closed)
+
+pub place_all-requires-clause-leads : goal.place_all-requires-clause-leads
+place_all-requires-clause-leads g c = rw (← c.self.view_is) at c.requires.leads
+
+pub take_back-requires-clause-filled : goal.take_back-requires-clause-filled
+take_back-requires-clause-filled g c = rw c.deref.ensures.value c.in-Err.ensures.filled
+
+pub invariant_of-self-in-Err-1 : goal.invariant_of-self-in-Err-1
+invariant_of-self-in-Err-1 g c = ?
+
+pub returns-in-Ok-clause-placed : goal.returns-in-Ok-clause-placed
+returns-in-Ok-clause-placed g c = rw (← c.self.view_is) (placed_same _ _ _ c.args.moves.items c.args.moves.items _ refl refl c.in-Ok.ensures.placed)
+
+pub returns-in-Err-clause-monitors : goal.returns-in-Err-clause-monitors
+returns-in-Err-clause-monitors g c = ?
+
+pub returns-in-Err-clause-fits : goal.returns-in-Err-clause-fits
+returns-in-Err-clause-fits g c = ?

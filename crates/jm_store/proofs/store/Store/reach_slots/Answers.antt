@@ -1,0 +1,22 @@
+use Rattle.std.proofs.Common.{◌≡◌, ◌++◌, ◌∷◌, [], ◌+◌, ◌≤◌, ℕ, List, take, sym, ap, ◌∙◌, subst, append_assoc, append-nil, arith}
+use Rattle.std.proofs.lemmas.List.{take_all}
+use Rattle.jm_store.specs.Moves.{AreGiven, IsOutcomeAt}
+use Rattle.jm_store.proofs.GivenLemmas.{pushed_next}
+use Rattle.jm_store.proofs.store.Store.reach_slots.Goals as goal
+
+pub loop-slot-preserved : goal.loop-slot-preserved
+loop-slot-preserved g c = record {
+  moves = λ before given. pushed_next _ before c.args.slots.now c.loop-slot.slot-index _ _ _ c.loop-slot-test.true (c.loop-slot.invariant.moves before given) c.in_ok-reach_slot.ensures.moves;
+  steps = omega (arith, c.loop-slot.invariant.steps, c.in_ok-reach_slot.ensures.steps);
+}
+
+pub returns-in_err-reach_slot-clause-steps : goal.returns-in_err-reach_slot-clause-steps
+returns-in_err-reach_slot-clause-steps g c = omega (arith, c.loop-slot.invariant.steps, c.in_err-reach_slot.ensures.steps, c.loop-slot-test.true)
+
+pub returns : goal.returns
+returns g c =
+    let whole = take_all c.loop-slot.slot-index c.args.slots.now c.loop-slot-test.false in
+    record {
+      moves = λ before given. rw whole at (c.loop-slot.invariant.moves before given);
+      steps = omega (arith, c.loop-slot.invariant.steps, c.loop-slot.auto.slot-index-end);
+    }

@@ -1,0 +1,11 @@
+use Rattle.std.proofs.Common.{rules}
+use Rattle.std.specs.Ordering.{is_lt}
+use Rattle.std.proofs.lemmas.List.Sorted.{ranks_by, answers_always}
+use Rattle.jm_model.specs.Bindings.{binding_cmp}
+use Rattle.jm_model.specs.declared.binding.Binding.{Binding}
+use Rattle.jm_semantics.proofs.OrderLemmas.{binding_cmp_total}
+use Rattle.jm_store.proofs.store.Store.stored.Goals as goal
+
+pub returns-clause-ordered : goal.returns-clause-ordered
+returns-clause-ordered g c =
+    c.sort_unstable_by.ensures.sorted (λ x y. is_lt (binding_cmp x y)) (ranks_by binding_cmp_total (λ (x : Binding). x)) (answers_always _ _ _ (λ f a r h k. search rules))
