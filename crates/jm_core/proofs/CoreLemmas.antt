@@ -3,8 +3,7 @@ use Rattle.std.proofs.Common.{◌≡◌, ℕ, ◌<◌, ◌%◌, ◌^◌, Bool, t
 use Rattle.std.specs.Prelude.{None, slice_set}
 use Rattle.std.proofs.lemmas.List.{length-set}
 use Rattle.std.proofs.Math.Nat.{mod-eq_of_lt}
-use Rattle.jm_model.specs.Bindings.{mask_where}
-use Rattle.jm_model.specs.Meanings.{Meaning, IsCutWord}
+use Rattle.jm_model.specs.Meanings.{Meaning}
 use Rattle.jm_model.specs.declared.binding.Binding.{Binding}
 use Rattle.jm_model.specs.declared.step.Letter.{Letter}
 use Rattle.jm_model.specs.declared.step.Step.{Step}
@@ -15,7 +14,6 @@ use Rattle.jm_model.specs.declared.step.Entry.{Entry}
 use Rattle.jm_semantics.specs.Traces.{ParametricEvent}
 use Rattle.jm_semantics.specs.Histories.{trace_of, accepted_event, accepted_death}
 use Rattle.jm_semantics.specs.Legality.{IsLegal, IsStepOf}
-use Rattle.jm_semantics.proofs.ListLemmas.{Contains-nil}
 use Rattle.jm_semantics.proofs.HistoryLemmas.{trace_of-accepted, trace_of-other}
 use Rattle.jm_semantics.proofs.LegalityLemmas.{legal-push}
 use Rattle.jm_history.specs.Nodes.{Unanswered, answered}
@@ -24,7 +22,8 @@ use Rattle.jm_index.proofs.IndexLemmas.{IsFitting-death}
 use Rattle.jm_monitors.specs.declared.stored.Stored.{Stored}
 use Rattle.jm_monitors.specs.Deaths.{AreFlagsOf}
 use Rattle.jm_monitors.specs.Stores.{IsStoreOf}
-use Rattle.jm_monitors.specs.Steps.{IsAfterPass, after_death}
+use Rattle.jm_monitors.specs.Steps.{IsAtStart, IsAfterPass, after_death}
+use Rattle.jm_monitors.proofs.StartLemmas.{start_is_store-lem}
 use Rattle.jm_monitors.proofs.DeathLemmas.{flags_at_start-lem, flags_after_death-lem, flags_after_other-lem}
 use Rattle.jm_monitors.proofs.PassLemmas.{death_keeps_store-lem, pass_keeps_store-lem}
 use Rattle.jm_monitors.proofs.CountLemmas.{pass_counts_stored-lem}
@@ -46,24 +45,17 @@ fit-death store dead o fit =
 
 module _ (m : Meaning) {S : Type 0} (Stands : S → List ℕ → Type 0) where
   -- before the first step
-  pub core_at_start : (n : ℕ) (store : Contents S) → IsStoreOf m Stands [] [] (stored_of store) store.marks → store.is_open ≡ false → ((dead : List Bool) → IsFit store dead)
+  pub core_at_start : (n : ℕ) (store : Contents S) → IsAtStart m Stands (stored_of store) → store.marks ≡ [] → store.is_open ≡ false → ((dead : List Bool) → IsFit store dead)
       → IsCore m Stands [] (replicate n false) store
-  core_at_start n store monitors closed fits =
-      let flag : (o : ℕ) → is_dead_object [] o ≡ is_dead_object (replicate n false) o = flags_at_start-lem n in
-      record {
-        legal = tt;
-        flags = flags_at_start-lem n;
-        closed = closed;
-        fits = fits (replicate n false);
-        monitors = record {
-          distinct = monitors.distinct;
-          each = monitors.each;
-          cut = λ t i none. subst (IsCutWord m []) (λ j. mask_where (λ o. flag o j) t) (monitors.cut t i none);
-          seen = monitors.seen;
-          marked = λ b h live. absurd (Contains-nil b h);
-        };
-        tidy = tt;
-      }
+  core_at_start n store start none closed fits = record {
+    legal = tt;
+    flags = flags_at_start-lem n;
+    closed = closed;
+    fits = fits (replicate n false);
+    monitors = subst (λ (marks : List Binding). IsStoreOf m Stands [] (replicate n false) (stored_of store) marks) (sym none)
+        (start_is_store-lem m Stands (replicate n false) (stored_of store) start);
+    tidy = tt;
+  }
 
   -- a step that leaves monitors, marks and dead objects as they are
   core_same : (h : List Entry) (dead : List Bool) (before after : Contents S) (x : Entry) → IsCore m Stands h dead before → IsLegal m (h ++ x ∷ []) → accepted_event x.step x.outcome ≡ None
