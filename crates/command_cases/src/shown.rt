@@ -17,9 +17,9 @@ pub(crate) fn put_text(answer: &mut String, heading: &str, bytes: &[u8]) -> Resu
 
 /// The last line of a text.
 pub(crate) fn last_line(bytes: &[u8]) -> &str {
-    let mut last = "";
-    for line in text_of(bytes).lines() {
-        last = line;
+    let text = text_of(bytes).trim_end();
+    match text.rsplit_once('\n') {
+        Some((_, last)) => last,
+        None => text,
     }
-    last
 }
