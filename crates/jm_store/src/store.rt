@@ -415,7 +415,11 @@ impl<M: Monitor> Store<M> {
         ensures marks { self.new.marks ≡ self.old.marks }
         ensures fits { (dead : List Bool) → IsFitting self.old.index dead → IsFitting self.new.index dead }
         ensures index { self.new.index.list ≡ pairs_after step self.old.index.list }
+        ensures bindings { AllPairs (λ a b. a.binding ≢ b.binding) self.old.index.list }
+        ensures slots { AllPairs (λ a b. a.slot ≢ b.slot) self.old.index.list }
+        ensures within { (pair : Pair) → Contains self.old.index.list pair → pair.slot < length self.old.monitors }
     {
+        let _monitors = &self.monitors;
         let Some(slot) = step.slot else { return };
         if step.stays {
             self.monitors.put(slot, step.monitor);
