@@ -2,6 +2,7 @@
 use Rattle.std.proofs.Common.{◌≡◌, ◌≢◌, ℕ, zero, suc, ◌+◌, ◌<◌, ◌≤◌, ◌⊎◌, inl, inr, Bool, true, false, cond, List, [], ◌∷◌, ◌++◌, length, get_or, refl, sym, ap, ◌∙◌, subst, arith}
 use Rattle.std.specs.Prelude.{Option, Some, None, Contains, AllPairs, filter}
 use Rattle.std.proofs.lemmas.Bool.{cases_lt}
+use Rattle.std.proofs.lemmas.List.{length-map}
 use Rattle.std.proofs.lemmas.Option.{none-some}
 use Rattle.jm_model.specs.Meanings.{Meaning}
 use Rattle.jm_model.specs.declared.binding.Binding.{Binding}
@@ -11,7 +12,7 @@ use Rattle.jm_index.specs.Index.{Pair}
 use Rattle.jm_monitors.specs.declared.stored.Stored.{Stored}
 use Rattle.jm_monitors.specs.Steps.{IsAfterPass, IsCutState, IsAliveState}
 use Rattle.jm_store.specs.declared.monitors.Slot.{Slot}
-use Rattle.jm_store.specs.Slots.{monitors_of, monitor_at, stored_in}
+use Rattle.jm_store.specs.Slots.{monitor_in, monitors_of, monitor_at, stored_in}
 use Rattle.jm_store.specs.Moves.{IsSwept}
 use Rattle.jm_store.specs.Housing.{IsHoused, IsKept}
 use Rattle.jm_store.proofs.SlotLemmas.{stored_at, place_of}
@@ -28,6 +29,9 @@ module _ {S : Type 0} where
       → IsKept slots left domains open' more
   kept_swept slots pairs left domains open' spare more h same le =
       rw same (record { housed = h.housed; domains = h.domains; settled = h.settled; room = λ is. let one = h.room is in omega (arith, one, le) })
+
+  pub all_slots : (slots : List (Slot S)) (n : ℕ) → length slots ≤ n → length (monitors_of slots) ≤ n
+  all_slots slots n le = omega (arith, le, length-map slots monitor_in)
 
   within_length : (monitors : List (Option (Stored S))) (k : ℕ) (s : Stored S) → monitor_at monitors k ≡ Some s → k < length monitors
   within_length [] k s at = cc
