@@ -57,7 +57,8 @@ below-first s b c is below none =
 
 -- ---- the base of an instance
 module _ (m : Meaning) {S : Type 0} (Stands : S → List ℕ → Type 0) (trace : List ParametricEvent) (dead : List Bool) (stored : List (Stored S)) (marks : List Binding) (letter : ℕ) (b : Binding) (store : IsStoreOf m Stands trace dead stored marks) (event : IsLiveEvent m dead letter b) where
-  -- a seen binding below the join lies below the base, where each mark does: one with no live object has none of the event's
+  -- Where each mark below the join lies below the base, so does each seen binding: one with no live object has none of
+  -- the event's objects.
   seen-covered : (s : Binding) → is_compatible s b ≡ true → ((c : Binding) → Contains marks c → is_below c (join s b) ≡ true → is_below c s ≡ true)
       → (c : Binding) → Contains (seen_of trace) c → is_below c (join s b) ≡ true → is_below c s ≡ true
   seen-covered s is covered c seen below =

@@ -16,7 +16,7 @@ use Rattle.jm_monitors.specs.declared.stored.Stored.{Stored}
 use Rattle.jm_monitors.specs.Stores.{HasInstance, IsMonitorOf, IsStoreOf}
 use Rattle.jm_monitors.specs.Steps.{AreReached, IsAfterEvent, AreMarksAfter, IsLiveEvent, NoneCutAbove}
 use Rattle.jm_monitors.specs.Laws.{EventKeepsStore}
-use Rattle.jm_monitors.proofs.ReachLemmas.{reached-monitor, reached-all}
+use Rattle.jm_monitors.proofs.ReachLemmas.{with_event, reached-monitor, reached-all}
 
 -- ---- what has been seen
 pub seen-before : (trace : List ParametricEvent) (a : ParametricEvent) (c : Binding) → Contains (seen_of trace) c → Contains (seen_of (trace ++ a ∷ [])) c
@@ -35,13 +35,13 @@ module _ (m : Meaning) {S : Type 0} (Stands : S → List ℕ → Type 0) (trace 
     (store : IsStoreOf m Stands trace dead stored marks) (event : IsLiveEvent m dead letter b) (are : AreReached m Stands letter b dead stored marks reached)
     (is : IsAfterEvent m Stands b dead stored reached after) (marks_after : AreMarksAfter b marks marked) where
   -- a monitor that the event doesn't reach is of the longer trace
-  stays : (s : Stored S) → Contains stored s → is_below b s.instance ≡ false → IsMonitorOf Stands (trace ++ record { letter = letter; binding = b } ∷ []) s
+  stays : (s : Stored S) → Contains stored s → is_below b s.instance ≡ false → IsMonitorOf Stands (with_event trace letter b) s
   stays s h apart =
       let a : ParametricEvent = record { letter = letter; binding = b } in
       let before = store.each s h in
       (instance-append trace (a ∷ []) s.instance before.0, subst (Stands s.state) (sym (slice_of-apart trace a s.instance apart)) before.1)
 
-  after-each : (s : Stored S) → Contains after s → IsMonitorOf Stands (trace ++ record { letter = letter; binding = b } ∷ []) s
+  after-each : (s : Stored S) → Contains after s → IsMonitorOf Stands (with_event trace letter b) s
   after-each s h =
       elim (is.each s h) [
         | inl moved ↦ (reached-monitor m Stands trace dead stored marks letter b store event reached are s moved.0).0
@@ -49,13 +49,13 @@ module _ (m : Meaning) {S : Type 0} (Stands : S → List ℕ → Type 0) (trace 
       ]
 
   -- ---- what isn't stored is cut
-  module _ (t : Binding) (i : IsInstance (trace ++ record { letter = letter; binding = b } ∷ []) t) (none : HasInstance after t → ⊥) where
+  module _ (t : Binding) (i : IsInstance (with_event trace letter b) t) (none : HasInstance after t → ⊥) where
     abbrev IsCutAfter : Type 0
-    IsCutAfter = IsCutWord m (slice_of (trace ++ record { letter = letter; binding = b } ∷ []) t) (dead_mask_of dead t)
+    IsCutAfter = IsCutWord m (slice_of (with_event trace letter b) t) (dead_mask_of dead t)
 
     cut-reached : (r : Stored S) → Contains reached r → r.instance ≡ t → IsCutAfter
     cut-reached r h same =
-        let new : List ParametricEvent = trace ++ record { letter = letter; binding = b } ∷ [] in
+        let new : List ParametricEvent = with_event trace letter b in
         let right = reached-monitor m Stands trace dead stored marks letter b store event reached are r h in
         elim (is.reached_stay r h) [
           | inl there ↦ absurd (none (r, there, same))
@@ -80,7 +80,7 @@ module _ (m : Meaning) {S : Type 0} (Stands : S → List ℕ → Type 0) (trace 
     after-cut = elim (cases_Bool (is_below b t)) [ inl above ↦ cut-above above | inr apart ↦ cut-apart apart ]
 
   -- ---- marks
-  after-seen : (c : Binding) → Contains marked c → Contains (seen_of (trace ++ record { letter = letter; binding = b } ∷ [])) c
+  after-seen : (c : Binding) → Contains marked c → Contains (seen_of (with_event trace letter b)) c
   after-seen c h =
       let a : ParametricEvent = record { letter = letter; binding = b } in
       elim ((marks_after c).0 h) [
@@ -88,14 +88,14 @@ module _ (m : Meaning) {S : Type 0} (Stands : S → List ℕ → Type 0) (trace 
         | inr same ↦ subst (λ u. Contains (seen_of (trace ++ a ∷ [])) u) (sym same) (seen-now trace a)
       ]
 
-  after-marked : (c : Binding) → Contains (seen_of (trace ++ record { letter = letter; binding = b } ∷ [])) c → has_live dead c ≡ true → Contains marked c
+  after-marked : (c : Binding) → Contains (seen_of (with_event trace letter b)) c → has_live dead c ≡ true → Contains marked c
   after-marked c h live =
       elim (seen-cases trace (record { letter = letter; binding = b }) c h) [
         | inl old ↦ (marks_after c).1 (inl (store.marked c old live))
         | inr same ↦ (marks_after c).1 (inr (sym same))
       ]
 
-  event-store : IsStoreOf m Stands (trace ++ record { letter = letter; binding = b } ∷ []) dead after marked
+  event-store : IsStoreOf m Stands (with_event trace letter b) dead after marked
   event-store = record { distinct = is.distinct; each = after-each; cut = after-cut; seen = after-seen; marked = after-marked }
 
   -- those above the event's binding were reached, and aren't cut

@@ -1,4 +1,4 @@
--- An event reaches each instance above its binding that can still fire, and the states that it reaches are those of the slices.
+-- An event reaches each instance above its binding that can still fire, in the states of the slices.
 use Rattle.std.proofs.Common.{◌≡◌, ℕ, Bool, true, false, ◌⊎◌, inl, inr, List, [], ◌∷◌, ◌++◌, length, sym, ◌∙◌, ap, subst}
 use Rattle.std.specs.Prelude.{Contains, bit_and}
 use Rattle.std.proofs.lemmas.Bool.{false≢true, cases_Bool}
@@ -56,6 +56,10 @@ instance_or_not trace t l =
       | inr other ↦ inr (λ i. other (instance-join trace t i))
     ]
 
+-- the trace with one event more
+abbrev pub with_event : List ParametricEvent → ℕ → Binding → List ParametricEvent
+with_event trace letter b = trace ++ record { letter = letter; binding = b } ∷ []
+
 -- the word hits nothing and is cut
 abbrev pub IsOver : Meaning → List ℕ → ℕ → Type 0
 IsOver m w dead = ((k : ℕ) → IsHit m w k → ⊥) × IsCutWord m w dead
@@ -70,7 +74,7 @@ module _ (m : Meaning) (trace : List ParametricEvent) (dead : List Bool) (letter
   )
 
   -- so it hits nothing where the slice was cut, and leaves it cut
-  pub over-after : (t : Binding) → is_below b t ≡ true → IsCutWord m (slice_of trace t) (dead_mask_of dead t) → IsOver m (slice_of (trace ++ record { letter = letter; binding = b } ∷ []) t) (dead_mask_of dead t)
+  pub over-after : (t : Binding) → is_below b t ≡ true → IsCutWord m (slice_of trace t) (dead_mask_of dead t) → IsOver m (slice_of (with_event trace letter b) t) (dead_mask_of dead t)
   over-after t above cut =
       let there = available-above t above in
       subst (λ w. IsOver m w (dead_mask_of dead t)) (sym (slice_of-above trace (record { letter = letter; binding = b }) t above))
@@ -78,7 +82,7 @@ module _ (m : Meaning) (trace : List ParametricEvent) (dead : List Bool) (letter
 
   -- the same where the largest instance below t was cut
   pub over-above : (t : Binding) → length t ≡ 8 → is_below b t ≡ true → IsCutWord m (slice_of trace (join_below trace t)) (dead_mask_of dead (join_below trace t))
-      → IsOver m (slice_of (trace ++ record { letter = letter; binding = b } ∷ []) t) (dead_mask_of dead t)
+      → IsOver m (slice_of (with_event trace letter b) t) (dead_mask_of dead t)
   over-above t l above cut =
       let s = join_below trace t in
       over-after t above (cut-more_dead m (slice_of trace t) (dead_mask_of dead s) (dead_mask_of dead t)
@@ -88,7 +92,7 @@ module _ (m : Meaning) (trace : List ParametricEvent) (dead : List Bool) (letter
 module _ (m : Meaning) {S : Type 0} (Stands : S → List ℕ → Type 0) (trace : List ParametricEvent) (dead : List Bool) (stored : List (Stored S)) (marks : List Binding) (letter : ℕ) (b : Binding) (store : IsStoreOf m Stands trace dead stored marks) (event : IsLiveEvent m dead letter b) where
   -- ---- what is reached is right
   joined-monitor : (s : Stored S) (state : S) → Contains stored s → IsBase b marks s → Follows Stands letter s.state state
-      → IsMonitorOf Stands (trace ++ record { letter = letter; binding = b } ∷ []) (record { instance = join s.instance b; state = state })
+      → IsMonitorOf Stands (with_event trace letter b) (record { instance = join s.instance b; state = state })
   joined-monitor s state h base follows =
       let a : ParametricEvent = record { letter = letter; binding = b } in
       let t = join s.instance b in (
@@ -99,10 +103,10 @@ module _ (m : Meaning) {S : Type 0} (Stands : S → List ℕ → Type 0) (trace 
       )
 
   pub reached-monitor : (reached : List (Stored S)) → AreReached m Stands letter b dead stored marks reached → (r : Stored S) → Contains reached r
-      → IsMonitorOf Stands (trace ++ record { letter = letter; binding = b } ∷ []) r × (is_below b r.instance ≡ true)
+      → IsMonitorOf Stands (with_event trace letter b) r × (is_below b r.instance ≡ true)
   reached-monitor reached are r h =
       let from = are.each r h in
-      let new : List ParametricEvent = trace ++ record { letter = letter; binding = b } ∷ [] in
+      let new : List ParametricEvent = with_event trace letter b in
       subst (λ u. (IsInstance new u × Stands r.state (slice_of new u)) × (is_below b u ≡ true)) (sym from.joined)
       (joined-monitor from.base r.state from.stored_base from.is_base from.next, below-join_right from.base.instance b from.is_base.0)
 
@@ -110,7 +114,7 @@ module _ (m : Meaning) {S : Type 0} (Stands : S → List ℕ → Type 0) (trace 
   module _ (reached : List (Stored S)) (are : AreReached m Stands letter b dead stored marks reached) (t : Binding) (above : is_below b t ≡ true) where
     -- t is reached, or its new slice hits nothing and is cut
     abbrev IsReachedOrOver : Type 0
-    IsReachedOrOver = HasInstance reached t ⊎ IsOver m (slice_of (trace ++ record { letter = letter; binding = b } ∷ []) t) (dead_mask_of dead t)
+    IsReachedOrOver = HasInstance reached t ⊎ IsOver m (slice_of (with_event trace letter b) t) (dead_mask_of dead t)
 
     reached-old : IsInstance trace t → IsReachedOrOver
     reached-old i =
@@ -144,9 +148,9 @@ module _ (m : Meaning) {S : Type 0} (Stands : S → List ℕ → Type 0) (trace 
           (below-compatible (join_below trace t) b t (join_below-below trace t l) above, inr (unmarked apart, apart, marks-covered))
 
       lost-over : (s : Stored S) (state : S) → Contains stored s → s.instance ≡ join_below trace t → Follows Stands letter s.state state
-          → IsLost m Stands state (dead_mask_of dead (join s.instance b)) → IsOver m (slice_of (trace ++ record { letter = letter; binding = b } ∷ []) t) (dead_mask_of dead t)
+          → IsLost m Stands state (dead_mask_of dead (join s.instance b)) → IsOver m (slice_of (with_event trace letter b) t) (dead_mask_of dead t)
       lost-over s state h same follows lost =
-          let word : slice_of (trace ++ record { letter = letter; binding = b } ∷ []) t ≡ slice_of trace s.instance ++ letter ∷ [] =
+          let word : slice_of (with_event trace letter b) t ≡ slice_of trace s.instance ++ letter ∷ [] =
           slice_of-above trace (record { letter = letter; binding = b }) t above ∙ ap (λ w. w ++ letter ∷ []) (slice-join_below trace t l ∙ ap (slice_of trace) (sym same)) in
           let joined : join s.instance b ≡ t = ap (λ u. join u b) same ∙ sym is in
           subst (λ w. IsOver m w (dead_mask_of dead t)) (sym word)
@@ -168,7 +172,7 @@ module _ (m : Meaning) {S : Type 0} (Stands : S → List ℕ → Type 0) (trace 
           ]
 
     -- each instance above the event is reached, but that one whose slice hits nothing and is cut may not be
-    pub reached-all : IsInstance (trace ++ record { letter = letter; binding = b } ∷ []) t → IsReachedOrOver
+    pub reached-all : IsInstance (with_event trace letter b) t → IsReachedOrOver
     reached-all after =
         elim (instance_or_not trace t after.eight) [
           | inl old ↦ reached-old old
@@ -177,9 +181,9 @@ module _ (m : Meaning) {S : Type 0} (Stands : S → List ℕ → Type 0) (trace 
 
   -- ---- the report
   module _ (reached : List (Stored S)) (are : AreReached m Stands letter b dead stored marks reached) (firings : List Firing) (report : IsReport m Stands reached firings) where
-    reported-fires : (f : Firing) → Contains firings f → Fires m (trace ++ record { letter = letter; binding = b } ∷ []) (record { letter = letter; binding = b }) f
+    reported-fires : (f : Firing) → Contains firings f → Fires m (with_event trace letter b) (record { letter = letter; binding = b }) f
     reported-fires f h =
-        let new : List ParametricEvent = trace ++ record { letter = letter; binding = b } ∷ [] in
+        let new : List ParametricEvent = with_event trace letter b in
         let from : IsReported m Stands reached f = report.each f h in
         let right = reached-monitor reached are from.monitor from.among in
         record {
@@ -189,10 +193,10 @@ module _ (m : Meaning) {S : Type 0} (Stands : S → List ℕ → Type 0) (trace 
           hit = subst (λ u. IsHit m (slice_of new u) f.handler) from.instance (from.hit (slice_of new from.monitor.instance) right.0.1);
         }
 
-    found-reported : (f : Firing) → Fires m (trace ++ record { letter = letter; binding = b } ∷ []) (record { letter = letter; binding = b }) f
+    found-reported : (f : Firing) → Fires m (with_event trace letter b) (record { letter = letter; binding = b }) f
         → HasInstance reached f.instance → Contains firings f
     found-reported f fires found =
-        let new : List ParametricEvent = trace ++ record { letter = letter; binding = b } ∷ [] in
+        let new : List ParametricEvent = with_event trace letter b in
         let r = found.0 in
         let right = reached-monitor reached are r found.1 in
         subst (λ u. Contains firings (record { instance = u; handler = f.handler })) found.2
@@ -200,7 +204,7 @@ module _ (m : Meaning) {S : Type 0} (Stands : S → List ℕ → Type 0) (trace 
         (subst (λ u. bit_and m.must_bind (mask_of u) ≡ m.must_bind) (sym found.2) fires.full) right.0.1
         (subst (λ u. IsHit m (slice_of new u) f.handler) (sym found.2) fires.hit))
 
-    fires-reported : (f : Firing) → Fires m (trace ++ record { letter = letter; binding = b } ∷ []) (record { letter = letter; binding = b }) f → Contains firings f
+    fires-reported : (f : Firing) → Fires m (with_event trace letter b) (record { letter = letter; binding = b }) f → Contains firings f
     fires-reported f fires =
         elim (reached-all reached are f.instance fires.above fires.instance) [
           | inl found ↦ found-reported f fires found

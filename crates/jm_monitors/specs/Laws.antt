@@ -1,16 +1,30 @@
--- What is proved of the definitions: that events, deaths and passes keep a store.
-use Rattle.std.specs.Prelude.{ℕ, ◌≡◌, ◌↔◌, Bool, true, false, List, [], ◌∷◌, ◌++◌, Contains}
-use Rattle.jm_model.specs.Bindings.{is_below, join}
+-- What is proved of the definitions: that events, deaths and passes keep a store, and what flags tell of a history.
+use Rattle.std.specs.Prelude.{ℕ, ◌≡◌, ◌<◌, ◌↔◌, Bool, true, false, List, [], ◌∷◌, ◌++◌, Contains, Some, None, length, replicate}
+use Rattle.jm_model.specs.Bindings.{is_below, is_compatible, join, objects_of}
 use Rattle.jm_model.specs.Meanings.{Meaning, IsCutWord}
 use Rattle.jm_model.specs.declared.binding.Binding.{Binding}
 use Rattle.jm_model.specs.declared.firings.Firing.{Firing}
+use Rattle.jm_model.specs.declared.step.Entry.{Entry}
 use Rattle.jm_semantics.specs.Traces.{ParametricEvent, seen_of, slice_of}
+use Rattle.jm_semantics.specs.Histories.{trace_of, accepted_death, dead_mask, first_dead}
 use Rattle.jm_semantics.specs.Instances.{IsInstance}
 use Rattle.jm_semantics.specs.Answers.{IsAnswer}
-use Rattle.jm_marks.specs.Marks.{dead_mask_of, has_live}
+use Rattle.jm_semantics.specs.Disposal.{IsKeptCount}
+use Rattle.jm_marks.specs.Marks.{is_dead_object, dead_mask_of, has_live}
 use Rattle.jm_monitors.specs.declared.stored.Stored.{Stored}
 use Rattle.jm_monitors.specs.Stores.{HasInstance, IsStoreOf}
-use Rattle.jm_monitors.specs.Steps.{IsBase, AreReached, IsAfterEvent, AreMarksAfter, IsReport, IsLiveEvent, NoneCutAbove, IsAfterPass, after_death}
+use Rattle.jm_monitors.specs.Steps.{IsAtStart, IsBase, AreReached, IsAfterEvent, AreMarksAfter, IsReport, IsLiveEvent, NoneCutAbove, IsAfterPass, after_death}
+use Rattle.jm_monitors.specs.Deaths.{AreFlagsOf}
+
+-- the monitors at the start are a store of the empty trace
+abbrev pub StartIsStore : Meaning → {S : Type 0} → (S → List ℕ → Type 0) → Type 0
+StartIsStore m {S} Stands = (dead : List Bool) (stored : List (Stored S)) → IsAtStart m Stands stored → IsStoreOf m Stands [] dead stored []
+
+-- The join of an instance and a seen binding is an instance. So an event whose binding is a mark makes no new one.
+abbrev pub JoinsOfSeenStand : Type 0
+JoinsOfSeenStand =
+    (trace : List ParametricEvent) (s b : Binding)
+    → IsInstance trace s → Contains (seen_of trace) b → is_compatible s b ≡ true → IsInstance trace (join s b)
 
 -- two stored monitors that an event makes into one instance are of one instance
 abbrev pub BaseIsOne : Meaning → {S : Type 0} → (S → List ℕ → Type 0) → Type 0
@@ -47,8 +61,8 @@ DeathKeepsStore m {S} Stands =
     (trace : List ParametricEvent) (dead : List Bool) (stored : List (Stored S)) (marks : List Binding) (o : ℕ)
     → IsStoreOf m Stands trace dead stored marks → IsStoreOf m Stands trace (after_death dead o) stored marks
 
--- A pass keeps a store. After it exactly the instances that aren't cut are stored, and the marks are exactly the seen bindings
--- with a live object.
+-- A pass keeps a store. After it exactly the instances that aren't cut are stored, and the marks are exactly the seen
+-- bindings with a live object.
 abbrev pub PassKeepsStore : Meaning → {S : Type 0} → (S → List ℕ → Type 0) → Type 0
 PassKeepsStore m {S} Stands =
     (trace : List ParametricEvent) (dead : List Bool) (stored after : List (Stored S)) (marks left : List Binding)
@@ -56,3 +70,42 @@ PassKeepsStore m {S} Stands =
     → IsStoreOf m Stands trace dead after left
     × ((t : Binding) → HasInstance after t ↔ (IsInstance trace t × (IsCutWord m (slice_of trace t) (dead_mask_of dead t) → ⊥)))
     × ((b : Binding) → Contains left b ↔ (Contains (seen_of trace) b × (has_live dead b ≡ true)))
+
+-- a word that is cut only with more dead objects of t has one of these
+abbrev pub CutByOwnDeath : Meaning → Type 0
+CutByOwnDeath m =
+    (w : List ℕ) (t : Binding) (dead more : List Bool)
+    → (IsCutWord m w (dead_mask_of dead t) → ⊥) → IsCutWord m w (dead_mask_of more t)
+    → (o : ℕ) × Contains (objects_of t) o × (is_dead_object dead o ≡ false) × (is_dead_object more o ≡ true)
+
+-- flags of a history's dead objects tell the dead parameters of each binding
+abbrev pub FlagsTellParameters : Type 0
+FlagsTellParameters = (h : List Entry) (dead : List Bool) (t : Binding) → AreFlagsOf h dead → dead_mask h t ≡ dead_mask_of dead t
+
+-- and whether it binds a dead object
+abbrev pub FlagsTellLive : Type 0
+FlagsTellLive =
+    (h : List Entry) (dead : List Bool) (b : Binding) → AreFlagsOf h dead
+    → (first_dead h b ≡ None) ↔ ((o : ℕ) → Contains (objects_of b) o → is_dead_object dead o ≡ false)
+
+-- before the first entry no object is dead
+abbrev pub FlagsAtStart : Type 0
+FlagsAtStart = (n : ℕ) → AreFlagsOf [] (replicate n false)
+
+-- an accepted death sets one flag
+abbrev pub FlagsAfterDeath : Type 0
+FlagsAfterDeath =
+    (h : List Entry) (dead : List Bool) (x : Entry) (o : ℕ)
+    → AreFlagsOf h dead → accepted_death x.step x.outcome ≡ Some o → o < length dead → AreFlagsOf (h ++ x ∷ []) (after_death dead o)
+
+-- any other entry sets none
+abbrev pub FlagsAfterOther : Type 0
+FlagsAfterOther =
+    (h : List Entry) (dead : List Bool) (x : Entry)
+    → AreFlagsOf h dead → accepted_death x.step x.outcome ≡ None → AreFlagsOf (h ++ x ∷ []) dead
+
+-- after a pass so many monitors are stored as the history has instances that aren't cut
+abbrev pub PassCountsStored : Meaning → {S : Type 0} → (S → List ℕ → Type 0) → Type 0
+PassCountsStored m {S} Stands =
+    (h : List Entry) (dead : List Bool) (stored after : List (Stored S)) (marks left : List Binding)
+    → AreFlagsOf h dead → IsStoreOf m Stands (trace_of h) dead stored marks → IsAfterPass m Stands dead stored after marks left → IsKeptCount m h (length after)

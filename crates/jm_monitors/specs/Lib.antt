@@ -1,3 +1,4 @@
 pub mod Stores
 pub mod Steps
+pub mod Deaths
 pub mod Laws

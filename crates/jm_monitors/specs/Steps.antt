@@ -2,7 +2,7 @@
 use Rattle.std.specs.Prelude.{ℕ, ◌≡◌, ◌≢◌, ◌<◌, ◌↔◌, ◌⊎◌, Bool, true, false, List, [], ◌∷◌, ◌++◌, Contains, length, bit_and, slice_set}
 use Rattle.std.specs.List.{AllPairs}
 use Rattle.std.specs.List.Sorted.{IsStrictlySortedBy}
-use Rattle.jm_model.specs.Bindings.{is_below, is_compatible, join, mask_of, objects_of}
+use Rattle.jm_model.specs.Bindings.{empty, is_below, is_compatible, join, mask_of, objects_of}
 use Rattle.jm_model.specs.Meanings.{Meaning, IsHit, IsCutWord}
 use Rattle.jm_model.specs.declared.binding.Binding.{Binding}
 use Rattle.jm_model.specs.declared.firings.Firing.{Firing}
@@ -11,12 +11,19 @@ use Rattle.jm_marks.specs.Marks.{dead_mask_of, is_dead_object, has_live, IsCover
 use Rattle.jm_monitors.specs.declared.stored.Stored.{Stored}
 use Rattle.jm_monitors.specs.Stores.{HasInstance}
 
+-- before the first event: the monitor of the empty binding, whose state stands for the empty word, unless that is cut
+abbrev pub IsAtStart : Meaning → {S : Type 0} → (S → List ℕ → Type 0) → List (Stored S) → Type 0
+IsAtStart m {S} Stands stored =
+    ((state : S) × Stands state [] × (stored ≡ record { instance = empty; state = state } ∷ []))
+    ⊎ ((stored ≡ []) × IsCutWord m [] 0)
+
 -- the state stands for the words of the other with the letter at their end
 abbrev pub Follows : {S : Type 0} → (S → List ℕ → Type 0) → ℕ → S → S → Type 0
 Follows Stands letter before after = (w : List ℕ) → Stands before w → Stands after (w ++ letter ∷ [])
 
--- The event's binding reaches the stored monitor: it lies below its instance, so that the monitor moves; or it is no mark, isn't
--- below, and of the marks below their join each lies below the instance, so that the join is a new instance, made of this one.
+-- The event's binding reaches the stored monitor: it lies below its instance, so that the monitor moves; or it is no
+-- mark, isn't below, and of the marks below their join each lies below the instance, so that the join is a new instance,
+-- made of this one.
 abbrev pub IsBase : {S : Type 0} → Binding → List Binding → Stored S → Type 0
 IsBase b marks s =
     (is_compatible s.instance b ≡ true)
@@ -35,8 +42,8 @@ pub record IsReached {S : Type 0} (Stands : S → List ℕ → Type 0) (letter :
 abbrev pub IsLost : Meaning → {S : Type 0} → (S → List ℕ → Type 0) → S → ℕ → Type 0
 IsLost m Stands state dead = (w : List ℕ) → Stands state w → ((k : ℕ) → IsHit m w k → ⊥) × IsCutWord m w dead
 
--- The reached monitors: distinct, each reached, and one for each stored monitor that the event reaches, but that new instances
--- which hit nothing and are cut at once may be left out.
+-- The reached monitors: distinct, each reached, and one for each stored monitor that the event reaches, but that new
+-- instances which hit nothing and are cut at once may be left out.
 pub record AreReached (m : Meaning) {S : Type 0} (Stands : S → List ℕ → Type 0) (letter : ℕ) (b : Binding) (dead : List Bool) (stored : List (Stored S)) (marks : List Binding) (reached : List (Stored S)) : Type 0 where
   pub distinct : AllPairs (λ r s. r.instance ≢ s.instance) reached
   pub each : (r : Stored S) → Contains reached r → IsReached Stands letter b stored marks r
@@ -53,8 +60,8 @@ IsCutState m Stands state dead = (w : List ℕ) → Stands state w → IsCutWord
 abbrev pub IsAliveState : Meaning → {S : Type 0} → (S → List ℕ → Type 0) → S → ℕ → Type 0
 IsAliveState m Stands state dead = (w : List ℕ) → Stands state w → IsCutWord m w dead → ⊥
 
--- After the event: the reached monitors but those that are cut, and of the stored ones those that the event's binding isn't
--- below.
+-- After the event: the reached monitors but those that are cut, and of the stored ones those that the event's binding
+-- isn't below.
 pub record IsAfterEvent (m : Meaning) {S : Type 0} (Stands : S → List ℕ → Type 0) (b : Binding) (dead : List Bool) (stored reached after : List (Stored S)) : Type 0 where
   pub distinct : AllPairs (λ r s. r.instance ≢ s.instance) after
   pub each : (s : Stored S) → Contains after s → (Contains reached s × IsAliveState m Stands s.state (dead_mask_of dead s.instance)) ⊎ (Contains stored s × (is_below b s.instance ≡ false))
@@ -83,8 +90,8 @@ pub record IsReport (m : Meaning) {S : Type 0} (Stands : S → List ℕ → Type
   pub each : (f : Firing) → Contains firings f → IsReported m Stands monitors f
   pub all : (s : Stored S) (w : List ℕ) (k : ℕ) → Contains monitors s → IsFull m s.instance → Stands s.state w → IsHit m w k → Contains firings (record { instance = s.instance; handler = k })
 
--- the letter is one of the specification's, and the binding one of its eight parameters, which binds exactly those of the letter
--- and no dead object
+-- the letter is one of the specification's, and the binding one of its eight parameters, which binds exactly those of
+-- the letter and no dead object
 pub record IsLiveEvent (m : Meaning) (dead : List Bool) (letter : ℕ) (b : Binding) : Type 0 where
   pub letter_there : letter < m.letters
   pub eight : length b ≡ 8

@@ -16,8 +16,8 @@ HasInstance {S} monitors t = (s : Stored S) × Contains monitors s × (s.instanc
 abbrev pub IsMonitorOf : {S : Type 0} → (S → List ℕ → Type 0) → List ParametricEvent → Stored S → Type 0
 IsMonitorOf Stands trace s = IsInstance trace s.instance × Stands s.state (slice_of trace s.instance)
 
--- Stored are distinct instances, with states that stand for their slices, and each instance that isn't stored is cut. Each mark
--- was seen, and each seen binding with a live object is a mark. Objects are dead by the flags.
+-- Stored are distinct instances, with states that stand for their slices, and each instance that isn't stored is cut.
+-- Each mark was seen, and each seen binding with a live object is a mark. Objects are dead by the flags.
 pub record IsStoreOf (m : Meaning) {S : Type 0} (Stands : S → List ℕ → Type 0) (trace : List ParametricEvent) (dead : List Bool) (stored : List (Stored S)) (marks : List Binding) : Type 0 where
   pub distinct : AllPairs (λ r s. r.instance ≢ s.instance) stored
   pub each : (s : Stored S) → Contains stored s → IsMonitorOf Stands trace s
