@@ -8,6 +8,7 @@ pub mod MoveLemmas
 pub mod AfterLemmas
 pub mod PlacingLemmas
 pub mod CommitLemmas
+pub mod PermuteLemmas
 pub mod PassLemmas
 pub mod EventLemmas
 pub mod FitLemmas

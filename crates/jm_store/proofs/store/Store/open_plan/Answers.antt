@@ -2,6 +2,7 @@ use Rattle.std.proofs.Common.{◌≡◌, List, refl, sym, ap, ◌∙◌, subst, 
 use Rattle.std.specs.Prelude.{Contains}
 use Rattle.std.proofs.lemmas.Bool.{false≢true}
 use Rattle.jm_store.proofs.VisitLemmas.{settled_monitor}
+use Rattle.jm_store.proofs.FitLemmas.{are_paired}
 use Rattle.jm_store.proofs.PlacingLemmas.{placed_same}
 use Rattle.jm_store.proofs.store.Store.open_plan.Goals as goal
 
@@ -38,3 +39,6 @@ pub returns-in-Err-clause-fits : goal.returns-in-Err-clause-fits
 returns-in-Err-clause-fits g c =
     let back = rw (← c.self-in-Err.view_is) at c.take_back.ensures.fits in
     rw (← c.self.view_is) (λ dead fits within. back dead (c.in-Err.ensures.fits dead fits within))
+
+pub returns-in-Ok-clause-housed : goal.returns-in-Ok-clause-housed
+returns-in-Ok-clause-housed g c = rw (← c.self-in-Ok.view_is) (are_paired _ _ _ c.self-in-Ok.inside.index c.self-in-Ok.invariant.housed)
