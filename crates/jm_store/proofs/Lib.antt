@@ -9,6 +9,7 @@ pub mod AfterLemmas
 pub mod PlacingLemmas
 pub mod CommitLemmas
 pub mod PermuteLemmas
+pub mod PlanningLemmas
 pub mod PassLemmas
 pub mod EventLemmas
 pub mod FitLemmas

@@ -7,11 +7,22 @@ use Rattle.std.proofs.lemmas.Bool.{cases_eq, cases_order}
 use Rattle.std.proofs.lemmas.List.{get_or-set_same, get_or-set_other, get_or_default}
 use Rattle.std.proofs.lemmas.List.Sorted.{IsPermutation-keeps}
 
-module _ {X : Type 0} where
-  -- where the element at k of the list with i and j swapped comes from
-  abbrev IsFrom : ℕ → ℕ → ℕ → ℕ → Type 0
-  IsFrom i j k n = ((k ≡ j) × (n ≡ i)) ⊎ ((k ≢ j) × (((k ≡ i) × (n ≡ j)) ⊎ ((k ≢ i) × (n ≡ k))))
+-- where the element at k of the list with i and j swapped comes from
+abbrev IsFrom : ℕ → ℕ → ℕ → ℕ → Type 0
+IsFrom i j k n = ((k ≡ j) × (n ≡ i)) ⊎ ((k ≢ j) × (((k ≡ i) × (n ≡ j)) ⊎ ((k ≢ i) × (n ≡ k))))
 
+from_apart : (i j a b n m : ℕ) → IsFrom i j a n → IsFrom i j b m → (a ≡ b → ⊥) → n ≡ m → ⊥
+from_apart i j a b n m (inl p) (inl q) ne same = ne (p.0 ∙ sym q.0)
+from_apart i j a b n m (inl p) (inr (u, inl q)) ne same = ne (omega (arith, p.0, p.1, q.0, q.1, same))
+from_apart i j a b n m (inl p) (inr (u, inr q)) ne same = q.0 (omega (arith, p.0, p.1, q.1, same))
+from_apart i j a b n m (inr (u, inl p)) (inl q) ne same = ne (omega (arith, p.0, p.1, q.0, q.1, same))
+from_apart i j a b n m (inr (u, inr p)) (inl q) ne same = p.0 (omega (arith, p.1, q.0, q.1, same))
+from_apart i j a b n m (inr (u, inl p)) (inr (v, inl q)) ne same = ne (p.0 ∙ sym q.0)
+from_apart i j a b n m (inr (u, inl p)) (inr (v, inr q)) ne same = v (omega (arith, p.0, p.1, q.1, same))
+from_apart i j a b n m (inr (u, inr p)) (inr (v, inl q)) ne same = u (omega (arith, p.1, q.0, q.1, same))
+from_apart i j a b n m (inr (u, inr p)) (inr (v, inr q)) ne same = ne (omega (arith, p.1, q.1, same))
+
+module _ {X : Type 0} where
   record IsSwapped (l : List X) (i j k : ℕ) (d : X) : Type 0 where
     place : ℕ
     within : place < length l
@@ -46,17 +57,6 @@ module _ {X : Type 0} where
         ]
       ]
 
-  from_apart : (i j a b n m : ℕ) → IsFrom i j a n → IsFrom i j b m → (a ≡ b → ⊥) → n ≡ m → ⊥
-  from_apart i j a b n m (inl p) (inl q) ne same = ne (p.0 ∙ sym q.0)
-  from_apart i j a b n m (inl p) (inr (u, inl q)) ne same = ne (omega (arith, p.0, p.1, q.0, q.1, same))
-  from_apart i j a b n m (inl p) (inr (u, inr q)) ne same = q.0 (omega (arith, p.0, p.1, q.1, same))
-  from_apart i j a b n m (inr (u, inl p)) (inl q) ne same = ne (omega (arith, p.0, p.1, q.0, q.1, same))
-  from_apart i j a b n m (inr (u, inr p)) (inl q) ne same = p.0 (omega (arith, p.1, q.0, q.1, same))
-  from_apart i j a b n m (inr (u, inl p)) (inr (v, inl q)) ne same = ne (p.0 ∙ sym q.0)
-  from_apart i j a b n m (inr (u, inl p)) (inr (v, inr q)) ne same = v (omega (arith, p.0, p.1, q.1, same))
-  from_apart i j a b n m (inr (u, inr p)) (inr (v, inl q)) ne same = u (omega (arith, p.1, q.0, q.1, same))
-  from_apart i j a b n m (inr (u, inr p)) (inr (v, inr q)) ne same = ne (omega (arith, p.1, q.1, same))
-
   module _ (Q : X → X → Type 0) (turn : (x y : X) → Q x y → Q y x) where
     any_two : (l : List X) → AllPairs Q l → (a b : ℕ) (d : X) → a < length l → b < length l → (a ≡ b → ⊥) → Q (get_or l a d) (get_or l b d)
     any_two l h a b d la lb ne =
@@ -72,7 +72,7 @@ module _ {X : Type 0} where
 
     pairs_swap : (l : List X) (i j : ℕ) → i < length l → j < length l → AllPairs Q l → AllPairs Q (swap l i j)
     pairs_swap [] i j li lj h = h
-    pairs_swap (x ∷ ys) i j li lj h a b d lt lb =
+    pairs_swap (x ∷ ys) i j li lj h = λ a b d lt lb.
         let within : b < length (x ∷ ys) = omega (arith, lb, length-swap (x ∷ ys) i j) in
         let one = swapped x ys i j a d li lj (omega (arith, lt, within)) in
         let other = swapped x ys i j b d li lj within in

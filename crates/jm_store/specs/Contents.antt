@@ -104,6 +104,7 @@ pub record ArePlacedOf {S : Type 0} (old new : Contents S) (moves done placed : 
   pub leads : ArePlaced new placed
   pub filled : (pair : Pair) → Contains new.index.list pair → IsFilled new pair ⊎ IsPlannedBy placed pair
   pub each : (move : Move S) → Contains placed move → (first : Move S) × Contains done first × IsPlacedFrom old first move
+      × (AreDistinct moves → move.slot ≡ None → HasInstance (stored_of old) first.monitor.instance)
   pub all : (first : Move S) → Contains done first → (move : Move S) × Contains placed move × IsPlacedFrom old first move
       × (AreDistinct moves → move.slot ≡ None → HasInstance (stored_of old) first.monitor.instance)
   pub kept : (pair : Pair) → Contains old.index.list pair → Contains new.index.list pair
