@@ -8,6 +8,7 @@ pub mod MoveLemmas
 pub mod AfterLemmas
 pub mod PlacingLemmas
 pub mod CommitLemmas
+pub mod OrderLemmas
 pub mod PermuteLemmas
 pub mod PlanningLemmas
 pub mod PassLemmas

@@ -5,16 +5,17 @@ use Rattle.std.specs.List.Sorted.{IsPermutation, IsSortedBy, IsStrictlySortedBy}
 use Rattle.std.proofs.lemmas.Bool.{both_ways, cases_Bool}
 use Rattle.std.proofs.lemmas.Option.{same_Some, none-some}
 use Rattle.std.proofs.lemmas.List.Sorted.{Contains-permutation, IsPermutation-sym}
-use Rattle.jm_model.specs.Bindings.{is_below, is_compatible, join}
+use Rattle.std.proofs.lemmas.List.Elements.{Contains-append_left, Contains-push, Contains-push_cases}
+use Rattle.jm_model.specs.Bindings.{is_below, is_compatible, join, binding_cmp}
 use Rattle.jm_model.specs.Meanings.{Meaning}
 use Rattle.jm_model.specs.declared.binding.Binding.{Binding}
 use Rattle.jm_model.specs.declared.firings.Firing.{Firing}
 use Rattle.jm_semantics.specs.Traces.{ParametricEvent}
 use Rattle.jm_semantics.specs.Answers.{IsAnswer}
 use Rattle.jm_semantics.proofs.ListLemmas.{Contains-map}
-use Rattle.jm_semantics.proofs.BindingLemmas.{below-join_right}
+use Rattle.jm_semantics.proofs.BindingLemmas.{below-join_right, join-gives}
 use Rattle.jm_marks.specs.Marks.{dead_mask_of}
-use Rattle.jm_index.specs.Index.{Pair}
+use Rattle.jm_index.specs.Index.{Pair, AreBelow, IsFitting}
 use Rattle.jm_monitors.specs.declared.stored.Stored.{Stored}
 use Rattle.jm_monitors.specs.Stores.{HasInstance, IsStoreOf}
 use Rattle.jm_monitors.specs.Steps.{IsBase, AreReached, IsReport, IsLiveEvent, AreMarksAfter, NoneCutAbove, IsCutState, IsAliveState}
@@ -25,7 +26,8 @@ use Rattle.jm_store.specs.declared.moves.Move.{Move}
 use Rattle.jm_store.specs.declared.moves.Plan.{Plan}
 use Rattle.jm_store.specs.Slots.{monitor_at, stored_in}
 use Rattle.jm_store.specs.Moves.{IsOutcomeAt, AreMovesOf, AreApart, reached_by, after_moves}
-use Rattle.jm_store.specs.Contents.{Contents, stored_of, ArePlaced, IsPlacedFrom, AreDistinct, ArePlacedOf, ArePaired, IsPlanOf}
+use Rattle.jm_store.specs.Contents.{Contents, stored_of, IsFit, ArePlaced, IsPlacedFrom, AreDistinct, ArePlacedOf, ArePaired, IsPlanOf}
+use Rattle.jm_store.specs.Reports.{instances_of}
 use Rattle.jm_store.proofs.SlotLemmas.{stored_at, place_of}
 use Rattle.jm_store.proofs.GivenLemmas.{given_pairs, pairs_map, pairs_weaker, Contains-from_map}
 use Rattle.jm_store.proofs.HousingLemmas.{same_one}
@@ -71,6 +73,28 @@ module _ (m : Meaning) {S : Type 0} (Stands : S → List ℕ → Type 0) (letter
       let has = slot_base move k there slot in
       subst (λ (t : Binding). Contains {X = Pair} pairs (record { binding = t; slot = k })) (sym has.same) (paired k has.base has.at)
 
+  pub moves_within : (n : ℕ) → ((s : Stored S) → Contains (stored_in monitors) s → AreBelow n s.instance) → AreBelow n b → (move : Move S) → Contains moves move → AreBelow n move.monitor.instance
+  moves_within n stored mine move there =
+      let (k, among, has) = move_base m Stands letter b dead marks monitors known moves all move there in
+      subst (AreBelow n) (sym has.moved.advanced.instance)
+      (λ o binds. elim (join-gives has.base.instance b binds.0 o binds.1) [
+        | inl left ↦ stored has.base (stored_at monitors k has.base has.at) o (binds.0, left)
+        | inr right ↦ mine o (binds.0, right)
+      ])
+
+pub fit_same : {S : Type 0} (old new : Contents S) (dead : List Bool) → stored_of new ≡ stored_of old → new.marks ≡ old.marks → IsFitting new.index dead → IsFit old dead → IsFit new dead
+fit_same {S} old new dead stored marks fits fit = record {
+  instances = λ s there. fit.instances s (subst (λ (l : List (Stored S)). Contains l s) stored there);
+  marks = λ b there. fit.marks b (subst (λ (l : List Binding). Contains l b) marks there);
+  index = fits;
+}
+
+pub marks_push : (marks : List Binding) (b : Binding) → AreMarksAfter b marks (marks ++ b ∷ [])
+marks_push marks b t = (
+  (λ h. elim (Contains-push_cases marks b t h) [ inl before ↦ inl before | inr is ↦ inr (sym is) ]),
+  (λ h. elim h [ inl before ↦ Contains-append_left marks (b ∷ []) t before | inr is ↦ subst (λ (x : Binding). Contains (marks ++ b ∷ []) x) (sym is) (Contains-push marks b) ]),
+)
+
 -- in another order
 pub apart_permuted : {S : Type 0} (xs ys : List (Move S)) → IsPermutation xs ys → AreApart xs → AreApart ys
 apart_permuted xs ys p h = pairs_permuted (λ x y. (n : ℕ) → x.slot ≡ Some n → y.slot ≡ Some n → ⊥) (λ x y q n at is. q n is at) xs ys p h
@@ -80,7 +104,7 @@ distinct_permuted xs ys p h = pairs_permuted (λ x y. x.monitor.instance ≢ y.m
 
 module _ (m : Meaning) {S : Type 0} (Stands : S → List ℕ → Type 0) (letter : ℕ) (b : Binding) (dead : List Bool) (known : Bool) (old new : Contents S) (moves sorted placed : List (Move S))
     (all : AreMovesOf m Stands letter b dead old.marks known old.monitors moves) (marked : IsTrue known → Contains old.marks b) (order : IsPermutation moves sorted)
-    (p : ArePlacedOf old new sorted sorted placed) (paired : ArePaired new) (same : (k : ℕ) → monitor_at new.monitors k ≡ monitor_at old.monitors k) (stored : stored_of new ≡ stored_of old)
+    (p : ArePlacedOf old new sorted sorted placed) (paired : ArePaired new) (same : (k : ℕ) → monitor_at new.monitors k ≡ monitor_at old.monitors k) (stored : stored_of new ≡ stored_of old) (marks_same : new.marks ≡ old.marks)
     (trace : List ParametricEvent) (store : IsStoreOf m Stands trace dead (stored_of old) old.marks) (live : IsLiveEvent m dead letter b) where
   single_new : AreSingle new.monitors
   single_new j k r s at is e =
@@ -265,3 +289,15 @@ module _ (m : Meaning) {S : Type 0} (Stands : S → List ℕ → Type 0) (letter
       let after = after_event m Stands b dead new.monitors placed slotted single_new in
       event_keeps_store-lem m Stands trace dead (stored_of old) (reached_by placed) (stored_in (after_moves placed new.monitors)) old.marks marks letter b store live reached_placed
       (rw stored at after) added
+
+  pub sorted_distinct : AreDistinct sorted
+  sorted_distinct = distinct_permuted moves sorted order distinct
+
+  -- the plan of the event
+  pub plan_works : (firings : List Firing) → IsReport m Stands (reached_by sorted) firings → (plan : Plan S) → plan.binding ≡ b → plan.moves.items ≡ placed → plan.answer ≡ firings
+      → IsPlanOf m Stands trace dead letter new plan
+  plan_works firings report plan is moves' answer = record {
+    store = λ marks added. rw (is, moves') (carried_out marks (subst (λ (t : Binding). AreMarksAfter t old.marks marks) is (rw marks_same at added))).0;
+    none_cut = rw (is, moves') (carried_out (old.marks ++ b ∷ []) (marks_push old.marks b)).1;
+    answer = rw (is, answer) (answer_sorted firings report);
+  }

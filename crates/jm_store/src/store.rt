@@ -143,9 +143,7 @@ impl<M: Monitor> Store<M> {
             known: self.marks.contains(binding),
         };
         let mut moves = self.reach(&event, steps)?;
-        if moves.len() > 1 {
-            arrange(&mut moves);
-        }
+        arrange(&mut moves);
         let answer = report(*self.domains.allocator(), rules, &moves)?;
         let copy = answer.copy()?;
         let moves = self.open_plan(moves)?;
