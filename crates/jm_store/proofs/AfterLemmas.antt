@@ -20,7 +20,7 @@ use Rattle.jm_store.specs.Moves.{moved_at, after_move, after_moves, reached_by, 
 use Rattle.jm_store.proofs.SlotLemmas.{stored_at, place_of}
 use Rattle.jm_store.proofs.GivenLemmas.{pairs_head, pairs_tail, pairs_cons, pairs_none, Contains-from_map}
 
-slot_is : (o : Option ℕ) (k : ℕ) → (o ≡ Some k) ⊎ (o ≡ Some k → ⊥)
+pub slot_is : (o : Option ℕ) (k : ℕ) → (o ≡ Some k) ⊎ (o ≡ Some k → ⊥)
 slot_is None k = inr (λ e. none-some k e)
 slot_is (Some j) k = elim (cases_eq j k) [ inl same ↦ inl (ap (λ (n : ℕ). Some n) same) | inr other ↦ inr (λ e. other (same_Some j k e)) ]
 
@@ -52,11 +52,11 @@ module _ {S : Type 0} where
   length-after [] monitors = refl
   length-after (x ∷ moves) monitors = length-moved x.slot (cond x.stays (Some x.monitor) None) (after_moves moves monitors) ∙ length-after moves monitors
 
-  moved_other : (slot : Option ℕ) (next : Option (Stored S)) (monitors : List (Option (Stored S))) (k : ℕ) → (slot ≡ Some k → ⊥) → monitor_at (moved_at slot next monitors) k ≡ monitor_at monitors k
+  pub moved_other : (slot : Option ℕ) (next : Option (Stored S)) (monitors : List (Option (Stored S))) (k : ℕ) → (slot ≡ Some k → ⊥) → monitor_at (moved_at slot next monitors) k ≡ monitor_at monitors k
   moved_other None next monitors k other = refl
   moved_other (Some j) next monitors k other = get_or-set_other monitors j k next None (λ same. other (ap (λ (n : ℕ). Some n) (sym same)))
 
-  moved_here : (slot : Option ℕ) (next : Option (Stored S)) (monitors : List (Option (Stored S))) (k : ℕ) → slot ≡ Some k → k < length monitors → monitor_at (moved_at slot next monitors) k ≡ next
+  pub moved_here : (slot : Option ℕ) (next : Option (Stored S)) (monitors : List (Option (Stored S))) (k : ℕ) → slot ≡ Some k → k < length monitors → monitor_at (moved_at slot next monitors) k ≡ next
   moved_here slot next monitors k is lt = rw is (get_or-set_same monitors k next None lt)
 
   pub after_hit : (moves : List (Move S)) (monitors : List (Option (Stored S))) (move : Move S) (k : ℕ) → AreApart moves → Contains moves move → move.slot ≡ Some k → k < length monitors

@@ -1,15 +1,23 @@
 -- Stores that fit a table of objects.
-use Rattle.std.proofs.Common.{◌≡◌, ℕ, Bool, true, false, List, [], ◌∷◌, ◌++◌, length, refl, sym, ap, ◌∙◌, subst}
-use Rattle.std.specs.Prelude.{Option, Some, None, Contains}
+use Rattle.std.proofs.Common.{◌≡◌, ◌≢◌, ℕ, zero, suc, inl, inr, Bool, true, false, List, [], ◌∷◌, ◌++◌, length, refl, sym, ap, ◌∙◌, subst}
+use Rattle.std.specs.Prelude.{Option, Some, None, Contains, AllPairs}
+use Rattle.std.proofs.lemmas.Bool.{false≢true}
+use Rattle.std.proofs.lemmas.Option.{none-some}
+use Rattle.jm_model.specs.Bindings.{mask_of, empty}
+use Rattle.jm_semantics.proofs.BindingLemmas.{unbound-gives}
+use Rattle.jm_semantics.proofs.ListLemmas.{Contains-cons_cases, Contains-head}
 use Rattle.jm_model.specs.declared.binding.Binding.{Binding}
 use Rattle.jm_index.specs.Index.{Pair, PairList, IsFitting, AreBelow}
 use Rattle.jm_index.proofs.ReadLemmas.{Contains-none}
 use Rattle.jm_monitors.specs.declared.stored.Stored.{Stored}
 use Rattle.jm_store.specs.declared.monitors.Slot.{Slot}
-use Rattle.jm_store.specs.Slots.{monitors_of, monitor_at, stored_in}
-use Rattle.jm_store.specs.Contents.{Contents, IsFit}
-use Rattle.jm_store.specs.Housing.{IsHoused}
+use Rattle.jm_store.specs.Slots.{IsUsed, slot_at, monitors_of, monitor_at, stored_in}
+use Rattle.jm_store.specs.Contents.{Contents, IsFit, ArePaired}
+use Rattle.jm_store.specs.Housing.{IsHoused, IsKept}
+use Rattle.jm_store.specs.declared.monitors.Slot.TheVariants.{Taken}
 use Rattle.jm_store.proofs.SlotLemmas.{place_of}
+use Rattle.jm_store.proofs.GivenLemmas.{pairs_cons, pairs_none}
+use Rattle.jm_store.proofs.CommitLemmas.{housed_within}
 
 module _ {S : Type 0} where
   pub vacant_fits : (index : PairList) (dead : List Bool) → IsFitting index dead → IsFit {S = S} (record { monitors = []; marks = []; is_open = false; index = index }) dead
@@ -29,3 +37,37 @@ module _ {S : Type 0} where
     marks = below;
     index = fits;
   }
+
+  pub are_paired : (slots : List (Slot S)) (marks : List Binding) (open' : Bool) (index : PairList) → IsHoused slots index.list
+      → ArePaired (record { monitors = monitors_of slots; marks = marks; is_open = open'; index = index })
+  are_paired slots marks open' index h = record { paired = h.paired; bindings = h.bindings; within = housed_within slots index.list h }
+
+  -- one monitor, and its pair
+  pub kept_first : (s : Stored S) (d spare : ℕ) → mask_of s.instance ≡ d → IsKept (Taken s ∷ []) (record { binding = s.instance; slot = 0 } ∷ []) (d ∷ []) false spare
+  kept_first s d spare is =
+      let pair : Pair = record { binding = s.instance; slot = 0 } in
+      record {
+        housed = record { paired = paired; used = λ p there. used p (only pair p there); bindings = one_pair (λ a b. a.binding ≢ b.binding) pair; slots_apart = one_pair (λ a b. a.slot ≢ b.slot) pair };
+        domains = record { distinct = one_pair (λ a b. a ≢ b) d; listed = λ p there. rw (← only pair p there) (rw is (Contains-head d [])) };
+        settled = λ e p there. rw (← only pair p there) (s, refl);
+        room = λ e. absurd (false≢true e);
+      }
+    where
+      only : {X : Type 0} (x y : X) → Contains (x ∷ []) y → x ≡ y
+      only x y there = elim (Contains-cons_cases x [] y there) [ inl same ↦ same | inr none ↦ absurd (Contains-none y none) ]
+
+      one_pair : {X : Type 0} (Q : X → X → Type 0) (x : X) → AllPairs Q (x ∷ [])
+      one_pair Q x = pairs_cons Q x [] (λ y there. absurd (Contains-none y there)) (pairs_none Q)
+
+      used : (p : Pair) → record { binding = s.instance; slot = 0 } ≡ p → IsUsed (slot_at (Taken s ∷ []) p.slot)
+      used p e = subst (λ (q : Pair). IsUsed (slot_at (Taken s ∷ []) q.slot)) e tt
+
+      paired : (k : ℕ) (r : Stored S) → monitor_at (monitors_of (Taken s ∷ [])) k ≡ Some r → Contains {X = Pair} (record { binding = s.instance; slot = 0 } ∷ []) (record { binding = r.instance; slot = k })
+      paired zero r at =
+          let same : s ≡ r = cc in
+          let pair : Pair = record { binding = s.instance; slot = 0 } in
+          subst (λ (x : Stored S). Contains {X = Pair} (pair ∷ []) (record { binding = x.instance; slot = 0 })) same (Contains-head pair [])
+      paired (suc k) r at = absurd (none-some r at)
+
+pub below_empty : (n : ℕ) → AreBelow n empty
+below_empty n o (p, at) = absurd (unbound-gives 8 p o at)

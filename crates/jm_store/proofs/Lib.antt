@@ -7,6 +7,11 @@ pub mod VisitLemmas
 pub mod MoveLemmas
 pub mod AfterLemmas
 pub mod PlacingLemmas
+pub mod CommitLemmas
+pub mod OrderLemmas
+pub mod PermuteLemmas
+pub mod PlanningLemmas
+pub mod PassLemmas
 pub mod EventLemmas
 pub mod FitLemmas
 pub mod ListLemmas

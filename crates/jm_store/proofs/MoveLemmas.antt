@@ -22,7 +22,7 @@ use Rattle.jm_store.proofs.GivenLemmas.{given_each, given_all, given_pairs, pair
 pub join_above : (b t : Binding) → is_compatible t b ≡ true → is_below b t ≡ true → join t b ≡ t
 join_above b t compatible below = below-antisym (join t b) t (join-below t b t (below-refl t) below) (below-join_left t b compatible)
 
-compatible_above : (b t : Binding) → is_below b t ≡ true → is_compatible t b ≡ true
+pub compatible_above : (b t : Binding) → is_below b t ≡ true → is_compatible t b ≡ true
 compatible_above b t below = below-compatible t b t (below-refl t) below
 
 module _ (m : Meaning) {S : Type 0} (Stands : S → List ℕ → Type 0) (letter : ℕ) (b : Binding) (dead : List Bool) (marks : List Binding) (monitors : List (Option (Stored S))) where
@@ -70,7 +70,7 @@ module _ (m : Meaning) {S : Type 0} (Stands : S → List ℕ → Type 0) (letter
           may (inl is) = elim base.1 [ inl below ↦ inr below | inr new ↦ absurd (new.0 (marked is)) ]
 
       -- what becomes of a monitor that the event reaches
-      becomes : (k : ℕ) (s : Stored S) → monitor_at monitors k ≡ Some s → IsBase b marks s
+      pub becomes : (k : ℕ) (s : Stored S) → monitor_at monitors k ≡ Some s → IsBase b marks s
           → ((move : Move S) × Contains moves move × IsMoved m Stands letter b dead marks k s move)
           ⊎ ((is_below b s.instance ≡ false) × ((state : S) × Follows Stands letter s.state state × IsLost m Stands state (dead_mask_of dead (join s.instance b))))
       becomes k s at base =
@@ -82,6 +82,20 @@ module _ (m : Meaning) {S : Type 0} (Stands : S → List ℕ → Type 0) (letter
               ⊎ ((is_below b s.instance ≡ false) × ((state : S) × Follows Stands letter s.state state × IsLost m Stands state (dead_mask_of dead (join s.instance b))))
           split None left among = elim left [ inl none ↦ absurd (none base) | inr lost ↦ inr lost ]
           split (Some move) moved among = inl (move, among move refl, moved)
+
+      -- distinct instances, where each is made of one base
+      pub distinct_moves : ((r s : Stored S) → Contains (stored_in monitors) r → Contains (stored_in monitors) s → IsBase b marks r → IsBase b marks s → join r.instance b ≡ join s.instance b
+              → r.instance ≡ s.instance)
+          → ((j k : ℕ) (r s : Stored S) → monitor_at monitors j ≡ Some r → monitor_at monitors k ≡ Some s → r.instance ≡ s.instance → j ≡ k)
+          → AllPairs (λ x y. x.monitor.instance ≢ y.monitor.instance) moves
+      distinct_moves one housed =
+          given_pairs (IsOutcomeAt m Stands letter b dead marks monitors) (λ j k. j ≢ k) (λ x y. x.monitor.instance ≢ y.monitor.instance) all.slots moves all.given all.visit.apart
+          (λ j k x y apart mine other same.
+          let p = base_of j x mine in
+          let q = base_of k y other in
+          let joined = sym p.moved.advanced.instance ∙ same ∙ q.moved.advanced.instance in
+          apart (housed j k p.base q.base p.at q.at
+          (one p.base q.base (stored_at monitors j p.base p.at) (stored_at monitors k q.base q.at) p.moved.is_base q.moved.is_base joined)))
 
       -- the reached monitors, where each instance is made of one base
       pub are_reached : ((r s : Stored S) → Contains (stored_in monitors) r → Contains (stored_in monitors) s → IsBase b marks r → IsBase b marks s → join r.instance b ≡ join s.instance b

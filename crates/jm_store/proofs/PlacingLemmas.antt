@@ -51,11 +51,15 @@ module _ {S : Type 0} where
     planned_more : (pair : Pair) (move : Move S) → IsPlannedBy placed pair → IsPlannedBy (placed ++ move ∷ []) pair
     planned_more pair move (other, there, slot, binding) = (other, Contains-append_left placed (move ∷ []) other there, slot, binding)
 
-    each_more : (move : Move S) → IsPlacedFrom old step move → (other : Move S) → Contains (placed ++ move ∷ []) other → (first : Move S) × Contains (step ∷ done) first × IsPlacedFrom old first other
-    each_more move from other there =
+    each_more : (move : Move S) → IsPlacedFrom old step move → (AreDistinct moves → move.slot ≡ None → HasInstance (stored_of old) step.monitor.instance)
+        → (other : Move S) → Contains (placed ++ move ∷ []) other
+        → (first : Move S) × Contains (step ∷ done) first × IsPlacedFrom old first other × (AreDistinct moves → other.slot ≡ None → HasInstance (stored_of old) first.monitor.instance)
+    each_more move from missed other there =
         elim (Contains-push_cases placed move other there) [
-          | inl before ↦ let (first, among, is) = h.each other before in (first, Contains-cons step first done among, is)
-          | inr same ↦ (step, Contains-head step done, subst (IsPlacedFrom old step) same from)
+          | inl before ↦ let (first, among, is, rest') = h.each other before in (first, Contains-cons step first done among, is, rest')
+          | inr same ↦
+              subst (λ (x : Move S). (first : Move S) × Contains (step ∷ done) first × IsPlacedFrom old first x × (AreDistinct moves → x.slot ≡ None → HasInstance (stored_of old) first.monitor.instance)) same
+              (step, Contains-head step done, from, missed)
         ]
 
     all_more : (move : Move S) → IsPlacedFrom old step move → (AreDistinct moves → move.slot ≡ None → HasInstance (stored_of old) step.monitor.instance)
@@ -93,14 +97,14 @@ module _ {S : Type 0} where
                 (subst (λ (j : ℕ). Contains new.index.list (record { binding = step.monitor.instance; slot = j })) at (on _ (h.kept _ mine)))
           ];
           filled = λ pair there. elim (h.filled pair (back pair there)) [ inl full ↦ inl (full_later pair full) | inr planned ↦ inr (planned_more pair move planned) ];
-          each = each_more move from;
+          each = each_more move from (λ distinct none. absurd (none-some k (sym none)));
           all = all_more move from (λ distinct none. absurd (none-some k (sym none)));
           kept = λ pair there. on pair (h.kept pair there);
         }
       where
         clash : (k : ℕ) → step.slot ≡ Some k → Contains old.index.list (record { binding = step.monitor.instance; slot = k }) → (other : Move S) → Contains placed other → other.slot ≡ Some k → ⊥
         clash k had mine other there slot =
-            let (first, among, is) = h.each other there in
+            let (first, among, is, missed) = h.each other there in
             from_slot first.slot first among is refl
           where
             from_slot : (o : Option ℕ) → (first : Move S) → Contains done first → IsPlacedFrom old first other → first.slot ≡ o → ⊥
@@ -116,6 +120,13 @@ module _ {S : Type 0} where
         → ArePlacedOf old new moves (step ∷ done) (placed ++ with_slot step None ∷ [])
     placed_missed none same (pair, within, is) =
         let move = with_slot step None in
+        let missed : AreDistinct moves → move.slot ≡ None → HasInstance (stored_of old) step.monitor.instance = λ distinct e. elim (h.filled pair within) [
+          | inl full ↦ (full.0, stored_at old.monitors pair.slot full.0 (sym (monitors pair.slot) ∙ full.1), full.2 ∙ is)
+          | inr planned ↦
+              let (first, among, from', missed') = h.each planned.0 planned.1 in
+              absurd (pairs_split (λ x y. x.monitor.instance ≢ y.monitor.instance) rest step done (subst AreDistinct split distinct) first among
+              (sym is ∙ sym planned.3 ∙ ap (λ (s : Stored S). s.instance) from'.monitor))
+        ] in
         let from : IsPlacedFrom old step move = record { monitor = refl; stays = refl; kept = λ n slot. absurd (none-some n (sym none ∙ slot)); got = λ n e slot. absurd (none-some n slot) } in
         let back : (p : Pair) → Contains new.index.list p → Contains mid.index.list p = λ p. subst (λ (l : List Pair). Contains l p) same in
         let on : (p : Pair) → Contains mid.index.list p → Contains new.index.list p = λ p. subst (λ (l : List Pair). Contains l p) (sym same) in
@@ -126,14 +137,8 @@ module _ {S : Type 0} where
             | inr e ↦ absurd (none-some n (ap (λ (x : Move S). x.slot) e ∙ slot))
           ];
           filled = λ p there. elim (h.filled p (back p there)) [ inl full ↦ inl (full_later p full) | inr planned ↦ inr (planned_more p move planned) ];
-          each = each_more move from;
-          all = all_more move from (λ distinct e. elim (h.filled pair within) [
-            | inl full ↦ (full.0, stored_at old.monitors pair.slot full.0 (sym (monitors pair.slot) ∙ full.1), full.2 ∙ is)
-            | inr planned ↦
-                let (first, among, from') = h.each planned.0 planned.1 in
-                absurd (pairs_split (λ x y. x.monitor.instance ≢ y.monitor.instance) rest step done (subst AreDistinct split distinct) first among
-                (sym is ∙ sym planned.3 ∙ ap (λ (s : Stored S). s.instance) from'.monitor))
-          ]);
+          each = each_more move from missed;
+          all = all_more move from missed;
           kept = λ p there. on p (h.kept p there);
         }
 
@@ -165,7 +170,7 @@ module _ {S : Type 0} where
             | inl before ↦ elim (h.filled p before) [ inl full ↦ inl (full_later p full) | inr planned ↦ inr (planned_more p move planned) ]
             | inr is ↦ inr (move, Contains-push placed move, ap (λ (x : Pair). Some x.slot) is, ap (λ (x : Pair). x.binding) is)
           ];
-          each = each_more move from;
+          each = each_more move from (λ distinct e. absurd (none-some k (sym e)));
           all = all_more move from (λ distinct e. absurd (none-some k (sym e)));
           kept = λ p there. on p (h.kept p there);
         }
@@ -203,7 +208,9 @@ module _ {S : Type 0} where
     apart = h.apart;
     leads = h.leads;
     filled = h.filled;
-    each = λ move there. let (first, among, is) = h.each move there in (first, among, from_same old other first move same is);
+    each = λ move there.
+        let (first, among, is, missed) = h.each move there in
+        (first, among, from_same old other first move same is, λ distinct none. subst (λ (l : List (Option (Stored S))). HasInstance (stored_in l) first.monitor.instance) (sym same) (missed distinct none));
     all = λ first there.
         let (move, among, is, missed) = h.all first there in
         (move, among, from_same old other first move same is, λ distinct none. subst (λ (l : List (Option (Stored S))). HasInstance (stored_in l) first.monitor.instance) (sym same) (missed distinct none));

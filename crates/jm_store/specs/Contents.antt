@@ -1,5 +1,5 @@
 -- What contracts see of a store, and what a plan is for it.
-use Rattle.std.specs.Prelude.{ℕ, ◌≡◌, Bool, List, [], ◌∷◌, ◌++◌, Option, Some, None, Contains, length, ◌⊎◌, ◌≢◌, AllPairs}
+use Rattle.std.specs.Prelude.{ℕ, ◌≡◌, ◌<◌, Bool, List, [], ◌∷◌, ◌++◌, Option, Some, None, Contains, length, ◌⊎◌, ◌≢◌, AllPairs}
 use Rattle.jm_model.specs.Meanings.{Meaning}
 use Rattle.jm_model.specs.declared.binding.Binding.{Binding}
 use Rattle.jm_semantics.specs.Traces.{ParametricEvent}
@@ -104,6 +104,13 @@ pub record ArePlacedOf {S : Type 0} (old new : Contents S) (moves done placed : 
   pub leads : ArePlaced new placed
   pub filled : (pair : Pair) → Contains new.index.list pair → IsFilled new pair ⊎ IsPlannedBy placed pair
   pub each : (move : Move S) → Contains placed move → (first : Move S) × Contains done first × IsPlacedFrom old first move
+      × (AreDistinct moves → move.slot ≡ None → HasInstance (stored_of old) first.monitor.instance)
   pub all : (first : Move S) → Contains done first → (move : Move S) × Contains placed move × IsPlacedFrom old first move
       × (AreDistinct moves → move.slot ≡ None → HasInstance (stored_of old) first.monitor.instance)
   pub kept : (pair : Pair) → Contains old.index.list pair → Contains new.index.list pair
+
+-- The index has the pair of each monitor's instance and slot, no two pairs of one binding, and none of a slot that isn't there.
+pub record ArePaired {S : Type 0} (store : Contents S) : Type 0 where
+  pub paired : (k : ℕ) (s : Stored S) → monitor_at store.monitors k ≡ Some s → Contains store.index.list (record { binding = s.instance; slot = k })
+  pub bindings : AllPairs (λ a b. a.binding ≢ b.binding) store.index.list
+  pub within : (pair : Pair) → Contains store.index.list pair → pair.slot < length store.monitors

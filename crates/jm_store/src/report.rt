@@ -16,6 +16,16 @@ pub(crate) fn arrange<S>(moves: &mut Vec<Move<S>>)
     ensures same { IsPermutation moves.old.items moves.new.items }
     ensures ordered { IsSortedBy (λ x y. is_lt (binding_cmp x.monitor.instance y.monitor.instance)) moves.new.items }
 {
+    if moves.len() > 1 {
+        sort_moves(moves);
+    }
+}
+
+/// The same, where there are several.
+fn sort_moves<S>(moves: &mut Vec<Move<S>>)
+    ensures same { IsPermutation moves.old.items moves.new.items }
+    ensures ordered { IsSortedBy (λ x y. is_lt (binding_cmp x.monitor.instance y.monitor.instance)) moves.new.items }
+{
     moves.sort_unstable_by(|x, y| x.monitor.instance.cmp(&y.monitor.instance));
 }
 

@@ -8,13 +8,13 @@ ghost use Rattle.jm_model.specs.declared.binding.Binding.{Binding as Bound};
 ghost use Rattle.jm_semantics.specs.Traces.{ParametricEvent};
 ghost use Rattle.jm_index.specs.Index.{Pair, IsKey, flag_of, AreBelow, AreLive, IsFitting, without};
 ghost use Rattle.jm_monitors.specs.Stores.{IsStoreOf};
-ghost use Rattle.jm_monitors.specs.Steps.{IsLiveEvent, IsAfterPass, AreMarksAfter, IsCutState, IsAliveState};
+ghost use Rattle.jm_monitors.specs.Steps.{IsAtStart, IsLiveEvent, IsAfterPass, AreMarksAfter, IsCutState, IsAliveState};
 ghost use Rattle.jm_store.specs.Slots.{monitor_at, stored_in};
 ghost use Rattle.jm_store.specs.Moves.{AreGiven, IsOutcomeAt, IsPushed, IsCompatibleAt, AreMovesOf, AreApart, LieWithin, IsSwept, after_move, pairs_after};
-ghost use Rattle.jm_store.specs.Contents.{Contents, stored_of, monitors_after, IsFit, IsFilled, IsPlannedBy, IsPlaced, ArePlaced, IsPlacedNext, ArePlacedOf, IsPlanFor, IsPlanOf};
+ghost use Rattle.jm_store.specs.Contents.{Contents, stored_of, monitors_after, IsFit, IsFilled, IsPlannedBy, IsPlaced, ArePlaced, IsPlacedNext, ArePlacedOf, ArePaired, IsPlanFor, IsPlanOf};
 
 use crate::event::Event;
-use crate::monitors::Monitors;
+use crate::monitors::{Monitors, Slot};
 use crate::moves::{Move, Plan};
 use crate::report::{arrange, report};
 use crate::steps::Steps;
@@ -54,16 +54,17 @@ impl<M: Monitor> Model for Store<M> {
 impl<M: Monitor> Store<M> {
     /// The empty binding with a state that stands for the empty word, unless that is cut; and no mark.
     pub fn new(alloc: Global, rules: &M) -> Result<Store<M>, NoMemory>
-        ensures stored { IfOk result (λ store. IsStoreOf (M.meaning (M.definition rules.now)) (M.StandsFor rules.now) [] [] (stored_of store) store.marks) }
+        ensures stored { IfOk result (λ store. IsAtStart (M.meaning (M.definition rules.now)) (M.StandsFor rules.now) (stored_of store)) }
         ensures marks { IfOk result (λ store. store.marks ≡ []) }
         ensures closed { IfOk result (λ store. store.is_open ≡ false) }
         ensures fits { IfOk result (λ store. (dead : List Bool) → IsFit store dead) }
     {
-        let mut store = Store::vacant(alloc);
         let state = rules.begin()?;
-        if !rules.cut(&state, 0) {
-            store.begin(state)?;
+        if rules.cut(&state, 0) {
+            return Ok(Store::vacant(alloc));
         }
+        let instance = Binding::empty();
+        let store = Store::with_first(alloc, Stored { instance, state })?;
         Ok(store)
     }
 
@@ -84,26 +85,27 @@ impl<M: Monitor> Store<M> {
         }
     }
 
-    /// Stores the first monitor, that of the empty binding.
-    fn begin(&mut self, state: M::State) -> Result<(), NoMemory>
-        requires vacant { self.old.index.list ≡ [] }
-        requires none { stored_of self.old ≡ [] }
-        ensures marks { self.new.marks ≡ self.old.marks }
-        ensures closed { OnOk result (self.new.is_open ≡ false) }
-        ensures stored { OnOk result (stored_of self.new ≡ record { instance = empty; state = state } ∷ []) }
-        ensures fits { (dead : List Bool) → IsFit self.old dead → IsFit self.new dead }
+    /// One monitor, that of the empty binding, and no mark.
+    fn with_first(alloc: Global, monitor: Stored<M::State>) -> Result<Store<M>, NoMemory>
+        requires { monitor.instance ≡ empty }
+        ensures stored { IfOk result (λ store. stored_of store ≡ monitor ∷ []) }
+        ensures marks { IfOk result (λ store. store.marks ≡ []) }
+        ensures closed { IfOk result (λ store. store.is_open ≡ false) }
+        ensures fits { IfOk result (λ store. (dead : List Bool) → IsFit store dead) }
     {
-        let instance = Binding::empty();
-        self.marks.reserve()?;
-        self.is_open = true;
-        let slot = self.place(&instance)?;
-        self.carry_out(Move {
-            slot,
-            monitor: Stored { instance, state },
-            stays: true,
-        });
-        self.is_open = false;
-        Ok(())
+        let mut index = Index::new(alloc);
+        index.add(monitor.instance, 0)?;
+        let mut domains = Vec::new(alloc);
+        domains.push(monitor.instance.mask())?;
+        let mut slots = Vec::new(alloc);
+        slots.push(Slot::Taken(monitor))?;
+        Ok(Store {
+            monitors: Monitors { slots, free: 1 },
+            index,
+            marks: Marks::new(alloc),
+            domains,
+            is_open: false,
+        })
     }
 
     /// Works out an event, and makes all growths. The contents are as before. Only monitors that are compatible with the
@@ -141,9 +143,7 @@ impl<M: Monitor> Store<M> {
             known: self.marks.contains(binding),
         };
         let mut moves = self.reach(&event, steps)?;
-        if moves.len() > 1 {
-            arrange(&mut moves);
-        }
+        arrange(&mut moves);
         let answer = report(*self.domains.allocator(), rules, &moves)?;
         let copy = answer.copy()?;
         let moves = self.open_plan(moves)?;
@@ -240,12 +240,16 @@ impl<M: Monitor> Store<M> {
         ensures closed { OnErr result (self.new.is_open ≡ false) }
         ensures opened { OnOk result (self.new.is_open ≡ true) }
         ensures placed { IfOk result (λ placed. ArePlacedOf self.old self.new moves.items moves.items placed.items) }
+        ensures housed { OnOk result (ArePaired self.new) }
     {
         self.marks.reserve()?;
         self.is_open = true;
         let mut placed = Vec::new(*self.domains.allocator());
         match self.place_all(moves, &mut placed) {
-            Ok(()) => Ok(placed),
+            Ok(()) => {
+                let _monitors = &self.monitors;
+                Ok(placed)
+            }
             Err(NoMemory) => {
                 self.take_back(&placed);
                 self.is_open = false;
@@ -415,7 +419,11 @@ impl<M: Monitor> Store<M> {
         ensures marks { self.new.marks ≡ self.old.marks }
         ensures fits { (dead : List Bool) → IsFitting self.old.index dead → IsFitting self.new.index dead }
         ensures index { self.new.index.list ≡ pairs_after step self.old.index.list }
+        ensures bindings { AllPairs (λ a b. a.binding ≢ b.binding) self.old.index.list }
+        ensures slots { AllPairs (λ a b. a.slot ≢ b.slot) self.old.index.list }
+        ensures within { (pair : Pair) → Contains self.old.index.list pair → pair.slot < length self.old.monitors }
     {
+        let _monitors = &self.monitors;
         let Some(slot) = step.slot else { return };
         if step.stays {
             self.monitors.put(slot, step.monitor);

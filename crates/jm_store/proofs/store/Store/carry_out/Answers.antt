@@ -4,6 +4,7 @@ use Rattle.std.proofs.lemmas.List.{map-set}
 use Rattle.jm_index.specs.Index.{Pair}
 use Rattle.jm_store.specs.Slots.{monitor_in}
 use Rattle.jm_store.proofs.KeptLemmas.{kept_put, kept_gone}
+use Rattle.jm_store.proofs.CommitLemmas.{housed_within}
 use Rattle.jm_store.proofs.store.Store.carry_out.Goals as goal
 
 pub invariant_of-self : goal.invariant_of-self
@@ -23,3 +24,12 @@ returns-then-step-clause-monitors g c = rw (← c.self.view_is, c.in-Some.is, c.
 
 pub returns-else-step-clause-monitors : goal.returns-else-step-clause-monitors
 returns-else-step-clause-monitors g c = rw (← c.self.view_is, c.in-Some.is, c.if-step.false, c.release.ensures) (map-set monitor_in _ _ _)
+
+pub returns-then-step-clause-within : goal.returns-then-step-clause-within
+returns-then-step-clause-within g c = rw (← c.self.view_is) (housed_within _ _ c.self.invariant.housed)
+
+pub returns-else-step-clause-within : goal.returns-else-step-clause-within
+returns-else-step-clause-within g c = rw (← c.self.view_is) (housed_within _ _ c.self.invariant.housed)
+
+pub returns-in_default-clause-within : goal.returns-in_default-clause-within
+returns-in_default-clause-within g c = rw (← c.self.view_is) (housed_within _ _ c.self.invariant.housed)

@@ -2,6 +2,7 @@ use Rattle.std.proofs.Common.{◌≡◌, List, refl, sym, ap, ◌∙◌, subst, 
 use Rattle.std.specs.Prelude.{Contains}
 use Rattle.std.proofs.lemmas.Bool.{false≢true}
 use Rattle.jm_store.proofs.VisitLemmas.{settled_monitor}
+use Rattle.jm_store.proofs.FitLemmas.{are_paired}
 use Rattle.jm_store.proofs.PlacingLemmas.{placed_same}
 use Rattle.jm_store.proofs.store.Store.open_plan.Goals as goal
 
@@ -17,13 +18,27 @@ pub take_back-requires-clause-filled : goal.take_back-requires-clause-filled
 take_back-requires-clause-filled g c = rw c.deref.ensures.value c.in-Err.ensures.filled
 
 pub invariant_of-self-in-Err-1 : goal.invariant_of-self-in-Err-1
-invariant_of-self-in-Err-1 g c = ?
+invariant_of-self-in-Err-1 g c =
+    let filled = rw (← c.self-in-Err.view_is) at c.take_back.ensures.filled in
+    record {
+      housed = c.self-in-Err.invariant.housed;
+      domains = c.self-in-Err.invariant.domains;
+      settled = λ e pair there. let full = filled pair there in (full.0, full.1);
+      room = λ e. absurd (false≢true e);
+    }
 
 pub returns-in-Ok-clause-placed : goal.returns-in-Ok-clause-placed
 returns-in-Ok-clause-placed g c = rw (← c.self.view_is) (placed_same _ _ _ c.args.moves.items c.args.moves.items _ refl refl c.in-Ok.ensures.placed)
 
 pub returns-in-Err-clause-monitors : goal.returns-in-Err-clause-monitors
-returns-in-Err-clause-monitors g c = ?
+returns-in-Err-clause-monitors g c =
+    let back = rw (← c.self-in-Err.view_is) at c.take_back.ensures.monitors in
+    rw (← c.self.view_is) (λ k. back k ∙ c.in-Err.ensures.monitors k)
 
 pub returns-in-Err-clause-fits : goal.returns-in-Err-clause-fits
-returns-in-Err-clause-fits g c = ?
+returns-in-Err-clause-fits g c =
+    let back = rw (← c.self-in-Err.view_is) at c.take_back.ensures.fits in
+    rw (← c.self.view_is) (λ dead fits within. back dead (c.in-Err.ensures.fits dead fits within))
+
+pub returns-in-Ok-clause-housed : goal.returns-in-Ok-clause-housed
+returns-in-Ok-clause-housed g c = rw (← c.self-in-Ok.view_is) (are_paired _ _ _ c.self-in-Ok.inside.index c.self-in-Ok.invariant.housed)

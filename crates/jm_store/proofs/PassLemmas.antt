@@ -1,0 +1,72 @@
+-- What a pass leaves.
+use Rattle.std.proofs.Common.{◌≡◌, ◌≢◌, ℕ, zero, suc, ◌+◌, ◌<◌, ◌≤◌, ◌⊎◌, inl, inr, Bool, true, false, cond, List, [], ◌∷◌, ◌++◌, length, get_or, refl, sym, ap, ◌∙◌, subst, arith}
+use Rattle.std.specs.Prelude.{Option, Some, None, Contains, AllPairs, filter}
+use Rattle.std.proofs.lemmas.Bool.{cases_lt}
+use Rattle.std.proofs.lemmas.List.{length-map}
+use Rattle.std.proofs.lemmas.Option.{none-some}
+use Rattle.jm_model.specs.Meanings.{Meaning}
+use Rattle.jm_model.specs.declared.binding.Binding.{Binding}
+use Rattle.jm_semantics.proofs.ListLemmas.{Contains-filter, Contains-from_filter}
+use Rattle.jm_marks.specs.Marks.{dead_mask_of, has_live}
+use Rattle.jm_index.specs.Index.{Pair}
+use Rattle.jm_monitors.specs.declared.stored.Stored.{Stored}
+use Rattle.jm_monitors.specs.Steps.{IsAfterPass, IsCutState, IsAliveState}
+use Rattle.jm_store.specs.declared.monitors.Slot.{Slot}
+use Rattle.jm_store.specs.Slots.{monitor_in, monitors_of, monitor_at, stored_in}
+use Rattle.jm_store.specs.Moves.{IsSwept}
+use Rattle.jm_store.specs.Housing.{IsHoused, IsKept}
+use Rattle.jm_store.proofs.SlotLemmas.{stored_at, place_of}
+use Rattle.jm_store.proofs.HousingLemmas.{pair_by_binding}
+use Rattle.jm_store.proofs.AfterLemmas.{AreSingle, single_stored}
+
+module _ {S : Type 0} where
+  -- no instance stands in two slots
+  pub single_housed : (slots : List (Slot S)) (pairs : List Pair) → IsHoused slots pairs → AreSingle (monitors_of slots)
+  single_housed slots pairs h j k r s at is same =
+      pair_by_binding slots pairs k s.instance h (h.paired k s is) (record { binding = r.instance; slot = j }) (h.paired j r at) same
+
+  pub kept_swept : (slots : List (Slot S)) (pairs left : List Pair) (domains : List ℕ) (open' : Bool) (spare more : ℕ) → IsKept slots pairs domains open' spare → left ≡ pairs → spare ≤ more
+      → IsKept slots left domains open' more
+  kept_swept slots pairs left domains open' spare more h same le =
+      rw same (record { housed = h.housed; domains = h.domains; settled = h.settled; room = λ is. let one = h.room is in omega (arith, one, le) })
+
+  pub all_slots : (slots : List (Slot S)) (n : ℕ) → length slots ≤ n → length (monitors_of slots) ≤ n
+  all_slots slots n le = omega (arith, le, length-map slots monitor_in)
+
+  within_length : (monitors : List (Option (Stored S))) (k : ℕ) (s : Stored S) → monitor_at monitors k ≡ Some s → k < length monitors
+  within_length [] k s at = cc
+  within_length (x ∷ monitors) zero s at = omega arith
+  within_length (x ∷ monitors) (suc k) s at = let lt = within_length monitors k s at in omega (arith, lt)
+
+module _ (m : Meaning) {S : Type 0} (Stands : S → List ℕ → Type 0) (dead : List Bool) where
+  stays : (x y : Option (Stored S)) (s : Stored S) → IsSwept m Stands dead x y → y ≡ Some s → (x ≡ Some s) × IsAliveState m Stands s.state (dead_mask_of dead s.instance)
+  stays None y s swept is = absurd (none-some s (sym swept ∙ is))
+  stays (Some r) None s swept is = absurd (none-some s is)
+  stays (Some r) (Some t) s swept is =
+      let same : t ≡ s = cc in
+      (ap (λ (v : Stored S). Some v) (sym swept.0 ∙ same), subst (λ (v : Stored S). IsAliveState m Stands v.state (dead_mask_of dead v.instance)) (sym swept.0 ∙ same) swept.1)
+
+  goes : (x y : Option (Stored S)) (s : Stored S) → IsSwept m Stands dead x y → x ≡ Some s → (y ≡ Some s) ⊎ IsCutState m Stands s.state (dead_mask_of dead s.instance)
+  goes None y s swept is = absurd (none-some s is)
+  goes (Some r) None s swept is = let same : r ≡ s = cc in inr (subst (λ (v : Stored S). IsCutState m Stands v.state (dead_mask_of dead v.instance)) same swept)
+  goes (Some r) (Some t) s swept is = let same : r ≡ s = cc in inl (ap (λ (v : Stored S). Some v) (swept.0 ∙ same))
+
+  pub after_pass : (old new : List (Option (Stored S))) (n : ℕ) (marks left : List Binding) → length old ≤ n → length new ≡ length old
+      → ((k : ℕ) → k < n → IsSwept m Stands dead (monitor_at old k) (monitor_at new k)) → AreSingle new → left ≡ filter (has_live dead) marks
+      → IsAfterPass m Stands dead (stored_in old) (stored_in new) marks left
+  after_pass old new n marks left all size swept single kept = record {
+    distinct = single_stored new single;
+    kept = λ s there.
+        let (k, at) = place_of new s there in
+        let lt = within_length new k s at in
+        let is = stays (monitor_at old k) (monitor_at new k) s (swept k (omega (arith, lt, size, all))) at in
+        (stored_at old k s is.0, is.1);
+    dropped = λ s there.
+        let (k, at) = place_of old s there in
+        let lt = within_length old k s at in
+        elim (goes (monitor_at old k) (monitor_at new k) s (swept k (omega (arith, lt, all))) at) [ inl is ↦ inl (stored_at new k s is) | inr cut ↦ inr cut ];
+    left_marks = λ b. (
+        (λ there. Contains-from_filter (has_live dead) marks b (subst (λ (l : List Binding). Contains l b) kept there)),
+        (λ both. subst (λ (l : List Binding). Contains l b) (sym kept) (Contains-filter (has_live dead) marks b both.0 both.1)),
+    );
+  }

@@ -1,0 +1,54 @@
+use Rattle.std.proofs.Common.{◌≡◌, ◌++◌, ◌∷◌, [], ◌≤◌, ◌<◌, ℕ, List, inl, inr, length, refl, sym, ap, ◌∙◌, subst, arith, true, false}
+use Rattle.std.specs.Prelude.{Contains}
+use Rattle.std.proofs.lemmas.Grind.{common_steps}
+use Rattle.std.proofs.lemmas.Bool.{false≢true}
+use Rattle.std.proofs.lemmas.List.{length_push}
+use Rattle.jm_store.specs.declared.moves.Move.{Move}
+use Rattle.jm_store.specs.Moves.{AreApart, after_moves}
+use Rattle.jm_store.specs.Contents.{ArePlaced}
+use Rattle.jm_store.proofs.CommitLemmas.{after_push, apart_front, leads_on, filled_on, marks_added, unplanned}
+use Rattle.jm_store.proofs.FitLemmas.{housed_fits}
+use Rattle.jm_store.proofs.store.Store.commit.Goals as goal
+
+pub loop-step-preserved : goal.loop-step-preserved
+loop-step-preserved g c =
+    let inv = rw c.in-Some.ensures.items at c.loop-step.invariant in
+    let carried = c.carry_out.ensures in
+    let rest = c.pop.new.self.items in
+    let step = c.in-Some.step in
+    record {
+      open_now = carried.«open»;
+      monitors = ap (after_moves rest) carried.monitors ∙ sym (after_push rest step c.loop-step.self.monitors) ∙ inv.monitors;
+      marks = carried.marks ∙ inv.marks;
+      fits = λ dead fits. carried.fits dead (inv.fits dead fits);
+      apart = apart_front rest step inv.apart;
+      leads = leads_on c.loop-step.self c.carry_out.new.self rest step carried.bindings carried.slots carried.within inv.apart inv.leads carried.monitors carried.index;
+      filled = filled_on c.loop-step.self c.carry_out.new.self rest step carried.bindings carried.slots carried.within inv.apart inv.leads carried.monitors carried.index inv.filled;
+    }
+
+pub invariant_of-self : goal.invariant_of-self
+invariant_of-self g c =
+    let none : length c.loop-step.moves.items ≡ 0 = grind (arith, common_steps) in
+    let filled = rw (← c.self.view_is) at c.loop-step.invariant.filled in
+    record {
+      housed = c.self.invariant.housed;
+      domains = c.self.invariant.domains;
+      settled = λ e pair there. elim (filled pair there) [ inl full ↦ (full.0, full.1) | inr planned ↦ absurd (unplanned c.loop-step.moves.items pair none planned) ];
+      room = λ e. absurd (false≢true e);
+    }
+
+pub returns-clause-marks : goal.returns-clause-marks
+returns-clause-marks g c =
+    let same = rw (← c.self.view_is) at c.loop-step.invariant.marks in
+    rw (← same) (marks_added _ _ c.args.plan.binding c.add.ensures.known c.add.ensures.unknown)
+
+pub returns-clause-fits : goal.returns-clause-fits
+returns-clause-fits g c =
+    let fits = rw (← c.self.view_is) at c.loop-step.invariant.fits in
+    let same = rw (← c.self.view_is) at c.loop-step.invariant.marks in
+    let added = marks_added _ _ c.args.plan.binding c.add.ensures.known c.add.ensures.unknown in
+    λ dead fit below. housed_fits _ _ _ _ dead c.self.invariant.housed (fits dead fit.index)
+    (λ b there. elim ((added b).0 there) [
+      | inl before ↦ fit.marks b (rw same at before)
+      | inr is ↦ rw is below
+    ])
