@@ -78,9 +78,9 @@ module _ {S : Type 0} where
           in_without t pairs (record { binding = r.instance; slot = j }) there (λ same. other (of (record { binding = r.instance; slot = j }) there same))
     ];
     used = λ pair within.
-    let there = from_without t pairs pair within in
-    let other : pair.slot ≡ k → ⊥ = λ same. without_absent t pairs pair within (to pair there same) in
-    subst IsUsed (sym (slot_at-set_other slots k pair.slot (Free n) other)) (h.used pair there);
+        let there = from_without t pairs pair within in
+        let other : pair.slot ≡ k → ⊥ = λ same. without_absent t pairs pair within (to pair there same) in
+        subst IsUsed (sym (slot_at-set_other slots k pair.slot (Free n) other)) (h.used pair there);
     bindings = AllPairs-filter (λ a b. a.binding ≢ b.binding) (λ (p : Pair). not (is_same t p.binding)) pairs h.bindings;
     slots_apart = AllPairs-filter (λ a b. a.slot ≢ b.slot) (λ (p : Pair). not (is_same t p.binding)) pairs h.slots_apart;
   }
@@ -154,8 +154,8 @@ module _ {S : Type 0} where
   housed_released slots new pairs k n h r = record {
     paired = λ j s is. h.paired j s (sym (released_monitors slots new k n r j) ∙ is);
     used = λ pair within.
-    let other = reserved_apart slots new pairs k h r pair within in
-    subst IsUsed (sym (slot_at-set_other new k pair.slot (Free n) other ∙ r.others pair.slot other)) (h.used pair within);
+        let other = reserved_apart slots new pairs k h r pair within in
+        subst IsUsed (sym (slot_at-set_other new k pair.slot (Free n) other ∙ r.others pair.slot other)) (h.used pair within);
     bindings = h.bindings;
     slots_apart = h.slots_apart;
   }

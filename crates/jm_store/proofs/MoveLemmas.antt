@@ -85,7 +85,7 @@ module _ (m : Meaning) {S : Type 0} (Stands : S → List ℕ → Type 0) (letter
 
       -- distinct instances, where each is made of one base
       pub distinct_moves : ((r s : Stored S) → Contains (stored_in monitors) r → Contains (stored_in monitors) s → IsBase b marks r → IsBase b marks s → join r.instance b ≡ join s.instance b
-              → r.instance ≡ s.instance)
+          → r.instance ≡ s.instance)
           → ((j k : ℕ) (r s : Stored S) → monitor_at monitors j ≡ Some r → monitor_at monitors k ≡ Some s → r.instance ≡ s.instance → j ≡ k)
           → AllPairs (λ x y. x.monitor.instance ≢ y.monitor.instance) moves
       distinct_moves one housed =
@@ -99,7 +99,7 @@ module _ (m : Meaning) {S : Type 0} (Stands : S → List ℕ → Type 0) (letter
 
       -- the reached monitors, where each instance is made of one base
       pub are_reached : ((r s : Stored S) → Contains (stored_in monitors) r → Contains (stored_in monitors) s → IsBase b marks r → IsBase b marks s → join r.instance b ≡ join s.instance b
-              → r.instance ≡ s.instance)
+          → r.instance ≡ s.instance)
           → ((j k : ℕ) (r s : Stored S) → monitor_at monitors j ≡ Some r → monitor_at monitors k ≡ Some s → r.instance ≡ s.instance → j ≡ k)
           → AreReached m Stands letter b dead (stored_in monitors) marks (reached_by moves)
       are_reached one housed = record {

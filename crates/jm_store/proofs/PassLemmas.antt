@@ -66,7 +66,7 @@ module _ (m : Meaning) {S : Type 0} (Stands : S → List ℕ → Type 0) (dead :
         let lt = within_length old k s at in
         elim (goes (monitor_at old k) (monitor_at new k) s (swept k (omega (arith, lt, all))) at) [ inl is ↦ inl (stored_at new k s is) | inr cut ↦ inr cut ];
     left_marks = λ b. (
-        (λ there. Contains-from_filter (has_live dead) marks b (subst (λ (l : List Binding). Contains l b) kept there)),
-        (λ both. subst (λ (l : List Binding). Contains l b) (sym kept) (Contains-filter (has_live dead) marks b both.0 both.1)),
+      (λ there. Contains-from_filter (has_live dead) marks b (subst (λ (l : List Binding). Contains l b) kept there)),
+      (λ both. subst (λ (l : List Binding). Contains l b) (sym kept) (Contains-filter (has_live dead) marks b both.0 both.1)),
     );
   }

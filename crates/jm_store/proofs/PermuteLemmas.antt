@@ -36,24 +36,24 @@ module _ {X : Type 0} where
       let size : length first ≡ length l = length-set l i (get_or l j x) in
       elim (cases_eq k j) [
         | inl same ↦ record {
-            place = i;
-            within = li;
-            is = ap (λ (n : ℕ). get_or (slice_set first j (get_or l i x)) n d) same ∙ get_or-set_same first j (get_or l i x) d (rw size lj) ∙ get_or_default l i x d li;
-            from = inl (same, refl);
-          }
+          place = i;
+          within = li;
+          is = ap (λ (n : ℕ). get_or (slice_set first j (get_or l i x)) n d) same ∙ get_or-set_same first j (get_or l i x) d (rw size lj) ∙ get_or_default l i x d li;
+          from = inl (same, refl);
+        }
         | inr other ↦ elim (cases_eq k i) [
           | inl here ↦ record {
-              place = j;
-              within = lj;
-              is = get_or-set_other first j k (get_or l i x) d other ∙ ap (λ (n : ℕ). get_or first n d) here ∙ get_or-set_same l i (get_or l j x) d li ∙ get_or_default l j x d lj;
-              from = inr (other, inl (here, refl));
-            }
+            place = j;
+            within = lj;
+            is = get_or-set_other first j k (get_or l i x) d other ∙ ap (λ (n : ℕ). get_or first n d) here ∙ get_or-set_same l i (get_or l j x) d li ∙ get_or_default l j x d lj;
+            from = inr (other, inl (here, refl));
+          }
           | inr there ↦ record {
-              place = k;
-              within = lk;
-              is = get_or-set_other first j k (get_or l i x) d other ∙ get_or-set_other l i k (get_or l j x) d there;
-              from = inr (other, inr (there, refl));
-            }
+            place = k;
+            within = lk;
+            is = get_or-set_other first j k (get_or l i x) d other ∙ get_or-set_other l i k (get_or l j x) d there;
+            from = inr (other, inr (there, refl));
+          }
         ]
       ]
 

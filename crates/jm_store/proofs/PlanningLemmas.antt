@@ -174,11 +174,15 @@ module _ (m : Meaning) {S : Type 0} (Stands : S → List ℕ → Type 0) (letter
   -- each first move is placed, with a slot
   pub placed_at : (first : Move S) → Contains moves first → (move : Move S) × Contains placed move × IsPlacedFrom old first move × ((k : ℕ) × (move.slot ≡ Some k))
   placed_at first among =
-      let (move, within, from, missed) = p.all first (to_sorted first among) in
-      (move, within, from, elim (slot_or_none move.slot) [
-        | inl has ↦ has
-        | inr none ↦ absurd (no_slot move from missed none (slot_or_none first.slot))
-      ])
+      let (move, within, from, missed) = p.all first (to_sorted first among) in (
+        move,
+        within,
+        from,
+        elim (slot_or_none move.slot) [
+          | inl has ↦ has
+          | inr none ↦ absurd (no_slot move from missed none (slot_or_none first.slot))
+        ],
+      )
     where
       no_slot : (move : Move S) → IsPlacedFrom old first move → (AreDistinct sorted → move.slot ≡ None → HasInstance (stored_of old) first.monitor.instance) → move.slot ≡ None
           → ((k : ℕ) × (first.slot ≡ Some k)) ⊎ (first.slot ≡ None) → ⊥

@@ -56,7 +56,11 @@ impl<M: Monitor> Event<'_, M> {
             return Ok(None);
         }
         let made = self.advance(None, instance, &base.state)?;
-        if self.is_lost(&made) { Ok(None) } else { Ok(Some(made)) }
+        if self.is_lost(&made) {
+            Ok(None)
+        } else {
+            Ok(Some(made))
+        }
     }
 
     /// The monitor of an instance, moved on from a base.

@@ -43,7 +43,11 @@ pub(crate) fn report<M: Monitor>(
     let mut firings = Firings::new(alloc);
     for step in moves {
         if must_bind & step.monitor.instance.mask() == must_bind {
-            report_hits(&mut firings, step.monitor.instance, rules.hits(&step.monitor.state))?;
+            report_hits(
+                &mut firings,
+                step.monitor.instance,
+                rules.hits(&step.monitor.state),
+            )?;
         }
     }
     Ok(firings)

@@ -46,7 +46,11 @@ impl<M: Monitor> Model for Store<M> {
     ghost Value = { Contents M.State };
 
     ghost view = { λ s. record {
-        monitors = monitors_of s.monitors.slots.items; marks = s.marks.list; is_open = s.is_open; index = s.index } };
+      monitors = monitors_of s.monitors.slots.items;
+      marks = s.marks.list;
+      is_open = s.is_open;
+      index = s.index;
+    } };
 
     ghost invariant = { λ s. IsKept s.monitors.slots.items s.index.list s.domains.items s.is_open s.marks.spare };
 }
@@ -173,7 +177,9 @@ impl<M: Monitor> Store<M> {
         let mut moves = Vec::new(*self.domains.allocator());
         for domain in &self.domains {
             if event.asks(*domain) {
-                let slots = self.index.compatible(event.objects, *domain, event.binding)?;
+                let slots = self
+                    .index
+                    .compatible(event.objects, *domain, event.binding)?;
                 self.reach_slots(event, &slots, &mut moves, steps)?;
             }
         }

@@ -14,8 +14,8 @@ returns g c =
       instance = refl;
       next = c.in_ok-state.ensures;
       alive = λ stays w stands gone.
-      both_ways c.cut-stays.result (not-true c.cut-stays.result stays)
-      ((c.cut-stays.ensures w stands).1 (subst (λ (d : ℕ). IsCutWord m w d) (sym c.dead_mask.ensures) gone));
+          both_ways c.cut-stays.result (not-true c.cut-stays.result stays)
+          ((c.cut-stays.ensures w stands).1 (subst (λ (d : ℕ). IsCutWord m w d) (sym c.dead_mask.ensures) gone));
       cut = λ goes w stands.
-      subst (λ (d : ℕ). IsCutWord m w d) c.dead_mask.ensures ((c.cut-stays.ensures w stands).0 (not-false c.cut-stays.result goes));
+          subst (λ (d : ℕ). IsCutWord m w d) c.dead_mask.ensures ((c.cut-stays.ensures w stands).0 (not-false c.cut-stays.result goes));
     }

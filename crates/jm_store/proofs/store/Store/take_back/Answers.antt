@@ -28,35 +28,35 @@ loop-step-preserved g c =
     let moves = c.args.moves.now in
     elim c.match-step.branch [
       | in-Some w ↦ rw w.self-is (record {
-          open_now = w.free.ensures.«open»;
-          stored = w.free.ensures.stored ∙ inv.stored;
-          monitors = λ k. w.free.ensures.monitors k ∙ inv.monitors k;
-          marks = w.free.ensures.marks ∙ inv.marks;
-          fits = λ dead fits. w.free.ensures.fits dead (inv.fits dead fits);
-          within = λ pair there. inv.within pair (w.free.ensures.within pair there);
-          filled = λ pair there. elim (inv.filled pair (w.free.ensures.within pair there)) [
-            | inl full ↦ inl (filled_same c.loop-step.self w.free.new.self pair (λ k. sym (w.free.ensures.monitors k)) full)
-            | inr planned ↦ elim (planned_next moves i step pair c.loop-step-test.true c.step-item.is planned) [
-              | inl here ↦ inl (w.free.ensures.gone pair there (same_Some pair.slot w.in-Some.slot (sym here.0 ∙ w.in-Some.is)))
-              | inr later ↦ inr later
-            ]
-          ];
-        })
+        open_now = w.free.ensures.«open»;
+        stored = w.free.ensures.stored ∙ inv.stored;
+        monitors = λ k. w.free.ensures.monitors k ∙ inv.monitors k;
+        marks = w.free.ensures.marks ∙ inv.marks;
+        fits = λ dead fits. w.free.ensures.fits dead (inv.fits dead fits);
+        within = λ pair there. inv.within pair (w.free.ensures.within pair there);
+        filled = λ pair there. elim (inv.filled pair (w.free.ensures.within pair there)) [
+          | inl full ↦ inl (filled_same c.loop-step.self w.free.new.self pair (λ k. sym (w.free.ensures.monitors k)) full)
+          | inr planned ↦ elim (planned_next moves i step pair c.loop-step-test.true c.step-item.is planned) [
+            | inl here ↦ inl (w.free.ensures.gone pair there (same_Some pair.slot w.in-Some.slot (sym here.0 ∙ w.in-Some.is)))
+            | inr later ↦ inr later
+          ]
+        ];
+      })
       | in_default w ↦ rw w.self-is (record {
-          open_now = inv.open_now;
-          stored = inv.stored;
-          monitors = inv.monitors;
-          marks = inv.marks;
-          fits = inv.fits;
-          within = inv.within;
-          filled = λ pair there. elim (inv.filled pair there) [
-            | inl full ↦ inl full
-            | inr planned ↦ elim (planned_next moves i step pair c.loop-step-test.true c.step-item.is planned) [
-              | inl here ↦ absurd (w.in_default.not-Some pair.slot here.0)
-              | inr later ↦ inr later
-            ]
-          ];
-        })
+        open_now = inv.open_now;
+        stored = inv.stored;
+        monitors = inv.monitors;
+        marks = inv.marks;
+        fits = inv.fits;
+        within = inv.within;
+        filled = λ pair there. elim (inv.filled pair there) [
+          | inl full ↦ inl full
+          | inr planned ↦ elim (planned_next moves i step pair c.loop-step-test.true c.step-item.is planned) [
+            | inl here ↦ absurd (w.in_default.not-Some pair.slot here.0)
+            | inr later ↦ inr later
+          ]
+        ];
+      })
     ]
 
 pub free-requires : goal.free-requires
