@@ -7,9 +7,9 @@ ghost use Rattle.jm_monitors.specs.Steps.{IsLiveEvent};
 ghost use Rattle.jm_store.specs.Contents.{stored_of, IsFit, IsPlanFor, IsPlanOf};
 ghost use Rattle.jm_core.specs.Inside.{first_dead_by, IsUntouched, IsOutcomeOf};
 
-use jm_model::{Binding, Letter, Monitor, NoMemory, Outcome};
+use jm_model::{Binding, Letter, Monitor, NoMemory, Outcome, Steps};
 use jm_objects::Objects;
-use jm_store::{Plan, Steps, Store};
+use jm_store::{Plan, Store};
 use std::marker::Brand;
 use std::sync::ledger::{Blank, Ledger};
 
@@ -79,38 +79,13 @@ fn fire<M: Monitor>(
         → IsOutcomeOf (M.meaning (M.definition rules.now)) (M.StandsFor rules.now) trace objects.now
         (record { letter = letter.0; binding = binding.now }) store.old store.new result.0 }
 {
-    match plan(rules, objects, store, letter, binding) {
+    match counted_plan::<M, Brand>(rules, objects, store, letter, binding, Blank::new(1)) {
         Ok(plan) => {
             let (answer, copy) = store.commit(plan);
             (Outcome::Fired(answer), Outcome::Fired(copy))
         }
         Err(NoMemory) => (Outcome::NoMemory, Outcome::NoMemory),
     }
-}
-
-/// Plans an event, with a counter of its own.
-fn plan<M: Monitor>(
-    rules: &M,
-    objects: &Objects,
-    store: &mut Store<M>,
-    letter: Letter,
-    binding: &Binding,
-) -> Result<Plan<M::State>, NoMemory>
-    requires closed { store.old.is_open ≡ false }
-    requires fits { IsFit store.old objects.now }
-    requires event { IsLiveEvent (M.meaning (M.definition rules.now)) objects.now letter.0 binding.now }
-    requires there { AreBelow (length objects.now) binding.now }
-    ensures untouched { IsUntouched store.old store.new }
-    ensures fits { IsFit store.new objects.now }
-    ensures closed { OnErr result (store.new.is_open ≡ false) }
-    ensures opened { OnOk result (store.new.is_open ≡ true) }
-    ensures binding { IfOk result (λ plan. plan.binding ≡ binding.now) }
-    ensures plan { IfOk result (λ plan. IsPlanFor store.new plan) }
-    ensures works { IfOk result (λ plan. (trace : List ParametricEvent)
-        → IsStoreOf (M.meaning (M.definition rules.now)) (M.StandsFor rules.now) trace objects.now (stored_of store.old) store.old.marks
-        → IsPlanOf (M.meaning (M.definition rules.now)) (M.StandsFor rules.now) trace objects.now letter.0 store.new plan) }
-{
-    counted_plan::<M, Brand>(rules, objects, store, letter, binding, Blank::new(1))
 }
 
 /// Plans an event, with a counter made of a ledger of one part.

@@ -1,4 +1,4 @@
-ghost use Rattle.std.specs.Prelude.{◌≡◌, [], ◌∷◌, All, IfOk, OnOk, OnErr};
+ghost use Rattle.std.specs.Prelude.{◌≡◌, ◌≢◌, [], ◌∷◌, All, AllPairs, IfOk, OnOk, OnErr};
 ghost use Rattle.jm_history.specs.Nodes.{answered};
 ghost use Rattle.jm_model.specs.declared.step.Step.TheVariants.{Pass};
 ghost use Rattle.jm_semantics.specs.Legality.{IsLegal};
@@ -189,6 +189,7 @@ impl<M: Monitor> Prop<M> {
     /// The marks, in the order of bindings.
     pub fn marks(&self) -> Result<Vec<Binding>, NoMemory>
         ensures value { IfOk result (λ list. AreInOrder self.now.marks list.items) }
+        ensures distinct { AllPairs (λ a b. a ≢ b) self.now.marks }
         ensures fits { FitsHistory (M.meaning self.now.definition) self.now.entries self.now.stored self.now.marks }
     {
         self.store.marks()

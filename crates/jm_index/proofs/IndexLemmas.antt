@@ -7,8 +7,8 @@ use Rattle.std.proofs.lemmas.Option.{none-some, same_Some, slice_get-get_or}
 use Rattle.std.proofs.lemmas.List.{set_past, length_push, get_or_push, get_or-set_same, get_or-set_other, set_at}
 use Rattle.std.proofs.lemmas.List.Elements.{Contains-push_cases}
 use Rattle.jm_model.specs.Bindings.{mask_of}
-use Rattle.jm_marks.specs.Layout.{binding_eq}
-use Rattle.jm_marks.proofs.EqLemmas.{binding_eq-Decides}
+use Rattle.jm_model.specs.Layout.{binding_eq}
+use Rattle.jm_model.proofs.EqLemmas.{binding_eq-Decides}
 use Rattle.jm_index.specs.declared.entry.Entry.{Entry}
 use Rattle.jm_index.specs.Index.{Pair, PairList, Binds, is_same, without, flag_of, IsKey, AreBelow, IsFitting}
 use Rattle.jm_index.specs.Layout.{pair_of, live_pairs, pair_at, posting_at, IsPath, AreFiled, AreThinned, IsIndexed}

@@ -27,7 +27,7 @@ impl Model for Index {
     ghost Value = { PairList };
 
     ghost use Rattle.std.specs.HashMap.{get};
-    ghost use Rattle.jm_marks.specs.Layout.{binding_eq};
+    ghost use Rattle.jm_model.specs.Layout.{binding_eq};
     ghost use Rattle.jm_index.specs.Layout.{live_pairs, IsIndexed};
 
     ghost view = { λ i. record { list = live_pairs i.entries.items; dropped = i.dropped.items } };

@@ -1,3 +1,3 @@
-pub mod EqLemmas
+pub mod SetLemmas
 pub mod DeadLemmas
 pub mod CoverLemmas

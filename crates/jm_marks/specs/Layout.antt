@@ -1,15 +1,10 @@
 -- How the marks lie in memory: in a set, whose keys are compared by their masks and objects, with the list of the
 -- sets of parameters beside it.
-use Rattle.std.specs.Prelude.{ℕ, Bool, ◌&&◌, List, Contains, nat_eq}
+use Rattle.std.specs.Prelude.{ℕ, List, Contains}
 use Rattle.std.specs.List.{IsDistinct}
-use Rattle.std.specs.Cmp.Lexicographic.{pointwise}
 use Rattle.jm_model.specs.declared.binding.Binding.{Binding}
 use Rattle.jm_model.specs.Bindings.{mask_of}
-use Rattle.jm_model.specs.Layout.{mask_bits, stored_of}
-
--- what `==` says of two bindings
-abbrev pub binding_eq : Binding → Binding → Bool
-binding_eq a b = nat_eq (mask_bits a) (mask_bits b) && pointwise nat_eq (stored_of a) (stored_of b)
+use Rattle.jm_model.specs.Layout.{binding_eq}
 
 -- the bindings are distinct, and each one's set of parameters is among those of the list
 pub record AreMarks (bindings : List Binding) (masks : List ℕ) : Type 0 where

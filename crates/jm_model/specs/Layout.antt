@@ -1,6 +1,7 @@
 -- How a binding lies in memory: a mask, whose bit p says whether parameter p is bound, and an object for each
 -- parameter, which is 0 where the parameter isn't bound.
-use Rattle.std.specs.Prelude.{◌≡◌, ℕ, ◌+◌, ◌*◌, ◌/◌, ◌%◌, ◌^◌, ◌<◌, ◌==◌, Bool, true, false, cond, List, [], ◌∷◌, length, map, Option, Some, None, unwrap_or, refl}
+use Rattle.std.specs.Prelude.{◌≡◌, ℕ, ◌+◌, ◌*◌, ◌/◌, ◌%◌, ◌^◌, ◌<◌, ◌==◌, ◌&&◌, Bool, nat_eq, true, false, cond, List, [], ◌∷◌, length, map, Option, Some, None, unwrap_or, refl}
+use Rattle.std.specs.Cmp.Lexicographic.{pointwise}
 use Rattle.std.proofs.Common.{suc, pow-suc, sym, ◌∙◌, ap, subst, arith}
 use Rattle.std.proofs.lemmas.Bool.{eqb-true, eq-eqb}
 
@@ -18,6 +19,10 @@ mask_bits (Some o ∷ b) = 1 + 2 * mask_bits b
 -- the objects as they lie in memory
 abbrev pub stored_of : List (Option ℕ) → List ℕ
 stored_of b = map (λ x. unwrap_or x 0) b
+
+-- what `==` says of two bindings
+abbrev pub binding_eq : List (Option ℕ) → List (Option ℕ) → Bool
+binding_eq a b = nat_eq (mask_bits a) (mask_bits b) && pointwise nat_eq (stored_of a) (stored_of b)
 
 -- a mask of at most as many bits as there are objects, and 0 for each parameter that isn't bound
 pub record IsStored (mask : ℕ) (os : List ℕ) : Type 0 where

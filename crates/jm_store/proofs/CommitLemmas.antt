@@ -7,8 +7,8 @@ use Rattle.std.proofs.lemmas.List.{length-map, length_push}
 use Rattle.std.proofs.lemmas.List.Elements.{Contains-append_left, Contains-push, Contains-push_cases}
 use Rattle.std.specs.List.{list_any}
 use Rattle.jm_model.specs.declared.binding.Binding.{Binding}
-use Rattle.jm_marks.specs.Layout.{binding_eq}
-use Rattle.jm_marks.proofs.EqLemmas.{found-Contains, Contains-found}
+use Rattle.jm_model.specs.Layout.{binding_eq}
+use Rattle.jm_model.proofs.EqLemmas.{found-Contains, Contains-found}
 use Rattle.jm_semantics.proofs.ListLemmas.{Contains-cons_cases}
 use Rattle.jm_index.specs.Index.{Pair, without}
 use Rattle.jm_index.proofs.IndexLemmas.{without_absent}

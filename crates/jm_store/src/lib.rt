@@ -12,9 +12,7 @@ mod event;
 mod monitors;
 mod moves;
 mod report;
-mod steps;
 mod store;
 
 pub use moves::{Move, Plan};
-pub use steps::Steps;
 pub use store::Store;

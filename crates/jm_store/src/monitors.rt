@@ -6,9 +6,8 @@ ghost use Rattle.jm_marks.specs.Marks.{dead_mask_of};
 ghost use Rattle.jm_store.specs.Slots.{monitors_of, monitor_at, stored_in, slot_at, IsReserved};
 ghost use Rattle.jm_store.specs.declared.monitors.Slot.TheVariants.{Free, Planned, Taken};
 
-use crate::steps::Steps;
 use jm_marks::dead_mask;
-use jm_model::{Binding, Monitor, NoMemory};
+use jm_model::{Binding, Monitor, NoMemory, Steps};
 use jm_monitors::Stored;
 use jm_objects::Objects;
 use std::alloc::Global;

@@ -17,10 +17,9 @@ use crate::event::Event;
 use crate::monitors::{Monitors, Slot};
 use crate::moves::{Move, Plan};
 use crate::report::{arrange, report};
-use crate::steps::Steps;
 use jm_index::Index;
 use jm_marks::{Marks, dead_mask};
-use jm_model::{Binding, Firings, Letter, Monitor, NoMemory};
+use jm_model::{Binding, Firings, Letter, Monitor, NoMemory, Steps};
 use jm_monitors::Stored;
 use jm_objects::Objects;
 use std::alloc::Global;
@@ -489,6 +488,7 @@ impl<M: Monitor> Store<M> {
     pub fn marks(&self) -> Result<Vec<Binding>, NoMemory>
         ensures same { IfOk result (λ list. IsPermutation self.now.marks list.items) }
         ensures ordered { IfOk result (λ list. IsSortedBy (λ a b. is_lt (binding_cmp a b)) list.items) }
+        ensures distinct { AllPairs (λ a b. a ≢ b) self.now.marks }
     {
         let mut list = self.marks.to_list()?;
         list.sort_unstable_by(|a, b| a.cmp(b));

@@ -1,5 +1,5 @@
 use Rattle.std.proofs.Common.{◌∙◌}
-use Rattle.jm_marks.proofs.EqLemmas.{AreMarks-add, added-unknown}
+use Rattle.jm_marks.proofs.SetLemmas.{AreMarks-add, added-unknown}
 use Rattle.jm_marks.proofs.Marks.add.Goals as goal
 
 pub invariant_of-self : goal.invariant_of-self

@@ -1,4 +1,4 @@
-use Rattle.jm_marks.proofs.EqLemmas.{found-Contains, Contains-found}
+use Rattle.jm_model.proofs.EqLemmas.{found-Contains, Contains-found}
 use Rattle.jm_marks.proofs.Marks.contains.Goals as goal
 
 pub returns : goal.returns

@@ -2,7 +2,7 @@ use Rattle.std.proofs.Common.{◌≡◌, List, filter, Contains, subst, rules}
 use Rattle.std.specs.Prelude.{Option, ℕ}
 use Rattle.std.proofs.lemmas.Fn.{filter_same}
 use Rattle.jm_marks.specs.Marks.{has_live}
-use Rattle.jm_marks.proofs.EqLemmas.{AreMarks-fewer, Contains-filter}
+use Rattle.jm_marks.proofs.SetLemmas.{AreMarks-fewer, Contains-filter}
 use Rattle.jm_marks.proofs.Marks.sweep.Goals as goal
 
 pub invariant_of-self : goal.invariant_of-self

@@ -1,4 +1,4 @@
-use Rattle.jm_marks.proofs.EqLemmas.{apart}
+use Rattle.jm_model.proofs.EqLemmas.{apart}
 use Rattle.jm_marks.proofs.Marks.to_list.Goals as goal
 
 pub returns-in_err-to_vec-clause-distinct : goal.returns-in_err-to_vec-clause-distinct

@@ -2,7 +2,7 @@ use Rattle.std.proofs.Common.{◌≡◌, List, Option, ℕ, false, length, refl,
 use Rattle.std.specs.Prelude.{Contains}
 use Rattle.std.specs.Map.{lookup}
 use Rattle.std.proofs.lemmas.Grind.{common_steps}
-use Rattle.jm_marks.specs.Layout.{binding_eq}
+use Rattle.jm_model.specs.Layout.{binding_eq}
 use Rattle.jm_index.specs.Index.{Pair, PairList}
 use Rattle.jm_index.specs.Layout.{live_pairs}
 use Rattle.jm_index.proofs.EntryLemmas.{live_pairs-hole}
