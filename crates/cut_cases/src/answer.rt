@@ -1,6 +1,7 @@
 use crate::cuts::{cuts, rests};
 use crate::families::{families, states};
-use crate::rules::rules_of;
+use case_events::or_fault;
+use case_rules::rules_of;
 use cases::Case;
 use jm_machine::Rules;
 use jm_model::SpecError;
@@ -8,10 +9,7 @@ use std::alloc::{AllocError, Global};
 
 /// What the case's verb answers, of the specification in its text.
 pub(crate) fn answer(alloc: Global, case: &Case) -> Result<String, AllocError> {
-    match case_text(alloc, case) {
-        Ok(text) => Ok(text),
-        Err(fault) => format!(in alloc; "{fault:?}"),
-    }
+    or_fault(alloc, case_text(alloc, case))
 }
 
 fn case_text(alloc: Global, case: &Case) -> Result<String, SpecError> {

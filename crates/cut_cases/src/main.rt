@@ -5,7 +5,6 @@
 mod answer;
 mod cuts;
 mod families;
-mod rules;
 
 use answer::answer;
 use std::io;

@@ -1,6 +1,7 @@
-use crate::outcomes::{list_shown, outcome_shown};
+use crate::lists::list_shown;
 use crate::rig::Rig;
-use crate::rules::rules_of;
+use case_rules::rules_of;
+use case_steps::outcome_shown;
 use cases::{Case, number_of, put};
 use jm_machine::Rules;
 use jm_model::{NoMemory, SpecError};

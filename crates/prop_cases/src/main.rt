@@ -3,9 +3,8 @@
 #![tactic(auto)]
 
 mod answer;
-mod outcomes;
+mod lists;
 mod rig;
-mod rules;
 
 use answer::answer;
 use std::io;

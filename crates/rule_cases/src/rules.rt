@@ -1,14 +1,9 @@
 //! The rules of whole specifications.
-
-ghost use Rattle.std.specs.Prelude.{◌<◌, ◌^◌, length};
-ghost use Rattle.jm_text.specs.Spans.{LieWithin};
-
-use case_events::{or_fault, tokens_of};
+use case_events::or_fault;
+use case_rules::rules_of;
 use cases::Case;
 use jm_machine::Rules;
 use jm_model::{Letter, Monitor, SpecError};
-use jm_spec::read_spec;
-use jm_text::Token;
 use std::alloc::{AllocError, Global};
 
 /// What the specification of a case says, or its fault: what has to be bound, the parameters of each event, the names of
@@ -29,19 +24,6 @@ fn rules_text(alloc: Global, rules: &Rules, word: &str) -> Result<String, SpecEr
     out.push_str(" :")?;
     add_hits(alloc, &mut out, rules, word)?;
     Ok(out)
-}
-
-fn rules_of(alloc: Global, bytes: &[u8]) -> Result<Rules, SpecError> {
-    let all = tokens_of(alloc, bytes)?;
-    compiled(alloc, bytes, &all)
-}
-
-fn compiled(alloc: Global, bytes: &[u8], tokens: &[Token]) -> Result<Rules, SpecError>
-    requires within { LieWithin bytes.now tokens.now }
-    requires few { length tokens.now < 2 ^ 32 }
-{
-    let tree = read_spec(alloc, bytes, tokens)?;
-    Rules::compile(alloc, bytes, tokens, &tree)
 }
 
 fn add_masks(alloc: Global, out: &mut String, rules: &Rules) -> Result<(), AllocError> {
