@@ -1,5 +1,5 @@
 -- Places by their positions.
-use Rattle.std.proofs.Common.{ℕ, zero, suc, ◌≡◌, ◌==◌, ◌<◌, ◌≤◌, ◌+◌, Bool, true, false, cond, List, [], ◌∷◌, ◌++◌, Option, Some, None, Contains, length, slice_get, refl, sym, ap, subst, ◌∙◌, inl, inr, arith}
+use Rattle.std.proofs.Common.{ℕ, zero, suc, ◌≡◌, ◌==◌, ◌<◌, ◌≤◌, ◌+◌, ◌-◌, Bool, true, false, cond, List, [], ◌∷◌, ◌++◌, Option, Some, None, Contains, length, slice_get, refl, sym, ap, subst, ◌∙◌, inl, inr, arith}
 use Rattle.std.proofs.lemmas.Bool.{cases_lt, eq-eqb}
 use Rattle.std.proofs.lemmas.Bool.Decides.{eqb_tells}
 use Rattle.std.proofs.lemmas.Option.{none-some, same_Some, slice_get_within}
@@ -8,8 +8,8 @@ use Rattle.jm_earley.specs.Kept.{IsSorted, place_at, IsPlaceNumber}
 use Rattle.jm_earley.proofs.PlaceLemmas.{slice_get-push_cases, Contains-place}
 
 pub none_from : {X : Type 0} (o : Option X) → ((x : X) → o ≡ Some x → ⊥) → o ≡ None
-none_from None no = refl
-none_from (Some x) no = absurd (no x refl)
+none_from None never = refl
+none_from (Some x) never = absurd (never x refl)
 
 at_head : (q : Place) (ps : List Place) (k : ℕ) → (q.position == k) ≡ true → place_at (q ∷ ps) k ≡ Some q
 at_head q ps k e = ap (λ (b : Bool). cond b (Some q) (place_at ps k)) e
@@ -48,7 +48,7 @@ pub found_at : (ps : List Place) → IsSorted ps → (k number : ℕ) → (there
 found_at ps sorted k number there = subst (λ (n : ℕ). place_at ps n ≡ Some there.0) there.2 (sorted_at ps sorted number there.0 there.1)
 
 pub not_at : (ps : List Place) (k : ℕ) → ((number : ℕ) → IsPlaceNumber ps k number → ⊥) → place_at ps k ≡ None
-not_at ps k no = none_from (place_at ps k) (λ p at. let there = number_at ps k p at in no there.0 (p, there.1, there.2))
+not_at ps k never = none_from (place_at ps k) (λ p at. let there = number_at ps k p at in never there.0 (p, there.1, there.2))
 
 -- numbers and positions go together
 pub number_le : (ps : List Place) → IsSorted ps → (i j : ℕ) (p q : Place) → slice_get ps i ≡ Some p → slice_get ps j ≡ Some q → p.position ≤ q.position → i ≤ j
@@ -115,3 +115,16 @@ between_all ps position number p there is = (omega arith, slice_get_within ps nu
 
 pub between_none : (ps : List Place) (position low high : ℕ) → high ≤ low → IsBetween ps position low high → (number : ℕ) → IsPlaceNumber ps position number → ⊥
 between_none ps position low high le between number (p, there, is) = let both = between number p there is in omega (arith, le, both.0, both.1)
+
+-- the last place is behind the others
+pub last_behind : (ps : List Place) → IsSorted ps → (last : Place) → slice_get ps (length ps - 1) ≡ Some last → (number : ℕ) (p : Place) → slice_get ps number ≡ Some p → p.position < last.position + 1
+last_behind ps sorted last end number p at =
+    elim (cases_lt last.position p.position) [
+      | inl lt ↦
+          let within = slice_get_within ps number p at in
+          let le = number_le ps sorted (length ps - 1) number last p end at (omega (arith, lt)) in
+          let same : number ≡ length ps - 1 = omega (arith, within, le) in
+          let is : p ≡ last = same_Some p last (sym at ∙ ap (λ (k : ℕ). slice_get ps k) same ∙ end) in
+          absurd (omega (arith, lt, ap (λ (q : Place). q.position) is))
+      | inr ge ↦ omega (arith, ge)
+    ]

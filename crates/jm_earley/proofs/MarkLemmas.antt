@@ -121,7 +121,7 @@ module _ (places : List Place) where
   AreBackBy = (via number : ℕ) (p : Place) → slice_get places via ≡ Some p → IsOrigin places p.items number → number ≤ via
 
   back_by : IsSorted places → AreBack places → AreBackBy
-  back_by sorted back via number p at (x, among, q, there, is) =
+  back_by sorted back via number p at (x, among, (q, there, is)) =
       let le = back p.position p (sorted_at places sorted via p at) x among in
       number_le places sorted number via q p there at (omega (arith, le, is))
 
@@ -179,7 +179,7 @@ module _ (places : List Place) where
   spread_all marks count all = record {
     count = refl;
     kept = λ j h. h;
-    closed = λ back via number p le at marked (x, among, q, there, is). all number (omega (arith, count, slice_get_within places number q there));
+    closed = λ back via number p le at marked (x, among, (q, there, is)). all number (omega (arith, count, slice_get_within places number q there));
     only = λ items within. within;
   }
 

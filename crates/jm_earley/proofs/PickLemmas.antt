@@ -2,14 +2,14 @@
 use Rattle.std.proofs.Common.{ℕ, ◌≡◌, ◌<◌, ◌≤◌, ◌+◌, ◌-◌, ◌⊎◌, Bool, true, false, List, [], ◌∷◌, ◌++◌, Some, None, Contains, length, slice_get, refl, sym, ap, subst, ◌∙◌, inl, inr, arith, length-append}
 use Rattle.std.proofs.lemmas.Bool.{cases_eq, false≢true}
 use Rattle.std.proofs.lemmas.List.Elements.{Contains-push_cases, Contains-push, Contains-append_left}
-use Rattle.std.proofs.lemmas.Option.{same_Some}
+use Rattle.std.proofs.lemmas.Option.{same_Some, slice_get_within}
 use Rattle.jm_earley.specs.declared.item.Item.{Item}
 use Rattle.jm_earley.specs.declared.place.Place.{Place}
 use Rattle.jm_earley.specs.Kept.{IsSorted, place_at, IsKept, IsPlaceNumber, IsOrigin, AreBack, IsMarked, AreReached, ArePickedOf, ArePicked, IsFollowedBy}
 use Rattle.jm_earley.proofs.PlaceLemmas.{Contains-place, place-Contains, slice_get-push}
 use Rattle.jm_earley.proofs.KeptLemmas.{number_at, sorted_at, none_sorted, sorted_push}
 
-module _ (places : List Place) (sorted : IsSorted places) (marks : List Bool) where
+module _ (places : List Place) (marks : List Bool) where
   pub picked_none : (list : List Place) → list ≡ [] → ArePickedOf places marks 0 list
   picked_none list none = record {
     sorted = subst (λ (l : List Place). IsSorted l) (sym none) none_sorted;
@@ -17,9 +17,9 @@ module _ (places : List Place) (sorted : IsSorted places) (marks : List Bool) wh
     all = λ number p lt. absurd (omega (arith, lt));
   }
 
-  pub picked_one : (count : ℕ) (old new : List Place) (p : Place) → ArePickedOf places marks count old → IsMarked marks count → slice_get places count ≡ Some p → new ≡ old ++ p ∷ []
+  pub picked_one : IsSorted places → (count : ℕ) (old new : List Place) (p : Place) → ArePickedOf places marks count old → IsMarked marks count → slice_get places count ≡ Some p → new ≡ old ++ p ∷ []
       → ArePickedOf places marks (count + 1) new
-  picked_one count old new p before marked at is = subst (λ (l : List Place). ArePickedOf places marks (count + 1) l) (sym is) (record {
+  picked_one sorted count old new p before marked at is = subst (λ (l : List Place). ArePickedOf places marks (count + 1) l) (sym is) (record {
     sorted = sorted_push old p before.sorted (λ q there. let known = before.only q there in sorted known.0 count q p known.1 known.2 at);
     only = λ q there. elim (Contains-push_cases old p q there) [
       | inl first ↦ let known = before.only q first in (known.0, (omega (arith, known.1)), known.2, known.3)
@@ -45,7 +45,7 @@ module _ (places : List Place) (sorted : IsSorted places) (marks : List Bool) wh
 
   -- ---- with the new place
 
-  module _ (place : Place) (list new : List Place) (behind : (number : ℕ) (p : Place) → slice_get places number ≡ Some p → p.position < place.position)
+  module _ (sorted : IsSorted places) (place : Place) (list new : List Place) (behind : (number : ℕ) (p : Place) → slice_get places number ≡ Some p → p.position < place.position)
       (reached : AreReached places place.items marks) (picked : ArePicked places marks list) (is : new ≡ list ++ place ∷ []) where
     pub new_sorted : IsSorted new
     new_sorted = subst (λ (l : List Place). IsSorted l) (sym is)
@@ -59,10 +59,7 @@ module _ (places : List Place) (sorted : IsSorted places) (marks : List Bool) wh
 
     kept_where : (number : ℕ) (position : ℕ) → IsPlaceNumber places position number → IsMarked marks number → IsKept new position
     kept_where number position (p, at, here) marked =
-        subst (λ (k : ℕ). IsKept new k) here (at_contained p (picked.all number p (within number p at) at marked))
-      where
-        within : (k : ℕ) (q : Place) → slice_get places k ≡ Some q → k < length places
-        within k q h = (Contains-place places k q h).1
+        subst (λ (k : ℕ). IsKept new k) here (at_contained p (picked.all number p (slice_get_within places number p at) at marked))
 
     pub followed : IsFollowedBy places place new
     followed =

@@ -5,6 +5,7 @@ ghost use Rattle.jm_grammar.specs.Grammars.{IsSmall, IsSmallSymbol, IsSmallProdu
 ghost use Rattle.jm_grammar.specs.Derivations.{IsWord, Derives};
 ghost use Rattle.jm_earley.specs.Items.{symbol_after, finished_left, IsWhole};
 ghost use Rattle.jm_earley.specs.declared.place.Place.{Place};
+ghost use Rattle.jm_earley.specs.Kept.{IsSorted};
 ghost use Rattle.jm_earley.specs.Waiting.{AreWaiting};
 ghost use Rattle.jm_earley.specs.Charts.{AreBelow, IsChartOf, IsChartWith, IsPlaceWith};
 ghost use Rattle.jm_earley.specs.Futures.{IsHopeless};
@@ -54,7 +55,6 @@ pub struct Chart {
 impl Model for Chart {
     ghost use Rattle.std.specs.Prelude.{length, ◌<◌};
     ghost use Rattle.jm_earley.specs.Charts.{ChartDefinition};
-    ghost use Rattle.jm_earley.specs.Kept.{IsSorted};
 
     ghost Value = { ChartDefinition };
 
@@ -89,7 +89,9 @@ impl Charts {
         let alloc = *self.params.allocator();
         let mut first = ItemSet::new(alloc);
         self.begin_productions(&mut first, 0, self.grammar.start())?;
-        self.chart_with(&Places::new(alloc), 0, first)
+        let earlier = Places::new(alloc);
+        let chart = self.chart_with(&earlier, 0, first)?;
+        Ok(chart)
     }
 
     /// A chart of the same words. It shares the places with this one.
@@ -281,7 +283,8 @@ fn masks(alloc: Global, table: &EventTable) -> Result<Vec<u8>, NoMemory>
 impl Chart {
     /// The last place.
     fn last(&self) -> &Place
-        ensures { slice_get self.now.places (length self.now.places - 1) ≡ Some result.now }
+        ensures ends { slice_get self.now.places (length self.now.places - 1) ≡ Some result.now }
+        ensures sorted { IsSorted self.now.places }
     {
         self.places.at(self.places.len() - 1)
     }

@@ -1,7 +1,7 @@
 //! Which of the places some items reach: the places where they began, where the items of those began, and so on.
 ghost use Rattle.std.specs.Prelude.{ℕ, ◌≡◌, ◌<◌, [], ◌∷◌, IfOk, IsTrue, length};
 ghost use Rattle.jm_earley.specs.declared.item.Item.{Item};
-ghost use Rattle.jm_earley.specs.Kept.{IsMarked, IsOrigin, IsReached, AreReached, IsMarkedMore, IsSpread, IsSpreadAt, IsPlaceNumber};
+ghost use Rattle.jm_earley.specs.Kept.{IsSorted, IsMarked, IsOrigin, IsReached, AreReached, IsMarkedMore, IsSpread, IsSpreadAt, IsPlaceNumber};
 
 use crate::item::Item;
 use crate::place::Places;
@@ -11,7 +11,8 @@ use std::alloc::Global;
 impl Places {
     /// A mark for each place that the items reach.
     pub(crate) fn reached(&self, alloc: Global, items: &[Item]) -> Result<Vec<bool>, NoMemory>
-        ensures { IfOk result (λ marks. AreReached self.now items.now marks.items) }
+        ensures value { IfOk result (λ marks. AreReached self.now items.now marks.items) }
+        ensures sorted { IsSorted self.now }
     {
         let mut marks = no_marks(alloc, self.len())?;
         self.mark(&mut marks, items);

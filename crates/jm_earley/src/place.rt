@@ -58,7 +58,8 @@ impl Places {
     /// The place of a number.
     pub(crate) fn at(&self, number: usize) -> &Place
         requires { number < length self.now }
-        ensures { slice_get self.now number ≡ Some result.now }
+        ensures value { slice_get self.now number ≡ Some result.now }
+        ensures sorted { IsSorted self.now }
     {
         self.list.at(number)
     }
@@ -75,7 +76,8 @@ impl Places {
 
     /// The number of the place at a position, if it is kept.
     pub(crate) fn number_of(&self, position: u32) -> Option<usize>
-        ensures { MatchOption result ((number : ℕ) → IsPlaceNumber self.now position number → ⊥) (λ number. IsPlaceNumber self.now position number) }
+        ensures value { MatchOption result ((number : ℕ) → IsPlaceNumber self.now position number → ⊥) (λ number. IsPlaceNumber self.now position number) }
+        ensures sorted { IsSorted self.now }
     {
         let mut low = 0;
         let mut high = self.len();
@@ -130,7 +132,8 @@ impl Places {
     /// Adds the place of a number to a list.
     fn share(&self, number: usize, list: &mut Shared<Place>) -> Result<(), NoMemory>
         requires { number < length self.now }
-        ensures { OnOk result ((p : Place) × (slice_get self.now number ≡ Some p) × (list.new ≡ list.old ++ p ∷ [])) }
+        ensures value { OnOk result ((p : Place) × (slice_get self.now number ≡ Some p) × (list.new ≡ list.old ++ p ∷ [])) }
+        ensures sorted { IsSorted self.now }
     {
         list.push_shared(&self.list, number)
     }

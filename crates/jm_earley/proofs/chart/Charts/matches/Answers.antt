@@ -4,5 +4,5 @@ use Rattle.jm_earley.proofs.chart.Charts.matches.Goals as goal
 pub returns : goal.returns
 returns c = λ word of_word.
     let charts = c.args.self.now in
-    let last = last_place charts word c.args.chart.now of_word c.last.result.now c.last.ensures in
+    let last = last_place charts word c.args.chart.now of_word c.last.result.now c.last.ensures.ends in
     words_by_items charts.grammar word c.last.result.now.items c.as_slice.result.now c.has_whole.result c.as_slice.ensures last.items c.has_whole.ensures
