@@ -93,8 +93,7 @@ module _ (charts : ChartsDefinition) where
           each = λ k p at. elim (follows.only k p at) [
             | inl old ↦ let known = each k p old.0 in ((omega (arith, known.0)), known.1)
             | inr (end, same) ↦
-                let whole : take k word ≡ word = take_all k word (omega (arith, end, made.place_is.position_is, count)) in
-                (
+                let whole : take k word ≡ word = take_all k word (omega (arith, end, made.place_is.position_is, count)) in (
                   (omega (arith, end, made.place_is.position_is, count)),
                   subst (λ (w : List ℕ). IsPlaceOf charts w p) (sym whole) (subst (λ (q : Place). IsPlaceOf charts word q) (sym same) here),
                 )

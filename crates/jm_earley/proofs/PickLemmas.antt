@@ -93,7 +93,7 @@ module _ (places : List Place) (marks : List Bool) where
                 | inl old ↦
                     let known = picked.only p old in
                     kept_where number.0 x.origin (q, number.1, number.2)
-                        (reached.closed back known.0 number.0 p (omega arith) known.2 known.3 (x, there, (q, number.1, number.2)))
+                    (reached.closed back known.0 number.0 p (omega arith) known.2 known.3 (x, there, (q, number.1, number.2)))
                 | inr same ↦
                     let old_number = number_at places position p at_old in
                     absurd (omega (arith, behind old_number.0 p old_number.1, ap (λ (r : Place). r.position) same))

@@ -145,12 +145,7 @@ impl Charts {
 
 impl Charts {
     /// The chart whose last place has the items that the rules make of the first ones, behind earlier places.
-    fn chart_with(
-        &self,
-        earlier: &Places,
-        position: u32,
-        first: ItemSet,
-    ) -> Result<Chart, NoMemory>
+    fn chart_with(&self, earlier: &Places, position: u32, first: ItemSet) -> Result<Chart, NoMemory>
         requires { (number : ℕ) (p : Place) → slice_get earlier.now number ≡ Some p → p.position < position }
         ensures { AreWaiting self.now.grammar earlier.now → IfOk result (IsChartWith self.now earlier.now position first) }
     {
@@ -162,12 +157,7 @@ impl Charts {
     }
 
     /// The place with these items, behind earlier places.
-    fn place_with(
-        &self,
-        earlier: &Places,
-        position: u32,
-        items: ItemSet,
-    ) -> Result<Place, NoMemory>
+    fn place_with(&self, earlier: &Places, position: u32, items: ItemSet) -> Result<Place, NoMemory>
         ensures { IfOk result (IsPlaceWith self.now earlier.now position items) }
     {
         let alloc = *self.params.allocator();

@@ -120,12 +120,7 @@ impl Charts {
     }
 
     /// Adds the items that awaited the left side of a finished item, advanced over it.
-    fn complete(
-        &self,
-        kept: &Places,
-        set: &mut ItemSet,
-        item: Item,
-    ) -> Result<(), NoMemory>
+    fn complete(&self, kept: &Places, set: &mut ItemSet, item: Item) -> Result<(), NoMemory>
         requires { symbol_after self.now.grammar item ≡ None }
         ensures grows { (place : ℕ) → OnOk result (Grows (IsStepOver self.now.grammar kept.now place item) set.old set.new) }
         ensures worked { (place : ℕ) → OnOk result (AreWaiting self.now.grammar kept.now → IsWorked self.now.grammar kept.now place set.new item) }
