@@ -11,6 +11,7 @@ use Rattle.jm_earley.specs.declared.letter_set.LetterSet.{LetterSet}
 use Rattle.jm_earley.specs.declared.dead.DeadSets.{DeadSets}
 use Rattle.jm_earley.specs.declared.future.Future.{Future}
 use Rattle.jm_earley.specs.declared.future.Futures.{Futures}
+use Rattle.jm_earley.specs.declared.place.Place.{Place}
 use Rattle.jm_earley.specs.Items.{IsItemSet}
 use Rattle.jm_earley.specs.Futures.{IsAlive}
 use Rattle.jm_earley.specs.LetterSets.{IsExact}
@@ -19,14 +20,14 @@ use Rattle.jm_earley.specs.Places.{IsFuture, AreFutures, AreEarlier, AreEarlierO
 use Rattle.jm_earley.proofs.DeadLemmas.{slice_get_push, slice_get_kept}
 
 -- the first of the sets have their futures
-abbrev pub AreFuturesOf : GrammarDefinition → List LetterSet → List Item → List Futures → List Future → ℕ → Type 0
+abbrev pub AreFuturesOf : GrammarDefinition → List LetterSet → List Item → List Place → List Future → ℕ → Type 0
 AreFuturesOf g sets items earlier futures n =
     (number : ℕ) (set : LetterSet) → number < n → slice_get sets number ≡ Some set → (f : Future) × (slice_get futures number ≡ Some f) × IsFutureOf g set number items earlier f
 
 same_some : {X : Type 0} (x y : X) (o : Option X) → o ≡ Some x → o ≡ Some y → x ≡ y
 same_some x y o e f = ap (λ (p : Option _). unwrap_or p x) (sym e ∙ f)
 
-module _ (g : GrammarDefinition) (sets : List LetterSet) (items : List Item) (earlier : List Futures) where
+module _ (g : GrammarDefinition) (sets : List LetterSet) (items : List Item) (earlier : List Place) where
   pub one_more_future : (futures : List Future) (n : ℕ) (set : LetterSet) (f : Future) → length futures ≡ n → AreFuturesOf g sets items earlier futures n → slice_get sets n ≡ Some set
       → IsFutureOf g set n items earlier f → AreFuturesOf g sets items earlier (futures ++ f ∷ []) (n + 1)
   one_more_future futures n set f count each here there number other lt at = elim (cases_eq number n) [
@@ -43,17 +44,13 @@ module _ (g : GrammarDefinition) (sets : List LetterSet) (items : List Item) (ea
 
   earlier_of : (word : List ℕ) → AreEarlier g sets word earlier → (number : ℕ) (set : LetterSet) → slice_get sets number ≡ Some set → AreEarlierOf g set.letters number word earlier
   earlier_of word are number set at = record {
-    count = are.count;
-    each = λ place lt.
-        let some = some_at earlier place (omega (arith, are.count, lt)) in
-        let f = are.each place some.0 some.1 number set at in
-        (f.0, ap (λ (o : Option Futures). option_and_then (λ (x : Futures). slice_get x.futures.items number) o) some.1 ∙ f.1, f.2);
+    none = are.none;
+    each = λ x item lt.
+        let p = are.each x item lt in
+        let f = p.2 number set at in
+        (f.0, ap (λ (o : Option Place). option_and_then (λ (q : Place). slice_get q.futures.futures.items number) o) p.1 ∙ f.1, f.2);
+    past = are.past;
   }
-    where
-      some_at : (xs : List Futures) (k : ℕ) → k < length xs → (x : Futures) × (slice_get xs k ≡ Some x)
-      some_at [] k lt = absurd (omega arith)
-      some_at (x ∷ xs) zero lt = (x, refl)
-      some_at (x ∷ xs) (suc k) lt = some_at xs k (omega arith)
 
   set_exact_at : (number : ℕ) (set : LetterSet) → All (IsExact g.productions) sets → slice_get sets number ≡ Some set → IsExact g.productions set
   set_exact_at number set exact at =

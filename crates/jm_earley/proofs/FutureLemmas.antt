@@ -4,7 +4,7 @@ use Rattle.std.specs.Prelude.{IsBitSet, unwrap_or}
 use Rattle.std.specs.List.{list_any}
 use Rattle.std.specs.Option.{option_and_then}
 use Rattle.std.proofs.lemmas.Bool.{cases_lt, and_parts, and_from, or_cases as bool_cases, or_left, or_right, eqb-true, eq-eqb}
-use Rattle.std.proofs.lemmas.Option.{slice_get-get_or, slice_get_past}
+use Rattle.std.proofs.lemmas.Option.{slice_get-get_or}
 use Rattle.std.proofs.lemmas.List.{take_at, drop_at}
 use Rattle.std.proofs.lemmas.List.Elements.{All-head, All-tail, All-append, All-contains, Contains-append_right}
 use Rattle.std.proofs.lemmas.List.Folds.{Any-from_list_any, list_any-from_Any}
@@ -18,7 +18,7 @@ use Rattle.jm_earley.specs.declared.rule.Rule.{Rule}
 use Rattle.jm_earley.specs.declared.link.Link.{Link}
 use Rattle.jm_earley.specs.declared.letter_set.LetterSet.{LetterSet}
 use Rattle.jm_earley.specs.declared.future.Future.{Future}
-use Rattle.jm_earley.specs.declared.future.Futures.{Futures}
+use Rattle.jm_earley.specs.declared.place.Place.{Place}
 use Rattle.jm_earley.specs.Items.{IsItem, IsItemSet}
 use Rattle.jm_earley.specs.Futures.{IsRest, at_end, within, IsContinuation, CanEnd, CanGoOn, IsAlive}
 use Rattle.jm_earley.specs.Rules.{IsGained, at_once, later}
@@ -30,7 +30,7 @@ use Rattle.jm_earley.proofs.ExtensionLemmas.{rest_awaited, item_production, cont
 use Rattle.jm_earley.proofs.SpellLemmas.{Contains-cons_cases, Contains-head, from_map, to_map, All-front, All-back, none_or_some, some_front, some_back, can_spells, spells_can, can_goes_on, goes_on_can}
 
 module _ (g : GrammarDefinition) (small : IsSmall g.productions g.start) (set : LetterSet) (exact : IsExact g.productions set)
-    (word : List ℕ) (items : List Item) (all : IsItemSet g word items) (number : ℕ) (earlier : List Futures) (are : AreEarlierOf g set.letters number word earlier) where
+    (word : List ℕ) (items : List Item) (all : IsItemSet g word items) (number : ℕ) (earlier : List Place) (are : AreEarlierOf g set.letters number word earlier) where
   abbrev ps : List Production
   ps = g.productions
 
@@ -60,10 +60,9 @@ module _ (g : GrammarDefinition) (small : IsSmall g.productions g.start) (set : 
 
   there_cases : (item : Item) (i : IsItem g word item) → ((f : Future) × (there_of item ≡ Some f) × IsFuture g A i.before f) ⊎ ((there_of item ≡ None) × (i.before ≡ word))
   there_cases item i = elim (earlier_or_here item i) [
-    | inl h ↦ let f = are.each item.origin h.0 in inl (f.0, f.1, subst (λ (l : List ℕ). IsFuture g A l f.0) (sym h.1) f.2)
+    | inl h ↦ let f = are.each item i h.0 in inl (f.0, f.1, subst (λ (l : List ℕ). IsFuture g A l f.0) (sym h.1) f.2)
     | inr h ↦
-        let past : slice_get earlier item.origin ≡ None = slice_get_past earlier item.origin (omega (arith, are.count, h.0)) in
-        inr (ap (λ (o : Option Futures). option_and_then (λ (f : Futures). slice_get f.futures.items number) o) past, h.1)
+        inr (ap (λ (o : Option Place). option_and_then (λ (p : Place). slice_get p.futures.futures.items number) o) (are.past item.origin h.0), h.1)
   ]
 
   -- ---- what an item's link says
@@ -198,7 +197,7 @@ module _ (g : GrammarDefinition) (small : IsSmall g.productions g.start) (set : 
 
   ends_at_start : (n : ℕ) → start_here.always ≡ true → IsBitSet start_here.gives n → CanEnd g A word n
   ends_at_start n always gives =
-      let none : [] ≡ word = sym (nothing word (omega (arith, eqb-true _ _ always, are.count))) in
+      let none : [] ≡ word = sym (nothing word (are.none.0 (eqb-true _ _ always))) in
       let start : IsRest ps g.start [] n [] = subst (λ (k : ℕ). IsRest ps g.start [] k []) (sym (only_only g.start n gives)) at_end in
       ([], (λ k d lt. absurd (omega (arith, lt))), subst (λ (l : List ℕ). IsRest ps g.start l n []) none start)
 
@@ -253,7 +252,7 @@ module _ (g : GrammarDefinition) (small : IsSmall g.productions g.start) (set : 
   pub ends_complete : {w : List ℕ} {n : ℕ} {rest : List ℕ} → IsRest ps g.start w n rest → w ≡ word → All (IsBitSet A) rest → IsGained all_ends n
   unfolding step
   ends_complete at_end e h =
-      at_once start_here g.start (Contains-head (map ends_of items) start_here) (eq-eqb (length earlier) 0 (are.count ∙ ap length (sym e))) (only_same g.start small.first)
+      at_once start_here g.start (Contains-head (map ends_of items) start_here) (eq-eqb (length earlier) 0 (are.none.1 (ap length (sym e)))) (only_same g.start small.first)
   ends_complete (within before spelled w behind follows rest p front n back left there is trees trees' word_is rest_is) e h =
       let s = step before spelled behind follows p front n back left there is trees trees' (sym e ∙ word_is) in
       let i = s.is_item in

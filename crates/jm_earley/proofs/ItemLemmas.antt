@@ -1,5 +1,5 @@
 -- A set that is closed under the rules has exactly the items of the word: each step keeps what an item is, and each item is reached.
-use Rattle.std.proofs.Common.{ℕ, ◌≡◌, ◌==◌, ◌<◌, ◌+◌, inl, inr, List, [], ◌∷◌, ◌++◌, Some, length, slice_get, take, drop, Contains, refl, sym, ap, subst, ◌∙◌, arith, append_assoc, append-nil, length-append}
+use Rattle.std.proofs.Common.{ℕ, ◌≡◌, ◌==◌, ◌<◌, ◌+◌, ◌⊎◌, inl, inr, List, [], ◌∷◌, ◌++◌, Some, length, slice_get, take, drop, Contains, refl, sym, ap, subst, ◌∙◌, arith, append_assoc, append-nil, length-append}
 use Rattle.std.proofs.lemmas.Bool.{eqb-true}
 use Rattle.std.proofs.lemmas.Bool.Decides.{eqb_tells}
 use Rattle.std.proofs.lemmas.List.{take_all, take_at, take-append-drop, length-take-le}
@@ -12,10 +12,12 @@ use Rattle.jm_grammar.specs.Grammars.{GrammarDefinition}
 use Rattle.jm_grammar.specs.Derivations.{Trees, no_tree, leaf, node, Derives, IsWord}
 use Rattle.jm_grammar.proofs.RoundLemmas.{trees_append}
 use Rattle.jm_earley.specs.declared.item.Item.{Item}
+use Rattle.jm_earley.specs.declared.place.Place.{Place}
 use Rattle.jm_earley.specs.Items.{IsAwaited, at_start, inside, IsItem, IsItemSet, symbol_after, finished_left, advanced, IsWhole}
 use Rattle.jm_earley.specs.Growth.{IsAdvancedOver, IsPrediction, ArePredicted, IsStep, predicts, skips, completes, IsWorked, IsMade, given, stepped, IsClosure}
+use Rattle.jm_earley.specs.Kept.{place_at, IsKept}
 use Rattle.jm_earley.specs.Charts.{AreItemSets}
-use Rattle.jm_earley.proofs.PlaceLemmas.{Contains-place, place-Contains, place_of, split_at, take_next, place_behind, place_from_drop}
+use Rattle.jm_earley.proofs.PlaceLemmas.{Contains-place, place-Contains, split_at, take_next, place_behind, place_from_drop}
 
 module _ (g : GrammarDefinition) where
   -- an item of a production with nothing spelled
@@ -107,31 +109,32 @@ module _ (g : GrammarDefinition) where
 
   -- ---- each step keeps what an item is
 
-  module _ (word : List ℕ) (sets : List (List Item)) (exact : AreItemSets g word sets) (count : length sets ≡ length word) where
-    prediction_sound : (x : Item) (n : ℕ) (made : Item) → IsItem g word x → symbol_after g x ≡ Some (Nonterminal n) → IsPrediction g (length sets) n made → IsItem g word made
+  module _ (word : List ℕ) (kept : List Place) (place : ℕ) (exact : AreItemSets g word kept) (count : place ≡ length word) where
+    prediction_sound : (x : Item) (n : ℕ) (made : Item) → IsItem g word x → symbol_after g x ≡ Some (Nonterminal n) → IsPrediction g place n made → IsItem g word made
     prediction_sound x n made item after (number, p, at, left, is) =
         subst (λ (y : Item). IsItem g word y) (sym (is ∙ ap (λ k. begins number k) count)) (item_predicted word x n number p item after at left)
 
-    completion_sound : (x : Item) (n : ℕ) (from : List Item) (made : Item) → IsItem g word x → finished_left g x ≡ Some n → slice_get sets x.origin ≡ Some from → IsAdvancedOver g from (Nonterminal n) made → IsItem g word made
+    completion_sound : (x : Item) (n : ℕ) (from : Place) (made : Item) → IsItem g word x → finished_left g x ≡ Some n → place_at kept x.origin ≡ Some from → IsAdvancedOver g from.items (Nonterminal n) made → IsItem g word made
     completion_sound x n from made item finished at (y, there, after, is) =
         let d = item_derives word x n item finished in
         let front : take x.origin word ≡ d.0 = ap (λ (l : List ℕ). take x.origin l) d.2 ∙ take_at d.0 d.1 x.origin d.3 in
         let waiting : IsItem g d.0 y = subst (λ (l : List ℕ). IsItem g l y) front ((exact x.origin from at y).0 there) in
         subst (λ (z : Item). IsItem g word z) (sym is) (item_over d.0 d.1 word y (Nonterminal n) waiting after d.4 d.2)
 
-    pub step_sound : (x made : Item) → IsItem g word x → IsStep g sets x made → IsItem g word made
+    pub step_sound : (x made : Item) → IsItem g word x → IsStep g kept place x made → IsItem g word made
     step_sound x made item (predicts n after prediction) = prediction_sound x n made item after prediction
     step_sound x made item (skips n after empty is) =
         subst (λ (z : Item). IsItem g word z) (sym is) (item_over word [] word x (Nonterminal n) item after empty (sym (append-nil word)))
     step_sound x made item (completes n from finished at over) = completion_sound x n from made item finished at over
 
-    pub made_sound : (first : List Item) → ((x : Item) → Contains first x → IsItem g word x) → {x : Item} → IsMade g sets first x → IsItem g word x
+    pub made_sound : (first : List Item) → ((x : Item) → Contains first x → IsItem g word x) → {x : Item} → IsMade g kept place first x → IsItem g word x
     made_sound first sound (given x there) = sound x there
     made_sound first sound (stepped x made before step) = step_sound x made (made_sound first sound before) step
 
     -- ---- each item is reached
 
-    module _ (items : List Item) (worked : (x : Item) → Contains items x → IsWorked g sets items x)
+    module _ (items : List Item) (worked : (x : Item) → Contains items x → IsWorked g kept place items x)
+        (covered : (x : Item) → Contains items x → x.origin < place → IsKept kept x.origin)
         (scanned : (before : List ℕ) (a : LetterType) → word ≡ before ++ a.0 ∷ [] → (x : Item) → IsItem g before x → symbol_after g x ≡ Some (Letter a) → Contains items (advanced x))
         (begun : word ≡ [] → ArePredicted g 0 g.start items) where
       -- an item before symbols that spell the rest of the word is there with all of them before its dot; at once, where they spell nothing
@@ -148,15 +151,15 @@ module _ (g : GrammarDefinition) where
           let first = c ∷ cs in
           let q : Production = record { left = n; symbols = below } in
           let long : length word ≡ length before + length (c ∷ cs) = ap length is ∙ length-append before (c ∷ cs) in
-          let lt : length before < length sets = omega (arith, long, count) in
-          let from = place_of sets (length before) lt in
+          let lt : length before < place = omega (arith, long, count) in
           let front : take (length before) word ≡ before = ap (λ (l : List ℕ). take (length before) l) is ∙ take_at before (c ∷ cs) (length before) refl in
-          let in_from : Contains from.0 x = (exact (length before) from.0 from.1 x).1 (subst (λ (l : List ℕ). IsItem g l x) (sym front) item) in
           let number = place-Contains g.productions q there in
           let y = begins number.0 (length before) in
           let y_item = item_predicted before x n number.0 q item after number.1 refl in
           let last : Contains items (at_dot y (length below)) =
           reaches y before q [] number.1 (sym (append-nil below)) y_item is (λ e. absurd (cc)) (length below) (omega arith) in
+          let from = covered (at_dot y (length below)) last lt in
+          let in_from : Contains from.0.items x = (exact (length before) from.0 from.1 x).1 (subst (λ (l : List ℕ). IsItem g l x) (sym front) item) in
           (worked (at_dot y (length below)) last).completed n from.0 (finished_from (at_dot y (length below)) q number.1 refl) from.1 x in_from after
 
       pub reach : {symbols : List GrammarSymbol} {spelled : List ℕ} → Trees g.productions symbols spelled → Reaches symbols spelled
@@ -209,14 +212,28 @@ module _ (g : GrammarDefinition) where
 
   -- ---- the items of a place
 
-  pub closure_exact : (word : List ℕ) (sets : List (List Item)) (first items : List Item) → AreItemSets g word sets → length sets ≡ length word → IsClosure g sets first items
+  -- an item that is made began here, or at a place that is kept
+  module _ (kept : List Place) (place : ℕ) (first : List Item) (closed : (position : ℕ) (p : Place) → place_at kept position ≡ Some p → (x : Item) → Contains p.items x → IsKept kept x.origin)
+      (begins_kept : (x : Item) → Contains first x → (x.origin ≡ place) ⊎ IsKept kept x.origin) where
+    step_kept : (x made : Item) → (x.origin ≡ place) ⊎ IsKept kept x.origin → IsStep g kept place x made → (made.origin ≡ place) ⊎ IsKept kept made.origin
+    step_kept x made from (predicts n after (number, p, at, left, is)) = inl (ap (λ (y : Item). y.origin) is)
+    step_kept x made from (skips n after empty is) = subst (λ (y : Item). (y.origin ≡ place) ⊎ IsKept kept y.origin) (sym is) from
+    step_kept x made from (completes n p finished at (y, there, after, is)) =
+        inr (subst (λ (z : Item). IsKept kept z.origin) (sym is) (closed x.origin p at y there))
+
+    pub made_kept : {x : Item} → IsMade g kept place first x → (x.origin ≡ place) ⊎ IsKept kept x.origin
+    made_kept (given x there) = begins_kept x there
+    made_kept (stepped x made before step) = step_kept x made (made_kept before) step
+
+  pub closure_exact : (word : List ℕ) (kept : List Place) (place : ℕ) (first items : List Item) → AreItemSets g word kept → place ≡ length word → IsClosure g kept place first items
+      → ((x : Item) → Contains items x → x.origin < place → IsKept kept x.origin)
       → ((x : Item) → Contains first x → IsItem g word x)
       → ((before : List ℕ) (a : LetterType) → word ≡ before ++ a.0 ∷ [] → (x : Item) → IsItem g before x → symbol_after g x ≡ Some (Letter a) → Contains first (advanced x))
       → (word ≡ [] → ArePredicted g 0 g.start first) → IsItemSet g word items
-  closure_exact word sets first items exact count closure sound scanned begun x = (
-    λ there. made_sound word sets exact count first sound (closure.made x there),
-    λ item. complete word sets exact count items closure.worked (λ before a is y y_item after. closure.kept (advanced y) (scanned before a is y y_item after))
-        (λ empty number p at left. closure.kept (begins number 0) (begun empty number p at left)) x item,
+  closure_exact word kept place first items exact count closure covered sound scanned begun x = (
+    λ there. made_sound word kept place exact count first sound (closure.made x there),
+    λ item. complete word kept place exact count items closure.worked covered (λ before a is y y_item after. closure.kept_first (advanced y) (scanned before a is y y_item after))
+        (λ empty number p at left. closure.kept_first (begins number 0) (begun empty number p at left)) x item,
   )
 
   -- ---- the words

@@ -2,6 +2,9 @@ pub mod PlaceLemmas
 pub mod SetLemmas
 pub mod GrowthLemmas
 pub mod ItemLemmas
+pub mod KeptLemmas
+pub mod MarkLemmas
+pub mod PickLemmas
 pub mod WaitingLemmas
 pub mod WorkLemmas
 pub mod ChartLemmas
@@ -13,4 +16,3 @@ pub mod DeadLemmas
 pub mod FutureLemmas
 pub mod AnswerLemmas
 pub mod HopelessLemmas
-pub mod JoinLemmas

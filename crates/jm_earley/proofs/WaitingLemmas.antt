@@ -8,17 +8,20 @@ use Rattle.jm_model.specs.declared.step.Letter.{Letter as LetterType}
 use Rattle.jm_grammar.specs.declared.grammar.GrammarSymbol.TheVariants.{Letter, Nonterminal}
 use Rattle.jm_grammar.specs.Grammars.{GrammarDefinition}
 use Rattle.jm_earley.specs.declared.item.Item.{Item}
+use Rattle.jm_earley.specs.declared.place.Place.{Place}
+use Rattle.jm_earley.specs.Kept.{place_at}
 use Rattle.jm_earley.specs.Items.{symbol_after, finished_left}
 use Rattle.jm_earley.specs.Growth.{Grows, IsAdvancedOver, AreAdvancedOver, completes, IsWorked}
 use Rattle.jm_earley.specs.Waiting.{IsEmpty, IsWaiting, IsWithWaiting, AreWaiting, IsStepOver}
-use Rattle.jm_earley.proofs.PlaceLemmas.{take_next, place_of, slice_get-push_cases}
+use Rattle.jm_earley.proofs.PlaceLemmas.{take_next}
 use Rattle.jm_earley.proofs.GrowthLemmas.{grows_weaker}
 
--- lists that are all empty
-pub no_items : {X : Type 0} (f : X → List Item) (xs : List X) → All (λ x. f x ≡ []) xs → IsEmpty (map f xs)
-no_items f [] each j = refl
-no_items f (x ∷ xs) each zero = All-head (λ y. f y ≡ []) x xs each
-no_items f (x ∷ xs) each (suc j) = no_items f xs (All-tail (λ y. f y ≡ []) x xs each) j
+-- an empty list more
+pub empty_more : {X : Type 0} (f : X → List Item) (xs : List X) (x : X) → f x ≡ [] → (j : ℕ) → get_or (map f (xs ++ x ∷ [])) j [] ≡ get_or (map f xs) j []
+empty_more f [] x none zero = none
+empty_more f [] x none (suc j) = refl
+empty_more f (y ∷ xs) x none zero = refl
+empty_more f (y ∷ xs) x none (suc j) = empty_more f xs x none j
 
 module _ {X : Type 0} (f : X → List Item) (xs : List X) (i : ℕ) (x : X) where
   pub written_here : i < length xs → get_or (map f (set xs i x)) i [] ≡ f x
@@ -80,43 +83,39 @@ module _ (g : GrammarDefinition) where
         ]),
       )
 
-  -- ---- place by place
-
-  pub no_waiting : AreWaiting g [] []
-  no_waiting = record { count = refl; each = λ i items lists at. absurd (none-some items at) }
-
-  pub more_waiting : (sets : List (List Item)) (waiting : List (List (List Item))) (items : List Item) (lists : List (List Item)) → AreWaiting g sets waiting → IsWaiting g items lists
-      → AreWaiting g (sets ++ items ∷ []) (waiting ++ lists ∷ [])
-  more_waiting sets waiting items lists are is = record {
-    count = omega (arith, length-append sets (items ∷ []), length-append waiting (lists ∷ []), are.count);
-    each = λ i s w at_s at_w. elim (slice_get-push_cases sets items i s at_s) [
-      | inl old ↦ elim (slice_get-push_cases waiting lists i w at_w) [
-        | inl also ↦ are.each i s w old also
-        | inr (place, same) ↦ absurd (omega (arith, place, slice_get_within sets i s old, are.count))
-      ]
-      | inr (place, same) ↦ elim (slice_get-push_cases waiting lists i w at_w) [
-        | inl old ↦ absurd (omega (arith, place, slice_get_within waiting i w old, are.count))
-        | inr (also, last) ↦ subst (λ (l : List Item). IsWaiting g l w) same (subst (λ (l : List (List Item)). IsWaiting g items l) last is)
-      ]
-    ];
-  }
-
   -- ---- completions
 
-  module _ (sets : List (List Item)) (waiting : List (List (List Item))) (x : Item) where
-    module _ (n : ℕ) (lists : List (List Item)) (finished : finished_left g x ≡ Some n) (there : slice_get waiting x.origin ≡ Some lists) (old new : List Item) where
-      pub completes_over : Grows (IsAdvancedOver g (get_or lists n []) (Nonterminal n)) old new → Grows (IsStepOver g sets waiting x) old new
-      completes_over grows = grows_weaker (IsAdvancedOver g (get_or lists n []) (Nonterminal n)) (IsStepOver g sets waiting x) (λ made (y, among, after, is) are.
-          let from = place_of sets x.origin (omega (arith, are.count, slice_get_within waiting x.origin lists there)) in
-          let known = (are.each x.origin from.0 lists from.1 there n y).0 among in
-          completes n from.0 finished from.1 (y, known.0, after, is)) old new grows
+  module _ (kept : List Place) (place : ℕ) (x : Item) where
+    module _ (n : ℕ) (from : Place) (finished : finished_left g x ≡ Some n) (there : place_at kept x.origin ≡ Some from) (old new : List Item) where
+      pub completes_over : Grows (IsAdvancedOver g (get_or from.waiting n []) (Nonterminal n)) old new → Grows (IsStepOver g kept place x) old new
+      completes_over grows = grows_weaker (IsAdvancedOver g (get_or from.waiting n []) (Nonterminal n)) (IsStepOver g kept place x) (λ made (y, among, after, is) are.
+          let known = (are x.origin from there n y).0 among in
+          completes n from finished there (y, known.0, after, is)) old new grows
 
-      pub completes_worked : symbol_after g x ≡ None → AreAdvancedOver g (get_or lists n []) (Nonterminal n) new → AreWaiting g sets waiting → IsWorked g sets new x
+      pub completes_worked : symbol_after g x ≡ None → AreAdvancedOver g (get_or from.waiting n []) (Nonterminal n) new → AreWaiting g kept → IsWorked g kept place new x
       completes_worked end all are = record {
         predicted = λ m after. absurd (none-some (Nonterminal m) (sym end ∙ after));
         skipped = λ m after. absurd (none-some (Nonterminal m) (sym end ∙ after));
-        completed = λ m from also at y among after.
+        completed = λ m other also at y among after.
             let same : m ≡ n = same_Some m n (sym also ∙ finished) in
+            let place_same : other ≡ from = same_Some other from (sym at ∙ there) in
+            let inside : Contains from.items y = subst (λ (p : Place). Contains p.items y) place_same among in
             let awaits : symbol_after g y ≡ Some (Nonterminal n) = subst (λ (k : ℕ). symbol_after g y ≡ Some (Nonterminal k)) same after in
-            all y ((are.each x.origin from lists at there n y).1 (among, awaits)) awaits;
+            all y ((are x.origin from there n y).1 (inside, awaits)) awaits;
       }
+
+    -- an item that isn't finished completes nothing
+    pub nothing_to_complete : symbol_after g x ≡ None → finished_left g x ≡ None → (items : List Item) → IsWorked g kept place items x
+    nothing_to_complete end other items = record {
+      predicted = λ m after. absurd (none-some (Nonterminal m) (sym end ∙ after));
+      skipped = λ m after. absurd (none-some (Nonterminal m) (sym end ∙ after));
+      completed = λ m from also. absurd (none-some m (sym other ∙ also));
+    }
+
+    -- nor one that began at no place that is kept
+    pub none_to_complete : symbol_after g x ≡ None → place_at kept x.origin ≡ None → (items : List Item) → IsWorked g kept place items x
+    none_to_complete end other items = record {
+      predicted = λ m after. absurd (none-some (Nonterminal m) (sym end ∙ after));
+      skipped = λ m after. absurd (none-some (Nonterminal m) (sym end ∙ after));
+      completed = λ m from also at. absurd (none-some from (sym other ∙ at));
+    }

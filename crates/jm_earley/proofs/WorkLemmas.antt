@@ -9,6 +9,7 @@ use Rattle.jm_grammar.specs.declared.grammar.Production.{Production}
 use Rattle.jm_grammar.specs.Grammars.{GrammarDefinition}
 use Rattle.jm_grammar.specs.Derivations.{Derives}
 use Rattle.jm_earley.specs.declared.item.Item.{Item}
+use Rattle.jm_earley.specs.declared.place.Place.{Place}
 use Rattle.jm_earley.specs.Items.{symbol_after, finished_left, advanced}
 use Rattle.jm_earley.specs.Growth.{Grows, IsPrediction, ArePredicted, IsPredictedSet, IsStep, predicts, skips, IsWorked, IsMade, stepped}
 use Rattle.jm_earley.proofs.PlaceLemmas.{Contains-place, place-Contains, place_of, past_end}
@@ -38,9 +39,9 @@ module _ (g : GrammarDefinition) where
     pub predicted_set_grows : (place predicted : ℕ) (a b : List Item) → Grows P a b → IsPredictedSet g place predicted a → IsPredictedSet g place predicted b
     predicted_set_grows place predicted a b grows all n bit = predicted_grows place n a b grows (all n bit)
 
-    pub worked_grows : (sets : List (List Item)) (x : Item) (a b : List Item) → Grows P a b → IsWorked g sets a x → IsWorked g sets b x
-    worked_grows sets x a b grows worked = record {
-      predicted = λ n after. predicted_grows (length sets) n a b grows (worked.predicted n after);
+    pub worked_grows : (kept : List Place) (place : ℕ) (x : Item) (a b : List Item) → Grows P a b → IsWorked g kept place a x → IsWorked g kept place b x
+    worked_grows kept place x a b grows worked = record {
+      predicted = λ n after. predicted_grows place n a b grows (worked.predicted n after);
       skipped = λ n after empty. grows_contains P a b (advanced x) grows (worked.skipped n after empty);
       completed = λ n from finished at y there after. grows_contains P a b (advanced y) grows (worked.completed n from finished at y there after);
     }
@@ -49,17 +50,17 @@ module _ (g : GrammarDefinition) where
   abbrev pub IsSkip : Item → ℕ → Item → Type 0
   IsSkip item n x = Derives g.productions n [] × (x ≡ advanced item)
 
-  module _ (sets : List (List Item)) (item : Item) where
-    pub nonterminal_grows : (n : ℕ) (a b d : List Item) → symbol_after g item ≡ Some (Nonterminal n) → Grows (IsPrediction g (length sets) n) a b → Grows (IsSkip item n) b d → Grows (IsStep g sets item) a d
+  module _ (kept : List Place) (place : ℕ) (item : Item) where
+    pub nonterminal_grows : (n : ℕ) (a b d : List Item) → symbol_after g item ≡ Some (Nonterminal n) → Grows (IsPrediction g place n) a b → Grows (IsSkip item n) b d → Grows (IsStep g kept place item) a d
     nonterminal_grows n a b d after first second =
-        let S = λ (x : Item). IsStep g sets item x in
-        grows_then S a b d (grows_weaker (IsPrediction g (length sets) n) S (λ x prediction. predicts n after prediction) a b first)
+        let S = λ (x : Item). IsStep g kept place item x in
+        grows_then S a b d (grows_weaker (IsPrediction g place n) S (λ x prediction. predicts n after prediction) a b first)
         (grows_weaker (IsSkip item n) S (λ x skip. skips n after skip.0 skip.1) b d second)
 
-    pub nonterminal_worked : (n : ℕ) (b d : List Item) → symbol_after g item ≡ Some (Nonterminal n) → ArePredicted g (length sets) n b → Grows (IsSkip item n) b d
-        → (Derives g.productions n [] → Contains d (advanced item)) → IsWorked g sets d item
+    pub nonterminal_worked : (n : ℕ) (b d : List Item) → symbol_after g item ≡ Some (Nonterminal n) → ArePredicted g place n b → Grows (IsSkip item n) b d
+        → (Derives g.productions n [] → Contains d (advanced item)) → IsWorked g kept place d item
     nonterminal_worked n b d after all second skipped = record {
-      predicted = λ m other. subst (λ (k : ℕ). ArePredicted g (length sets) k d) (same n m after other) (predicted_grows (IsSkip item n) (length sets) n b d second all);
+      predicted = λ m other. subst (λ (k : ℕ). ArePredicted g place k d) (same n m after other) (predicted_grows (IsSkip item n) place n b d second all);
       skipped = λ m other empty. skipped (subst (λ (k : ℕ). Derives g.productions k []) (sym (same n m after other)) empty);
       completed = λ m from finished. absurd (not_finished item (Nonterminal n) m after finished);
     }
@@ -67,7 +68,7 @@ module _ (g : GrammarDefinition) where
         same : (n m : ℕ) → symbol_after g item ≡ Some (Nonterminal n) → symbol_after g item ≡ Some (Nonterminal m) → n ≡ m
         same n m one two = let e : Nonterminal n ≡ Nonterminal m = same_Some (Nonterminal n) (Nonterminal m) (sym one ∙ two) in cc
 
-    pub letter_worked : (a : LetterType) (items : List Item) → symbol_after g item ≡ Some (Letter a) → IsWorked g sets items item
+    pub letter_worked : (a : LetterType) (items : List Item) → symbol_after g item ≡ Some (Letter a) → IsWorked g kept place items item
     letter_worked a items after = record {
       predicted = λ n other. absurd (clash n other);
       skipped = λ n other. absurd (clash n other);
@@ -79,32 +80,32 @@ module _ (g : GrammarDefinition) where
 
   -- ---- the work so far
 
-  module _ (sets : List (List Item)) (first : List Item) where
+  module _ (kept : List Place) (place : ℕ) (first : List Item) where
     abbrev pub AreWorked : ℕ → List Item → Type 0
-    AreWorked number items = (k : ℕ) (x : Item) → k < number → slice_get items k ≡ Some x → IsWorked g sets items x
+    AreWorked number items = (k : ℕ) (x : Item) → k < number → slice_get items k ≡ Some x → IsWorked g kept place items x
 
-    pub one_worked : (number : ℕ) (item : Item) (a b : List Item) → slice_get a number ≡ Some item → Grows (IsStep g sets item) a b → IsWorked g sets b item → AreWorked number a → AreWorked (number + 1) b
+    pub one_worked : (number : ℕ) (item : Item) (a b : List Item) → slice_get a number ≡ Some item → Grows (IsStep g kept place item) a b → IsWorked g kept place b item → AreWorked number a → AreWorked (number + 1) b
     one_worked number item a b at grows worked before k x lt here =
         let there = slice_get_within a number item at in
         elim (cases_lt k number) [
           | inl earlier ↦
               let old = place_of a k (omega (arith, there)) in
               let same : old.0 ≡ x = same_Some old.0 x (sym (grows.kept k old.0 old.1) ∙ here) in
-              subst (λ (y : Item). IsWorked g sets b y) same (worked_grows (IsStep g sets item) sets old.0 a b grows (before k old.0 earlier old.1))
+              subst (λ (y : Item). IsWorked g kept place b y) same (worked_grows (IsStep g kept place item) kept place old.0 a b grows (before k old.0 earlier old.1))
           | inr later ↦
               let now : k ≡ number = omega (arith, later, lt) in
               let same : item ≡ x = same_Some item x (sym (grows.kept number item at) ∙ ap (λ j. slice_get b j) (sym now) ∙ here) in
-              subst (λ (y : Item). IsWorked g sets b y) same worked
+              subst (λ (y : Item). IsWorked g kept place b y) same worked
         ]
 
-    pub one_made : (number : ℕ) (item : Item) (a b : List Item) → slice_get a number ≡ Some item → Grows (IsStep g sets item) a b
-        → ((x : Item) → Contains a x → IsMade g sets first x) → (x : Item) → Contains b x → IsMade g sets first x
+    pub one_made : (number : ℕ) (item : Item) (a b : List Item) → slice_get a number ≡ Some item → Grows (IsStep g kept place item) a b
+        → ((x : Item) → Contains a x → IsMade g kept place first x) → (x : Item) → Contains b x → IsMade g kept place first x
     one_made number item a b at grows before x there = elim (grows.only x there) [
       | inl old ↦ before x old
       | inr step ↦ stepped item x (before item (Contains-place a number item at)) step
     ]
 
-    pub all_worked : (number : ℕ) (items : List Item) → slice_get items number ≡ None → AreWorked number items → (x : Item) → Contains items x → IsWorked g sets items x
+    pub all_worked : (number : ℕ) (items : List Item) → slice_get items number ≡ None → AreWorked number items → (x : Item) → Contains items x → IsWorked g kept place items x
     all_worked number items end worked x there =
         let place = place-Contains items x there in
         let within = slice_get_within items place.0 x place.1 in

@@ -1,5 +1,5 @@
 -- What charts are, and which word a chart stands for.
-use Rattle.std.specs.Prelude.{ℕ, ◌≡◌, ◌<◌, ◌+◌, ◌++◌, ◌∷◌, [], ◌↔◌, List, length, take, All, Some, IsBitSet, slice_get}
+use Rattle.std.specs.Prelude.{ℕ, ◌≡◌, ◌<◌, ◌≤◌, ◌-◌, ◌↔◌, List, length, take, All, Contains, Some, IsBitSet, slice_get}
 use Rattle.jm_grammar.specs.declared.grammar.GrammarSymbol.{GrammarSymbol}
 use Rattle.jm_grammar.specs.declared.grammar.GrammarSymbol.TheVariants.{Letter, Nonterminal}
 use Rattle.jm_grammar.specs.declared.grammar.Production.{Production}
@@ -7,9 +7,11 @@ use Rattle.jm_grammar.specs.Grammars.{GrammarDefinition}
 use Rattle.jm_grammar.specs.Derivations.{DerivesOf, DerivesSome, IsIn}
 use Rattle.jm_earley.specs.declared.item.Item.{Item}
 use Rattle.jm_earley.specs.declared.letter_set.LetterSet.{LetterSet}
-use Rattle.jm_earley.specs.declared.future.Futures.{Futures}
+use Rattle.jm_earley.specs.declared.place.Place.{Place}
 use Rattle.jm_earley.specs.Items.{IsItemSet}
-use Rattle.jm_earley.specs.Waiting.{IsWaiting, AreWaiting}
+use Rattle.jm_earley.specs.Kept.{place_at, IsKept, IsFollowedBy}
+use Rattle.jm_earley.specs.Growth.{IsClosure}
+use Rattle.jm_earley.specs.Waiting.{IsWaiting}
 use Rattle.jm_earley.specs.Places.{AreFutures, AreEarlier}
 
 -- A grammar, the set of parameters of each letter, and the sets of letters for which a chart keeps what may follow.
@@ -18,15 +20,9 @@ pub record ChartsDefinition : Type 0 where
   pub params : List ℕ
   pub letter_sets : List LetterSet
 
--- The items of each place, and again those that await a nonterminal, by its number.
-pub record ItemsDefinition : Type 0 where
-  pub sets : List (List Item)
-  pub waiting : List (List (List Item))
-
--- The items of each place, and what may follow there.
+-- The places that it keeps.
 pub record ChartDefinition : Type 0 where
-  pub items : ItemsDefinition
-  pub futures : List Futures
+  pub places : List Place
 
 -- a letter is below this number
 abbrev pub IsBelow : ℕ → GrammarSymbol → Type 0
@@ -44,32 +40,35 @@ pub record IsReduced (g : GrammarDefinition) (params : List ℕ) (nullable : ℕ
   pub letters : AreBelow g.productions (length params)
   pub empty : (n : ℕ) → IsBitSet nullable n ↔ DerivesOf g.productions 0 n
 
--- set i has the items of the first i letters
-abbrev pub AreItemSets : GrammarDefinition → List ℕ → List (List Item) → Type 0
-AreItemSets g word sets = (i : ℕ) (items : List Item) → slice_get sets i ≡ Some items → IsItemSet g (take i word) items
+-- the items of each place that is kept are those of the front of the word up to there
+abbrev pub AreItemSets : GrammarDefinition → List ℕ → List Place → Type 0
+AreItemSets g word kept = (position : ℕ) (p : Place) → place_at kept position ≡ Some p → IsItemSet g (take position word) p.items
 
--- there are the items of each place of the word
-pub record HasItems (g : GrammarDefinition) (word : List ℕ) (items : ItemsDefinition) : Type 0 where
-  pub count : length items.sets ≡ length word + 1
-  pub each : AreItemSets g word items.sets
-  pub waiting : AreWaiting g items.sets items.waiting
+-- The place has the items of the word, by the nonterminals that they await too, and what may follow it.
+pub record IsPlaceOf (charts : ChartsDefinition) (word : List ℕ) (p : Place) : Type 0 where
+  pub items : IsItemSet charts.grammar word p.items
+  pub waiting : IsWaiting charts.grammar p.items p.waiting
+  pub futures : AreFutures charts.grammar charts.letter_sets word p.futures
 
--- there is what may follow at each place of the word
-pub record HasFutures (g : GrammarDefinition) (letter_sets : List LetterSet) (word : List ℕ) (futures : List Futures) : Type 0 where
-  pub count : length futures ≡ length word + 1
-  pub each : (i : ℕ) (f : Futures) → slice_get futures i ≡ Some f → AreFutures g letter_sets (take i word) f
-
--- The chart stands for the word: it has the items of each place of it, and what may follow there.
+-- The chart stands for the word: its last place is that at the word's end; each place that it keeps is that of a front of the
+-- word; and it keeps each place where an item of one of them began.
 pub record IsChartOf (charts : ChartsDefinition) (word : List ℕ) (chart : ChartDefinition) : Type 0 where
-  pub items : HasItems charts.grammar word chart.items
-  pub futures : HasFutures charts.grammar charts.letter_sets word chart.futures
+  pub last : Place
+  pub ends : slice_get chart.places (length chart.places - 1) ≡ Some last
+  pub here : place_at chart.places (length word) ≡ Some last
+  pub each : (position : ℕ) (p : Place) → place_at chart.places position ≡ Some p → (position ≤ length word) × IsPlaceOf charts (take position word) p
+  pub closed : (position : ℕ) (p : Place) → place_at chart.places position ≡ Some p → (x : Item) → Contains p.items x → IsKept chart.places x.origin
 
--- The chart has one place more than these, with these items, and with what may follow where these are its items.
-pub record IsWithPlace (charts : ChartsDefinition) (before : ItemsDefinition) (futures : List Futures) (items : List Item) (chart : ChartDefinition) : Type 0 where
-  pub items_are : chart.items.sets ≡ before.sets ++ items ∷ []
-  pub lists : List (List Item)
-  pub waiting_are : chart.items.waiting ≡ before.waiting ++ lists ∷ []
-  pub waits : IsWaiting charts.grammar items lists
-  pub future : Futures
-  pub futures_are : chart.futures ≡ futures ++ future ∷ []
-  pub follows : (word : List ℕ) → IsItemSet charts.grammar word items → AreEarlier charts.grammar charts.letter_sets word futures → AreFutures charts.grammar charts.letter_sets word future
+-- The place has this position and these items, and what may follow where these are the items behind earlier places.
+pub record IsPlaceWith (charts : ChartsDefinition) (earlier : List Place) (position : ℕ) (items : List Item) (p : Place) : Type 0 where
+  pub position_is : p.position ≡ position
+  pub items_are : p.items ≡ items
+  pub waits : IsWaiting charts.grammar items p.waiting
+  pub follows : (word : List ℕ) → IsItemSet charts.grammar word items → AreEarlier charts.grammar charts.letter_sets word earlier → AreFutures charts.grammar charts.letter_sets word p.futures
+
+-- The chart has the place of what the rules make of the first items, and those of the earlier places that its items reach.
+pub record IsChartWith (charts : ChartsDefinition) (earlier : List Place) (position : ℕ) (first : List Item) (chart : ChartDefinition) : Type 0 where
+  pub place : Place
+  pub closure : IsClosure charts.grammar earlier position first place.items
+  pub place_is : IsPlaceWith charts earlier position place.items place
+  pub follows : IsFollowedBy earlier place chart.places

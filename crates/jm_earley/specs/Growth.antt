@@ -1,12 +1,14 @@
 -- How the items of a place grow, rule by rule (Earley 1970; Aycock and Horspool 2002 for nonterminals that spell the empty word).
-use Rattle.std.specs.Prelude.{ℕ, ◌≡◌, ◌⊎◌, List, [], ◌∷◌, ◌++◌, Some, IsBitSet, Contains, length, slice_get}
+use Rattle.std.specs.Prelude.{ℕ, ◌≡◌, ◌⊎◌, List, [], ◌∷◌, ◌++◌, Some, IsBitSet, Contains, slice_get}
 use Rattle.jm_grammar.specs.declared.grammar.GrammarSymbol.{GrammarSymbol}
 use Rattle.jm_grammar.specs.declared.grammar.GrammarSymbol.TheVariants.{Nonterminal}
 use Rattle.jm_grammar.specs.declared.grammar.Production.{Production}
 use Rattle.jm_grammar.specs.Grammars.{GrammarDefinition}
 use Rattle.jm_grammar.specs.Derivations.{Derives}
 use Rattle.jm_earley.specs.declared.item.Item.{Item}
+use Rattle.jm_earley.specs.declared.place.Place.{Place}
 use Rattle.jm_earley.specs.Items.{symbol_after, finished_left, advanced}
+use Rattle.jm_earley.specs.Kept.{place_at}
 
 -- the items after one is added: it was there, or goes last
 abbrev pub IsWithItem : List Item → Item → List Item → Type 0
@@ -39,26 +41,26 @@ ArePredicted g place n items =
 abbrev pub IsPredictedSet : GrammarDefinition → ℕ → ℕ → List Item → Type 0
 IsPredictedSet g place predicted items = (n : ℕ) → IsBitSet predicted n → ArePredicted g place n items
 
--- What the rules make of an item at the place behind these sets: the productions of the nonterminal that it awaits; the item
+-- What the rules make of an item at a place behind those kept: the productions of the nonterminal that it awaits; the item
 -- itself over a nonterminal that spells the empty word; the items that awaited its left side, where it is finished.
-pub data IsStep (g : GrammarDefinition) (sets : List (List Item)) (x : Item) (made : Item) : Type 0 where
-  predicts : (n : ℕ) → symbol_after g x ≡ Some (Nonterminal n) → IsPrediction g (length sets) n made → IsStep g sets x made
-  skips : (n : ℕ) → symbol_after g x ≡ Some (Nonterminal n) → Derives g.productions n [] → made ≡ advanced x → IsStep g sets x made
-  completes : (n : ℕ) (from : List Item) → finished_left g x ≡ Some n → slice_get sets x.origin ≡ Some from → IsAdvancedOver g from (Nonterminal n) made → IsStep g sets x made
+pub data IsStep (g : GrammarDefinition) (kept : List Place) (place : ℕ) (x : Item) (made : Item) : Type 0 where
+  predicts : (n : ℕ) → symbol_after g x ≡ Some (Nonterminal n) → IsPrediction g place n made → IsStep g kept place x made
+  skips : (n : ℕ) → symbol_after g x ≡ Some (Nonterminal n) → Derives g.productions n [] → made ≡ advanced x → IsStep g kept place x made
+  completes : (n : ℕ) (from : Place) → finished_left g x ≡ Some n → place_at kept x.origin ≡ Some from → IsAdvancedOver g from.items (Nonterminal n) made → IsStep g kept place x made
 
 -- all that the rules make of an item is there
-pub record IsWorked (g : GrammarDefinition) (sets : List (List Item)) (items : List Item) (x : Item) : Type 0 where
-  pub predicted : (n : ℕ) → symbol_after g x ≡ Some (Nonterminal n) → ArePredicted g (length sets) n items
+pub record IsWorked (g : GrammarDefinition) (kept : List Place) (place : ℕ) (items : List Item) (x : Item) : Type 0 where
+  pub predicted : (n : ℕ) → symbol_after g x ≡ Some (Nonterminal n) → ArePredicted g place n items
   pub skipped : (n : ℕ) → symbol_after g x ≡ Some (Nonterminal n) → Derives g.productions n [] → Contains items (advanced x)
-  pub completed : (n : ℕ) (from : List Item) → finished_left g x ≡ Some n → slice_get sets x.origin ≡ Some from → AreAdvancedOver g from (Nonterminal n) items
+  pub completed : (n : ℕ) (from : Place) → finished_left g x ≡ Some n → place_at kept x.origin ≡ Some from → AreAdvancedOver g from.items (Nonterminal n) items
 
 -- the rules make the item from the first ones
-pub data IsMade (g : GrammarDefinition) (sets : List (List Item)) (first : List Item) : Item → Type 0 where
-  given : (x : Item) → Contains first x → IsMade g sets first x
-  stepped : (x made : Item) → IsMade g sets first x → IsStep g sets x made → IsMade g sets first made
+pub data IsMade (g : GrammarDefinition) (kept : List Place) (place : ℕ) (first : List Item) : Item → Type 0 where
+  given : (x : Item) → Contains first x → IsMade g kept place first x
+  stepped : (x made : Item) → IsMade g kept place first x → IsStep g kept place x made → IsMade g kept place first made
 
 -- The items are the first ones and what the rules make of them.
-pub record IsClosure (g : GrammarDefinition) (sets : List (List Item)) (first items : List Item) : Type 0 where
-  pub kept : (x : Item) → Contains first x → Contains items x
-  pub worked : (x : Item) → Contains items x → IsWorked g sets items x
-  pub made : (x : Item) → Contains items x → IsMade g sets first x
+pub record IsClosure (g : GrammarDefinition) (kept : List Place) (place : ℕ) (first items : List Item) : Type 0 where
+  pub kept_first : (x : Item) → Contains first x → Contains items x
+  pub worked : (x : Item) → Contains items x → IsWorked g kept place items x
+  pub made : (x : Item) → Contains items x → IsMade g kept place first x

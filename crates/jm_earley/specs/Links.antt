@@ -8,8 +8,9 @@ use Rattle.jm_earley.specs.declared.item.Item.{Item}
 use Rattle.jm_earley.specs.declared.rule.Rule.{Rule}
 use Rattle.jm_earley.specs.declared.letter_set.LetterSet.{LetterSet}
 use Rattle.jm_earley.specs.declared.future.Future.{Future}
-use Rattle.jm_earley.specs.declared.future.Futures.{Futures}
+use Rattle.jm_earley.specs.declared.place.Place.{Place}
 use Rattle.jm_earley.specs.declared.link.Link.{Link}
+use Rattle.jm_earley.specs.Kept.{place_at}
 use Rattle.jm_earley.specs.Rules.{only, has}
 use Rattle.jm_earley.specs.LetterSets.{can_spell, can_go_on}
 
@@ -28,8 +29,8 @@ abbrev pub link_of : List Production → LetterSet → Item → Option Link
 link_of productions set item = link_in item set (slice_get productions item.production)
 
 -- what may follow at an earlier place
-abbrev pub future_at : List Futures → ℕ → ℕ → Option Future
-future_at earlier number place = option_and_then (λ (f : Futures). slice_get f.futures.items number) (slice_get earlier place)
+abbrev pub future_at : List Place → ℕ → ℕ → Option Future
+future_at earlier number position = option_and_then (λ (p : Place). slice_get p.futures.futures.items number) (place_at earlier position)
 
 -- a rest ends behind the next nonterminal, where one ends behind the left side
 abbrev pub ends_rule : Option Link → Option Future → Rule
@@ -44,14 +45,14 @@ more_rule ends (Some l) (Some there) = record { gives = only l.next; any = 0; al
 more_rule ends (Some l) None = record { gives = only l.next; any = only l.left; always = l.goes_on && has ends l.left }
 
 -- at the first place nothing follows the start
-abbrev pub start_rule : ℕ → List Futures → Rule
+abbrev pub start_rule : ℕ → List Place → Rule
 start_rule start earlier = record { gives = only start; any = 0; always = length earlier == 0 }
 
-abbrev pub ends_rules : List Production → ℕ → LetterSet → ℕ → List Futures → List Item → List Rule
+abbrev pub ends_rules : List Production → ℕ → LetterSet → ℕ → List Place → List Item → List Rule
 ends_rules productions start set number earlier items =
     start_rule start earlier ∷ map (λ (item : Item). ends_rule (link_of productions set item) (future_at earlier number item.origin)) items
 
-abbrev pub more_rules : List Production → ℕ → LetterSet → ℕ → List Futures → List Item → List Rule
+abbrev pub more_rules : List Production → ℕ → LetterSet → ℕ → List Place → List Item → List Rule
 more_rules productions ends set number earlier items =
     map (λ (item : Item). more_rule ends (link_of productions set item) (future_at earlier number item.origin)) items
 
@@ -61,6 +62,6 @@ keeps_alive_in item set there None = false
 keeps_alive_in item set there (Some p) =
     can_spell set (drop item.dot p.symbols) && (can_go_on set (drop item.dot p.symbols) && has there.ends p.left || has there.more p.left)
 
-abbrev pub keeps_alive : List Production → LetterSet → ℕ → List Futures → Future → Item → Bool
+abbrev pub keeps_alive : List Production → LetterSet → ℕ → List Place → Future → Item → Bool
 keeps_alive productions set number earlier here item =
     keeps_alive_in item set (unwrap_or (future_at earlier number item.origin) here) (slice_get productions item.production)

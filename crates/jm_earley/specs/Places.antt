@@ -1,12 +1,14 @@
 -- What a place keeps of what may follow there.
-use Rattle.std.specs.Prelude.{ℕ, ◌≡◌, ◌≢◌, ◌<◌, ◌↔◌, List, [], ◌++◌, All, Some, IsBitSet, IsTrue, length, take, slice_get}
+use Rattle.std.specs.Prelude.{ℕ, ◌≡◌, ◌≢◌, ◌<◌, ◌≤◌, ◌↔◌, List, [], ◌++◌, All, Some, None, IsBitSet, IsTrue, length, take, slice_get}
 use Rattle.jm_grammar.specs.Grammars.{GrammarDefinition}
 use Rattle.jm_grammar.specs.Derivations.{IsWord, IsIn, DerivesSome}
 use Rattle.jm_earley.specs.declared.item.Item.{Item}
 use Rattle.jm_earley.specs.declared.letter_set.LetterSet.{LetterSet}
 use Rattle.jm_earley.specs.declared.future.Future.{Future}
 use Rattle.jm_earley.specs.declared.future.Futures.{Futures}
-use Rattle.jm_earley.specs.Items.{IsItemSet}
+use Rattle.jm_earley.specs.declared.place.Place.{Place}
+use Rattle.jm_earley.specs.Items.{IsItem, IsItemSet}
+use Rattle.jm_earley.specs.Kept.{place_at}
 use Rattle.jm_earley.specs.Futures.{CanEnd, CanGoOn, IsAlive}
 use Rattle.jm_earley.specs.LetterSets.{IsExact}
 use Rattle.jm_earley.specs.DeadSets.{IsAvailable}
@@ -23,18 +25,20 @@ abbrev pub AreFutures : GrammarDefinition → List LetterSet → List ℕ → Fu
 AreFutures g sets word futures =
     (number : ℕ) (set : LetterSet) → slice_get sets number ≡ Some set → (f : Future) × (slice_get futures.futures.items number ≡ Some f) × IsFuture g set.letters word f
 
--- what may follow at each place before the end of the word
-pub record AreEarlier (g : GrammarDefinition) (sets : List LetterSet) (word : List ℕ) (earlier : List Futures) : Type 0 where
-  pub count : length earlier ≡ length word
-  pub each : (place : ℕ) (futures : Futures) → slice_get earlier place ≡ Some futures → AreFutures g sets (take place word) futures
+-- what may follow at each earlier place where an item of the word began; the first place has none before it, and each other has
+pub record AreEarlier (g : GrammarDefinition) (sets : List LetterSet) (word : List ℕ) (earlier : List Place) : Type 0 where
+  pub none : (length earlier ≡ 0) ↔ (length word ≡ 0)
+  pub each : (x : Item) → IsItem g word x → x.origin < length word → (p : Place) × (place_at earlier x.origin ≡ Some p) × AreFutures g sets (take x.origin word) p.futures
+  pub past : (position : ℕ) → length word ≤ position → place_at earlier position ≡ None
 
 -- the same, for one set of letters
-pub record AreEarlierOf (g : GrammarDefinition) (letters : ℕ) (number : ℕ) (word : List ℕ) (earlier : List Futures) : Type 0 where
-  pub count : length earlier ≡ length word
-  pub each : (place : ℕ) → place < length word → (f : Future) × (future_at earlier number place ≡ Some f) × IsFuture g letters (take place word) f
+pub record AreEarlierOf (g : GrammarDefinition) (letters : ℕ) (number : ℕ) (word : List ℕ) (earlier : List Place) : Type 0 where
+  pub none : (length earlier ≡ 0) ↔ (length word ≡ 0)
+  pub each : (x : Item) → IsItem g word x → x.origin < length word → (f : Future) × (future_at earlier number x.origin ≡ Some f) × IsFuture g letters (take x.origin word) f
+  pub past : (position : ℕ) → length word ≤ position → place_at earlier position ≡ None
 
 -- it is what may follow each word that has these items, and what may follow at the earlier places
-abbrev pub IsFutureOf : GrammarDefinition → LetterSet → ℕ → List Item → List Futures → Future → Type 0
+abbrev pub IsFutureOf : GrammarDefinition → LetterSet → ℕ → List Item → List Place → Future → Type 0
 IsFutureOf g set number items earlier f =
     IsExact g.productions set → (word : List ℕ) → IsItemSet g word items → AreEarlierOf g set.letters number word earlier → IsFuture g set.letters word f
 

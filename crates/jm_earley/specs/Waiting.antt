@@ -1,9 +1,11 @@
 -- Items by the nonterminal that they await.
-use Rattle.std.specs.Prelude.{ℕ, ◌≡◌, ◌↔◌, ◌⊎◌, List, [], length, Contains, Some, slice_get, slice_index_or}
+use Rattle.std.specs.Prelude.{ℕ, ◌≡◌, ◌↔◌, ◌⊎◌, List, [], Contains, Some, slice_index_or}
 use Rattle.jm_grammar.specs.declared.grammar.GrammarSymbol.TheVariants.{Nonterminal}
 use Rattle.jm_grammar.specs.Grammars.{GrammarDefinition}
 use Rattle.jm_earley.specs.declared.item.Item.{Item}
+use Rattle.jm_earley.specs.declared.place.Place.{Place}
 use Rattle.jm_earley.specs.Items.{symbol_after}
+use Rattle.jm_earley.specs.Kept.{place_at}
 use Rattle.jm_earley.specs.Growth.{IsStep}
 
 -- no list has an item
@@ -19,11 +21,10 @@ abbrev pub IsWithWaiting : GrammarDefinition → List (List Item) → Item → L
 IsWithWaiting g old x new =
     (n : ℕ) (y : Item) → Contains (slice_index_or new n []) y ↔ (Contains (slice_index_or old n []) y ⊎ ((x ≡ y) × (symbol_after g x ≡ Some (Nonterminal n))))
 
--- the lists are those of the sets, place by place
-pub record AreWaiting (g : GrammarDefinition) (sets : List (List Item)) (waiting : List (List (List Item))) : Type 0 where
-  pub count : length waiting ≡ length sets
-  pub each : (i : ℕ) (items : List Item) (lists : List (List Item)) → slice_get sets i ≡ Some items → slice_get waiting i ≡ Some lists → IsWaiting g items lists
+-- the lists of each place are those of its items
+abbrev pub AreWaiting : GrammarDefinition → List Place → Type 0
+AreWaiting g kept = (position : ℕ) (p : Place) → place_at kept position ≡ Some p → IsWaiting g p.items p.waiting
 
--- the rules make the item of x, if the lists are those of the sets
-abbrev pub IsStepOver : GrammarDefinition → List (List Item) → List (List (List Item)) → Item → Item → Type 0
-IsStepOver g sets waiting x made = AreWaiting g sets waiting → IsStep g sets x made
+-- the rules make the item of x, if the lists are those of the items
+abbrev pub IsStepOver : GrammarDefinition → List Place → ℕ → Item → Item → Type 0
+IsStepOver g kept place x made = AreWaiting g kept → IsStep g kept place x made

@@ -4,16 +4,18 @@ ghost use Rattle.jm_grammar.specs.declared.grammar.GrammarSymbol.{GrammarSymbol}
 ghost use Rattle.jm_grammar.specs.Grammars.{IsSmall, IsSmallSymbol, IsSmallProduction};
 ghost use Rattle.jm_grammar.specs.Derivations.{IsWord, Derives};
 ghost use Rattle.jm_earley.specs.Items.{symbol_after, finished_left, IsWhole};
-ghost use Rattle.jm_earley.specs.Charts.{AreBelow, IsChartOf, IsWithPlace};
+ghost use Rattle.jm_earley.specs.declared.place.Place.{Place};
+ghost use Rattle.jm_earley.specs.Kept.{IsSorted};
+ghost use Rattle.jm_earley.specs.Waiting.{AreWaiting};
+ghost use Rattle.jm_earley.specs.Charts.{AreBelow, IsChartOf, IsChartWith, IsPlaceWith};
 ghost use Rattle.jm_earley.specs.Futures.{IsHopeless};
 ghost use Rattle.jm_earley.specs.Places.{IsAliveFor};
 
 use crate::dead::DeadSets;
 use crate::future::{Futures, is_hopeless};
 use crate::item::Item;
+use crate::place::{Place, Places};
 use crate::set::ItemSet;
-use crate::shared::Shared;
-use crate::waiting::Waiting;
 use jm_events::EventTable;
 use jm_grammar::{Grammar, GrammarSymbol, Production};
 use jm_model::{Letter, NoMemory};
@@ -43,24 +45,22 @@ impl Model for Charts {
     ghost invariant = { λ c. IsReduced c.grammar c.params.items c.nullable × AreDeadSets c.grammar.productions c.params.items c.dead };
 }
 
-/// The items of each place of a word, and what may follow there. Copies share them. Contracts see it as its `ChartDefinition`, which stands for a word by
-/// `IsChartOf`.
+/// The places of a word that may still matter: the last, and those where items of these places began. Copies share them.
+/// Contracts see it as its `ChartDefinition`, which stands for a word by `IsChartOf`.
 #[derive(Drop)]
 pub struct Chart {
-    sets: Shared<ItemSet>,
-    waiting: Shared<Waiting>,
-    futures: Shared<Futures>,
+    places: Places,
 }
 
 impl Model for Chart {
-    ghost use Rattle.std.specs.Prelude.{length, ◌<◌, ◌^◌};
+    ghost use Rattle.std.specs.Prelude.{length, ◌<◌};
     ghost use Rattle.jm_earley.specs.Charts.{ChartDefinition};
 
     ghost Value = { ChartDefinition };
 
-    ghost view = { λ c. record { items = record { sets = c.sets; waiting = c.waiting }; futures = c.futures } };
+    ghost view = { λ c. record { places = c.places } };
 
-    ghost invariant = { λ c. (0 < length c.sets) × (length c.sets < 2 ^ 32) };
+    ghost invariant = { λ c. 0 < length c.places };
 }
 
 impl Charts {
@@ -89,51 +89,40 @@ impl Charts {
         let alloc = *self.params.allocator();
         let mut first = ItemSet::new(alloc);
         self.begin_productions(&mut first, 0, self.grammar.start())?;
-        let sets = Shared::new(alloc);
-        let waiting = Shared::new(alloc);
-        let set = self.close(&sets, &waiting, first)?;
-        self.with_place(sets, waiting, Shared::new(alloc), set)
+        let earlier = Places::new(alloc);
+        let chart = self.chart_with(&earlier, 0, first)?;
+        Ok(chart)
     }
 
-    /// A chart of the same words. It shares the items of each place with this one.
+    /// A chart of the same words. It shares the places with this one.
     pub fn copy(&self, chart: &Chart) -> Result<Chart, NoMemory>
         ensures { IfOk result (λ copy. copy ≡ chart.now) }
     {
-        let sets = chart.sets.copy()?;
-        let waiting = chart.waiting.copy()?;
-        let futures = chart.futures.copy()?;
-        Ok(Chart {
-            sets,
-            waiting,
-            futures,
-        })
+        let places = chart.places.copy()?;
+        Ok(Chart { places })
     }
 
-    /// The chart of a word that has one letter more. It shares the items of the earlier places with this one. A chart of 2^32 - 1
-    /// places counts as want of memory.
+    /// The chart of a word that has one letter more. It shares the earlier places with this one, and leaves out those that no item
+    /// reaches any more. A word of 2^32 - 1 letters counts as want of memory.
     pub fn next(&self, chart: &Chart, letter: Letter) -> Result<Chart, NoMemory>
         requires { letter.0 < length self.now.params }
         ensures { (word : List ℕ) → IsChartOf self.now word chart.now → IfOk result (IsChartOf self.now (word ++ letter.0 ∷ [])) }
     {
-        let place = chart.sets.len();
-        if place == u32::MAX as usize {
+        let last = chart.last();
+        if last.position == u32::MAX {
             return Err(NoMemory);
         }
-        let alloc = *self.params.allocator();
-        let mut first = ItemSet::new(alloc);
-        self.advance_over(&mut first, chart.last(), GrammarSymbol::Letter(letter))?;
-        let set = self.close(&chart.sets, &chart.waiting, first)?;
-        let sets = chart.sets.copy()?;
-        let waiting = chart.waiting.copy()?;
-        let futures = chart.futures.copy()?;
-        self.with_place(sets, waiting, futures, set)
+        let mut first = ItemSet::new(*self.params.allocator());
+        let symbol = GrammarSymbol::Letter(letter);
+        self.advance_over(&mut first, last.items.as_slice(), symbol)?;
+        self.chart_with(&chart.places, last.position + 1, first)
     }
 
     /// Whether the word is in the language of the grammar.
     pub fn matches(&self, chart: &Chart) -> bool
         ensures { (word : List ℕ) → IsChartOf self.now word chart.now → IsTrue result ↔ IsWord self.now.grammar word }
     {
-        self.has_whole(chart.last())
+        self.has_whole(chart.last().items.as_slice())
     }
 
     /// Whether no word that begins with the word, itself included, is in the language of the grammar.
@@ -142,7 +131,7 @@ impl Charts {
     {
         // The grammar is reduced: the proof learns it from the fields.
         let _ = &self.grammar;
-        is_hopeless(chart.last())
+        is_hopeless(chart.last().items.as_slice())
     }
 
     /// Whether some word of one or more letters without a dead parameter, put after the word, is in the language of the grammar.
@@ -150,33 +139,33 @@ impl Charts {
     pub fn alive(&self, chart: &Chart, dead: u8) -> bool
         ensures { (word : List ℕ) → IsChartOf self.now word chart.now → IsTrue result ↔ IsAliveFor self.now.grammar self.now.params dead word }
     {
-        match chart.futures.last() {
-            Some(futures) => futures.is_alive(&self.dead, dead),
-            None => false,
-        }
+        chart.last().futures.is_alive(&self.dead, dead)
     }
 }
 
 impl Charts {
-    /// The chart with one place more, which has these items.
-    fn with_place(
-        &self,
-        mut sets: Shared<ItemSet>,
-        mut waiting: Shared<Waiting>,
-        mut futures: Shared<Futures>,
-        set: ItemSet,
-    ) -> Result<Chart, NoMemory>
-        requires { length sets + 1 < 2 ^ 32 }
-        ensures { IfOk result (IsWithPlace self.now (record { sets = sets; waiting = waiting }) futures set) }
+    /// The chart whose last place has the items that the rules make of the first ones, behind earlier places.
+    fn chart_with(&self, earlier: &Places, position: u32, first: ItemSet) -> Result<Chart, NoMemory>
+        requires { (number : ℕ) (p : Place) → slice_get earlier.now number ≡ Some p → p.position < position }
+        ensures { AreWaiting self.now.grammar earlier.now → IfOk result (IsChartWith self.now earlier.now position first) }
     {
         let alloc = *self.params.allocator();
-        let lists = self.waiting(alloc, set.as_slice())?;
-        let future = Futures::new(alloc, &self.grammar, &self.dead, set.as_slice(), &futures)?;
-        sets.push(set)?;
-        waiting.push(lists)?;
-        futures.push(future)?;
-        Ok(Chart {
-            sets,
+        let items = self.close(earlier, position, first)?;
+        let place = self.place_with(earlier, position, items)?;
+        let places = earlier.followed_by(alloc, place)?;
+        Ok(Chart { places })
+    }
+
+    /// The place with these items, behind earlier places.
+    fn place_with(&self, earlier: &Places, position: u32, items: ItemSet) -> Result<Place, NoMemory>
+        ensures { IfOk result (IsPlaceWith self.now earlier.now position items) }
+    {
+        let alloc = *self.params.allocator();
+        let waiting = self.waiting(alloc, items.as_slice())?;
+        let futures = Futures::new(alloc, &self.grammar, &self.dead, items.as_slice(), earlier)?;
+        Ok(Place {
+            position,
+            items,
             waiting,
             futures,
         })
@@ -282,13 +271,11 @@ fn masks(alloc: Global, table: &EventTable) -> Result<Vec<u8>, NoMemory>
 }
 
 impl Chart {
-    /// The items of the last place.
-    fn last(&self) -> &[Item]
-        ensures { (items : List Item) → slice_get self.now.items.sets (length self.now.items.sets - 1) ≡ Some items → result.now ≡ items }
+    /// The last place.
+    fn last(&self) -> &Place
+        ensures ends { slice_get self.now.places (length self.now.places - 1) ≡ Some result.now }
+        ensures sorted { IsSorted self.now.places }
     {
-        match self.sets.get(self.sets.len() - 1) {
-            Some(set) => set.as_slice(),
-            None => &[],
-        }
+        self.places.at(self.places.len() - 1)
     }
 }

@@ -13,8 +13,8 @@ use crate::dead::DeadSets;
 use crate::item::Item;
 use crate::letter_set::LetterSet;
 use crate::link::{Link, behind, link_of};
+use crate::place::Places;
 use crate::rule::{Rule, gained, has, only};
-use crate::shared::Shared;
 use jm_grammar::{Grammar, Production};
 use jm_model::NoMemory;
 use std::alloc::Global;
@@ -41,7 +41,7 @@ impl Futures {
         grammar: &Grammar,
         sets: &DeadSets,
         items: &[Item],
-        earlier: &Shared<Futures>,
+        earlier: &Places,
     ) -> Result<Futures, NoMemory>
         ensures { IfOk result (λ futures. All (IsExact grammar.now.productions) sets.now.sets.items → (word : List ℕ) → IsItemSet grammar.now word items.now
             → AreEarlier grammar.now sets.now.sets.items word earlier.now → AreFutures grammar.now sets.now.sets.items word futures) }
@@ -89,11 +89,11 @@ pub(crate) fn is_hopeless(items: &[Item]) -> bool
 }
 
 /// What may follow at an earlier place, of the letters of a set.
-fn future_at(earlier: &Shared<Futures>, number: usize, place: u32) -> Option<Future>
-    ensures { result ≡ future_at earlier.now number place }
+fn future_at(earlier: &Places, number: usize, position: u32) -> Option<Future>
+    ensures { result ≡ future_at earlier.now number position }
 {
-    match earlier.get(place as usize) {
-        Some(futures) => futures.get(number),
+    match earlier.find(position) {
+        Some(place) => place.futures.get(number),
         None => None,
     }
 }
@@ -149,7 +149,7 @@ fn more_rule(ends: u64, link: Option<Link>, there: Option<Future>) -> Rule
 }
 
 /// Nothing follows the start at the first place.
-fn start_rule(start: u8, earlier: &Shared<Futures>) -> Rule
+fn start_rule(start: u8, earlier: &Places) -> Rule
     ensures { result ≡ start_rule start earlier.now }
 {
     Rule {
@@ -181,7 +181,7 @@ fn ends_rules(
     set: LetterSet,
     number: usize,
     items: &[Item],
-    earlier: &Shared<Futures>,
+    earlier: &Places,
 ) -> Result<Vec<Rule>, NoMemory>
     ensures { IfOk result (λ rules. rules.items ≡ ends_rules productions.now start set number earlier.now items.now) }
 {
@@ -206,7 +206,7 @@ fn more_rules(
     set: LetterSet,
     number: usize,
     items: &[Item],
-    earlier: &Shared<Futures>,
+    earlier: &Places,
 ) -> Result<Vec<Rule>, NoMemory>
     ensures { IfOk result (λ rules. rules.items ≡ more_rules productions.now ends set number earlier.now items.now) }
 {
@@ -227,7 +227,7 @@ fn is_alive(
     set: LetterSet,
     number: usize,
     items: &[Item],
-    earlier: &Shared<Futures>,
+    earlier: &Places,
     here: Future,
 ) -> bool
     ensures { result ≡ list_any (keeps_alive productions.now set number earlier.now here) items.now }
@@ -248,7 +248,7 @@ fn future_of(
     set: LetterSet,
     number: usize,
     items: &[Item],
-    earlier: &Shared<Futures>,
+    earlier: &Places,
 ) -> Result<Future, NoMemory>
     ensures { IfOk result (λ future. IsFutureOf grammar.now set number items.now earlier.now future) }
 {

@@ -1,5 +1,5 @@
 //! The items of a place: what is read is worked through item by item, until the rules add nothing.
-ghost use Rattle.std.specs.Prelude.{ℕ, ◌≡◌, ◌<◌, ◌^◌, ◌↔◌, [], Some, IsTrue, IfSome, IfOk, OnOk, Contains, length};
+ghost use Rattle.std.specs.Prelude.{ℕ, ◌≡◌, ◌<◌, ◌↔◌, [], Some, None, IfOk, OnOk, Contains};
 ghost use Rattle.jm_grammar.specs.declared.grammar.GrammarSymbol.{GrammarSymbol};
 ghost use Rattle.jm_grammar.specs.Grammars.{IsSmallSymbol};
 ghost use Rattle.jm_grammar.specs.Derivations.{Derives};
@@ -10,9 +10,8 @@ ghost use Rattle.jm_earley.specs.Waiting.{AreWaiting, IsStepOver};
 
 use crate::chart::Charts;
 use crate::item::{Item, advanced};
+use crate::place::Places;
 use crate::set::ItemSet;
-use crate::shared::Shared;
-use crate::waiting::Waiting;
 use jm_grammar::GrammarSymbol;
 use jm_model::NoMemory;
 
@@ -24,15 +23,14 @@ struct Growth {
 }
 
 impl Charts {
-    /// The items that the rules make of the first ones, at the place behind the sets.
+    /// The items that the rules make of the first ones, at a place behind those kept.
     pub(crate) fn close(
         &self,
-        sets: &Shared<ItemSet>,
-        waiting: &Shared<Waiting>,
+        kept: &Places,
+        place: u32,
         first: ItemSet,
     ) -> Result<ItemSet, NoMemory>
-        requires { length sets.now < 2 ^ 32 }
-        ensures { AreWaiting self.now.grammar sets.now waiting.now → IfOk result (λ set. IsClosure self.now.grammar sets.now first set) }
+        ensures { AreWaiting self.now.grammar kept.now → IfOk result (λ set. IsClosure self.now.grammar kept.now place first set) }
     {
         let mut growth = Growth {
             set: first,
@@ -40,7 +38,7 @@ impl Charts {
         };
         let mut number = 0;
         while let Some(item) = growth.set.get(number) {
-            self.work(sets, waiting, &mut growth, item)?;
+            self.work(kept, place, &mut growth, item)?;
             number += 1;
         }
         let Growth { set, .. } = growth;
@@ -50,24 +48,23 @@ impl Charts {
     /// Adds what the rules make of an item.
     fn work(
         &self,
-        sets: &Shared<ItemSet>,
-        waiting: &Shared<Waiting>,
+        kept: &Places,
+        place: u32,
         growth: &mut Growth,
         item: Item,
     ) -> Result<(), NoMemory>
-        requires place { length sets.now < 2 ^ 32 }
-        requires predicted { IsPredictedSet self.now.grammar (length sets.now) growth.old.predicted growth.old.set }
-        ensures grows { OnOk result (Grows (IsStepOver self.now.grammar sets.now waiting.now item) growth.old.set growth.new.set) }
-        ensures worked { OnOk result (AreWaiting self.now.grammar sets.now waiting.now → IsWorked self.now.grammar sets.now growth.new.set item) }
-        ensures predicted { OnOk result (IsPredictedSet self.now.grammar (length sets.now) growth.new.predicted growth.new.set) }
+        requires { IsPredictedSet self.now.grammar place growth.old.predicted growth.old.set }
+        ensures grows { OnOk result (Grows (IsStepOver self.now.grammar kept.now place item) growth.old.set growth.new.set) }
+        ensures worked { OnOk result (AreWaiting self.now.grammar kept.now → IsWorked self.now.grammar kept.now place growth.new.set item) }
+        ensures predicted { OnOk result (IsPredictedSet self.now.grammar place growth.new.predicted growth.new.set) }
     {
         match self.symbol_after(item) {
             Some(GrammarSymbol::Nonterminal(n)) => {
-                self.predict(growth, sets.len() as u32, n)?;
+                self.predict(growth, place, n)?;
                 self.skip(&mut growth.set, item, n)
             }
             Some(GrammarSymbol::Letter(_)) => Ok(()),
-            None => self.complete(sets, waiting, &mut growth.set, item),
+            None => self.complete(kept, &mut growth.set, item),
         }
     }
 
@@ -123,24 +120,18 @@ impl Charts {
     }
 
     /// Adds the items that awaited the left side of a finished item, advanced over it.
-    fn complete(
-        &self,
-        sets: &Shared<ItemSet>,
-        waiting: &Shared<Waiting>,
-        set: &mut ItemSet,
-        item: Item,
-    ) -> Result<(), NoMemory>
+    fn complete(&self, kept: &Places, set: &mut ItemSet, item: Item) -> Result<(), NoMemory>
         requires { symbol_after self.now.grammar item ≡ None }
-        ensures grows { OnOk result (Grows (IsStepOver self.now.grammar sets.now waiting.now item) set.old set.new) }
-        ensures worked { OnOk result (AreWaiting self.now.grammar sets.now waiting.now → IsWorked self.now.grammar sets.now set.new item) }
+        ensures grows { (place : ℕ) → OnOk result (Grows (IsStepOver self.now.grammar kept.now place item) set.old set.new) }
+        ensures worked { (place : ℕ) → OnOk result (AreWaiting self.now.grammar kept.now → IsWorked self.now.grammar kept.now place set.new item) }
     {
         let Some(left) = self.finished_left(item) else {
             return Ok(());
         };
-        let Some(from) = waiting.get(item.origin as usize) else {
+        let Some(from) = kept.find(item.origin) else {
             return Ok(());
         };
-        self.advance_over(set, from.of(left), GrammarSymbol::Nonterminal(left))
+        self.advance_over(set, from.waiting.of(left), GrammarSymbol::Nonterminal(left))
     }
 
     /// Adds each item before a symbol, advanced over it.

@@ -1,4 +1,4 @@
-ghost use Rattle.std.specs.Prelude.{◌≡◌, ◌<◌, ◌-◌, [], ◌∷◌, ◌++◌, Some, None, IfOk, OnOk, MatchOption, length, slice_get};
+ghost use Rattle.std.specs.Prelude.{◌≡◌, ◌<◌, [], ◌∷◌, ◌++◌, Some, IfOk, OnOk, length, slice_get};
 
 use jm_model::NoMemory;
 use std::alloc::Global;
@@ -36,25 +36,12 @@ impl<T: Drop> Shared<T> {
         self.items.len()
     }
 
-    /// The item at a place.
-    pub(crate) fn get(&self, place: usize) -> Option<&T>
-        ensures { MatchOption result (slice_get self.now place ≡ None) (λ item. slice_get self.now place ≡ Some item.now) }
+    /// The item of a number.
+    pub(crate) fn at(&self, number: usize) -> &T
+        requires { number < length self.now }
+        ensures { slice_get self.now number ≡ Some result.now }
     {
-        if place < self.items.len() {
-            Some(&self.items[place])
-        } else {
-            None
-        }
-    }
-
-    /// The last item.
-    pub(crate) fn last(&self) -> Option<&T>
-        ensures { MatchOption result (slice_get self.now (length self.now - 1) ≡ None) (λ item. slice_get self.now (length self.now - 1) ≡ Some item.now) }
-    {
-        match self.items.len() {
-            0 => None,
-            len => self.get(len - 1),
-        }
+        &self.items[number]
     }
 
     /// Adds an item at the end.
@@ -62,6 +49,20 @@ impl<T: Drop> Shared<T> {
         ensures { OnOk result (self.new ≡ self.old ++ item ∷ []) }
     {
         let Ok(item) = Arc::new(*self.items.allocator(), item) else {
+            return Err(NoMemory);
+        };
+        let Ok(()) = self.items.push(item) else {
+            return Err(NoMemory);
+        };
+        Ok(())
+    }
+
+    /// Adds an item of another list, and shares it.
+    pub(crate) fn push_shared(&mut self, from: &Shared<T>, number: usize) -> Result<(), NoMemory>
+        requires { number < length from.now }
+        ensures { OnOk result ((item : T) × (slice_get from.now number ≡ Some item) × (self.new ≡ self.old ++ item ∷ [])) }
+    {
+        let Ok(item) = Arc::try_clone(&from.items[number]) else {
             return Err(NoMemory);
         };
         let Ok(()) = self.items.push(item) else {

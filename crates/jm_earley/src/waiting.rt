@@ -1,6 +1,6 @@
 //! The items of a place by the nonterminal that they await, for completions.
-ghost use Rattle.std.specs.Prelude.{ℕ, ◌≡◌, ◌≢◌, ◌<◌, [], ◌∷◌, ◌++◌, IfOk, OnOk, slice_index_or};
-ghost use Rattle.jm_earley.specs.Waiting.{IsWaiting, IsWithWaiting, IsEmpty};
+ghost use Rattle.std.specs.Prelude.{ℕ, ◌≡◌, ◌≢◌, ◌<◌, [], ◌∷◌, ◌++◌, IfOk, OnOk, length, slice_index_or};
+ghost use Rattle.jm_earley.specs.Waiting.{IsWaiting, IsWithWaiting};
 
 use crate::chart::Charts;
 use crate::item::Item;
@@ -9,40 +9,57 @@ use jm_model::NoMemory;
 use std::alloc::Global;
 use std::marker::Model;
 
-/// Lists of items, one for each of the 64 nonterminals.
+/// Lists of items, one for each nonterminal up to the last that is awaited.
 #[derive(Drop)]
 pub(crate) struct Waiting {
     lists: Vec<Vec<Item>>,
 }
 
 impl Model for Waiting {
-    ghost use Rattle.std.specs.Prelude.{◌≡◌, List, length, map};
+    ghost use Rattle.std.specs.Prelude.{List, map};
     ghost use Rattle.jm_earley.specs.declared.item.Item.{Item};
 
     ghost Value = { List (List Item) };
 
     ghost view = { λ w. map (λ l. l.items) w.lists.items };
-
-    ghost invariant = { λ w. length w.lists.items ≡ 64 };
 }
 
 impl Waiting {
     /// No item.
-    fn new(alloc: Global) -> Result<Waiting, NoMemory>
-        ensures { IfOk result IsEmpty }
+    fn new(alloc: Global) -> Waiting
+        ensures { result ≡ [] }
     {
-        let mut lists = Vec::new(alloc);
-        for _made in 0..64u8 {
-            let Ok(()) = lists.push(Vec::new(alloc)) else {
-                return Err(NoMemory);
-            };
+        Waiting {
+            lists: Vec::new(alloc),
         }
-        Ok(Waiting { lists })
     }
 
     /// Adds an item that awaits a nonterminal.
     fn add(&mut self, n: u8, item: Item) -> Result<(), NoMemory>
-        requires { n < 64 }
+        ensures here { OnOk result (slice_index_or self.new n [] ≡ slice_index_or self.old n [] ++ item ∷ []) }
+        ensures others { OnOk result ((m : ℕ) → m ≢ n → slice_index_or self.new m [] ≡ slice_index_or self.old m []) }
+    {
+        self.extend(n)?;
+        self.put(n, item)
+    }
+
+    /// Adds empty lists up to that of a nonterminal.
+    fn extend(&mut self, n: u8) -> Result<(), NoMemory>
+        ensures there { OnOk result (n < length self.new) }
+        ensures same { OnOk result ((m : ℕ) → slice_index_or self.new m [] ≡ slice_index_or self.old m []) }
+    {
+        let alloc = *self.lists.allocator();
+        'lists: while self.lists.len() <= n as usize {
+            let Ok(()) = self.lists.push(Vec::new(alloc)) else {
+                return Err(NoMemory);
+            };
+        }
+        Ok(())
+    }
+
+    /// Adds an item to the list of a nonterminal.
+    fn put(&mut self, n: u8, item: Item) -> Result<(), NoMemory>
+        requires { n < length self.old }
         ensures here { OnOk result (slice_index_or self.new n [] ≡ slice_index_or self.old n [] ++ item ∷ []) }
         ensures others { OnOk result ((m : ℕ) → m ≢ n → slice_index_or self.new m [] ≡ slice_index_or self.old m []) }
     {
@@ -70,7 +87,7 @@ impl Charts {
     pub(crate) fn waiting(&self, alloc: Global, items: &[Item]) -> Result<Waiting, NoMemory>
         ensures { IfOk result (IsWaiting self.now.grammar items.now) }
     {
-        let mut waiting = Waiting::new(alloc)?;
+        let mut waiting = Waiting::new(alloc);
         for item in items {
             self.add_waiting(&mut waiting, *item)?;
         }

@@ -1,4 +1,4 @@
-use Rattle.std.proofs.Common.{ℕ, ◌<◌, ◌-◌, ◌^◌, ◌≡◌, Some, length, slice_get, Contains}
+use Rattle.std.proofs.Common.{ℕ, ◌<◌, ◌-◌, ◌^◌, ◌≡◌, Some, slice_get, Contains}
 use Rattle.jm_earley.specs.declared.item.Item.{Item}
 use Rattle.jm_earley.specs.Growth.{IsPredictedSet, IsWorked, IsMade}
 use Rattle.jm_earley.specs.Waiting.{AreWaiting}
@@ -6,10 +6,10 @@ use Rattle.jm_earley.proofs.chart.Charts.close.Given as goal
 
 abbrev pub invariant-loop-item : goal.invariant-loop-item
 invariant-loop-item l = record {
-  kept : (x : Item) → Contains l.fn.first x → Contains l.growth.set x;
-  worked : AreWaiting l.self.grammar l.sets l.waiting → (k : ℕ) (x : Item) → k < l.number → slice_get l.growth.set k ≡ Some x → IsWorked l.self.grammar l.sets l.growth.set x;
-  made : AreWaiting l.self.grammar l.sets l.waiting → (x : Item) → Contains l.growth.set x → IsMade l.self.grammar l.sets l.fn.first x;
-  predicted : IsPredictedSet l.self.grammar (length l.sets) l.growth.predicted l.growth.set;
+  kept_first : (x : Item) → Contains l.fn.first x → Contains l.growth.set x;
+  worked : AreWaiting l.self.grammar l.kept → (k : ℕ) (x : Item) → k < l.number → slice_get l.growth.set k ≡ Some x → IsWorked l.self.grammar l.kept l.place l.growth.set x;
+  made : AreWaiting l.self.grammar l.kept → (x : Item) → Contains l.growth.set x → IsMade l.self.grammar l.kept l.place l.fn.first x;
+  predicted : IsPredictedSet l.self.grammar l.place l.growth.predicted l.growth.set;
 }
 
 abbrev pub decreases-loop-item : goal.decreases-loop-item

@@ -1,31 +1,38 @@
-use Rattle.std.proofs.Common.{List, [], ◌∷◌, ◌++◌, ap, subst, ◌∙◌}
+use Rattle.std.proofs.Common.{ℕ, ◌≡◌, ◌<◌, ◌+◌, ◌-◌, List, [], ◌∷◌, ◌++◌, Some, length, slice_get, ap, sym, subst, ◌∙◌, refl, arith}
 use Rattle.std.proofs.lemmas.Result.{IfOk-weaker}
 use Rattle.jm_earley.specs.declared.item.Item.{Item}
-use Rattle.jm_earley.specs.Growth.{IsClosure}
+use Rattle.jm_earley.specs.declared.place.Place.{Place}
+use Rattle.jm_grammar.specs.declared.grammar.GrammarSymbol.TheVariants.{Letter}
+use Rattle.jm_earley.specs.Growth.{Grows, IsAdvancedOver, AreAdvancedOver}
 use Rattle.jm_earley.specs.Waiting.{AreWaiting}
-use Rattle.jm_earley.specs.Charts.{ChartsDefinition, ItemsDefinition, ChartDefinition, IsChartOf, IsWithPlace}
-use Rattle.jm_earley.proofs.ChartLemmas.{grown_chart}
-use Rattle.jm_earley.proofs.JoinLemmas.{grown}
+use Rattle.jm_earley.specs.Kept.{IsSorted, place_at}
+use Rattle.jm_earley.specs.Charts.{ChartsDefinition, ChartDefinition, IsChartOf, IsChartWith}
+use Rattle.jm_earley.proofs.KeptLemmas.{last_behind, number_at}
+use Rattle.jm_earley.proofs.ChartLemmas.{grown_chart, lists_are, last_at}
 use Rattle.jm_earley.proofs.chart.Charts.next.Goals as goal
+
+pub chart_with-requires : goal.chart_with-requires
+chart_with-requires c =
+    let old : ChartDefinition = c.args.chart.now in
+    let last = c.last-last.result.now in
+    subst (λ (d : ChartDefinition). (number : ℕ) (p : Place) → slice_get d.places number ≡ Some p → p.position < last.position + 1) (sym c.chart.view_is)
+    (last_behind old.places c.last-last.ensures.sorted last c.last-last.ensures.ends)
 
 pub returns : goal.returns
 returns c = λ word of_word.
     let charts : ChartsDefinition = c.args.self.now in
-    let g = charts.grammar in
     let old : ChartDefinition = c.args.chart.now in
-    let before : ItemsDefinition = record { sets = c.in_ok-sets.sets; waiting = c.in_ok-waiting.waiting } in
-    let futures = c.in_ok-futures.futures in
+    let last = c.last-last.result.now in
     let first = c.advance_over.new.set in
-    let items = c.in_ok-set.set in
-    let closure = subst (λ (d : ChartDefinition). AreWaiting g d.items.sets d.items.waiting → IsClosure g d.items.sets first items) c.chart.view_is c.in_ok-set.ensures in
-    let sets_are = c.in_ok-sets.ensures ∙ ap (λ (d : ChartDefinition). d.items.sets) c.chart.view_is in
-    let waiting_are = c.in_ok-waiting.ensures ∙ ap (λ (d : ChartDefinition). d.items.waiting) c.chart.view_is in
-    IfOk-weaker c.with_place.result (IsWithPlace charts before futures items) (IsChartOf charts (word ++ c.args.letter.0 ∷ []))
-    (λ (chart : ChartDefinition) (place : IsWithPlace charts before futures items chart).
-    grown charts word c.args.letter.0 old before futures items chart of_word (c.in_ok-futures.ensures ∙ ap (λ (d : ChartDefinition). d.futures) c.chart.view_is)
-    (grown_chart g word old.items c.args.letter c.last.result.now c.new-first.result first items place.lists chart.items of_word.items c.last.ensures c.new-first.ensures
-    c.in_ok-advance_over.ensures.grows c.in_ok-advance_over.ensures.all closure place.waits
-    (place.items_are ∙ ap (λ (l : List (List Item)). l ++ items ∷ []) sets_are)
-    (place.waiting_are ∙ ap (λ (l : List (List (List Item))). l ++ place.lists ∷ []) waiting_are))
-    place)
-    c.with_place.ensures
+    let position : last.position ≡ length word =
+    (number_at old.places (length word) last (last_at charts word old of_word c.args.letter last c.last-last.ensures.ends)).2 in
+    let grows : Grows (IsAdvancedOver charts.grammar last.items (Letter c.args.letter)) c.new-first.result first =
+    subst (λ (l : List Item). Grows (IsAdvancedOver charts.grammar l (Letter c.args.letter)) c.new-first.result first) c.as_slice.ensures c.in_ok-advance_over.ensures.grows in
+    let all : AreAdvancedOver charts.grammar last.items (Letter c.args.letter) first =
+    subst (λ (l : List Item). AreAdvancedOver charts.grammar l (Letter c.args.letter) first) c.as_slice.ensures c.in_ok-advance_over.ensures.all in
+    let lists : AreWaiting charts.grammar c.chart.inside.places = subst (λ (d : ChartDefinition). AreWaiting charts.grammar d.places) (sym c.chart.view_is) (lists_are charts word old of_word) in
+    IfOk-weaker c.chart_with.result (IsChartWith charts c.chart.inside.places (last.position + 1) first) (IsChartOf charts (word ++ c.args.letter.0 ∷ []))
+    (λ (chart : ChartDefinition) (made : IsChartWith charts c.chart.inside.places (last.position + 1) first chart).
+    grown_chart charts word old of_word c.args.letter last c.last-last.ensures.ends (last.position + 1) c.new-first.result first chart (omega (arith, position)) c.new-first.ensures grows all
+    (subst (λ (d : ChartDefinition). IsChartWith charts d.places (last.position + 1) first chart) c.chart.view_is made))
+    (c.chart_with.ensures lists)

@@ -1,4 +1,4 @@
-use Rattle.std.proofs.Common.{List, ◌≡◌, Some, slice_get, get_or, subst}
+use Rattle.std.proofs.Common.{List, [], ap, slice_index_or, ◌≡◌, Some, slice_get, get_or, subst}
 use Rattle.std.proofs.lemmas.List.{take_all}
 use Rattle.std.proofs.lemmas.Option.{slice_get-get_or}
 use Rattle.jm_earley.specs.declared.item.Item.{Item}
@@ -7,7 +7,7 @@ use Rattle.jm_earley.proofs.WaitingLemmas.{waiting_none, waiting_next}
 use Rattle.jm_earley.proofs.chart.Charts.waiting.Goals as goal
 
 pub loop-item-init : goal.loop-item-init
-loop-item-init c = waiting_none c.args.self.now.grammar c.in_ok-waiting.waiting c.in_ok-waiting.ensures
+loop-item-init c = waiting_none c.args.self.now.grammar c.new-waiting.result (λ n. ap (λ (l : List (List Item)). slice_index_or l n []) c.new-waiting.ensures)
 
 pub loop-item-preserved : goal.loop-item-preserved
 loop-item-preserved c =

@@ -1,12 +1,14 @@
-use Rattle.std.proofs.Common.{◌≡◌, ◌<◌, [], ◌∷◌, ◌++◌, length, map, get_or, sym, ap, ◌∙◌, arith}
-use Rattle.std.proofs.lemmas.List.{get_or-map}
+use Rattle.std.proofs.Common.{◌≡◌, ◌<◌, [], ◌∷◌, ◌++◌, length, map, get_or, sym, ap, subst, ◌∙◌, List}
+use Rattle.std.proofs.lemmas.List.{get_or-map, length-map}
+use Rattle.jm_earley.specs.declared.item.Item.{Item}
 use Rattle.jm_earley.proofs.WaitingLemmas.{written_here, written_elsewhere}
-use Rattle.jm_earley.proofs.waiting.Waiting.add.Goals as goal
+use Rattle.jm_earley.proofs.waiting.Waiting.put.Goals as goal
 
 pub returns-clause-here : goal.returns-clause-here
 returns-clause-here c =
     let lists = c.self.inside.lists.items in
-    let lt : c.args.n < length lists = omega (arith, c.self.invariant, c.requires) in
+    let within : c.args.n < length (map (λ b. b.items) lists) = subst (λ (l : List (List Item)). c.args.n < length l) (sym c.self.view_is) c.requires in
+    let lt : c.args.n < length lists = subst (λ k. c.args.n < k) (length-map lists (λ b. b.items)) within in
     let old : get_or (map (λ b. b.items) lists) c.args.n [] ≡ c.index_mut-list.result.now.items =
     get_or-map (λ b. b.items) lists c.args.n c.index_mut-list.result.now [] lt ∙ ap (λ b. b.items) (sym c.index_mut-list.ensures.value) in
     rw (← c.self.view_is)

@@ -1,0 +1,140 @@
+//! The places that a chart keeps.
+ghost use Rattle.std.specs.Prelude.{ℕ, ◌≡◌, ◌<◌, ◌-◌, [], ◌∷◌, ◌++◌, IfOk, OnOk, MatchOption, Some, None, length, slice_get};
+ghost use Rattle.jm_earley.specs.declared.place.Place.{Place};
+ghost use Rattle.jm_earley.specs.Kept.{IsSorted, place_at, IsPlaceNumber, IsFollowedBy, ArePicked};
+
+use crate::future::Futures;
+use crate::set::ItemSet;
+use crate::shared::Shared;
+use crate::waiting::Waiting;
+use jm_model::NoMemory;
+use std::alloc::Global;
+use std::marker::Model;
+
+/// A place of a word: its position, its items, those by the nonterminal that they await, and what may follow there.
+#[derive(Drop)]
+pub(crate) struct Place {
+    pub position: u32,
+    pub items: ItemSet,
+    pub waiting: Waiting,
+    pub futures: Futures,
+}
+
+/// Places, by their positions in order. Copies share them. Contracts see them as a list.
+#[derive(Drop)]
+pub(crate) struct Places {
+    list: Shared<Place>,
+}
+
+impl Model for Places {
+    ghost use Rattle.std.specs.Prelude.{List};
+    ghost use Rattle.jm_earley.specs.declared.place.Place.{Place};
+    ghost use Rattle.jm_earley.specs.Kept.{IsSorted};
+
+    ghost Value = { List Place };
+
+    ghost view = { λ s. s.list };
+
+    ghost invariant = { λ s. IsSorted s.list };
+}
+
+impl Places {
+    /// No place.
+    pub(crate) fn new(alloc: Global) -> Places
+        ensures { result ≡ [] }
+    {
+        Places {
+            list: Shared::new(alloc),
+        }
+    }
+
+    pub(crate) fn len(&self) -> usize
+        ensures value { result ≡ length self.now }
+        ensures sorted { IsSorted self.now }
+    {
+        self.list.len()
+    }
+
+    /// The place of a number.
+    pub(crate) fn at(&self, number: usize) -> &Place
+        requires { number < length self.now }
+        ensures value { slice_get self.now number ≡ Some result.now }
+        ensures sorted { IsSorted self.now }
+    {
+        self.list.at(number)
+    }
+
+    /// The place at a position, if it is kept.
+    pub(crate) fn find(&self, position: u32) -> Option<&Place>
+        ensures { MatchOption result (place_at self.now position ≡ None) (λ place. place_at self.now position ≡ Some place.now) }
+    {
+        match self.number_of(position) {
+            Some(number) => Some(self.at(number)),
+            None => None,
+        }
+    }
+
+    /// The number of the place at a position, if it is kept.
+    pub(crate) fn number_of(&self, position: u32) -> Option<usize>
+        ensures value { MatchOption result ((number : ℕ) → IsPlaceNumber self.now position number → ⊥) (λ number. IsPlaceNumber self.now position number) }
+        ensures sorted { IsSorted self.now }
+    {
+        let mut low = 0;
+        let mut high = self.len();
+        'halves: while low < high {
+            let middle = low + (high - low) / 2;
+            let here = self.at(middle).position;
+            if here == position {
+                return Some(middle);
+            }
+            if here < position {
+                low = middle + 1;
+            } else {
+                high = middle;
+            }
+        }
+        None
+    }
+
+    /// The same places.
+    pub(crate) fn copy(&self) -> Result<Places, NoMemory>
+        ensures { IfOk result (λ copy. copy ≡ self.now) }
+    {
+        let list = self.list.copy()?;
+        Ok(Places { list })
+    }
+
+    /// Those of the places that the items of a new one reach, and the new one behind them.
+    pub(crate) fn followed_by(&self, alloc: Global, place: Place) -> Result<Places, NoMemory>
+        requires { (number : ℕ) (p : Place) → slice_get self.now number ≡ Some p → p.position < place.position }
+        ensures { IfOk result (IsFollowedBy self.now place) }
+    {
+        let reached = self.reached(alloc, place.items.as_slice())?;
+        let mut list = self.picked(alloc, reached.as_slice())?;
+        list.push(place)?;
+        Ok(Places { list })
+    }
+
+    /// The places that are marked.
+    fn picked(&self, alloc: Global, marks: &[bool]) -> Result<Shared<Place>, NoMemory>
+        requires { length marks.now ≡ length self.now }
+        ensures { IfOk result (ArePicked self.now marks.now) }
+    {
+        let mut list = Shared::new(alloc);
+        for (number, mark) in marks.iter().enumerate() {
+            if *mark {
+                self.share(number, &mut list)?;
+            }
+        }
+        Ok(list)
+    }
+
+    /// Adds the place of a number to a list.
+    fn share(&self, number: usize, list: &mut Shared<Place>) -> Result<(), NoMemory>
+        requires { number < length self.now }
+        ensures value { OnOk result ((p : Place) × (slice_get self.now number ≡ Some p) × (list.new ≡ list.old ++ p ∷ [])) }
+        ensures sorted { IsSorted self.now }
+    {
+        list.push_shared(&self.list, number)
+    }
+}
