@@ -27,7 +27,9 @@ use Rattle.jm_monitors.proofs.StartLemmas.{start_is_store-lem}
 use Rattle.jm_monitors.proofs.DeathLemmas.{flags_at_start-lem, flags_after_death-lem, flags_after_other-lem}
 use Rattle.jm_monitors.proofs.PassLemmas.{death_keeps_store-lem, pass_keeps_store-lem}
 use Rattle.jm_monitors.proofs.CountLemmas.{pass_counts_stored-lem}
-use Rattle.jm_store.specs.Contents.{Contents, stored_of, IsFit}
+use Rattle.jm_store.specs.Contents.{Contents, stored_of, IsFit, IsEnded}
+use Rattle.jm_store.specs.Moves.{AreEnding}
+use Rattle.jm_store.proofs.EndingLemmas.{fewer-refl, ending_fewer}
 use Rattle.jm_core.specs.Cores.{IsTidyAfter}
 use Rattle.jm_core.specs.Inside.{instances_of, IsCore, IsUntouched, IsOutcomeOf}
 use Rattle.jm_core.proofs.FlagLemmas.{first_dead-by_flags}
@@ -46,14 +48,15 @@ fit-death store dead o fit =
 module _ (m : Meaning) {S : Type 0} (Stands : S → List ℕ → Type 0) where
   -- before the first step
   pub core_at_start : (n : ℕ) (store : Contents S) → IsAtStart m Stands (stored_of store) → store.marks ≡ [] → store.is_open ≡ false → ((dead : List Bool) → IsFit store dead)
-      → IsCore m Stands [] (replicate n false) store
-  core_at_start n store start none closed fits = record {
+      → IsEnded m Stands store → IsCore m Stands [] (replicate n false) store
+  core_at_start n store start none closed fits ended = record {
     legal = tt;
     flags = flags_at_start-lem n;
     closed = closed;
     fits = fits (replicate n false);
     monitors = subst (λ (marks : List Binding). IsStoreOf m Stands [] (replicate n false) (stored_of store) marks) (sym none)
         (start_is_store-lem m Stands (replicate n false) (stored_of store) start);
+    ended = ended;
     tidy = tt;
   }
 
@@ -70,6 +73,7 @@ module _ (m : Meaning) {S : Type 0} (Stands : S → List ℕ → Type 0) where
         monitors = subst (λ (tr : List ParametricEvent). IsStoreOf m Stands tr dead (stored_of after) after.marks) (sym (trace_of-other h x no_event))
             (subst (λ (l : List (Stored S)). IsStoreOf m Stands (trace_of h) dead l after.marks) (sym same.stored)
             (subst (λ (l : List Binding). IsStoreOf m Stands (trace_of h) dead (stored_of before) l) (sym same.marks) core.monitors));
+        ended = subst (λ (l : List (Stored S)). AreEnding m Stands after.ending l) (sym same.stored) (ending_fewer m Stands before.ending after.ending (stored_of before) same.fewer core.ended);
         tidy = tidy-push m h x (instances_of (stored_of after)) after.marks tidy;
       }
 
@@ -90,6 +94,7 @@ module _ (m : Meaning) {S : Type 0} (Stands : S → List ℕ → Type 0) where
         closed = closed;
         fits = fits;
         monitors = monitors;
+        ended = parts.2.ended;
         tidy = tidy-push m h x (instances_of (stored_of after)) after.marks
             (none_cut m Stands (h ++ x ∷ []) dead (stored_of after) after.marks b flags monitors parts.2.none_cut);
       }
@@ -121,6 +126,7 @@ module _ (m : Meaning) {S : Type 0} (Stands : S → List ℕ → Type 0) where
         fits = fit-death store dead o core.fits;
         monitors = subst (λ (tr : List ParametricEvent). IsStoreOf m Stands tr (after_death dead o) (stored_of store) store.marks) (sym (trace_of-other h x refl))
             (death_keeps_store-lem m Stands (trace_of h) dead (stored_of store) store.marks o core.monitors);
+        ended = core.ended;
         tidy = tidy-push m h x (instances_of (stored_of store)) store.marks tt;
       }
 
@@ -134,7 +140,7 @@ module _ (m : Meaning) {S : Type 0} (Stands : S → List ℕ → Type 0) where
       → IsCore m Stands (h ++ record { caller = caller; line = line; step = Death o; outcome = Refused o } ∷ []) dead store
   named_refusal h dead store caller line o core is =
       let x : Entry = record { caller = caller; line = line; step = Death o; outcome = Refused o } in
-      core_same h dead store store x core (legal-push m h x core.legal tt (core.flags o ∙ is, refl)) refl refl core.closed core.fits (record { stored = refl; marks = refl }) tt
+      core_same h dead store store x core (legal-push m h x core.legal tt (core.flags o ∙ is, refl)) refl refl core.closed core.fits (record { stored = refl; marks = refl; fewer = fewer-refl store.ending }) tt
 
   pub core_after_refusal : (h : List Entry) (dead : List Bool) (store : Contents S) (u : Unanswered) (o : ℕ) → IsCore m Stands h dead store → u.step ≡ Death o
       → is_dead_object dead o ≡ true → IsCore m Stands (h ++ answered u (Refused o) ∷ []) dead store
@@ -145,8 +151,8 @@ module _ (m : Meaning) {S : Type 0} (Stands : S → List ℕ → Type 0) where
   -- ---- passes
   named_pass : (h : List Entry) (dead : List Bool) (before after : Contents S) (caller line kept : ℕ) → IsCore m Stands h dead before
       → IsAfterPass m Stands dead (stored_of before) (stored_of after) before.marks after.marks → kept < 2 ^ 64 → kept ≡ length (stored_of after) → after.is_open ≡ false → IsFit after dead
-      → IsCore m Stands (h ++ record { caller = caller; line = line; step = Pass; outcome = Kept kept } ∷ []) dead after
-  named_pass h dead before after caller line kept core pass small is closed fits =
+      → after.ending ≡ before.ending → IsCore m Stands (h ++ record { caller = caller; line = line; step = Pass; outcome = Kept kept } ∷ []) dead after
+  named_pass h dead before after caller line kept core pass small is closed fits ending =
       let x : Entry = record { caller = caller; line = line; step = Pass; outcome = Kept kept } in
       let count : kept ≡ length (stored_of after) % 2 ^ 64 = sym (mod-eq_of_lt small) ∙ ap (λ n. n % 2 ^ 64) is in
       let flags : AreFlagsOf (h ++ x ∷ []) dead = flags_after_other-lem h dead x core.flags refl in
@@ -159,13 +165,14 @@ module _ (m : Meaning) {S : Type 0} (Stands : S → List ℕ → Type 0) where
         closed = closed;
         fits = fits;
         monitors = (pass_keeps_store-lem m Stands (trace_of (h ++ x ∷ [])) dead (stored_of before) (stored_of after) before.marks after.marks monitors pass).0;
+        ended = subst (λ (l : List ℕ). AreEnding m Stands l (stored_of after)) (sym ending) (λ s there. core.ended s (pass.kept s there).0);
         tidy = tidy-push m h x (instances_of (stored_of after)) after.marks
             (swept m Stands (h ++ x ∷ []) dead (stored_of before) (stored_of after) before.marks after.marks flags monitors pass);
       }
 
   pub core_after_pass : (h : List Entry) (dead : List Bool) (before after : Contents S) (u : Unanswered) (kept : ℕ) → IsCore m Stands h dead before → u.step ≡ Pass
       → IsAfterPass m Stands dead (stored_of before) (stored_of after) before.marks after.marks → kept < 2 ^ 64 → kept ≡ length (stored_of after) → after.is_open ≡ false → IsFit after dead
-      → IsCore m Stands (h ++ answered u (Kept kept) ∷ []) dead after
-  core_after_pass h dead before after u kept core step pass small is closed fits =
+      → after.ending ≡ before.ending → IsCore m Stands (h ++ answered u (Kept kept) ∷ []) dead after
+  core_after_pass h dead before after u kept core step pass small is closed fits ending =
       subst (λ (s : Step). IsCore m Stands (h ++ record { caller = u.caller; line = u.line; step = s; outcome = Kept kept } ∷ []) dead after) (sym step)
-      (named_pass h dead before after u.caller u.line kept core pass small is closed fits)
+      (named_pass h dead before after u.caller u.line kept core pass small is closed fits ending)

@@ -14,6 +14,7 @@ use Rattle.jm_monitors.specs.Steps.{AreMarksAfter, NoneCutAbove}
 use Rattle.jm_store.specs.declared.moves.Plan.{Plan}
 use Rattle.jm_store.specs.Slots.{stored_in}
 use Rattle.jm_store.specs.Contents.{Contents, stored_of, IsPlanOf, monitors_after}
+use Rattle.jm_store.specs.Moves.{AreEnding}
 use Rattle.jm_core.specs.Cores.{Core, KeepsMemoryUnlessFired}
 use Rattle.jm_core.specs.Inside.{IsMoved, IsOutcomeOf, instances_of}
 
@@ -23,15 +24,16 @@ module _ (m : Meaning) {S : Type 0} (Stands : S → List ℕ → Type 0) (trace 
   IsCarriedOut b after firings = IsAnswer m trace (record { letter = letter; binding = b }) firings × IsMoved m Stands trace dead (record { letter = letter; binding = b }) after
 
   pub carried_out : (b : Binding) (before after : Contents S) (plan : Plan S) (firings : List Firing) → IsPlanOf m Stands trace dead letter before plan → plan.binding ≡ b
-      → after.monitors ≡ monitors_after before plan → AreMarksAfter plan.binding before.marks after.marks → firings ≡ plan.answer
+      → after.monitors ≡ monitors_after before plan → AreMarksAfter plan.binding before.marks after.marks → after.ending ≡ before.ending → firings ≡ plan.answer
       → IsAnswer m trace (record { letter = letter; binding = b }) firings × IsMoved m Stands trace dead (record { letter = letter; binding = b }) after
-  carried_out b before after plan firings works is monitors marks answer =
+  carried_out b before after plan firings works is monitors marks ending answer =
       let a : ParametricEvent = record { letter = letter; binding = plan.binding } in
       let done : IsCarriedOut plan.binding after firings = (
         subst (λ (l : List Firing). IsAnswer m trace a l) (sym answer) works.answer,
         record {
           monitors = subst (λ (l : List (Option (Stored S))). IsStoreOf m Stands (trace ++ a ∷ []) dead (stored_in l) after.marks) (sym monitors) (works.store after.marks marks);
           none_cut = subst (λ (l : List (Option (Stored S))). NoneCutAbove m Stands plan.binding dead (stored_in l)) (sym monitors) works.none_cut;
+          ended = subst (λ (l : List (Option (Stored S))). AreEnding m Stands after.ending (stored_in l)) (sym monitors) (subst (λ (e : List ℕ). AreEnding m Stands e (stored_in (monitors_after before plan))) (sym ending) works.ended);
         },
       ) in
       subst (λ (c : Binding). IsCarriedOut c after firings) is done

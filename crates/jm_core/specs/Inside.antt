@@ -15,7 +15,8 @@ use Rattle.jm_monitors.specs.declared.stored.Stored.{Stored}
 use Rattle.jm_monitors.specs.Deaths.{AreFlagsOf}
 use Rattle.jm_monitors.specs.Stores.{IsStoreOf}
 use Rattle.jm_monitors.specs.Steps.{NoneCutAbove}
-use Rattle.jm_store.specs.Contents.{Contents, stored_of, IsFit}
+use Rattle.jm_store.specs.Contents.{Contents, stored_of, IsFit, IsEnded}
+use Rattle.jm_store.specs.Moves.{EndsFewer}
 use Rattle.jm_core.specs.Cores.{IsTidy}
 
 -- the instances of monitors
@@ -23,28 +24,31 @@ abbrev pub instances_of : {S : Type 0} → List (Stored S) → List Binding
 instances_of monitors = map (λ s. s.instance) monitors
 
 -- The history is legal, and the flags of objects are those of its dead ones. The store fits the objects and has no open
--- plan; its monitors and marks are those of the history.
+-- plan; its monitors and marks are those of the history, and the letters that it keeps end its monitors.
 pub record IsCore (m : Meaning) {S : Type 0} (Stands : S → List ℕ → Type 0) (h : List Entry) (dead : List Bool) (store : Contents S) : Type 0 where
   pub legal : IsLegal m h
   pub flags : AreFlagsOf h dead
   pub closed : store.is_open ≡ false
   pub fits : IsFit store dead
   pub monitors : IsStoreOf m Stands (trace_of h) dead (stored_of store) store.marks
+  pub ended : IsEnded m Stands store
   pub tidy : IsTidy m h (instances_of (stored_of store)) store.marks
 
 -- the first dead object that b binds, by the flags
 abbrev pub first_dead_by : List Bool → Binding → Option ℕ
 first_dead_by dead b = find (is_dead_object dead) (objects_of b)
 
--- monitors and marks are as before
+-- monitors and marks are as before, and no letter is kept that wasn't
 pub record IsUntouched {S : Type 0} (before after : Contents S) : Type 0 where
   pub stored : stored_of after ≡ stored_of before
   pub marks : after.marks ≡ before.marks
+  pub fewer : EndsFewer before.ending after.ending
 
--- monitors and marks are those after the event a, and none above its binding is cut
+-- monitors and marks are those after the event a, none above its binding is cut, and the letters kept end the monitors
 pub record IsMoved (m : Meaning) {S : Type 0} (Stands : S → List ℕ → Type 0) (trace : List ParametricEvent) (dead : List Bool) (a : ParametricEvent) (after : Contents S) : Type 0 where
   pub monitors : IsStoreOf m Stands (trace ++ a ∷ []) dead (stored_of after) after.marks
   pub none_cut : NoneCutAbove m Stands a.binding dead (stored_of after)
+  pub ended : IsEnded m Stands after
 
 -- what an event comes to in a store
 abbrev pub IsOutcomeOf : Meaning → {S : Type 0} → (S → List ℕ → Type 0) → List ParametricEvent → List Bool → ParametricEvent → Contents S → Contents S → Outcome → Type 0

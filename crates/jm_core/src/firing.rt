@@ -4,7 +4,7 @@ ghost use Rattle.jm_semantics.specs.Traces.{ParametricEvent};
 ghost use Rattle.jm_index.specs.Index.{AreBelow};
 ghost use Rattle.jm_monitors.specs.Stores.{IsStoreOf};
 ghost use Rattle.jm_monitors.specs.Steps.{IsLiveEvent};
-ghost use Rattle.jm_store.specs.Contents.{stored_of, IsFit, IsPlanFor, IsPlanOf};
+ghost use Rattle.jm_store.specs.Contents.{stored_of, IsFit, IsPlanFor, IsPlanOf, IsEnded};
 ghost use Rattle.jm_core.specs.Inside.{first_dead_by, IsUntouched, IsOutcomeOf};
 
 use jm_model::{Binding, Letter, Monitor, NoMemory, Outcome, Steps};
@@ -33,6 +33,7 @@ pub(crate) fn perform<M: Monitor>(
     ensures fits { IsFit store.new objects.now }
     ensures works { (trace : List ParametricEvent)
         → IsStoreOf (M.meaning (M.definition rules.now)) (M.StandsFor rules.now) trace objects.now (stored_of store.old) store.old.marks
+        → IsEnded (M.meaning (M.definition rules.now)) (M.StandsFor rules.now) store.old
         → IsOutcomeOf (M.meaning (M.definition rules.now)) (M.StandsFor rules.now) trace objects.now
         (record { letter = letter.0; binding = binding.now }) store.old store.new result.0 }
 {
@@ -76,6 +77,7 @@ fn fire<M: Monitor>(
     ensures fits { IsFit store.new objects.now }
     ensures works { (trace : List ParametricEvent)
         → IsStoreOf (M.meaning (M.definition rules.now)) (M.StandsFor rules.now) trace objects.now (stored_of store.old) store.old.marks
+        → IsEnded (M.meaning (M.definition rules.now)) (M.StandsFor rules.now) store.old
         → IsOutcomeOf (M.meaning (M.definition rules.now)) (M.StandsFor rules.now) trace objects.now
         (record { letter = letter.0; binding = binding.now }) store.old store.new result.0 }
 {
@@ -112,6 +114,7 @@ fn counted_plan<M: Monitor, L: Ledger>(
     ensures plan { IfOk result (λ plan. IsPlanFor store.new plan) }
     ensures works { IfOk result (λ plan. (trace : List ParametricEvent)
         → IsStoreOf (M.meaning (M.definition rules.now)) (M.StandsFor rules.now) trace objects.now (stored_of store.old) store.old.marks
+        → IsEnded (M.meaning (M.definition rules.now)) (M.StandsFor rules.now) store.old
         → IsPlanOf (M.meaning (M.definition rules.now)) (M.StandsFor rules.now) trace objects.now letter.0 store.new plan) }
 {
     let mut steps = Steps::<L>::new(blank);

@@ -1,41 +1,118 @@
 //! Flags of objects. One that has none is unset.
-ghost use Rattle.std.specs.Prelude.{◌≡◌, ℕ, ◌≤◌, ◌<◌, OnOk, length};
+ghost use Rattle.std.specs.Prelude.{◌≡◌, ℕ, ◌≤◌, ◌<◌, ◌*◌, ◌/◌, OnOk, IfOk, IsTrue, true, false, [], length, slice_set};
 ghost use Rattle.jm_index.specs.Index.{flag_of, AreBelow};
 
 use jm_model::{Binding, NoMemory};
+use jm_objects::Objects;
+use std::alloc::Global;
+use std::marker::Model;
 
-/// An object's flag.
-pub(crate) fn is_set(flags: &[bool], object: u32) -> bool
-    ensures { result ≡ flag_of flags.now object }
-{
-    match flags.get(object as usize) {
-        Some(flag) => *flag,
-        None => false,
-    }
+/// Flags, 64 in a word. Contracts see them as a list.
+#[derive(Drop)]
+pub(crate) struct Flags {
+    words: Vec<u64>,
 }
 
-/// Makes flags for the objects of a binding, where there are none.
-pub(crate) fn cover(flags: &mut Vec<bool>, binding: &Binding) -> Result<(), NoMemory>
-    ensures same { (o : ℕ) → flag_of flags.new.items o ≡ flag_of flags.old.items o }
-    ensures longer { length flags.old.items ≤ length flags.new.items }
-    ensures there { OnOk result (AreBelow (length flags.new.items) binding.now) }
-{
-    let _mask = binding.mask();
-    for p in 0..8 {
-        if let Some(object) = binding.get(p) {
-            cover_object(flags, object as usize)?;
+impl Model for Flags {
+    ghost use Rattle.std.specs.Prelude.{List, Bool, length, ◌*◌};
+    ghost use Rattle.jm_objects.specs.Flags.{flags_of};
+
+    ghost Value = { List Bool };
+
+    ghost view = { λ f. flags_of (64 * length f.words.items) f.words.items };
+}
+
+impl Flags {
+    /// No flag.
+    pub(crate) fn new(alloc: Global) -> Flags
+        ensures { result ≡ [] }
+    {
+        Flags {
+            words: Vec::new(alloc),
         }
     }
-    Ok(())
-}
 
-fn cover_object(flags: &mut Vec<bool>, object: usize) -> Result<(), NoMemory>
-    ensures same { (o : ℕ) → flag_of flags.new.items o ≡ flag_of flags.old.items o }
-    ensures longer { length flags.old.items ≤ length flags.new.items }
-    ensures there { OnOk result (object < length flags.new.items) }
-{
-    while flags.len() <= object {
-        flags.push(false)?;
+    /// The same flags.
+    pub(crate) fn copy(&self) -> Result<Flags, NoMemory>
+        ensures { IfOk result (λ flags. flags ≡ self.now) }
+    {
+        let words = Vec::from_slice(*self.words.allocator(), self.words.as_slice())?;
+        Ok(Flags { words })
     }
-    Ok(())
+
+    /// Whether an object has a flag.
+    pub(crate) fn has(&self, object: u32) -> bool
+        ensures yes { result ≡ true → object < length self.now }
+        ensures no { result ≡ false → length self.now ≤ object }
+    {
+        (object as usize) / 64 < self.words.len()
+    }
+
+    /// An object's flag.
+    pub(crate) fn is_set(&self, object: u32) -> bool
+        ensures { result ≡ flag_of self.now object }
+    {
+        match self.words.get(object as usize / 64) {
+            Some(word) => (*word >> (object % 64)) % 2 == 1,
+            None => false,
+        }
+    }
+
+    /// Sets an object's flag.
+    pub(crate) fn set(&mut self, object: u32)
+        requires { object < length self.old }
+        ensures { self.new ≡ slice_set self.old object true }
+    {
+        let index = object as usize / 64;
+        let word = self.words[index];
+        self.words[index] = word | 1 << (object % 64);
+    }
+
+    /// Makes flags for the objects of a binding, where there are none.
+    pub(crate) fn cover(&mut self, binding: &Binding) -> Result<(), NoMemory>
+        ensures same { (o : ℕ) → flag_of self.new o ≡ flag_of self.old o }
+        ensures longer { length self.old ≤ length self.new }
+        ensures there { OnOk result (AreBelow (length self.new) binding.now) }
+    {
+        let _mask = binding.mask();
+        for p in 0..8 {
+            if let Some(object) = binding.get(p) {
+                self.cover_object(object)?;
+            }
+        }
+        Ok(())
+    }
+
+    fn cover_object(&mut self, object: u32) -> Result<(), NoMemory>
+        ensures same { (o : ℕ) → flag_of self.new o ≡ flag_of self.old o }
+        ensures longer { length self.old ≤ length self.new }
+        ensures there { OnOk result (object < length self.new) }
+    {
+        while !self.has(object) {
+            self.lengthen()?;
+        }
+        Ok(())
+    }
+
+    /// Makes 64 flags more.
+    fn lengthen(&mut self) -> Result<(), NoMemory>
+        ensures same { (o : ℕ) → flag_of self.new o ≡ flag_of self.old o }
+        ensures longer { length self.old ≤ length self.new }
+        ensures more { OnOk result (length self.old < length self.new) }
+    {
+        self.words.push(0)?;
+        Ok(())
+    }
+
+    /// Whether of 64 objects, those of a word of the table, each dead one that has a flag has it set.
+    pub(crate) fn has_dead(&self, objects: &Objects, index: u32) -> bool
+        requires { 64 * index < length objects.now }
+        ensures { IsTrue result → (o : ℕ) → o / 64 ≡ index → flag_of objects.now o ≡ true → o < length self.now → flag_of self.now o ≡ true }
+    {
+        let dead = objects.word(index);
+        match self.words.get(index as usize) {
+            Some(known) => dead | *known == *known,
+            None => true,
+        }
+    }
 }

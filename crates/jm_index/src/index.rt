@@ -1,9 +1,9 @@
-ghost use Rattle.std.specs.Prelude.{◌≡◌, ◌≢◌, ℕ, Bool, List, [], ◌∷◌, ◌++◌, ◌⊎◌, true, false, length, AllPairs, Contains, IfOk, OnOk, OnErr};
+ghost use Rattle.std.specs.Prelude.{◌≡◌, ◌≢◌, ℕ, ◌<◌, ◌*◌, ◌/◌, Bool, List, [], ◌∷◌, ◌++◌, ◌⊎◌, true, false, length, AllPairs, Contains, IsTrue, IfOk, OnOk, OnErr};
 ghost use Rattle.jm_model.specs.Bindings.{mask_of, restriction};
 ghost use Rattle.jm_index.specs.Index.{Pair, flag_of, IsKey, AreBelow, IsFitting, AreLive, without, asked_slots};
 
 use crate::entry::{Entry, slots_at};
-use crate::flags::{cover, is_set};
+use crate::flags::Flags;
 use crate::trees::Trees;
 use jm_model::{Binding, NoMemory};
 use jm_objects::Objects;
@@ -18,7 +18,7 @@ pub struct Index {
     entries: Vec<Entry>,
     places: HashMap<Binding, usize>,
     trees: Trees,
-    dropped: Vec<bool>,
+    dropped: Flags,
 }
 
 impl Model for Index {
@@ -30,9 +30,9 @@ impl Model for Index {
     ghost use Rattle.jm_model.specs.Layout.{binding_eq};
     ghost use Rattle.jm_index.specs.Layout.{live_pairs, IsIndexed};
 
-    ghost view = { λ i. record { list = live_pairs i.entries.items; dropped = i.dropped.items } };
+    ghost view = { λ i. record { list = live_pairs i.entries.items; dropped = i.dropped } };
 
-    ghost invariant = { λ i. IsIndexed i.entries.items (get binding_eq i.places) i.trees i.dropped.items };
+    ghost invariant = { λ i. IsIndexed i.entries.items (get binding_eq i.places) i.trees i.dropped };
 }
 
 impl Index {
@@ -45,7 +45,7 @@ impl Index {
             entries: Vec::new(alloc),
             places: HashMap::new(alloc),
             trees: Trees::new(alloc),
-            dropped: Vec::new(alloc),
+            dropped: Flags::new(alloc),
         }
     }
 
@@ -102,7 +102,7 @@ impl Index {
         ensures dropped { IfOk result (λ index. (o : ℕ) → flag_of index.dropped o ≡ flag_of self.now.dropped o) }
     {
         let alloc = *self.entries.allocator();
-        let dropped = Vec::from_slice(alloc, self.dropped.as_slice())?;
+        let dropped = self.dropped.copy()?;
         Ok(Index {
             entries: Vec::new(alloc),
             places: HashMap::new(alloc),
@@ -118,7 +118,7 @@ impl Index {
         ensures same { OnErr result (self.new.list ≡ self.old.list) }
         ensures dropped { (o : ℕ) → flag_of self.new.dropped o ≡ flag_of self.old.dropped o }
     {
-        cover(&mut self.dropped, &binding)?;
+        self.dropped.cover(&binding)?;
         let position = self.entries.len();
         self.entries.push(Entry {
             binding,
@@ -126,7 +126,7 @@ impl Index {
             live: false,
         })?;
         self.trees
-            .file_all(self.dropped.as_slice(), &binding, position)?;
+            .file_all(&self.dropped, &binding, position)?;
         self.places.insert(binding, position)?;
         self.entries[position].live = true;
         Ok(())
@@ -212,9 +212,8 @@ impl Index {
         ensures only { (o : ℕ) → flag_of self.new.dropped o ≡ true
             → (flag_of self.old.dropped o ≡ true) ⊎ (o ≡ object) }
     {
-        let place = object as usize;
-        if place < self.dropped.len() && !self.dropped[place] {
-            self.dropped[place] = true;
+        if self.dropped.has(object) && !self.dropped.is_set(object) {
+            self.dropped.set(object);
             self.trees.clear(object);
         }
     }
@@ -226,7 +225,33 @@ impl Index {
         ensures keys { (o : ℕ) → IsKey self.new o → flag_of objects.now o ≡ false }
         ensures fits { IsFitting self.new objects.now }
     {
-        for object in 0..objects.len() {
+        for index in 0..objects.len().div_ceil(64) {
+            if !self.has_dropped(objects, index) {
+                self.drop_dead_at(objects, index);
+            }
+        }
+    }
+
+    /// Whether of 64 objects, those of a word of the table, no dead one is a key.
+    fn has_dropped(&self, objects: &Objects, index: u32) -> bool
+        requires { 64 * index < length objects.now }
+        ensures { IsTrue result → (o : ℕ) → o / 64 ≡ index → flag_of objects.now o ≡ true → IsKey self.now o → ⊥ }
+    {
+        self.dropped.has_dead(objects, index)
+    }
+
+    /// The same for the 64 objects of a word of the table.
+    fn drop_dead_at(&mut self, objects: &Objects, index: u32)
+        requires { 64 * index < length objects.now }
+        ensures list { self.new.list ≡ self.old.list }
+        ensures gone { (o : ℕ) → o / 64 ≡ index → flag_of objects.now o ≡ true → IsKey self.new o → ⊥ }
+        ensures kept { (o : ℕ) → flag_of self.old.dropped o ≡ true → flag_of self.new.dropped o ≡ true }
+        ensures only { (o : ℕ) → flag_of self.new.dropped o ≡ true
+            → (flag_of self.old.dropped o ≡ true) ⊎ (flag_of objects.now o ≡ true) }
+    {
+        let len = objects.len();
+        let first = 64 * index;
+        for object in first..len.min(first.saturating_add(64)) {
             if objects.is_dead(object) {
                 self.let_go(object);
             }

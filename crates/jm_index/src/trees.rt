@@ -5,7 +5,7 @@ ghost use Rattle.jm_index.specs.Index.{flag_of};
 ghost use Rattle.jm_index.specs.Layout.{Rises, IsFiled, is_live_at, posting_of, posting_at, IsPath, IsPathBelow, AllFiled, AreFiled, AreThinned};
 
 use crate::entry::Entry;
-use crate::flags::is_set;
+use crate::flags::Flags;
 use crate::posting::Posting;
 use jm_model::{Binding, NoMemory};
 use std::alloc::Global;
@@ -142,7 +142,7 @@ impl Trees {
     /// Files a position under an object, unless the object was dropped.
     fn file_object(
         &mut self,
-        dropped: &[bool],
+        dropped: &Flags,
         mask: u8,
         object: u32,
         position: usize,
@@ -152,7 +152,7 @@ impl Trees {
         ensures there { OnOk result (flag_of dropped.now object ≡ false
             → Contains (posting_at self.new mask (object + 1)) position) }
     {
-        if is_set(dropped, object) {
+        if dropped.is_set(object) {
             return Ok(());
         }
         self.file(mask, object as usize + 1, position)
@@ -161,7 +161,7 @@ impl Trees {
     /// Files a position under all paths of a binding. Where memory is wanting, it may stand under some of them.
     pub(crate) fn file_all(
         &mut self,
-        dropped: &[bool],
+        dropped: &Flags,
         binding: &Binding,
         position: usize,
     ) -> Result<(), NoMemory>

@@ -1,9 +1,8 @@
 -- The parameters that are bound to dead objects, one after another from the last.
-use Rattle.std.proofs.Common.{◌≡◌, ℕ, zero, suc, ◌+◌, ◌-◌, ◌*◌, ◌^◌, ◌<◌, ◌≤◌, Bool, true, false, cond, not, ◌||◌, List, [], ◌∷◌, Option, Some, None, length, drop, refl, ◌∙◌, arith, eqb, pow-suc, length-drop, add_comm}
+use Rattle.std.proofs.Common.{◌≡◌, ℕ, zero, suc, ◌+◌, ◌-◌, ◌*◌, ◌^◌, ◌<◌, ◌≤◌, Bool, true, false, cond, not, ◌||◌, List, [], ◌∷◌, Option, Some, None, length, drop, refl, ◌∙◌, ap, arith, pow-suc, length-drop, add_comm}
 use Rattle.std.proofs.Math.Pow.{pow_mono}
-use Rattle.std.proofs.lemmas.Bool.Decides.{nat_tests}
 use Rattle.jm_model.specs.Bindings.{object_at, mask_of, mask_where}
-use Rattle.jm_marks.specs.Marks.{is_dead_object, is_at_dead, dead_mask_of, has_live}
+use Rattle.jm_marks.specs.Marks.{is_dead_object, is_at_dead, is_at_live, dead_mask_of, has_live}
 
 -- one parameter more in front
 pub dead_mask-step : (flags : List Bool) (b : List (Option ℕ)) (p : ℕ) → p < length b
@@ -39,22 +38,36 @@ dead_mask-none flags (None ∷ b) e =
     let ih = dead_mask-none flags b (omega arith) in omega arith
 dead_mask-none flags (Some o ∷ b) e = absurd (omega arith)
 
-double_eq : (x y : ℕ) → eqb (2 * x) (2 * y) ≡ eqb x y
-double_eq x y = grind (arith, nat_tests)
+-- nor in what lies behind as many parameters as the mask has room in
+mask_of-behind : (b : List (Option ℕ)) (p : ℕ) → mask_of b < 2 ^ p → mask_of (drop p b) ≡ 0
+mask_of-behind b zero h = omega arith
+mask_of-behind [] (suc p) h = refl
+mask_of-behind (None ∷ b) (suc p) h = let wide = rw (pow-suc 2 p) at h in mask_of-behind b p (omega arith)
+mask_of-behind (Some o ∷ b) (suc p) h = let wide = rw (pow-suc 2 p) at h in mask_of-behind b p (omega arith)
 
-odd_eq : (x y : ℕ) → eqb (1 + 2 * x) (1 + 2 * y) ≡ eqb x y
-odd_eq x y = grind (arith, nat_tests)
+pub dead_mask-behind : (flags : List Bool) (b : List (Option ℕ)) (p : ℕ) → mask_of b < 2 ^ p → dead_mask_of flags (drop p b) ≡ 0
+dead_mask-behind flags b p h = dead_mask-none flags (drop p b) (mask_of-behind b p h)
 
-apart_eq : (x y : ℕ) → eqb (0 + 2 * x) (1 + 2 * y) ≡ false
-apart_eq x y = grind (arith, nat_tests)
+-- a live object is bound at a parameter or behind it
+pub has_live-step : (flags : List Bool) (b : List (Option ℕ)) (p : ℕ) → p < length b → has_live flags (drop p b) ≡ (is_at_live flags (object_at b p) || has_live flags (drop (p + 1) b))
+has_live-step flags [] p h = absurd (omega arith)
+has_live-step flags (None ∷ b) zero h = refl
+has_live-step flags (Some o ∷ b) zero h = refl
+has_live-step flags (x ∷ b) (suc p) h =
+    let next : suc p + 1 ≡ suc (p + 1) = omega arith in
+    rw next (has_live-step flags b p (omega arith))
 
--- a live object is bound where not all that is bound is dead
-pub has_live-masks : (flags : List Bool) (b : List (Option ℕ)) → not (eqb (dead_mask_of flags b) (mask_of b)) ≡ has_live flags b
-has_live-masks flags [] = refl
-has_live-masks flags (None ∷ b) = rw (double_eq (dead_mask_of flags b) (mask_of b)) (has_live-masks flags b)
-has_live-masks flags (Some o ∷ b) =
-    elim (is_dead_object flags o) as (λ v. not (eqb (cond v 1 0 + 2 * dead_mask_of flags b) (1 + 2 * mask_of b)) ≡ (not v || has_live flags b))
-    [ true ↦ rw (odd_eq (dead_mask_of flags b) (mask_of b)) (has_live-masks flags b) | false ↦ rw (apart_eq (dead_mask_of flags b) (mask_of b)) ]
+pub has_live-found : (flags : List Bool) (b : List (Option ℕ)) (p : ℕ) → p < length b → is_at_live flags (object_at b p) ≡ true → has_live flags (drop p b) ≡ true
+has_live-found flags b p h live = has_live-step flags b p h ∙ ap (λ v. v || has_live flags (drop (p + 1) b)) live
+
+pub has_live-passed : (flags : List Bool) (b : List (Option ℕ)) (p : ℕ) → p < length b → is_at_live flags (object_at b p) ≡ false → has_live flags (drop p b) ≡ has_live flags (drop (p + 1) b)
+has_live-passed flags b p h none = has_live-step flags b p h ∙ ap (λ v. v || has_live flags (drop (p + 1) b)) none
+
+pub has_live-end : (flags : List Bool) (b : List (Option ℕ)) (p : ℕ) → length b ≤ p → has_live flags (drop p b) ≡ false
+has_live-end flags [] zero h = refl
+has_live-end flags [] (suc p) h = refl
+has_live-end flags (x ∷ b) zero h = absurd (omega arith)
+has_live-end flags (x ∷ b) (suc p) h = has_live-end flags b p (omega arith)
 
 -- the same, as the loop goes: p is the parameter behind the one that it looks at
 pub dead_mask-before : (flags : List Bool) (b : List (Option ℕ)) (p bit dead : ℕ) → bit ≡ cond (is_at_dead flags (object_at b (p - 1))) 1 0

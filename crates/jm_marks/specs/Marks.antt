@@ -17,6 +17,11 @@ abbrev pub is_at_dead : List Bool → Option ℕ → Bool
 is_at_dead flags None = false
 is_at_dead flags (Some o) = is_dead_object flags o
 
+-- a parameter is bound, and to a live object
+abbrev pub is_at_live : List Bool → Option ℕ → Bool
+is_at_live flags None = false
+is_at_live flags (Some o) = not (is_dead_object flags o)
+
 -- the set of the parameters that b binds to dead objects
 abbrev pub dead_mask_of : List Bool → Binding → ℕ
 dead_mask_of flags b = mask_where (is_dead_object flags) b

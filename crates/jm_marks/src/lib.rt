@@ -5,11 +5,11 @@
 //! marks below a binding takes one look-up for each of these sets, and no walk over marks.
 #![tactic(auto)]
 
-ghost use Rattle.std.specs.Prelude.{ℕ, ◌≡◌, ◌≢◌, ◌+◌, ◌<◌, ◌≤◌, ◌↔◌, [], ◌∷◌, ◌++◌, filter, Contains, IsTrue, IfOk, OnOk, false, vec_len, vec_capacity, if◌then◌else◌};
+ghost use Rattle.std.specs.Prelude.{ℕ, ◌≡◌, ◌≢◌, ◌+◌, ◌<◌, ◌≤◌, ◌^◌, ◌↔◌, [], ◌∷◌, ◌++◌, filter, Contains, IsTrue, IfOk, OnOk, false, vec_len, vec_capacity, if◌then◌else◌};
 ghost use Rattle.std.specs.List.{AllPairs};
 ghost use Rattle.jm_model.specs.declared.binding.Binding.{Binding as Bound};
 ghost use Rattle.jm_model.specs.Bindings.{object_at};
-ghost use Rattle.jm_marks.specs.Marks.{dead_mask_of, is_at_dead, has_live, IsCovered, IsCoveredAt};
+ghost use Rattle.jm_marks.specs.Marks.{dead_mask_of, is_at_dead, is_at_live, has_live, IsCovered, IsCoveredAt};
 
 use indexmap::IndexSet;
 use jm_model::{Binding, NoMemory};
@@ -22,16 +22,31 @@ use std::marker::Model;
 pub fn dead_mask(objects: &Objects, binding: &Binding) -> u8
     ensures { result ≡ dead_mask_of objects.now binding.now }
 {
+    let mask = binding.mask();
     let mut dead = 0;
-    if binding.mask() == 0 {
-        return dead;
-    }
-    let mut p = 8;
+    let mut p = room_for(mask);
     while p > 0 {
         p -= 1;
         dead = 2 * dead + dead_bit(objects, binding, p);
     }
     dead
+}
+
+/// A number of parameters that a mask has room in.
+fn room_for(mask: u8) -> u8
+    ensures room { mask < 2 ^ result }
+    ensures few { result ≤ 8 }
+{
+    if mask < 2 {
+        return mask;
+    }
+    if mask < 4 {
+        return 2;
+    }
+    if mask < 16 {
+        return 4;
+    }
+    8
 }
 
 /// 1 where a parameter is bound to a dead object, and else 0.
@@ -50,7 +65,24 @@ fn dead_bit(objects: &Objects, binding: &Binding, p: u8) -> u8
 fn has_live(objects: &Objects, binding: &Binding) -> bool
     ensures { result ≡ has_live objects.now binding.now }
 {
-    dead_mask(objects, binding) != binding.mask()
+    let _mask = binding.mask();
+    for p in 0..8 {
+        if is_live_at(objects, binding, p) {
+            return true;
+        }
+    }
+    false
+}
+
+/// Whether a parameter is bound to an object that is alive.
+fn is_live_at(objects: &Objects, binding: &Binding, p: u8) -> bool
+    requires { p < 8 }
+    ensures { result ≡ is_at_live objects.now (object_at binding.now p) }
+{
+    match binding.get(p) {
+        Some(object) => object >= objects.len() || !objects.is_dead(object),
+        None => false,
+    }
 }
 
 /// Adds a set of parameters to a list where it isn't there.

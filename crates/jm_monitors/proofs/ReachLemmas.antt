@@ -18,7 +18,7 @@ use Rattle.jm_semantics.proofs.MeaningLemmas.{cut-more_dead, cut-letter, cut-no_
 use Rattle.jm_marks.specs.Marks.{is_dead_object, dead_mask_of, IsCovered}
 use Rattle.jm_monitors.specs.declared.stored.Stored.{Stored}
 use Rattle.jm_monitors.specs.Stores.{HasInstance, IsMonitorOf, IsStoreOf}
-use Rattle.jm_monitors.specs.Steps.{Follows, IsBase, IsLost, AreReached, IsReport, IsReported, IsLiveEvent}
+use Rattle.jm_monitors.specs.Steps.{Follows, IsBase, IsOverAfter, AreReached, IsReport, IsReported, IsLiveEvent}
 use Rattle.jm_monitors.specs.Laws.{ReportIsAnswer}
 use Rattle.jm_monitors.proofs.BaseLemmas.{event-live, join-absorbs, base-slice}
 
@@ -147,21 +147,21 @@ module _ (m : Meaning) {S : Type 0} (Stands : S → List ℕ → Type 0) (trace 
           subst (λ u. (is_compatible u b ≡ true) × ((is_below b u ≡ true) ⊎ ((Contains marks b → ⊥) × (is_below b u ≡ false) × IsCovered marks (join u b) u))) (sym same)
           (below-compatible (join_below trace t) b t (join_below-below trace t l) above, inr (unmarked apart, apart, marks-covered))
 
-      lost-over : (s : Stored S) (state : S) → Contains stored s → s.instance ≡ join_below trace t → Follows Stands letter s.state state
-          → IsLost m Stands state (dead_mask_of dead (join s.instance b)) → IsOver m (slice_of (with_event trace letter b) t) (dead_mask_of dead t)
-      lost-over s state h same follows lost =
+      lost-over : (s : Stored S) → Contains stored s → s.instance ≡ join_below trace t → IsOverAfter m Stands letter s.state (dead_mask_of dead (join s.instance b))
+          → IsOver m (slice_of (with_event trace letter b) t) (dead_mask_of dead t)
+      lost-over s h same over =
           let word : slice_of (with_event trace letter b) t ≡ slice_of trace s.instance ++ letter ∷ [] =
           slice_of-above trace (record { letter = letter; binding = b }) t above ∙ ap (λ w. w ++ letter ∷ []) (slice-join_below trace t l ∙ ap (slice_of trace) (sym same)) in
           let joined : join s.instance b ≡ t = ap (λ u. join u b) same ∙ sym is in
           subst (λ w. IsOver m w (dead_mask_of dead t)) (sym word)
           (subst (λ u. IsOver m (slice_of trace s.instance ++ letter ∷ []) (dead_mask_of dead u)) joined
-          (lost (slice_of trace s.instance ++ letter ∷ []) (follows (slice_of trace s.instance) (store.each s h).1)))
+          (over (slice_of trace s.instance) (store.each s h).1))
 
       reached-from : (s : Stored S) → Contains stored s → s.instance ≡ join_below trace t → is_below b (join_below trace t) ≡ false → IsReachedOrOver
       reached-from s h same apart =
           elim (are.made s h (subst (λ u. is_below b u ≡ false) (sym same) apart) (largest-base s same apart)) [
             | inl r ↦ inl (r.0, r.1, r.2 ∙ (ap (λ u. join u b) same ∙ sym is))
-            | inr left ↦ inr (lost-over s left.0 h same left.1 left.2)
+            | inr over ↦ inr (lost-over s h same over)
           ]
 
       reached-new : (IsInstance trace t → ⊥) → IsReachedOrOver

@@ -42,6 +42,10 @@ pub record IsReached {S : Type 0} (Stands : S → List ℕ → Type 0) (letter :
 abbrev pub IsLost : Meaning → {S : Type 0} → (S → List ℕ → Type 0) → S → ℕ → Type 0
 IsLost m Stands state dead = (w : List ℕ) → Stands state w → ((k : ℕ) → IsHit m w k → ⊥) × IsCutWord m w dead
 
+-- the words of the state with the letter at their end hit nothing, and are cut with these dead parameters
+abbrev pub IsOverAfter : Meaning → {S : Type 0} → (S → List ℕ → Type 0) → ℕ → S → ℕ → Type 0
+IsOverAfter m Stands letter state dead = (w : List ℕ) → Stands state w → ((k : ℕ) → IsHit m (w ++ letter ∷ []) k → ⊥) × IsCutWord m (w ++ letter ∷ []) dead
+
 -- The reached monitors: distinct, each reached, and one for each stored monitor that the event reaches, but that new
 -- instances which hit nothing and are cut at once may be left out.
 pub record AreReached (m : Meaning) {S : Type 0} (Stands : S → List ℕ → Type 0) (letter : ℕ) (b : Binding) (dead : List Bool) (stored : List (Stored S)) (marks : List Binding) (reached : List (Stored S)) : Type 0 where
@@ -50,7 +54,7 @@ pub record AreReached (m : Meaning) {S : Type 0} (Stands : S → List ℕ → Ty
   pub moved : (s : Stored S) → Contains stored s → is_below b s.instance ≡ true → HasInstance reached s.instance
   pub made : (s : Stored S) → Contains stored s → is_below b s.instance ≡ false → IsBase b marks s →
       HasInstance reached (join s.instance b)
-      ⊎ ((state : S) × Follows Stands letter s.state state × IsLost m Stands state (dead_mask_of dead (join s.instance b)))
+      ⊎ IsOverAfter m Stands letter s.state (dead_mask_of dead (join s.instance b))
 
 -- the state's words are cut with these dead parameters
 abbrev pub IsCutState : Meaning → {S : Type 0} → (S → List ℕ → Type 0) → S → ℕ → Type 0

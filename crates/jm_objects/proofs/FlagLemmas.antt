@@ -1,6 +1,6 @@
 use Rattle.std.proofs.Common.{◌≡◌, ℕ, ◌*◌, ◌/◌, ◌%◌, ◌^◌, ◌<◌, ◌≤◌, Bool, true, false, List, length, get_or, refl, ◌≢◌, sym, ◌∙◌, ap, arith, eqb, Some, replicate, ◌⊎◌, ⊎_elim, inl, inr}
 use Rattle.std.specs.Prelude.{slice_get, bit_or, not}
-use Rattle.std.specs.Int.{w64}
+use Rattle.std.specs.Int.{w64, bit_at}
 use Rattle.std.proofs.Math.ListN.{set, length-set}
 use Rattle.std.proofs.lemmas.List.{same_lists, length-replicate, get_or-replicate, get_or-set_same, get_or-set_other}
 use Rattle.std.proofs.lemmas.Bool.{cases_eq, cases_lt, eq-eqb}
@@ -38,6 +38,14 @@ pub slice_get-word : (n : ℕ) (words : List ℕ) (k : ℕ) (v : List Bool) (wor
 slice_get-word n words k v word e h room is =
     let below : k < n = below_len n words k v e h in
     let here : word ≡ get_or words (k / 64) 0 = is ∙ get_or_default_zero words (k / 64) word (word_within n words k below room) in
+    rw (← e, here) (slice_get-flags_of n words k below)
+
+-- the same by the bits of a word
+pub slice_get-kept : (n : ℕ) (words : List ℕ) (k i : ℕ) (v : List Bool) (word : ℕ) → flags_of n words ≡ v → k < length v → k / 64 ≡ i → n ≤ 64 * length words
+    → word ≡ get_or words i word → slice_get v k ≡ Some (eqb (bit_at word (k % 64)) 1)
+slice_get-kept n words k i v word e h at room is =
+    let below : k < n = below_len n words k v e h in
+    let here : word ≡ get_or words (k / 64) 0 = rw at (is ∙ get_or_default_zero words i word (omega (arith, word_within n words k below room, at))) in
     rw (← e, here) (slice_get-flags_of n words k below)
 
 -- no object is dead where no bit is set

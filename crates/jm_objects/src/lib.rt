@@ -1,7 +1,8 @@
 //! Which objects are alive: a bit for each object. An object that died stays dead.
 #![tactic(auto)]
 
-ghost use Rattle.std.specs.Prelude.{ℕ, ◌≡◌, ◌<◌, ◌^◌, Bool, not, true, false, Some, IfOk, length, replicate, slice_get, slice_set};
+ghost use Rattle.std.specs.Int.{bit_at};
+ghost use Rattle.std.specs.Prelude.{ℕ, ◌≡◌, ◌<◌, ◌*◌, ◌/◌, ◌%◌, ◌^◌, ◌==◌, Bool, not, true, false, Some, IfOk, length, replicate, slice_get, slice_set};
 
 use std::alloc::{AllocError, Global};
 use std::marker::Model;
@@ -46,6 +47,14 @@ impl Objects {
         ensures { slice_get self.now object ≡ Some result }
     {
         (self.words[object as usize / 64] >> (object % 64)) % 2 == 1
+    }
+
+    /// The flags of 64 objects: bit k is that of object 64 * index + k, where there is such an object.
+    pub fn word(&self, index: u32) -> u64
+        requires { 64 * index < length self.now }
+        ensures { (k : ℕ) → k < length self.now → k / 64 ≡ index → slice_get self.now k ≡ Some (bit_at result (k % 64) == 1) }
+    {
+        self.words[index as usize]
     }
 
     /// Lets an object die, and answers whether it was alive.

@@ -7,7 +7,7 @@ use Rattle.jm_model.specs.Meanings.{Meaning, IsHit, IsCutWord}
 use Rattle.jm_model.specs.declared.binding.Binding.{Binding}
 use Rattle.jm_marks.specs.Marks.{dead_mask_of, IsCovered}
 use Rattle.jm_monitors.specs.declared.stored.Stored.{Stored}
-use Rattle.jm_monitors.specs.Steps.{Follows, IsBase, IsLost, IsCutState}
+use Rattle.jm_monitors.specs.Steps.{Follows, IsBase, IsCutState}
 use Rattle.jm_store.specs.declared.moves.Move.{Move}
 use Rattle.jm_store.specs.Moves.{IsAdvanced, IsMoved, IsLeft}
 
@@ -26,7 +26,7 @@ module _ (m : Meaning) {S : Type 0} (Stands : S → List ℕ → Type 0) (letter
   pub left_lost : (s : Stored S) (t : Binding) (move : Move S) → t ≡ join s.instance b → is_below b s.instance ≡ false → IsAdvanced m Stands letter dead None t s.state move → move.stays ≡ false
       → ((w : List ℕ) → Stands move.monitor.state w → (k : ℕ) → IsHit m w k → ⊥) → IsLeft m Stands letter b dead marks s
   left_lost s t move is apart advanced goes quiet =
-      inr (apart, (move.monitor.state, advanced.next, λ w stands. (quiet w stands, subst (λ (u : Binding). IsCutWord m w (dead_mask_of dead u)) is (advanced.cut goes w stands))))
+      inr (apart, λ w stands. let after = advanced.next w stands in (quiet (w ++ letter ∷ []) after, subst (λ (u : Binding). IsCutWord m (w ++ letter ∷ []) (dead_mask_of dead u)) is (advanced.cut goes (w ++ letter ∷ []) after)))
 
   pub moved_above : (k : ℕ) (s : Stored S) (t : Binding) (move : Move S) → t ≡ join s.instance b → is_compatible s.instance b ≡ true → is_below b s.instance ≡ true
       → IsAdvanced m Stands letter dead (Some k) t s.state move → IsMoved m Stands letter b dead marks k s move

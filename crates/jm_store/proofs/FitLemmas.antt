@@ -12,7 +12,7 @@ use Rattle.jm_index.proofs.ReadLemmas.{Contains-none}
 use Rattle.jm_monitors.specs.declared.stored.Stored.{Stored}
 use Rattle.jm_store.specs.declared.monitors.Slot.{Slot}
 use Rattle.jm_store.specs.Slots.{IsUsed, slot_at, monitors_of, monitor_at, stored_in}
-use Rattle.jm_store.specs.Contents.{Contents, IsFit, ArePaired}
+use Rattle.jm_store.specs.Contents.{Contents, IsFit, ArePaired, with_ending}
 use Rattle.jm_store.specs.Housing.{IsHoused, IsKept}
 use Rattle.jm_store.specs.declared.monitors.Slot.TheVariants.{Taken}
 use Rattle.jm_store.proofs.SlotLemmas.{place_of}
@@ -20,17 +20,17 @@ use Rattle.jm_store.proofs.GivenLemmas.{pairs_cons, pairs_none}
 use Rattle.jm_store.proofs.CommitLemmas.{housed_within}
 
 module _ {S : Type 0} where
-  pub vacant_fits : (index : PairList) (dead : List Bool) → IsFitting index dead → IsFit {S = S} (record { monitors = []; marks = []; is_open = false; index = index }) dead
-  vacant_fits index dead fits = record {
+  pub vacant_fits : (index : PairList) (ending : List ℕ) (dead : List Bool) → IsFitting index dead → IsFit {S = S} (record { monitors = []; marks = []; is_open = false; index = index; ending = ending }) dead
+  vacant_fits index ending dead fits = record {
     instances = λ s there. absurd (Contains-none s there);
     marks = λ b there. absurd (Contains-none b there);
     index = fits;
   }
 
   -- an index that fits gives a store that fits
-  pub housed_fits : (slots : List (Slot S)) (marks : List Binding) (open' : Bool) (index : PairList) (dead : List Bool) → IsHoused slots index.list → IsFitting index dead
-      → ((b : Binding) → Contains marks b → AreBelow (length dead) b) → IsFit (record { monitors = monitors_of slots; marks = marks; is_open = open'; index = index }) dead
-  housed_fits slots marks open' index dead h fits below = record {
+  pub housed_fits : (slots : List (Slot S)) (marks : List Binding) (open' : Bool) (index : PairList) (ending : List ℕ) (dead : List Bool) → IsHoused slots index.list → IsFitting index dead
+      → ((b : Binding) → Contains marks b → AreBelow (length dead) b) → IsFit (record { monitors = monitors_of slots; marks = marks; is_open = open'; index = index; ending = ending }) dead
+  housed_fits slots marks open' index ending dead h fits below = record {
     instances = λ s there.
         let (k, at) = place_of (monitors_of slots) s there in
         fits.within (record { binding = s.instance; slot = k }) (h.paired k s at);
@@ -38,9 +38,9 @@ module _ {S : Type 0} where
     index = fits;
   }
 
-  pub are_paired : (slots : List (Slot S)) (marks : List Binding) (open' : Bool) (index : PairList) → IsHoused slots index.list
-      → ArePaired (record { monitors = monitors_of slots; marks = marks; is_open = open'; index = index })
-  are_paired slots marks open' index h = record { paired = h.paired; bindings = h.bindings; within = housed_within slots index.list h }
+  pub are_paired : (slots : List (Slot S)) (marks : List Binding) (open' : Bool) (index : PairList) (ending : List ℕ) → IsHoused slots index.list
+      → ArePaired (record { monitors = monitors_of slots; marks = marks; is_open = open'; index = index; ending = ending })
+  are_paired slots marks open' index ending h = record { paired = h.paired; bindings = h.bindings; within = housed_within slots index.list h }
 
   -- one monitor, and its pair
   pub kept_first : (s : Stored S) (d spare : ℕ) → mask_of s.instance ≡ d → IsKept (Taken s ∷ []) (record { binding = s.instance; slot = 0 } ∷ []) (d ∷ []) false spare
@@ -71,3 +71,7 @@ module _ {S : Type 0} where
 
 pub below_empty : (n : ℕ) → AreBelow n empty
 below_empty n o (p, at) = absurd (unbound-gives 8 p o at)
+
+-- the same with other letters
+pub fit_ending : {S : Type 0} (store : Contents S) (ending : List ℕ) (dead : List Bool) → IsFit store dead → IsFit (with_ending store ending) dead
+fit_ending store ending dead h = record { instances = h.instances; marks = h.marks; index = h.index }

@@ -16,3 +16,4 @@ pub mod EventLemmas
 pub mod FitLemmas
 pub mod ListLemmas
 pub mod ReportLemmas
+pub mod EndingLemmas

@@ -3,7 +3,7 @@ use Rattle.std.proofs.Common.{◌≡◌, ◌≢◌, ℕ, zero, suc, ◌+◌, ◌
 use Rattle.std.specs.Prelude.{Option, Some, None, Contains, AllPairs, IsTrue}
 use Rattle.std.proofs.lemmas.Bool.{both_ways, cases_Bool}
 use Rattle.std.proofs.lemmas.Option.{same_Some, none-some}
-use Rattle.jm_model.specs.Bindings.{is_below, is_compatible, join}
+use Rattle.jm_model.specs.Bindings.{is_below, is_compatible, join, mask_of}
 use Rattle.jm_model.specs.Meanings.{Meaning}
 use Rattle.jm_model.specs.declared.binding.Binding.{Binding}
 use Rattle.jm_semantics.proofs.ListLemmas.{Contains-map}
@@ -11,7 +11,7 @@ use Rattle.jm_semantics.proofs.BindingLemmas.{below-join_right, below-refl, belo
 use Rattle.jm_marks.specs.Marks.{dead_mask_of}
 use Rattle.jm_monitors.specs.declared.stored.Stored.{Stored}
 use Rattle.jm_monitors.specs.Stores.{HasInstance}
-use Rattle.jm_monitors.specs.Steps.{Follows, IsBase, IsReached, IsLost, AreReached, IsCutState, IsAliveState}
+use Rattle.jm_monitors.specs.Steps.{Follows, IsBase, IsReached, IsOverAfter, AreReached, IsCutState, IsAliveState}
 use Rattle.jm_store.specs.declared.moves.Move.{Move}
 use Rattle.jm_store.specs.Slots.{monitor_at, stored_in}
 use Rattle.jm_store.specs.Moves.{IsAdvanced, IsMoved, IsLeft, IsOutcome, IsOutcomeIn, IsOutcomeAt, AreGiven, AreVisited, AreMovesOf, reached_by}
@@ -43,7 +43,7 @@ module _ (m : Meaning) {S : Type 0} (Stands : S → List ℕ → Type 0) (letter
       split None at none = cc
       split (Some s) at moved = record { base = s; at = at; moved = moved }
 
-  module _ (known : Bool) (moves : List (Move S)) (all : AreMovesOf m Stands letter b dead marks known monitors moves) where
+  module _ (asks : ℕ → Bool) (moves : List (Move S)) (all : AreMovesOf m Stands letter b dead marks asks monitors moves) where
     pub move_base : (move : Move S) → Contains moves move → (k : ℕ) × Contains all.slots k × HasBase k move
     move_base move there =
         let (k, among, is) = given_each (IsOutcomeAt m Stands letter b dead marks monitors) all.slots moves move all.given there in
@@ -60,26 +60,23 @@ module _ (m : Meaning) {S : Type 0} (Stands : S → List ℕ → Type 0) (letter
           next = has.moved.advanced.next;
         }
 
-    -- the known bindings are marks
-    module _ (marked : IsTrue known → Contains marks b) where
-      read : (k : ℕ) (s : Stored S) → monitor_at monitors k ≡ Some s → IsBase b marks s → Contains all.slots k
-      read k s at base = all.visit.all k s at base.0 (may (cases_Bool known))
-        where
-          may : (known ≡ true) ⊎ (known ≡ false) → (known ≡ false) ⊎ (is_below b s.instance ≡ true)
-          may (inr is) = inl is
-          may (inl is) = elim base.1 [ inl below ↦ inr below | inr new ↦ absurd (new.0 (marked is)) ]
-
+    -- each monitor that the event reaches is asked for, or the event ends it
+    module _ (may : (s : Stored S) → Contains (stored_in monitors) s → IsBase b marks s → (asks (mask_of s.instance) ≡ true) ⊎ ((is_below b s.instance ≡ false) × IsOverAfter m Stands letter s.state (dead_mask_of dead (join s.instance b)))) where
       -- what becomes of a monitor that the event reaches
       pub becomes : (k : ℕ) (s : Stored S) → monitor_at monitors k ≡ Some s → IsBase b marks s
           → ((move : Move S) × Contains moves move × IsMoved m Stands letter b dead marks k s move)
-          ⊎ ((is_below b s.instance ≡ false) × ((state : S) × Follows Stands letter s.state state × IsLost m Stands state (dead_mask_of dead (join s.instance b))))
+          ⊎ ((is_below b s.instance ≡ false) × IsOverAfter m Stands letter s.state (dead_mask_of dead (join s.instance b)))
       becomes k s at base =
-          let (o, is, among) = given_all (IsOutcomeAt m Stands letter b dead marks monitors) all.slots moves k all.given (read k s at base) in
-          split o (outcome_of k s o at is) among
+          elim (may s (stored_at monitors k s at) base) [
+            | inl asked ↦
+                let (o, is, among) = given_all (IsOutcomeAt m Stands letter b dead marks monitors) all.slots moves k all.given (all.visit.all k s at base.0 asked) in
+                split o (outcome_of k s o at is) among
+            | inr over ↦ inr over
+          ]
         where
           split : (o : Option (Move S)) → IsOutcome m Stands letter b dead marks k s o → ((y : Move S) → o ≡ Some y → Contains moves y)
               → ((move : Move S) × Contains moves move × IsMoved m Stands letter b dead marks k s move)
-              ⊎ ((is_below b s.instance ≡ false) × ((state : S) × Follows Stands letter s.state state × IsLost m Stands state (dead_mask_of dead (join s.instance b))))
+              ⊎ ((is_below b s.instance ≡ false) × IsOverAfter m Stands letter s.state (dead_mask_of dead (join s.instance b)))
           split None left among = elim left [ inl none ↦ absurd (none base) | inr lost ↦ inr lost ]
           split (Some move) moved among = inl (move, among move refl, moved)
 

@@ -6,7 +6,7 @@ use Rattle.std.proofs.lemmas.Bool.{both_ways, cases_Bool}
 use Rattle.std.proofs.lemmas.Option.{same_Some, none-some}
 use Rattle.std.proofs.lemmas.List.Sorted.{Contains-permutation, IsPermutation-sym}
 use Rattle.std.proofs.lemmas.List.Elements.{Contains-append_left, Contains-push, Contains-push_cases}
-use Rattle.jm_model.specs.Bindings.{is_below, is_compatible, join, binding_cmp}
+use Rattle.jm_model.specs.Bindings.{is_below, is_compatible, join, binding_cmp, mask_of}
 use Rattle.jm_model.specs.Meanings.{Meaning}
 use Rattle.jm_model.specs.declared.binding.Binding.{Binding}
 use Rattle.jm_model.specs.declared.firings.Firing.{Firing}
@@ -18,29 +18,33 @@ use Rattle.jm_marks.specs.Marks.{dead_mask_of}
 use Rattle.jm_index.specs.Index.{Pair, AreBelow, IsFitting}
 use Rattle.jm_monitors.specs.declared.stored.Stored.{Stored}
 use Rattle.jm_monitors.specs.Stores.{HasInstance, IsStoreOf}
-use Rattle.jm_monitors.specs.Steps.{IsBase, AreReached, IsReport, IsLiveEvent, AreMarksAfter, NoneCutAbove, IsCutState, IsAliveState}
+use Rattle.jm_monitors.specs.Steps.{IsBase, IsOverAfter, AreReached, IsReport, IsLiveEvent, AreMarksAfter, NoneCutAbove, IsCutState, IsAliveState}
 use Rattle.jm_monitors.proofs.BaseLemmas.{base_is_one-lem, made_is_new-lem}
 use Rattle.jm_monitors.proofs.ReachLemmas.{report_is_answer-lem}
 use Rattle.jm_monitors.proofs.EventLemmas.{event_keeps_store-lem}
 use Rattle.jm_store.specs.declared.moves.Move.{Move}
 use Rattle.jm_store.specs.declared.moves.Plan.{Plan}
 use Rattle.jm_store.specs.Slots.{monitor_at, stored_in}
-use Rattle.jm_store.specs.Moves.{IsOutcomeAt, AreMovesOf, AreApart, reached_by, after_moves}
-use Rattle.jm_store.specs.Contents.{Contents, stored_of, IsFit, ArePlaced, IsPlacedFrom, AreDistinct, ArePlacedOf, ArePaired, IsPlanOf}
+use Rattle.jm_store.specs.Moves.{IsOutcomeAt, AreMovesOf, AreApart, reached_by, after_moves, AreEnding, EndsFewer, asks_by}
+use Rattle.jm_store.specs.Contents.{Contents, stored_of, IsFit, ArePlaced, IsPlacedFrom, AreDistinct, ArePlacedOf, ArePaired, IsPlanFor, IsPlanOf, with_ending}
 use Rattle.jm_store.specs.Reports.{instances_of}
 use Rattle.jm_store.proofs.SlotLemmas.{stored_at, place_of}
 use Rattle.jm_store.proofs.GivenLemmas.{given_pairs, pairs_map, pairs_weaker, Contains-from_map}
 use Rattle.jm_store.proofs.HousingLemmas.{same_one}
 use Rattle.jm_store.proofs.PermuteLemmas.{pairs_permuted}
 use Rattle.jm_store.proofs.MoveLemmas.{HasBase, base_of, move_base, becomes, are_reached, distinct_moves, join_above, compatible_above}
+use Rattle.jm_store.proofs.VisitLemmas.{asked_above, asked_unless}
+use Rattle.std.proofs.lemmas.Nat.Bits.{bit_at-zero}
+use Rattle.jm_semantics.proofs.MaskLemmas.{IsWithin}
+use Rattle.jm_semantics.proofs.MeaningLemmas.{cut-more_dead}
 use Rattle.jm_store.proofs.AfterLemmas.{AreSingle, AreSlotted, after_event}
 
 cond_slot : (t : Bool) (k n : ℕ) → cond t (Some k) None ≡ Some n → (t ≡ true) × (k ≡ n)
 cond_slot true k n e = (refl, same_Some k n e)
 cond_slot false k n e = absurd (none-some n e)
 
-module _ (m : Meaning) {S : Type 0} (Stands : S → List ℕ → Type 0) (letter : ℕ) (b : Binding) (dead : List Bool) (marks : List Binding) (known : Bool) (monitors : List (Option (Stored S))) (moves : List (Move S))
-    (all : AreMovesOf m Stands letter b dead marks known monitors moves) where
+module _ (m : Meaning) {S : Type 0} (Stands : S → List ℕ → Type 0) (letter : ℕ) (b : Binding) (dead : List Bool) (marks : List Binding) (asks : ℕ → Bool) (monitors : List (Option (Stored S))) (moves : List (Move S))
+    (all : AreMovesOf m Stands letter b dead marks asks monitors moves) where
   -- a move with a slot is of the monitor in it
   pub record HasSlot (move : Move S) (k : ℕ) : Type 0 where
     pub base : Stored S
@@ -50,7 +54,7 @@ module _ (m : Meaning) {S : Type 0} (Stands : S → List ℕ → Type 0) (letter
 
   pub slot_base : (move : Move S) (k : ℕ) → Contains moves move → move.slot ≡ Some k → HasSlot move k
   slot_base move k there slot =
-      let (j, among, has) = move_base m Stands letter b dead marks monitors known moves all move there in
+      let (j, among, has) = move_base m Stands letter b dead marks monitors asks moves all move there in
       let both = cond_slot (is_below b has.base.instance) j k (sym has.moved.advanced.slot ∙ slot) in
       record {
         base = has.base;
@@ -75,7 +79,7 @@ module _ (m : Meaning) {S : Type 0} (Stands : S → List ℕ → Type 0) (letter
 
   pub moves_within : (n : ℕ) → ((s : Stored S) → Contains (stored_in monitors) s → AreBelow n s.instance) → AreBelow n b → (move : Move S) → Contains moves move → AreBelow n move.monitor.instance
   moves_within n stored mine move there =
-      let (k, among, has) = move_base m Stands letter b dead marks monitors known moves all move there in
+      let (k, among, has) = move_base m Stands letter b dead marks monitors asks moves all move there in
       subst (AreBelow n) (sym has.moved.advanced.instance)
       (λ o binds. elim (join-gives has.base.instance b binds.0 o binds.1) [
         | inl left ↦ stored has.base (stored_at monitors k has.base has.at) o (binds.0, left)
@@ -102,8 +106,8 @@ apart_permuted xs ys p h = pairs_permuted (λ x y. (n : ℕ) → x.slot ≡ Some
 pub distinct_permuted : {S : Type 0} (xs ys : List (Move S)) → IsPermutation xs ys → AreDistinct xs → AreDistinct ys
 distinct_permuted xs ys p h = pairs_permuted (λ x y. x.monitor.instance ≢ y.monitor.instance) (λ x y q e. q (sym e)) xs ys p h
 
-module _ (m : Meaning) {S : Type 0} (Stands : S → List ℕ → Type 0) (letter : ℕ) (b : Binding) (dead : List Bool) (known : Bool) (old new : Contents S) (moves sorted placed : List (Move S))
-    (all : AreMovesOf m Stands letter b dead old.marks known old.monitors moves) (marked : IsTrue known → Contains old.marks b) (order : IsPermutation moves sorted)
+module _ (m : Meaning) {S : Type 0} (Stands : S → List ℕ → Type 0) (letter : ℕ) (b : Binding) (dead : List Bool) (asks : ℕ → Bool) (old new : Contents S) (moves sorted placed : List (Move S))
+    (all : AreMovesOf m Stands letter b dead old.marks asks old.monitors moves) (may : (s : Stored S) → Contains (stored_of old) s → IsBase b old.marks s → (asks (mask_of s.instance) ≡ true) ⊎ ((is_below b s.instance ≡ false) × IsOverAfter m Stands letter s.state (dead_mask_of dead (join s.instance b)))) (order : IsPermutation moves sorted)
     (p : ArePlacedOf old new sorted sorted placed) (paired : ArePaired new) (same : (k : ℕ) → monitor_at new.monitors k ≡ monitor_at old.monitors k) (stored : stored_of new ≡ stored_of old) (marks_same : new.marks ≡ old.marks)
     (trace : List ParametricEvent) (store : IsStoreOf m Stands trace dead (stored_of old) old.marks) (live : IsLiveEvent m dead letter b) where
   single_new : AreSingle new.monitors
@@ -117,10 +121,10 @@ module _ (m : Meaning) {S : Type 0} (Stands : S → List ℕ → Type 0) (letter
   one_base r s = base_is_one-lem m Stands trace dead (stored_of old) old.marks letter b r s store live
 
   reached : AreReached m Stands letter b dead (stored_of old) old.marks (reached_by moves)
-  reached = are_reached m Stands letter b dead old.marks old.monitors known moves all marked one_base single_old
+  reached = are_reached m Stands letter b dead old.marks old.monitors asks moves all may one_base single_old
 
   distinct : AreDistinct moves
-  distinct = distinct_moves m Stands letter b dead old.marks old.monitors known moves all marked one_base single_old
+  distinct = distinct_moves m Stands letter b dead old.marks old.monitors asks moves all may one_base single_old
 
   from_sorted : (move : Move S) → Contains sorted move → Contains moves move
   from_sorted move there = Contains-permutation sorted moves move (IsPermutation-sym moves sorted order) there
@@ -162,7 +166,7 @@ module _ (m : Meaning) {S : Type 0} (Stands : S → List ℕ → Type 0) (letter
   -- the new instance of a move without a slot isn't stored
   not_stored : (first : Move S) → Contains moves first → first.slot ≡ None → HasInstance (stored_of old) first.monitor.instance → ⊥
   not_stored first among none has =
-      let (k, visited, base) = move_base m Stands letter b dead old.marks old.monitors known moves all first among in
+      let (k, visited, base) = move_base m Stands letter b dead old.marks old.monitors asks moves all first among in
       let moved = base.moved in
       made_is_new-lem m Stands trace dead (stored_of old) old.marks letter b base.base store live (stored_at old.monitors k base.base base.at) moved.is_base (apart_from base.base (cases_Bool (is_below b base.base.instance)) k first.slot none moved.advanced.slot)
       (has.0, has.1, has.2 ∙ moved.advanced.instance)
@@ -237,7 +241,7 @@ module _ (m : Meaning) {S : Type 0} (Stands : S → List ℕ → Type 0) (letter
         (k, is, paired.within (record { binding = move.monitor.instance; slot = k }) (p.leads move k there is), λ s at. were move f k is s at (slot_or_none f.first.slot));
     above = λ k s at below.
         let here = sym (same k) ∙ at in
-        let got = becomes m Stands letter b dead old.marks old.monitors known moves all marked k s here (compatible_above b s.instance below, inl below) in
+        let got = becomes m Stands letter b dead old.marks old.monitors asks moves all may k s here (compatible_above b s.instance below, inl below) in
         elim got [
           | inl some ↦
               let (move, within, from, slot) = placed_at some.0 some.1 in
@@ -246,17 +250,17 @@ module _ (m : Meaning) {S : Type 0} (Stands : S → List ℕ → Type 0) (letter
         ];
     below = λ move there.
         let f = of_first move there in
-        let (k, visited, base) = move_base m Stands letter b dead old.marks old.monitors known moves all f.first f.among in
+        let (k, visited, base) = move_base m Stands letter b dead old.marks old.monitors asks moves all f.first f.among in
         subst (λ (t : Binding). is_below b t ≡ true) (sym (ap (λ (x : Stored S). x.instance) f.from.monitor ∙ base.moved.advanced.instance))
         (below-join_right base.base.instance b base.moved.is_base.0);
     alive = λ move there stays.
         let f = of_first move there in
-        let (k, visited, base) = move_base m Stands letter b dead old.marks old.monitors known moves all f.first f.among in
+        let (k, visited, base) = move_base m Stands letter b dead old.marks old.monitors asks moves all f.first f.among in
         subst (λ (x : Stored S). IsAliveState m Stands x.state (dead_mask_of dead x.instance)) (sym f.from.monitor)
         (subst (λ (t : Binding). IsAliveState m Stands f.first.monitor.state (dead_mask_of dead t)) (sym base.moved.advanced.instance) (base.moved.advanced.alive (sym f.from.stays ∙ stays)));
     cut = λ move there goes.
         let f = of_first move there in
-        let (k, visited, base) = move_base m Stands letter b dead old.marks old.monitors known moves all f.first f.among in
+        let (k, visited, base) = move_base m Stands letter b dead old.marks old.monitors asks moves all f.first f.among in
         subst (λ (x : Stored S). IsCutState m Stands x.state (dead_mask_of dead x.instance)) (sym f.from.monitor)
         (subst (λ (t : Binding). IsCutState m Stands f.first.monitor.state (dead_mask_of dead t)) (sym base.moved.advanced.instance) (base.moved.advanced.cut (sym f.from.stays ∙ goes)));
     single = λ x y j k cx cy at is e. two_placed x y j k cx cy at is e;
@@ -266,7 +270,7 @@ module _ (m : Meaning) {S : Type 0} (Stands : S → List ℕ → Type 0) (letter
           → is_below b s.instance ≡ true
       were move f k is s at (inl had) =
           let at_k : had.0 ≡ k = same_Some had.0 k (sym (f.from.kept had.0 had.1) ∙ is) in
-          let has = slot_base m Stands letter b dead old.marks known old.monitors moves all f.first had.0 f.among had.1 in
+          let has = slot_base m Stands letter b dead old.marks asks old.monitors moves all f.first had.0 f.among had.1 in
           let there : Some has.base ≡ Some s = sym has.at ∙ ap (monitor_at old.monitors) at_k ∙ sym (same k) ∙ at in
           let one : has.base ≡ s = cc in
           subst (λ (x : Stored S). is_below b x.instance ≡ true) one has.below
@@ -294,14 +298,52 @@ module _ (m : Meaning) {S : Type 0} (Stands : S → List ℕ → Type 0) (letter
       event_keeps_store-lem m Stands trace dead (stored_of old) (reached_by placed) (stored_in (after_moves placed new.monitors)) old.marks marks letter b store live reached_placed
       (rw stored at after) added
 
+  -- the letters that end the monitors before the event and the moved ones end those after it
+  ended_after : (ending : List ℕ) → EndsFewer old.ending ending → AreEnding m Stands old.ending (stored_of old) → AreEnding m Stands ending (reached_by placed) → AreEnding m Stands ending (stored_in (after_moves placed new.monitors))
+  ended_after ending fewer before moved s there =
+      elim ((after_event m Stands b dead new.monitors placed slotted single_new).each s there) [
+        | inl one ↦ moved s one.0
+        | inr kept ↦ λ e ends. before s (subst (λ (l : List (Stored S)). Contains l s) stored kept.0) e (fewer e (mask_of s.instance) ends)
+      ]
+
   pub sorted_distinct : AreDistinct sorted
   sorted_distinct = distinct_permuted moves sorted order distinct
 
   -- the plan of the event
   pub plan_works : (firings : List Firing) → IsReport m Stands (reached_by sorted) firings → (plan : Plan S) → plan.binding ≡ b → plan.moves.items ≡ placed → plan.answer ≡ firings
-      → IsPlanOf m Stands trace dead letter new plan
-  plan_works firings report plan is moves' answer = record {
+      → (ending : List ℕ) → EndsFewer old.ending ending → AreEnding m Stands old.ending (stored_of old) → AreEnding m Stands ending (reached_by placed) → IsPlanOf m Stands trace dead letter (with_ending new ending) plan
+  plan_works firings report plan is moves' answer ending fewer before moved = record {
     store = λ marks added. rw (is, moves') (carried_out marks (subst (λ (t : Binding). AreMarksAfter t old.marks marks) is (rw marks_same at added))).0;
     none_cut = rw (is, moves') (carried_out (old.marks ++ b ∷ []) (marks_push old.marks b)).1;
+    ended = rw moves' (ended_after ending fewer before moved);
     answer = rw (is, answer) (answer_sorted firings report);
   }
+
+-- what an event may reach is asked for, unless the event ends it
+pub may_reach : (m : Meaning) {S : Type 0} (Stands : S → List ℕ → Type 0) (letter : ℕ) (b : Binding) (dead : List Bool) (marks : List Binding) (known : Bool) (ending : List ℕ) (stored : List (Stored S))
+    → (IsTrue known → Contains marks b) → AreEnding m Stands ending stored → (s : Stored S) → Contains stored s → IsBase b marks s
+    → (asks_by known ending letter b (mask_of s.instance) ≡ true) ⊎ ((is_below b s.instance ≡ false) × IsOverAfter m Stands letter s.state (dead_mask_of dead (join s.instance b)))
+may_reach m {S} Stands letter b dead marks known ending stored marked ended s there base =
+    elim base.1 [
+      | inl below ↦ inl (asked_above known ending letter b s.instance below)
+      | inr fresh ↦ apart fresh.1 (cases_Bool known) fresh.0
+    ]
+  where
+    none_dead : IsWithin 0 (dead_mask_of dead (join s.instance b))
+    none_dead p = omega (arith, bit_at-zero p)
+
+    apart : is_below b s.instance ≡ false → (known ≡ true) ⊎ (known ≡ false) → (Contains marks b → ⊥)
+        → (asks_by known ending letter b (mask_of s.instance) ≡ true) ⊎ ((is_below b s.instance ≡ false) × IsOverAfter m Stands letter s.state (dead_mask_of dead (join s.instance b)))
+    apart off (inl is) unmarked = absurd (unmarked (marked is))
+    apart off (inr is) unmarked =
+        elim (asked_unless known ending letter (mask_of s.instance) b is) [
+          | inl ask ↦ inl ask
+          | inr ends ↦ inr (off, λ w stands.
+              let over = ended s there letter ends w stands in
+              (over.0, cut-more_dead m (w ++ letter ∷ []) 0 (dead_mask_of dead (join s.instance b)) none_dead over.1))
+        ]
+
+
+-- a plan is for the store with other letters too
+pub plan_for_ending : {S : Type 0} (store : Contents S) (ending : List ℕ) (plan : Plan S) → IsPlanFor store plan → IsPlanFor (with_ending store ending) plan
+plan_for_ending store ending plan h = record { twice = h.twice; apart = h.apart; placed = h.placed; filled = h.filled }

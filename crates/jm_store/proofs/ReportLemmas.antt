@@ -150,7 +150,7 @@ bit_below n width k fits set =
       | inr ge ↦ absurd (omega (arith, bit_from_set n k set, bit_at_above n width k fits ge))
     ]
 
-set_from_bit : (n k : ℕ) → bit_at n k ≡ 1 → IsBitSet n k
+pub set_from_bit : (n k : ℕ) → bit_at n k ≡ 1 → IsBitSet n k
 set_from_bit n k one none =
     let product : bit_at n k * 2 ^ k ≡ 0 = sym (and_pow n k) ∙ none in
     let power : 1 * 2 ^ k ≡ 0 = ap (λ (b : ℕ). b * 2 ^ k) (sym one) ∙ product in

@@ -1,8 +1,8 @@
 -- The slots that an event reads.
-use Rattle.std.proofs.Common.{◌≡◌, ◌≢◌, ℕ, zero, suc, ◌+◌, ◌<◌, ◌≤◌, ◌==◌, ◌⊎◌, inl, inr, Bool, true, false, cond, ◌&&◌, List, [], ◌∷◌, ◌++◌, length, take, map, get_or, refl, sym, ap, ◌∙◌, subst, append_assoc, append-nil, arith}
+use Rattle.std.proofs.Common.{◌≡◌, ◌≢◌, ℕ, zero, suc, ◌+◌, ◌<◌, ◌≤◌, ◌==◌, ◌⊎◌, inl, inr, Bool, true, false, cond, ◌&&◌, ◌||◌, not, List, [], ◌∷◌, ◌++◌, length, take, map, get_or, refl, sym, ap, ◌∙◌, subst, append_assoc, append-nil, arith}
 use Rattle.std.specs.Prelude.{Option, Some, None, Contains, AllPairs, filter, count_by, slice_set, bit_and, IsTrue}
 use Rattle.std.specs.List.{cons_option}
-use Rattle.std.proofs.lemmas.Bool.{and_parts, and_from, eqb-true, eq-eqb, both_ways, cases_eq}
+use Rattle.std.proofs.lemmas.Bool.{and_parts, and_from, eqb-true, eq-eqb, both_ways, cases_eq, cases_Bool}
 use Rattle.std.proofs.lemmas.List.{take_more, length-append, get_or-set_other}
 use Rattle.std.proofs.lemmas.List.Elements.{Contains-append_left, Contains-append_right, Contains-append_cases}
 use Rattle.std.proofs.lemmas.List.Kept.{AllPairs-filter}
@@ -18,31 +18,31 @@ use Rattle.jm_index.proofs.ReadLemmas.{Contains-none, Contains-cons}
 use Rattle.jm_monitors.specs.declared.stored.Stored.{Stored}
 use Rattle.jm_store.specs.declared.monitors.Slot.{Slot}
 use Rattle.jm_store.specs.Slots.{monitors_of, monitor_at, stored_in}
-use Rattle.jm_store.specs.Moves.{is_asked, visited, AreVisited, IsCompatibleAt}
+use Rattle.jm_store.specs.Moves.{is_asked, asks_by, ends_all, visited, AreVisited, IsCompatibleAt}
 use Rattle.jm_store.specs.Housing.{IsHoused, IsSettled, AreDomains}
 use Rattle.jm_store.proofs.HousingLemmas.{same_one, pair_by_slot}
 use Rattle.jm_store.proofs.GivenLemmas.{Contains-from_map, pairs_head, pairs_tail, pairs_none, pairs_append, pairs_map, pairs_weaker}
 
 -- one set of parameters more
-pub visited_more : (known : Bool) (b : Binding) (pairs : List Pair) (ds : List ℕ) (d : ℕ) → visited known b pairs (ds ++ d ∷ []) ≡ visited known b pairs ds ++ cond (is_asked known b d) (asked_slots d b pairs) []
-visited_more known b pairs [] d = append-nil (cond (is_asked known b d) (asked_slots d b pairs) [])
-visited_more known b pairs (e ∷ ds) d =
-    ap (λ (l : List ℕ). cond (is_asked known b e) (asked_slots e b pairs) [] ++ l) (visited_more known b pairs ds d)
-    ∙ sym (append_assoc (cond (is_asked known b e) (asked_slots e b pairs) []) (visited known b pairs ds) (cond (is_asked known b d) (asked_slots d b pairs) []))
+pub visited_more : (asks : ℕ → Bool) (b : Binding) (pairs : List Pair) (ds : List ℕ) (d : ℕ) → visited asks b pairs (ds ++ d ∷ []) ≡ visited asks b pairs ds ++ cond (asks d) (asked_slots d b pairs) []
+visited_more asks b pairs [] d = append-nil (cond (asks d) (asked_slots d b pairs) [])
+visited_more asks b pairs (e ∷ ds) d =
+    ap (λ (l : List ℕ). cond (asks e) (asked_slots e b pairs) [] ++ l) (visited_more asks b pairs ds d)
+    ∙ sym (append_assoc (cond (asks e) (asked_slots e b pairs) []) (visited asks b pairs ds) (cond (asks d) (asked_slots d b pairs) []))
 
-pub visited_taken : (known : Bool) (b : Binding) (pairs : List Pair) (ds : List ℕ) (i : ℕ) (t : Bool) → i < length ds → is_asked known b (get_or ds i 0) ≡ t
-    → visited known b pairs (take (i + 1) ds) ≡ visited known b pairs (take i ds) ++ cond t (asked_slots (get_or ds i 0) b pairs) []
-visited_taken known b pairs ds i t lt is =
-    ap (visited known b pairs) (take_more ds i 0 lt) ∙ visited_more known b pairs (take i ds) (get_or ds i 0)
-    ∙ ap (λ (v : Bool). visited known b pairs (take i ds) ++ cond v (asked_slots (get_or ds i 0) b pairs) []) is
+pub visited_taken : (asks : ℕ → Bool) (b : Binding) (pairs : List Pair) (ds : List ℕ) (i : ℕ) (t : Bool) → i < length ds → asks (get_or ds i 0) ≡ t
+    → visited asks b pairs (take (i + 1) ds) ≡ visited asks b pairs (take i ds) ++ cond t (asked_slots (get_or ds i 0) b pairs) []
+visited_taken asks b pairs ds i t lt is =
+    ap (visited asks b pairs) (take_more ds i 0 lt) ∙ visited_more asks b pairs (take i ds) (get_or ds i 0)
+    ∙ ap (λ (v : Bool). visited asks b pairs (take i ds) ++ cond v (asked_slots (get_or ds i 0) b pairs) []) is
 
 -- the slots for some of the sets are no more than those for all
-visited_fewer : (known : Bool) (b : Binding) (pairs : List Pair) (ds : List ℕ) (i : ℕ) → length (visited known b pairs (take i ds)) ≤ length (visited known b pairs ds)
-visited_fewer known b pairs ds zero = omega arith
-visited_fewer known b pairs [] (suc i) = omega arith
-visited_fewer known b pairs (d ∷ ds) (suc i) =
-    let first = cond (is_asked known b d) (asked_slots d b pairs) [] in
-    omega (arith, length-append first (visited known b pairs (take i ds)), length-append first (visited known b pairs ds), visited_fewer known b pairs ds i)
+visited_fewer : (asks : ℕ → Bool) (b : Binding) (pairs : List Pair) (ds : List ℕ) (i : ℕ) → length (visited asks b pairs (take i ds)) ≤ length (visited asks b pairs ds)
+visited_fewer asks b pairs ds zero = omega arith
+visited_fewer asks b pairs [] (suc i) = omega arith
+visited_fewer asks b pairs (d ∷ ds) (suc i) =
+    let first = cond (asks d) (asked_slots d b pairs) [] in
+    omega (arith, length-append first (visited asks b pairs (take i ds)), length-append first (visited asks b pairs ds), visited_fewer asks b pairs ds i)
 
 -- a slot that is read is that of a pair
 record IsAskedBy (b : Binding) (pairs : List Pair) (d k : ℕ) : Type 0 where
@@ -66,12 +66,12 @@ record IsVisitedBy (b : Binding) (pairs : List Pair) (ds : List ℕ) (k : ℕ) :
   listed : Contains ds domain
   asked_for : IsAskedBy b pairs domain k
 
-visited_by : (known : Bool) (b : Binding) (pairs : List Pair) (ds : List ℕ) (k : ℕ) → Contains (visited known b pairs ds) k → IsVisitedBy b pairs ds k
-visited_by known b pairs [] k there = absurd (Contains-none k there)
-visited_by known b pairs (d ∷ ds) k there =
-    elim (Contains-append_cases (cond (is_asked known b d) (asked_slots d b pairs) []) (visited known b pairs ds) k there) [
-      | inl here ↦ record { domain = d; listed = Contains-head d ds; asked_for = at (is_asked known b d) here }
-      | inr later ↦ let v = visited_by known b pairs ds k later in record { domain = v.domain; listed = Contains-cons d v.domain ds v.listed; asked_for = v.asked_for }
+visited_by : (asks : ℕ → Bool) (b : Binding) (pairs : List Pair) (ds : List ℕ) (k : ℕ) → Contains (visited asks b pairs ds) k → IsVisitedBy b pairs ds k
+visited_by asks b pairs [] k there = absurd (Contains-none k there)
+visited_by asks b pairs (d ∷ ds) k there =
+    elim (Contains-append_cases (cond (asks d) (asked_slots d b pairs) []) (visited asks b pairs ds) k there) [
+      | inl here ↦ record { domain = d; listed = Contains-head d ds; asked_for = at (asks d) here }
+      | inr later ↦ let v = visited_by asks b pairs ds k later in record { domain = v.domain; listed = Contains-cons d v.domain ds v.listed; asked_for = v.asked_for }
     ]
   where
     at : (t : Bool) → Contains (cond t (asked_slots d b pairs) []) k → IsAskedBy b pairs d k
@@ -79,29 +79,29 @@ visited_by known b pairs (d ∷ ds) k there =
     at false h = absurd (Contains-none k h)
 
 -- a pair's slot is read, where its set of parameters is asked
-visited_has : (known : Bool) (b : Binding) (pairs : List Pair) (ds : List ℕ) (pair : Pair) → Contains pairs pair → is_compatible pair.binding b ≡ true → is_asked known b (mask_of pair.binding) ≡ true
-    → Contains ds (mask_of pair.binding) → Contains (visited known b pairs ds) pair.slot
-visited_has known b pairs [] pair among compatible asks listed = absurd (Contains-none (mask_of pair.binding) listed)
-visited_has known b pairs (d ∷ ds) pair among compatible asks listed =
+visited_has : (asks : ℕ → Bool) (b : Binding) (pairs : List Pair) (ds : List ℕ) (pair : Pair) → Contains pairs pair → is_compatible pair.binding b ≡ true → asks (mask_of pair.binding) ≡ true
+    → Contains ds (mask_of pair.binding) → Contains (visited asks b pairs ds) pair.slot
+visited_has asks b pairs [] pair among compatible ask listed = absurd (Contains-none (mask_of pair.binding) listed)
+visited_has asks b pairs (d ∷ ds) pair among compatible ask listed =
     elim (Contains-cons_cases d ds (mask_of pair.binding) listed) [
-      | inl same ↦ Contains-append_left (cond (is_asked known b d) (asked_slots d b pairs) []) (visited known b pairs ds) pair.slot (here same)
-      | inr later ↦ Contains-append_right (cond (is_asked known b d) (asked_slots d b pairs) []) (visited known b pairs ds) pair.slot (visited_has known b pairs ds pair among compatible asks later)
+      | inl same ↦ Contains-append_left (cond (asks d) (asked_slots d b pairs) []) (visited asks b pairs ds) pair.slot (here same)
+      | inr later ↦ Contains-append_right (cond (asks d) (asked_slots d b pairs) []) (visited asks b pairs ds) pair.slot (visited_has asks b pairs ds pair among compatible ask later)
     ]
   where
-    here : d ≡ mask_of pair.binding → Contains (cond (is_asked known b d) (asked_slots d b pairs) []) pair.slot
+    here : d ≡ mask_of pair.binding → Contains (cond (asks d) (asked_slots d b pairs) []) pair.slot
     here same =
         let test : Pair → Bool = λ p. (mask_of p.binding == d) && is_compatible p.binding b in
         let passes : test pair ≡ true = and_from (mask_of pair.binding == d) (is_compatible pair.binding b) (eq-eqb (mask_of pair.binding) d (sym same)) compatible in
-        rw (ap (is_asked known b) same ∙ asks) (Contains-map (λ (p : Pair). p.slot) (filter test pairs) pair (Contains-filter test pairs pair among passes))
+        rw (ap asks same ∙ ask) (Contains-map (λ (p : Pair). p.slot) (filter test pairs) pair (Contains-filter test pairs pair among passes))
 
 -- no slot is read twice
-visited_apart : (known : Bool) (b : Binding) (pairs : List Pair) (ds : List ℕ) → AllPairs (λ x y. x.slot ≢ y.slot) pairs → AllPairs (λ x y. x ≢ y) ds → AllPairs (λ j k. j ≢ k) (visited known b pairs ds)
-visited_apart known b pairs [] apart distinct = pairs_none (λ j k. j ≢ k)
-visited_apart known b pairs (d ∷ ds) apart distinct =
-    pairs_append (λ j k. j ≢ k) (cond (is_asked known b d) (asked_slots d b pairs) []) (visited known b pairs ds) (one (is_asked known b d)) (visited_apart known b pairs ds apart (pairs_tail (λ x y. x ≢ y) d ds distinct))
+visited_apart : (asks : ℕ → Bool) (b : Binding) (pairs : List Pair) (ds : List ℕ) → AllPairs (λ x y. x.slot ≢ y.slot) pairs → AllPairs (λ x y. x ≢ y) ds → AllPairs (λ j k. j ≢ k) (visited asks b pairs ds)
+visited_apart asks b pairs [] apart distinct = pairs_none (λ j k. j ≢ k)
+visited_apart asks b pairs (d ∷ ds) apart distinct =
+    pairs_append (λ j k. j ≢ k) (cond (asks d) (asked_slots d b pairs) []) (visited asks b pairs ds) (one (asks d)) (visited_apart asks b pairs ds apart (pairs_tail (λ x y. x ≢ y) d ds distinct))
     (λ j k here later same.
-    let mine = mine_of (is_asked known b d) j here in
-    let other = visited_by known b pairs ds k later in
+    let mine = mine_of (asks d) j here in
+    let other = visited_by asks b pairs ds k later in
     let pair = same_one (λ (p : Pair). p.slot) pairs mine.pair other.asked_for.pair apart mine.among other.asked_for.among (mine.slot ∙ same ∙ sym other.asked_for.slot) in
     pairs_head (λ x y. x ≢ y) d ds distinct other.domain other.listed (sym mine.domain ∙ ap (λ (p : Pair). mask_of p.binding) pair ∙ other.asked_for.domain))
   where
@@ -118,6 +118,23 @@ pub mask_within : (b t : Binding) → is_below b t ≡ true → bit_and (mask_of
 mask_within b t below =
     same_from_bits (bit_and (mask_of b) (mask_of t)) (mask_of b)
     (λ p. omega (arith, bit_at_and (mask_of b) (mask_of t) p, mask_where-mono (λ _. true) (λ _. true) b t (λ o h. h) below p))
+
+-- so what a binding lies below is asked
+pub asked_above : (known : Bool) (ending : List ℕ) (letter : ℕ) (b t : Binding) → is_below b t ≡ true → asks_by known ending letter b (mask_of t) ≡ true
+asked_above known ending letter b t below =
+    ap (λ (v : Bool). v || (not known && not (ends_all ending letter (mask_of t)))) (eq-eqb (bit_and (mask_of b) (mask_of t)) (mask_of b) (mask_within b t below))
+
+-- and anything else where the binding is no mark, unless the letter ends it
+pub asked_unless : (known : Bool) (ending : List ℕ) (letter d : ℕ) (b : Binding) → known ≡ false → (asks_by known ending letter b d ≡ true) ⊎ (ends_all ending letter d ≡ true)
+asked_unless known ending letter d b unknown =
+    elim (cases_Bool (ends_all ending letter d)) [
+      | inl ends ↦ inr ends
+      | inr more ↦ inl (rw (unknown, more) (or_true (bit_and (mask_of b) d == mask_of b)))
+    ]
+  where
+    or_true : (v : Bool) → (v || true) ≡ true
+    or_true true = refl
+    or_true false = refl
 
 count_cons : {X : Type 0} (p : X → Bool) (x : X) (xs : List X) → count_by p (x ∷ xs) ≡ cond (p x) 1 0 + count_by p xs
 count_cons p x xs = sum_by-cons (λ y. cond (p y) 1 0) x xs
@@ -137,24 +154,19 @@ module _ {S : Type 0} where
       let (s, at, is) = settled_monitor slots pairs h settled by.pair by.among in
       (s, subst (λ (n : ℕ). monitor_at (monitors_of slots) n ≡ Some s) by.slot at, ap (λ (t : Binding). is_compatible t b) is ∙ by.compatible)
 
-  pub are_visited : (known : Bool) (b : Binding) (slots : List (Slot S)) (pairs : List Pair) (ds : List ℕ) → IsHoused slots pairs → IsSettled slots pairs → AreDomains ds pairs
-      → AreVisited known b (monitors_of slots) (visited known b pairs ds)
-  are_visited known b slots pairs ds h settled domains = record {
-    apart = visited_apart known b pairs ds h.slots_apart domains.distinct;
+  pub are_visited : (asks : ℕ → Bool) (b : Binding) (slots : List (Slot S)) (pairs : List Pair) (ds : List ℕ) → IsHoused slots pairs → IsSettled slots pairs → AreDomains ds pairs
+      → AreVisited asks b (monitors_of slots) (visited asks b pairs ds)
+  are_visited asks b slots pairs ds h settled domains = record {
+    apart = visited_apart asks b pairs ds h.slots_apart domains.distinct;
     each = λ k there.
-        let v = visited_by known b pairs ds k there in
+        let v = visited_by asks b pairs ds k there in
         let by = v.asked_for in
         let (s, at, is) = settled_monitor slots pairs h settled by.pair by.among in
         (s, subst (λ (n : ℕ). monitor_at (monitors_of slots) n ≡ Some s) by.slot at, ap (λ (t : Binding). is_compatible t b) is ∙ by.compatible);
-    all = λ k s at compatible may.
+    all = λ k s at compatible ask.
         let there = h.paired k s at in
-        visited_has known b pairs ds (record { binding = s.instance; slot = k }) there compatible (asks s known may) (domains.listed (record { binding = s.instance; slot = k }) there);
+        visited_has asks b pairs ds (record { binding = s.instance; slot = k }) there compatible ask (domains.listed (record { binding = s.instance; slot = k }) there);
   }
-    where
-      asks : (s : Stored S) (t : Bool) → (t ≡ false) ⊎ (is_below b s.instance ≡ true) → is_asked t b (mask_of s.instance) ≡ true
-      asks s false may = refl
-      asks s true (inl unknown) = absurd (both_ways true unknown refl)
-      asks s true (inr below) = eq-eqb (bit_and (mask_of b) (mask_of s.instance)) (mask_of b) (mask_within b s.instance below)
 
   -- ---- as many monitors as slots that are read
   removed_counts : (monitors : List (Option (Stored S))) (p : Stored S → Bool) (k : ℕ) (s : Stored S) → monitor_at monitors k ≡ Some s → p s ≡ true
@@ -186,12 +198,12 @@ module _ {S : Type 0} where
       (r, get_or-set_other monitors k j None None (λ same. pairs_head (λ x y. x ≢ y) k slots apart j there (sym same)) ∙ is, passes)) in
       omega (arith, fewer, removed_counts monitors p k s at holds)
 
-  pub visited_bound : (known : Bool) (b : Binding) (slots : List (Slot S)) (pairs : List Pair) (ds : List ℕ) (i : ℕ) → IsHoused slots pairs → IsSettled slots pairs → AreDomains ds pairs
-      → length (visited known b pairs (take i ds)) ≤ count_by (λ s. is_compatible s.instance b) (stored_in (monitors_of slots))
-  visited_bound known b slots pairs ds i h settled domains =
-      let visit = are_visited known b slots pairs ds h settled domains in
-      let all = slots_counted (monitors_of slots) (λ s. is_compatible s.instance b) (visited known b pairs ds) visit.apart visit.each in
-      omega (arith, all, visited_fewer known b pairs ds i)
+  pub visited_bound : (asks : ℕ → Bool) (b : Binding) (slots : List (Slot S)) (pairs : List Pair) (ds : List ℕ) (i : ℕ) → IsHoused slots pairs → IsSettled slots pairs → AreDomains ds pairs
+      → length (visited asks b pairs (take i ds)) ≤ count_by (λ s. is_compatible s.instance b) (stored_in (monitors_of slots))
+  visited_bound asks b slots pairs ds i h settled domains =
+      let visit = are_visited asks b slots pairs ds h settled domains in
+      let all = slots_counted (monitors_of slots) (λ s. is_compatible s.instance b) (visited asks b pairs ds) visit.apart visit.each in
+      omega (arith, all, visited_fewer asks b pairs ds i)
 
   pub compatible_at : (slots : List (Slot S)) (pairs : List Pair) (b : Binding) (d : ℕ) → IsHoused slots pairs → IsSettled slots pairs → (k : ℕ) → Contains (asked_slots d b pairs) k
       → IsCompatibleAt b (monitor_at (monitors_of slots) k)

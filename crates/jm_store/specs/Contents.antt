@@ -11,19 +11,29 @@ use Rattle.jm_monitors.specs.Steps.{AreMarksAfter, NoneCutAbove}
 use Rattle.jm_store.specs.declared.moves.Move.{Move}
 use Rattle.jm_store.specs.declared.moves.Plan.{Plan}
 use Rattle.jm_store.specs.Slots.{monitor_at, stored_in}
-use Rattle.jm_store.specs.Moves.{after_moves, AreApart}
+use Rattle.jm_store.specs.Moves.{after_moves, AreApart, AreEnding}
 
 -- The monitors by slot, the marks, whether a plan is open, and the index, which has a pair for each monitor. What the
--- store is to have where a plan is open isn't among the monitors.
+-- store is to have where a plan is open isn't among the monitors. Last, for each set of parameters letters that end the monitors
+-- with it.
 pub record Contents (S : Type 0) : Type 0 where
   pub monitors : List (Option (Stored S))
   pub marks : List Binding
   pub is_open : Bool
   pub index : PairList
+  pub ending : List ℕ
 
 -- the stored monitors
 abbrev pub stored_of : {S : Type 0} → Contents S → List (Stored S)
 stored_of store = stored_in store.monitors
+
+-- the store with other letters
+abbrev pub with_ending : {S : Type 0} → Contents S → List ℕ → Contents S
+with_ending store ending = record { monitors = store.monitors; marks = store.marks; is_open = store.is_open; index = store.index; ending = ending }
+
+-- the letters that are kept for sets of parameters end the monitors with them
+abbrev pub IsEnded : Meaning → {S : Type 0} → (S → List ℕ → Type 0) → Contents S → Type 0
+IsEnded m Stands store = AreEnding m Stands store.ending (stored_of store)
 
 -- the store fits a table of objects, given by its flags of dead objects: the objects of its bindings and marks stand in
 -- the table, and its index fits it
@@ -54,11 +64,12 @@ abbrev pub monitors_after : {S : Type 0} → Contents S → Plan S → List (Opt
 monitors_after store plan = after_moves plan.moves.items store.monitors
 
 -- The plan is that of the event with this letter after the trace: what the store is to have is a store of the trace with the
--- event, in which no monitor above the event's binding is cut, and the answer is the event's.
+-- event, in which no monitor above the event's binding is cut; the letters kept end its monitors; and the answer is the event's.
 pub record IsPlanOf (m : Meaning) {S : Type 0} (Stands : S → List ℕ → Type 0) (trace : List ParametricEvent) (dead : List Bool) (letter : ℕ) (contents : Contents S) (plan : Plan S) : Type 0 where
   pub store : (marks : List Binding) → AreMarksAfter plan.binding contents.marks marks
       → IsStoreOf m Stands (trace ++ record { letter = letter; binding = plan.binding } ∷ []) dead (stored_in (monitors_after contents plan)) marks
   pub none_cut : NoneCutAbove m Stands plan.binding dead (stored_in (monitors_after contents plan))
+  pub ended : AreEnding m Stands contents.ending (stored_in (monitors_after contents plan))
   pub answer : IsAnswer m trace (record { letter = letter; binding = plan.binding }) plan.answer
 
 -- Instance t has the pair of a slot which no pair had and in which there was no monitor; or it had a pair before.

@@ -1,5 +1,6 @@
 -- What an event makes of one stored monitor, and what plans do to the slots.
-use Rattle.std.specs.Prelude.{ℕ, ◌≡◌, ◌+◌, Bool, true, false, cond, List, [], ◌∷◌, ◌++◌, Option, Some, None, map, Contains, slice_set, ◌⊎◌, ◌==◌, ◌≢◌, bit_and, AllPairs, IsTrue}
+use Rattle.std.specs.Prelude.{ℕ, ◌≡◌, ◌+◌, Bool, true, false, cond, List, [], ◌∷◌, ◌++◌, Option, Some, None, map, Contains, slice_set, ◌⊎◌, ◌==◌, ◌≢◌, bit_and, AllPairs, IsTrue, not, ◌&&◌, ◌||◌, slice_index_or}
+use Rattle.std.specs.Int.{bit_at}
 use Rattle.std.specs.Option.{option_to_list}
 use Rattle.std.specs.List.{cons_option}
 use Rattle.jm_model.specs.Bindings.{is_below, is_compatible, join, mask_of}
@@ -7,7 +8,7 @@ use Rattle.jm_model.specs.Meanings.{Meaning}
 use Rattle.jm_model.specs.declared.binding.Binding.{Binding}
 use Rattle.jm_marks.specs.Marks.{dead_mask_of}
 use Rattle.jm_monitors.specs.declared.stored.Stored.{Stored}
-use Rattle.jm_monitors.specs.Steps.{Follows, IsBase, IsLost, IsCutState, IsAliveState}
+use Rattle.jm_monitors.specs.Steps.{Follows, IsBase, IsOverAfter, IsCutState, IsAliveState}
 use Rattle.jm_index.specs.Index.{Pair, AreBelow, asked_slots, without}
 use Rattle.jm_store.specs.declared.moves.Move.{Move}
 use Rattle.jm_store.specs.Slots.{monitor_at}
@@ -25,12 +26,12 @@ pub record IsMoved (m : Meaning) {S : Type 0} (Stands : S → List ℕ → Type 
   pub is_base : IsBase b marks s
   pub advanced : IsAdvanced m Stands letter dead (cond (is_below b s.instance) (Some k) None) (join s.instance b) s.state move
 
--- The event makes nothing of the monitor s: it doesn't reach it, or the new instance is lost at once.
+-- The event makes nothing of the monitor s: it doesn't reach it, or the new instance would be lost at once.
 abbrev pub IsLeft : Meaning → {S : Type 0} → (S → List ℕ → Type 0) → ℕ → Binding → List Bool → List Binding → Stored S → Type 0
 IsLeft m {S} Stands letter b dead marks s =
     (IsBase b marks s → ⊥)
     ⊎ ((is_below b s.instance ≡ false)
-    × ((state : S) × Follows Stands letter s.state state × IsLost m Stands state (dead_mask_of dead (join s.instance b))))
+    × IsOverAfter m Stands letter s.state (dead_mask_of dead (join s.instance b)))
 
 -- what the event makes of the monitor s of slot k
 abbrev pub IsOutcome : Meaning → {S : Type 0} → (S → List ℕ → Type 0) → ℕ → Binding → List Bool → List Binding → ℕ → Stored S → Option (Move S) → Type 0
@@ -50,27 +51,46 @@ abbrev pub AreGiven : {X Y : Type 0} → (X → Option Y → Type 0) → List X 
 AreGiven {X} {Y} R [] ys = ys ≡ []
 AreGiven {X} {Y} R (x ∷ xs) ys = (o : Option Y) × R x o × ((rest : List Y) × AreGiven R xs rest × (ys ≡ cons_option o rest))
 
--- Whether an event reads the monitors with this set of parameters: where its binding is a mark only those that it can lie below.
-abbrev pub is_asked : Bool → Binding → ℕ → Bool
-is_asked false b domain = true
-is_asked true b domain = bit_and (mask_of b) domain == mask_of b
+-- Whether an event reads the monitors with this set of parameters: those that it can lie below; and others where its binding is
+-- no mark, unless it ends all of them.
+abbrev pub is_asked : Bool → Bool → Binding → ℕ → Bool
+is_asked known ends b domain = (bit_and (mask_of b) domain == mask_of b) || (not known && not ends)
+
+-- whether a letter is among those kept for a set of parameters
+abbrev pub ends_all : List ℕ → ℕ → ℕ → Bool
+ends_all ending letter domain = bit_at (slice_index_or ending domain 0) letter == 1
+
+abbrev pub asks_by : Bool → List ℕ → ℕ → Binding → ℕ → Bool
+asks_by known ending letter b domain = is_asked known (ends_all ending letter domain) b domain
 
 -- the slots that an event reads, by the sets of parameters
-abbrev pub visited : Bool → Binding → List Pair → List ℕ → List ℕ
-visited known b pairs [] = []
-visited known b pairs (d ∷ domains) = cond (is_asked known b d) (asked_slots d b pairs) [] ++ visited known b pairs domains
+abbrev pub visited : (ℕ → Bool) → Binding → List Pair → List ℕ → List ℕ
+visited asks b pairs [] = []
+visited asks b pairs (d ∷ domains) = cond (asks d) (asked_slots d b pairs) [] ++ visited asks b pairs domains
 
--- The slots that an event reads are distinct, and each has a monitor that is compatible with its binding. Those of which it may
--- make something are among them.
-pub record AreVisited {S : Type 0} (known : Bool) (b : Binding) (monitors : List (Option (Stored S))) (slots : List ℕ) : Type 0 where
+-- the letters kept for a monitor's set of parameters end it
+abbrev pub IsEnding : Meaning → {S : Type 0} → (S → List ℕ → Type 0) → List ℕ → Stored S → Type 0
+IsEnding m {S} Stands ending s = (e : ℕ) → ends_all ending e (mask_of s.instance) ≡ true → IsOverAfter m Stands e s.state 0
+
+-- they end each of the monitors
+abbrev pub AreEnding : Meaning → {S : Type 0} → (S → List ℕ → Type 0) → List ℕ → List (Stored S) → Type 0
+AreEnding m {S} Stands ending stored = (s : Stored S) → Contains stored s → IsEnding m Stands ending s
+
+-- no letters are kept that weren't
+abbrev pub EndsFewer : List ℕ → List ℕ → Type 0
+EndsFewer old new = (e d : ℕ) → ends_all new e d ≡ true → ends_all old e d ≡ true
+
+-- The slots that an event reads are distinct, and each has a monitor that is compatible with its binding. Those whose sets of
+-- parameters are asked are among them.
+pub record AreVisited {S : Type 0} (asks : ℕ → Bool) (b : Binding) (monitors : List (Option (Stored S))) (slots : List ℕ) : Type 0 where
   pub apart : AllPairs (λ j k. j ≢ k) slots
   pub each : (k : ℕ) → Contains slots k → (s : Stored S) × (monitor_at monitors k ≡ Some s) × (is_compatible s.instance b ≡ true)
-  pub all : (k : ℕ) (s : Stored S) → monitor_at monitors k ≡ Some s → is_compatible s.instance b ≡ true → (known ≡ false) ⊎ (is_below b s.instance ≡ true) → Contains slots k
+  pub all : (k : ℕ) (s : Stored S) → monitor_at monitors k ≡ Some s → is_compatible s.instance b ≡ true → asks (mask_of s.instance) ≡ true → Contains slots k
 
 -- the moves that an event makes, for all slots that it reads
-pub record AreMovesOf (m : Meaning) {S : Type 0} (Stands : S → List ℕ → Type 0) (letter : ℕ) (b : Binding) (dead : List Bool) (marks : List Binding) (known : Bool) (monitors : List (Option (Stored S))) (moves : List (Move S)) : Type 0 where
+pub record AreMovesOf (m : Meaning) {S : Type 0} (Stands : S → List ℕ → Type 0) (letter : ℕ) (b : Binding) (dead : List Bool) (marks : List Binding) (asks : ℕ → Bool) (monitors : List (Option (Stored S))) (moves : List (Move S)) : Type 0 where
   pub slots : List ℕ
-  pub visit : AreVisited known b monitors slots
+  pub visit : AreVisited asks b monitors slots
   pub given : AreGiven (IsOutcomeAt m Stands letter b dead marks monitors) slots moves
 
 -- the monitors by slot after a move

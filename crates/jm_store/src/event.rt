@@ -1,8 +1,8 @@
 //! What an event makes of one stored monitor.
 ghost use Rattle.std.specs.Prelude.{◌≡◌, ◌<◌, ℕ, List, IfOk, IsTrue, ◌↔◌, Contains, true, false, ◌==◌, bit_and};
+ghost use Rattle.std.specs.Int.{bit_at};
 ghost use Rattle.jm_model.specs.Bindings.{is_compatible, is_below, mask_of, join as union};
 ghost use Rattle.jm_model.specs.Meanings.{IsHit};
-ghost use Rattle.jm_monitors.specs.Steps.{IsLost};
 ghost use Rattle.jm_marks.specs.Marks.{dead_mask_of};
 ghost use Rattle.jm_store.specs.Moves.{IsAdvanced, IsOutcome, is_asked};
 
@@ -25,15 +25,15 @@ pub(crate) struct Event<'a, M: Monitor> {
 }
 
 impl<M: Monitor> Event<'_, M> {
-    /// Whether monitors with this set of parameters are read. Where the binding is a mark, it makes no new instance.
-    pub(crate) fn asks(&self, domain: u8) -> bool
-        ensures { result ≡ is_asked self.now.known self.now.binding.now domain }
+    /// Whether monitors with this set of parameters are read, where `ending` are letters that end all of these. Where the
+    /// binding is a mark, it makes no new instance.
+    pub(crate) fn asks(&self, ending: u32, domain: u8) -> bool
+        requires { self.now.letter.0 < (M.meaning (M.definition self.now.rules.now)).letters }
+        ensures { result ≡ is_asked self.now.known (bit_at ending self.now.letter.0 == 1) self.now.binding.now domain }
     {
-        if !self.known {
-            return true;
-        }
         let mask = self.binding.mask();
-        mask & domain == mask
+        let _letters = self.rules.letters();
+        mask & domain == mask || (!self.known && (ending >> self.letter.0) % 2 != 1)
     }
 
     /// What the monitor of a slot becomes, or the new instance that it makes, if it does either.

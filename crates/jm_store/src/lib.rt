@@ -8,6 +8,7 @@
 //! any more.
 #![tactic(auto)]
 
+mod ending;
 mod event;
 mod monitors;
 mod moves;

@@ -10,9 +10,10 @@ ghost use Rattle.jm_index.specs.Index.{Pair, IsKey, flag_of, AreBelow, AreLive, 
 ghost use Rattle.jm_monitors.specs.Stores.{IsStoreOf};
 ghost use Rattle.jm_monitors.specs.Steps.{IsAtStart, IsLiveEvent, IsAfterPass, AreMarksAfter, IsCutState, IsAliveState};
 ghost use Rattle.jm_store.specs.Slots.{monitor_at, stored_in};
-ghost use Rattle.jm_store.specs.Moves.{AreGiven, IsOutcomeAt, IsPushed, IsCompatibleAt, AreMovesOf, AreApart, LieWithin, IsSwept, after_move, pairs_after};
-ghost use Rattle.jm_store.specs.Contents.{Contents, stored_of, monitors_after, IsFit, IsFilled, IsPlannedBy, IsPlaced, ArePlaced, IsPlacedNext, ArePlacedOf, ArePaired, IsPlanFor, IsPlanOf};
+ghost use Rattle.jm_store.specs.Moves.{AreGiven, IsOutcomeAt, IsPushed, IsCompatibleAt, AreMovesOf, AreApart, LieWithin, IsSwept, after_move, pairs_after, asks_by, ends_all, EndsFewer, AreEnding, reached_by};
+ghost use Rattle.jm_store.specs.Contents.{Contents, stored_of, monitors_after, IsFit, IsFilled, IsPlannedBy, IsPlaced, ArePlaced, IsPlacedNext, ArePlacedOf, ArePaired, IsPlanFor, IsPlanOf, IsEnded, with_ending};
 
+use crate::ending::end_fewer_by;
 use crate::event::Event;
 use crate::monitors::{Monitors, Slot};
 use crate::moves::{Move, Plan};
@@ -34,6 +35,8 @@ pub struct Store<M: Monitor> {
     marks: Marks,
     /// The sets of parameters that bindings of the index ever had.
     domains: Vec<u8>,
+    /// For each set of parameters letters that end all monitors with it.
+    ending: [u32; 256],
     is_open: bool,
 }
 
@@ -49,6 +52,7 @@ impl<M: Monitor> Model for Store<M> {
       marks = s.marks.list;
       is_open = s.is_open;
       index = s.index;
+      ending = s.ending;
     } };
 
     ghost invariant = { λ s. IsKept s.monitors.slots.items s.index.list s.domains.items s.is_open s.marks.spare };
@@ -61,6 +65,7 @@ impl<M: Monitor> Store<M> {
         ensures marks { IfOk result (λ store. store.marks ≡ []) }
         ensures closed { IfOk result (λ store. store.is_open ≡ false) }
         ensures fits { IfOk result (λ store. (dead : List Bool) → IsFit store dead) }
+        ensures ended { IfOk result (IsEnded (M.meaning (M.definition rules.now)) (M.StandsFor rules.now)) }
     {
         let state = rules.begin()?;
         if rules.cut(&state, 0) {
@@ -84,6 +89,7 @@ impl<M: Monitor> Store<M> {
             index: Index::new(alloc),
             marks: Marks::new(alloc),
             domains: Vec::new(alloc),
+            ending: [u32::MAX; 256],
             is_open: false,
         }
     }
@@ -91,6 +97,7 @@ impl<M: Monitor> Store<M> {
     /// One monitor, that of the empty binding, and no mark.
     fn with_first(alloc: Global, monitor: Stored<M::State>) -> Result<Store<M>, NoMemory>
         requires { monitor.instance ≡ empty }
+        ensures none_ending { IfOk result (λ store. (e : ℕ) → ends_all store.ending e 0 ≡ false) }
         ensures stored { IfOk result (λ store. stored_of store ≡ monitor ∷ []) }
         ensures marks { IfOk result (λ store. store.marks ≡ []) }
         ensures closed { IfOk result (λ store. store.is_open ≡ false) }
@@ -102,11 +109,14 @@ impl<M: Monitor> Store<M> {
         domains.push(monitor.instance.mask())?;
         let mut slots = Vec::new(alloc);
         slots.push(Slot::Taken(monitor))?;
+        let mut ending = [u32::MAX; 256];
+        ending[0] = 0;
         Ok(Store {
             monitors: Monitors { slots, free: 1 },
             index,
             marks: Marks::new(alloc),
             domains,
+            ending,
             is_open: false,
         })
     }
@@ -132,8 +142,10 @@ impl<M: Monitor> Store<M> {
         ensures opened { OnOk result (self.new.is_open ≡ true) }
         ensures binding { IfOk result (λ plan. plan.binding ≡ binding.now) }
         ensures plan { IfOk result (λ plan. IsPlanFor self.new plan) }
+        ensures fewer { EndsFewer self.old.ending self.new.ending }
         ensures works { IfOk result (λ plan. (trace : List ParametricEvent)
             → IsStoreOf (M.meaning (M.definition rules.now)) (M.StandsFor rules.now) trace objects.now (stored_of self.old) self.old.marks
+            → IsEnded (M.meaning (M.definition rules.now)) (M.StandsFor rules.now) self.old
             → IsPlanOf (M.meaning (M.definition rules.now)) (M.StandsFor rules.now) trace objects.now letter.0 self.new plan) }
         ensures steps { steps.new ≤ steps.old + count_by (λ s. is_compatible s.instance binding.now) (stored_of self.old) }
     {
@@ -150,6 +162,7 @@ impl<M: Monitor> Store<M> {
         let answer = report(*self.domains.allocator(), rules, &moves)?;
         let copy = answer.copy()?;
         let moves = self.open_plan(moves)?;
+        self.end_fewer(rules, &moves);
         Ok(Plan {
             binding: *binding,
             moves,
@@ -170,12 +183,12 @@ impl<M: Monitor> Store<M> {
         requires fits { IsFitting self.now.index event.now.objects.now }
         requires live { AreLive event.now.objects.now event.now.binding.now }
         ensures moves { IfOk result (λ moves. AreMovesOf (M.meaning (M.definition event.now.rules.now)) (M.StandsFor event.now.rules.now) event.now.letter.0 event.now.binding.now
-            event.now.objects.now event.now.marks.now.list event.now.known self.now.monitors moves.items) }
+            event.now.objects.now event.now.marks.now.list (asks_by event.now.known self.now.ending event.now.letter.0 event.now.binding.now) self.now.monitors moves.items) }
         ensures steps { steps.new ≤ steps.old + count_by (λ s. is_compatible s.instance event.now.binding.now) (stored_of self.now) }
     {
         let mut moves = Vec::new(*self.domains.allocator());
         for domain in &self.domains {
-            if event.asks(*domain) {
+            if event.asks(self.ending[*domain as usize], *domain) {
                 let slots = self
                     .index
                     .compatible(event.objects, *domain, event.binding)?;
@@ -232,6 +245,15 @@ impl<M: Monitor> Store<M> {
         Ok(())
     }
 
+    /// Keeps of the letters that end monitors those that end the moved ones too.
+    fn end_fewer(&mut self, rules: &M, moves: &[Move<M::State>])
+        ensures same { self.new ≡ with_ending self.old self.new.ending }
+        ensures fewer { EndsFewer self.old.ending self.new.ending }
+        ensures ended { AreEnding (M.meaning (M.definition rules.now)) (M.StandsFor rules.now) self.new.ending (reached_by moves.now) }
+    {
+        end_fewer_by(&mut self.ending, rules, moves);
+    }
+
     /// Opens a plan with these moves: new instances get slots. Where memory is wanting they are taken out again, and no
     /// plan is open.
     fn open_plan(&mut self, moves: Vec<Move<M::State>>) -> Result<Vec<Move<M::State>>, NoMemory>
@@ -246,6 +268,7 @@ impl<M: Monitor> Store<M> {
         ensures opened { OnOk result (self.new.is_open ≡ true) }
         ensures placed { IfOk result (λ placed. ArePlacedOf self.old self.new moves.items moves.items placed.items) }
         ensures housed { OnOk result (ArePaired self.new) }
+        ensures ending { self.new.ending ≡ self.old.ending }
     {
         self.marks.reserve()?;
         self.is_open = true;
@@ -282,6 +305,7 @@ impl<M: Monitor> Store<M> {
         ensures leads { ArePlaced self.new placed.new.items }
         ensures filled { (pair : Pair) → Contains self.new.index.list pair → IsFilled self.new pair ⊎ IsPlannedBy placed.new.items pair }
         ensures placed { OnOk result (ArePlacedOf self.old self.new moves.items moves.items placed.new.items) }
+        ensures ending { self.new.ending ≡ self.old.ending }
     {
         while let Some(step) = moves.pop() {
             self.place_next(step, placed)?;
@@ -304,6 +328,7 @@ impl<M: Monitor> Store<M> {
         ensures next { OnOk result (IsPlacedNext self.old self.new step placed.old.items placed.new.items) }
         ensures same { OnErr result (self.new.index.list ≡ self.old.index.list) }
         ensures none { OnErr result (placed.new.items ≡ placed.old.items) }
+        ensures ending { self.new.ending ≡ self.old.ending }
     {
         placed.reserve(1)?;
         if step.slot.is_none() {
@@ -323,6 +348,7 @@ impl<M: Monitor> Store<M> {
         ensures fits { (dead : List Bool) → IsFitting self.old.index dead → AreBelow (length dead) instance.now → IsFitting self.new.index dead }
         ensures placed { IfOk result (λ slot. IsPlaced self.old self.new instance.now slot) }
         ensures same { OnErr result (self.new.index.list ≡ self.old.index.list) }
+        ensures ending { self.new.ending ≡ self.old.ending }
     {
         if self.index.has(instance) {
             return Ok(None);
@@ -362,6 +388,7 @@ impl<M: Monitor> Store<M> {
         ensures marks { self.new.marks ≡ self.old.marks }
         ensures fits { (dead : List Bool) → IsFitting self.old.index dead → IsFitting self.new.index dead }
         ensures filled { (pair : Pair) → Contains self.new.index.list pair → IsFilled self.new pair }
+        ensures ending { self.new.ending ≡ self.old.ending }
     {
         let _monitors = &self.monitors;
         for step in moves {
@@ -383,6 +410,7 @@ impl<M: Monitor> Store<M> {
         ensures fits { (dead : List Bool) → IsFitting self.old.index dead → IsFitting self.new.index dead }
         ensures within { (pair : Pair) → Contains self.new.index.list pair → Contains self.old.index.list pair }
         ensures gone { (pair : Pair) → Contains self.new.index.list pair → pair.slot ≡ slot → IsFilled self.new pair }
+        ensures ending { self.new.ending ≡ self.old.ending }
     {
         if self.monitors.is_planned(slot) {
             self.index.remove(instance);
@@ -400,6 +428,7 @@ impl<M: Monitor> Store<M> {
         ensures fits { (dead : List Bool) → IsFit self.old dead → AreBelow (length dead) plan.binding → IsFit self.new dead }
         ensures answer { result.0 ≡ plan.answer }
         ensures copy { result.1 ≡ plan.answer }
+        ensures ending { self.new.ending ≡ self.old.ending }
     {
         let Plan {
             binding,
@@ -427,6 +456,7 @@ impl<M: Monitor> Store<M> {
         ensures bindings { AllPairs (λ a b. a.binding ≢ b.binding) self.old.index.list }
         ensures slots { AllPairs (λ a b. a.slot ≢ b.slot) self.old.index.list }
         ensures within { (pair : Pair) → Contains self.old.index.list pair → pair.slot < length self.old.monitors }
+        ensures ending { self.new.ending ≡ self.old.ending }
     {
         let _monitors = &self.monitors;
         let Some(slot) = step.slot else { return };
@@ -449,6 +479,7 @@ impl<M: Monitor> Store<M> {
         ensures closed { self.new.is_open ≡ false }
         ensures fits { IsFit self.new objects.now }
         ensures keys { (o : ℕ) → IsKey self.new.index o → flag_of objects.now o ≡ false }
+        ensures ending { self.new.ending ≡ self.old.ending }
     {
         for slot in 0..self.monitors.slots.len() {
             self.drop_cut(rules, objects, slot);
@@ -467,6 +498,7 @@ impl<M: Monitor> Store<M> {
         ensures length { length self.new.monitors ≡ length self.old.monitors }
         ensures marks { self.new.marks ≡ self.old.marks }
         ensures fits { (dead : List Bool) → IsFitting self.old.index dead → IsFitting self.new.index dead }
+        ensures ending { self.new.ending ≡ self.old.ending }
     {
         if let Some(instance) = self.monitors.cut_instance(rules, objects, slot) {
             self.index.remove(&instance);

@@ -1,5 +1,13 @@
-use Rattle.jm_marks.proofs.DeadLemmas.{has_live-masks}
+use Rattle.std.proofs.Common.{◌≡◌, ◌<◌, length, sym, ◌∙◌, arith}
+use Rattle.jm_marks.proofs.DeadLemmas.{has_live-found, has_live-passed, has_live-end}
 use Rattle.jm_marks.proofs.has_live.Goals as goal
 
+pub returns-then-is_live_at : goal.returns-then-is_live_at
+returns-then-is_live_at c = sym (sym c.loop-p.invariant ∙ has_live-found _ _ c.loop-p.p (omega (arith, c.mask-mask.ensures.eight)) (sym c.is_live_at.ensures ∙ c.if-is_live_at.true))
+
+pub loop-p-preserved : goal.loop-p-preserved
+loop-p-preserved c =
+    sym (has_live-passed _ _ c.loop-p.p (omega (arith, c.mask-mask.ensures.eight)) (sym c.is_live_at.ensures ∙ c.if-is_live_at.false)) ∙ c.loop-p.invariant
+
 pub returns : goal.returns
-returns c = rw (c.dead_mask.ensures, c.mask.ensures.value) (has_live-masks _ _)
+returns c = sym (sym c.loop-p.invariant ∙ has_live-end _ _ c.loop-p.p (omega (arith, c.mask-mask.ensures.eight)))

@@ -14,7 +14,7 @@ returns-in-Ok-clause-works g c =
     let m = g.M.Monitor.meaning (g.M.Monitor.definition c.args.rules.now) in
     let Stands = g.M.Monitor.StandsFor c.args.rules.now in
     let done = c.commit-answer.ensures in
-    λ trace store.
+    λ trace store ended.
     let out = carried_out m Stands trace c.args.objects.now c.args.letter.0 c.args.binding.now c.counted_plan.new.store c.commit-answer.new.self c.in-Ok.plan c.commit-answer.result.0
-    (c.in-Ok.ensures.works trace store) c.in-Ok.ensures.binding done.monitors done.marks done.answer in
+    (c.in-Ok.ensures.works trace store ended) c.in-Ok.ensures.binding done.monitors done.marks done.ending done.answer in
     (c.requires.live, out.0, out.1)

@@ -12,7 +12,7 @@ invariant_of-self g c =
     let done = c.dispose-kept.ensures in
     let small : c.dispose-kept.result < 2 ^ 64 = c.dispose-kept.type_inv in
     subst (λ (l : List Entry). IsCore m Stands l c.self.inside.objects c.dispose-kept.new.self) (sym c.push.ensures)
-    (core_after_pass m Stands c.self.inside.history c.self.inside.objects c.self.inside.store c.dispose-kept.new.self c.args.node c.dispose-kept.result c.self.invariant c.requires done.pass small done.left done.closed done.fits)
+    (core_after_pass m Stands c.self.inside.history c.self.inside.objects c.self.inside.store c.dispose-kept.new.self c.args.node c.dispose-kept.result c.self.invariant c.requires done.pass small done.left done.closed done.fits done.ending)
 
 pub returns-clause-legal : goal.returns-clause-legal
 returns-clause-legal g c = (invariant_of-self g c).legal

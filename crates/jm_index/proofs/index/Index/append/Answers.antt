@@ -24,7 +24,7 @@ file_all-requires c =
 pub invariant_of-self-in_err-file_all : goal.invariant_of-self-in_err-file_all
 invariant_of-self-in_err-file_all c =
     let at : c.len-position.result ≡ length c.self.inside.entries.items = grind (arith, common_steps) in
-    staged _ _ _ _ _ _ _ _ _ _ c.self.invariant c.in_ok-cover.ensures.same c.in_ok-cover.ensures.longer c.as_slice.ensures.value c.in_err-file_all.ensures.filed refl at c.in_ok-push.ensures.items
+    staged _ _ _ _ _ _ _ _ _ _ c.self.invariant c.in_ok-cover.ensures.same c.in_ok-cover.ensures.longer refl c.in_err-file_all.ensures.filed refl at c.in_ok-push.ensures.items
 
 pub returns-in_err-file_all-clause-same : goal.returns-in_err-file_all-clause-same
 returns-in_err-file_all-clause-same c =
@@ -35,7 +35,7 @@ pub invariant_of-self-in_err-insert : goal.invariant_of-self-in_err-insert
 invariant_of-self-in_err-insert c =
     let at : c.len-position.result ≡ length c.self.inside.entries.items = grind (arith, common_steps) in
     IsIndexed-place _ _ _ _ _
-    (staged _ _ _ _ _ _ _ _ _ _ c.self.invariant c.in_ok-cover.ensures.same c.in_ok-cover.ensures.longer c.as_slice.ensures.value c.in_ok-file_all.ensures.filed refl at c.in_ok-push.ensures.items)
+    (staged _ _ _ _ _ _ _ _ _ _ c.self.invariant c.in_ok-cover.ensures.same c.in_ok-cover.ensures.longer refl c.in_ok-file_all.ensures.filed refl at c.in_ok-push.ensures.items)
     (λ q. ap (λ (es : List (List (Option ℕ) × ℕ)). lookup (binding_eq q) es) c.in_err-insert.ensures.err)
 
 pub returns-in_err-insert-clause-same : goal.returns-in_err-insert-clause-same
@@ -50,7 +50,7 @@ invariant_of-self-2 c =
     subst (λ (v : PairList). (pair : Pair) → Contains v.list pair → pair.binding ≡ c.args.binding → ⊥) (sym c.self.view_is) c.requires
     in
     rw (held _ _ _ _ _ c.in_ok-push.ensures.items at c.index_mut.ensures.value)
-    (added _ _ _ _ _ _ _ _ _ _ _ _ c.self.invariant c.in_ok-cover.ensures.same c.in_ok-cover.ensures.longer c.as_slice.ensures.value c.in_ok-file_all.ensures.filed c.in_ok-file_all.ensures.there
+    (added _ _ _ _ _ _ _ _ _ _ _ _ c.self.invariant c.in_ok-cover.ensures.same c.in_ok-cover.ensures.longer refl c.in_ok-file_all.ensures.filed c.in_ok-file_all.ensures.there
     c.in_ok-cover.ensures.there at c.in_ok-push.ensures.items c.in_ok-insert.ensures.updates.0 absent)
 
 pub returns-clause-added : goal.returns-clause-added

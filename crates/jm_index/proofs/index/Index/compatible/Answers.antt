@@ -8,11 +8,11 @@ use Rattle.jm_index.proofs.index.Index.compatible.Goals as goal
 
 pub returns-clause-slots : goal.returns-clause-slots
 returns-clause-slots c =
-    let fits : IsFitting (record { list = live_pairs c.self.inside.entries.items; dropped = c.self.inside.dropped.items }) c.args.objects.now = rw c.self.view_is c.requires.fits in
+    let fits : IsFitting (record { list = live_pairs c.self.inside.entries.items; dropped = c.self.inside.dropped }) c.args.objects.now = rw c.self.view_is c.requires.fits in
     let rising : Rises 0 (posting_at c.self.inside.trees c.args.domain c.shortest-path.result) = rw (← c.positions-positions.ensures.value) c.positions-positions.ensures.rising in
     let is : filter_map (slot_at c.as_slice.result.now c.args.domain c.args.binding.now) c.positions-positions.result.now ≡ asked_slots c.args.domain c.args.binding.now c.args.self.now.list =
     rw (c.as_slice.ensures.value, c.positions-positions.ensures.value, ← c.self.view_is)
-    (path_slots _ _ _ (record { list = live_pairs c.self.inside.entries.items; dropped = c.self.inside.dropped.items }) _ _ _ _ _ c.self.invariant fits c.requires.live c.restrict-common.ensures c.shortest-path.ensures rising)
+    (path_slots _ _ _ (record { list = live_pairs c.self.inside.entries.items; dropped = c.self.inside.dropped }) _ _ _ _ _ c.self.invariant fits c.requires.live c.restrict-common.ensures c.shortest-path.ensures rising)
     in
     rw (← is) c.slots_at.ensures
 

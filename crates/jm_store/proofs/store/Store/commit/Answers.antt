@@ -20,6 +20,7 @@ loop-step-preserved g c =
       open_now = carried.«open»;
       monitors = ap (after_moves rest) carried.monitors ∙ sym (after_push rest step c.loop-step.self.monitors) ∙ inv.monitors;
       marks = carried.marks ∙ inv.marks;
+      ending = carried.ending ∙ inv.ending;
       fits = λ dead fits. carried.fits dead (inv.fits dead fits);
       apart = apart_front rest step inv.apart;
       leads = leads_on c.loop-step.self c.carry_out.new.self rest step carried.bindings carried.slots carried.within inv.apart inv.leads carried.monitors carried.index;
@@ -47,8 +48,11 @@ returns-clause-fits g c =
     let fits = rw (← c.self.view_is) at c.loop-step.invariant.fits in
     let same = rw (← c.self.view_is) at c.loop-step.invariant.marks in
     let added = marks_added _ _ c.args.plan.binding c.add.ensures.known c.add.ensures.unknown in
-    λ dead fit below. housed_fits _ _ _ _ dead c.self.invariant.housed (fits dead fit.index)
+    λ dead fit below. housed_fits _ _ _ _ _ dead c.self.invariant.housed (fits dead fit.index)
     (λ b there. elim ((added b).0 there) [
       | inl before ↦ fit.marks b (rw same at before)
       | inr is ↦ rw is below
     ])
+
+pub returns-clause-ending : goal.returns-clause-ending
+returns-clause-ending g c = rw (← c.self.view_is) at c.loop-step.invariant.ending

@@ -24,7 +24,10 @@ returns-clause-pass g c =
 pub returns-clause-fits : goal.returns-clause-fits
 returns-clause-fits g c =
     let inv = rw (← c.self-2.view_is) at c.loop-slot.invariant in
-    housed_fits _ _ _ c.drop_dead.new.self c.args.objects.now (rw c.drop_dead.ensures.list c.self-2.invariant.housed) c.drop_dead.ensures.fits
+    housed_fits _ _ _ c.drop_dead.new.self _ c.args.objects.now (rw c.drop_dead.ensures.list c.self-2.invariant.housed) c.drop_dead.ensures.fits
     (λ b there.
     let kept = Contains-from_filter (has_live c.args.objects.now) c.self-2.inside.marks.list b (rw c.sweep.ensures.list at there) in
     c.requires.fits.marks b (rw inv.marks at kept.0))
+
+pub returns-clause-ending : goal.returns-clause-ending
+returns-clause-ending g c = rw (← c.self-2.view_is) at c.loop-slot.invariant.ending

@@ -12,5 +12,6 @@ invariant-loop-slot g l = record {
   later : (k : ℕ) → l.slot ≤ k → monitor_at l.self.monitors k ≡ monitor_at l.initial.self.monitors k;
   length : length l.self.monitors ≡ length l.initial.self.monitors;
   marks : l.self.marks ≡ l.initial.self.marks;
+  ending : l.self.ending ≡ l.initial.self.ending;
   fits : (dead : List Bool) → IsFitting l.initial.self.index dead → IsFitting l.self.index dead;
 }

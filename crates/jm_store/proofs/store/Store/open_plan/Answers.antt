@@ -41,4 +41,4 @@ returns-in-Err-clause-fits g c =
     rw (← c.self.view_is) (λ dead fits within. back dead (c.in-Err.ensures.fits dead fits within))
 
 pub returns-in-Ok-clause-housed : goal.returns-in-Ok-clause-housed
-returns-in-Ok-clause-housed g c = rw (← c.self-in-Ok.view_is) (are_paired _ _ _ c.self-in-Ok.inside.index c.self-in-Ok.invariant.housed)
+returns-in-Ok-clause-housed g c = rw (← c.self-in-Ok.view_is) (are_paired _ _ _ c.self-in-Ok.inside.index _ c.self-in-Ok.invariant.housed)

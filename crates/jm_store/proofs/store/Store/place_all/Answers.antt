@@ -15,6 +15,7 @@ loop-step-init g c = record {
   stored = refl;
   monitors = λ k. refl;
   marks = refl;
+  ending = refl;
   fits = λ dead fits within. fits;
   done = [];
   split = sym (append-nil c.args.moves.items);
@@ -32,6 +33,7 @@ loop-step-preserved g c =
       stored = next.stored ∙ inv.stored;
       monitors = λ k. next.monitors k ∙ inv.monitors k;
       marks = next.marks ∙ inv.marks;
+      ending = next.ending ∙ inv.ending;
       fits = λ dead fits within. next.fits dead (inv.fits dead fits within) (within step (split_among c.args.moves.items c.pop.new.self.items inv.done step split));
       done = step ∷ inv.done;
       split = split;
@@ -101,3 +103,9 @@ pub returns-clause-placed : goal.returns-clause-placed
 returns-clause-placed g c =
     let none : length c.loop-step.moves.items ≡ 0 = grind (arith, common_steps) in
     all_placed _ _ c.args.moves.items c.loop-step.moves.items c.loop-step.invariant.done _ c.loop-step.invariant.split none c.loop-step.invariant.placed
+
+pub returns-in_err-place_next-clause-ending : goal.returns-in_err-place_next-clause-ending
+returns-in_err-place_next-clause-ending g c = c.in_err-place_next.ensures.ending ∙ c.loop-step.invariant.ending
+
+pub returns-clause-ending : goal.returns-clause-ending
+returns-clause-ending g c = c.loop-step.invariant.ending

@@ -13,6 +13,7 @@ invariant-loop-step g l = record {
   stored : stored_of l.self ≡ stored_of l.initial.self;
   monitors : (k : ℕ) → monitor_at l.self.monitors k ≡ monitor_at l.initial.self.monitors k;
   marks : l.self.marks ≡ l.initial.self.marks;
+  ending : l.self.ending ≡ l.initial.self.ending;
   fits : (dead : List Bool) → IsFitting l.initial.self.index dead → LieWithin (length dead) l.initial.moves.items → IsFitting l.self.index dead;
   done : List (Move g.row.M-State.Denot);
   split : l.initial.moves.items ≡ l.moves.items ++ done;

@@ -15,6 +15,7 @@ loop-step-init g c = record {
   stored = refl;
   monitors = λ k. refl;
   marks = refl;
+  ending = refl;
   fits = λ dead fits. fits;
   within = λ pair there. there;
   filled = c.requires.filled;
@@ -32,6 +33,7 @@ loop-step-preserved g c =
         stored = w.free.ensures.stored ∙ inv.stored;
         monitors = λ k. w.free.ensures.monitors k ∙ inv.monitors k;
         marks = w.free.ensures.marks ∙ inv.marks;
+        ending = w.free.ensures.ending ∙ inv.ending;
         fits = λ dead fits. w.free.ensures.fits dead (inv.fits dead fits);
         within = λ pair there. inv.within pair (w.free.ensures.within pair there);
         filled = λ pair there. elim (inv.filled pair (w.free.ensures.within pair there)) [
@@ -47,6 +49,7 @@ loop-step-preserved g c =
         stored = inv.stored;
         monitors = inv.monitors;
         marks = inv.marks;
+        ending = inv.ending;
         fits = inv.fits;
         within = inv.within;
         filled = λ pair there. elim (inv.filled pair there) [
@@ -76,3 +79,6 @@ returns-clause-filled g c =
       | inl full ↦ full
       | inr planned ↦ absurd (planned_none c.args.moves.now c.loop-step.step-index pair c.loop-step-test.false planned)
     ]
+
+pub returns-clause-ending : goal.returns-clause-ending
+returns-clause-ending g c = c.loop-step.invariant.ending

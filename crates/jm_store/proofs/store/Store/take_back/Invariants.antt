@@ -11,6 +11,7 @@ invariant-loop-step g l = record {
   stored : stored_of l.self ≡ stored_of l.initial.self;
   monitors : (k : ℕ) → monitor_at l.self.monitors k ≡ monitor_at l.initial.self.monitors k;
   marks : l.self.marks ≡ l.initial.self.marks;
+  ending : l.self.ending ≡ l.initial.self.ending;
   fits : (dead : List Bool) → IsFitting l.initial.self.index dead → IsFitting l.self.index dead;
   within : (pair : Pair) → Contains l.self.index.list pair → Contains l.initial.self.index.list pair;
   filled : (pair : Pair) → Contains l.self.index.list pair → IsFilled l.self pair ⊎ IsPlannedBy (drop l.step-index l.moves) pair;
