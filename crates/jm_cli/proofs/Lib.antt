@@ -2,3 +2,5 @@ mod Named
 mod Numbers
 mod Positions
 mod Runs
+mod Saying
+mod Reading

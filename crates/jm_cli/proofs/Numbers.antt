@@ -6,13 +6,13 @@ use Rattle.std.specs.List.{list_all}
 use Rattle.std.specs.Str.Parse.{IsNumeral, without_leading_plus, digits_value}
 use Rattle.jm_cli.specs.Words.{is_short_number}
 
-own : IsNumeralModel (λ ds. list_all is_ascii_digit ds ≡ true) (digits_value 10)
+pub own : IsNumeralModel (λ ds. list_all is_ascii_digit ds ≡ true) (digits_value 10)
 own = numerals_by_value _ (search rules)
 
-digits : (word : List ℕ) → is_short_number word ≡ true → list_all is_ascii_digit word ≡ true
+pub digits : (word : List ℕ) → is_short_number word ≡ true → list_all is_ascii_digit word ≡ true
 digits word short = search rules
 
-some : (word : List ℕ) → is_short_number word ≡ true → (0 < length word) × (length word < 5)
+pub some : (word : List ℕ) → is_short_number word ≡ true → (0 < length word) × (length word < 5)
 some word short = search rules
 
 -- it isn't refused

@@ -18,7 +18,7 @@ pub around_separator : {X : Type 0} (f : X → List ℕ) (xs : List X) (place : 
 around_separator f xs place result at read =
     let first : position (bytes_eq (codes "--")) (map f xs) ≡ Some place = position-map (bytes_eq (codes "--")) f xs ∙ sym at in
     let rest : take (length xs - (place + 1)) (drop (place + 1) xs) ≡ drop (place + 1) xs =
-        ap (λ n. take n (drop (place + 1) xs)) (sym (length-drop (place + 1) xs)) ∙ take-length (drop (place + 1) xs) in
+    ap (λ n. take n (drop (place + 1) xs)) (sym (length-drop (place + 1) xs)) ∙ take-length (drop (place + 1) xs) in
     rw (first, take-map f place xs, drop-map f (place + 1) xs) (rw rest at read)
 
 pub no_separator : {X : Type 0} (f : X → List ℕ) (xs : List X)

@@ -10,18 +10,27 @@ use std::alloc::Global;
 #[derive(Debug, Drop)]
 pub enum Command {
     /// Replays a script over a specification.
-    Replay { spec: String, script: String },
+    Replay {
+        spec: String,
+        script: String,
+    },
     /// Runs scripts over specifications, each script on a thread of its own.
     Run {
         specs: Vec<String>,
         scripts: Vec<String>,
     },
     /// Tells what specifications declare.
-    Check { specs: Vec<String> },
+    Check {
+        specs: Vec<String>,
+    },
     /// Tells the coenable sets of specifications.
-    Coenable { specs: Vec<String> },
+    Coenable {
+        specs: Vec<String>,
+    },
     /// Runs a workload of `n` rounds.
-    Gen { n: u32 },
+    Gen {
+        n: u32,
+    },
 }
 
 /// Why words give no command.

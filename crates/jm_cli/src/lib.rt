@@ -5,6 +5,8 @@
 #![tactic(auto)]
 
 mod command;
+mod laws;
 mod words;
 
 pub use command::{Command, WordsError, read_words};
+pub use laws::words_spell_what_the_table_says;
