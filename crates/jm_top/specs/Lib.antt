@@ -1,11 +1,13 @@
 pub mod Statuses
 pub mod FaultTexts
-pub mod Words
+pub mod Sources
+pub mod Commands
 pub mod Specifications
 pub mod Scripts
+pub mod Inputs
 pub mod Jobs
-pub mod Replays
+pub mod Histories
+pub mod Texts
 pub mod Endings
 pub mod Reading
-pub mod Steps
 pub mod Causes

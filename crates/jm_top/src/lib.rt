@@ -7,16 +7,13 @@
 //! of its files ask for or which fault is the first, and `Replays.antt` which texts are those of a replay.
 #![tactic(auto)]
 
-mod command;
 mod laws;
-mod replay;
-mod script;
+mod library;
+mod scripts;
 mod specification;
 mod status;
 mod texts;
-mod words;
 
-pub use command::jmop;
 pub use laws::one_reading;
 pub use status::Status;
 pub use texts::fault_text;

@@ -4,6 +4,9 @@ ghost use Rattle.jm_top.specs.Statuses.{code_of};
 
 use jm_model::{ScriptFault, SpecFault};
 
+/// The most bytes that a file may have.
+pub(crate) const MOST_BYTES: usize = 4_194_304;
+
 /// How a command ended. Specifications and scripts are numbered from 0, each by their own order, and files by the order
 /// of the words.
 #[derive(Clone, Copy, Debug, PartialEq, Eq)]
