@@ -1,0 +1,11 @@
+//! A large workload over two specifications: four scripts that run beside each other, each over objects of its own.
+//!
+//! `workload` makes its files. Its time and its memory are linear in their length.
+#![tactic(auto)]
+
+mod script;
+mod specification;
+mod text;
+mod workload;
+
+pub use workload::{GenError, Workload, workload};
