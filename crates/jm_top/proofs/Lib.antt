@@ -3,3 +3,9 @@ pub mod OneReadingLemmas
 pub mod TreeLemmas
 pub mod BlockLemmas
 pub mod InputLemmas
+pub mod EndingLemmas
+pub mod JobLemmas
+pub mod LibraryLemmas
+pub mod HistoryLemmas
+pub mod FewLemmas
+pub mod ScriptLemmas

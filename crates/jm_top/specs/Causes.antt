@@ -1,5 +1,5 @@
 -- Why the work of a command ends before its text is written.
-use Rattle.std.specs.Prelude.{ℕ, ◌+◌, ◌≡◌, Bool, List, Option}
+use Rattle.std.specs.Prelude.{ℕ, ◌+◌, ◌≡◌, ◌⊎◌, Bool, false, List, [], length, Option}
 use Rattle.jm_model.specs.declared.fault.SpecFault.{SpecFault}
 use Rattle.jm_script.specs.declared.script.ScriptLine.{ScriptLine}
 use Rattle.jm_top.specs.declared.status.Status.{Status}
@@ -7,7 +7,11 @@ use Rattle.jm_top.specs.declared.status.Status.TheVariants.{Done, BadSpec, BadSc
 use Rattle.jm_top.specs.Sources.{Source, IsFile, Gives}
 use Rattle.jm_top.specs.Specifications.{Specification}
 use Rattle.jm_top.specs.Scripts.{IsScriptFault}
-use Rattle.jm_top.specs.Inputs.{IsRefusal, AreReadUpTo, step_count, AreScriptsUpTo}
+use Rattle.jm_top.specs.Inputs.{IsRefusal, SaySpecifications, AreReadUpTo, step_count, SayScripts, AreScriptsUpTo}
+use Rattle.jm_cli.specs.Words.{CommandWords}
+use Rattle.jm_top.specs.Commands.{spec_sources, script_sources, needs_families}
+use Rattle.jm_top.specs.Jobs.{Accepted}
+use Rattle.jm_top.specs.Texts.{IsTextOf}
 
 -- a status that comes before anything is written
 abbrev pub IsBeforeWriting : Status → Type 0
@@ -58,3 +62,27 @@ module _ (contents : List ℕ → Option (List ℕ)) where
     pub names : List (List ℕ)
     pub reached : AreScriptsUpTo contents specs sources number source before names
     pub stopped : IsNoScript specs files (step_count before) names number source status
+
+-- why specifications from some sources, and scripts from others, aren't read
+abbrev pub StopsInputs : (List ℕ → Option (List ℕ)) → List Source → List Source → Status → Type 0
+StopsInputs contents specs scripts status =
+    StopsSpecs contents false specs status
+    ⊎ ((said : List Specification) × SaySpecifications contents false [] specs said × StopsScripts contents said (length specs) scripts status)
+
+-- why a command ends before its text is written
+pub data StopsCommand (contents : List ℕ → Option (List ℕ)) (command : CommandWords) : Status → Type 0 where
+  short : StopsCommand contents command NoMemory
+  at_spec : (status : Status) → StopsSpecs contents (needs_families command) (spec_sources command) status → StopsCommand contents command status
+  at_script : (specs : List Specification) (status : Status)
+      → SaySpecifications contents (needs_families command) [] (spec_sources command) specs
+      → StopsScripts contents specs (length (spec_sources command)) (script_sources command) status
+      → StopsCommand contents command status
+
+-- the text is one of the command, whose files were read
+pub record IsTextOfCommand (contents : List ℕ → Option (List ℕ)) (command : CommandWords) (text : List ℕ) : Type 0 where
+  pub specs : List Specification
+  pub scripts : List (List ScriptLine)
+  pub objects : List (List ℕ)
+  pub said : SaySpecifications contents (needs_families command) [] (spec_sources command) specs
+  pub told : SayScripts contents specs 0 [] (script_sources command) scripts objects
+  pub is_text : IsTextOf (Accepted command specs scripts objects) text

@@ -11,3 +11,4 @@ pub mod Texts
 pub mod Endings
 pub mod Reading
 pub mod Causes
+pub mod Replays

@@ -1,5 +1,5 @@
 -- What the calls that read specifications answer.
-use Rattle.std.specs.Prelude.{ℕ, ◌≡◌, ◌<◌, ◌≤◌, ◌^◌, Bool, List, [], ◌∷◌, ◌++◌, length, map, All, Option, string_bytes}
+use Rattle.std.specs.Prelude.{ℕ, ◌≡◌, ◌<◌, ◌≤◌, ◌^◌, Bool, false, List, [], ◌∷◌, ◌++◌, length, map, All, Option, string_bytes}
 use Rattle.jm_script.specs.declared.script.ScriptLine.{ScriptLine}
 use Rattle.jm_script.specs.Fitting.{FitsCatalog}
 use Rattle.jm_machine.specs.Meanings.{RuleDefinition}
@@ -7,6 +7,7 @@ use Rattle.jm_top.specs.declared.specification.Titles.{Titles}
 use Rattle.jm_top.specs.declared.specification.Loaded.{Loaded}
 use Rattle.jm_top.specs.declared.library.Library.{Library}
 use Rattle.jm_top.specs.declared.scripts.Scripts.{Scripts}
+use Rattle.jm_top.specs.declared.job.Inputs.{Inputs}
 use Rattle.jm_model.specs.declared.step.Entry.{Entry}
 use Rattle.jm_print.specs.Lexicons.{Lexicon, lexicon_of}
 use Rattle.jm_print.specs.Texts.{IsPrintable}
@@ -118,3 +119,8 @@ pub record HasScriptFrom (contents : List ℕ → Option (List ℕ)) (source : S
 pub record AreScriptsOf (contents : List ℕ → Option (List ℕ)) (specs : List Specification) (sources : List Source) (s : Scripts) : Type 0 where
   pub said : SayScripts contents specs 0 [] sources s.list.items s.objects
   pub counted : AreCounted specs s
+
+-- what was read is what these sources of specifications and of scripts say
+pub record AreInputsOf (contents : List ℕ → Option (List ℕ)) (specs scripts : List Source) (inputs : Inputs) : Type 0 where
+  pub library : IsLibraryOf contents false specs inputs.library
+  pub scripts : AreScriptsOf contents (specs_in inputs.library) scripts inputs.scripts

@@ -1,17 +1,16 @@
 //! The commands, from the words to the status.
-ghost use Rattle.std.specs.Prelude.{◌≡◌, ◌≤◌, ◌⊎◌, ℕ, List, map, string_bytes, None, Some, IfOk, IfErr};
+ghost use Rattle.std.specs.Prelude.{◌≡◌, ◌⊎◌, ℕ, List, map, string_bytes, None};
 ghost use Rattle.jm_port.specs.Faults.{HasRisen};
 ghost use Rattle.jm_script.specs.declared.script.ScriptLine.{ScriptLine};
 ghost use Rattle.jm_cli.specs.Words.{CommandWords, command_of};
-ghost use Rattle.jm_cli.specs.Views.{command_words};
 ghost use Rattle.jm_top.specs.Specifications.{Specification};
 ghost use Rattle.jm_top.specs.Jobs.{IsJob, Accepted, IsCaused, AreTold};
-ghost use Rattle.jm_top.specs.Causes.{IsBeforeWriting};
-ghost use Rattle.jm_top.specs.Endings.{IsText, Writes, WritesText, Ends, Reports};
+ghost use Rattle.jm_top.specs.Endings.{Writes, WritesText, Ends, Reports};
 
+use crate::job::make_text;
 use crate::status::Status;
 use crate::texts::fault_text;
-use jm_cli::{Command, WordsError, read_words};
+use jm_cli::{WordsError, read_words};
 use jm_port::{Folder, PutFault, Sink, put_all};
 use std::alloc::Global;
 
@@ -99,21 +98,5 @@ fn report<E: Sink>(alloc: Global, status: Status, err: &mut E) -> Status
     match put_all(err, &text) {
         Err(PutFault::NoMemory) => Status::NoMemory,
         _ => status,
-    }
-}
-
-/// The text of a command.
-fn make_text<F: Folder>(alloc: Global, command: &Command, files: &mut F) -> Result<Vec<u8>, Status>
-    requires { IsFewNamed (command_words command.now) }
-    ensures made { IfOk result (λ text. IsTextOfCommand (F.holds files.old) (command_words command.now) text.items) }
-    ensures caused { IfErr result (StopsCommand (F.holds files.old) (command_words command.now)) }
-    ensures read_failed { (file : ℕ) → result ≡ Err (Status.ReadFailed file) → HasRisen (F.faults files.old) (F.faults files.new) }
-{
-    match command {
-        Command::Replay { spec, script } => replay_text(alloc, spec, script, files),
-        Command::Run { specs, scripts } => run_text(alloc, specs.as_slice(), scripts.as_slice(), files),
-        Command::Check { specs } => check_text(alloc, specs.as_slice(), files),
-        Command::Coenable { specs } => coenable_text(alloc, specs.as_slice(), files),
-        Command::Gen { n } => gen_text(alloc, *n),
     }
 }

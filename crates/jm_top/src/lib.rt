@@ -7,13 +7,19 @@
 //! of its files ask for or which fault is the first, and `Replays.antt` which texts are those of a replay.
 #![tactic(auto)]
 
+mod blocks;
+mod command;
+mod histories;
+mod job;
 mod laws;
 mod library;
+mod replay;
 mod scripts;
 mod specification;
 mod status;
 mod texts;
 
+pub use command::jmop;
 pub use laws::one_reading;
 pub use status::Status;
 pub use texts::fault_text;

@@ -2,7 +2,7 @@
 ghost use Rattle.std.specs.Prelude.{◌≡◌};
 ghost use Rattle.jm_top.specs.Statuses.{code_of};
 
-use jm_model::{ScriptFault, SpecFault};
+use jm_model::{NoMemory, ScriptFault, SpecFault};
 
 /// The most bytes that a file may have.
 pub(crate) const MOST_BYTES: usize = 4_194_304;
@@ -41,5 +41,15 @@ impl Status {
             Status::WriteFailed => 6,
             Status::NoMemory => 7,
         }
+    }
+}
+
+impl From<NoMemory> for Status {
+    ghost use Rattle.jm_top.specs.declared.status.Status.TheVariants.{NoMemory};
+
+    ghost from_gives = { λ _ status. status ≡ NoMemory };
+
+    fn from(_refused: NoMemory) -> Status {
+        Status::NoMemory
     }
 }

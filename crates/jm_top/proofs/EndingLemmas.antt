@@ -1,0 +1,66 @@
+use Rattle.std.proofs.Common.{◌≡◌, ℕ, List, [], inl, inr, refl, sym, subst, ◌∙◌, ap, append-nil}
+use Rattle.std.specs.Prelude.{Option, Some, None}
+use Rattle.jm_port.specs.Sinks.{appended, AppendsPrefix}
+use Rattle.jm_top.specs.Causes.{IsBeforeWriting}
+use Rattle.jm_top.specs.Endings.{WritesText, IsText, Writes, Ends, Reports}
+use Rattle.jm_top.specs.declared.status.Status.{Status}
+use Rattle.jm_top.specs.declared.status.Status.TheVariants.{Done, Usage, BadSpec, BadScript, ReadFailed, WriteFailed, NoMemory}
+
+appended-nil : (written : Option (List ℕ)) → appended written [] ≡ written
+appended-nil None = refl
+appended-nil (Some text) = ap (λ t. Some t) (append-nil text)
+
+-- a sink that is as before
+pub nothing_appended : (before after : Option (List ℕ)) (text : List ℕ) → after ≡ before → AppendsPrefix before after text
+nothing_appended before after text same = record { piece = []; is_prefix = (text, refl); written = same ∙ sym (appended-nil before) }
+
+-- a text that was written whole
+whole_appended : (before after : Option (List ℕ)) (text : List ℕ) → after ≡ appended before text → AppendsPrefix before after text
+whole_appended before after text whole = record { piece = text; is_prefix = ([], append-nil text); written = whole }
+
+module _ (words : List (List ℕ)) (contents : List ℕ → Option (List ℕ)) where
+  -- a text of the command was given to the sink
+  pub writes_text : (status : Status) (before after : Option (List ℕ)) (text : List ℕ) → IsText words contents text → WritesText status before after text → Writes words contents status before after
+  writes_text Done before after text is w = record { text = text; is_text = is; whole = w }
+  writes_text WriteFailed before after text is w = record { text = text; is_text = is; part = w }
+  writes_text NoMemory before after text is w = inr (record { text = text; is_text = is; part = w })
+  writes_text Usage before after text is w = absurd w
+  writes_text (BadSpec f x) before after text is w = absurd w
+  writes_text (BadScript f x) before after text is w = absurd w
+  writes_text (ReadFailed f) before after text is w = absurd w
+
+  -- nothing was given to it
+  pub writes_nothing : (status : Status) (before : Option (List ℕ)) → IsBeforeWriting status → Writes words contents status before before
+  writes_nothing Done before h = absurd h
+  writes_nothing WriteFailed before h = absurd h
+  writes_nothing NoMemory before h = inl refl
+  writes_nothing Usage before h = refl
+  writes_nothing (BadSpec f x) before h = refl
+  writes_nothing (BadScript f x) before h = refl
+  writes_nothing (ReadFailed f) before h = refl
+
+  -- want of memory in place of another ending
+  pub writes_then_no_memory : (status : Status) (before after : Option (List ℕ)) → Writes words contents status before after → Writes words contents NoMemory before after
+  writes_then_no_memory Done before after w = inr (record { text = w.text; is_text = w.is_text; part = whole_appended before after w.text w.whole })
+  writes_then_no_memory WriteFailed before after w = inr w
+  writes_then_no_memory NoMemory before after w = w
+  writes_then_no_memory Usage before after w = inl w
+  writes_then_no_memory (BadSpec f x) before after w = inl w
+  writes_then_no_memory (BadScript f x) before after w = inl w
+  writes_then_no_memory (ReadFailed f) before after w = inl w
+
+-- what is said of the status that was meant
+pub reports_weaker : (P Q : Status → Type 0) (status : Status) (before after : ℕ × Option (List ℕ)) → ((meant : Status) → P meant → Q meant) → Reports P status before after → Reports Q status before after
+reports_weaker P Q Done before after weaker h = h
+reports_weaker P Q NoMemory before after weaker h = (h.0, weaker h.0 h.1, h.2)
+reports_weaker P Q Usage before after weaker h = h
+reports_weaker P Q (BadSpec f x) before after weaker h = h
+reports_weaker P Q (BadScript f x) before after weaker h = h
+reports_weaker P Q (ReadFailed f) before after weaker h = h
+reports_weaker P Q WriteFailed before after weaker h = h
+
+-- where a status was meant with which the work may have ended
+module _ {words : List (List ℕ)} {contents : List ℕ → Option (List ℕ)} {faults later : ℕ} {sink after : ℕ × Option (List ℕ)} {status : Status} where
+  pub reports_ending : (result : Status) (before reported : ℕ × Option (List ℕ)) → Ends words contents faults later sink after status → Reports (λ meant. meant ≡ status) result before reported → Reports (Ends words contents faults later sink after) result before reported
+  reports_ending result before reported ends h =
+      reports_weaker (λ meant. meant ≡ status) (Ends words contents faults later sink after) result before reported (λ meant is. subst (Ends words contents faults later sink after) (sym is) ends) h
