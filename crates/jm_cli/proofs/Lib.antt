@@ -1,0 +1,4 @@
+mod Named
+mod Numbers
+mod Positions
+mod Runs

@@ -18,9 +18,13 @@ pub data CommandWords : Type 0 where
 abbrev pub is_name : List ℕ → Bool
 is_name word = not (starts_with nat_eq word (codes "-"))
 
--- the words, where they are 1 to 16 names
+-- 1 to 16 names
+abbrev pub are_names : List (List ℕ) → Bool
+are_names words = nat_lt 0 (length words) && nat_le (length words) 16 && list_all is_name words
+
+-- the words, where they are these
 abbrev pub names_of : List (List ℕ) → Option (List (List ℕ))
-names_of words = if nat_lt 0 (length words) && nat_le (length words) 16 && list_all is_name words then Some words else None
+names_of words = if are_names words then Some words else None
 
 -- a word of 1 to 4 digits without a leading zero
 abbrev pub is_short_number : List ℕ → Bool
@@ -37,13 +41,13 @@ abbrev pub replay_of : List (List ℕ) → Option CommandWords
 replay_of (spec ∷ script ∷ []) = if is_name spec && is_name script then Some (Replay spec script) else None
 replay_of _ = None
 
-abbrev pub run_at : List (List ℕ) → ℕ → Option CommandWords
-run_at words separator =
-    option_and_then (λ specs. option_map (λ scripts. Run specs scripts) (names_of (drop (separator + 1) words)))
-    (names_of (take separator words))
+abbrev pub run_around : List (List ℕ) → List (List ℕ) → Option CommandWords
+run_around before after = if are_names before && are_names after then Some (Run before after) else None
 
 abbrev pub run_of : List (List ℕ) → Option CommandWords
-run_of words = option_and_then (run_at words) (position (bytes_eq (codes "--")) words)
+run_of words =
+    option_and_then (λ separator. run_around (take separator words) (drop (separator + 1) words))
+    (position (bytes_eq (codes "--")) words)
 
 abbrev pub check_of : List (List ℕ) → Option CommandWords
 check_of words = option_map (λ specs. Check specs) (names_of words)

@@ -1,9 +1,9 @@
 //! The commands.
-ghost use Rattle.std.specs.Prelude.{◌≡◌, ◌<◌, ◌∷◌, length, map, string_bytes, Some, None, IfOk, IfNone, IfSome, MatchResult};
-ghost use Rattle.jm_cli.specs.Words.{command_of, replay_of, run_of, run_at, check_of, coenable_of, gen_of, names_of};
+ghost use Rattle.std.specs.Prelude.{◌≡◌, ◌∷◌, map, string_bytes, Some, None, IfOk, IfNone};
+ghost use Rattle.jm_cli.specs.Words.{command_of, replay_of, run_of, run_around, check_of, coenable_of, gen_of};
 ghost use Rattle.jm_cli.specs.Views.{command_words, Reads};
 
-use crate::words::{copies, copy, is_name, names, rounds, separator};
+use crate::words::{are_names, copies, copy, is_name, rounds, separator};
 use std::alloc::Global;
 
 /// A command.
@@ -80,49 +80,40 @@ fn run(alloc: Global, words: &[String]) -> Result<Command, WordsError>
     ensures { Reads (run_of (map string_bytes words.now)) result }
 {
     match separator(words) {
-        Some(separator) => run_at(alloc, words, separator),
+        Some(place) => run_around(alloc, &words[..place], &words[place + 1..]),
         None => Err(WordsError::Usage),
     }
 }
 
-/// The words around a separator at this place.
-fn run_at(alloc: Global, words: &[String], separator: usize) -> Result<Command, WordsError>
-    requires { separator < length words.now }
-    ensures { Reads (run_at (map string_bytes words.now) separator) result }
+/// The words around the separator.
+fn run_around(alloc: Global, before: &[String], after: &[String]) -> Result<Command, WordsError>
+    ensures { Reads (run_around (map string_bytes before.now) (map string_bytes after.now)) result }
 {
-    match (names(&words[..separator]), names(&words[separator + 1..])) {
-        (Some(specs), Some(scripts)) => {
-            let specs = copies(alloc, specs)?;
-            let scripts = copies(alloc, scripts)?;
-            Ok(Command::Run { specs, scripts })
-        }
-        _ => Err(WordsError::Usage),
+    if !are_names(before) || !are_names(after) {
+        return Err(WordsError::Usage);
     }
-}
-
-/// Copies the words, where they are names.
-fn read_names(alloc: Global, words: &[String]) -> Result<Vec<String>, WordsError>
-    ensures names { IfSome (names_of (map string_bytes words.now)) (λ names.
-        MatchResult result (λ copies. map string_bytes copies.items ≡ names) (λ error. error ≡ WordsError.NoMemory)) }
-    ensures none { IfNone (names_of (map string_bytes words.now)) (result ≡ Err WordsError.Usage) }
-{
-    match names(words) {
-        Some(words) => copies(alloc, words),
-        None => Err(WordsError::Usage),
-    }
+    let specs = copies(alloc, before)?;
+    let scripts = copies(alloc, after)?;
+    Ok(Command::Run { specs, scripts })
 }
 
 fn check(alloc: Global, words: &[String]) -> Result<Command, WordsError>
     ensures { Reads (check_of (map string_bytes words.now)) result }
 {
-    let specs = read_names(alloc, words)?;
+    if !are_names(words) {
+        return Err(WordsError::Usage);
+    }
+    let specs = copies(alloc, words)?;
     Ok(Command::Check { specs })
 }
 
 fn coenable(alloc: Global, words: &[String]) -> Result<Command, WordsError>
     ensures { Reads (coenable_of (map string_bytes words.now)) result }
 {
-    let specs = read_names(alloc, words)?;
+    if !are_names(words) {
+        return Err(WordsError::Usage);
+    }
+    let specs = copies(alloc, words)?;
     Ok(Command::Coenable { specs })
 }
 

@@ -1,9 +1,9 @@
 //! Names and numbers among the words.
-ghost use Rattle.std.specs.Prelude.{◌≡◌, ◌<◌, length, map, string_bytes, codes, Some, None, IfOk, IfSome, IsOkUnless, position, option_map};
+ghost use Rattle.std.specs.Prelude.{◌&&◌, nat_lt, nat_le, ◌≡◌, ◌<◌, length, map, string_bytes, codes, Some, None, IfOk, IfSome, IsOkUnless, position};
 ghost use Rattle.std.specs.Char.{is_ascii_digit};
 ghost use Rattle.std.specs.List.{list_all};
 ghost use Rattle.std.specs.Str.{bytes_eq};
-ghost use Rattle.jm_cli.specs.Words.{is_name, names_of, is_short_number, rounds_of};
+ghost use Rattle.jm_cli.specs.Words.{is_name, are_names, is_short_number, rounds_of};
 
 use crate::command::WordsError;
 use std::alloc::Global;
@@ -23,33 +23,33 @@ pub(crate) fn is_name(word: &str) -> bool
     !word.as_bytes().starts_with(b"-")
 }
 
-fn are_names(words: &[String]) -> bool
+/// Whether each word is a name.
+fn is_each_a_name(words: &[String]) -> bool
     ensures { result ≡ list_all (λ word. is_name (string_bytes word)) words.now }
 {
     words.iter().all(|word| is_name(word.as_str()))
 }
 
-/// The words, if they are as many names as a command may have.
-pub(crate) fn names(words: &[String]) -> Option<&[String]>
-    ensures { option_map (λ names. map string_bytes names.now) result ≡ names_of (map string_bytes words.now) }
+/// Whether there is a word, and no more than a command may have.
+fn are_few(words: &[String]) -> bool
+    ensures { result ≡ (nat_lt 0 (length words.now) && nat_le (length words.now) 16) }
 {
-    if words.is_empty() || words.len() > MAX_NAMES || !are_names(words) {
-        return None;
-    }
-    Some(words)
+    !words.is_empty() && words.len() <= MAX_NAMES
+}
+
+/// Whether the words are as many names as a command may have.
+pub(crate) fn are_names(words: &[String]) -> bool
+    ensures { result ≡ are_names (map string_bytes words.now) }
+{
+    are_few(words) && is_each_a_name(words)
 }
 
 /// The place of the first separator.
 pub(crate) fn separator(words: &[String]) -> Option<usize>
-    ensures value { result ≡ position (bytes_eq (codes "--")) (map string_bytes words.now) }
+    ensures value { result ≡ position (λ word. bytes_eq (codes "--") (string_bytes word)) words.now }
     ensures within { IfSome result (λ place. place < length words.now) }
 {
-    for (place, word) in words.iter().enumerate() {
-        if word.as_str() == "--" {
-            return Some(place);
-        }
-    }
-    None
+    words.iter().position(|word| word.as_str() == "--")
 }
 
 /// The same text.
