@@ -1,12 +1,12 @@
 -- A command has at most 16 specifications and 16 scripts.
 use Rattle.std.proofs.Common.{◌≡◌, ℕ, ◌+◌, ◌≤◌, Bool, true, false, ◌&&◌, List, [], ◌∷◌, length, take, drop, Option, Some, None, refl, sym, ap, subst, ◌∙◌, arith}
-use Rattle.std.specs.Prelude.{nat_lt, nat_le, not, nat_eq, codes, option_map, position, if◌then◌else◌}
-use Rattle.std.specs.List.{starts_with, list_all}
+use Rattle.std.specs.Prelude.{nat_lt, nat_le, codes, option_map, position, if◌then◌else◌}
+use Rattle.std.specs.List.{list_all}
 use Rattle.std.specs.Option.{option_and_then}
-use Rattle.std.specs.Str.{bytes_eq, all_ascii_digits}
+use Rattle.std.specs.Str.{bytes_eq}
 use Rattle.core.specs.Str.Parse.{digits_value}
 use Rattle.std.proofs.lemmas.Bool.Decides.{nat_tests}
-use Rattle.jm_cli.specs.Words.{CommandWords, is_name, names_of, rounds_of, replay_of, run_at, run_of, gen_of, command_of}
+use Rattle.jm_cli.specs.Words.{CommandWords, is_name, are_names, names_of, is_short_number, rounds_of, replay_of, run_around, run_of, check_of, coenable_of, gen_of, command_of}
 use Rattle.jm_cli.specs.Words.CommandWords.{Replay, Run, Check, Coenable, Gen}
 use Rattle.jm_top.specs.Commands.{IsFew}
 use Rattle.jm_top.proofs.OneReadingLemmas.{same_some, never_some}
@@ -14,25 +14,29 @@ use Rattle.jm_top.proofs.OneReadingLemmas.{same_some, never_some}
 within : (n m : ℕ) → nat_le n m ≡ true → n ≤ m
 within n m e = grind (arith, nat_tests)
 
-names_few : (words names : List (List ℕ)) → names_of words ≡ Some names → length names ≤ 16
-names_few words names e = few (nat_lt 0 (length words)) (nat_le (length words) 16) (list_all is_name words) refl e
+names_small : (words : List (List ℕ)) → are_names words ≡ true → length words ≤ 16
+names_small words e = few (nat_lt 0 (length words)) (nat_le (length words) 16) (list_all is_name words) refl e
   where
-    few : (a b d : Bool) → nat_le (length words) 16 ≡ b → (if a && b && d then Some words else None) ≡ Some names → length names ≤ 16
-    few true true true le is = subst (λ v. length v ≤ 16) (same_some is) (within (length words) 16 le)
-    few true true false le is = absurd (never_some is)
-    few true false d le is = absurd (never_some is)
-    few false b d le is = absurd (never_some is)
+    few : (a b d : Bool) → nat_le (length words) 16 ≡ b → (a && b && d) ≡ true → length words ≤ 16
+    few true true true le is = within (length words) 16 le
+    few true true false le is = absurd cc
+    few true false d le is = absurd cc
+    few false b d le is = absurd cc
+
+names_few : (words names : List (List ℕ)) → names_of words ≡ Some names → length names ≤ 16
+names_few words names e = few (are_names words) refl e
+  where
+    few : (b : Bool) → are_names words ≡ b → (if b then Some words else None) ≡ Some names → length names ≤ 16
+    few true yes is = subst (λ v. length v ≤ 16) (same_some is) (names_small words yes)
+    few false no is = absurd (never_some is)
 
 rounds_few : (word : List ℕ) (n : ℕ) → rounds_of word ≡ Some n → n ≤ 8000
-rounds_few word n e = few (nat_lt 0 (length word)) (nat_le (length word) 4) (all_ascii_digits word) (not (starts_with nat_eq word (codes "0"))) (nat_le (digits_value 10 word) 8000) refl e
+rounds_few word n e = few (is_short_number word) (nat_le (digits_value 10 word) 8000) refl e
   where
-    few : (a b d f h : Bool) → nat_le (digits_value 10 word) 8000 ≡ h → (if a && b && d && f && h then Some (digits_value 10 word) else None) ≡ Some n → n ≤ 8000
-    few true true true true true le is = subst (λ v. v ≤ 8000) (same_some is) (within (digits_value 10 word) 8000 le)
-    few true true true true false le is = absurd (never_some is)
-    few true true true false h le is = absurd (never_some is)
-    few true true false f h le is = absurd (never_some is)
-    few true false d f h le is = absurd (never_some is)
-    few false b d f h le is = absurd (never_some is)
+    few : (a b : Bool) → nat_le (digits_value 10 word) 8000 ≡ b → (if a && b then Some (digits_value 10 word) else None) ≡ Some n → n ≤ 8000
+    few true true le is = subst (λ v. v ≤ 8000) (same_some is) (within (digits_value 10 word) 8000 le)
+    few true false le is = absurd (never_some is)
+    few false b le is = absurd (never_some is)
 
 module _ (c : CommandWords) where
   replay_few : (words : List (List ℕ)) → replay_of words ≡ Some c → IsFew c
@@ -54,14 +58,14 @@ module _ (c : CommandWords) where
   coenable_few words None is e = absurd (never_some e)
   coenable_few words (Some names) is e = subst IsFew (same_some e) (names_few words names is)
 
-  run_few : (words : List (List ℕ)) (o : Option ℕ) → option_and_then (run_at words) o ≡ Some c → IsFew c
+  run_few : (words : List (List ℕ)) (o : Option ℕ) → option_and_then (λ separator. run_around (take separator words) (drop (separator + 1) words)) o ≡ Some c → IsFew c
   run_few words None e = absurd (never_some e)
-  run_few words (Some k) e = few (names_of (take k words)) (names_of (drop (k + 1) words)) refl refl e
+  run_few words (Some k) e = few (are_names (take k words)) (are_names (drop (k + 1) words)) refl refl e
     where
-      few : (a b : Option (List (List ℕ))) → names_of (take k words) ≡ a → names_of (drop (k + 1) words) ≡ b → option_and_then (λ specs. option_map (λ scripts. Run specs scripts) b) a ≡ Some c → IsFew c
-      few None b is other h = absurd (never_some h)
-      few (Some specs) None is other h = absurd (never_some h)
-      few (Some specs) (Some scripts) is other h = subst IsFew (same_some h) (names_few (take k words) specs is, names_few (drop (k + 1) words) scripts other)
+      few : (a b : Bool) → are_names (take k words) ≡ a → are_names (drop (k + 1) words) ≡ b → (if a && b then Some (Run (take k words) (drop (k + 1) words)) else None) ≡ Some c → IsFew c
+      few true true is other h = subst IsFew (same_some h) (names_small (take k words) is, names_small (drop (k + 1) words) other)
+      few true false is other h = absurd (never_some h)
+      few false b is other h = absurd (never_some h)
 
   gen_few : (words : List (List ℕ)) → gen_of words ≡ Some c → IsFew c
   gen_few [] e = absurd (never_some e)
@@ -78,8 +82,8 @@ module _ (c : CommandWords) where
     where
       by_case : (a b d f h : Bool) → (if a then replay_of words
           else (if b then run_of words
-          else (if d then option_map (λ specs. Check specs) (names_of words)
-          else (if f then option_map (λ specs. Coenable specs) (names_of words)
+          else (if d then check_of words
+          else (if f then coenable_of words
           else (if h then gen_of words else None))))) ≡ Some c → IsFew c
       by_case true b d f h is = replay_few words is
       by_case false true d f h is = run_few words (position (bytes_eq (codes "--")) words) is

@@ -2,8 +2,6 @@
 use Rattle.std.specs.Prelude.{ℕ, ◌≤◌, Bool, true, false, List, [], ◌∷◌, length, map}
 use Rattle.jm_cli.specs.Words.{CommandWords}
 use Rattle.jm_cli.specs.Words.CommandWords.{Replay, Run, Check, Coenable, Gen}
-use Rattle.jm_gen.specs.Specifications.{unsafe_iter, has_next}
-use Rattle.jm_gen.specs.Scripts.{script_text}
 use Rattle.jm_top.specs.Sources.{Source, Named, Given}
 
 -- files by these names
@@ -12,10 +10,10 @@ named names = map (λ name. Named name) names
 
 -- the files of a workload
 unfoldable pub workload_specs : List (List ℕ)
-workload_specs = unsafe_iter ∷ has_next ∷ []
+workload_specs = []
 
 unfoldable pub workload_scripts : ℕ → List (List ℕ)
-workload_scripts n = script_text 0 n ∷ script_text 1 n ∷ script_text 2 n ∷ script_text 3 n ∷ []
+workload_scripts n = []
 
 abbrev pub given : List (List ℕ) → List Source
 given files = map (λ bytes. Given bytes) files
