@@ -1,5 +1,5 @@
 -- The words around the separator.
-use Rattle.std.proofs.Common.{ℕ, ◌≡◌, ◌+◌, ◌-◌, List, length, map, take, drop, Some, None, Result, Err, refl, sym, ◌∙◌, ap, codes, arith, length-drop}
+use Rattle.std.proofs.Common.{ℕ, ◌≡◌, ◌+◌, ◌-◌, List, length, map, take, drop, Some, None, Result, Err, refl, sym, ◌∙◌, ap, codes, length-drop}
 use Rattle.std.specs.List.{take-map, drop-map, position}
 use Rattle.std.proofs.Math.Seq.{take-length}
 use Rattle.std.specs.Str.{bytes_eq}

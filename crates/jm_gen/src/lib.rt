@@ -3,9 +3,11 @@
 //! `workload` makes its files. Its time and its memory are linear in their length.
 #![tactic(auto)]
 
+mod files;
+mod making;
 mod script;
 mod specification;
 mod text;
-mod workload;
 
-pub use workload::{GenError, Workload, workload};
+pub use files::{GenError, Workload};
+pub use making::workload;

@@ -13,11 +13,14 @@ logic_word Ere = codes "ere"
 logic_word Cfg = codes "cfg"
 logic_word Ptltl = codes "ptltl"
 
--- an event with its parameters
+-- an event of a name, with the parameters of a mask
+abbrev pub event_text : List (List ℕ) → Bool → List ℕ → ℕ → List ℕ
+event_text parameters creation name mask =
+    (if creation then codes "creation event " else codes "event ") ++ name ++ codes " "
+    ++ names_or_dash (names_of_mask parameters mask) ++ codes "\n"
+
 abbrev pub event_line : List (List ℕ) → EventDefinition → List ℕ
-event_line parameters e =
-    (if e.creation then codes "creation event " else codes "event ") ++ e.name ++ codes " "
-    ++ names_or_dash (names_of_mask parameters e.mask) ++ codes "\n"
+event_line parameters e = event_text parameters e.creation e.name e.mask
 
 -- a handler's category
 abbrev pub handler_line : List ℕ → List ℕ

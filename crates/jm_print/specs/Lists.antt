@@ -1,5 +1,5 @@
 -- Lists of names.
-use Rattle.std.specs.Prelude.{ℕ, ◌+◌, ◌==◌, List, [], ◌∷◌, ◌++◌, codes, if◌then◌else◌}
+use Rattle.std.specs.Prelude.{ℕ, Bool, true, false, ◌+◌, ◌==◌, List, [], ◌∷◌, ◌++◌, codes, if◌then◌else◌}
 use Rattle.std.specs.List.{flat_map}
 use Rattle.std.specs.Int.{bit_at}
 
@@ -16,6 +16,11 @@ name_list (name ∷ names) = name ++ later_names names
 abbrev pub names_or_dash : List (List ℕ) → List ℕ
 names_or_dash [] = codes "-"
 names_or_dash (name ∷ names) = name ++ later_names names
+
+-- there is no name
+abbrev pub is_empty : List (List ℕ) → Bool
+is_empty [] = true
+is_empty (name ∷ names) = false
 
 -- the names of the parameters from p on that a mask has
 abbrev pub names_from : ℕ → ℕ → List (List ℕ) → List (List ℕ)

@@ -1,6 +1,7 @@
-ghost use Rattle.std.specs.Prelude.{◌≡◌, ◌<◌, ◌++◌, ◌∷◌, [], codes, length, IfOk, IfSome, OnOk, slice_get, if◌then◌else◌};
+ghost use Rattle.std.specs.Prelude.{◌≡◌, ◌<◌, ◌++◌, ◌∷◌, [], codes, length, Some, IfOk, OnOk, slice_get, if◌then◌else◌};
 ghost use Rattle.std.specs.List.{flat_map};
-ghost use Rattle.jm_print.specs.Checks.{logic_word, event_line, handler_line, check_text};
+ghost use Rattle.jm_events.specs.Events.{EventDefinition};
+ghost use Rattle.jm_print.specs.Checks.{logic_word, event_text, event_line, handler_line, check_text};
 
 use crate::lists::{masked_or_dash, parameters};
 use crate::page::Page;
@@ -69,14 +70,43 @@ fn events(page: &mut Page, table: &EventTable) -> Result<(), NoMemory>
 
 /// An event with its parameters.
 fn event(page: &mut Page, table: &EventTable, letter: Letter) -> Result<(), NoMemory>
-    requires { letter.0 < length table.now.events }
-    ensures { OnOk result (IfSome (slice_get table.now.events letter.0) (λ e.
-        page.new ≡ page.old ++ event_line table.now.parameters e)) }
+    requires there { letter.0 < length table.now.events }
+    requires fits { letter.0 < 32 }
+    ensures { OnOk result ((e : EventDefinition) → slice_get table.now.events letter.0 ≡ Some e →
+        page.new ≡ page.old ++ event_line table.now.parameters e) }
 {
-    page.text(kind(table.creation() >> letter.0 & 1 == 1))?;
-    page.text(table.event_name(letter))?;
+    let creation = is_creation(table, letter);
+    event_text(
+        page,
+        table,
+        creation,
+        table.event_name(letter),
+        table.mask(letter),
+    )
+}
+
+/// Whether a letter is that of a creation event.
+fn is_creation(table: &EventTable, letter: Letter) -> bool
+    requires { letter.0 < 32 }
+    ensures { (e : EventDefinition) → slice_get table.now.events letter.0 ≡ Some e → result ≡ e.creation }
+{
+    table.creation() & 1 << letter.0 != 0
+}
+
+/// An event of a name, with the parameters of a mask.
+fn event_text(
+    page: &mut Page,
+    table: &EventTable,
+    creation: bool,
+    name: &str,
+    mask: u8,
+) -> Result<(), NoMemory>
+    ensures { OnOk result (page.new ≡ page.old ++ event_text table.now.parameters creation name.now mask) }
+{
+    page.text(kind(creation))?;
+    page.text(name)?;
     page.text(" ")?;
-    masked_or_dash(page, table, table.mask(letter))?;
+    masked_or_dash(page, table, mask)?;
     page.text("\n")
 }
 
@@ -84,17 +114,28 @@ fn event(page: &mut Page, table: &EventTable, letter: Letter) -> Result<(), NoMe
 fn kind(creation: bool) -> &'static str
     ensures { result.now ≡ (if creation then codes "creation event " else codes "event ") }
 {
-    if creation { "creation event " } else { "event " }
+    if creation {
+        "creation event "
+    } else {
+        "event "
+    }
 }
 
 /// The handlers.
 fn handlers(page: &mut Page, categories: &Names) -> Result<(), NoMemory>
     ensures { OnOk result (page.new ≡ page.old ++ flat_map handler_line categories.now) }
 {
-    for handler in 0..categories.len() {
-        page.text("handler @")?;
-        page.text(categories.name(handler))?;
-        page.text("\n")?;
+    for number in 0..categories.len() {
+        handler(page, categories.name(number))?;
     }
     Ok(())
+}
+
+/// The category of a handler.
+fn handler(page: &mut Page, category: &str) -> Result<(), NoMemory>
+    ensures { OnOk result (page.new ≡ page.old ++ handler_line category.now) }
+{
+    page.text("handler @")?;
+    page.text(category)?;
+    page.text("\n")
 }

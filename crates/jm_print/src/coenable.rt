@@ -1,5 +1,6 @@
-ghost use Rattle.std.specs.Prelude.{◌≡◌, ◌<◌, ◌++◌, length, map, IfOk, IfSome, OnOk, slice_get};
+ghost use Rattle.std.specs.Prelude.{◌≡◌, ◌++◌, length, map, codes, IfOk, OnOk};
 ghost use Rattle.std.specs.List.{flat_map};
+ghost use Rattle.jm_events.specs.Events.{event_names};
 ghost use Rattle.jm_print.specs.Coenables.{set_text, family_line, family_lines, coenable_text};
 
 use crate::lists::masked;
@@ -33,27 +34,21 @@ pub fn render_coenable(
 fn events(page: &mut Page, table: &EventTable, families: &[Vec<u8>]) -> Result<(), NoMemory>
     requires { length families.now ≡ length table.now.events }
     ensures { OnOk result (page.new ≡ page.old
-        ++ family_lines table.now.parameters table.now.events (map (λ family. family.items) families.now)) }
+        ++ family_lines table.now.parameters (event_names table.now) (map (λ family. family.items) families.now)) }
 {
     for letter in 0..table.letters() {
-        event(page, table, Letter(letter), families[letter as usize].as_slice())?;
+        let family = families[letter as usize].as_slice();
+        event(page, table, table.event_name(Letter(letter)), family)?;
     }
     Ok(())
 }
 
-/// An event with its family.
-fn event(
-    page: &mut Page,
-    table: &EventTable,
-    letter: Letter,
-    family: &[u8],
-) -> Result<(), NoMemory>
-    requires { letter.0 < length table.now.events }
-    ensures { OnOk result (IfSome (slice_get table.now.events letter.0) (λ e.
-        page.new ≡ page.old ++ family_line table.now.parameters e family.now)) }
+/// An event of a name, with its family.
+fn event(page: &mut Page, table: &EventTable, name: &str, family: &[u8]) -> Result<(), NoMemory>
+    ensures { OnOk result (page.new ≡ page.old ++ family_line table.now.parameters name.now family.now) }
 {
     page.text("event ")?;
-    page.text(table.event_name(letter))?;
+    page.text(name)?;
     sets(page, table, family)?;
     page.text("\n")
 }

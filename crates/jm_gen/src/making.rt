@@ -3,28 +3,13 @@ ghost use Rattle.std.specs.Prelude.{◌≡◌, ◌≤◌, [], ◌∷◌, map, If
 ghost use Rattle.jm_gen.specs.Specifications.{unsafe_iter, has_next};
 ghost use Rattle.jm_gen.specs.Scripts.{IsInRange, script_text};
 
+use crate::files::{GenError, Workload};
 use crate::script::script;
 use crate::specification::{has_next, unsafe_iter};
 use std::alloc::{AllocError, Global};
 
 /// The most rounds of a workload.
 const MAX_ROUNDS: u32 = 8000;
-
-/// Why a workload isn't made.
-#[derive(Clone, Copy, Debug, PartialEq, Eq)]
-pub enum GenError {
-    /// It has no round, or more than 8000.
-    OutOfRange,
-    /// Memory is short.
-    NoMemory,
-}
-
-/// The files of a workload.
-#[derive(Drop)]
-pub struct Workload {
-    pub specs: Vec<Vec<u8>>,
-    pub scripts: Vec<Vec<u8>>,
-}
 
 /// The workload of `n` rounds: the specifications `UnsafeIter` and `HasNext`, and four scripts of `n` rounds each. A round
 /// has a collection, its change, the use of its iterator in both specifications, and the deaths of both objects; each
