@@ -1,13 +1,16 @@
-// A library with one function.
+//! Many scripts over many specifications, each script on a thread of its own.
+//!
+//! Script k is caller k: a worker does its lines in order, on seat k of every specification's dispatcher. So each
+//! specification gets one history, in which the projections of all scripts are interleaved.
+//!
+//! | Module | What it has |
+//! |---|---|
+//! | `gate` | what is told of each line before and after it is done |
+//! | `run` | the run: seats are dealt to workers, and gathered once all are done |
 #![tactic(auto)]
 
-ghost use Rattle.std.specs.Prelude.{◌≡◌};
-ghost use Rattle.jm_runner.specs.Echo.{echo_of};
+mod gate;
+mod run;
 
-// The `ensures` clause is the contract: what `echo` returns is `echo_of` of its argument, a definition
-// in `specs/Echo.antt`, which a caller's clause can cite too.
-pub fn echo(x: usize) -> usize
-    ensures { result ≡ echo_of x }
-{
-    x
-}
+pub use gate::{FreeGate, Gate};
+pub use run::{Running, run_scripts};
