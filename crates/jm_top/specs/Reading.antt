@@ -123,4 +123,4 @@ pub record AreScriptsOf (contents : List ℕ → Option (List ℕ)) (specs : Lis
 -- what was read is what these sources of specifications and of scripts say
 pub record AreInputsOf (contents : List ℕ → Option (List ℕ)) (specs scripts : List Source) (inputs : Inputs) : Type 0 where
   pub library : IsLibraryOf contents false specs inputs.library
-  pub scripts : AreScriptsOf contents (specs_in inputs.library) scripts inputs.scripts
+  pub read : AreScriptsOf contents (specs_in inputs.library) scripts inputs.scripts
