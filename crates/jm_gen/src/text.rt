@@ -1,5 +1,5 @@
 //! A text that grows.
-ghost use Rattle.std.specs.Prelude.{◌≡◌, ◌++◌, [], ◌∷◌, codes, decimal, OnOk};
+ghost use Rattle.std.specs.Prelude.{◌≡◌, ◌++◌, [], ◌∷◌, decimal, OnOk};
 
 use itoa::Buffer;
 use std::alloc::{AllocError, Global};
@@ -40,14 +40,6 @@ impl Text {
         ensures { OnOk result (self.new ≡ self.old ++ bytes.now) }
     {
         self.bytes.extend_from_slice(bytes)
-    }
-
-    /// Writes bytes and the end of the line.
-    pub(crate) fn line(&mut self, bytes: &[u8]) -> Result<(), AllocError>
-        ensures { OnOk result (self.new ≡ self.old ++ bytes.now ++ codes "\n") }
-    {
-        self.bytes(bytes)?;
-        self.push("\n")
     }
 
     /// Writes a number, without leading zeros.
