@@ -11,7 +11,6 @@ use Rattle.jm_machine.specs.Formulas.{is_grammar}
 use Rattle.jm_script.specs.Catalogs.{spec_names}
 use Rattle.jm_script.specs.declared.script.ScriptLine.{ScriptLine}
 use Rattle.jm_top.specs.Sources.{Source, Named, Given, Gives, IsTold, AllTold}
-use Rattle.jm_top.specs.Commands.{named}
 use Rattle.jm_top.specs.Specifications.{Specification, IsSpecification, IsSpecFault}
 use Rattle.jm_top.specs.Scripts.{catalog_of, IsScript, IsScriptFault, too_long, in_line}
 use Rattle.jm_top.specs.Inputs.{refusal_of, IsAdmitted, IsRefusal, faulty, refused, SaySpecifications, AreReadUpTo, step_count, SayScripts, AreScriptsUpTo}
@@ -22,22 +21,22 @@ use Rattle.jm_top.proofs.OneReadingLemmas.{one_specification, specification_has_
 length-more : {X : Type 0} (xs ys : List X) (x y : X) → xs ≡ y ∷ ys → length xs ≡ length ys + 1
 length-more xs ys x y e = ap (λ v. length v) e
 
--- the names before one and those behind it
-pub split_named : {S : Type 0} (g : S → List ℕ) (xs : List S) (i : ℕ) (x : S) → i < length xs → x ≡ get_or xs i x
-    → named (map g xs) ≡ named (map g (take i xs)) ++ Named (g x) ∷ named (map g (drop (i + 1) xs))
-split_named {S} g xs i x lt here =
+-- the sources before one and those behind it
+pub split_sources : {S : Type 0} (make : List ℕ → Source) (g : S → List ℕ) (xs : List S) (i : ℕ) (x : S) → i < length xs → x ≡ get_or xs i x
+    → map make (map g xs) ≡ map make (map g (take i xs)) ++ make (g x) ∷ map make (map g (drop (i + 1) xs))
+split_sources {S} make g xs i x lt here =
     let whole : xs ≡ take i xs ++ x ∷ drop (i + 1) xs = sym (take-append-drop i xs) ∙ ap (λ v. take i xs ++ v) (drop_more xs i x lt ∙ ap (λ v. v ∷ drop (i + 1) xs) (sym here)) in
-    ap (λ v. named (map g v)) whole ∙ ap named (map-append g (take i xs) (x ∷ drop (i + 1) xs)) ∙ map-append (λ name. Named name) (map g (take i xs)) (g x ∷ map g (drop (i + 1) xs))
+    ap (λ v. map make (map g v)) whole ∙ ap (map make) (map-append g (take i xs) (x ∷ drop (i + 1) xs)) ∙ map-append make (map g (take i xs)) (g x ∷ map g (drop (i + 1) xs))
 
--- one name more
-pub more_named : {S : Type 0} (g : S → List ℕ) (xs : List S) (i : ℕ) (x : S) → i < length xs → x ≡ get_or xs i x
-    → named (map g (take (i + 1) xs)) ≡ named (map g (take i xs)) ++ Named (g x) ∷ []
-more_named {S} g xs i x lt here =
+-- one source more
+pub more_sources : {S : Type 0} (make : List ℕ → Source) (g : S → List ℕ) (xs : List S) (i : ℕ) (x : S) → i < length xs → x ≡ get_or xs i x
+    → map make (map g (take (i + 1) xs)) ≡ map make (map g (take i xs)) ++ make (g x) ∷ []
+more_sources {S} make g xs i x lt here =
     let whole : take (i + 1) xs ≡ take i xs ++ x ∷ [] = take_more xs i x lt ∙ ap (λ v. take i xs ++ v ∷ []) (sym here) in
-    ap (λ v. named (map g v)) whole ∙ ap named (map-append g (take i xs) (x ∷ [])) ∙ map-append (λ name. Named name) (map g (take i xs)) (g x ∷ [])
+    ap (λ v. map make (map g v)) whole ∙ ap (map make) (map-append g (take i xs) (x ∷ [])) ∙ map-append make (map g (take i xs)) (g x ∷ [])
 
-pub length-named : {S : Type 0} (g : S → List ℕ) (xs : List S) → length (named (map g xs)) ≡ length xs
-length-named {S} g xs = length-map (map g xs) (λ name. Named name) ∙ length-map xs g
+pub length-sources : {S : Type 0} (make : List ℕ → Source) (g : S → List ℕ) (xs : List S) → length (map make (map g xs)) ≡ length xs
+length-sources {S} make g xs = length-map (map g xs) make ∙ length-map xs g
 
 -- ---- specifications
 

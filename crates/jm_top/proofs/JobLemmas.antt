@@ -7,11 +7,11 @@ use Rattle.jm_model.specs.declared.fault.SpecFault.TheVariants as spec
 use Rattle.jm_model.specs.declared.fault.ScriptFault.{ScriptFault}
 use Rattle.jm_model.specs.declared.fault.ScriptFault.TheVariants as script
 use Rattle.jm_script.specs.declared.script.ScriptLine.{ScriptLine}
-use Rattle.jm_cli.specs.Words.{CommandWords, command_of}
+use Rattle.jm_cli.specs.Words.{CommandWords}
 use Rattle.jm_top.specs.declared.status.Status.{Status}
 use Rattle.jm_top.specs.declared.status.Status.TheVariants.{Done, Usage, BadSpec, BadScript, ReadFailed, WriteFailed, NoMemory}
 use Rattle.jm_top.specs.Sources.{Source, Named, Holds, Gives}
-use Rattle.jm_top.specs.Commands.{spec_sources, script_sources, needs_families}
+use Rattle.jm_top.specs.Commands.{spelled_command, spec_sources, script_sources, needs_families}
 use Rattle.jm_top.specs.Specifications.{Specification, too_long as spec_too_long, most_bytes}
 use Rattle.jm_top.specs.Scripts.{IsScriptFault, too_long}
 use Rattle.jm_top.specs.Inputs.{IsRefusal, faulty, SaySpecifications, AreReadUpTo, step_count, SayScripts, AreScriptsUpTo}
@@ -22,7 +22,7 @@ use Rattle.jm_top.proofs.OneReadingLemmas.{same_some, never_some}
 use Rattle.jm_top.proofs.InputLemmas.{say_one, specs_not_refused, scripts_not_refused}
 
 module _ (words : List (List ℕ)) (contents : List ℕ → Option (List ℕ)) (told : AreTold words contents) where
-  same_command : (c d : CommandWords) → command_of words ≡ Some c → command_of words ≡ Some d → d ≡ c
+  same_command : (c d : CommandWords) → spelled_command words ≡ Some c → spelled_command words ≡ Some d → d ≡ c
   same_command c d a b = same_some (sym b ∙ a)
 
   -- a job that isn't refused is refused for nothing
@@ -54,7 +54,7 @@ module _ (words : List (List ℕ)) (contents : List ℕ → Option (List ℕ)) (
 
 -- ---- the causes, in the order of the work
 
-module _ (words : List (List ℕ)) (contents : List ℕ → Option (List ℕ)) (c : CommandWords) (spelled : command_of words ≡ Some c) where
+module _ (words : List (List ℕ)) (contents : List ℕ → Option (List ℕ)) (c : CommandWords) (spelled : spelled_command words ≡ Some c) where
   specs_stopped : (status : Status) → StopsSpecs contents (needs_families c) (spec_sources c) status → IsCaused words contents status
   specs_stopped (BadSpec f x) h =
       let same : h.number ≡ f = sym h.stopped.0 in

@@ -9,3 +9,5 @@ pub mod LibraryLemmas
 pub mod HistoryLemmas
 pub mod FewLemmas
 pub mod ScriptLemmas
+pub mod RunLemmas
+pub mod TextLemmas

@@ -11,14 +11,13 @@ use Rattle.jm_script.specs.Catalogs.{CatalogEntry, spec_names}
 use Rattle.jm_top.specs.declared.specification.Loaded.{Loaded}
 use Rattle.jm_top.specs.declared.library.Library.{Library}
 use Rattle.jm_top.specs.declared.status.Status.{Status}
-use Rattle.jm_top.specs.Sources.{Source, Named, Gives}
-use Rattle.jm_top.specs.Commands.{named}
+use Rattle.jm_top.specs.Sources.{Source, Gives}
 use Rattle.jm_top.specs.Specifications.{Specification, IsSpecification}
 use Rattle.jm_top.specs.Scripts.{entry_of, catalog_of}
 use Rattle.jm_top.specs.Inputs.{refusal_of, IsRefusal, faulty, refused, SaySpecifications, AreReadUpTo}
 use Rattle.jm_top.specs.Causes.{IsNoSpec, StopsSpecs}
 use Rattle.jm_top.specs.Reading.{specification_of, IsWhole, IsRead, specs_in, IsCatalogued, HasNext, HasNextFrom, IsLibraryOf}
-use Rattle.jm_top.proofs.InputLemmas.{split_named, more_named, length-named, not_refused_of, refused_twice, length-said, say_more}
+use Rattle.jm_top.proofs.InputLemmas.{split_sources, more_sources, length-sources, not_refused_of, refused_twice, length-said, say_more}
 
 -- the library with one specification more
 pub added : (old new : Library) (l : Loaded) → IsCatalogued old → IsWhole l → new.specs.items ≡ old.specs.items ++ l ∷ [] → new.catalog ≡ old.catalog ++ record { name = string_bytes l.titles.name; table = l.titles.table } ∷ [] → IsCatalogued new
@@ -48,30 +47,30 @@ module _ (families : Bool) (bytes : List ℕ) (old : Library) (l : Loaded) (read
 
 -- ---- the loop over the names
 
-module _ {S : Type 0} (g : S → List ℕ) (contents : List ℕ → Option (List ℕ)) (families : Bool) (xs : List S) (i : ℕ) (x : S) (lt : i < length xs) (here : x ≡ get_or xs i x) where
-  pub library_more : (old new : Library) → IsLibraryOf contents families (named (map g (take i xs))) old → HasNextFrom contents (Named (g x)) families old new → IsLibraryOf contents families (named (map g (take (i + 1) xs))) new
+module _ {S : Type 0} (make : List ℕ → Source) (g : S → List ℕ) (contents : List ℕ → Option (List ℕ)) (families : Bool) (xs : List S) (i : ℕ) (x : S) (lt : i < length xs) (here : x ≡ get_or xs i x) where
+  pub library_more : (old new : Library) → IsLibraryOf contents families (map make (map g (take i xs))) old → HasNextFrom contents (make (g x)) families old new → IsLibraryOf contents families (map make (map g (take (i + 1) xs))) new
   library_more old new before h = record {
-    said = subst (λ v. SaySpecifications contents families [] v (specs_in new)) (sym (more_named g xs i x lt here))
-      (subst (λ v. SaySpecifications contents families [] (named (map g (take i xs)) ++ Named (g x) ∷ []) v) (sym h.next.specs)
-      (say_more contents families [] (named (map g (take i xs))) (specs_in old) (Named (g x)) h.bytes h.next.specification before.said h.given h.next.admitted));
+    said = subst (λ v. SaySpecifications contents families [] v (specs_in new)) (sym (more_sources make g xs i x lt here))
+      (subst (λ v. SaySpecifications contents families [] (map make (map g (take i xs)) ++ make (g x) ∷ []) v) (sym h.next.specs)
+      (say_more contents families [] (map make (map g (take i xs))) (specs_in old) (make (g x)) h.bytes h.next.specification before.said h.given h.next.admitted));
     catalogued = h.next.catalogued;
   }
 
-  pub library_stops : (old : Library) (status : Status) → IsLibraryOf contents families (named (map g (take i xs))) old → IsNoSpec contents families (specs_in old) (length old.specs.items) (Named (g x)) status → StopsSpecs contents families (named (map g xs)) status
+  pub library_stops : (old : Library) (status : Status) → IsLibraryOf contents families (map make (map g (take i xs))) old → IsNoSpec contents families (specs_in old) (length old.specs.items) (make (g x)) status → StopsSpecs contents families (map make (map g xs)) status
   library_stops old status before h = record {
     number = length old.specs.items;
-    source = Named (g x);
+    source = make (g x);
     before = specs_in old;
     reached = record {
-      first = named (map g (take i xs));
-      rest = named (map g (drop (i + 1) xs));
-      split = split_named g xs i x lt here;
-      numbered = sym (length-map old.specs.items specification_of) ∙ length-said contents families [] (named (map g (take i xs))) (specs_in old) before.said;
+      first = map make (map g (take i xs));
+      rest = map make (map g (drop (i + 1) xs));
+      split = split_sources make g xs i x lt here;
+      numbered = sym (length-map old.specs.items specification_of) ∙ length-said contents families [] (map make (map g (take i xs))) (specs_in old) before.said;
       read = before.said;
     };
     stopped = h;
   }
 
 -- so many specifications as names
-pub library_length : {S : Type 0} (g : S → List ℕ) (contents : List ℕ → Option (List ℕ)) (families : Bool) (xs : List S) (library : Library) → IsLibraryOf contents families (named (map g xs)) library → length library.specs.items ≡ length xs
-library_length {S} g contents families xs library h = sym (length-map library.specs.items specification_of) ∙ length-said contents families [] (named (map g xs)) (specs_in library) h.said ∙ length-named g xs
+pub library_length : {S : Type 0} (make : List ℕ → Source) (g : S → List ℕ) (contents : List ℕ → Option (List ℕ)) (families : Bool) (xs : List S) (library : Library) → IsLibraryOf contents families (map make (map g xs)) library → length library.specs.items ≡ length xs
+library_length {S} make g contents families xs library h = sym (length-map library.specs.items specification_of) ∙ length-said contents families [] (map make (map g xs)) (specs_in library) h.said ∙ length-sources make g xs

@@ -12,14 +12,13 @@ use Rattle.jm_script.specs.Fitting.{FitsCatalog}
 use Rattle.jm_script.proofs.FittingLemmas.{FitsCatalog-more}
 use Rattle.jm_top.specs.declared.scripts.Scripts.{Scripts}
 use Rattle.jm_top.specs.declared.status.Status.{Status}
-use Rattle.jm_top.specs.Sources.{Source, Named, Gives}
-use Rattle.jm_top.specs.Commands.{named}
+use Rattle.jm_top.specs.Sources.{Source, Gives}
 use Rattle.jm_top.specs.Specifications.{Specification, most_bytes}
 use Rattle.jm_top.specs.Scripts.{catalog_of, meaning_over, IsScript, IsScriptFault, in_line}
 use Rattle.jm_top.specs.Inputs.{step_count, SayScripts, AreScriptsUpTo}
 use Rattle.jm_top.specs.Causes.{IsNoScript, StopsScripts}
 use Rattle.jm_top.specs.Reading.{AreCounted, HasScript, HasScriptFrom, AreScriptsOf}
-use Rattle.jm_top.proofs.InputLemmas.{split_named, more_named, length-named, length-scripts, scripts_more, step_count-more}
+use Rattle.jm_top.proofs.InputLemmas.{split_sources, more_sources, length-sources, length-scripts, scripts_more, step_count-more}
 
 module _ (specs : List Specification) (catalog : List CatalogEntry) (over : catalog ≡ catalog_of specs) (bytes : List ℕ) (small : length bytes ≤ most_bytes) where
   pub script_added : (old new : Scripts) (script : List ScriptLine) → AreCounted specs old → IsWhole (script_meaning catalog old.count bytes old.objects) old.count script new.objects new.count
@@ -52,31 +51,31 @@ module _ (specs : List Specification) (catalog : List CatalogEntry) (over : cata
 
 -- ---- the loop over the names
 
-module _ {S : Type 0} (g : S → List ℕ) (contents : List ℕ → Option (List ℕ)) (specs : List Specification) (files : ℕ) (xs : List S) (i : ℕ) (x : S) (lt : i < length xs) (here : x ≡ get_or xs i x) where
-  pub scripts_read_more : (old new : Scripts) → AreScriptsOf contents specs (named (map g (take i xs))) old → HasScriptFrom contents (Named (g x)) specs old new → AreScriptsOf contents specs (named (map g (take (i + 1) xs))) new
+module _ {S : Type 0} (make : List ℕ → Source) (g : S → List ℕ) (contents : List ℕ → Option (List ℕ)) (specs : List Specification) (files : ℕ) (xs : List S) (i : ℕ) (x : S) (lt : i < length xs) (here : x ≡ get_or xs i x) where
+  pub scripts_read_more : (old new : Scripts) → AreScriptsOf contents specs (map make (map g (take i xs))) old → HasScriptFrom contents (make (g x)) specs old new → AreScriptsOf contents specs (map make (map g (take (i + 1) xs))) new
   scripts_read_more old new before h = record {
-    said = subst (λ v. SayScripts contents specs 0 [] v new.list.items new.objects) (sym (more_named g xs i x lt here))
-      (subst (λ v. SayScripts contents specs 0 [] (named (map g (take i xs)) ++ Named (g x) ∷ []) v new.objects) (sym h.next.scripts)
-      (scripts_more contents specs 0 [] (named (map g (take i xs))) old.list.items old.objects (Named (g x)) h.bytes h.next.script new.objects before.said h.given
+    said = subst (λ v. SayScripts contents specs 0 [] v new.list.items new.objects) (sym (more_sources make g xs i x lt here))
+      (subst (λ v. SayScripts contents specs 0 [] (map make (map g (take i xs)) ++ make (g x) ∷ []) v new.objects) (sym h.next.scripts)
+      (scripts_more contents specs 0 [] (map make (map g (take i xs))) old.list.items old.objects (make (g x)) h.bytes h.next.script new.objects before.said h.given
       (subst (λ n. IsScript specs n old.objects h.bytes h.next.script new.objects) (before.counted.counted) h.next.said)));
     counted = h.next.counted;
   }
 
-  pub scripts_stop : (old : Scripts) (status : Status) → AreScriptsOf contents specs (named (map g (take i xs))) old → IsNoScript contents specs files old.count old.objects (length old.list.items) (Named (g x)) status → StopsScripts contents specs files (named (map g xs)) status
+  pub scripts_stop : (old : Scripts) (status : Status) → AreScriptsOf contents specs (map make (map g (take i xs))) old → IsNoScript contents specs files old.count old.objects (length old.list.items) (make (g x)) status → StopsScripts contents specs files (map make (map g xs)) status
   scripts_stop old status before h = record {
     number = length old.list.items;
-    source = Named (g x);
+    source = make (g x);
     before = old.list.items;
     names = old.objects;
     reached = record {
-      first = named (map g (take i xs));
-      rest = named (map g (drop (i + 1) xs));
-      split = split_named g xs i x lt here;
-      numbered = length-scripts contents specs 0 [] (named (map g (take i xs))) old.list.items old.objects before.said;
+      first = map make (map g (take i xs));
+      rest = map make (map g (drop (i + 1) xs));
+      split = split_sources make g xs i x lt here;
+      numbered = length-scripts contents specs 0 [] (map make (map g (take i xs))) old.list.items old.objects before.said;
       read = before.said;
     };
-    stopped = subst (λ n. IsNoScript contents specs files n old.objects (length old.list.items) (Named (g x)) status) before.counted.counted h;
+    stopped = subst (λ n. IsNoScript contents specs files n old.objects (length old.list.items) (make (g x)) status) before.counted.counted h;
   }
 
-pub scripts_length : {S : Type 0} (g : S → List ℕ) (contents : List ℕ → Option (List ℕ)) (specs : List Specification) (xs : List S) (scripts : Scripts) → AreScriptsOf contents specs (named (map g xs)) scripts → length scripts.list.items ≡ length xs
-scripts_length {S} g contents specs xs scripts h = length-scripts contents specs 0 [] (named (map g xs)) scripts.list.items scripts.objects h.said ∙ length-named g xs
+pub scripts_length : {S : Type 0} (make : List ℕ → Source) (g : S → List ℕ) (contents : List ℕ → Option (List ℕ)) (specs : List Specification) (xs : List S) (scripts : Scripts) → AreScriptsOf contents specs (map make (map g xs)) scripts → length scripts.list.items ≡ length xs
+scripts_length {S} make g contents specs xs scripts h = length-scripts contents specs 0 [] (map make (map g xs)) scripts.list.items scripts.objects h.said ∙ length-sources make g xs

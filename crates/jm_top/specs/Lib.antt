@@ -12,3 +12,4 @@ pub mod Endings
 pub mod Reading
 pub mod Causes
 pub mod Replays
+pub mod Runs

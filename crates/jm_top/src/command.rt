@@ -1,8 +1,11 @@
 //! The commands, from the words to the status.
-ghost use Rattle.std.specs.Prelude.{◌≡◌, ◌⊎◌, ℕ, List, map, string_bytes, None};
+ghost use Rattle.std.specs.Prelude.{◌≡◌, ◌⊎◌, ℕ, List, map, string_bytes, None, Some, IfOk, IfErr};
 ghost use Rattle.jm_port.specs.Faults.{HasRisen};
 ghost use Rattle.jm_script.specs.declared.script.ScriptLine.{ScriptLine};
-ghost use Rattle.jm_cli.specs.Words.{CommandWords, command_of};
+ghost use Rattle.jm_cli.specs.Words.{CommandWords};
+ghost use Rattle.jm_cli.specs.Words.CommandWords.{Gen};
+ghost use Rattle.jm_cli.specs.Views.{command_words};
+ghost use Rattle.jm_top.specs.Commands.{spelled_command, IsWithin};
 ghost use Rattle.jm_top.specs.Specifications.{Specification};
 ghost use Rattle.jm_top.specs.Jobs.{IsJob, Accepted, IsCaused, AreTold};
 ghost use Rattle.jm_top.specs.Endings.{Writes, WritesText, Ends, Reports};
@@ -10,9 +13,12 @@ ghost use Rattle.jm_top.specs.Endings.{Writes, WritesText, Ends, Reports};
 use crate::job::make_text;
 use crate::status::Status;
 use crate::texts::fault_text;
-use jm_cli::{WordsError, read_words};
+use jm_cli::{Command, WordsError, read_words};
 use jm_port::{Folder, PutFault, Sink, put_all};
+use jm_runner::Gate;
 use std::alloc::Global;
+use std::sync::Wait;
+use std::thread::Threads;
 
 /// Does a command, and tells how it ended. `words` are those of the command line without the program's name.
 ///
@@ -25,16 +31,18 @@ use std::alloc::Global;
 /// job's first fault in the order of work. `ReadFailed` and `WriteFailed` come only where the folder or the sink counted a
 /// fault. So where the job has no fault, it is told what the files hold, and no fault was counted, the whole text was
 /// written, or memory was short.
-pub fn jmop<F: Folder, S: Sink, E: Sink>(
+pub fn jmop<R: Threads + Wait + Sync, F: Folder, S: Sink, E: Sink, G: Gate>(
+    rt: &R,
     alloc: Global,
     words: &[String],
     files: &mut F,
     out: &mut S,
     err: &mut E,
+    gate: &G,
 ) -> Status
     ensures written { Writes (map string_bytes words.now) (F.holds files.old) result (S.written out.old) (S.written out.new) }
     ensures caused { IsCaused (map string_bytes words.now) (F.holds files.old) result }
-    ensures no_command { command_of (map string_bytes words.now) ≡ None → (result ≡ Status.Usage) ⊎ (result ≡ Status.NoMemory) }
+    ensures no_command { spelled_command (map string_bytes words.now) ≡ None → (result ≡ Status.Usage) ⊎ (result ≡ Status.NoMemory) }
     ensures read_failed { (file : ℕ) → result ≡ Status.ReadFailed file → HasRisen (F.faults files.old) (F.faults files.new) }
     ensures write_failed { result ≡ Status.WriteFailed → HasRisen (S.faults out.old) (S.faults out.new) }
     ensures complete { (command : CommandWords) (specs : List Specification) (scripts : List (List ScriptLine)) (objects : List (List ℕ)) → AreTold (map string_bytes words.now) (F.holds files.old)
@@ -43,32 +51,57 @@ pub fn jmop<F: Folder, S: Sink, E: Sink>(
     ensures reported { Reports (Ends (map string_bytes words.now) (F.holds files.old) (F.faults files.old) (F.faults files.new) (S.faults out.old, S.written out.old) (S.faults out.new, S.written out.new))
         result (E.faults err.old, E.written err.old) (E.faults err.new, E.written err.new) }
 {
-    let status = carry_out(alloc, words, files, out);
+    let status = carry_out(rt, alloc, words, files, out, gate);
     report(alloc, status, err)
 }
 
 /// Does the work of a command up to the writing of its text.
-fn carry_out<F: Folder, S: Sink>(
+fn carry_out<R: Threads + Wait + Sync, F: Folder, S: Sink, G: Gate>(
+    rt: &R,
     alloc: Global,
     words: &[String],
     files: &mut F,
     out: &mut S,
+    gate: &G,
 ) -> Status
     ensures written { Writes (map string_bytes words.now) (F.holds files.old) result (S.written out.old) (S.written out.new) }
     ensures caused { IsCaused (map string_bytes words.now) (F.holds files.old) result }
-    ensures no_command { command_of (map string_bytes words.now) ≡ None → result ≡ Status.Usage }
+    ensures no_command { spelled_command (map string_bytes words.now) ≡ None → (result ≡ Status.Usage) ⊎ (result ≡ Status.NoMemory) }
     ensures read_failed { (file : ℕ) → result ≡ Status.ReadFailed file → HasRisen (F.faults files.old) (F.faults files.new) }
     ensures write_failed { result ≡ Status.WriteFailed → HasRisen (S.faults out.old) (S.faults out.new) }
 {
-    let command = match read_words(alloc, words) {
+    let command = match read_command(alloc, words) {
         Ok(command) => command,
-        Err(WordsError::Usage) => return Status::Usage,
-        Err(WordsError::NoMemory) => return Status::NoMemory,
+        Err(status) => return status,
     };
-    match make_text(alloc, &command, files) {
+    match make_text(rt, alloc, &command, files, gate) {
         Ok(text) => write(out, text.as_slice()),
         Err(status) => status,
     }
+}
+
+/// The command that the words spell.
+fn read_command(alloc: Global, words: &[String]) -> Result<Command, Status>
+    ensures spelled { IfOk result (λ command. spelled_command (map string_bytes words.now) ≡ Some (command_words command)) }
+    ensures within { IfOk result (λ command. IsWithin (command_words command)) }
+    ensures err { IfErr result (λ status. ((status ≡ Status.Usage) × (spelled_command (map string_bytes words.now) ≡ None)) ⊎ (status ≡ Status.NoMemory)) }
+{
+    match read_words(alloc, words) {
+        Ok(command) => without_gen(command),
+        Err(WordsError::Usage) => Err(Status::Usage),
+        Err(WordsError::NoMemory) => Err(Status::NoMemory),
+    }
+}
+
+/// The command, if it is there: `gen` isn't yet.
+fn without_gen(command: Command) -> Result<Command, Status>
+    ensures ok { IfOk result (λ c. (c ≡ command) × ((n : ℕ) → command_words c ≡ Gen n → ⊥)) }
+    ensures err { IfErr result (λ status. (status ≡ Status.Usage) × ((n : ℕ) × (command_words command ≡ Gen n))) }
+{
+    if let Command::Gen { .. } = &command {
+        return Err(Status::Usage);
+    }
+    Ok(command)
 }
 
 /// Gives the text to the sink.

@@ -3,37 +3,45 @@ ghost use Rattle.std.specs.Prelude.{◌≡◌, ◌≤◌, [], ◌∷◌, false, 
 ghost use Rattle.jm_port.specs.Faults.{HasRisen};
 ghost use Rattle.jm_cli.specs.Words.CommandWords.{Replay, Run, Check, Coenable, Gen};
 ghost use Rattle.jm_cli.specs.Views.{command_words};
-ghost use Rattle.jm_top.specs.Commands.{named, IsFew};
+ghost use Rattle.jm_top.specs.Commands.{named, AreFew, IsWithin};
 ghost use Rattle.jm_top.specs.Causes.{StopsCommand, IsTextOfCommand, StopsInputs};
 ghost use Rattle.jm_top.specs.Reading.{AreInputsOf};
 
 use crate::blocks::{declared, families};
 use crate::library::{Library, read_specifications};
 use crate::replay::replay;
+use crate::run::run;
 use crate::scripts::{Scripts, read_scripts};
 use crate::status::Status;
 use jm_cli::Command;
 use jm_port::Folder;
+use jm_runner::Gate;
 use std::alloc::Global;
 use std::slice;
+use std::sync::Wait;
+use std::thread::Threads;
 
 /// The text of a command.
-pub(crate) fn make_text<F: Folder>(
+pub(crate) fn make_text<R: Threads + Wait + Sync, F: Folder, G: Gate>(
+    rt: &R,
     alloc: Global,
     command: &Command,
     files: &mut F,
+    gate: &G,
 ) -> Result<Vec<u8>, Status>
-    requires { IsFew (command_words command.now) }
+    requires { IsWithin (command_words command.now) }
     ensures made { IfOk result (λ text. IsTextOfCommand (F.holds files.old) (command_words command.now) text.items) }
     ensures caused { IfErr result (StopsCommand (F.holds files.old) (command_words command.now)) }
     ensures read_failed { (file : ℕ) → result ≡ Err (Status.ReadFailed file) → HasRisen (F.faults files.old) (F.faults files.new) }
 {
     match command {
         Command::Replay { spec, script } => replayed(alloc, spec, script, files),
-        Command::Run { .. } => Err(Status::NoMemory),
+        Command::Run { specs, scripts } => {
+            ran(rt, alloc, specs.as_slice(), scripts.as_slice(), files, gate)
+        }
         Command::Check { specs } => checked(alloc, specs.as_slice(), files),
         Command::Coenable { specs } => coenabled(alloc, specs.as_slice(), files),
-        Command::Gen { .. } => Err(Status::NoMemory),
+        Command::Gen { .. } => unreachable!(),
     }
 }
 
@@ -53,9 +61,29 @@ fn replayed<F: Folder>(
     Ok(text)
 }
 
+/// The text of `run`.
+fn ran<R: Threads + Wait + Sync, F: Folder, G: Gate>(
+    rt: &R,
+    alloc: Global,
+    specs: &[String],
+    scripts: &[String],
+    files: &mut F,
+    gate: &G,
+) -> Result<Vec<u8>, Status>
+    requires specs { AreFew (map string_bytes specs.now) }
+    requires scripts { AreFew (map string_bytes scripts.now) }
+    ensures made { IfOk result (λ text. IsTextOfCommand (F.holds files.old) (Run (map string_bytes specs.now) (map string_bytes scripts.now)) text.items) }
+    ensures caused { IfErr result (StopsCommand (F.holds files.old) (Run (map string_bytes specs.now) (map string_bytes scripts.now))) }
+    ensures read_failed { (file : ℕ) → result ≡ Err (Status.ReadFailed file) → HasRisen (F.faults files.old) (F.faults files.new) }
+{
+    let inputs = read_inputs(alloc, specs, scripts, files)?;
+    let text = run(rt, alloc, inputs.library, &inputs.scripts, gate)?;
+    Ok(text)
+}
+
 /// The text of `check`.
 fn checked<F: Folder>(alloc: Global, specs: &[String], files: &mut F) -> Result<Vec<u8>, Status>
-    requires { length specs.now ≤ 16 }
+    requires { AreFew (map string_bytes specs.now) }
     ensures made { IfOk result (λ text. IsTextOfCommand (F.holds files.old) (Check (map string_bytes specs.now)) text.items) }
     ensures caused { IfErr result (StopsCommand (F.holds files.old) (Check (map string_bytes specs.now))) }
     ensures read_failed { (file : ℕ) → result ≡ Err (Status.ReadFailed file) → HasRisen (F.faults files.old) (F.faults files.new) }
@@ -67,7 +95,7 @@ fn checked<F: Folder>(alloc: Global, specs: &[String], files: &mut F) -> Result<
 
 /// The text of `coenable`.
 fn coenabled<F: Folder>(alloc: Global, specs: &[String], files: &mut F) -> Result<Vec<u8>, Status>
-    requires { length specs.now ≤ 16 }
+    requires { AreFew (map string_bytes specs.now) }
     ensures made { IfOk result (λ text. IsTextOfCommand (F.holds files.old) (Coenable (map string_bytes specs.now)) text.items) }
     ensures caused { IfErr result (StopsCommand (F.holds files.old) (Coenable (map string_bytes specs.now))) }
     ensures read_failed { (file : ℕ) → result ≡ Err (Status.ReadFailed file) → HasRisen (F.faults files.old) (F.faults files.new) }

@@ -14,6 +14,7 @@ mod job;
 mod laws;
 mod library;
 mod replay;
+mod run;
 mod scripts;
 mod specification;
 mod status;

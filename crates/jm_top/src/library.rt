@@ -52,10 +52,10 @@ impl Library {
     {
         let table = loaded.titles.table.copy()?;
         self.catalog.add(loaded.titles.name.as_str(), table)?;
-        match self.specs.push(loaded) {
-            Ok(()) => Ok(()),
-            Err(_) => Err(SpecError::NoMemory),
-        }
+        let Ok(()) = self.specs.push(loaded) else {
+            return Err(SpecError::NoMemory);
+        };
+        Ok(())
     }
 }
 

@@ -165,8 +165,8 @@ fn add(
         &mut scripts.objects,
         &mut scripts.count,
     )?;
-    match scripts.list.push(script) {
-        Ok(()) => Ok(()),
-        Err(_) => Err(ScriptError::NoMemory),
-    }
+    let Ok(()) = scripts.list.push(script) else {
+        return Err(ScriptError::NoMemory);
+    };
+    Ok(())
 }
