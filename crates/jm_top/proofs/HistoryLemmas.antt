@@ -1,10 +1,10 @@
 -- The histories of scripts' steps, and their texts.
-use Rattle.std.proofs.Common.{◌≡◌, ◌≢◌, ℕ, zero, suc, ◌+◌, ◌^◌, ◌<◌, ◌≤◌, Bool, true, List, [], ◌∷◌, ◌++◌, length, pow-suc, append-nil, refl, sym, ◌∙◌, ap, subst, arith}
+use Rattle.std.proofs.Common.{◌≡◌, ◌≢◌, ℕ, zero, suc, ◌+◌, ◌^◌, ◌<◌, ◌≤◌, Bool, true, List, [], ◌∷◌, ◌++◌, length, get_or, pow-suc, append-nil, refl, sym, ◌∙◌, ap, subst, arith}
 use Rattle.std.specs.Prelude.{All, Contains, Option, Some, None, ◌==◌, map, filter, slice_get, unwrap_or, option_map, string_bytes, Result, Ok, Err, IfOk}
 use Rattle.std.specs.Option.{option_map_or}
 use Rattle.std.specs.List.{AllByRecursion}
 use Rattle.std.proofs.lemmas.Option.{slice_get-map, none-some}
-use Rattle.std.proofs.lemmas.List.{length-map}
+use Rattle.std.proofs.lemmas.List.{length-map, length_push}
 use Rattle.std.proofs.lemmas.Bool.Decides.{nat_tests}
 use Rattle.std.proofs.lemmas.List.Elements.{All-from_recursion, recursion_from_All, All-weaker, All-head, All-tail, All-contains, All-contains_itself}
 use Rattle.jm_model.specs.Bindings.{object_at, objects_of, mask_of}
@@ -25,13 +25,17 @@ use Rattle.jm_print.specs.Lexicons.{Lexicon, lexicon_of}
 use Rattle.jm_print.specs.Texts.{IsPrintable, history_text}
 use Rattle.jm_script.specs.Catalogs.{CatalogEntry, table_of}
 use Rattle.jm_script.specs.Events.{mask_at}
-use Rattle.jm_script.specs.Fitting.{FitsSpecification}
+use Rattle.jm_script.specs.Fitting.{FitsCatalog, FitsSpecification}
 use Rattle.jm_script.specs.Projections.{script_of}
 use Rattle.jm_script.specs.declared.script.ScriptLine.{ScriptLine}
 use Rattle.jm_machine.specs.Meanings.{RuleDefinition, rules_meaning}
 use Rattle.jm_top.specs.declared.specification.Titles.{Titles}
+use Rattle.jm_top.specs.declared.specification.Loaded.{Loaded}
+use Rattle.jm_top.specs.declared.library.Library.{Library}
+use Rattle.jm_top.specs.declared.scripts.Scripts.{Scripts}
 use Rattle.jm_top.specs.Specifications.{Specification, meaning_of}
-use Rattle.jm_top.specs.Reading.{AreTitlesOf, titled, title_lexicon}
+use Rattle.jm_top.specs.Scripts.{catalog_of}
+use Rattle.jm_top.specs.Reading.{AreTitlesOf, titled, title_lexicon, specification_of, IsWhole, specs_in, IsCatalogued, AreCounted}
 use Rattle.jm_top.specs.Histories.{lexicon, IsTextOfHistories}
 use Rattle.jm_top.specs.Replays.{IsReplayOf, IsPrintedReplay}
 use Rattle.jm_top.proofs.OneReadingLemmas.{same_some}
@@ -188,3 +192,51 @@ replay_text t rules whole script objects text h = record {
   each = (record { legal = h.replayed.legal; woven = h.replayed.woven }, tt);
   printed = h.printed ∙ ap (λ (hs : List (List ℕ)). history_text (lexicon_of (string_bytes t.name) t.table hs objects t.texts.items) h.history) whole.handlers ∙ sym (append-nil (history_text (lexicon objects (titled t rules)) h.history));
 }
+
+single_of : {X : Type 0} (xs ys : List X) (x : X) → xs ≡ ys ++ x ∷ [] → length xs ≡ 1 → xs ≡ x ∷ []
+single_of xs [] x e one = e
+single_of xs (y ∷ ys) x e one = absurd (omega (arith, one, ap (λ v. length v) e, length_push ys x))
+
+pub first_of : {X : Type 0} (xs : List X) (x : X) → length xs ≡ 1 → x ≡ get_or xs 0 x → xs ≡ x ∷ []
+first_of [] x one here = absurd (omega (arith, one))
+first_of (y ∷ []) x one here = ap (λ v. v ∷ []) (sym here)
+first_of (y ∷ z ∷ xs) x one here = absurd (omega (arith, one))
+
+-- the specification of a library of one
+module _ (library : Library) (catalogued : IsCatalogued library) (rest : List Loaded) (l : Loaded) (popped : library.specs.items ≡ rest ++ l ∷ []) (one : length library.specs.items ≡ 1) where
+  alone : library.specs.items ≡ l ∷ []
+  alone = single_of library.specs.items rest l popped one
+
+  pub alone_is : specs_in library ≡ specification_of l ∷ []
+  alone_is = ap (λ v. map specification_of v) alone
+
+  pub alone_whole : IsWhole l
+  alone_whole = All-head IsWhole l [] (subst (All IsWhole) alone catalogued.kept)
+
+  pub alone_there : table_of (catalog_of (specs_in library)) 0 ≡ l.titles.table
+  alone_there = ap (λ v. table_of (catalog_of v) 0) alone_is
+
+module _ (library : Library) (catalogued : IsCatalogued library) (scripts : Scripts) (counted : AreCounted (specs_in library) scripts) (one_script : length scripts.list.items ≡ 1) (script : List ScriptLine) (here : script ≡ get_or scripts.list.items 0 script) where
+  pub script_alone : scripts.list.items ≡ script ∷ []
+  script_alone = first_of scripts.list.items script one_script here
+
+  pub script_fits : FitsCatalog (catalog_of (specs_in library)) (length scripts.objects) script
+  script_fits = All-head (FitsCatalog (catalog_of (specs_in library)) (length scripts.objects)) script [] (subst (All (FitsCatalog (catalog_of (specs_in library)) (length scripts.objects))) script_alone counted.fit)
+
+  module _ (rest : List Loaded) (l : Loaded) (popped : library.specs.items ≡ rest ++ l ∷ []) (one : length library.specs.items ≡ 1) (own : List (ℕ × Step)) (fits : All (λ step. FitsSpecification (catalog_of (specs_in library)) (length scripts.objects) 0 step.1) own) where
+    pub own_doable : All (λ step. IsFitStep (rules_meaning l.rules.definition) (length scripts.objects) step.1) own
+    own_doable = doable l.titles l.rules.definition (alone_whole library catalogued rest l popped one) (catalog_of (specs_in library)) 0 (alone_there library catalogued rest l popped one) own (length scripts.objects) fits
+
+    pub own_printable : (h : List Entry) → IsReplayOf (rules_meaning l.rules.definition) own h → All (IsPrintable (title_lexicon scripts.objects l.titles)) h
+    own_printable h is = replay_printable l.titles l.rules.definition (catalog_of (specs_in library)) (alone_whole library catalogued rest l popped one) (alone_there library catalogued rest l popped one) scripts.objects own h fits is
+
+    pub own_text : own ≡ projection_of (script_of script) 0 → (text : List ℕ) → IsPrintedReplay (rules_meaning l.rules.definition) own (title_lexicon scripts.objects l.titles) text → IsTextOfHistories (specs_in library) scripts.list.items scripts.objects text
+    own_text is text printed =
+        let made = replay_text l.titles l.rules.definition (alone_whole library catalogued rest l popped one) script scripts.objects text (subst (λ v. IsPrintedReplay (rules_meaning l.rules.definition) v (title_lexicon scripts.objects l.titles) text) is printed) in
+        subst (λ v. IsTextOfHistories v scripts.list.items scripts.objects text) (sym (alone_is library catalogued rest l popped one))
+        (subst (λ v. IsTextOfHistories (specification_of l ∷ []) v scripts.objects text) (sym script_alone) made)
+
+-- its text, where there is one
+pub made_text : {T E : Type 0} (items : T → List ℕ) (P Q : List ℕ → Type 0) (made : Result T E) → ((text : List ℕ) → P text → Q text) → IfOk made (λ text. P (items text)) → IfOk made (λ text. Q (items text))
+made_text items P Q (Ok text) turn h = turn (items text) h
+made_text items P Q (Err e) turn h = tt

@@ -11,3 +11,4 @@ pub mod FewLemmas
 pub mod ScriptLemmas
 pub mod RunLemmas
 pub mod TextLemmas
+pub mod CommandLemmas

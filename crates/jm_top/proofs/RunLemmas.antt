@@ -174,3 +174,7 @@ runs_of library scripts catalogued counted objects named watches alls k watch al
       fitting = subst (λ (d : CompiledRules). All (λ steps. AreFitSteps (rules_meaning d.definition) watch.fixed.objects steps) (projections_of scripts.list.items k)) (sym definition)
         (subst (λ n. All (λ steps. AreFitSteps (rules_meaning l.rules.definition) n steps) (projections_of scripts.list.items k)) (sym many_objects) (fitting_at library scripts catalogued counted k l found.1));
     }
+
+-- as many titles as cores
+pub runs_many : (library : Library) (scripts : Scripts) (titles : List Titles) (ps : List (Core CompiledRules)) → AreRunsOf library.specs.items scripts.list.items titles ps → length titles ≡ length ps
+runs_many library scripts titles ps runs = ap (λ ts. length ts) runs.titled ∙ length-map library.specs.items (λ (l : Loaded). l.titles) ∙ sym runs.many

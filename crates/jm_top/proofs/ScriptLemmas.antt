@@ -1,7 +1,7 @@
 -- Scripts, read one behind the other.
 use Rattle.std.proofs.Common.{◌≡◌, ℕ, ◌+◌, ◌<◌, ◌≤◌, List, [], ◌∷◌, ◌++◌, length, get_or, take, drop, Option, refl, sym, ap, subst, ◌∙◌, arith}
 use Rattle.std.specs.Prelude.{map, All}
-use Rattle.std.proofs.lemmas.List.{length_push}
+use Rattle.std.proofs.lemmas.List.{length-take-le, take_all}
 use Rattle.std.proofs.lemmas.List.Elements.{All-push, All-weaker}
 use Rattle.jm_model.specs.declared.fault.ScriptFault.{ScriptFault}
 use Rattle.jm_script.specs.declared.script.ScriptLine.{ScriptLine}
@@ -79,3 +79,25 @@ module _ {S : Type 0} (make : List ℕ → Source) (g : S → List ℕ) (content
 
 pub scripts_length : {S : Type 0} (make : List ℕ → Source) (g : S → List ℕ) (contents : List ℕ → Option (List ℕ)) (specs : List Specification) (xs : List S) (scripts : Scripts) → AreScriptsOf contents specs (map make (map g xs)) scripts → length scripts.list.items ≡ length xs
 scripts_length {S} make g contents specs xs scripts h = length-scripts contents specs 0 [] (map make (map g xs)) scripts.list.items scripts.objects h.said ∙ length-sources make g xs
+
+-- ---- a turn of the loop, where the folder holds later what it held before
+
+module _ {S : Type 0} (make : List ℕ → Source) (g : S → List ℕ) (contents later : List ℕ → Option (List ℕ)) (same : (name : List ℕ) → later name ≡ contents name) (specs : List Specification) (files : ℕ) (xs : List S) (i : ℕ) (x : S) (lt : i < length xs) (here : x ≡ get_or xs i x) (name : List ℕ) (is : name ≡ g x) where
+  held : later ≡ contents
+  held = λ j n. same n j
+
+  pub scripts_turn : (old new : Scripts) → AreScriptsOf contents specs (map make (map g (take i xs))) old → HasScriptFrom later (make name) specs old new → AreScriptsOf contents specs (map make (map g (take (i + 1) xs))) new
+  scripts_turn old new before h =
+      scripts_read_more make g contents specs files xs i x lt here old new before
+      (subst (λ (v : List ℕ → Option (List ℕ)). HasScriptFrom v (make (g x)) specs old new) held (subst (λ n. HasScriptFrom later (make n) specs old new) is h))
+
+  pub scripts_end : (old : Scripts) (status : Status) → AreScriptsOf contents specs (map make (map g (take i xs))) old → IsNoScript later specs files old.count old.objects (length old.list.items) (make name) status → StopsScripts contents specs files (map make (map g xs)) status
+  scripts_end old status before h =
+      scripts_stop make g contents specs files xs i x lt here old status before
+      (subst (λ (v : List ℕ → Option (List ℕ)). IsNoScript v specs files old.count old.objects (length old.list.items) (make (g x)) status) held (subst (λ n. IsNoScript later specs files old.count old.objects (length old.list.items) (make n) status) is h))
+
+pub scripts_count : {S : Type 0} (make : List ℕ → Source) (g : S → List ℕ) (contents : List ℕ → Option (List ℕ)) (specs : List Specification) (xs : List S) (i : ℕ) (scripts : Scripts) → i ≤ length xs → AreScriptsOf contents specs (map make (map g (take i xs))) scripts → length scripts.list.items ≡ i
+scripts_count {S} make g contents specs xs i scripts le h = scripts_length make g contents specs (take i xs) scripts h ∙ length-take-le i xs le
+
+pub whole_scripts : {S : Type 0} (make : List ℕ → Source) (g : S → List ℕ) (contents : List ℕ → Option (List ℕ)) (specs : List Specification) (xs : List S) (i : ℕ) (scripts : Scripts) → length xs ≤ i → AreScriptsOf contents specs (map make (map g (take i xs))) scripts → AreScriptsOf contents specs (map make (map g xs)) scripts
+whole_scripts {S} make g contents specs xs i scripts all h = subst (λ v. AreScriptsOf contents specs (map make (map g v)) scripts) (take_all i xs all) h

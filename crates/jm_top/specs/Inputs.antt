@@ -1,5 +1,5 @@
 -- What the files of a command say, one behind the other.
-use Rattle.std.specs.Prelude.{ℕ, ◌+◌, ◌≡◌, Bool, ◌&&◌, List, [], ◌∷◌, ◌++◌, length, sum_by, Option, Some, None, option_map, if◌then◌else◌}
+use Rattle.std.specs.Prelude.{ℕ, ◌+◌, ◌≡◌, Bool, ◌&&◌, List, [], ◌∷◌, ◌++◌, length, Option, Some, None, option_map, if◌then◌else◌}
 use Rattle.jm_model.specs.declared.fault.SpecFault.{SpecFault}
 use Rattle.jm_model.specs.declared.fault.SpecFault.TheVariants.{UnsupportedLogic, DuplicateSpec}
 use Rattle.jm_events.specs.Names.{number_of}
@@ -49,7 +49,8 @@ pub record AreReadUpTo (contents : List ℕ → Option (List ℕ)) (families : B
 
 -- how many steps scripts have
 abbrev pub step_count : List (List ScriptLine) → ℕ
-step_count scripts = sum_by (λ script. length script) scripts
+step_count [] = 0
+step_count (script ∷ scripts) = length script + step_count scripts
 
 -- the sources say these scripts, in order, behind so many steps and with these names of objects; and the names in the end
 abbrev pub SayScripts : (List ℕ → Option (List ℕ)) → List Specification → ℕ → List (List ℕ) → List Source → List (List ScriptLine) → List (List ℕ) → Type 0

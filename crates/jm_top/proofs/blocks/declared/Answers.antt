@@ -8,4 +8,4 @@ declared_by-requires c = All-place IsWhole c.args.specs.now c.loop-loaded.loaded
 
 pub loop-loaded-preserved : goal.loop-loaded-preserved
 loop-loaded-preserved c =
-    declared_more c.args.specs.now c.loop-loaded.loaded-index c.loaded-item.result _ _ _ c.loop-loaded-test.true c.loaded-item.is c.loop-loaded.invariant c.in_ok-block.ensures c.in_ok-joined.ensures
+    declared_more c.args.specs.now c.loop-loaded.loaded-index c.loaded-item.result _ _ _ c.loop-loaded-test.true c.loaded-item.is c.loop-loaded.invariant c.in_ok-block.ensures c.in_ok-text.ensures

@@ -13,4 +13,4 @@ families_text-requires-clause-table c = All-place (λ (l : Loaded). is_grammar l
 
 pub loop-loaded-preserved : goal.loop-loaded-preserved
 loop-loaded-preserved c =
-    families_more c.args.specs.now c.loop-loaded.loaded-index c.loaded-item.result _ _ _ c.loop-loaded-test.true c.loaded-item.is c.loop-loaded.invariant c.in_ok-block.ensures c.in_ok-joined.ensures
+    families_more c.args.specs.now c.loop-loaded.loaded-index c.loaded-item.result _ _ _ c.loop-loaded-test.true c.loaded-item.is c.loop-loaded.invariant c.in_ok-block.ensures c.in_ok-text.ensures

@@ -10,6 +10,6 @@ history_text-requires g c =
 
 pub loop-number-preserved : goal.loop-number-preserved
 loop-number-preserved g c =
-    c.in_ok-joined.ensures ∙ (λ j. c.loop-number.invariant j ++ c.in_ok-block.ensures j)
+    c.in_ok-text.ensures ∙ (λ j. c.loop-number.invariant j ++ c.in_ok-block.ensures j)
     ∙ sym (histories_more (title_lexicon c.args.objects.now) (λ p. p.entries) c.args.titles.now c.args.props.now c.loop-number.number c.index-titles-number.result c.index-props-number.result (omega arith) (omega arith)
     c.index-titles-number.is c.index-props-number.is)
