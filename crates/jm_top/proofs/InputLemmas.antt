@@ -1,6 +1,6 @@
 -- What files say, one behind the other.
 use Rattle.std.proofs.Common.{◌≡◌, ℕ, ◌+◌, ◌<◌, ◌≤◌, Bool, true, false, ◌&&◌, List, [], ◌∷◌, ◌++◌, length, get_or, take, drop, Option, Some, None, refl, sym, ap, subst, ◌∙◌, arith, append_assoc, append-nil}
-use Rattle.std.specs.Prelude.{map, sum_by, IfSome, IsSome, option_map, if◌then◌else◌}
+use Rattle.std.specs.Prelude.{map, IfSome, IsSome, option_map, if◌then◌else◌}
 use Rattle.std.proofs.lemmas.Option.{none-some}
 use Rattle.std.proofs.lemmas.List.{take-append-drop, take_more, drop_more, map-append, length-map}
 use Rattle.jm_model.specs.declared.fault.SpecFault.{SpecFault}
@@ -17,9 +17,6 @@ use Rattle.jm_top.specs.Inputs.{refusal_of, IsAdmitted, IsRefusal, faulty, refus
 use Rattle.jm_top.proofs.OneReadingLemmas.{one_specification, specification_has_no_fault, same_some, never_some}
 
 -- ---- lists
-
-length-more : {X : Type 0} (xs ys : List X) (x y : X) → xs ≡ y ∷ ys → length xs ≡ length ys + 1
-length-more xs ys x y e = ap (λ v. length v) e
 
 -- the sources before one and those behind it
 pub split_sources : {S : Type 0} (make : List ℕ → Source) (g : S → List ℕ) (xs : List S) (i : ℕ) (x : S) → i < length xs → x ≡ get_or xs i x
@@ -44,7 +41,7 @@ pub not_refused_of : (families : Bool) (before : List Specification) (s : Specif
 not_refused_of families before s known new = rw (known, new) refl
 
 some_mapped : (o : Option ℕ) → IsSome o → option_map (λ earlier. DuplicateSpec) o ≡ Some DuplicateSpec
-some_mapped None h = absurd h
+some_mapped None h = absurd cc
 some_mapped (Some k) h = refl
 
 pub refused_twice : (families : Bool) (before : List Specification) (s : Specification) → (families && is_grammar s.rules.formula) ≡ false → IsSome (number_of (spec_names (catalog_of before)) s.name) → refusal_of families before s ≡ Some DuplicateSpec
@@ -55,7 +52,9 @@ module _ (contents : List ℕ → Option (List ℕ)) (families : Bool) where
   pub length-said : (before : List Specification) (sources : List Source) (specs : List Specification) → SaySpecifications contents families before sources specs → length specs ≡ length sources
   length-said before [] specs none = ap (λ v. length v) none
   length-said before (x ∷ sources) specs (bytes, s, more, e, given, is, rest) =
-      ap (λ v. length v) e ∙ ap (λ n. n + 1) (length-said (before ++ s ∷ []) sources more rest)
+      let same : length specs ≡ length (s ∷ more) = ap (λ v. length v) e in
+      let others : length more ≡ length sources = length-said (before ++ s ∷ []) sources more rest in
+      omega (arith, same, others)
 
   -- one more
   pub say_more : (before : List Specification) (sources : List Source) (specs : List Specification) (source : Source) (bytes : List ℕ) (s : Specification) → SaySpecifications contents families before sources specs
@@ -120,7 +119,9 @@ module _ (contents : List ℕ → Option (List ℕ)) (specs : List Specification
   pub length-scripts : (count : ℕ) (names : List (List ℕ)) (sources : List Source) (scripts : List (List ScriptLine)) (objects : List (List ℕ)) → SayScripts contents specs count names sources scripts objects → length scripts ≡ length sources
   length-scripts count names [] scripts objects (none, same) = ap (λ v. length v) none
   length-scripts count names (x ∷ sources) scripts objects (bytes, script, more, later, e, given, is, rest) =
-      ap (λ v. length v) e ∙ ap (λ n. n + 1) (length-scripts (count + length script) later sources more objects rest)
+      let same : length scripts ≡ length (script ∷ more) = ap (λ v. length v) e in
+      let others : length more ≡ length sources = length-scripts (count + length script) later sources more objects rest in
+      omega (arith, same, others)
 
   -- one more
   pub scripts_more : (count : ℕ) (names : List (List ℕ)) (sources : List Source) (scripts : List (List ScriptLine)) (middle : List (List ℕ)) (source : Source) (bytes : List ℕ) (script : List ScriptLine) (objects : List (List ℕ))
@@ -128,7 +129,7 @@ module _ (contents : List ℕ → Option (List ℕ)) (specs : List Specification
       → SayScripts contents specs count names (sources ++ source ∷ []) (scripts ++ script ∷ []) objects
   scripts_more count names [] scripts middle source bytes script objects (none, same) given is =
       let zero : count + step_count scripts ≡ count = ap (λ v. count + step_count v) none ∙ omega arith in
-      (bytes, script, [], objects, ap (λ v. v ++ script ∷ []) none, given, subst (λ v. IsScript specs count v bytes script objects) same (subst (λ n. IsScript specs n middle bytes script objects) zero is), refl, refl)
+      (bytes, script, [], objects, ap (λ v. v ++ script ∷ []) none, given, subst (λ v. IsScript specs count v bytes script objects) same (subst (λ n. IsScript specs n middle bytes script objects) zero is), (refl, refl))
   scripts_more count names (x ∷ sources) scripts middle source bytes script objects (held, first, more, later, e, gives, said, rest) given is =
       let counts : count + step_count scripts ≡ (count + length first) + step_count more = ap (λ v. count + step_count v) e ∙ omega arith in
       (held, first, more ++ script ∷ [], later, ap (λ v. v ++ script ∷ []) e, gives, said,

@@ -177,3 +177,8 @@ for_err P Q (Err e) f h = f e h
 
 pub error_is : {V E : Type 0} (P : E → Type 0) (r : Result V E) (e : E) → r ≡ Err e → IfErr r P → P e
 error_is P r e is h = subst (λ q. IfErr q P) is h
+
+-- words that spell no command
+pub words_caused : (words : List (List ℕ)) (contents : List ℕ → Option (List ℕ)) (status : Status) → ((status ≡ Usage) × (spelled_command words ≡ None)) ⊎ (status ≡ NoMemory) → IsCaused words contents status
+words_caused words contents status (inl h) = subst (IsCaused words contents) (sym h.0) (no_command h.1)
+words_caused words contents status (inr e) = subst (IsCaused words contents) (sym e) tt

@@ -92,12 +92,12 @@ never_bad e = cc
 -- a name that was accepted is new
 pub new_if_ok : {V : Type 0} (o : Option ℕ) (v : V) → (IsSome o → ◌≡◌ {A = Result V SpecError} (Ok v) (Err (Bad DuplicateSpec))) → o ≡ None
 new_if_ok None v h = refl
-new_if_ok (Some k) v h = absurd (never_ok (h tt))
+new_if_ok (Some k) v h = absurd (never_ok (h refl))
 
 -- one that was refused is there
 pub twice_if_err : {V : Type 0} (o : Option ℕ) (e : SpecError) (fault : SpecFault) → e ≡ Bad fault → (IsSome o → ◌≡◌ {A = Result V SpecError} (Err e) (Err (Bad DuplicateSpec))) → (o ≡ None → e ≡ NoMemory) → (fault ≡ DuplicateSpec) × IsSome o
-twice_if_err None e fault is refused short = absurd (never_bad (sym is ∙ short refl))
-twice_if_err (Some k) e fault is refused short = (same_fault (sym is ∙ same_err (refused tt)), tt)
+twice_if_err None e fault is there none = absurd (never_bad (sym is ∙ none refl))
+twice_if_err (Some k) e fault is there none = (same_fault (sym is ∙ same_err (there refl)), refl)
 
 pub bad_is : (e : SpecError) (fault other : SpecFault) → e ≡ Bad fault → e ≡ Bad other → fault ≡ other
 bad_is e fault other is same = same_fault (sym is ∙ same)

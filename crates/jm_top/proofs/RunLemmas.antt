@@ -92,7 +92,7 @@ watches_more objects seats (x ∷ ls) (w ∷ watches) [] l watch all h is = absu
 
 pub watches_length : (objects seats : ℕ) (ls : List Loaded) (watches : List (LockModel (Fixed CompiledRules))) (alls : List (List (SeatModel Entry (Fixed CompiledRules)))) → AreWatchesOf objects seats ls watches alls → length watches ≡ length ls
 watches_length objects seats [] [] [] h = refl
-watches_length objects seats (x ∷ ls) (w ∷ watches) (a ∷ alls) h = ap (λ n. n + 1) (watches_length objects seats ls watches alls h.1)
+watches_length objects seats (x ∷ ls) (w ∷ watches) (a ∷ alls) h = omega (arith, watches_length objects seats ls watches alls h.1)
 watches_length objects seats [] [] (a ∷ alls) h = absurd h
 watches_length objects seats [] (w ∷ watches) alls h = absurd h
 watches_length objects seats (x ∷ ls) [] alls h = absurd h
@@ -178,3 +178,44 @@ runs_of library scripts catalogued counted objects named watches alls k watch al
 -- as many titles as cores
 pub runs_many : (library : Library) (scripts : Scripts) (titles : List Titles) (ps : List (Core CompiledRules)) → AreRunsOf library.specs.items scripts.list.items titles ps → length titles ≡ length ps
 runs_many library scripts titles ps runs = ap (λ ts. length ts) runs.titled ∙ length-map library.specs.items (λ (l : Loaded). l.titles) ∙ sym runs.many
+
+-- ---- dispatchers as they are kept
+
+module _ {R : Type 0} (watch_of : R → LockModel (Fixed CompiledRules)) (seats_of : R → List (SeatModel Entry (Fixed CompiledRules))) (objects seats : ℕ) where
+  pub watches_push : (ls : List Loaded) (l : Loaded) (rs new : List R) (r : R) → AreWatchesOf objects seats ls (map watch_of rs) (map seats_of rs) → IsWatchOf objects seats l.rules (watch_of r) (seats_of r) → new ≡ rs ++ r ∷ []
+      → AreWatchesOf objects seats (ls ++ l ∷ []) (map watch_of new) (map seats_of new)
+  watches_push ls l rs new r h is pushed =
+      let watches : map watch_of new ≡ map watch_of rs ++ watch_of r ∷ [] = ap (map watch_of) pushed ∙ map-append watch_of rs (r ∷ []) in
+      let alls : map seats_of new ≡ map seats_of rs ++ seats_of r ∷ [] = ap (map seats_of) pushed ∙ map-append seats_of rs (r ∷ []) in
+      subst (λ v. AreWatchesOf objects seats (ls ++ l ∷ []) v (map seats_of new)) (sym watches)
+      (subst (λ v. AreWatchesOf objects seats (ls ++ l ∷ []) (map watch_of rs ++ watch_of r ∷ []) v) (sym alls) (watches_more objects seats ls (map watch_of rs) (map seats_of rs) l (watch_of r) (seats_of r) h is))
+
+  pub watches_many : (ls : List Loaded) (rs : List R) → AreWatchesOf objects seats ls (map watch_of rs) (map seats_of rs) → length rs ≡ length ls
+  watches_many ls rs h = sym (length-map rs watch_of) ∙ watches_length objects seats ls (map watch_of rs) (map seats_of rs) h
+
+  watch_for : (ls : List Loaded) (rs : List R) (k : ℕ) (l : Loaded) → AreWatchesOf objects seats ls (map watch_of rs) (map seats_of rs) → slice_get ls k ≡ Some l → (r : R) × (slice_get rs k ≡ Some r) × IsWatchOf objects seats l.rules (watch_of r) (seats_of r)
+  watch_for [] rs k l h at = absurd (none-some l at)
+  watch_for (x ∷ ls) [] k l h at = absurd h
+  watch_for (x ∷ ls) (r ∷ rs) zero l h at = (r, refl, subst (λ (v : Loaded). IsWatchOf objects seats v.rules (watch_of r) (seats_of r)) (same_some at) h.0)
+  watch_for (x ∷ ls) (r ∷ rs) (suc k) l h at = watch_for ls rs k l h.1 at
+
+  -- what the run of the dispatchers gave
+  pub runs_from : (ls : List Loaded) (scripts : List (List ScriptLine)) (titles : List Titles) (ps : List (Core CompiledRules)) (rs : List R) → titles ≡ map (λ (l : Loaded). l.titles) ls → length ps ≡ length rs
+      → AreWatchesOf objects seats ls (map watch_of rs) (map seats_of rs)
+      → ((s : ℕ) (r : R) (p : Core CompiledRules) → slice_get rs s ≡ Some r → slice_get ps s ≡ Some p → IsRunOf (rules_meaning (watch_of r).fixed.definition.definition) scripts s (watch_of r).fixed p) → AreRunsOf ls scripts titles ps
+  runs_from ls scripts titles ps rs titled many are each = record {
+    titled = titled;
+    many = many ∙ watches_many ls rs are;
+    legal = λ k l p at there.
+      let found = watch_for ls rs k l are at in
+      subst (λ (d : CompiledRules). IsLegal (rules_meaning d.definition) p.entries) (ap (λ (f : Fixed CompiledRules). f.definition) found.2.fixed) (each k found.0 p found.1 there).legal;
+    woven = λ k l p at there.
+      let found = watch_for ls rs k l are at in
+      (each k found.0 p found.1 there).interleaving;
+  }
+
+  -- they can run
+  pub ready_at : (library : Library) (scripts : Scripts) → IsCatalogued library → AreCounted (specs_in library) scripts → objects ≡ length scripts.objects → seats ≡ length scripts.list.items → (rs : List R)
+      → AreWatchesOf objects seats library.specs.items (map watch_of rs) (map seats_of rs) → (s : ℕ) (r : R) → slice_get rs s ≡ Some r → CanRun (rules_meaning (watch_of r).fixed.definition.definition) scripts.list.items s (watch_of r) (seats_of r)
+  ready_at library scripts catalogued counted named many rs are s r at =
+      runs_of library scripts catalogued counted objects named (map watch_of rs) (map seats_of rs) s (watch_of r) (seats_of r) seats many are (at_map watch_of rs s r at) (at_map seats_of rs s r at)

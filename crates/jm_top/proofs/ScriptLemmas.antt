@@ -51,13 +51,16 @@ module _ (specs : List Specification) (catalog : List CatalogEntry) (over : cata
 
 -- ---- the loop over the names
 
+from_zero : (n m : ℕ) → n ≡ m → n ≡ 0 + m
+from_zero n m e = omega arith
+
 module _ {S : Type 0} (make : List ℕ → Source) (g : S → List ℕ) (contents : List ℕ → Option (List ℕ)) (specs : List Specification) (files : ℕ) (xs : List S) (i : ℕ) (x : S) (lt : i < length xs) (here : x ≡ get_or xs i x) where
   pub scripts_read_more : (old new : Scripts) → AreScriptsOf contents specs (map make (map g (take i xs))) old → HasScriptFrom contents (make (g x)) specs old new → AreScriptsOf contents specs (map make (map g (take (i + 1) xs))) new
   scripts_read_more old new before h = record {
     said = subst (λ v. SayScripts contents specs 0 [] v new.list.items new.objects) (sym (more_sources make g xs i x lt here))
       (subst (λ v. SayScripts contents specs 0 [] (map make (map g (take i xs)) ++ make (g x) ∷ []) v new.objects) (sym h.next.scripts)
       (scripts_more contents specs 0 [] (map make (map g (take i xs))) old.list.items old.objects (make (g x)) h.bytes h.next.script new.objects before.said h.given
-      (subst (λ n. IsScript specs n old.objects h.bytes h.next.script new.objects) (before.counted.counted) h.next.said)));
+      (subst (λ n. IsScript specs n old.objects h.bytes h.next.script new.objects) (from_zero old.count (step_count old.list.items) before.counted.counted) h.next.said)));
     counted = h.next.counted;
   }
 

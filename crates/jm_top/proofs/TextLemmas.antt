@@ -2,7 +2,7 @@
 use Rattle.std.proofs.Common.{◌≡◌, ℕ, zero, suc, ◌+◌, ◌<◌, ◌≤◌, List, [], ◌∷◌, ◌++◌, length, get_or, take, Option, Some, None, refl, sym, ap, subst, ◌∙◌, arith, append_assoc, append-nil}
 use Rattle.std.specs.Prelude.{All, Contains, map, slice_get, IfSome}
 use Rattle.std.specs.List.{flat_map}
-use Rattle.std.proofs.lemmas.List.{take_more, map-append, length-map, length-take-le}
+use Rattle.std.proofs.lemmas.List.{take_more, map-append, length-map, length_push, length-take-le}
 use Rattle.std.proofs.lemmas.List.Elements.{All-contains, Contains-get_or}
 use Rattle.std.proofs.lemmas.Grind.{flat_map-append}
 use Rattle.jm_model.specs.declared.step.Entry.{Entry}
@@ -52,6 +52,16 @@ behind [] [] l h same = append-nil (history_text l h)
 behind [] (g ∷ hs) l h same = absurd (omega (arith, same))
 behind (k ∷ ls) [] l h same = absurd (omega (arith, same))
 behind (k ∷ ls) (g ∷ hs) l h same = ap (λ v. history_text k g ++ v) (behind ls hs l h (omega (arith, same))) ∙ sym (append_assoc (history_text k g) (texts_of ls hs) (history_text l h))
+
+pub families_push : {V : Type 0} (items : V → List ℕ) (P : ℕ → List ℕ → Type 0) (vs new : List V) (v : V) (n : ℕ) → length vs ≡ n → ((k : ℕ) → IfSome (slice_get (map items vs) k) (P k)) → P n (items v) → new ≡ vs ++ v ∷ []
+    → (k : ℕ) → IfSome (slice_get (map items new) k) (P k)
+families_push {V} items P vs new v n many each is pushed =
+    let whole : map items new ≡ map items vs ++ items v ∷ [] = ap (map items) pushed ∙ map-append items vs (v ∷ []) in
+    let there : n ≡ length (map items vs) = sym many ∙ sym (length-map vs items) in
+    λ k. subst (λ v. IfSome (slice_get v k) (P k)) (sym whole) (family_more P (map items vs) (items v) each (subst (λ m. P m (items v)) there is) k)
+
+pub families_many : {V : Type 0} (vs new : List V) (v : V) (n : ℕ) → length vs ≡ n → new ≡ vs ++ v ∷ [] → length new ≡ n + 1
+families_many vs new v n many pushed = omega (arith, many, ap (λ xs. length xs) pushed, length_push vs v)
 
 -- the text of one history more
 pub histories_more : {A B : Type 0} (f : A → Lexicon) (g : B → List Entry) (xs : List A) (ys : List B) (i : ℕ) (x : A) (y : B) → i < length xs → i < length ys → x ≡ get_or xs i x → y ≡ get_or ys i y

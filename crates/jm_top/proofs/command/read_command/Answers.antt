@@ -1,4 +1,4 @@
-use Rattle.std.proofs.Common.{◌≡◌, refl, sym, ap, ◌∙◌, Some, inl, inr}
+use Rattle.std.proofs.Common.{◌≡◌, refl, sym, ap, ◌∙◌, Some, Err, inl, inr}
 use Rattle.std.specs.Prelude.{map, string_bytes}
 use Rattle.jm_cli.specs.Views.{command_words}
 use Rattle.jm_top.proofs.FewLemmas.{few_named, spelled_is, spelled_gen, spelled_none}
@@ -18,4 +18,4 @@ returns-in-Ok-clause-err c =
     for_err _ _ c.without_gen.result (λ s is. inl (is.0, spelled_gen (map string_bytes c.args.words.now) is.1.0 (c.in-Ok.ensures.command ∙ ap (λ v. Some v) is.1.1))) c.without_gen.ensures.err
 
 pub returns-in-Err-Usage-clause-err : goal.returns-in-Err-Usage-clause-err
-returns-in-Err-Usage-clause-err c = inl (refl, spelled_none (map string_bytes c.args.words.now) (c.read_words.ensures.usage c.in-Err-Usage.is))
+returns-in-Err-Usage-clause-err c = inl (refl, spelled_none (map string_bytes c.args.words.now) (c.read_words.ensures.usage (c.in-Err-Usage.is ∙ ap (λ e. Err e) c.in-Err-Usage.field-0-is)))
