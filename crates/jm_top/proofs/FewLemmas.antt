@@ -29,7 +29,7 @@ names_few : (words names : List (List ℕ)) → names_of words ≡ Some names �
 names_few words names e = few (are_names words) refl e
   where
     few : (b : Bool) → are_names words ≡ b → (if b then Some words else None) ≡ Some names → AreFew names
-    few true yes is = subst AreFew (same_some is) (names_small words yes)
+    few true are is = subst AreFew (same_some is) (names_small words are)
     few false not_so is = absurd (never_some is)
 
 module _ (c : CommandWords) where

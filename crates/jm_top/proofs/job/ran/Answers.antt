@@ -24,18 +24,18 @@ returns-in_err-inputs-clause-caused g c =
 pub run-requires-clause-specs : goal.run-requires-clause-specs
 run-requires-clause-specs g c =
     let many = library_length (λ n. Named n) string_bytes (g.F.Folder.holds c.args.files.now) _ c.args.specs.now c.in_ok-inputs.inputs.library c.in_ok-inputs.ensures.read.library in
-    λ words. (omega (arith, many, c.requires.specs.0, length-map c.args.specs.now string_bytes), omega (arith, many, c.requires.specs.1, length-map c.args.specs.now string_bytes))
+    λ words bounds. (omega (arith, many, c.requires.specs.0, length-map c.args.specs.now string_bytes), omega (arith, many, c.requires.specs.1, length-map c.args.specs.now string_bytes))
 
 pub run-requires-clause-scripts : goal.run-requires-clause-scripts
 run-requires-clause-scripts g c =
     let many = scripts_length (λ n. Named n) string_bytes (g.F.Folder.holds c.args.files.now) (specs_in c.in_ok-inputs.inputs.library) c.args.scripts.now c.in_ok-inputs.inputs.scripts c.in_ok-inputs.ensures.read.read in
-    λ words. (omega (arith, many, c.requires.scripts.0, length-map c.args.scripts.now string_bytes), omega (arith, many, c.requires.scripts.1, length-map c.args.scripts.now string_bytes))
+    λ words bounds. (omega (arith, many, c.requires.scripts.0, length-map c.args.scripts.now string_bytes), omega (arith, many, c.requires.scripts.1, length-map c.args.scripts.now string_bytes))
 
 pub run-requires-clause-catalogued : goal.run-requires-clause-catalogued
-run-requires-clause-catalogued g c = λ words. c.in_ok-inputs.ensures.read.library.catalogued
+run-requires-clause-catalogued g c = λ words bounds. c.in_ok-inputs.ensures.read.library.catalogued
 
 pub run-requires-clause-counted : goal.run-requires-clause-counted
-run-requires-clause-counted g c = λ words. c.in_ok-inputs.ensures.read.read.counted
+run-requires-clause-counted g c = λ words bounds. c.in_ok-inputs.ensures.read.read.counted
 
 pub returns-in_err-text-clause-caused : goal.returns-in_err-text-clause-caused
 returns-in_err-text-clause-caused g c =

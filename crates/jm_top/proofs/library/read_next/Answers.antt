@@ -10,7 +10,7 @@ pub returns-in_err-bytes-clause-err : goal.returns-in_err-bytes-clause-err
 returns-in_err-bytes-clause-err g c =
     let p = err_from_is_err_and c.from_residual.result c.from_residual.ensures.1 in
     let many : c.len-number.result ≡ length c.args.library.now.specs.items = omega (arith, c.len-number.ensures, c.args.library.now.specs.ok.0) in
-    rw (p.1, p.2) (subst (λ (n : ℕ). IsNoSpec (g.F.Folder.holds c.args.files.now) c.args.families (specs_in c.args.library.now) n (Named c.args.name.now) _) many (c.in_err-bytes.ensures.err c.args.families (specs_in c.args.library.now)))
+    rw (p.1, p.2) (subst (λ (n : ℕ). IsNoSpec (g.F.Folder.holds c.args.files.now) c.args.families (specs_in c.args.library.now) n (Named c.args.name.now) c.in_err-bytes.field-0) many (c.in_err-bytes.ensures.err c.args.families (specs_in c.args.library.now)))
 
 pub returns-clause-err : goal.returns-clause-err
 returns-clause-err g c =
