@@ -1,4 +1,4 @@
-use Rattle.std.proofs.Common.{◌≡◌, ◌∙◌, ℕ, length, subst, arith}
+use Rattle.std.proofs.Common.{◌≡◌, ◌∙◌, ℕ, length, IfErr, subst, arith}
 use Rattle.std.proofs.lemmas.Result.{err_from_is_err_and}
 use Rattle.jm_top.specs.Sources.{Named}
 use Rattle.jm_top.specs.Causes.{IsNoSpec, IsNoSpecIn}
@@ -10,7 +10,9 @@ pub returns-in_err-bytes-clause-err : goal.returns-in_err-bytes-clause-err
 returns-in_err-bytes-clause-err g c =
     let p = err_from_is_err_and c.from_residual.result c.from_residual.ensures.1 in
     let many : c.len-number.result ≡ length c.args.library.now.specs.items = omega (arith, c.len-number.ensures, c.args.library.now.specs.ok.0) in
-    rw (p.1, p.2) (subst (λ (n : ℕ). IsNoSpec (g.F.Folder.holds c.args.files.now) c.args.families (specs_in c.args.library.now) n (Named c.args.name.now) c.in_err-bytes.field-0) many (c.in_err-bytes.ensures.err c.args.families (specs_in c.args.library.now)))
+    let there : IfErr c.from_residual.result (IsNoSpec (g.F.Folder.holds c.args.files.now) c.args.families (specs_in c.args.library.now) c.len-number.result (Named c.args.name.now)) =
+    rw (p.1, p.2) (c.in_err-bytes.ensures.err c.args.families (specs_in c.args.library.now)) in
+    subst (λ (n : ℕ). IfErr c.from_residual.result (IsNoSpec (g.F.Folder.holds c.args.files.now) c.args.families (specs_in c.args.library.now) n (Named c.args.name.now))) many there
 
 pub returns-clause-err : goal.returns-clause-err
 returns-clause-err g c =
