@@ -137,6 +137,7 @@ module _ (t : Titles) (rules : RuleDefinition) (whole : AreTitlesOf rules t) (ca
       entries_of_lists (λ (x : Step). IsNamedStep names x) lists h
       (λ k own at. All-weaker (λ (step : ℕ × Step). FitsSpecification catalog (length objects) number step.1) (λ (step : ℕ × Step). IsNamedStep names step.1) (λ step. fitting_named objects step.1) own (fits k own at)) woven in
       printable names (rules_meaning rules) few h each woven.done legal
+
 -- all entries are those of the one caller
 one_caller : (xs : List Entry) → AllByRecursion (λ x. x.caller ≡ 0) xs → filter (λ (x : Entry). x.caller == 0) xs ≡ xs
 one_caller [] h = refl

@@ -61,9 +61,15 @@ module _ (contents : List ℕ → Option (List ℕ)) (families : Bool) where
       → Gives contents source bytes → IsAdmitted families (before ++ specs) bytes s → SaySpecifications contents families before (sources ++ source ∷ []) (specs ++ s ∷ [])
   say_more before [] specs source bytes s none given is =
       (bytes, s, [], ap (λ v. v ++ s ∷ []) none, given, subst (λ v. IsAdmitted families v bytes s) (ap (λ v. before ++ v) none ∙ append-nil before) is, refl)
-  say_more before (x ∷ sources) specs source bytes s (held, t, more, e, gives, admitted, rest) given is =
-      (held, t, more ++ s ∷ [], ap (λ v. v ++ s ∷ []) e, gives, admitted,
-        say_more (before ++ t ∷ []) sources more source bytes s rest given (subst (λ v. IsAdmitted families v bytes s) (ap (λ v. before ++ v) e ∙ sym (append_assoc before (t ∷ []) more)) is))
+  say_more before (x ∷ sources) specs source bytes s (held, t, more, e, gives, admitted, rest) given is = (
+    held,
+    t,
+    more ++ s ∷ [],
+    ap (λ v. v ++ s ∷ []) e,
+    gives,
+    admitted,
+    say_more (before ++ t ∷ []) sources more source bytes s rest given (subst (λ v. IsAdmitted families v bytes s) (ap (λ v. before ++ v) e ∙ sym (append_assoc before (t ∷ []) more)) is),
+  )
 
 -- what a source gives is one thing, where it is told
 told_one : (o : Option (List ℕ)) (a b : List ℕ) → IsSome o → IfSome o (λ held. a ≡ held) → IfSome o (λ held. b ≡ held) → a ≡ b
@@ -131,9 +137,16 @@ module _ (contents : List ℕ → Option (List ℕ)) (specs : List Specification
       let zero : count + step_count scripts ≡ count = ap (λ v. count + step_count v) none ∙ omega arith in
       (bytes, script, [], objects, ap (λ v. v ++ script ∷ []) none, given, subst (λ v. IsScript specs count v bytes script objects) same (subst (λ n. IsScript specs n middle bytes script objects) zero is), (refl, refl))
   scripts_more count names (x ∷ sources) scripts middle source bytes script objects (held, first, more, later, e, gives, said, rest) given is =
-      let counts : count + step_count scripts ≡ (count + length first) + step_count more = ap (λ v. count + step_count v) e ∙ omega arith in
-      (held, first, more ++ script ∷ [], later, ap (λ v. v ++ script ∷ []) e, gives, said,
-        scripts_more (count + length first) later sources more middle source bytes script objects rest given (subst (λ n. IsScript specs n middle bytes script objects) counts is))
+      let counts : count + step_count scripts ≡ (count + length first) + step_count more = ap (λ v. count + step_count v) e ∙ omega arith in (
+        held,
+        first,
+        more ++ script ∷ [],
+        later,
+        ap (λ v. v ++ script ∷ []) e,
+        gives,
+        said,
+        scripts_more (count + length first) later sources more middle source bytes script objects rest given (subst (λ n. IsScript specs n middle bytes script objects) counts is),
+      )
 
 script_has_no_fault : (specs : List Specification) (count : ℕ) (names : List (List ℕ)) (bytes : List ℕ) (script : List ScriptLine) (objects : List (List ℕ)) (fault : ScriptFault) → IsScript specs count names bytes script objects → IsScriptFault specs count names bytes fault → ⊥
 script_has_no_fault specs count names bytes script objects _ h (too_long more) = omega (arith, more, h.small)

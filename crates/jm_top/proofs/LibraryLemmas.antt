@@ -54,8 +54,8 @@ module _ {S : Type 0} (make : List ℕ → Source) (g : S → List ℕ) (content
   pub library_more : (old new : Library) → IsLibraryOf contents families (map make (map g (take i xs))) old → HasNextFrom contents (make (g x)) families old new → IsLibraryOf contents families (map make (map g (take (i + 1) xs))) new
   library_more old new before h = record {
     said = subst (λ v. SaySpecifications contents families [] v (specs_in new)) (sym (more_sources make g xs i x lt here))
-      (subst (λ v. SaySpecifications contents families [] (map make (map g (take i xs)) ++ make (g x) ∷ []) v) (sym h.next.specs)
-      (say_more contents families [] (map make (map g (take i xs))) (specs_in old) (make (g x)) h.bytes h.next.specification before.said h.given h.next.admitted));
+        (subst (λ v. SaySpecifications contents families [] (map make (map g (take i xs)) ++ make (g x) ∷ []) v) (sym h.next.specs)
+        (say_more contents families [] (map make (map g (take i xs))) (specs_in old) (make (g x)) h.bytes h.next.specification before.said h.given h.next.admitted));
     catalogued = h.next.catalogued;
   }
 

@@ -120,10 +120,11 @@ histories_from number [] scripts [] same each = tt
 histories_from number [] scripts (p ∷ ps) same each = absurd (omega (arith, same))
 histories_from number (l ∷ ls) scripts [] same each = absurd (omega (arith, same))
 histories_from number (l ∷ ls) scripts (p ∷ ps) same each =
-    let none : number + 0 ≡ number = omega arith in
-    (subst (λ n. IsHistoryOf n (specification_of l) scripts p.entries) none (each 0 l p refl refl),
+    let none : number + 0 ≡ number = omega arith in (
+      subst (λ n. IsHistoryOf n (specification_of l) scripts p.entries) none (each 0 l p refl refl),
       histories_from (number + 1) ls scripts ps (omega (arith, same))
-      (λ k m q at there. let next : number + suc k ≡ (number + 1) + k = omega arith in subst (λ n. IsHistoryOf n (specification_of m) scripts q.entries) next (each (suc k) m q at there)))
+          (λ k m q at there. let next : number + suc k ≡ (number + 1) + k = omega arith in subst (λ n. IsHistoryOf n (specification_of m) scripts q.entries) next (each (suc k) m q at there)),
+    )
 
 printables_from : (objects : List (List ℕ)) (ls : List Loaded) (ps : List (Core CompiledRules))
     → ((k : ℕ) (l : Loaded) (p : Core CompiledRules) → slice_get ls k ≡ Some l → slice_get ps k ≡ Some p → All (IsPrintable (title_lexicon objects l.titles)) p.entries)
@@ -149,7 +150,7 @@ module _ (library : Library) (scripts : Scripts) (catalogued : IsCatalogued libr
   pub run_histories : AreHistoriesFrom 0 (specs_in library) scripts.list.items (map (λ (p : Core CompiledRules). p.entries) ps)
   run_histories = histories_from 0 library.specs.items scripts.list.items ps runs.many
       (λ k l p at there. let same : 0 + k ≡ k = omega arith in
-        subst (λ n. IsHistoryOf n (specification_of l) scripts.list.items p.entries) (sym same) (record { legal = runs.legal k l p at there; woven = runs.woven k l p at there }))
+      subst (λ n. IsHistoryOf n (specification_of l) scripts.list.items p.entries) (sym same) (record { legal = runs.legal k l p at there; woven = runs.woven k l p at there }))
 
   pub runs_text : (text : List ℕ) → text ≡ texts_of (map (title_lexicon scripts.objects) titles) (map (λ (p : Core CompiledRules). p.entries) ps) → IsTextOfHistories (specs_in library) scripts.list.items scripts.objects text
   runs_text text printed = record {
@@ -172,7 +173,7 @@ runs_of library scripts catalogued counted objects named watches alls k watch al
       all = is.many ∙ many;
       newcomers = is.newcomers;
       fitting = subst (λ (d : CompiledRules). All (λ steps. AreFitSteps (rules_meaning d.definition) watch.fixed.objects steps) (projections_of scripts.list.items k)) (sym definition)
-        (subst (λ n. All (λ steps. AreFitSteps (rules_meaning l.rules.definition) n steps) (projections_of scripts.list.items k)) (sym many_objects) (fitting_at library scripts catalogued counted k l found.1));
+          (subst (λ n. All (λ steps. AreFitSteps (rules_meaning l.rules.definition) n steps) (projections_of scripts.list.items k)) (sym many_objects) (fitting_at library scripts catalogued counted k l found.1));
     }
 
 -- as many titles as cores
@@ -207,11 +208,11 @@ module _ {R : Type 0} (watch_of : R → LockModel (Fixed CompiledRules)) (seats_
     titled = titled;
     many = many ∙ watches_many ls rs are;
     legal = λ k l p at there.
-      let found = watch_for ls rs k l are at in
-      subst (λ (d : CompiledRules). IsLegal (rules_meaning d.definition) p.entries) (ap (λ (f : Fixed CompiledRules). f.definition) found.2.fixed) (each k found.0 p found.1 there).legal;
+        let found = watch_for ls rs k l are at in
+        subst (λ (d : CompiledRules). IsLegal (rules_meaning d.definition) p.entries) (ap (λ (f : Fixed CompiledRules). f.definition) found.2.fixed) (each k found.0 p found.1 there).legal;
     woven = λ k l p at there.
-      let found = watch_for ls rs k l are at in
-      (each k found.0 p found.1 there).interleaving;
+        let found = watch_for ls rs k l are at in
+        (each k found.0 p found.1 there).interleaving;
   }
 
   -- they can run

@@ -36,9 +36,9 @@ module _ (specs : List Specification) (catalog : List CatalogEntry) (over : cata
         scripts = scripts;
         counted = record {
           fit = subst (All (FitsCatalog (catalog_of specs) (length new.objects))) (sym scripts)
-            (All-push (FitsCatalog (catalog_of specs) (length new.objects)) old.list.items script
-            (All-weaker (FitsCatalog (catalog_of specs) (length old.objects)) (FitsCatalog (catalog_of specs) (length new.objects)) (FitsCatalog-more (catalog_of specs) (length old.objects) (length new.objects) grown) old.list.items before.fit)
-            (subst (λ v. FitsCatalog v (length new.objects) script) over fits));
+              (All-push (FitsCatalog (catalog_of specs) (length new.objects)) old.list.items script
+              (All-weaker (FitsCatalog (catalog_of specs) (length old.objects)) (FitsCatalog (catalog_of specs) (length new.objects)) (FitsCatalog-more (catalog_of specs) (length old.objects) (length new.objects) grown) old.list.items before.fit)
+              (subst (λ v. FitsCatalog v (length new.objects) script) over fits));
           counted = whole.counted ∙ ap (λ n. n + length script) before.counted ∙ sym (step_count-more old.list.items script) ∙ ap step_count (sym scripts);
           few_steps = steps;
           few_names = names;
@@ -58,9 +58,9 @@ module _ {S : Type 0} (make : List ℕ → Source) (g : S → List ℕ) (content
   pub scripts_read_more : (old new : Scripts) → AreScriptsOf contents specs (map make (map g (take i xs))) old → HasScriptFrom contents (make (g x)) specs old new → AreScriptsOf contents specs (map make (map g (take (i + 1) xs))) new
   scripts_read_more old new before h = record {
     said = subst (λ v. SayScripts contents specs 0 [] v new.list.items new.objects) (sym (more_sources make g xs i x lt here))
-      (subst (λ v. SayScripts contents specs 0 [] (map make (map g (take i xs)) ++ make (g x) ∷ []) v new.objects) (sym h.next.scripts)
-      (scripts_more contents specs 0 [] (map make (map g (take i xs))) old.list.items old.objects (make (g x)) h.bytes h.next.script new.objects before.said h.given
-      (subst (λ n. IsScript specs n old.objects h.bytes h.next.script new.objects) (from_zero old.count (step_count old.list.items) before.counted.counted) h.next.said)));
+        (subst (λ v. SayScripts contents specs 0 [] (map make (map g (take i xs)) ++ make (g x) ∷ []) v new.objects) (sym h.next.scripts)
+        (scripts_more contents specs 0 [] (map make (map g (take i xs))) old.list.items old.objects (make (g x)) h.bytes h.next.script new.objects before.said h.given
+        (subst (λ n. IsScript specs n old.objects h.bytes h.next.script new.objects) (from_zero old.count (step_count old.list.items) before.counted.counted) h.next.said)));
     counted = h.next.counted;
   }
 

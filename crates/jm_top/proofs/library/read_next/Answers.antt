@@ -20,4 +20,4 @@ returns-clause-err g c =
     let err = rw c.as_slice.ensures.value at c.read_bytes.ensures.err in
     for_err (IsNoSpecIn c.args.families (specs_in c.args.library.now) c.len-number.result c.in_ok-bytes.bytes.items) (IsNoSpec (g.F.Folder.holds c.args.files.now) c.args.families (specs_in c.args.library.now) (length c.args.library.now.specs.items) (Named c.args.name.now)) c.read_bytes.result
     (λ status h. spec_from (g.F.Folder.holds c.args.files.now) c.args.families (specs_in c.args.library.now) (length c.args.library.now.specs.items) (Named c.args.name.now) c.in_ok-bytes.bytes.items c.in_ok-bytes.ensures.held status
-      (subst (λ (n : ℕ). IsNoSpecIn c.args.families (specs_in c.args.library.now) n c.in_ok-bytes.bytes.items status) many h)) err
+    (subst (λ (n : ℕ). IsNoSpecIn c.args.families (specs_in c.args.library.now) n c.in_ok-bytes.bytes.items status) many h)) err

@@ -30,7 +30,7 @@ returns-in_err-read_next-clause-read_failed g c = λ file is.
 pub loop-name-preserved : goal.loop-name-preserved
 loop-name-preserved g c = record {
   read = library_turn (λ n. Named n) string_bytes (g.F.Folder.holds c.args.files.now) (g.F.Folder.holds c.loop-name.files) c.loop-name.invariant.same c.args.families c.args.names.now c.loop-name.name-index c.name-item.result c.loop-name-test.true c.name-item.is c.as_str.result.now c.as_str.ensures.value
-    c.loop-name.library _ c.loop-name.invariant.read c.in_ok-read_next.ensures.read;
+      c.loop-name.library _ c.loop-name.invariant.read c.in_ok-read_next.ensures.read;
   never_falls = omega (arith, c.loop-name.invariant.never_falls, c.read_next.ensures.never_falls);
   same = λ other. c.read_next.ensures.same other ∙ c.loop-name.invariant.same other;
 }
