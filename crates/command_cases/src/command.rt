@@ -3,47 +3,69 @@ use crate::shown::{last_line, put_text};
 use case_files::{calls_of, files, sink_of};
 use cases::Case;
 use jm_port::{Folder, MemoryFolder, Sink, SureFolder, SureSink};
+use jm_runner::FreeGate;
 use jm_top::{Status, fault_text, jmop, one_reading};
 use std::alloc::{AllocError, Global};
+use std::sync::Wait;
+use std::thread::Threads;
 
 /// How the command of the case's words ends, and what is written to its two sinks. The words behind the `/` say what
 /// fails: `read-fails CALL..`, or `write STEP CALL..` for a sink that takes STEP bytes at a time.
-pub(crate) fn run(alloc: Global, case: &Case) -> Result<String, AllocError> {
+pub(crate) fn run<R: Threads + Wait + Sync>(
+    rt: &R,
+    alloc: Global,
+    case: &Case,
+) -> Result<String, AllocError> {
     let (kind, rest) = case
         .second
         .split_once(' ')
         .unwrap_or((case.second.as_str(), ""));
     match kind {
-        "read-fails" => read_fails(alloc, case, rest),
-        "write" => write_fails(alloc, case, rest),
-        _ => nothing_fails(alloc, case),
+        "read-fails" => read_fails(rt, alloc, case, rest),
+        "write" => write_fails(rt, alloc, case, rest),
+        _ => nothing_fails(rt, alloc, case),
     }
 }
 
-fn nothing_fails(alloc: Global, case: &Case) -> Result<String, AllocError> {
+fn nothing_fails<R: Threads + Wait + Sync>(
+    rt: &R,
+    alloc: Global,
+    case: &Case,
+) -> Result<String, AllocError> {
     let mut folder = SureFolder::new(files(alloc, case.text.as_slice())?);
     let mut out = SureSink::new(alloc);
-    let (status, err) = done(alloc, case, &mut folder, &mut out)?;
+    let (status, err) = done(rt, alloc, case, &mut folder, &mut out)?;
     shown(alloc, &status, out.bytes(), err.bytes())
 }
 
-fn read_fails(alloc: Global, case: &Case, calls: &str) -> Result<String, AllocError> {
+fn read_fails<R: Threads + Wait + Sync>(
+    rt: &R,
+    alloc: Global,
+    case: &Case,
+    calls: &str,
+) -> Result<String, AllocError> {
     let fail = calls_of(alloc, calls)?;
     let mut folder = MemoryFolder::new(files(alloc, case.text.as_slice())?, fail);
     let mut out = SureSink::new(alloc);
-    let (status, err) = done(alloc, case, &mut folder, &mut out)?;
+    let (status, err) = done(rt, alloc, case, &mut folder, &mut out)?;
     shown(alloc, &status, out.bytes(), err.bytes())
 }
 
-fn write_fails(alloc: Global, case: &Case, rest: &str) -> Result<String, AllocError> {
+fn write_fails<R: Threads + Wait + Sync>(
+    rt: &R,
+    alloc: Global,
+    case: &Case,
+    rest: &str,
+) -> Result<String, AllocError> {
     let mut folder = SureFolder::new(files(alloc, case.text.as_slice())?);
     let mut out = sink_of(alloc, rest)?;
-    let (status, err) = done(alloc, case, &mut folder, &mut out)?;
+    let (status, err) = done(rt, alloc, case, &mut folder, &mut out)?;
     shown(alloc, &status, out.bytes(), err.bytes())
 }
 
 /// Does the command of the case's words, and gives its status and what the error sink was given.
-fn done<F: Folder, S: Sink>(
+fn done<R: Threads + Wait + Sync, F: Folder, S: Sink>(
+    rt: &R,
     alloc: Global,
     case: &Case,
     files: &mut F,
@@ -51,7 +73,7 @@ fn done<F: Folder, S: Sink>(
 ) -> Result<(Status, SureSink), AllocError> {
     let words = words_of(alloc, case.first.as_str())?;
     let mut err = SureSink::new(alloc);
-    let status = ended(alloc, words.as_slice(), files, out, &mut err);
+    let status = ended(rt, alloc, words.as_slice(), files, out, &mut err);
     Ok((status, err))
 }
 
@@ -64,14 +86,15 @@ fn words_of(alloc: Global, line: &str) -> Result<Vec<String>, AllocError> {
 }
 
 /// The call alone, so that its long contract ends here.
-fn ended<F: Folder, S: Sink>(
+fn ended<R: Threads + Wait + Sync, F: Folder, S: Sink>(
+    rt: &R,
     alloc: Global,
     words: &[String],
     files: &mut F,
     out: &mut S,
     err: &mut SureSink,
 ) -> Status {
-    jmop(alloc, words, files, out, err)
+    jmop(rt, alloc, words, files, out, err, &FreeGate)
 }
 
 fn shown(alloc: Global, status: &Status, out: &[u8], err: &[u8]) -> Result<String, AllocError> {
@@ -83,11 +106,15 @@ fn shown(alloc: Global, status: &Status, out: &[u8], err: &[u8]) -> Result<Strin
 
 /// The same where nothing fails and the files are long: how many bytes are written, and their last line. In the files a
 /// `;` stands for a line feed.
-pub(crate) fn long(alloc: Global, case: &Case) -> Result<String, AllocError> {
+pub(crate) fn long<R: Threads + Wait + Sync>(
+    rt: &R,
+    alloc: Global,
+    case: &Case,
+) -> Result<String, AllocError> {
     let text = with_line_feeds(alloc, case.text.as_slice())?;
     let mut folder = SureFolder::new(files(alloc, text.as_slice())?);
     let mut out = SureSink::new(alloc);
-    let (status, _) = done(alloc, case, &mut folder, &mut out)?;
+    let (status, _) = done(rt, alloc, case, &mut folder, &mut out)?;
     let bytes = out.bytes();
     format!(in alloc; "{status:?} {} bytes\n{}", bytes.len(), last_line(bytes))
 }

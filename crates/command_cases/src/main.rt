@@ -8,5 +8,5 @@ mod shown;
 use std::io;
 
 fn main(rt: HostRuntime) -> io::Result<()> {
-    cases::run(&rt, answer::answer)
+    cases::run(&rt, |alloc, case| answer::answer(&rt, alloc, case))
 }

@@ -174,6 +174,7 @@ impl<M: Monitor> Prop<M> {
     pub fn history(&self) -> &History
         ensures value { result.now ≡ self.now.entries }
         ensures legal { IsLegal (M.meaning self.now.definition) self.now.entries }
+        ensures fits { FitsHistory (M.meaning self.now.definition) self.now.entries self.now.stored self.now.marks }
     {
         &self.history
     }

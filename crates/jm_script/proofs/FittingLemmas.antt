@@ -68,7 +68,7 @@ step_fits catalog names spec (Death object) e h = h
 step_fits catalog names spec (Pass s) e h = tt
 
 -- and so do the steps of a projection
-projection_fits : (catalog : List CatalogEntry) (names spec : ℕ) (ls : List ScriptLine) → FitsCatalog catalog names ls → All (λ (s : ℕ × Step). FitsSpecification catalog names spec s.1) (projection_of (script_of ls) spec)
+pub projection_fits : (catalog : List CatalogEntry) (names spec : ℕ) (ls : List ScriptLine) → FitsCatalog catalog names ls → All (λ (s : ℕ × Step). FitsSpecification catalog names spec s.1) (projection_of (script_of ls) spec)
 projection_fits catalog names spec [] h = All-nil (λ (s : ℕ × Step). FitsSpecification catalog names spec s.1)
 projection_fits catalog names spec (l ∷ ls) h = by_case (is_for spec (spec_of l.target)) refl (projection_fits catalog names spec ls (All-tail (λ l. FitsTarget catalog names l.target) l ls h))
   where

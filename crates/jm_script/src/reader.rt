@@ -1,5 +1,5 @@
 //! Reading a whole script.
-ghost use Rattle.std.specs.Prelude.{◌≡◌, ◌<◌, ◌≤◌, ◌^◌, ◌-◌, length, IfOk, IfErr};
+ghost use Rattle.std.specs.Prelude.{◌≡◌, ◌<◌, ◌≤◌, ◌^◌, ◌-◌, length, IfOk, IfErr, OnOk};
 ghost use Rattle.jm_script.specs.Meanings.{RisesFrom, script_meaning};
 ghost use Rattle.jm_script.specs.Answers.{IsWhole, IsLeft, count_left};
 ghost use Rattle.jm_script.specs.Fitting.{FitsCatalog};
@@ -29,6 +29,8 @@ pub fn read_script(
     requires few_objects { length objects.old ≤ 65536 }
     ensures ok { IfOk result (λ script. IsWhole (script_meaning catalog.now count.old bytes.now objects.old) count.old script objects.new count.new) }
     ensures fitting { IfOk result (λ script. FitsCatalog catalog.now (length objects.new) script) }
+    ensures bounded { OnOk result ((count.new ≤ 200000) × (length objects.new ≤ 65536)) }
+    ensures grown { OnOk result (length objects.old ≤ length objects.new) }
     ensures rising { IfOk result (λ script. RisesFrom 1 script) }
     ensures err { IfErr result (λ error. IsLeft (script_meaning catalog.now count.old bytes.now objects.old) count.old objects.old error objects.new count.new) }
 {

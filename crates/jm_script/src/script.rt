@@ -28,7 +28,7 @@ pub enum Target {
 
 impl Target {
     /// The step that this is for a specification, if it is one.
-    fn step_for(&self, spec: u8) -> Option<Step>
+    pub fn step_for(&self, spec: u8) -> Option<Step>
         ensures { result ≡ (if is_for spec (spec_of self.now) then Some (step_of self.now) else None) }
     {
         match *self {

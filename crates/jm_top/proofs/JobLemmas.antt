@@ -1,66 +1,123 @@
 -- What the status of a command says of its job.
-use Rattle.std.proofs.Common.{◌≡◌, ℕ, zero, suc, ◌<◌, ◌≤◌, ◌⊎◌, inl, inr, List, [], ◌∷◌, length, Option, Some, None, Result, Ok, Err, IfOk, IfErr, refl, sym, ap, subst, ◌∙◌, arith}
-use Rattle.std.specs.Prelude.{IfSome, IsSome}
+use Rattle.std.proofs.Common.{◌≡◌, ℕ, zero, suc, ◌+◌, ◌<◌, ◌≤◌, ◌⊎◌, inl, inr, Bool, true, false, List, [], ◌∷◌, length, Option, Some, None, Result, Ok, Err, IfOk, IfErr, refl, sym, ap, subst, ◌∙◌, arith}
+use Rattle.std.specs.Prelude.{IfSome}
 use Rattle.jm_port.specs.Faults.{HasRisen}
+use Rattle.jm_model.specs.declared.fault.SpecFault.{SpecFault}
 use Rattle.jm_model.specs.declared.fault.SpecFault.TheVariants as spec
-use Rattle.jm_model.specs.declared.fault.ScriptFault.TheVariants as script
 use Rattle.jm_model.specs.declared.fault.ScriptFault.{ScriptFault}
+use Rattle.jm_model.specs.declared.fault.ScriptFault.TheVariants as script
 use Rattle.jm_script.specs.declared.script.ScriptLine.{ScriptLine}
+use Rattle.jm_cli.specs.Words.{CommandWords}
 use Rattle.jm_top.specs.declared.status.Status.{Status}
 use Rattle.jm_top.specs.declared.status.Status.TheVariants.{Done, Usage, BadSpec, BadScript, ReadFailed, WriteFailed, NoMemory}
-use Rattle.jm_top.specs.Words.{replay_names}
-use Rattle.jm_top.specs.Specifications.{Specification, IsSpecification, too_long as spec_too_long, most_bytes}
-use Rattle.jm_top.specs.Scripts.{IsScript, IsScriptFault, too_long, in_line}
-use Rattle.jm_top.specs.Jobs.{Refused, Replay, IsJob, no_command, bad_spec, bad_script, replay, Holds, ReachesFile, first_file, second_file, IsCaused, AreTold}
-use Rattle.jm_top.specs.Causes.{IsBeforeWriting, IsSpecUnloaded, IsScriptUnloaded, IsNoSpecification, IsNoScript, IsSpecUnread, IsScriptUnread}
-use Rattle.jm_top.specs.Replays.{IsTextOfReplay}
+use Rattle.jm_top.specs.Sources.{Source, Named, Holds, Gives}
+use Rattle.jm_top.specs.Commands.{spelled_command, spec_sources, script_sources, needs_families}
+use Rattle.jm_top.specs.Specifications.{Specification, too_long as spec_too_long, most_bytes}
+use Rattle.jm_top.specs.Scripts.{IsScriptFault, too_long}
+use Rattle.jm_top.specs.Inputs.{IsRefusal, faulty, SaySpecifications, AreReadUpTo, step_count, SayScripts, AreScriptsUpTo}
+use Rattle.jm_top.specs.Jobs.{Refused, Accepted, IsJob, no_command, bad_spec, bad_script, accepted, ReachesFile, spec_file, script_file, IsCaused, AreTold}
+use Rattle.jm_top.specs.Causes.{IsBeforeWriting, IsNoSpec, IsNoSpecIn, StopsSpecs, IsNoScript, IsNoScriptIn, StopsScripts, StopsInputs, StopsCommand, short, at_spec, at_script, IsTextOfCommand}
 use Rattle.jm_top.specs.Endings.{IsText}
-use Rattle.jm_top.proofs.OneReadingLemmas.{one_specification, specification_has_no_fault, same_some, never_some}
-
--- a script has no fault
-pub script_has_no_fault : (s : Specification) (bytes : List ℕ) (script : List ScriptLine) (objects : List (List ℕ)) (fault : ScriptFault) → IsScript s bytes script objects → IsScriptFault s bytes fault → ⊥
-script_has_no_fault s bytes script objects _ h (too_long more) = omega (arith, more, h.small)
-script_has_no_fault s bytes script objects _ h (in_line fault small some) = never_some (sym h.sound ∙ some)
-
--- what a file holds is one thing, where it is told
-told_one : (o : Option (List ℕ)) (a b : List ℕ) → IsSome o → IfSome o (λ held. a ≡ held) → IfSome o (λ held. b ≡ held) → a ≡ b
-told_one None a b told ha hb = absurd cc
-told_one (Some held) a b told ha hb = ha ∙ sym hb
+use Rattle.jm_top.proofs.OneReadingLemmas.{same_some, never_some}
+use Rattle.jm_top.proofs.InputLemmas.{say_one, specs_not_refused, scripts_not_refused}
 
 module _ (words : List (List ℕ)) (contents : List ℕ → Option (List ℕ)) (told : AreTold words contents) where
-  same_file : (o : Option (List ℕ × List ℕ)) (f g s t : List ℕ) → o ≡ Some (f, s) → o ≡ Some (g, t) → f ≡ g
-  same_file o f g s t a b = ap (λ (p : List ℕ × List ℕ). p.0) (same_some (sym a ∙ b))
-
-  same_script : (o : Option (List ℕ × List ℕ)) (f g s t : List ℕ) → o ≡ Some (f, s) → o ≡ Some (g, t) → s ≡ t
-  same_script o f g s t a b = ap (λ (p : List ℕ × List ℕ). p.1) (same_some (sym a ∙ b))
-
-  same_bytes : (name other a b : List ℕ) → name ≡ other → IsSome (contents name) → Holds contents name a → Holds contents other b → a ≡ b
-  same_bytes name other a b same some ha hb = told_one (contents name) a b some ha (subst (λ n. Holds contents n b) (sym same) hb)
+  same_command : (c d : CommandWords) → spelled_command words ≡ Some c → spelled_command words ≡ Some d → d ≡ c
+  same_command c d a b = same_some (sym b ∙ a)
 
   -- a job that isn't refused is refused for nothing
-  pub not_refused : (status : Status) (s : Specification) (script : List ScriptLine) (objects : List (List ℕ)) → IsJob words contents (Replay s script objects) → IsJob words contents (Refused status) → ⊥
-  not_refused status _ _ _ (replay file sc bytes text s steps objects spelled held said holds is) (no_command none) = never_some (sym none ∙ spelled)
-  not_refused _ _ _ _ (replay file sc bytes text s steps objects spelled held said holds is) (bad_spec f t b fault names has faulty) =
-      let same = same_bytes file f bytes b (same_file _ file f sc t spelled names) (told file sc spelled).0 held has in
-      specification_has_no_fault b s fault (subst (λ x. IsSpecification x s) same said) faulty
-  not_refused _ _ _ _ (replay file sc bytes text s steps objects spelled held said holds is) (bad_script f t b x r fault names has says hold faulty) =
-      let same = same_bytes file f bytes b (same_file _ file f sc t spelled names) (told file sc spelled).0 held has in
-      let same_spec = one_specification b s r (subst (λ y. IsSpecification y s) same said) says in
-      let other = same_bytes sc t text x (same_script _ file f sc t spelled names) (told file sc spelled).1 holds hold in
-      script_has_no_fault r x steps objects fault (subst (λ y. IsScript r y steps objects) other (subst (λ q. IsScript q text steps objects) same_spec is)) faulty
+  pub not_refused : (status : Status) (c : CommandWords) (specs : List Specification) (scripts : List (List ScriptLine)) (objects : List (List ℕ)) → IsJob words contents (Accepted c specs scripts objects) → IsJob words contents (Refused status) → ⊥
+  not_refused status _ _ _ _ (accepted c specs scripts objects spelled said tells) (no_command none) = never_some (sym none ∙ spelled)
+  not_refused _ _ _ _ _ (accepted c specs scripts objects spelled said tells) (bad_spec d number source before bytes fault names reached given is) =
+      let same = same_command c d spelled names in
+      let all = told c spelled in
+      specs_not_refused contents (needs_families c) (spec_sources c) number source specs before bytes fault all.0 said
+      (subst (λ (x : CommandWords). AreReadUpTo contents (needs_families x) (spec_sources x) number source before) same reached) given (subst (λ (x : CommandWords). IsRefusal (needs_families x) before bytes fault) same is)
+  not_refused _ _ _ _ _ (accepted c specs scripts objects spelled said tells) (bad_script d others number source before names bytes fault spells says reached given is) =
+      let same = same_command c d spelled spells in
+      let all = told c spelled in
+      let one = say_one contents (needs_families c) [] (spec_sources c) others specs all.0 (subst (λ (x : CommandWords). SaySpecifications contents (needs_families x) [] (spec_sources x) others) same says) said in
+      scripts_not_refused contents specs (script_sources c) number source scripts before objects names bytes fault all.1 tells
+      (subst (λ v. AreScriptsUpTo contents v (script_sources c) number source before names) one (subst (λ (x : CommandWords). AreScriptsUpTo contents others (script_sources x) number source before names) same reached)) given
+      (subst (λ v. IsScriptFault v (step_count before) names bytes fault) one is)
 
   -- A command whose job isn't refused, and that met no fault of the folder or the sink, was done, or memory was short.
-  pub completes : (s : Specification) (script : List ScriptLine) (objects : List (List ℕ)) → IsJob words contents (Replay s script objects) → (status : Status) → IsCaused words contents status
+  pub completes : (c : CommandWords) (specs : List Specification) (scripts : List (List ScriptLine)) (objects : List (List ℕ)) → IsJob words contents (Accepted c specs scripts objects) → (status : Status) → IsCaused words contents status
       → ((file : ℕ) → status ≡ ReadFailed file → ⊥) → (status ≡ WriteFailed → ⊥) → (status ≡ Done) ⊎ (status ≡ NoMemory)
-  completes s script objects job Done caused no_read no_write = inl refl
-  completes s script objects job NoMemory caused no_read no_write = inr refl
-  completes s script objects job Usage caused no_read no_write = absurd (not_refused Usage s script objects job caused)
-  completes s script objects job (BadSpec f x) caused no_read no_write = absurd (not_refused (BadSpec f x) s script objects job caused)
-  completes s script objects job (BadScript f x) caused no_read no_write = absurd (not_refused (BadScript f x) s script objects job caused)
-  completes s script objects job (ReadFailed f) caused no_read no_write = absurd (no_read f refl)
-  completes s script objects job WriteFailed caused no_read no_write = absurd (no_write refl)
+  completes c specs scripts objects job Done caused no_read no_write = inl refl
+  completes c specs scripts objects job NoMemory caused no_read no_write = inr refl
+  completes c specs scripts objects job Usage caused no_read no_write = absurd (not_refused Usage c specs scripts objects job caused)
+  completes c specs scripts objects job (BadSpec f x) caused no_read no_write = absurd (not_refused (BadSpec f x) c specs scripts objects job caused)
+  completes c specs scripts objects job (BadScript f x) caused no_read no_write = absurd (not_refused (BadScript f x) c specs scripts objects job caused)
+  completes c specs scripts objects job (ReadFailed f) caused no_read no_write = absurd (no_read f refl)
+  completes c specs scripts objects job WriteFailed caused no_read no_write = absurd (no_write refl)
 
 -- ---- the causes, in the order of the work
+
+module _ (words : List (List ℕ)) (contents : List ℕ → Option (List ℕ)) (c : CommandWords) (spelled : spelled_command words ≡ Some c) where
+  specs_stopped : (status : Status) → StopsSpecs contents (needs_families c) (spec_sources c) status → IsCaused words contents status
+  specs_stopped (BadSpec f x) h =
+      let same : h.number ≡ f = sym h.stopped.0 in
+      bad_spec c f h.source h.before h.stopped.1.0 x spelled (subst (λ n. AreReadUpTo contents (needs_families c) (spec_sources c) n h.source h.before) same h.reached) h.stopped.1.1 h.stopped.1.2
+  specs_stopped (ReadFailed f) h =
+      let same : h.number ≡ f = sym h.stopped.0 in
+      spec_file c f h.source h.before spelled (subst (λ n. AreReadUpTo contents (needs_families c) (spec_sources c) n h.source h.before) same h.reached) h.stopped.1
+  specs_stopped NoMemory h = tt
+  specs_stopped Done h = absurd h.stopped
+  specs_stopped Usage h = absurd h.stopped
+  specs_stopped (BadScript n x) h = absurd h.stopped
+  specs_stopped WriteFailed h = absurd h.stopped
+
+  scripts_stopped : (specs : List Specification) → SaySpecifications contents (needs_families c) [] (spec_sources c) specs → (status : Status) → StopsScripts contents specs (length (spec_sources c)) (script_sources c) status → IsCaused words contents status
+  scripts_stopped specs said (BadScript k x) h =
+      let same : h.number ≡ k = sym h.stopped.0 in
+      bad_script c specs k h.source h.before h.names h.stopped.1.0 x spelled said (subst (λ n. AreScriptsUpTo contents specs (script_sources c) n h.source h.before h.names) same h.reached) h.stopped.1.1 h.stopped.1.2
+  scripts_stopped specs said (ReadFailed f) h =
+      subst (λ n. ReachesFile words contents n) (sym h.stopped.0) (script_file c specs h.number h.source h.before h.names spelled said h.reached h.stopped.1)
+  scripts_stopped specs said NoMemory h = tt
+  scripts_stopped specs said Done h = absurd h.stopped
+  scripts_stopped specs said Usage h = absurd h.stopped
+  scripts_stopped specs said (BadSpec n x) h = absurd h.stopped
+  scripts_stopped specs said WriteFailed h = absurd h.stopped
+
+  pub stopped_caused : (status : Status) → StopsCommand contents c status → IsCaused words contents status
+  stopped_caused _ short = tt
+  stopped_caused _ (at_spec status h) = specs_stopped status h
+  stopped_caused _ (at_script specs status said h) = scripts_stopped specs said status h
+
+  pub text_made : (text : List ℕ) → IsTextOfCommand contents c text → IsText words contents text
+  text_made text h = record {
+    job = Accepted c h.specs h.scripts h.objects;
+    is_job = accepted c h.specs h.scripts h.objects spelled h.said h.told;
+    is_text = h.is_text;
+  }
+
+-- ---- such a status comes before anything is written
+
+before_spec : (contents : List ℕ → Option (List ℕ)) (families : Bool) (before : List Specification) (number : ℕ) (source : Source) (status : Status) → IsNoSpec contents families before number source status → IsBeforeWriting status
+before_spec contents families before number source Done h = h
+before_spec contents families before number source WriteFailed h = h
+before_spec contents families before number source Usage h = tt
+before_spec contents families before number source (BadSpec f x) h = tt
+before_spec contents families before number source (BadScript f x) h = tt
+before_spec contents families before number source (ReadFailed f) h = tt
+before_spec contents families before number source NoMemory h = tt
+
+before_script : (contents : List ℕ → Option (List ℕ)) (specs : List Specification) (files count : ℕ) (names : List (List ℕ)) (number : ℕ) (source : Source) (status : Status) → IsNoScript contents specs files count names number source status → IsBeforeWriting status
+before_script contents specs files count names number source Done h = h
+before_script contents specs files count names number source WriteFailed h = h
+before_script contents specs files count names number source Usage h = tt
+before_script contents specs files count names number source (BadSpec f x) h = tt
+before_script contents specs files count names number source (BadScript f x) h = tt
+before_script contents specs files count names number source (ReadFailed f) h = tt
+before_script contents specs files count names number source NoMemory h = tt
+
+pub stopped_before : (contents : List ℕ → Option (List ℕ)) (c : CommandWords) (status : Status) → StopsCommand contents c status → IsBeforeWriting status
+stopped_before contents c _ short = tt
+stopped_before contents c _ (at_spec status h) = before_spec contents (needs_families c) h.before h.number h.source status h.stopped
+stopped_before contents c _ (at_script specs status said h) = before_script contents specs (length (spec_sources c)) (step_count h.before) h.names h.number h.source status h.stopped
+
+-- ---- files
 
 -- there are bytes of more than any number
 more_than : (n : ℕ) → (bytes : List ℕ) × (n < length bytes)
@@ -71,136 +128,43 @@ too_long_bytes : (o : Option (List ℕ)) → IfSome o (λ held. most_bytes < len
 too_long_bytes None h = let more = more_than most_bytes in (more.0, tt, more.1)
 too_long_bytes (Some held) h = (held, refl, h)
 
--- bytes that a folder holds later are those that it held before
-pub held_before : (before after : List ℕ → Option (List ℕ)) (name bytes : List ℕ) → after name ≡ before name → Holds after name bytes → Holds before name bytes
-held_before before after name bytes same h = subst (λ o. IfSome o (λ held. bytes ≡ held)) same h
+-- a file that is too long says no specification, and no script
+pub long_spec : (contents : List ℕ → Option (List ℕ)) (name : List ℕ) (families : Bool) (before : List Specification) → IfSome (contents name) (λ held. most_bytes < length held) → (bytes : List ℕ) × Gives contents (Named name) bytes × IsRefusal families before bytes spec.TooLong
+long_spec contents name families before h =
+    let long = too_long_bytes (contents name) h in
+    (long.0, long.1, faulty (spec_too_long long.2))
 
-pub too_long_before : (before after : List ℕ → Option (List ℕ)) (name : List ℕ) (status : Status) → after name ≡ before name → IsScriptUnloaded after name status → IsScriptUnloaded before name status
-too_long_before before after name (BadScript n x) same h = (h.0, h.1, subst (λ o. IfSome o (λ held. most_bytes < length held)) same h.2)
-too_long_before before after name (ReadFailed f) same h = h
-too_long_before before after name NoMemory same h = tt
-too_long_before before after name Done same h = absurd h
-too_long_before before after name Usage same h = absurd h
-too_long_before before after name (BadSpec f x) same h = absurd h
-too_long_before before after name WriteFailed same h = absurd h
+pub long_script : (contents : List ℕ → Option (List ℕ)) (name : List ℕ) (specs : List Specification) (count : ℕ) (names : List (List ℕ)) → IfSome (contents name) (λ held. most_bytes < length held) → (bytes : List ℕ) × Gives contents (Named name) bytes × IsScriptFault specs count names bytes script.TooLong
+long_script contents name specs count names h =
+    let long = too_long_bytes (contents name) h in
+    (long.0, long.1, too_long long.2)
 
-module _ (words : List (List ℕ)) (contents : List ℕ → Option (List ℕ)) (file name : List ℕ) (spelled : replay_names words ≡ Some (file, name)) where
-  pub spec_unloaded : (status : Status) → IsSpecUnloaded contents file status → IsCaused words contents status
-  spec_unloaded (BadSpec f x) h =
-      let long = too_long_bytes (contents file) h.2 in
-      subst (λ (j : Status). IsJob words contents (Refused j)) (λ i. BadSpec (sym h.0 i) (sym h.1 i)) (bad_spec file name long.0 spec.TooLong spelled long.1 (spec_too_long long.2))
-  spec_unloaded (ReadFailed f) h = subst (λ n. ReachesFile words contents n) (sym h) (first_file file name spelled)
-  spec_unloaded NoMemory h = tt
-  spec_unloaded Done h = absurd h
-  spec_unloaded Usage h = absurd h
-  spec_unloaded (BadScript n x) h = absurd h
-  spec_unloaded WriteFailed h = absurd h
+-- bytes that say none, as they stand in a source
+pub spec_from : (contents : List ℕ → Option (List ℕ)) (families : Bool) (before : List Specification) (number : ℕ) (source : Source) (bytes : List ℕ) → Gives contents source bytes → (status : Status) → IsNoSpecIn families before number bytes status → IsNoSpec contents families before number source status
+spec_from contents families before number source bytes given (BadSpec f x) h = (h.0, (bytes, given, h.1))
+spec_from contents families before number source bytes given NoMemory h = tt
+spec_from contents families before number source bytes given Done h = absurd h
+spec_from contents families before number source bytes given Usage h = absurd h
+spec_from contents families before number source bytes given (BadScript n x) h = absurd h
+spec_from contents families before number source bytes given (ReadFailed n) h = absurd h
+spec_from contents families before number source bytes given WriteFailed h = absurd h
 
-  module _ (bytes : List ℕ) (held : Holds contents file bytes) where
-    pub no_specification : (status : Status) → IsNoSpecification bytes status → IsCaused words contents status
-    no_specification (BadSpec f x) h =
-        subst (λ (n : ℕ). IsJob words contents (Refused (BadSpec n x))) (sym h.0) (bad_spec file name bytes x spelled held h.1)
-    no_specification NoMemory h = tt
-    no_specification (ReadFailed f) h = absurd h
-    no_specification Done h = absurd h
-    no_specification Usage h = absurd h
-    no_specification (BadScript n x) h = absurd h
-    no_specification WriteFailed h = absurd h
+pub script_from : (contents : List ℕ → Option (List ℕ)) (specs : List Specification) (files count : ℕ) (names : List (List ℕ)) (number : ℕ) (source : Source) (bytes : List ℕ) → Gives contents source bytes → (status : Status) → IsNoScriptIn specs count names number bytes status → IsNoScript contents specs files count names number source status
+script_from contents specs files count names number source bytes given (BadScript k x) h = (h.0, (bytes, given, h.1))
+script_from contents specs files count names number source bytes given NoMemory h = tt
+script_from contents specs files count names number source bytes given Done h = absurd h
+script_from contents specs files count names number source bytes given Usage h = absurd h
+script_from contents specs files count names number source bytes given (BadSpec n x) h = absurd h
+script_from contents specs files count names number source bytes given (ReadFailed n) h = absurd h
+script_from contents specs files count names number source bytes given WriteFailed h = absurd h
 
-    module _ (s : Specification) (said : IsSpecification bytes s) where
-      pub script_unloaded : (status : Status) → IsScriptUnloaded contents name status → IsCaused words contents status
-      script_unloaded (BadScript n x) h =
-          let long = too_long_bytes (contents name) h.2 in
-          subst (λ (j : Status). IsJob words contents (Refused j)) (λ i. BadScript (sym h.0 i) (sym h.1 i))
-          (bad_script file name bytes long.0 s script.TooLong spelled held said long.1 (too_long long.2))
-      script_unloaded (ReadFailed f) h = subst (λ n. ReachesFile words contents n) (sym h) (second_file file name bytes s spelled held said)
-      script_unloaded NoMemory h = tt
-      script_unloaded Done h = absurd h
-      script_unloaded Usage h = absurd h
-      script_unloaded (BadSpec f x) h = absurd h
-      script_unloaded WriteFailed h = absurd h
-
-      module _ (text : List ℕ) (holds : Holds contents name text) where
-        pub no_script : (status : Status) → IsNoScript s text status → IsCaused words contents status
-        no_script (BadScript n x) h =
-            subst (λ (k : ℕ). IsJob words contents (Refused (BadScript k x))) (sym h.0) (bad_script file name bytes text s x spelled held said holds h.1)
-        no_script NoMemory h = tt
-        no_script (ReadFailed f) h = absurd h
-        no_script Done h = absurd h
-        no_script Usage h = absurd h
-        no_script (BadSpec f x) h = absurd h
-        no_script WriteFailed h = absurd h
-
-        pub text_made : (steps : List ScriptLine) (objects : List (List ℕ)) (printed : List ℕ) → IsScript s text steps objects → IsTextOfReplay s steps objects printed → IsText words contents printed
-        text_made steps objects printed is made = record {
-          job = Replay s steps objects;
-          is_job = replay file name bytes text s steps objects spelled held said holds is;
-          is_text = made;
-        }
-
--- such a status comes before anything is written
-pub before_spec_load : (contents : List ℕ → Option (List ℕ)) (name : List ℕ) (status : Status) → IsSpecUnloaded contents name status → IsBeforeWriting status
-before_spec_load contents name Done h = h
-before_spec_load contents name WriteFailed h = h
-before_spec_load contents name Usage h = tt
-before_spec_load contents name (BadSpec f x) h = tt
-before_spec_load contents name (BadScript f x) h = tt
-before_spec_load contents name (ReadFailed f) h = tt
-before_spec_load contents name NoMemory h = tt
-
-pub before_script_load : (contents : List ℕ → Option (List ℕ)) (name : List ℕ) (status : Status) → IsScriptUnloaded contents name status → IsBeforeWriting status
-before_script_load contents name Done h = h
-before_script_load contents name WriteFailed h = h
-before_script_load contents name Usage h = tt
-before_script_load contents name (BadSpec f x) h = tt
-before_script_load contents name (BadScript f x) h = tt
-before_script_load contents name (ReadFailed f) h = tt
-before_script_load contents name NoMemory h = tt
-
-pub before_specification : (bytes : List ℕ) (status : Status) → IsNoSpecification bytes status → IsBeforeWriting status
-before_specification bytes Done h = h
-before_specification bytes WriteFailed h = h
-before_specification bytes Usage h = tt
-before_specification bytes (BadSpec f x) h = tt
-before_specification bytes (BadScript f x) h = tt
-before_specification bytes (ReadFailed f) h = tt
-before_specification bytes NoMemory h = tt
-
-pub before_script : (s : Specification) (bytes : List ℕ) (status : Status) → IsNoScript s bytes status → IsBeforeWriting status
-before_script s bytes Done h = h
-before_script s bytes WriteFailed h = h
-before_script s bytes Usage h = tt
-before_script s bytes (BadSpec f x) h = tt
-before_script s bytes (BadScript f x) h = tt
-before_script s bytes (ReadFailed f) h = tt
-before_script s bytes NoMemory h = tt
+-- such a status is no failed read
+pub spec_not_unread : (families : Bool) (before : List Specification) (number : ℕ) (bytes : List ℕ) (file : ℕ) → IsNoSpecIn families before number bytes (ReadFailed file) → ⊥
+spec_not_unread families before number bytes file h = h
 
 -- a count that rose later rose since before
 pub risen_before : {before middle after : ℕ} → before ≤ middle → HasRisen middle after → HasRisen before after
 risen_before {before} {middle} {after} le h = elim h [ inl more ↦ inl (omega (arith, le, more)) | inr last ↦ inr last ]
-
--- ---- what isn't read
-
-pub spec_unread : (words : List (List ℕ)) (contents : List ℕ → Option (List ℕ)) (file name : List ℕ) → replay_names words ≡ Some (file, name) → (status : Status) → IsSpecUnread contents file status → IsCaused words contents status
-spec_unread words contents file name spelled status (inl h) = spec_unloaded words contents file name spelled status h
-spec_unread words contents file name spelled status (inr h) = no_specification words contents file name spelled h.0 h.1 status h.2
-
-pub script_unread : (words : List (List ℕ)) (contents : List ℕ → Option (List ℕ)) (file name : List ℕ) → replay_names words ≡ Some (file, name) → (bytes : List ℕ) → Holds contents file bytes → (s : Specification) → IsSpecification bytes s
-    → (status : Status) → IsScriptUnread contents name s status → IsCaused words contents status
-script_unread words contents file name spelled bytes held s said status (inl h) = script_unloaded words contents file name spelled bytes held s said status h
-script_unread words contents file name spelled bytes held s said status (inr h) = no_script words contents file name spelled bytes held s said h.0 h.1 status h.2
-
-pub unread_before : (before after : List ℕ → Option (List ℕ)) (name : List ℕ) (s : Specification) (status : Status) → after name ≡ before name → IsScriptUnread after name s status → IsScriptUnread before name s status
-unread_before before after name s status same (inl h) = inl (too_long_before before after name status same h)
-unread_before before after name s status same (inr h) = inr (h.0, held_before before after name h.0 same h.1, h.2)
-
-pub before_spec_unread : (contents : List ℕ → Option (List ℕ)) (name : List ℕ) (status : Status) → IsSpecUnread contents name status → IsBeforeWriting status
-before_spec_unread contents name status (inl h) = before_spec_load contents name status h
-before_spec_unread contents name status (inr h) = before_specification h.0 status h.2
-
-pub before_script_unread : (contents : List ℕ → Option (List ℕ)) (name : List ℕ) (s : Specification) (status : Status) → IsScriptUnread contents name s status → IsBeforeWriting status
-before_script_unread contents name s status (inl h) = before_script_load contents name status h
-before_script_unread contents name s status (inr h) = before_script s h.0 status h.2
 
 -- what holds of a value or of an error that a call answers
 pub for_ok : {V E : Type 0} (P Q : V → Type 0) (r : Result V E) → ((v : V) → P v → Q v) → IfOk r P → IfOk r Q
@@ -213,3 +177,8 @@ for_err P Q (Err e) f h = f e h
 
 pub error_is : {V E : Type 0} (P : E → Type 0) (r : Result V E) (e : E) → r ≡ Err e → IfErr r P → P e
 error_is P r e is h = subst (λ q. IfErr q P) is h
+
+-- words that spell no command
+pub words_caused : (words : List (List ℕ)) (contents : List ℕ → Option (List ℕ)) (status : Status) → ((status ≡ Usage) × (spelled_command words ≡ None)) ⊎ (status ≡ NoMemory) → IsCaused words contents status
+words_caused words contents status (inl h) = subst (IsCaused words contents) (sym h.0) (no_command h.1)
+words_caused words contents status (inr e) = subst (IsCaused words contents) (sym e) tt

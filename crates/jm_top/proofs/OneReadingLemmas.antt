@@ -160,7 +160,10 @@ one_specification bytes s t h k =
     let moved : BlocksSay bytes k.tokens k.tree.table.parameters k.tree.handlers.items s.texts =
     rw (sym told.tokens, sym tree.table, sym tree.handlers) h.texts in
     let texts = blocks-same bytes k.tokens k.tree.table.parameters k.tree.handlers.items s.texts t.texts moved k.texts in
-    λ i. record { name = name i; table = table i; rules = rules i; texts = texts i }
+    let logic = h.logic ∙ tree.logic ∙ sym k.logic in
+    let logic_line = h.logic_line ∙ tree.line ∙ sym k.logic_line in
+    let full = h.full_binding ∙ tree.full ∙ sym k.full_binding in
+    λ i. record { name = name i; table = table i; logic = logic i; logic_line = logic_line i; full_binding = full i; rules = rules i; texts = texts i }
 
 -- no bytes say a specification and a fault
 pub specification_has_no_fault : (bytes : List ℕ) (s : Specification) (fault : SpecFault) → IsSpecification bytes s → IsSpecFault bytes fault → ⊥

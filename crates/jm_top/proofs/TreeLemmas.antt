@@ -1,8 +1,7 @@
 -- What the bytes of a file say.
-use Rattle.std.proofs.Common.{◌≡◌, ℕ, ◌+◌, ◌<◌, ◌≤◌, List, [], ◌∷◌, length, Result, Ok, Err, IfOk, refl, ap, arith}
-use Rattle.std.specs.Prelude.{All, ◌^◌, string_bytes}
+use Rattle.std.proofs.Common.{◌≡◌, ℕ, ◌+◌, ◌<◌, ◌≤◌, List, [], ◌∷◌, length, refl, sym, ap, subst, ◌∙◌, arith}
+use Rattle.std.specs.Prelude.{All, ◌^◌, map, string_bytes}
 use Rattle.jm_model.specs.declared.fault.SpecFault.{SpecFault}
-use Rattle.jm_model.specs.declared.fault.SpecError.{SpecError}
 use Rattle.jm_text.specs.declared.token.Token.{Token}
 use Rattle.jm_text.specs.Spans.{LieInOrder}
 use Rattle.jm_text.specs.Tokens.{AreTokensOf}
@@ -11,6 +10,8 @@ use Rattle.jm_handler.specs.declared.term.Term.{Term}
 use Rattle.jm_spec.specs.declared.tree.SpecTree.{SpecTree}
 use Rattle.jm_spec.specs.Trees.{IsTreeOfTokens}
 use Rattle.jm_machine.specs.Meanings.{RuleDefinition}
+use Rattle.jm_machine.specs.RuleSets.{CompiledRules}
+use Rattle.jm_events.specs.Events.{EventDefinitions}
 use Rattle.jm_machine.specs.Compiling.{IsCompiledFrom, IsFaultyTree}
 use Rattle.jm_top.specs.declared.specification.Loaded.{Loaded}
 use Rattle.jm_top.specs.Specifications.{IsTold, IsSpecFault, in_tree, BlocksSay, most_bytes}
@@ -24,22 +25,33 @@ module _ (bytes : List ℕ) (tokens : List Token) (small : length bytes ≤ most
   tree_fault_of tree fault told h = in_tree tokens tree fault (told_of tree told) h
 
   -- what is kept of a specification
-  pub read_of : (tree : SpecTree) (rules : RuleDefinition) (title : List ℕ) (texts : List (List (List Term))) (r : Result Loaded SpecError) → IsTreeOfTokens bytes tokens tree → IsCompiledFrom bytes tokens tree rules → title ≡ name_of bytes tree.name
-      → All (λ mask. mask < 2 ^ length tree.table.parameters) rules.masks → length rules.handlers ≤ 16
-      → BlocksSay bytes tokens tree.table.parameters tree.handlers.items texts → IfOk r (λ l. l.texts.items ≡ texts)
-      → IfOk r (λ l. string_bytes l.name ≡ title) → IfOk r (λ l. l.table ≡ tree.table) → IfOk r (λ l. l.handlers ≡ rules.handlers) → IfOk r (λ l. l.catalog ≡ record { name = title; table = tree.table } ∷ []) → IfOk r (λ l. l.rules.definition ≡ rules)
-      → IfOk r (IsRead bytes)
-  read_of tree rules title texts (Err e) told compiled titled fit few say printed name table handlers catalog is = tt
-  read_of tree rules title texts (Ok l) told compiled titled fit few say printed name table handlers catalog is = record {
-    specification = record { name = title; table = tree.table; rules = rules; texts = texts };
-    said = record { tokens = tokens; tree = tree; told = told_of tree told; rules = compiled; name = titled; table = refl; texts = say };
-    kept = record {
-      keeps = record { name = name; table = table; handlers = handlers; texts = printed; catalog = catalog; rules = is };
-      masks = ap (λ (x : RuleDefinition). x.masks) compiled.rules;
-      fit = fit;
-      few = few;
-    };
-  }
+  pub read_of : (tree : SpecTree) (l : Loaded) (rules : CompiledRules) (texts : List (List (List Term))) → IsTreeOfTokens bytes tokens tree → IsCompiledFrom bytes tokens tree rules.definition
+      → All (λ mask. mask < 2 ^ length tree.table.parameters) rules.definition.masks → length rules.definition.handlers ≤ 16
+      → BlocksSay bytes tokens tree.table.parameters tree.handlers.items texts → l.rules ≡ rules → l.titles.texts.items ≡ texts
+      → string_bytes l.titles.name ≡ name_of bytes tree.name → l.titles.table ≡ tree.table → l.titles.handlers ≡ rules.definition.handlers
+      → l.titles.logic ≡ tree.logic → l.titles.logic_line ≡ tree.logic_line → l.titles.full_binding ≡ tree.full_binding → IsRead bytes l
+  read_of tree l rules texts told compiled fit few say is printed titled table handlers logic line full =
+      let masks : rules.definition.masks ≡ map (λ e. e.mask) tree.table.events = ap (λ (x : RuleDefinition). x.masks) compiled.rules in
+      record {
+        said = record {
+          tokens = tokens;
+          tree = tree;
+          told = told_of tree told;
+          rules = subst (λ (r : CompiledRules). IsCompiledFrom bytes tokens tree r.definition) (sym is) compiled;
+          name = titled;
+          table = table;
+          logic = logic;
+          logic_line = line;
+          full_binding = full;
+          texts = subst (λ v. BlocksSay bytes tokens tree.table.parameters tree.handlers.items v) (sym printed) say;
+        };
+        kept = record {
+          handlers = handlers ∙ ap (λ (r : CompiledRules). r.definition.handlers) (sym is);
+          masks = ap (λ (r : CompiledRules). r.definition.masks) is ∙ masks ∙ ap (λ (t : EventDefinitions). map (λ e. e.mask) t.events) (sym table);
+          fit = subst (λ (t : EventDefinitions). All (λ mask. mask < 2 ^ length t.parameters) l.rules.definition.masks) (sym table) (subst (λ (r : CompiledRules). All (λ mask. mask < 2 ^ length tree.table.parameters) r.definition.masks) (sym is) fit);
+          few = subst (λ (r : CompiledRules). length r.definition.handlers ≤ 16) (sym is) few;
+        };
+      }
 
 -- ---- the tokens of a file
 pub tokens_few : (from to : ℕ) (tokens : List Token) → LieInOrder from tokens to → from + length tokens ≤ to

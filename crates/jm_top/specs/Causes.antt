@@ -1,12 +1,17 @@
 -- Why the work of a command ends before its text is written.
-use Rattle.std.specs.Prelude.{ℕ, ◌≡◌, ◌<◌, ◌⊎◌, List, length, Option, IfSome}
-use Rattle.jm_model.specs.declared.fault.SpecFault.TheVariants as spec
-use Rattle.jm_model.specs.declared.fault.ScriptFault.TheVariants as script
+use Rattle.std.specs.Prelude.{ℕ, ◌+◌, ◌≡◌, ◌⊎◌, Bool, false, List, [], length, Option}
+use Rattle.jm_model.specs.declared.fault.SpecFault.{SpecFault}
+use Rattle.jm_script.specs.declared.script.ScriptLine.{ScriptLine}
 use Rattle.jm_top.specs.declared.status.Status.{Status}
 use Rattle.jm_top.specs.declared.status.Status.TheVariants.{Done, BadSpec, BadScript, ReadFailed, WriteFailed, NoMemory}
-use Rattle.jm_top.specs.Specifications.{Specification, IsSpecFault, most_bytes}
+use Rattle.jm_top.specs.Sources.{Source, IsFile, Gives}
+use Rattle.jm_top.specs.Specifications.{Specification}
 use Rattle.jm_top.specs.Scripts.{IsScriptFault}
-use Rattle.jm_top.specs.Jobs.{Holds}
+use Rattle.jm_top.specs.Inputs.{IsRefusal, SaySpecifications, AreReadUpTo, step_count, SayScripts, AreScriptsUpTo}
+use Rattle.jm_cli.specs.Words.{CommandWords}
+use Rattle.jm_top.specs.Commands.{spec_sources, script_sources, needs_families}
+use Rattle.jm_top.specs.Jobs.{Accepted}
+use Rattle.jm_top.specs.Texts.{IsTextOf}
 
 -- a status that comes before anything is written
 abbrev pub IsBeforeWriting : Status → Type 0
@@ -14,39 +19,70 @@ IsBeforeWriting Done = ⊥
 IsBeforeWriting WriteFailed = ⊥
 IsBeforeWriting _ = Unit {0}
 
--- the file of this name holds too much, as far as it is told what files hold
-abbrev pub IsTooLong : (List ℕ → Option (List ℕ)) → List ℕ → Type 0
-IsTooLong contents name = IfSome (contents name) (λ held. most_bytes < length held)
+-- these bytes, which have this number, say no specification behind these
+abbrev pub IsNoSpecIn : Bool → List Specification → ℕ → List ℕ → Status → Type 0
+IsNoSpecIn families before number bytes (BadSpec file fault) = (file ≡ number) × IsRefusal families before bytes fault
+IsNoSpecIn families before number bytes NoMemory = Unit {0}
+IsNoSpecIn families before number bytes _ = ⊥
 
--- the specification, or the script, wasn't loaded
-abbrev pub IsSpecUnloaded : (List ℕ → Option (List ℕ)) → List ℕ → Status → Type 0
-IsSpecUnloaded contents name (BadSpec file fault) = (file ≡ 0) × (fault ≡ spec.TooLong) × IsTooLong contents name
-IsSpecUnloaded contents name (ReadFailed file) = file ≡ 0
-IsSpecUnloaded contents name NoMemory = Unit {0}
-IsSpecUnloaded contents name _ = ⊥
+-- these bytes, which have this number, say no script behind others with so many steps and these names of objects
+abbrev pub IsNoScriptIn : List Specification → ℕ → List (List ℕ) → ℕ → List ℕ → Status → Type 0
+IsNoScriptIn specs count names number bytes (BadScript script fault) = (script ≡ number) × IsScriptFault specs count names bytes fault
+IsNoScriptIn specs count names number bytes NoMemory = Unit {0}
+IsNoScriptIn specs count names number bytes _ = ⊥
 
-abbrev pub IsScriptUnloaded : (List ℕ → Option (List ℕ)) → List ℕ → Status → Type 0
-IsScriptUnloaded contents name (BadScript number fault) = (number ≡ 0) × (fault ≡ script.TooLong) × IsTooLong contents name
-IsScriptUnloaded contents name (ReadFailed file) = file ≡ 1
-IsScriptUnloaded contents name NoMemory = Unit {0}
-IsScriptUnloaded contents name _ = ⊥
+module _ (contents : List ℕ → Option (List ℕ)) where
+  -- this source, which has this number, gives no specification behind these
+  abbrev pub IsNoSpec : Bool → List Specification → ℕ → Source → Status → Type 0
+  IsNoSpec families before number source (BadSpec file fault) = (file ≡ number) × ((bytes : List ℕ) × Gives contents source bytes × IsRefusal families before bytes fault)
+  IsNoSpec families before number source (ReadFailed file) = (file ≡ number) × IsFile source
+  IsNoSpec families before number source NoMemory = Unit {0}
+  IsNoSpec families before number source _ = ⊥
 
--- the bytes are no specification, or no script of it
-abbrev pub IsNoSpecification : List ℕ → Status → Type 0
-IsNoSpecification bytes (BadSpec file fault) = (file ≡ 0) × IsSpecFault bytes fault
-IsNoSpecification bytes NoMemory = Unit {0}
-IsNoSpecification bytes _ = ⊥
+  -- one of the sources, of which the ones before it say specifications, gives none
+  pub record StopsSpecs (families : Bool) (sources : List Source) (status : Status) : Type 0 where
+    pub number : ℕ
+    pub source : Source
+    pub before : List Specification
+    pub reached : AreReadUpTo contents families sources number source before
+    pub stopped : IsNoSpec families before number source status
 
-abbrev pub IsNoScript : Specification → List ℕ → Status → Type 0
-IsNoScript s bytes (BadScript number fault) = (number ≡ 0) × IsScriptFault s bytes fault
-IsNoScript s bytes NoMemory = Unit {0}
-IsNoScript s bytes _ = ⊥
+  -- this source, which has this number, gives no script behind these; so many files are before the scripts
+  abbrev pub IsNoScript : List Specification → ℕ → ℕ → List (List ℕ) → ℕ → Source → Status → Type 0
+  IsNoScript specs files count names number source (BadScript script fault) = (script ≡ number) × ((bytes : List ℕ) × Gives contents source bytes × IsScriptFault specs count names bytes fault)
+  IsNoScript specs files count names number source (ReadFailed file) = (file ≡ files + number) × IsFile source
+  IsNoScript specs files count names number source NoMemory = Unit {0}
+  IsNoScript specs files count names number source _ = ⊥
 
--- the specification, or the script, wasn't loaded, or its bytes are none
-abbrev pub IsSpecUnread : (List ℕ → Option (List ℕ)) → List ℕ → Status → Type 0
-IsSpecUnread contents name status =
-    IsSpecUnloaded contents name status ⊎ ((bytes : List ℕ) × Holds contents name bytes × IsNoSpecification bytes status)
+  -- one of the sources, of which the ones before it say scripts, gives none
+  pub record StopsScripts (specs : List Specification) (files : ℕ) (sources : List Source) (status : Status) : Type 0 where
+    pub number : ℕ
+    pub source : Source
+    pub before : List (List ScriptLine)
+    pub names : List (List ℕ)
+    pub reached : AreScriptsUpTo contents specs sources number source before names
+    pub stopped : IsNoScript specs files (step_count before) names number source status
 
-abbrev pub IsScriptUnread : (List ℕ → Option (List ℕ)) → List ℕ → Specification → Status → Type 0
-IsScriptUnread contents name s status =
-    IsScriptUnloaded contents name status ⊎ ((text : List ℕ) × Holds contents name text × IsNoScript s text status)
+-- why specifications from some sources, and scripts from others, aren't read
+abbrev pub StopsInputs : (List ℕ → Option (List ℕ)) → List Source → List Source → Status → Type 0
+StopsInputs contents specs scripts status =
+    StopsSpecs contents false specs status
+    ⊎ ((said : List Specification) × SaySpecifications contents false [] specs said × StopsScripts contents said (length specs) scripts status)
+
+-- why a command ends before its text is written
+pub data StopsCommand (contents : List ℕ → Option (List ℕ)) (command : CommandWords) : Status → Type 0 where
+  short : StopsCommand contents command NoMemory
+  at_spec : (status : Status) → StopsSpecs contents (needs_families command) (spec_sources command) status → StopsCommand contents command status
+  at_script : (specs : List Specification) (status : Status)
+      → SaySpecifications contents (needs_families command) [] (spec_sources command) specs
+      → StopsScripts contents specs (length (spec_sources command)) (script_sources command) status
+      → StopsCommand contents command status
+
+-- the text is one of the command, whose files were read
+pub record IsTextOfCommand (contents : List ℕ → Option (List ℕ)) (command : CommandWords) (text : List ℕ) : Type 0 where
+  pub specs : List Specification
+  pub scripts : List (List ScriptLine)
+  pub objects : List (List ℕ)
+  pub said : SaySpecifications contents (needs_families command) [] (spec_sources command) specs
+  pub told : SayScripts contents specs 0 [] (script_sources command) scripts objects
+  pub is_text : IsTextOf (Accepted command specs scripts objects) text

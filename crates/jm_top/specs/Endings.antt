@@ -4,7 +4,7 @@ use Rattle.jm_port.specs.Faults.{HasRisen}
 use Rattle.jm_port.specs.Sinks.{appended, AppendsPrefix}
 use Rattle.jm_top.specs.FaultTexts.{fault_text_of}
 use Rattle.jm_top.specs.Jobs.{Job, IsJob, IsCaused}
-use Rattle.jm_top.specs.Replays.{IsTextOf}
+use Rattle.jm_top.specs.Texts.{IsTextOf}
 use Rattle.jm_top.specs.declared.status.Status.{Status}
 use Rattle.jm_top.specs.declared.status.Status.TheVariants.{Done, ReadFailed, WriteFailed, NoMemory}
 

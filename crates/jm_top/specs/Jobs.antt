@@ -1,56 +1,59 @@
 -- What a command is to do, by its words and the contents of its files.
-use Rattle.std.specs.Prelude.{ℕ, ◌≡◌, List, Option, Some, None, IfSome, IsSome}
+use Rattle.std.specs.Prelude.{ℕ, ◌+◌, ◌≡◌, List, [], ◌∷◌, length, Option, Some, None}
 use Rattle.jm_model.specs.declared.fault.SpecFault.{SpecFault}
 use Rattle.jm_model.specs.declared.fault.ScriptFault.{ScriptFault}
 use Rattle.jm_script.specs.declared.script.ScriptLine.{ScriptLine}
+use Rattle.jm_cli.specs.Words.{CommandWords}
 use Rattle.jm_top.specs.declared.status.Status.{Status}
 use Rattle.jm_top.specs.declared.status.Status.TheVariants.{Usage, BadSpec, BadScript, ReadFailed}
-use Rattle.jm_top.specs.Words.{replay_names}
-use Rattle.jm_top.specs.Specifications.{Specification, IsSpecification, IsSpecFault}
-use Rattle.jm_top.specs.Scripts.{IsScript, IsScriptFault}
+use Rattle.jm_top.specs.Sources.{Source, IsFile, Gives, AllTold}
+use Rattle.jm_top.specs.Commands.{spelled_command, spec_sources, script_sources, needs_families}
+use Rattle.jm_top.specs.Specifications.{Specification}
+use Rattle.jm_top.specs.Scripts.{IsScriptFault}
+use Rattle.jm_top.specs.Inputs.{IsRefusal, SaySpecifications, AreReadUpTo, step_count, SayScripts, AreScriptsUpTo}
 
--- either the command is refused, or the steps of a script are replayed over a specification, by these names of objects
+-- either the command is refused, or it is done over these specifications and scripts, by these names of objects
 pub data Job : Type 0 where
   Refused : (status : Status) → Job
-  Replay : (specification : Specification) (script : List ScriptLine) (objects : List (List ℕ)) → Job
-
--- the file of this name holds these bytes, as far as it is told what files hold
-abbrev pub Holds : (List ℕ → Option (List ℕ)) → List ℕ → List ℕ → Type 0
-Holds contents name bytes = IfSome (contents name) (λ held. bytes ≡ held)
+  Accepted : (command : CommandWords) (specs : List Specification) (scripts : List (List ScriptLine)) (objects : List (List ℕ)) → Job
 
 module _ (words : List (List ℕ)) (contents : List ℕ → Option (List ℕ)) where
-  -- The job: the first fault in the order of the work, which is the words, the specification, the script; or, where there is
-  -- none, what was read.
+  -- The job: the first fault in the order of the work, which is the words, each specification in order, each script in order;
+  -- or, where there is none, what was read.
   pub data IsJob : Job → Type 0 where
-    no_command : replay_names words ≡ None → IsJob (Refused Usage)
-    bad_spec : (file script bytes : List ℕ) (fault : SpecFault)
-        → replay_names words ≡ Some (file, script)
-        → Holds contents file bytes
-        → IsSpecFault bytes fault
-        → IsJob (Refused (BadSpec 0 fault))
-    bad_script : (file script bytes text : List ℕ) (s : Specification) (fault : ScriptFault)
-        → replay_names words ≡ Some (file, script)
-        → Holds contents file bytes
-        → IsSpecification bytes s
-        → Holds contents script text
-        → IsScriptFault s text fault
-        → IsJob (Refused (BadScript 0 fault))
-    replay : (file script bytes text : List ℕ) (s : Specification) (steps : List ScriptLine) (objects : List (List ℕ))
-        → replay_names words ≡ Some (file, script)
-        → Holds contents file bytes
-        → IsSpecification bytes s
-        → Holds contents script text
-        → IsScript s text steps objects
-        → IsJob (Replay s steps objects)
+    no_command : spelled_command words ≡ None → IsJob (Refused Usage)
+    bad_spec : (command : CommandWords) (number : ℕ) (source : Source) (before : List Specification) (bytes : List ℕ) (fault : SpecFault)
+        → spelled_command words ≡ Some command
+        → AreReadUpTo contents (needs_families command) (spec_sources command) number source before
+        → Gives contents source bytes
+        → IsRefusal (needs_families command) before bytes fault
+        → IsJob (Refused (BadSpec number fault))
+    bad_script : (command : CommandWords) (specs : List Specification) (number : ℕ) (source : Source) (before : List (List ScriptLine)) (names : List (List ℕ)) (bytes : List ℕ) (fault : ScriptFault)
+        → spelled_command words ≡ Some command
+        → SaySpecifications contents (needs_families command) [] (spec_sources command) specs
+        → AreScriptsUpTo contents specs (script_sources command) number source before names
+        → Gives contents source bytes
+        → IsScriptFault specs (step_count before) names bytes fault
+        → IsJob (Refused (BadScript number fault))
+    accepted : (command : CommandWords) (specs : List Specification) (scripts : List (List ScriptLine)) (objects : List (List ℕ))
+        → spelled_command words ≡ Some command
+        → SaySpecifications contents (needs_families command) [] (spec_sources command) specs
+        → SayScripts contents specs 0 [] (script_sources command) scripts objects
+        → IsJob (Accepted command specs scripts objects)
 
-  -- nothing has a fault that comes before the file of this number is loaded
+  -- nothing has a fault that comes before the file of this number is loaded: files are counted in the order of the words
   pub data ReachesFile : ℕ → Type 0 where
-    first_file : (file script : List ℕ) → replay_names words ≡ Some (file, script) → ReachesFile 0
-    second_file : (file script bytes : List ℕ) (s : Specification)
-        → replay_names words ≡ Some (file, script)
-        → Holds contents file bytes
-        → IsSpecification bytes s
-        → ReachesFile 1
+    spec_file : (command : CommandWords) (number : ℕ) (file : Source) (before : List Specification)
+        → spelled_command words ≡ Some command
+        → AreReadUpTo contents (needs_families command) (spec_sources command) number file before
+        → IsFile file
+        → ReachesFile number
+    script_file : (command : CommandWords) (specs : List Specification) (number : ℕ) (file : Source) (before : List (List ScriptLine)) (names : List (List ℕ))
+        → spelled_command words ≡ Some command
+        → SaySpecifications contents (needs_families command) [] (spec_sources command) specs
+        → AreScriptsUpTo contents specs (script_sources command) number file before names
+        → IsFile file
+        → ReachesFile (length (spec_sources command) + number)
 
   -- a command that was refused is one that its job refuses so
   abbrev pub IsCaused : Status → Type 0
@@ -62,4 +65,4 @@ module _ (words : List (List ℕ)) (contents : List ℕ → Option (List ℕ)) w
 
   -- it is told what the files of the command hold
   abbrev pub AreTold : Type 0
-  AreTold = (file script : List ℕ) → replay_names words ≡ Some (file, script) → IsSome (contents file) × IsSome (contents script)
+  AreTold = (command : CommandWords) → spelled_command words ≡ Some command → AllTold contents (spec_sources command) × AllTold contents (script_sources command)

@@ -1,34 +1,126 @@
--- What the calls that read a specification answer.
-use Rattle.std.specs.Prelude.{ℕ, ◌≡◌, ◌<◌, ◌≤◌, ◌^◌, List, length, map, All, Option, string_bytes}
+-- What the calls that read specifications answer.
+use Rattle.std.specs.Prelude.{ℕ, ◌≡◌, ◌<◌, ◌≤◌, ◌^◌, Bool, false, List, [], ◌∷◌, ◌++◌, length, map, All, Option, string_bytes}
+use Rattle.jm_script.specs.declared.script.ScriptLine.{ScriptLine}
+use Rattle.jm_script.specs.Fitting.{FitsCatalog}
+use Rattle.jm_machine.specs.Meanings.{RuleDefinition}
+use Rattle.jm_top.specs.declared.specification.Titles.{Titles}
 use Rattle.jm_top.specs.declared.specification.Loaded.{Loaded}
+use Rattle.jm_top.specs.declared.library.Library.{Library}
+use Rattle.jm_top.specs.declared.scripts.Scripts.{Scripts}
+use Rattle.jm_top.specs.declared.job.Inputs.{Inputs}
+use Rattle.jm_model.specs.declared.step.Entry.{Entry}
+use Rattle.jm_print.specs.Lexicons.{Lexicon, lexicon_of}
+use Rattle.jm_print.specs.Texts.{IsPrintable}
+use Rattle.jm_print.specs.Summaries.{summary_text}
+use Rattle.jm_top.specs.Sources.{Source, Gives}
 use Rattle.jm_top.specs.Specifications.{Specification, IsSpecification}
-use Rattle.jm_top.specs.Scripts.{catalog_of}
-use Rattle.jm_top.specs.Jobs.{Holds}
+use Rattle.jm_top.specs.Scripts.{catalog_of, IsScript}
+use Rattle.jm_top.specs.Inputs.{IsAdmitted, SaySpecifications, step_count, SayScripts}
 
--- what is kept of a specification that was read
-pub record Keeps (s : Specification) (l : Loaded) : Type 0 where
-  pub name : string_bytes l.name ≡ s.name
-  pub table : l.table ≡ s.table
-  pub handlers : l.handlers ≡ s.rules.handlers
-  pub texts : l.texts.items ≡ s.texts
-  pub catalog : l.catalog ≡ catalog_of s
-  pub rules : l.rules.definition ≡ s.rules
+-- ---- specifications
 
--- this specification is kept, with the sets of parameters of its events, which are there, and with few handlers
-pub record IsKept (s : Specification) (l : Loaded) : Type 0 where
-  pub keeps : Keeps s l
-  pub masks : s.rules.masks ≡ map (λ e. e.mask) s.table.events
-  pub fit : All (λ mask. mask < 2 ^ length s.table.parameters) s.rules.masks
-  pub few : length s.rules.handlers ≤ 16
+-- the specification of these titles and rules
+abbrev pub titled : Titles → RuleDefinition → Specification
+titled t rules = record {
+  name = string_bytes t.name;
+  table = t.table;
+  logic = t.logic;
+  logic_line = t.logic_line;
+  full_binding = t.full_binding;
+  rules = rules;
+  texts = t.texts.items;
+}
 
--- the bytes say a specification, which is kept
+-- the specification that is kept
+abbrev pub specification_of : Loaded → Specification
+specification_of l = titled l.titles l.rules.definition
+
+-- The handlers of the titles are those of the rules, and few; the letters are the events, whose sets of parameters are there.
+pub record AreTitlesOf (rules : RuleDefinition) (t : Titles) : Type 0 where
+  pub handlers : t.handlers ≡ rules.handlers
+  pub masks : rules.masks ≡ map (λ e. e.mask) t.table.events
+  pub fit : All (λ mask. mask < 2 ^ length t.table.parameters) rules.masks
+  pub few : length rules.handlers ≤ 16
+
+abbrev pub IsWhole : Loaded → Type 0
+IsWhole l = AreTitlesOf l.rules.definition l.titles
+
+-- the bytes say the specification that is kept
 pub record IsRead (bytes : List ℕ) (l : Loaded) : Type 0 where
-  pub specification : Specification
-  pub said : IsSpecification bytes specification
-  pub kept : IsKept specification l
+  pub said : IsSpecification bytes (specification_of l)
+  pub kept : IsWhole l
 
--- a file that may have this name says a specification, which is kept
-pub record IsReadFrom (contents : List ℕ → Option (List ℕ)) (name : List ℕ) (l : Loaded) : Type 0 where
+-- the specifications of a library
+abbrev pub specs_in : Library → List Specification
+specs_in library = map specification_of library.specs.items
+
+-- the catalog is that of the specifications, each of which is kept whole
+pub record IsCatalogued (library : Library) : Type 0 where
+  pub catalog : library.catalog ≡ catalog_of (specs_in library)
+  pub kept : All IsWhole library.specs.items
+
+-- the library has one specification more, which these bytes say
+pub record HasNext (families : Bool) (bytes : List ℕ) (old new : Library) : Type 0 where
+  pub specification : Specification
+  pub admitted : IsAdmitted families (specs_in old) bytes specification
+  pub specs : specs_in new ≡ specs_in old ++ specification ∷ []
+  pub catalogued : IsCatalogued new
+
+-- which a file of this name says
+pub record HasNextFrom (contents : List ℕ → Option (List ℕ)) (source : Source) (families : Bool) (old new : Library) : Type 0 where
   pub bytes : List ℕ
-  pub held : Holds contents name bytes
-  pub read : IsRead bytes l
+  pub given : Gives contents source bytes
+  pub next : HasNext families bytes old new
+
+-- the library has what the sources say
+pub record IsLibraryOf (contents : List ℕ → Option (List ℕ)) (families : Bool) (sources : List Source) (library : Library) : Type 0 where
+  pub said : SaySpecifications contents families [] sources (specs_in library)
+  pub catalogued : IsCatalogued library
+
+-- ---- histories
+
+-- the names that a history is printed with, and what its handlers print, by these titles
+abbrev pub title_lexicon : List (List ℕ) → Titles → Lexicon
+title_lexicon objects t = lexicon_of (string_bytes t.name) t.table t.handlers objects t.texts.items
+
+-- each history can be printed by its lexicon
+abbrev pub ArePrintable : List Lexicon → List (List Entry) → Type 0
+ArePrintable (l ∷ ls) (h ∷ hs) = All (IsPrintable l) h × ArePrintable ls hs
+ArePrintable _ _ = Unit {0}
+
+-- the summaries of histories by these titles
+abbrev pub title_summaries : List Titles → List (List Entry) → List ℕ
+title_summaries (t ∷ ts) (h ∷ hs) = summary_text (string_bytes t.name) h ++ title_summaries ts hs
+title_summaries _ _ = []
+
+-- ---- scripts
+
+-- each script fits the specifications and the names of objects; the counts are those of what was read, and within their limits
+pub record AreCounted (specs : List Specification) (s : Scripts) : Type 0 where
+  pub fit : All (FitsCatalog (catalog_of specs) (length s.objects)) s.list.items
+  pub counted : s.count ≡ step_count s.list.items
+  pub few_steps : s.count ≤ 200000
+  pub few_names : length s.objects ≤ 65536
+
+-- there is one script more, which these bytes say
+pub record HasScript (specs : List Specification) (bytes : List ℕ) (old new : Scripts) : Type 0 where
+  pub script : List ScriptLine
+  pub said : IsScript specs old.count old.objects bytes script new.objects
+  pub scripts : new.list.items ≡ old.list.items ++ script ∷ []
+  pub counted : AreCounted specs new
+
+-- which a file of this name says
+pub record HasScriptFrom (contents : List ℕ → Option (List ℕ)) (source : Source) (specs : List Specification) (old new : Scripts) : Type 0 where
+  pub bytes : List ℕ
+  pub given : Gives contents source bytes
+  pub next : HasScript specs bytes old new
+
+-- the scripts are what the sources say
+pub record AreScriptsOf (contents : List ℕ → Option (List ℕ)) (specs : List Specification) (sources : List Source) (s : Scripts) : Type 0 where
+  pub said : SayScripts contents specs 0 [] sources s.list.items s.objects
+  pub counted : AreCounted specs s
+
+-- what was read is what these sources of specifications and of scripts say
+pub record AreInputsOf (contents : List ℕ → Option (List ℕ)) (specs scripts : List Source) (inputs : Inputs) : Type 0 where
+  pub library : IsLibraryOf contents false specs inputs.library
+  pub read : AreScriptsOf contents (specs_in inputs.library) scripts inputs.scripts

@@ -1,5 +1,5 @@
 -- What a file says that is a specification, and what is wrong with one that isn't.
-use Rattle.std.specs.Prelude.{ℕ, ◌≡◌, ◌<◌, ◌≤◌, List, [], ◌∷◌, length, slice_range}
+use Rattle.std.specs.Prelude.{ℕ, Bool, ◌≡◌, ◌<◌, ◌≤◌, List, [], ◌∷◌, length, slice_range}
 use Rattle.jm_model.specs.Meanings.{Meaning}
 use Rattle.jm_model.specs.declared.fault.SpecFault.{SpecFault}
 use Rattle.jm_model.specs.declared.fault.SpecFault.TheVariants.{TooLong}
@@ -11,16 +11,20 @@ use Rattle.jm_reading.specs.Tokens.{name_of}
 use Rattle.jm_handler.specs.declared.term.Term.{Term}
 use Rattle.jm_handler.specs.Blocks.{Says}
 use Rattle.jm_spec.specs.declared.property.HandlerText.{HandlerText}
+use Rattle.jm_spec.specs.declared.tree.Logic.{Logic}
 use Rattle.jm_spec.specs.declared.tree.SpecTree.{SpecTree}
 use Rattle.jm_spec.specs.Trees.{IsTreeOfTokens, IsFaultOfTokens}
 use Rattle.jm_machine.specs.Meanings.{RuleDefinition, rules_meaning}
 use Rattle.jm_machine.specs.Compiling.{IsCompiledFrom, IsFaultyTree}
 
--- a specification: its name, its parameters and events, its rules, and what each of its handlers prints: a list of
--- terms for each statement
+-- a specification: its name, its parameters and events, the logic of its property and the line of the word that names it,
+-- whether it is for full bindings alone, its rules, and what each of its handlers prints: a list of terms for each statement
 pub record Specification : Type 0 where
   pub name : List ℕ
   pub table : EventDefinitions
+  pub logic : Logic
+  pub logic_line : ℕ
+  pub full_binding : Bool
   pub rules : RuleDefinition
   pub texts : List (List (List Term))
 
@@ -57,6 +61,9 @@ pub record IsSpecification (bytes : List ℕ) (s : Specification) : Type 0 where
   pub rules : IsCompiledFrom bytes tokens tree s.rules
   pub name : s.name ≡ name_of bytes tree.name
   pub table : s.table ≡ tree.table
+  pub logic : s.logic ≡ tree.logic
+  pub logic_line : s.logic_line ≡ tree.logic_line
+  pub full_binding : s.full_binding ≡ tree.full_binding
   pub texts : BlocksSay bytes tokens tree.table.parameters tree.handlers.items s.texts
 
 -- The first fault of the bytes, step by step: they are too many; they have no tokens; these spell no frame, or one with a fault;

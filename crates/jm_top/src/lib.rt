@@ -1,20 +1,34 @@
 //! The top call: a command from the words of its command line to its status.
 //!
-//! `jmop` reads the words, loads the files from a folder, replays the script, and writes the text to a sink and what went
-//! wrong to another. It knows the command `replay`, over all four logics and over scripts of events, deaths and passes.
+//! `jmop` reads the words, loads the files from a folder, does the command, and writes its text to a sink and what went wrong to
+//! another. It knows `replay`, `run`, `check` and `coenable`, over all four logics and over scripts of events, deaths and passes.
 //!
 //! What a command is to do stands in `specs`, apart from how it is done: `Jobs.antt` says what its words and the contents
-//! of its files ask for or which fault is the first, and `Replays.antt` which texts are those of a replay.
+//! of its files ask for or which fault is the first, `Inputs.antt` what files say one behind the other, and `Texts.antt` and
+//! `Histories.antt` which texts are those of a command.
+//!
+//! | Module | What it has |
+//! |---|---|
+//! | `command` | the call, from the words to the status |
+//! | `job` | the text of each command |
+//! | `library`, `specification` | specifications, read one behind the other |
+//! | `scripts` | scripts, read one behind the other |
+//! | `replay`, `run` | the histories of scripts |
+//! | `histories`, `blocks`, `texts` | what is printed |
 #![tactic(auto)]
 
+mod blocks;
 mod command;
+mod histories;
+mod job;
 mod laws;
+mod library;
 mod replay;
-mod script;
+mod run;
+mod scripts;
 mod specification;
 mod status;
 mod texts;
-mod words;
 
 pub use command::jmop;
 pub use laws::one_reading;

@@ -10,20 +10,27 @@ use jm_handler::{Handler, read_handler};
 use jm_machine::Rules;
 use jm_model::{NoMemory, SpecError};
 use jm_reading::name_of;
-use jm_script::Catalog;
-use jm_spec::{SpecTree, read_spec};
+use jm_spec::{Logic, SpecTree, read_spec};
 use jm_text::{Token, tokens};
 use std::alloc::Global;
 
-/// A specification that was read: its name, its parameters and events, the categories of its handlers and what they
-/// print, a catalog of it alone, and its rules.
+/// What a specification declares beside its rules: its name, its parameters and events, its logic and the line of that word,
+/// whether it is for full bindings alone, the categories of its handlers and what they print.
 #[derive(Drop)]
-pub(crate) struct Loaded {
+pub(crate) struct Titles {
     pub name: String,
     pub table: EventTable,
+    pub logic: Logic,
+    pub logic_line: u32,
+    pub full_binding: bool,
     pub handlers: Names,
     pub texts: Vec<Handler>,
-    pub catalog: Catalog,
+}
+
+/// A specification that was read.
+#[derive(Drop)]
+pub(crate) struct Loaded {
+    pub titles: Titles,
     pub rules: Rules,
 }
 
@@ -37,7 +44,8 @@ pub(crate) fn read_specification(alloc: Global, bytes: &[u8]) -> Result<Loaded, 
     let tree = read_spec(alloc, bytes, tokens.as_slice())?;
     let rules = Rules::compile(alloc, bytes, tokens.as_slice(), &tree)?;
     let texts = handlers_of(alloc, bytes, tokens.as_slice(), &tree)?;
-    load(alloc, name_of(bytes, tree.name), tree.table, rules, texts)
+    let names = names_of(alloc, name_of(bytes, tree.name), rules.handlers())?;
+    Ok(load(names, tree, rules, texts))
 }
 
 /// What the blocks of the handlers say.
@@ -70,105 +78,49 @@ fn block_of(tokens: &[Token], first: u32, last: u32) -> &[Token]
 }
 
 /// Puts together what is kept of a specification.
-fn load(
-    alloc: Global,
-    name: &str,
-    table: EventTable,
-    rules: Rules,
-    texts: Vec<Handler>,
-) -> Result<Loaded, SpecError>
-    requires { length rules.definition.handlers ≤ 16 }
-    ensures name { IfOk result (λ l. string_bytes l.name ≡ name.now) }
-    ensures table { IfOk result (λ l. l.table ≡ table) }
-    ensures handlers { IfOk result (λ l. l.handlers ≡ rules.definition.handlers) }
-    ensures texts { IfOk result (λ l. l.texts.items ≡ texts.items) }
-    ensures catalog { IfOk result (λ l. l.catalog ≡ record { name = name.now; table = table } ∷ []) }
-    ensures rules { IfOk result (λ l. l.rules ≡ rules) }
-    ensures err { IfErr result (λ e. e ≡ SpecError.NoMemory) }
-{
-    match names_of(alloc, name, &table, rules.handlers()) {
-        Ok(names) => Ok(with_names(names, table, rules, texts)),
-        Err(NoMemory) => Err(SpecError::NoMemory),
-    }
-}
-
-/// The names of a specification: its own, those of its handlers' categories, and its catalog.
-#[derive(Drop)]
-pub(crate) struct SpecNames {
-    pub name: String,
-    pub handlers: Names,
-    pub catalog: Catalog,
-}
-
-/// Keeps what the names are of with them.
-fn with_names(names: SpecNames, table: EventTable, rules: Rules, texts: Vec<Handler>) -> Loaded
-    ensures name { result.name ≡ names.name }
-    ensures table { result.table ≡ table }
-    ensures handlers { result.handlers ≡ names.handlers }
-    ensures texts { result.texts.items ≡ texts.items }
-    ensures catalog { result.catalog ≡ names.catalog }
+fn load(names: SpecNames, tree: SpecTree, rules: Rules, texts: Vec<Handler>) -> Loaded
+    ensures name { result.titles.name ≡ names.name }
+    ensures table { result.titles.table ≡ tree.table }
+    ensures logic { result.titles.logic ≡ tree.logic }
+    ensures logic_line { result.titles.logic_line ≡ tree.logic_line }
+    ensures full_binding { result.titles.full_binding ≡ tree.full_binding }
+    ensures handlers { result.titles.handlers ≡ names.handlers }
+    ensures texts { result.titles.texts.items ≡ texts.items }
     ensures rules { result.rules ≡ rules }
 {
-    let SpecNames {
+    let SpecNames { name, handlers } = names;
+    let titles = Titles {
         name,
-        handlers,
-        catalog,
-    } = names;
-    Loaded {
-        name,
-        table,
+        table: tree.table,
+        logic: tree.logic,
+        logic_line: tree.logic_line,
+        full_binding: tree.full_binding,
         handlers,
         texts,
-        catalog,
-        rules,
-    }
+    };
+    Loaded { titles, rules }
 }
 
-/// The names, the events, the rules and what the handlers print apart.
-pub(crate) fn parts(spec: Loaded) -> (SpecNames, EventTable, Rules, Vec<Handler>)
-    ensures name { result.0.name ≡ spec.name }
-    ensures handlers { result.0.handlers ≡ spec.handlers }
-    ensures table { result.1 ≡ spec.table }
-    ensures rules { result.2 ≡ spec.rules }
-    ensures texts { result.3.items ≡ spec.texts.items }
-{
-    let Loaded {
-        name,
-        table,
-        handlers,
-        texts,
-        catalog,
-        rules,
-    } = spec;
-    let names = SpecNames {
-        name,
-        handlers,
-        catalog,
-    };
-    (names, table, rules, texts)
+/// The names of a specification: its own, and those of its handlers' categories.
+#[derive(Drop)]
+struct SpecNames {
+    name: String,
+    handlers: Names,
 }
 
 /// Copies the names of a specification.
-fn names_of(
-    alloc: Global,
-    name: &str,
-    table: &EventTable,
-    handlers: &Names,
-) -> Result<SpecNames, NoMemory>
+fn names_of(alloc: Global, name: &str, handlers: &Names) -> Result<SpecNames, NoMemory>
     requires { length handlers.now ≤ 16 }
     ensures name { IfOk result (λ n. string_bytes n.name ≡ name.now) }
     ensures handlers { IfOk result (λ n. n.handlers ≡ handlers.now) }
-    ensures catalog { IfOk result (λ n. n.catalog ≡ record { name = name.now; table = table.now } ∷ []) }
 {
     let Ok(owned) = String::from_str(alloc, name) else {
         return Err(NoMemory);
     };
     let handlers = copy_of(alloc, handlers)?;
-    let catalog = catalog_of(alloc, name, table)?;
     Ok(SpecNames {
         name: owned,
         handlers,
-        catalog,
     })
 }
 
@@ -182,16 +134,4 @@ fn copy_of(alloc: Global, names: &Names) -> Result<Names, NoMemory>
         copy.add(names.name(number))?;
     }
     Ok(copy)
-}
-
-/// A catalog of one specification.
-fn catalog_of(alloc: Global, name: &str, table: &EventTable) -> Result<Catalog, NoMemory>
-    ensures { IfOk result (λ catalog. catalog ≡ record { name = name.now; table = table.now } ∷ []) }
-{
-    let table = table.copy()?;
-    let mut catalog = Catalog::new(alloc);
-    match catalog.add(name, table) {
-        Ok(_) => Ok(catalog),
-        Err(_) => Err(NoMemory),
-    }
 }

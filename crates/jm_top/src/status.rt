@@ -2,7 +2,10 @@
 ghost use Rattle.std.specs.Prelude.{◌≡◌};
 ghost use Rattle.jm_top.specs.Statuses.{code_of};
 
-use jm_model::{ScriptFault, SpecFault};
+use jm_model::{NoMemory, ScriptFault, SpecFault};
+
+/// The most bytes that a file may have.
+pub(crate) const MOST_BYTES: usize = 4_194_304;
 
 /// How a command ended. Specifications and scripts are numbered from 0, each by their own order, and files by the order
 /// of the words.
@@ -38,5 +41,15 @@ impl Status {
             Status::WriteFailed => 6,
             Status::NoMemory => 7,
         }
+    }
+}
+
+impl From<NoMemory> for Status {
+    ghost use Rattle.jm_top.specs.declared.status.Status.TheVariants.{NoMemory};
+
+    ghost from_gives = { λ _ status. status ≡ NoMemory };
+
+    fn from(_refused: NoMemory) -> Status {
+        Status::NoMemory
     }
 }

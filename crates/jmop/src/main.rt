@@ -1,7 +1,8 @@
-//! `jmop`: the top call over real files, standard output and standard error.
+//! `jmop`: the top call over real files, standard output and standard error, with a gate that holds nobody up.
 #![tactic(auto)]
 
 use jm_port::{HostFault, HostFolder, HostSink};
+use jm_runner::FreeGate;
 use jm_top::jmop;
 use std::process::ExitCode;
 use std::{env, io};
@@ -13,7 +14,7 @@ fn main(rt: HostRuntime) -> ExitCode {
     let mut files = HostFolder::new(rt);
     let mut out = HostSink::new(rt);
     let mut err = HostFault::new(rt);
-    let status = jmop(alloc, &words, &mut files, &mut out, &mut err);
+    let status = jmop(&rt, alloc, &words, &mut files, &mut out, &mut err, &FreeGate);
     ExitCode::from(status.code())
 }
 

@@ -5,7 +5,7 @@ use Rattle.std.proofs.lemmas.Iterator.Splits.{YieldsList-from_slice_split}
 use Rattle.std.proofs.lemmas.Iterator.Consumers.{YieldsList-turn, YieldsList-end}
 use Rattle.jm_script.specs.Lines.{is_line_feed}
 use Rattle.jm_script.specs.Fitting.{FitsTarget}
-use Rattle.jm_script.proofs.ObjectLemmas.{IsExtension-none}
+use Rattle.jm_script.proofs.ObjectLemmas.{IsExtension-none, length-IsExtension}
 use Rattle.jm_script.proofs.ReadingLemmas.{read_nothing, more_names, no_step, one_step, abandoned, ended, all_read, script_rises}
 use Rattle.jm_script.proofs.FittingLemmas.{FitsCatalog-more}
 use Rattle.jm_script.proofs.reader.read_script.Goals as goal
@@ -78,3 +78,11 @@ returns-clause-rising c =
 
 pub returns-clause-fitting : goal.returns-clause-fitting
 returns-clause-fitting c = rw c.of.ensures c.loop-line.invariant.fitting
+
+pub returns-clause-bounded : goal.returns-clause-bounded
+returns-clause-bounded c =
+    let few = c.loop-line.invariant.read.few_steps in
+    (omega (arith, few, c.loop-line.invariant.counted, c.len-2.ensures), c.loop-line.invariant.read.few_names)
+
+pub returns-clause-grown : goal.returns-clause-grown
+returns-clause-grown c = length-IsExtension c.args.objects.now c.loop-line.objects c.loop-line.invariant.read.extended

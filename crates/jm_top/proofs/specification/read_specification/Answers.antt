@@ -1,11 +1,9 @@
-use Rattle.std.proofs.Common.{Result, Ok, Err, IfOk, ◌≡◌, length, sym, ◌∙◌, ap, subst, arith}
+use Rattle.std.proofs.Common.{◌≡◌, length, sym, ◌∙◌, ap, subst, arith}
+use Rattle.std.specs.Prelude.{string_bytes}
 use Rattle.std.proofs.lemmas.Result.{err_from_is_err_and}
 use Rattle.jm_text.specs.Tokens.{IsFaultOf}
 use Rattle.jm_top.specs.Specifications.{no_tokens, in_frame}
-use Rattle.jm_model.specs.declared.fault.SpecError.{SpecError}
 use Rattle.jm_machine.specs.Compiling.{IsNotCompiled}
-use Rattle.jm_machine.specs.RuleSets.{CompiledRules}
-use Rattle.jm_top.specs.declared.specification.Loaded.{Loaded}
 use Rattle.jm_spec.specs.Trees.{IsFaultOfTokens}
 use Rattle.jm_top.proofs.OneReadingLemmas.{same_err}
 use Rattle.jm_top.proofs.TreeLemmas.{tree_fault_of, read_of, tokens_few}
@@ -38,15 +36,11 @@ returns-in_err-rules-clause-err c = λ fault is.
     tree_fault_of c.args.bytes.now c.in_ok-tokens.tokens.items c.requires c.in_ok-tokens.ensures.ok c.in_ok-tree.tree fault told
     (subst (IsNotCompiled c.args.bytes.now c.in_ok-tokens.tokens.items c.in_ok-tree.tree) (sym p.2 ∙ same) err)
 
--- the rules that are kept have one definition
-rules_kept : (r : Result Loaded SpecError) (rules : CompiledRules) → IfOk r (λ l. l.rules ≡ rules) → IfOk r (λ l. l.rules.definition ≡ rules.definition)
-rules_kept (Ok l) rules is = ap (λ (x : CompiledRules). x.definition) is
-rules_kept (Err e) rules is = tt
-
 pub returns-clause-ok : goal.returns-clause-ok
 returns-clause-ok c =
     let told = rw c.as_slice.ensures.value at c.in_ok-tree.ensures.ok in
     let say = rw c.as_slice-3.ensures.value at c.in_ok-texts.ensures.ok in
     let compiled = rw c.as_slice-2.ensures.value at c.in_ok-rules.ensures.ok in
-    read_of c.args.bytes.now c.in_ok-tokens.tokens.items c.requires c.in_ok-tokens.ensures.ok c.in_ok-tree.tree c.in_ok-rules.rules.definition c.name_of.result.now c.in_ok-texts.texts.items c.load.result told compiled c.name_of.ensures
-    c.in_ok-rules.ensures.fit c.in_ok-rules.ensures.few say c.load.ensures.texts c.load.ensures.name c.load.ensures.table c.load.ensures.handlers c.load.ensures.catalog (rules_kept c.load.result c.in_ok-rules.rules c.load.ensures.rules)
+    read_of c.args.bytes.now c.in_ok-tokens.tokens.items c.requires c.in_ok-tokens.ensures.ok c.in_ok-tree.tree c.load.result c.in_ok-rules.rules c.in_ok-texts.texts.items told compiled
+    c.in_ok-rules.ensures.fit c.in_ok-rules.ensures.few say c.load.ensures.rules c.load.ensures.texts (ap string_bytes c.load.ensures.name ∙ c.in_ok-names.ensures.name ∙ c.name_of.ensures)
+    c.load.ensures.table (c.load.ensures.handlers ∙ c.in_ok-names.ensures.handlers ∙ c.handlers.ensures) c.load.ensures.logic c.load.ensures.logic_line c.load.ensures.full_binding

@@ -1,0 +1,38 @@
+-- What a run needs, and what it gives.
+use Rattle.std.specs.Prelude.{◌≡◌, ℕ, List, All, length, map}
+use Rattle.jm_model.specs.Meanings.{Meaning}
+use Rattle.jm_model.specs.declared.step.Step.{Step}
+use Rattle.jm_model.specs.declared.step.Entry.{Entry}
+use Rattle.jm_semantics.specs.Legality.{IsLegal}
+use Rattle.jm_semantics.specs.Scripts.{projection_of, IsInterleaving}
+use Rattle.jm_core.specs.Cores.{Core, FitsHistory}
+use Rattle.jm_core.specs.Steps.{IsFitStep}
+use Rattle.jm_turn.specs.Seats.{LockModel, SeatModel, AreNewcomers}
+use Rattle.jm_script.specs.declared.script.ScriptLine.{ScriptLine}
+use Rattle.jm_script.specs.Projections.{script_of}
+use Rattle.jm_dispatch.specs.declared.watched.Fixed.{Fixed}
+
+-- the projections of scripts on specification s
+abbrev pub projections_of : List (List ScriptLine) → ℕ → List (List (ℕ × Step))
+projections_of scripts s = map (λ script. projection_of (script_of script) s) scripts
+
+-- each of the steps fits the specification, with so many objects
+abbrev pub AreFitSteps : Meaning → ℕ → List (ℕ × Step) → Type 0
+AreFitSteps m objects steps = All (λ p. IsFitStep m objects p.1) steps
+
+-- A watch can run the scripts as specification s: the seats are all of it, one for each script, in the order of their numbers,
+-- none has seen an entry, and the steps that the scripts have for it fit it.
+pub record CanRun {D : Type 0} (m : Meaning) (scripts : List (List ScriptLine)) (s : ℕ) (watch : LockModel (Fixed D)) (seats : List (SeatModel Entry (Fixed D))) : Type 0 where
+  pub count : watch.seats ≡ length scripts
+  pub all : length seats ≡ length scripts
+  pub newcomers : AreNewcomers watch seats
+  pub fitting : All (λ steps. AreFitSteps m watch.fixed.objects steps) (projections_of scripts s)
+
+-- What a run of the scripts leaves of specification s: its core, with a legal history that interleaves the projections of the
+-- scripts, and that what it keeps in memory fits.
+pub record IsRunOf {D : Type 0} (m : Meaning) (scripts : List (List ScriptLine)) (s : ℕ) (fixed : Fixed D) (prop : Core D) : Type 0 where
+  pub definition : prop.definition ≡ fixed.definition
+  pub objects : prop.objects ≡ fixed.objects
+  pub legal : IsLegal m prop.entries
+  pub fits : FitsHistory m prop.entries prop.stored prop.marks
+  pub interleaving : IsInterleaving prop.entries (projections_of scripts s)

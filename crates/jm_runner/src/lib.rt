@@ -1,0 +1,16 @@
+//! Many scripts over many specifications, each script on a thread of its own.
+//!
+//! Script k is caller k: a worker does its lines in order, on seat k of every specification's dispatcher. So each
+//! specification gets one history, in which the projections of all scripts are interleaved.
+//!
+//! | Module | What it has |
+//! |---|---|
+//! | `gate` | what is told of each line before and after it is done |
+//! | `run` | the run: seats are dealt to workers, and gathered once all are done |
+#![tactic(auto)]
+
+mod gate;
+mod run;
+
+pub use gate::{FreeGate, Gate};
+pub use run::{Running, run_scripts};

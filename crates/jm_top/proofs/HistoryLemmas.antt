@@ -1,0 +1,243 @@
+-- The histories of scripts' steps, and their texts.
+use Rattle.std.proofs.Common.{◌≡◌, ◌≢◌, ℕ, zero, suc, ◌+◌, ◌^◌, ◌<◌, ◌≤◌, Bool, true, List, [], ◌∷◌, ◌++◌, length, get_or, pow-suc, append-nil, refl, sym, ◌∙◌, ap, subst, arith}
+use Rattle.std.specs.Prelude.{All, Contains, Option, Some, None, ◌==◌, map, filter, slice_get, unwrap_or, option_map, string_bytes, Result, Ok, Err, IfOk}
+use Rattle.std.specs.Option.{option_map_or}
+use Rattle.std.specs.List.{AllByRecursion}
+use Rattle.std.proofs.lemmas.Option.{slice_get-map, none-some}
+use Rattle.std.proofs.lemmas.List.{length-map, length_push}
+use Rattle.std.proofs.lemmas.Bool.Decides.{nat_tests}
+use Rattle.std.proofs.lemmas.List.Elements.{All-from_recursion, recursion_from_All, All-weaker, All-head, All-tail, All-contains, All-contains_itself}
+use Rattle.jm_model.specs.Bindings.{object_at, objects_of, mask_of}
+use Rattle.jm_model.specs.Meanings.{Meaning}
+use Rattle.jm_model.specs.declared.binding.Binding.{Binding}
+use Rattle.jm_model.specs.declared.step.Step.{Step}
+use Rattle.jm_model.specs.declared.step.Step.TheVariants.{Event, Death, Pass}
+use Rattle.jm_model.specs.declared.step.Outcome.TheVariants.{NoMemory}
+use Rattle.jm_model.specs.declared.step.Entry.{Entry}
+use Rattle.jm_semantics.specs.Scripts.{steps_of, projection_of, IsInterleaving}
+use Rattle.jm_semantics.specs.Legality.{IsLegal}
+use Rattle.jm_semantics.proofs.ListLemmas.{Contains-filter, Contains-map}
+use Rattle.jm_core.specs.Steps.{IsFitStep}
+use Rattle.jm_core.specs.Cores.{Core}
+use Rattle.jm_core.specs.Replays.{line_and_step, AreEntriesOf, Replayed}
+use Rattle.jm_events.specs.Events.{EventDefinition, EventDefinitions}
+use Rattle.jm_print.specs.Lexicons.{Lexicon, lexicon_of}
+use Rattle.jm_print.specs.Texts.{IsPrintable, history_text}
+use Rattle.jm_script.specs.Catalogs.{CatalogEntry, table_of}
+use Rattle.jm_script.specs.Events.{mask_at}
+use Rattle.jm_script.specs.Fitting.{FitsCatalog, FitsSpecification}
+use Rattle.jm_script.specs.Projections.{script_of}
+use Rattle.jm_script.specs.declared.script.ScriptLine.{ScriptLine}
+use Rattle.jm_machine.specs.Meanings.{RuleDefinition, rules_meaning}
+use Rattle.jm_top.specs.declared.specification.Titles.{Titles}
+use Rattle.jm_top.specs.declared.specification.Loaded.{Loaded}
+use Rattle.jm_top.specs.declared.library.Library.{Library}
+use Rattle.jm_top.specs.declared.scripts.Scripts.{Scripts}
+use Rattle.jm_top.specs.Specifications.{Specification, meaning_of}
+use Rattle.jm_top.specs.Scripts.{catalog_of}
+use Rattle.jm_top.specs.Reading.{AreTitlesOf, titled, title_lexicon, specification_of, IsWhole, specs_in, IsCatalogued, AreCounted}
+use Rattle.jm_top.specs.Histories.{lexicon, IsTextOfHistories}
+use Rattle.jm_top.specs.Replays.{IsReplayOf, IsPrintedReplay}
+use Rattle.jm_top.proofs.OneReadingLemmas.{same_some}
+use Rattle.jm_top.proofs.PrintLemmas.{IsNamedStep, printable}
+
+-- ---- bindings
+
+-- each object that is bound is among the objects
+named_object : (b : Binding) (n p o : ℕ) → All (λ q. q < n) (objects_of b) → object_at b p ≡ Some o → o < n
+named_object [] n p o all at = absurd cc
+named_object (None ∷ b) n zero o all at = absurd cc
+named_object (None ∷ b) n (suc p) o all at = named_object b n p o all at
+named_object (Some q ∷ b) n zero o all at = subst (λ x. x < n) (same_some at) (All-head (λ x. x < n) q (objects_of b) all)
+named_object (Some q ∷ b) n (suc p) o all at = named_object b n p o (All-tail (λ x. x < n) q (objects_of b) all) at
+
+-- each parameter that is bound is one of the first n, where the set of them is one of these
+bound_parameter : (b : Binding) (n p o : ℕ) → mask_of b < 2 ^ n → object_at b p ≡ Some o → p < n
+bound_parameter [] n p o small at = absurd cc
+bound_parameter (None ∷ b) n zero o small at = absurd cc
+bound_parameter (None ∷ b) zero (suc p) o small at = absurd (omega (arith, bound_parameter b zero p o (omega (arith, small)) at))
+bound_parameter (None ∷ b) (suc n) (suc p) o small at = omega (arith, bound_parameter b n p o (omega (arith, small, pow-suc 2 n)) at)
+bound_parameter (Some q ∷ b) zero p o small at = absurd (omega (arith, small))
+bound_parameter (Some q ∷ b) (suc n) zero o small at = omega arith
+bound_parameter (Some q ∷ b) (suc n) (suc p) o small at = omega (arith, bound_parameter b n p o (omega (arith, small, pow-suc 2 n)) at)
+
+-- ---- the meaning of the rules
+
+mask_there : (events : List EventDefinition) (e : ℕ) → unwrap_or (slice_get (map (λ (x : EventDefinition). x.mask) events) e) 0 ≡ option_map_or (λ (x : EventDefinition). x.mask) (slice_get events e) 0
+mask_there events e = ap (λ o. unwrap_or o 0) (slice_get-map (λ (x : EventDefinition). x.mask) events e) ∙ by_case (slice_get events e)
+  where
+    by_case : (o : Option EventDefinition) → unwrap_or (option_map (λ (x : EventDefinition). x.mask) o) 0 ≡ option_map_or (λ (x : EventDefinition). x.mask) o 0
+    by_case None = refl
+    by_case (Some x) = refl
+
+-- ---- the steps
+
+-- the set of parameters of each event is one of these
+small_masks : (masks : List ℕ) (bound : ℕ) → 0 < bound → All (λ m. m < bound) masks → (e : ℕ) → unwrap_or (slice_get masks e) 0 < bound
+small_masks [] bound some all e = some
+small_masks (m ∷ masks) bound some all zero = All-head (λ x. x < bound) m masks all
+small_masks (m ∷ masks) bound some all (suc e) = small_masks masks bound some (All-tail (λ x. x < bound) m masks all) e
+
+power_some : (n : ℕ) → 0 < 2 ^ n
+power_some zero = omega arith
+power_some (suc n) = omega (arith, power_some n, pow-suc 2 n)
+
+-- what holds of all steps of the lists holds of those of an interleaving
+entries_of_lists : (P : Step → Type 0) (lists : List (List (ℕ × Step))) (h : List Entry) → ((k : ℕ) (own : List (ℕ × Step)) → slice_get lists k ≡ Some own → All (λ step. P step.1) own) → IsInterleaving h lists → All (λ x. P x.step) h
+entries_of_lists P lists h each is = All-weaker (Contains h) (λ (x : Entry). P x.step) step_of h (All-contains_itself h)
+  where
+    step_of : (x : Entry) → Contains h x → P x.step
+    step_of x among =
+        let caller : x.caller < length lists = All-contains (λ (y : Entry). y.caller < length lists) h x is.callers among in
+        let own : (x.caller == x.caller) ≡ true = grind (arith, nat_tests) in
+        let there : Contains (steps_of x.caller h) (x.line, x.step) = Contains-map (λ (y : Entry). (y.line, y.step)) (filter (λ (y : Entry). y.caller == x.caller) h) x (Contains-filter (λ (y : Entry). y.caller == x.caller) h x among own) in
+        All-contains (λ (step : ℕ × Step). P step.1) (steps_of x.caller h) (x.line, x.step) (each x.caller (steps_of x.caller h) (is.each x.caller caller)) there
+
+-- Titles that are those of rules, whose specification has this number in a catalog.
+module _ (t : Titles) (rules : RuleDefinition) (whole : AreTitlesOf rules t) (catalog : List CatalogEntry) (number : ℕ) (there : table_of catalog number ≡ t.table) where
+  -- the letters and their parameters are those of the events
+  mask_of_rules : (e : ℕ) → mask_at (table_of catalog number) e ≡ unwrap_or (slice_get rules.masks e) 0
+  mask_of_rules e = ap (λ (x : EventDefinitions). mask_at x e) there ∙ sym (ap (λ ms. unwrap_or (slice_get ms e) 0) whole.masks ∙ mask_there t.table.events e)
+
+  letters_of_rules : length (table_of catalog number).events ≡ length rules.masks
+  letters_of_rules = ap (λ (x : EventDefinitions). length x.events) there ∙ sym (ap (λ ms. length ms) whole.masks ∙ length-map t.table.events (λ (e : EventDefinition). e.mask))
+
+  -- a step that fits the specification is one of its meaning
+  pub fitting_step : (n : ℕ) (x : Step) → FitsSpecification catalog n number x → IsFitStep (rules_meaning rules) n x
+  fitting_step n (Event e b) fits =
+      ((subst (λ k. e.0 < k) letters_of_rules fits.event.event, fits.eight, fits.event.parameters ∙ mask_of_rules e.0), fits.named)
+  fitting_step n (Death o) fits = fits
+  fitting_step n Pass fits = tt
+
+  small_params : (e : ℕ) → mask_at (table_of catalog number) e < 2 ^ length t.table.parameters
+  small_params e =
+      subst (λ m. m < 2 ^ length t.table.parameters) (sym (mask_of_rules e)) (small_masks rules.masks (2 ^ length t.table.parameters) (power_some (length t.table.parameters)) whole.fit e)
+
+  -- and has names
+  fitting_named : (objects : List (List ℕ)) (x : Step) → FitsSpecification catalog (length objects) number x → IsNamedStep (title_lexicon objects t) x
+  fitting_named objects (Event e b) fits = (
+    subst (λ n. e.0 < n) (sym (length-map t.table.events (λ (x : EventDefinition). x.name))) (subst (λ (x : EventDefinitions). e.0 < length x.events) there fits.event.event),
+    λ p o at. (bound_parameter b (length t.table.parameters) p o (subst (λ m. m < 2 ^ length t.table.parameters) (sym fits.event.parameters) (small_params e.0)) at, named_object b (length objects) p o fits.named at),
+  )
+  fitting_named objects (Death o) fits = fits
+  fitting_named objects Pass fits = tt
+
+  -- steps that fit it may be done
+  pub doable : (own : List (ℕ × Step)) (n : ℕ) → All (λ step. FitsSpecification catalog n number step.1) own → All (λ step. IsFitStep (rules_meaning rules) n step.1) own
+  doable own n fits = All-weaker (λ (step : ℕ × Step). FitsSpecification catalog n number step.1) (λ (step : ℕ × Step). IsFitStep (rules_meaning rules) n step.1) (λ step. fitting_step n step.1) own fits
+
+  -- a history of such steps can be printed
+  pub history_printable : (objects : List (List ℕ)) (lists : List (List (ℕ × Step))) (h : List Entry)
+      → ((k : ℕ) (own : List (ℕ × Step)) → slice_get lists k ≡ Some own → All (λ step. FitsSpecification catalog (length objects) number step.1) own)
+      → IsLegal (rules_meaning rules) h → IsInterleaving h lists → All (IsPrintable (title_lexicon objects t)) h
+  history_printable objects lists h fits legal woven =
+      let names = title_lexicon objects t in
+      let few : length rules.handlers ≤ length t.handlers = subst (λ hs. length rules.handlers ≤ length hs) (sym whole.handlers) (omega arith) in
+      let each : All (λ (e : Entry). IsNamedStep names e.step) h =
+      entries_of_lists (λ (x : Step). IsNamedStep names x) lists h
+      (λ k own at. All-weaker (λ (step : ℕ × Step). FitsSpecification catalog (length objects) number step.1) (λ (step : ℕ × Step). IsNamedStep names step.1) (λ step. fitting_named objects step.1) own (fits k own at)) woven in
+      printable names (rules_meaning rules) few h each woven.done legal
+
+-- all entries are those of the one caller
+one_caller : (xs : List Entry) → AllByRecursion (λ x. x.caller ≡ 0) xs → filter (λ (x : Entry). x.caller == 0) xs ≡ xs
+one_caller [] h = refl
+one_caller (x ∷ xs) h =
+    let here : (x.caller == 0) ≡ true = grind (arith, nat_tests) in
+    rw here (ap (λ ys. x ∷ ys) (one_caller xs h.1))
+
+woven : (own : List (ℕ × Step)) (h : List Entry) → AreEntriesOf 0 own h → All (λ x. x.outcome ≢ NoMemory) h → IsInterleaving h (own ∷ [])
+woven own h each done = record {
+  callers = All-weaker (λ (x : Entry). x.caller ≡ 0) (λ (x : Entry). x.caller < 1) (λ x is. omega (arith, is)) h each.by_caller;
+  done = done;
+  each = λ k less. list_of k less;
+}
+  where
+    list_of : (k : ℕ) → k < 1 → slice_get (own ∷ []) k ≡ Some (steps_of k h)
+    list_of zero less =
+        ap (λ ss. Some ss) (sym (ap (λ xs. map (λ (x : Entry). (x.line, x.step)) xs) (one_caller h (recursion_from_All (λ (x : Entry). x.caller ≡ 0) h each.by_caller)) ∙ each.in_order))
+    list_of (suc k) less = absurd (omega (arith, less))
+
+-- what a core without history has after a replay of the steps
+pub replay_of : {D : Type 0} (mean : D → Meaning) (rules : D) (own : List (ℕ × Step)) (before after : Core D) (h : List Entry) → before.definition ≡ rules → before.entries ≡ [] → Replayed 0 own before after
+    → IsLegal (mean after.definition) after.entries → h ≡ after.entries → IsReplayOf (mean rules) own h
+replay_of {D} mean rules own before after h new none done legal same =
+    let all : h ≡ done.added = same ∙ done.grown.entries ∙ ap (λ es. es ++ done.added) none in
+    let meant : after.definition ≡ rules = done.grown.definition ∙ new in
+    record {
+      legal = subst (λ es. IsLegal (mean rules) es) (sym same) (subst (λ m. IsLegal m after.entries) (ap mean meant) legal);
+      woven = subst (λ es. IsInterleaving es (own ∷ [])) (sym all) (woven own done.added done.each done.done);
+    }
+
+-- its text, where there is one
+pub replay_printed : {T E : Type 0} (items : T → List ℕ) (m : Meaning) (steps : List (ℕ × Step)) (l : Lexicon) (h : List Entry) → IsReplayOf m steps h
+    → (made : Result T E) → IfOk made (λ text. items text ≡ history_text l h) → IfOk made (λ text. IsPrintedReplay m steps l (items text))
+replay_printed items m steps l h valid (Ok text) printed = record { history = h; replayed = valid; printed = printed }
+replay_printed items m steps l h valid (Err e) printed = tt
+
+-- ---- the one specification and the one script of `replay`
+
+one_list : (own : List (ℕ × Step)) (k : ℕ) (list : List (ℕ × Step)) → slice_get (own ∷ []) k ≡ Some list → list ≡ own
+one_list own zero list at = sym (same_some at)
+one_list own (suc k) list at = absurd (none-some list at)
+
+pub replay_printable : (t : Titles) (rules : RuleDefinition) (catalog : List CatalogEntry) → AreTitlesOf rules t → table_of catalog 0 ≡ t.table → (objects : List (List ℕ)) (own : List (ℕ × Step)) (h : List Entry)
+    → All (λ step. FitsSpecification catalog (length objects) 0 step.1) own → IsReplayOf (rules_meaning rules) own h → All (IsPrintable (title_lexicon objects t)) h
+replay_printable t rules catalog whole there objects own h fits is =
+    history_printable t rules whole catalog 0 there objects (own ∷ []) h
+    (λ k list at. subst (All (λ (step : ℕ × Step). FitsSpecification catalog (length objects) 0 step.1)) (sym (one_list own k list at)) fits) is.legal is.woven
+
+pub replay_text : (t : Titles) (rules : RuleDefinition) → AreTitlesOf rules t → (script : List ScriptLine) (objects : List (List ℕ)) (text : List ℕ)
+    → IsPrintedReplay (rules_meaning rules) (projection_of (script_of script) 0) (title_lexicon objects t) text → IsTextOfHistories (titled t rules ∷ []) (script ∷ []) objects text
+replay_text t rules whole script objects text h = record {
+  histories = h.history ∷ [];
+  each = (record { legal = h.replayed.legal; woven = h.replayed.woven }, tt);
+  printed = h.printed ∙ ap (λ (hs : List (List ℕ)). history_text (lexicon_of (string_bytes t.name) t.table hs objects t.texts.items) h.history) whole.handlers ∙ sym (append-nil (history_text (lexicon objects (titled t rules)) h.history));
+}
+
+single_of : {X : Type 0} (xs ys : List X) (x : X) → xs ≡ ys ++ x ∷ [] → length xs ≡ 1 → xs ≡ x ∷ []
+single_of xs [] x e one = e
+single_of xs (y ∷ ys) x e one = absurd (omega (arith, one, ap (λ v. length v) e, length_push ys x))
+
+pub first_of : {X : Type 0} (xs : List X) (x : X) → length xs ≡ 1 → x ≡ get_or xs 0 x → xs ≡ x ∷ []
+first_of [] x one here = absurd (omega (arith, one))
+first_of (y ∷ []) x one here = ap (λ v. v ∷ []) (sym here)
+first_of (y ∷ z ∷ xs) x one here = absurd (omega (arith, one))
+
+-- the specification of a library of one
+module _ (library : Library) (catalogued : IsCatalogued library) (rest : List Loaded) (l : Loaded) (popped : library.specs.items ≡ rest ++ l ∷ []) (one : length library.specs.items ≡ 1) where
+  alone : library.specs.items ≡ l ∷ []
+  alone = single_of library.specs.items rest l popped one
+
+  pub alone_is : specs_in library ≡ specification_of l ∷ []
+  alone_is = ap (λ v. map specification_of v) alone
+
+  pub alone_whole : IsWhole l
+  alone_whole = All-head IsWhole l [] (subst (All IsWhole) alone catalogued.kept)
+
+  pub alone_there : table_of (catalog_of (specs_in library)) 0 ≡ l.titles.table
+  alone_there = ap (λ v. table_of (catalog_of v) 0) alone_is
+
+module _ (library : Library) (catalogued : IsCatalogued library) (scripts : Scripts) (counted : AreCounted (specs_in library) scripts) (one_script : length scripts.list.items ≡ 1) (script : List ScriptLine) (here : script ≡ get_or scripts.list.items 0 script) where
+  pub script_alone : scripts.list.items ≡ script ∷ []
+  script_alone = first_of scripts.list.items script one_script here
+
+  pub script_fits : FitsCatalog (catalog_of (specs_in library)) (length scripts.objects) script
+  script_fits = All-head (FitsCatalog (catalog_of (specs_in library)) (length scripts.objects)) script [] (subst (All (FitsCatalog (catalog_of (specs_in library)) (length scripts.objects))) script_alone counted.fit)
+
+  module _ (rest : List Loaded) (l : Loaded) (popped : library.specs.items ≡ rest ++ l ∷ []) (one : length library.specs.items ≡ 1) (own : List (ℕ × Step)) (fits : All (λ step. FitsSpecification (catalog_of (specs_in library)) (length scripts.objects) 0 step.1) own) where
+    pub own_doable : All (λ step. IsFitStep (rules_meaning l.rules.definition) (length scripts.objects) step.1) own
+    own_doable = doable l.titles l.rules.definition (alone_whole library catalogued rest l popped one) (catalog_of (specs_in library)) 0 (alone_there library catalogued rest l popped one) own (length scripts.objects) fits
+
+    pub own_printable : (h : List Entry) → IsReplayOf (rules_meaning l.rules.definition) own h → All (IsPrintable (title_lexicon scripts.objects l.titles)) h
+    own_printable h is = replay_printable l.titles l.rules.definition (catalog_of (specs_in library)) (alone_whole library catalogued rest l popped one) (alone_there library catalogued rest l popped one) scripts.objects own h fits is
+
+    pub own_text : own ≡ projection_of (script_of script) 0 → (text : List ℕ) → IsPrintedReplay (rules_meaning l.rules.definition) own (title_lexicon scripts.objects l.titles) text → IsTextOfHistories (specs_in library) scripts.list.items scripts.objects text
+    own_text is text printed =
+        let made = replay_text l.titles l.rules.definition (alone_whole library catalogued rest l popped one) script scripts.objects text (subst (λ v. IsPrintedReplay (rules_meaning l.rules.definition) v (title_lexicon scripts.objects l.titles) text) is printed) in
+        subst (λ v. IsTextOfHistories v scripts.list.items scripts.objects text) (sym (alone_is library catalogued rest l popped one))
+        (subst (λ v. IsTextOfHistories (specification_of l ∷ []) v scripts.objects text) (sym script_alone) made)
+
+-- its text, where there is one
+pub made_text : {T E : Type 0} (items : T → List ℕ) (P Q : List ℕ → Type 0) (made : Result T E) → ((text : List ℕ) → P text → Q text) → IfOk made (λ text. P (items text)) → IfOk made (λ text. Q (items text))
+made_text items P Q (Ok text) turn h = turn (items text) h
+made_text items P Q (Err e) turn h = tt

@@ -1,0 +1,222 @@
+-- Runs of scripts over specifications, and the texts of their histories.
+use Rattle.std.proofs.Common.{◌≡◌, ℕ, zero, suc, ◌+◌, ◌<◌, ◌≤◌, List, [], ◌∷◌, ◌++◌, length, get_or, take, Option, Some, None, refl, sym, ap, subst, ◌∙◌, arith, append_assoc, append-nil}
+use Rattle.std.specs.Prelude.{All, map, slice_get, option_map, string_bytes}
+use Rattle.std.specs.Option.{option_map_or}
+use Rattle.std.proofs.lemmas.Option.{slice_get-map, none-some}
+use Rattle.std.proofs.lemmas.List.{length-map, map-append}
+use Rattle.std.proofs.lemmas.List.Elements.{All-contains, All-head, All-tail, All-map, All-weaker}
+use Rattle.jm_model.specs.declared.step.Step.{Step}
+use Rattle.jm_model.specs.declared.step.Entry.{Entry}
+use Rattle.jm_semantics.specs.Legality.{IsLegal}
+use Rattle.jm_semantics.specs.Scripts.{projection_of, IsInterleaving}
+use Rattle.jm_core.specs.Cores.{Core}
+use Rattle.jm_core.specs.Steps.{IsFitStep}
+use Rattle.jm_turn.specs.Seats.{LockModel, SeatModel}
+use Rattle.jm_dispatch.specs.declared.watched.Fixed.{Fixed}
+use Rattle.jm_runner.specs.Runs.{projections_of, AreFitSteps, CanRun, IsRunOf}
+use Rattle.jm_print.specs.Lexicons.{Lexicon, lexicon_of}
+use Rattle.jm_print.specs.Texts.{IsPrintable, history_text}
+use Rattle.jm_print.specs.Told.{texts_of}
+use Rattle.jm_script.specs.Catalogs.{CatalogEntry, table_of}
+use Rattle.jm_script.specs.Fitting.{FitsCatalog, FitsSpecification}
+use Rattle.jm_script.specs.Projections.{script_of}
+use Rattle.jm_script.specs.declared.script.ScriptLine.{ScriptLine}
+use Rattle.jm_script.proofs.FittingLemmas.{projection_fits}
+use Rattle.jm_machine.specs.Meanings.{rules_meaning}
+use Rattle.jm_machine.specs.RuleSets.{CompiledRules}
+use Rattle.jm_top.specs.declared.specification.Titles.{Titles}
+use Rattle.jm_top.specs.declared.specification.Loaded.{Loaded}
+use Rattle.jm_top.specs.declared.library.Library.{Library}
+use Rattle.jm_top.specs.declared.scripts.Scripts.{Scripts}
+use Rattle.jm_top.specs.Specifications.{Specification, meaning_of}
+use Rattle.jm_top.specs.Scripts.{entry_of, catalog_of}
+use Rattle.jm_top.specs.Reading.{AreTitlesOf, titled, specification_of, IsWhole, specs_in, IsCatalogued, AreCounted, title_lexicon, ArePrintable}
+use Rattle.jm_top.specs.Histories.{lexicon, IsHistoryOf, AreHistoriesFrom, IsTextOfHistories}
+use Rattle.jm_top.specs.Runs.{IsWatchOf, AreWatchesOf, AreRunsOf}
+use Rattle.jm_top.proofs.OneReadingLemmas.{same_some}
+use Rattle.jm_top.proofs.HistoryLemmas.{doable, history_printable}
+
+-- ---- a specification in its catalog
+
+at_map : {A B : Type 0} (f : A → B) (xs : List A) (k : ℕ) (x : A) → slice_get xs k ≡ Some x → slice_get (map f xs) k ≡ Some (f x)
+at_map {A} {B} f xs k x at = slice_get-map f xs k ∙ ap (option_map f) at
+
+entry_there : (o : Option CatalogEntry) (e : CatalogEntry) → o ≡ Some e → option_map_or (λ x. x.table) o (record { parameters = []; events = [] }) ≡ e.table
+entry_there o e at = ap (λ v. option_map_or (λ (x : CatalogEntry). x.table) v (record { parameters = []; events = [] })) at
+
+pub table_at : (ls : List Loaded) (k : ℕ) (l : Loaded) → slice_get ls k ≡ Some l → table_of (catalog_of (map specification_of ls)) k ≡ l.titles.table
+table_at ls k l at = entry_there (slice_get (catalog_of (map specification_of ls)) k) (entry_of (specification_of l)) (at_map entry_of (map specification_of ls) k (specification_of l) (at_map specification_of ls k l at))
+
+All-at : {X : Type 0} (P : X → Type 0) (xs : List X) (k : ℕ) (x : X) → All P xs → slice_get xs k ≡ Some x → P x
+All-at P [] k x all at = absurd (none-some x at)
+All-at P (y ∷ xs) zero x all at = subst P (same_some at) (All-head P y xs all)
+All-at P (y ∷ xs) (suc k) x all at = All-at P xs k x (All-tail P y xs all) at
+
+-- the projections of scripts that fit the catalog fit the specification of their number
+projected : (catalog : List CatalogEntry) (names number : ℕ) (scripts : List (List ScriptLine)) → All (FitsCatalog catalog names) scripts
+    → All (λ steps. All (λ (step : ℕ × Step). FitsSpecification catalog names number step.1) steps) (projections_of scripts number)
+projected catalog names number scripts fit =
+    All-map (λ steps. All (λ (step : ℕ × Step). FitsSpecification catalog names number step.1) steps) (λ script. projection_of (script_of script) number) scripts
+    (All-weaker (FitsCatalog catalog names) (λ script. All (λ (step : ℕ × Step). FitsSpecification catalog names number step.1) (projection_of (script_of script) number)) (λ script fits. projection_fits catalog names number script fits) scripts fit)
+
+module _ (library : Library) (scripts : Scripts) (catalogued : IsCatalogued library) (counted : AreCounted (specs_in library) scripts) (k : ℕ) (l : Loaded) (at : slice_get library.specs.items k ≡ Some l) where
+  whole_at : IsWhole l
+  whole_at = All-at IsWhole library.specs.items k l catalogued.kept at
+
+  -- so they can be run
+  pub fitting_at : All (λ steps. AreFitSteps (rules_meaning l.rules.definition) (length scripts.objects) steps) (projections_of scripts.list.items k)
+  fitting_at =
+      All-weaker (λ steps. All (λ (step : ℕ × Step). FitsSpecification (catalog_of (specs_in library)) (length scripts.objects) k step.1) steps) (λ steps. AreFitSteps (rules_meaning l.rules.definition) (length scripts.objects) steps)
+      (λ steps fits. doable l.titles l.rules.definition whole_at (catalog_of (specs_in library)) k (table_at library.specs.items k l at) steps (length scripts.objects) fits) (projections_of scripts.list.items k)
+      (projected (catalog_of (specs_in library)) (length scripts.objects) k scripts.list.items counted.fit)
+
+  -- and their histories can be printed
+  pub printable_at : (h : List Entry) → IsLegal (rules_meaning l.rules.definition) h → IsInterleaving h (projections_of scripts.list.items k) → All (IsPrintable (title_lexicon scripts.objects l.titles)) h
+  printable_at h legal woven =
+      history_printable l.titles l.rules.definition whole_at (catalog_of (specs_in library)) k (table_at library.specs.items k l at) scripts.objects (projections_of scripts.list.items k) h
+      (λ j own here. All-at (λ steps. All (λ (step : ℕ × Step). FitsSpecification (catalog_of (specs_in library)) (length scripts.objects) k step.1) steps) (projections_of scripts.list.items k) j own (projected (catalog_of (specs_in library)) (length scripts.objects) k scripts.list.items counted.fit) here) legal woven
+
+-- ---- dispatchers
+
+pub no_watches : (objects seats : ℕ) → AreWatchesOf objects seats [] [] []
+no_watches objects seats = tt
+
+pub watches_more : (objects seats : ℕ) (ls : List Loaded) (watches : List (LockModel (Fixed CompiledRules))) (alls : List (List (SeatModel Entry (Fixed CompiledRules)))) (l : Loaded) (watch : LockModel (Fixed CompiledRules)) (all : List (SeatModel Entry (Fixed CompiledRules)))
+    → AreWatchesOf objects seats ls watches alls → IsWatchOf objects seats l.rules watch all → AreWatchesOf objects seats (ls ++ l ∷ []) (watches ++ watch ∷ []) (alls ++ all ∷ [])
+watches_more objects seats [] [] [] l watch all h is = (is, tt)
+watches_more objects seats (x ∷ ls) (w ∷ watches) (a ∷ alls) l watch all h is = (h.0, watches_more objects seats ls watches alls l watch all h.1 is)
+watches_more objects seats [] [] (a ∷ alls) l watch all h is = absurd h
+watches_more objects seats [] (w ∷ watches) alls l watch all h is = absurd h
+watches_more objects seats (x ∷ ls) [] alls l watch all h is = absurd h
+watches_more objects seats (x ∷ ls) (w ∷ watches) [] l watch all h is = absurd h
+
+pub watches_length : (objects seats : ℕ) (ls : List Loaded) (watches : List (LockModel (Fixed CompiledRules))) (alls : List (List (SeatModel Entry (Fixed CompiledRules)))) → AreWatchesOf objects seats ls watches alls → length watches ≡ length ls
+watches_length objects seats [] [] [] h = refl
+watches_length objects seats (x ∷ ls) (w ∷ watches) (a ∷ alls) h = omega (arith, watches_length objects seats ls watches alls h.1)
+watches_length objects seats [] [] (a ∷ alls) h = absurd h
+watches_length objects seats [] (w ∷ watches) alls h = absurd h
+watches_length objects seats (x ∷ ls) [] alls h = absurd h
+watches_length objects seats (x ∷ ls) (w ∷ watches) [] h = absurd h
+
+-- the dispatcher of a number is one of that specification
+pub watch_at : (objects seats : ℕ) (ls : List Loaded) (watches : List (LockModel (Fixed CompiledRules))) (alls : List (List (SeatModel Entry (Fixed CompiledRules)))) (k : ℕ) (watch : LockModel (Fixed CompiledRules)) (all : List (SeatModel Entry (Fixed CompiledRules)))
+    → AreWatchesOf objects seats ls watches alls → slice_get watches k ≡ Some watch → slice_get alls k ≡ Some all → (l : Loaded) × (slice_get ls k ≡ Some l) × IsWatchOf objects seats l.rules watch all
+watch_at objects seats [] [] [] k watch all h at there = absurd (none-some watch at)
+watch_at objects seats (x ∷ ls) (w ∷ watches) (a ∷ alls) zero watch all h at there =
+    (x, refl, subst (λ v. IsWatchOf objects seats x.rules v all) (same_some at) (subst (λ v. IsWatchOf objects seats x.rules w v) (same_some there) h.0))
+watch_at objects seats (x ∷ ls) (w ∷ watches) (a ∷ alls) (suc k) watch all h at there = watch_at objects seats ls watches alls k watch all h.1 at there
+watch_at objects seats [] [] (a ∷ alls) k watch all h at there = absurd h
+watch_at objects seats [] (w ∷ watches) alls k watch all h at there = absurd h
+watch_at objects seats (x ∷ ls) [] alls k watch all h at there = absurd h
+watch_at objects seats (x ∷ ls) (w ∷ watches) [] k watch all h at there = absurd h
+
+-- ---- texts
+
+-- each history is one of its specification
+histories_from : (number : ℕ) (ls : List Loaded) (scripts : List (List ScriptLine)) (ps : List (Core CompiledRules)) → length ps ≡ length ls
+    → ((k : ℕ) (l : Loaded) (p : Core CompiledRules) → slice_get ls k ≡ Some l → slice_get ps k ≡ Some p → IsHistoryOf (number + k) (specification_of l) scripts p.entries)
+    → AreHistoriesFrom number (map specification_of ls) scripts (map (λ (p : Core CompiledRules). p.entries) ps)
+histories_from number [] scripts [] same each = tt
+histories_from number [] scripts (p ∷ ps) same each = absurd (omega (arith, same))
+histories_from number (l ∷ ls) scripts [] same each = absurd (omega (arith, same))
+histories_from number (l ∷ ls) scripts (p ∷ ps) same each =
+    let none : number + 0 ≡ number = omega arith in (
+      subst (λ n. IsHistoryOf n (specification_of l) scripts p.entries) none (each 0 l p refl refl),
+      histories_from (number + 1) ls scripts ps (omega (arith, same))
+          (λ k m q at there. let next : number + suc k ≡ (number + 1) + k = omega arith in subst (λ n. IsHistoryOf n (specification_of m) scripts q.entries) next (each (suc k) m q at there)),
+    )
+
+printables_from : (objects : List (List ℕ)) (ls : List Loaded) (ps : List (Core CompiledRules))
+    → ((k : ℕ) (l : Loaded) (p : Core CompiledRules) → slice_get ls k ≡ Some l → slice_get ps k ≡ Some p → All (IsPrintable (title_lexicon objects l.titles)) p.entries)
+    → ArePrintable (map (title_lexicon objects) (map (λ (l : Loaded). l.titles) ls)) (map (λ (p : Core CompiledRules). p.entries) ps)
+printables_from objects [] ps each = tt
+printables_from objects (l ∷ ls) [] each = tt
+printables_from objects (l ∷ ls) (p ∷ ps) each = (each 0 l p refl refl, printables_from objects ls ps (λ k m q at there. each (suc k) m q at there))
+
+-- the names of the titles are those of the specifications
+lexicons_are : (objects : List (List ℕ)) (ls : List Loaded) → All IsWhole ls → map (title_lexicon objects) (map (λ (l : Loaded). l.titles) ls) ≡ map (lexicon objects) (map specification_of ls)
+lexicons_are objects [] all = refl
+lexicons_are objects (l ∷ ls) all =
+    let here : title_lexicon objects l.titles ≡ lexicon objects (specification_of l) = ap (λ (hs : List (List ℕ)). lexicon_of (string_bytes l.titles.name) l.titles.table hs objects l.titles.texts.items) (All-head IsWhole l ls all).handlers in
+    let rest = lexicons_are objects ls (All-tail IsWhole l ls all) in
+    λ i. here i ∷ rest i
+
+module _ (library : Library) (scripts : Scripts) (catalogued : IsCatalogued library) (counted : AreCounted (specs_in library) scripts) (titles : List Titles) (ps : List (Core CompiledRules)) (runs : AreRunsOf library.specs.items scripts.list.items titles ps) where
+  pub runs_printable : ArePrintable (map (title_lexicon scripts.objects) titles) (map (λ (p : Core CompiledRules). p.entries) ps)
+  runs_printable =
+      subst (λ ts. ArePrintable (map (title_lexicon scripts.objects) ts) (map (λ (p : Core CompiledRules). p.entries) ps)) (sym runs.titled)
+      (printables_from scripts.objects library.specs.items ps (λ k l p at there. printable_at library scripts catalogued counted k l at p.entries (runs.legal k l p at there) (runs.woven k l p at there)))
+
+  pub run_histories : AreHistoriesFrom 0 (specs_in library) scripts.list.items (map (λ (p : Core CompiledRules). p.entries) ps)
+  run_histories = histories_from 0 library.specs.items scripts.list.items ps runs.many
+      (λ k l p at there. let same : 0 + k ≡ k = omega arith in
+      subst (λ n. IsHistoryOf n (specification_of l) scripts.list.items p.entries) (sym same) (record { legal = runs.legal k l p at there; woven = runs.woven k l p at there }))
+
+  pub runs_text : (text : List ℕ) → text ≡ texts_of (map (title_lexicon scripts.objects) titles) (map (λ (p : Core CompiledRules). p.entries) ps) → IsTextOfHistories (specs_in library) scripts.list.items scripts.objects text
+  runs_text text printed = record {
+    histories = map (λ (p : Core CompiledRules). p.entries) ps;
+    each = run_histories;
+    printed = printed ∙ ap (λ ls. texts_of ls (map (λ (p : Core CompiledRules). p.entries) ps)) (ap (map (title_lexicon scripts.objects)) runs.titled ∙ lexicons_are scripts.objects library.specs.items catalogued.kept);
+  }
+
+-- what was run is what the scripts had to do
+pub runs_of : (library : Library) (scripts : Scripts) → IsCatalogued library → AreCounted (specs_in library) scripts → (objects : ℕ) → objects ≡ length scripts.objects → (watches : List (LockModel (Fixed CompiledRules))) (alls : List (List (SeatModel Entry (Fixed CompiledRules)))) (k : ℕ) (watch : LockModel (Fixed CompiledRules)) (all : List (SeatModel Entry (Fixed CompiledRules)))
+    → (seats : ℕ) → seats ≡ length scripts.list.items → AreWatchesOf objects seats library.specs.items watches alls → slice_get watches k ≡ Some watch → slice_get alls k ≡ Some all → CanRun (rules_meaning watch.fixed.definition.definition) scripts.list.items k watch all
+runs_of library scripts catalogued counted objects named watches alls k watch all seats many are at there =
+    let found = watch_at objects seats library.specs.items watches alls k watch all are at there in
+    let l = found.0 in
+    let is = found.2 in
+    let definition : watch.fixed.definition ≡ l.rules = ap (λ (f : Fixed CompiledRules). f.definition) is.fixed in
+    let many_objects : watch.fixed.objects ≡ length scripts.objects = ap (λ (f : Fixed CompiledRules). f.objects) is.fixed ∙ named in
+    record {
+      count = is.count ∙ many;
+      all = is.many ∙ many;
+      newcomers = is.newcomers;
+      fitting = subst (λ (d : CompiledRules). All (λ steps. AreFitSteps (rules_meaning d.definition) watch.fixed.objects steps) (projections_of scripts.list.items k)) (sym definition)
+          (subst (λ n. All (λ steps. AreFitSteps (rules_meaning l.rules.definition) n steps) (projections_of scripts.list.items k)) (sym many_objects) (fitting_at library scripts catalogued counted k l found.1));
+    }
+
+-- as many titles as cores
+pub runs_many : (library : Library) (scripts : Scripts) (titles : List Titles) (ps : List (Core CompiledRules)) → AreRunsOf library.specs.items scripts.list.items titles ps → length titles ≡ length ps
+runs_many library scripts titles ps runs = ap (λ ts. length ts) runs.titled ∙ length-map library.specs.items (λ (l : Loaded). l.titles) ∙ sym runs.many
+
+-- ---- dispatchers as they are kept
+
+module _ {R : Type 0} (watch_of : R → LockModel (Fixed CompiledRules)) (seats_of : R → List (SeatModel Entry (Fixed CompiledRules))) (objects seats : ℕ) where
+  pub watches_push : (ls : List Loaded) (l : Loaded) (rs new : List R) (r : R) → AreWatchesOf objects seats ls (map watch_of rs) (map seats_of rs) → IsWatchOf objects seats l.rules (watch_of r) (seats_of r) → new ≡ rs ++ r ∷ []
+      → AreWatchesOf objects seats (ls ++ l ∷ []) (map watch_of new) (map seats_of new)
+  watches_push ls l rs new r h is pushed =
+      let watches : map watch_of new ≡ map watch_of rs ++ watch_of r ∷ [] = ap (map watch_of) pushed ∙ map-append watch_of rs (r ∷ []) in
+      let alls : map seats_of new ≡ map seats_of rs ++ seats_of r ∷ [] = ap (map seats_of) pushed ∙ map-append seats_of rs (r ∷ []) in
+      subst (λ v. AreWatchesOf objects seats (ls ++ l ∷ []) v (map seats_of new)) (sym watches)
+      (subst (λ v. AreWatchesOf objects seats (ls ++ l ∷ []) (map watch_of rs ++ watch_of r ∷ []) v) (sym alls) (watches_more objects seats ls (map watch_of rs) (map seats_of rs) l (watch_of r) (seats_of r) h is))
+
+  pub watches_many : (ls : List Loaded) (rs : List R) → AreWatchesOf objects seats ls (map watch_of rs) (map seats_of rs) → length rs ≡ length ls
+  watches_many ls rs h = sym (length-map rs watch_of) ∙ watches_length objects seats ls (map watch_of rs) (map seats_of rs) h
+
+  watch_for : (ls : List Loaded) (rs : List R) (k : ℕ) (l : Loaded) → AreWatchesOf objects seats ls (map watch_of rs) (map seats_of rs) → slice_get ls k ≡ Some l → (r : R) × (slice_get rs k ≡ Some r) × IsWatchOf objects seats l.rules (watch_of r) (seats_of r)
+  watch_for [] rs k l h at = absurd (none-some l at)
+  watch_for (x ∷ ls) [] k l h at = absurd h
+  watch_for (x ∷ ls) (r ∷ rs) zero l h at = (r, refl, subst (λ (v : Loaded). IsWatchOf objects seats v.rules (watch_of r) (seats_of r)) (same_some at) h.0)
+  watch_for (x ∷ ls) (r ∷ rs) (suc k) l h at = watch_for ls rs k l h.1 at
+
+  -- what the run of the dispatchers gave
+  pub runs_from : (ls : List Loaded) (scripts : List (List ScriptLine)) (titles : List Titles) (ps : List (Core CompiledRules)) (rs : List R) → titles ≡ map (λ (l : Loaded). l.titles) ls → length ps ≡ length rs
+      → AreWatchesOf objects seats ls (map watch_of rs) (map seats_of rs)
+      → ((s : ℕ) (r : R) (p : Core CompiledRules) → slice_get rs s ≡ Some r → slice_get ps s ≡ Some p → IsRunOf (rules_meaning (watch_of r).fixed.definition.definition) scripts s (watch_of r).fixed p) → AreRunsOf ls scripts titles ps
+  runs_from ls scripts titles ps rs titled many are each = record {
+    titled = titled;
+    many = many ∙ watches_many ls rs are;
+    legal = λ k l p at there.
+        let found = watch_for ls rs k l are at in
+        subst (λ (d : CompiledRules). IsLegal (rules_meaning d.definition) p.entries) (ap (λ (f : Fixed CompiledRules). f.definition) found.2.fixed) (each k found.0 p found.1 there).legal;
+    woven = λ k l p at there.
+        let found = watch_for ls rs k l are at in
+        (each k found.0 p found.1 there).interleaving;
+  }
+
+  -- they can run
+  pub ready_at : (library : Library) (scripts : Scripts) → IsCatalogued library → AreCounted (specs_in library) scripts → objects ≡ length scripts.objects → seats ≡ length scripts.list.items → (rs : List R)
+      → AreWatchesOf objects seats library.specs.items (map watch_of rs) (map seats_of rs) → (s : ℕ) (r : R) → slice_get rs s ≡ Some r → CanRun (rules_meaning (watch_of r).fixed.definition.definition) scripts.list.items s (watch_of r) (seats_of r)
+  ready_at library scripts catalogued counted named many rs are s r at =
+      runs_of library scripts catalogued counted objects named (map watch_of rs) (map seats_of rs) s (watch_of r) (seats_of r) seats many are (at_map watch_of rs s r at) (at_map seats_of rs s r at)

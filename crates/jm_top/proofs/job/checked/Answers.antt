@@ -1,0 +1,23 @@
+use Rattle.std.specs.Prelude.{map, string_bytes}
+use Rattle.std.proofs.Common.{◌∙◌, sym}
+use Rattle.std.proofs.lemmas.Result.{err_from_is_err_and}
+use Rattle.jm_top.specs.Causes.{short}
+use Rattle.jm_top.proofs.CommandLemmas.{check_stops, check_made}
+use Rattle.jm_top.proofs.job.checked.Goals as goal
+
+pub returns-in_err-library-clause-caused : goal.returns-in_err-library-clause-caused
+returns-in_err-library-clause-caused g c =
+    let p = err_from_is_err_and c.from_residual.result c.from_residual.ensures.1 in
+    rw (p.1, p.2) (check_stops (g.F.Folder.holds c.args.files.now) (map string_bytes c.args.specs.now) _ c.in_err-library.ensures.err)
+
+pub declared-requires : goal.declared-requires
+declared-requires g c = rw c.as_slice.ensures.value c.in_ok-library.ensures.read.catalogued.kept
+
+pub returns-in_err-text-clause-caused : goal.returns-in_err-text-clause-caused
+returns-in_err-text-clause-caused g c =
+    let p = err_from_is_err_and c.from_residual-in_err-text.result c.from_residual-in_err-text.ensures.1 in
+    rw (p.1, p.2) short
+
+pub returns-clause-made : goal.returns-clause-made
+returns-clause-made g c =
+    check_made (g.F.Folder.holds c.args.files.now) (map string_bytes c.args.specs.now) c.in_ok-library.library c.in_ok-text.text.items c.in_ok-library.ensures.read (rw c.as_slice.ensures.value at c.in_ok-text.ensures)

@@ -1,0 +1,21 @@
+use Rattle.std.proofs.Common.{◌≡◌, ◌≤◌, ◌∙◌, sym, length, arith}
+use Rattle.std.specs.Prelude.{vec_len}
+use Rattle.jm_top.proofs.RunLemmas.{watches_many, runs_from, ready_at}
+use Rattle.jm_top.proofs.run.run_all.Goals as goal
+
+pub run_scripts-requires-clause-watches : goal.run_scripts-requires-clause-watches
+run_scripts-requires-clause-watches g c =
+    let many = watches_many (λ r. r.watch) (λ r. r.seats.items) c.len.result c.len-seats.result c.args.library.specs.items c.in_ok-made.made.watches.items c.in_ok-made.ensures.watches in
+    let same : vec_len c.in_ok-made.made.watches ≡ length c.in_ok-made.made.watches.items = omega (arith, c.in_ok-made.made.watches.ok.0) in
+    λ words bounds. (omega (arith, many, same, c.requires.specs.0), omega (arith, many, same, c.requires.specs.1))
+
+pub run_scripts-requires-clause-ready : goal.run_scripts-requires-clause-ready
+run_scripts-requires-clause-ready g c = λ words bounds s r at.
+    let seats : c.len-seats.result ≡ length c.args.scripts.now.list.items = omega (arith, c.len-seats.ensures, c.args.scripts.now.list.ok.0) in
+    rw c.as_slice.ensures.value (ready_at (λ r. r.watch) (λ r. r.seats.items) c.len.result c.len-seats.result c.args.library c.args.scripts.now c.requires.catalogued c.requires.counted c.len.ensures.value seats c.in_ok-made.made.watches.items c.in_ok-made.ensures.watches s r at)
+
+pub returns : goal.returns
+returns g c =
+    let many : length c.in_ok-props.props.items ≡ length c.in_ok-made.made.watches.items = omega (arith, c.in_ok-props.ensures.count, c.in_ok-props.props.ok.0, c.in_ok-made.made.watches.ok.0) in
+    runs_from (λ r. r.watch) (λ r. r.seats.items) c.len.result c.len-seats.result c.args.library.specs.items c.args.scripts.now.list.items c.in_ok-made.made.titles.items c.in_ok-props.props.items c.in_ok-made.made.watches.items c.in_ok-made.ensures.titles many c.in_ok-made.ensures.watches
+    (rw c.as_slice.ensures.value at c.in_ok-props.ensures.runs)

@@ -1,0 +1,43 @@
+-- The histories of a command's specifications, and their text.
+use Rattle.std.specs.Prelude.{ℕ, ◌+◌, ◌≡◌, List, [], ◌∷◌, ◌++◌, map}
+use Rattle.jm_model.specs.declared.step.Entry.{Entry}
+use Rattle.jm_semantics.specs.Scripts.{projection_of, IsInterleaving}
+use Rattle.jm_semantics.specs.Legality.{IsLegal}
+use Rattle.jm_print.specs.Lexicons.{Lexicon, lexicon_of}
+use Rattle.jm_print.specs.Told.{texts_of}
+use Rattle.jm_print.specs.Summaries.{summary_text}
+use Rattle.jm_script.specs.declared.script.ScriptLine.{ScriptLine}
+use Rattle.jm_script.specs.Projections.{script_of}
+use Rattle.jm_top.specs.Specifications.{Specification, meaning_of}
+
+-- the history is legal for what the specification of this number means, and an interleaving of the scripts' projections on it
+pub record IsHistoryOf (number : ℕ) (s : Specification) (scripts : List (List ScriptLine)) (h : List Entry) : Type 0 where
+  pub legal : IsLegal (meaning_of s) h
+  pub woven : IsInterleaving h (map (λ script. projection_of (script_of script) number) scripts)
+
+-- such a history of each specification, in order, of which the first has this number
+abbrev pub AreHistoriesFrom : ℕ → List Specification → List (List ScriptLine) → List (List Entry) → Type 0
+AreHistoriesFrom number [] scripts [] = Unit {0}
+AreHistoriesFrom number (s ∷ specs) scripts (h ∷ hs) = IsHistoryOf number s scripts h × AreHistoriesFrom (number + 1) specs scripts hs
+AreHistoriesFrom number _ scripts _ = ⊥
+
+-- the names that a history of the specification is printed with, and what its handlers print
+abbrev pub lexicon : List (List ℕ) → Specification → Lexicon
+lexicon objects s = lexicon_of s.name s.table s.rules.handlers objects s.texts
+
+-- the text is the printed history of each specification, in order
+pub record IsTextOfHistories (specs : List Specification) (scripts : List (List ScriptLine)) (objects : List (List ℕ)) (text : List ℕ) : Type 0 where
+  pub histories : List (List Entry)
+  pub each : AreHistoriesFrom 0 specs scripts histories
+  pub printed : text ≡ texts_of (map (lexicon objects) specs) histories
+
+-- the summaries of these histories, one after another
+abbrev pub summaries_of : List Specification → List (List Entry) → List ℕ
+summaries_of (s ∷ specs) (h ∷ hs) = summary_text s.name h ++ summaries_of specs hs
+summaries_of _ _ = []
+
+-- the text is the summary of a history of each specification, in order
+pub record IsTextOfSummaries (specs : List Specification) (scripts : List (List ScriptLine)) (text : List ℕ) : Type 0 where
+  pub histories : List (List Entry)
+  pub each : AreHistoriesFrom 0 specs scripts histories
+  pub printed : text ≡ summaries_of specs histories

@@ -1,0 +1,34 @@
+-- What the calls that run scripts answer.
+use Rattle.std.specs.Prelude.{ℕ, ◌≡◌, List, [], ◌∷◌, length, map, slice_get, Some}
+use Rattle.jm_model.specs.declared.step.Entry.{Entry}
+use Rattle.jm_semantics.specs.Legality.{IsLegal}
+use Rattle.jm_semantics.specs.Scripts.{IsInterleaving}
+use Rattle.jm_turn.specs.Seats.{LockModel, SeatModel, AreNewcomers}
+use Rattle.jm_dispatch.specs.declared.watched.Fixed.{Fixed}
+use Rattle.jm_core.specs.Cores.{Core}
+use Rattle.jm_machine.specs.Meanings.{rules_meaning}
+use Rattle.jm_machine.specs.RuleSets.{CompiledRules}
+use Rattle.jm_runner.specs.Runs.{projections_of}
+use Rattle.jm_script.specs.declared.script.ScriptLine.{ScriptLine}
+use Rattle.jm_top.specs.declared.specification.Titles.{Titles}
+use Rattle.jm_top.specs.declared.specification.Loaded.{Loaded}
+
+-- a fresh dispatcher by these rules, over so many objects, with so many seats
+pub record IsWatchOf (objects seats : ℕ) (rules : CompiledRules) (watch : LockModel (Fixed CompiledRules)) (all : List (SeatModel Entry (Fixed CompiledRules))) : Type 0 where
+  pub fixed : watch.fixed ≡ record { definition = rules; objects = objects }
+  pub count : watch.seats ≡ seats
+  pub many : length all ≡ seats
+  pub newcomers : AreNewcomers watch all
+
+-- one for each specification
+abbrev pub AreWatchesOf : ℕ → ℕ → List Loaded → List (LockModel (Fixed CompiledRules)) → List (List (SeatModel Entry (Fixed CompiledRules))) → Type 0
+AreWatchesOf objects seats [] [] [] = Unit {0}
+AreWatchesOf objects seats (l ∷ ls) (watch ∷ watches) (all ∷ alls) = IsWatchOf objects seats l.rules watch all × AreWatchesOf objects seats ls watches alls
+AreWatchesOf objects seats _ _ _ = ⊥
+
+-- the titles of these specifications, and the core of each, whose history is legal and an interleaving of the scripts' projections
+pub record AreRunsOf (specs : List Loaded) (scripts : List (List ScriptLine)) (titles : List Titles) (props : List (Core CompiledRules)) : Type 0 where
+  pub titled : titles ≡ map (λ l. l.titles) specs
+  pub many : length props ≡ length specs
+  pub legal : (k : ℕ) (l : Loaded) (p : Core CompiledRules) → slice_get specs k ≡ Some l → slice_get props k ≡ Some p → IsLegal (rules_meaning l.rules.definition) p.entries
+  pub woven : (k : ℕ) (l : Loaded) (p : Core CompiledRules) → slice_get specs k ≡ Some l → slice_get props k ≡ Some p → IsInterleaving p.entries (projections_of scripts k)

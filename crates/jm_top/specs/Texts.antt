@@ -1,0 +1,40 @@
+-- The text of a command.
+use Rattle.std.specs.Prelude.{ℕ, ◌≡◌, ◌<◌, List, [], ◌∷◌, ◌++◌, length, slice_get, IfSome}
+use Rattle.std.specs.List.{flat_map}
+use Rattle.jm_semantics.specs.Families.{IsFamily}
+use Rattle.jm_print.specs.Checks.{check_text}
+use Rattle.jm_print.specs.Coenables.{coenable_text}
+use Rattle.jm_cli.specs.Words.CommandWords.{Replay, Run, Check, Coenable, Gen}
+use Rattle.jm_top.specs.Specifications.{Specification, meaning_of}
+use Rattle.jm_top.specs.Histories.{IsTextOfHistories, IsTextOfSummaries}
+use Rattle.jm_top.specs.Jobs.{Job, Refused, Accepted}
+
+-- what a specification declares
+abbrev pub declared_text : Specification → List ℕ
+declared_text s = check_text s.name s.logic s.full_binding s.table s.rules.handlers
+
+-- each letter of the specification has its coenable family among these
+pub record AreFamiliesOf (s : Specification) (families : List (List ℕ)) : Type 0 where
+  pub many : length families ≡ length s.table.events
+  pub each : (letter : ℕ) → IfSome (slice_get families letter) (IsFamily (meaning_of s) letter)
+
+-- the text is that of the coenable families of a specification
+pub record IsTextOfFamily (s : Specification) (text : List ℕ) : Type 0 where
+  pub families : List (List ℕ)
+  pub each : AreFamiliesOf s families
+  pub printed : text ≡ coenable_text s.name s.table families
+
+-- and of each of these, in order
+abbrev pub IsTextOfFamilies : List Specification → List ℕ → Type 0
+IsTextOfFamilies [] text = text ≡ []
+IsTextOfFamilies (s ∷ specs) text =
+    (first : List ℕ) × (more : List ℕ) × (text ≡ first ++ more) × IsTextOfFamily s first × IsTextOfFamilies specs more
+
+-- the text is one of the job, which isn't refused
+abbrev pub IsTextOf : Job → List ℕ → Type 0
+IsTextOf (Refused status) text = ⊥
+IsTextOf (Accepted (Replay spec script) specs scripts objects) text = IsTextOfHistories specs scripts objects text
+IsTextOf (Accepted (Run names files) specs scripts objects) text = IsTextOfHistories specs scripts objects text
+IsTextOf (Accepted (Check names) specs scripts objects) text = text ≡ flat_map declared_text specs
+IsTextOf (Accepted (Coenable names) specs scripts objects) text = IsTextOfFamilies specs text
+IsTextOf (Accepted (Gen n) specs scripts objects) text = IsTextOfSummaries specs scripts text

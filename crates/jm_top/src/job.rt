@@ -1,0 +1,131 @@
+//! The text of each command.
+ghost use Rattle.std.specs.Prelude.{◌≡◌, ◌≤◌, [], ◌∷◌, false, ℕ, List, length, map, IfOk, IfErr, string_bytes};
+ghost use Rattle.jm_port.specs.Faults.{HasRisen};
+ghost use Rattle.jm_cli.specs.Words.CommandWords.{Replay, Run, Check, Coenable, Gen};
+ghost use Rattle.jm_cli.specs.Views.{command_words};
+ghost use Rattle.jm_top.specs.Commands.{named, AreFew, IsWithin};
+ghost use Rattle.jm_top.specs.Causes.{StopsCommand, IsTextOfCommand, StopsInputs};
+ghost use Rattle.jm_top.specs.Reading.{AreInputsOf};
+
+use crate::blocks::{declared, families};
+use crate::library::{Library, read_specifications};
+use crate::replay::replay;
+use crate::run::run;
+use crate::scripts::{Scripts, read_scripts};
+use crate::status::Status;
+use jm_cli::Command;
+use jm_port::Folder;
+use jm_runner::Gate;
+use std::alloc::Global;
+use std::slice;
+use std::sync::Wait;
+use std::thread::Threads;
+
+/// The text of a command.
+pub(crate) fn make_text<R: Threads + Wait + Sync, F: Folder, G: Gate>(
+    rt: &R,
+    alloc: Global,
+    command: &Command,
+    files: &mut F,
+    gate: &G,
+) -> Result<Vec<u8>, Status>
+    requires { IsWithin (command_words command.now) }
+    ensures made { IfOk result (λ text. IsTextOfCommand (F.holds files.old) (command_words command.now) text.items) }
+    ensures caused { IfErr result (StopsCommand (F.holds files.old) (command_words command.now)) }
+    ensures read_failed { (file : ℕ) → result ≡ Err (Status.ReadFailed file) → HasRisen (F.faults files.old) (F.faults files.new) }
+{
+    match command {
+        Command::Replay { spec, script } => replayed(alloc, spec, script, files),
+        Command::Run { specs, scripts } => {
+            ran(rt, alloc, specs.as_slice(), scripts.as_slice(), files, gate)
+        }
+        Command::Check { specs } => checked(alloc, specs.as_slice(), files),
+        Command::Coenable { specs } => coenabled(alloc, specs.as_slice(), files),
+        Command::Gen { .. } => unreachable!(),
+    }
+}
+
+/// The text of `replay`.
+fn replayed<F: Folder>(
+    alloc: Global,
+    spec: &String,
+    script: &String,
+    files: &mut F,
+) -> Result<Vec<u8>, Status>
+    ensures made { IfOk result (λ text. IsTextOfCommand (F.holds files.old) (Replay (string_bytes spec.now) (string_bytes script.now)) text.items) }
+    ensures caused { IfErr result (StopsCommand (F.holds files.old) (Replay (string_bytes spec.now) (string_bytes script.now))) }
+    ensures read_failed { (file : ℕ) → result ≡ Err (Status.ReadFailed file) → HasRisen (F.faults files.old) (F.faults files.new) }
+{
+    let inputs = read_inputs(alloc, slice::from_ref(spec), slice::from_ref(script), files)?;
+    let text = replay(alloc, inputs.library, &inputs.scripts)?;
+    Ok(text)
+}
+
+/// The text of `run`.
+fn ran<R: Threads + Wait + Sync, F: Folder, G: Gate>(
+    rt: &R,
+    alloc: Global,
+    specs: &[String],
+    scripts: &[String],
+    files: &mut F,
+    gate: &G,
+) -> Result<Vec<u8>, Status>
+    requires specs { AreFew (map string_bytes specs.now) }
+    requires scripts { AreFew (map string_bytes scripts.now) }
+    ensures made { IfOk result (λ text. IsTextOfCommand (F.holds files.old) (Run (map string_bytes specs.now) (map string_bytes scripts.now)) text.items) }
+    ensures caused { IfErr result (StopsCommand (F.holds files.old) (Run (map string_bytes specs.now) (map string_bytes scripts.now))) }
+    ensures read_failed { (file : ℕ) → result ≡ Err (Status.ReadFailed file) → HasRisen (F.faults files.old) (F.faults files.new) }
+{
+    let inputs = read_inputs(alloc, specs, scripts, files)?;
+    let text = run(rt, alloc, inputs.library, &inputs.scripts, gate)?;
+    Ok(text)
+}
+
+/// The text of `check`.
+fn checked<F: Folder>(alloc: Global, specs: &[String], files: &mut F) -> Result<Vec<u8>, Status>
+    requires { AreFew (map string_bytes specs.now) }
+    ensures made { IfOk result (λ text. IsTextOfCommand (F.holds files.old) (Check (map string_bytes specs.now)) text.items) }
+    ensures caused { IfErr result (StopsCommand (F.holds files.old) (Check (map string_bytes specs.now))) }
+    ensures read_failed { (file : ℕ) → result ≡ Err (Status.ReadFailed file) → HasRisen (F.faults files.old) (F.faults files.new) }
+{
+    let library = read_specifications(alloc, specs, false, files)?;
+    let text = declared(alloc, library.specs.as_slice())?;
+    Ok(text)
+}
+
+/// The text of `coenable`.
+fn coenabled<F: Folder>(alloc: Global, specs: &[String], files: &mut F) -> Result<Vec<u8>, Status>
+    requires { AreFew (map string_bytes specs.now) }
+    ensures made { IfOk result (λ text. IsTextOfCommand (F.holds files.old) (Coenable (map string_bytes specs.now)) text.items) }
+    ensures caused { IfErr result (StopsCommand (F.holds files.old) (Coenable (map string_bytes specs.now))) }
+    ensures read_failed { (file : ℕ) → result ≡ Err (Status.ReadFailed file) → HasRisen (F.faults files.old) (F.faults files.new) }
+{
+    let library = read_specifications(alloc, specs, true, files)?;
+    let text = families(alloc, library.specs.as_slice())?;
+    Ok(text)
+}
+
+/// The specifications and the scripts of a command.
+#[derive(Drop)]
+struct Inputs {
+    library: Library,
+    scripts: Scripts,
+}
+
+/// Reads the specifications of these names, and then the scripts of those names.
+fn read_inputs<F: Folder>(
+    alloc: Global,
+    specs: &[String],
+    scripts: &[String],
+    files: &mut F,
+) -> Result<Inputs, Status>
+    requires few_specs { length specs.now ≤ 16 }
+    requires few_scripts { length scripts.now ≤ 16 }
+    ensures read { IfOk result (AreInputsOf (F.holds files.old) (named (map string_bytes specs.now)) (named (map string_bytes scripts.now))) }
+    ensures err { IfErr result (StopsInputs (F.holds files.old) (named (map string_bytes specs.now)) (named (map string_bytes scripts.now))) }
+    ensures read_failed { (file : ℕ) → result ≡ Err (Status.ReadFailed file) → HasRisen (F.faults files.old) (F.faults files.new) }
+{
+    let library = read_specifications(alloc, specs, false, files)?;
+    let scripts = read_scripts(alloc, scripts, &library, files)?;
+    Ok(Inputs { library, scripts })
+}

@@ -1,0 +1,112 @@
+//! Running scripts over specifications, each script on a thread of its own.
+ghost use Rattle.std.specs.Prelude.{◌≡◌, ◌<◌, ◌≤◌, length, map, IfOk};
+ghost use Rattle.jm_top.specs.Histories.{IsTextOfHistories};
+ghost use Rattle.jm_top.specs.Reading.{specs_in, IsCatalogued, AreCounted};
+ghost use Rattle.jm_top.specs.Runs.{IsWatchOf, AreWatchesOf, AreRunsOf};
+
+use crate::histories::histories_text;
+use crate::library::Library;
+use crate::scripts::Scripts;
+use crate::specification::{Loaded, Titles};
+use jm_core::Prop;
+use jm_dispatch::Watch;
+use jm_machine::Rules;
+use jm_model::NoMemory;
+use jm_runner::{Gate, Running, run_scripts};
+use std::alloc::Global;
+use std::sync::Wait;
+use std::thread::Threads;
+
+/// The printed histories of the specifications, over which the scripts run.
+pub(crate) fn run<R: Threads + Wait + Sync, G: Gate>(
+    rt: &R,
+    alloc: Global,
+    library: Library,
+    scripts: &Scripts,
+    gate: &G,
+) -> Result<Vec<u8>, NoMemory>
+    requires specs { (1 ≤ length library.specs.items) × (length library.specs.items ≤ 16) }
+    requires scripts { (1 ≤ length scripts.now.list.items) × (length scripts.now.list.items ≤ 16) }
+    requires catalogued { IsCatalogued library }
+    requires counted { AreCounted (specs_in library) scripts.now }
+    ensures { IfOk result (λ text. IsTextOfHistories (specs_in library) scripts.now.list.items scripts.now.objects text.items) }
+{
+    let runs = run_all(rt, alloc, library, scripts, gate)?;
+    histories_text(
+        alloc,
+        runs.titles.as_slice(),
+        runs.props.as_slice(),
+        &scripts.objects,
+    )
+}
+
+/// The titles of each specification, and its core after the run.
+#[derive(Drop)]
+pub(crate) struct Runs {
+    pub titles: Vec<Titles>,
+    pub props: Vec<Prop<Rules>>,
+}
+
+/// Runs the scripts over the specifications.
+pub(crate) fn run_all<R: Threads + Wait + Sync, G: Gate>(
+    rt: &R,
+    alloc: Global,
+    library: Library,
+    scripts: &Scripts,
+    gate: &G,
+) -> Result<Runs, NoMemory>
+    requires specs { (1 ≤ length library.specs.items) × (length library.specs.items ≤ 16) }
+    requires scripts { (1 ≤ length scripts.now.list.items) × (length scripts.now.list.items ≤ 16) }
+    requires catalogued { IsCatalogued library }
+    requires counted { AreCounted (specs_in library) scripts.now }
+    ensures { IfOk result (λ runs. AreRunsOf library.specs.items scripts.now.list.items runs.titles.items runs.props.items) }
+{
+    let seats = scripts.list.len() as u32;
+    let made = dispatchers(alloc, library.specs, scripts.objects.len(), seats)?;
+    let Watched { titles, watches } = made;
+    let props = run_scripts(rt, alloc, watches, scripts.list.as_slice(), gate)?;
+    Ok(Runs { titles, props })
+}
+
+/// The titles of each specification, and its dispatcher with a seat for each script.
+#[derive(Drop)]
+struct Watched {
+    titles: Vec<Titles>,
+    watches: Vec<Running<Rules>>,
+}
+
+/// A dispatcher for each specification.
+fn dispatchers(
+    alloc: Global,
+    specs: Vec<Loaded>,
+    objects: u32,
+    seats: u32,
+) -> Result<Watched, NoMemory>
+    requires { (1 ≤ seats) × (seats ≤ 16) }
+    ensures titles { IfOk result (λ w. w.titles.items ≡ map (λ l. l.titles) specs.items) }
+    ensures watches { IfOk result (λ w. AreWatchesOf objects seats specs.items (map (λ r. r.watch) w.watches.items) (map (λ r. r.seats.items) w.watches.items)) }
+{
+    let mut titles = Vec::new(alloc);
+    let mut watches = Vec::new(alloc);
+    for loaded in specs {
+        let Loaded { titles: own, rules } = loaded;
+        let watch = dispatcher(alloc, rules, objects, seats)?;
+        watches.push(watch)?;
+        titles.push(own)?;
+    }
+    Ok(Watched { titles, watches })
+}
+
+/// A dispatcher by these rules, with its seats.
+fn dispatcher(
+    alloc: Global,
+    rules: Rules,
+    objects: u32,
+    seats: u32,
+) -> Result<Running<Rules>, NoMemory>
+    requires { (1 ≤ seats) × (seats ≤ 16) }
+    ensures { IfOk result (λ r. IsWatchOf objects seats rules r.watch r.seats.items) }
+{
+    let (watch, seats) = Watch::new(alloc, rules, objects, seats)?;
+    Ok(Running { watch, seats })
+}

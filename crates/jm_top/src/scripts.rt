@@ -1,0 +1,172 @@
+//! The scripts of a command, read one behind the other.
+ghost use Rattle.std.specs.Prelude.{◌≡◌, ◌+◌, ◌<◌, ◌≤◌, ◌^◌, [], ℕ, List, length, map, IfOk, IfErr, OnOk, string_bytes};
+ghost use Rattle.jm_port.specs.Faults.{HasRisen};
+ghost use Rattle.jm_model.specs.declared.fault.ScriptFault.{ScriptFault};
+ghost use Rattle.jm_top.specs.Commands.{named};
+ghost use Rattle.jm_top.specs.Sources.{Named, Gives};
+ghost use Rattle.jm_top.specs.Specifications.{Specification, most_bytes};
+ghost use Rattle.jm_top.specs.Scripts.{IsScriptFault};
+ghost use Rattle.jm_top.specs.Reading.{specs_in, IsCatalogued, AreCounted, HasScript, HasScriptFrom, AreScriptsOf};
+ghost use Rattle.jm_top.specs.Causes.{IsNoScript, IsNoScriptIn, StopsScripts};
+
+use crate::library::Library;
+use crate::status::{MOST_BYTES, Status};
+use jm_events::Names;
+use jm_model::{ScriptError, ScriptFault};
+use jm_port::{Folder, LoadFault};
+use jm_script::{Script, read_script};
+use std::alloc::Global;
+
+/// Scripts in order, the names of their objects, and how many steps they have.
+#[derive(Drop)]
+pub(crate) struct Scripts {
+    pub list: Vec<Script>,
+    pub objects: Names,
+    pub count: u32,
+}
+
+impl Scripts {
+    /// No script.
+    pub fn new(alloc: Global) -> Scripts
+        ensures list { result.list.items ≡ [] }
+        ensures objects { result.objects ≡ [] }
+        ensures count { result.count ≡ 0 }
+        ensures counted { (specs : List Specification) → AreCounted specs result }
+    {
+        Scripts {
+            list: Vec::new(alloc),
+            objects: Names::new(alloc),
+            count: 0,
+        }
+    }
+}
+
+/// Reads the scripts of these names, in order, over the specifications of the library, whose files stand before them.
+pub(crate) fn read_scripts<F: Folder>(
+    alloc: Global,
+    names: &[String],
+    library: &Library,
+    files: &mut F,
+) -> Result<Scripts, Status>
+    requires few { length names.now ≤ 16 }
+    requires few_specs { length library.now.specs.items ≤ 16 }
+    requires catalogued { IsCatalogued library.now }
+    ensures read { IfOk result (AreScriptsOf (F.holds files.old) (specs_in library.now) (named (map string_bytes names.now))) }
+    ensures err { IfErr result (StopsScripts (F.holds files.old) (specs_in library.now) (length library.now.specs.items) (named (map string_bytes names.now))) }
+    ensures read_failed { (file : ℕ) → result ≡ Err (Status.ReadFailed file) → HasRisen (F.faults files.old) (F.faults files.new) }
+{
+    let mut scripts = Scripts::new(alloc);
+    for name in names {
+        read_next(alloc, name.as_str(), library, files, &mut scripts)?;
+    }
+    Ok(scripts)
+}
+
+/// Reads the script of this name, behind the others. After an error these are of no use.
+fn read_next<F: Folder>(
+    alloc: Global,
+    name: &str,
+    library: &Library,
+    files: &mut F,
+    scripts: &mut Scripts,
+) -> Result<(), Status>
+    requires few { length scripts.old.list.items < 16 }
+    requires few_specs { length library.now.specs.items ≤ 16 }
+    requires catalogued { IsCatalogued library.now }
+    requires counted { AreCounted (specs_in library.now) scripts.old }
+    ensures read { OnOk result (HasScriptFrom (F.holds files.old) (Named name.now) (specs_in library.now) scripts.old scripts.new) }
+    ensures err { IfErr result (IsNoScript (F.holds files.old) (specs_in library.now) (length library.now.specs.items) scripts.old.count scripts.old.objects (length scripts.old.list.items) (Named name.now)) }
+    ensures read_failed { (file : ℕ) → result ≡ Err (Status.ReadFailed file) → HasRisen (F.faults files.old) (F.faults files.new) }
+    ensures never_falls { F.faults files.old ≤ F.faults files.new }
+    ensures same { (other : List ℕ) → F.holds files.new other ≡ F.holds files.old other }
+{
+    let number = scripts.list.len() as u32;
+    let before = library.specs.len() as u32;
+    let bytes = load_script(name, before, number, files)?;
+    read_bytes(alloc, bytes.as_slice(), number, library, scripts)
+}
+
+/// The bytes of a script, which has this number behind so many files.
+fn load_script<F: Folder>(
+    name: &str,
+    before: u32,
+    number: u32,
+    files: &mut F,
+) -> Result<Vec<u8>, Status>
+    requires { before + number < 2 ^ 32 }
+    ensures within { IfOk result (λ bytes. length bytes.items ≤ most_bytes) }
+    ensures held { IfOk result (λ bytes. Gives (F.holds files.old) (Named name.now) bytes.items) }
+    ensures err { (specs : List Specification) (count : ℕ) (names : List (List ℕ)) → IfErr result (IsNoScript (F.holds files.old) specs before count names number (Named name.now)) }
+    ensures read_failed { (file : ℕ) → result ≡ Err (Status.ReadFailed file) → HasRisen (F.faults files.old) (F.faults files.new) }
+    ensures never_falls { F.faults files.old ≤ F.faults files.new }
+    ensures same { (other : List ℕ) → F.holds files.new other ≡ F.holds files.old other }
+{
+    match files.load(name, MOST_BYTES) {
+        Ok(bytes) => Ok(bytes),
+        Err(LoadFault::Failed) => {
+            Err(Status::ReadFailed {
+                file: before + number,
+            })
+        }
+        Err(LoadFault::TooLong) => {
+            let fault = ScriptFault::TooLong;
+            Err(Status::BadScript {
+                script: number,
+                fault,
+            })
+        }
+        Err(LoadFault::NoMemory) => Err(Status::NoMemory),
+    }
+}
+
+/// Reads the script that these bytes say, which has this number among all.
+fn read_bytes(
+    alloc: Global,
+    bytes: &[u8],
+    number: u32,
+    library: &Library,
+    scripts: &mut Scripts,
+) -> Result<(), Status>
+    requires small { length bytes.now ≤ most_bytes }
+    requires catalogued { IsCatalogued library.now }
+    requires counted { AreCounted (specs_in library.now) scripts.old }
+    ensures read { OnOk result (HasScript (specs_in library.now) bytes.now scripts.old scripts.new) }
+    ensures err { IfErr result (IsNoScriptIn (specs_in library.now) scripts.old.count scripts.old.objects number bytes.now) }
+{
+    match add(alloc, bytes, library, scripts) {
+        Ok(()) => Ok(()),
+        Err(ScriptError::Bad(fault)) => {
+            Err(Status::BadScript {
+                script: number,
+                fault,
+            })
+        }
+        Err(ScriptError::NoMemory) => Err(Status::NoMemory),
+    }
+}
+
+/// Reads the script that these bytes say, behind the others.
+fn add(
+    alloc: Global,
+    bytes: &[u8],
+    library: &Library,
+    scripts: &mut Scripts,
+) -> Result<(), ScriptError>
+    requires small { length bytes.now ≤ most_bytes }
+    requires catalogued { IsCatalogued library.now }
+    requires counted { AreCounted (specs_in library.now) scripts.old }
+    ensures read { OnOk result (HasScript (specs_in library.now) bytes.now scripts.old scripts.new) }
+    ensures fault { (fault : ScriptFault) → result ≡ Err (ScriptError.Bad fault) → IsScriptFault (specs_in library.now) scripts.old.count scripts.old.objects bytes.now fault }
+{
+    let script = read_script(
+        alloc,
+        bytes,
+        &library.catalog,
+        &mut scripts.objects,
+        &mut scripts.count,
+    )?;
+    let Ok(()) = scripts.list.push(script) else {
+        return Err(ScriptError::NoMemory);
+    };
+    Ok(())
+}
