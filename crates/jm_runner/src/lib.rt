@@ -6,11 +6,15 @@
 //! | Module | What it has |
 //! |---|---|
 //! | `gate` | what is told of each line before and after it is done |
+//! | `worker` | what one caller does |
+//! | `table` | rows of seats into columns |
 //! | `run` | the run: seats are dealt to workers, and gathered once all are done |
 #![tactic(auto)]
 
 mod gate;
 mod run;
+mod table;
+mod worker;
 
 pub use gate::{FreeGate, Gate};
 pub use run::{Running, run_scripts};
