@@ -1,3 +1,4 @@
 pub mod PlaceLemmas
 pub mod TableLemmas
 pub mod WorkLemmas
+pub mod RunLemmas

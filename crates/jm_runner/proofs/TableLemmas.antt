@@ -2,10 +2,10 @@
 use Rattle.std.proofs.Common.{◌≡◌, ℕ, zero, suc, ◌<◌, List, [], ◌∷◌, ◌++◌, map, length, replicate, Some, slice_get, slice_set, refl, sym, ap, ◌∙◌, subst, arith, inl, inr, length-append}
 use Rattle.std.specs.Prelude.{All}
 use Rattle.std.proofs.lemmas.Option.{same_Some, slice_get-map}
-use Rattle.std.proofs.lemmas.List.{map-set}
+use Rattle.std.proofs.lemmas.List.{map-set, length-map}
 use Rattle.std.specs.Option.{option_map}
 use Rattle.std.proofs.lemmas.List.Elements.{All-nil, All-cons, All-head, All-tail, All-replicate}
-use Rattle.jm_runner.specs.Tables.{lengthened, IsInRow, AreColumns}
+use Rattle.jm_runner.specs.Tables.{lengthened, IsInRow, AreColumns, AreLengthened, IsPushedAt}
 use Rattle.jm_turn.proofs.Elements.{get_last, get_longer, get_snoc, place_from_all}
 
 -- one element more at the end of column k, the first that wasn't lengthened yet
@@ -18,17 +18,30 @@ lengthened-more (d ∷ cs) [] x (suc k) c e at = absurd (omega arith)
 lengthened-more (d ∷ cs) (y ∷ ys) x zero c e at = absurd (omega arith)
 lengthened-more (d ∷ cs) (y ∷ ys) x (suc k) c e at = ap (λ l. (d ++ y ∷ []) ∷ l) (lengthened-more cs ys x k c (omega arith) at)
 
--- the same of columns that have more to them than their elements
-pub pushed : {A V : Type 0} (elements : V → List A) (cs : List (List A)) (ys : List A) (x : A) (columns : List V) (k : ℕ) (old new : V) → map elements columns ≡ lengthened cs ys → k ≡ length ys
-    → slice_get columns k ≡ Some old → elements new ≡ elements old ++ x ∷ [] → map elements (slice_set columns k new) ≡ lengthened cs (ys ++ x ∷ [])
-pushed elements cs ys x columns k old new are place at is =
-    let here : slice_get (lengthened cs ys) k ≡ Some (elements old) = ap (λ l. slice_get l k) (sym are) ∙ slice_get-map elements columns k ∙ ap (λ o. option_map elements o) at in
-    map-set elements columns k new ∙ ap (λ l. slice_set l k (elements new)) are ∙ ap (λ c. slice_set (lengthened cs ys) k c) is ∙ sym (lengthened-more cs ys x k (elements old) (sym place) here)
+-- the same by what a push does
+pub lengthened-pushed : {A : Type 0} (cs : List (List A)) (ys : List A) (x : A) (k : ℕ) (before after : List (List A)) → before ≡ lengthened cs ys → k ≡ length ys → IsPushedAt k x before after
+    → after ≡ lengthened cs (ys ++ x ∷ [])
+lengthened-pushed cs ys x k before after are place h =
+    let here : slice_get (lengthened cs ys) k ≡ Some h.column = ap (λ l. slice_get l k) (sym are) ∙ h.there in
+    h.changed ∙ ap (λ l. slice_set l k (h.column ++ x ∷ [])) are ∙ sym (lengthened-more cs ys x k h.column (sym place) here)
+
+-- an element more in one of several columns that have more to them than their elements
+pub pushed_at : {A V : Type 0} (elements : V → List A) (columns : List V) (k : ℕ) (x : A) (old new : V) → slice_get columns k ≡ Some old → elements new ≡ elements old ++ x ∷ []
+    → IsPushedAt k x (map elements columns) (map elements (slice_set columns k new))
+pushed_at elements columns k x old new at is = record {
+  column = elements old;
+  there = slice_get-map elements columns k ∙ ap (λ o. option_map elements o) at;
+  changed = map-set elements columns k new ∙ ap (λ c. slice_set (map elements columns) k c) is;
+}
 
 pub length-lengthened : {A : Type 0} (cs : List (List A)) (ys : List A) → length (lengthened cs ys) ≡ length cs
 length-lengthened cs [] = refl
 length-lengthened [] (y ∷ ys) = refl
 length-lengthened (c ∷ cs) (y ∷ ys) = ap suc (length-lengthened cs ys)
+
+-- there are as many columns as before
+pub same_lengths : {A V : Type 0} (after before : List V) (elements : V → List A) (row : List A) → AreLengthened row (map elements before) (map elements after) → length after ≡ length before
+same_lengths after before elements row h = sym (length-map after elements) ∙ ap length h.changed ∙ length-lengthened (map elements before) row ∙ length-map before elements
 
 all_longer : {A : Type 0} (n : ℕ) (cs : List (List A)) (ys : List A) → length ys ≡ length cs → All (λ c. length c ≡ n) cs → All (λ c. length c ≡ suc n) (lengthened cs ys)
 all_longer n [] [] e h = All-nil (λ c. length c ≡ suc n)
@@ -73,11 +86,14 @@ module _ {A : Type 0} (rows columns : List (List A)) (row : List A) (width : len
       ]
 
   -- the columns of one row more
-  pub columns_more : AreColumns (rows ++ row ∷ []) (lengthened columns row)
-  columns_more = record {
+  columns_longer : AreColumns (rows ++ row ∷ []) (lengthened columns row)
+  columns_longer = record {
     long = subst (λ (n : ℕ). All (λ c. length c ≡ n) (lengthened columns row)) (omega (arith, length-append rows (row ∷ []))) (all_longer (length rows) columns row width h.long);
     same = in_some_row;
   }
+
+pub columns_more : {A : Type 0} (rows before after : List (List A)) (row : List A) → AreLengthened row before after → AreColumns rows before → AreColumns (rows ++ row ∷ []) after
+columns_more {A} rows before after row h are = subst (λ (cs : List (List A)). AreColumns (rows ++ row ∷ []) cs) (sym h.changed) (columns_longer rows before row h.width are)
 
 -- the columns of no row
 pub columns_none : {A : Type 0} (width : ℕ) (columns : List (List A)) → columns ≡ replicate width [] → AreColumns [] columns

@@ -1,6 +1,6 @@
 //! Rows into columns.
-ghost use Rattle.std.specs.Prelude.{◌≡◌, [], All, IfOk, OnOk, map, replicate, vec_len};
-ghost use Rattle.jm_runner.specs.Tables.{AreColumns, lengthened};
+ghost use Rattle.std.specs.Prelude.{◌≡◌, ◌<◌, [], All, IfOk, OnOk, map, replicate, vec_len};
+ghost use Rattle.jm_runner.specs.Tables.{AreColumns, AreLengthened, IsPushedAt};
 
 use jm_model::NoMemory;
 use std::alloc::Global;
@@ -36,13 +36,22 @@ fn empty_columns<T: Drop>(alloc: Global, width: usize) -> Result<Vec<Vec<T>>, No
 /// Puts the elements of a row at the ends of the columns, in order.
 fn lengthen<T: Drop>(columns: &mut Vec<Vec<T>>, row: Vec<T>) -> Result<(), NoMemory>
     requires { vec_len row ≡ vec_len columns.old }
-    ensures count { OnOk result (vec_len columns.new ≡ vec_len columns.old) }
-    ensures columns { OnOk result (map (λ v. v.items) columns.new.items ≡ lengthened (map (λ v. v.items) columns.old.items) row.items) }
+    ensures { OnOk result (AreLengthened row.items (map (λ v. v.items) columns.old.items) (map (λ v. v.items) columns.new.items)) }
 {
     let mut k = 0;
     for x in row {
-        columns[k].push(x)?;
+        put(columns, k, x)?;
         k += 1;
     }
+    Ok(())
+}
+
+/// Puts an element at the end of column k.
+fn put<T: Drop>(columns: &mut Vec<Vec<T>>, k: usize, x: T) -> Result<(), NoMemory>
+    requires { k < vec_len columns.old }
+    ensures count { OnOk result (vec_len columns.new ≡ vec_len columns.old) }
+    ensures pushed { OnOk result (IsPushedAt k x (map (λ v. v.items) columns.old.items) (map (λ v. v.items) columns.new.items)) }
+{
+    columns[k].push(x)?;
     Ok(())
 }
