@@ -1,5 +1,5 @@
 -- From what each caller has done to what each specification's history has.
-use Rattle.std.proofs.Common.{◌≡◌, ◌≢◌, ℕ, zero, suc, ◌<◌, ◌≤◌, Bool, true, false, cond, List, [], ◌∷◌, ◌++◌, map, filter, length, Option, Some, None, slice_get, refl, sym, ap, ◌∙◌, subst, arith, eq-eqb}
+use Rattle.std.proofs.Common.{◌≡◌, ◌≢◌, ℕ, zero, suc, ◌<◌, ◌≤◌, Bool, true, false, cond, List, [], ◌∷◌, ◌++◌, map, filter, length, Option, Some, None, slice_get, refl, sym, ap, ◌∙◌, subst, arith, eq-eqb, inl, inr}
 use Rattle.std.specs.Prelude.{All, Any, ◌==◌}
 use Rattle.std.specs.Option.{option_map}
 use Rattle.std.proofs.lemmas.Option.{same_Some, slice_get-map, slice_get_within, slice_get-get_or}
@@ -14,8 +14,8 @@ use Rattle.jm_core.specs.Cores.{Core}
 use Rattle.jm_core.specs.Replays.{line_and_step}
 use Rattle.jm_core.specs.Steps.{IsFitStep}
 use Rattle.jm_turn.specs.Lists.{entries_by}
-use Rattle.jm_turn.specs.Seats.{LockModel, SeatModel, AreNewcomers, newcomer, own_entries}
-use Rattle.jm_turn.proofs.Elements.{all_from_places, place_from_all}
+use Rattle.jm_turn.specs.Seats.{LockModel, SeatModel, IsSeatOf, AreNewcomers, newcomer, own_entries}
+use Rattle.jm_turn.proofs.Elements.{all_from_places, place_from_all, get_snoc}
 use Rattle.jm_script.specs.declared.script.ScriptLine.{ScriptLine}
 use Rattle.jm_script.specs.Projections.{script_of, spec_of, step_of}
 use Rattle.jm_dispatch.specs.declared.watched.Fixed.{Fixed}
@@ -23,7 +23,7 @@ use Rattle.jm_dispatch.specs.Steps.{caller_of}
 use Rattle.jm_runner.specs.Runs.{AreFitSteps, CanRun, IsRunOf, projections_of}
 use Rattle.jm_runner.specs.Tables.{AreColumns}
 use Rattle.jm_runner.specs.Work.{FitsWatches, HasDone, HaveDone}
-use Rattle.jm_runner.specs.Hands.{AreSeatsOfOne, CanWork, FitAll, IsClosed}
+use Rattle.jm_runner.specs.Hands.{AreSeatsOfOne, CanWork, FitAll, HasWorked, IsClosed}
 use Rattle.jm_runner.proofs.PlaceLemmas.{get_there}
 use Rattle.jm_runner.proofs.WorkLemmas.{newcomer_done}
 
@@ -33,6 +33,29 @@ pub map_get : {A B : Type 0} (f : A → B) (xs : List A) (k : ℕ) (y : B) → s
 map_get f [] k y e = absurd (cc (e))
 map_get f (x ∷ xs) zero y e = (x, refl, sym (same_Some (f x) y e))
 map_get f (x ∷ xs) (suc k) y e = map_get f xs k y e
+
+pub map_same : {A : Type 0} (xs : List A) → map (λ x. x) xs ≡ xs
+map_same [] = refl
+map_same (x ∷ xs) = ap (λ l. x ∷ l) (map_same xs)
+
+-- what holds at each place of three lists holds with one place more
+pub related_more : {A B C : Type 0} (R : A → B → C → Type 0) (ls : List A) (bs : List B) (cs more : List C) (n : ℕ) (a : A) (b : B) (c : C) → length ls ≡ n → length cs ≡ n → more ≡ cs ++ c ∷ []
+    → slice_get bs n ≡ Some b → R a b c → ((k : ℕ) (x : A) (y : B) (z : C) → slice_get ls k ≡ Some x → slice_get bs k ≡ Some y → slice_get cs k ≡ Some z → R x y z)
+    → (k : ℕ) (x : A) (y : B) (z : C) → slice_get (ls ++ a ∷ []) k ≡ Some x → slice_get bs k ≡ Some y → slice_get more k ≡ Some z → R x y z
+related_more R ls bs cs more n a b c an cn is there new old k x y z xat yat zat =
+    elim (get_snoc ls a x k xat) [
+      inl before ↦ elim (get_snoc cs c z k (ap (λ l. slice_get l k) (sym is) ∙ zat)) [
+        inl zbefore ↦ old k x y z before yat zbefore
+        | inr zlast ↦ let within : k < length ls = slice_get_within ls k x before in let place : k ≡ length cs = zlast.0 in absurd (omega arith)
+      ]
+      | inr last ↦ elim (get_snoc cs c z k (ap (λ l. slice_get l k) (sym is) ∙ zat)) [
+        inl zbefore ↦ let within : k < length cs = slice_get_within cs k z zbefore in let place : k ≡ length ls = last.0 in absurd (omega arith)
+        | inr zlast ↦
+          let place : k ≡ n = last.0 ∙ an in
+          let y_is : b ≡ y = same_Some b y (sym there ∙ ap (λ j. slice_get bs j) (sym place) ∙ yat) in
+          subst (λ v. R v y z) last.1 (subst (λ v. R a v z) y_is (subst (λ v. R a b v) zlast.1 new))
+      ]
+    ]
 
 -- what holds of all that a test keeps holds of each element that passes it
 kept : {A : Type 0} (P : A → Type 0) (test : A → Bool) (xs : List A) (k : ℕ) (x : A) → All P (filter test xs) → slice_get xs k ≡ Some x → test x ≡ true → P x
@@ -103,7 +126,7 @@ module _ {F : Type 0} (watches : List (LockModel F)) where
   )
 
 -- ---- the history of a watch
-module _ {D : Type 0} (m : Meaning) (scripts : List (List ScriptLine)) (s : ℕ) (watch : LockModel (Fixed D)) (seats : List (SeatModel Entry (Fixed D))) (prop : Core D)
+module _ {D : Type 0} (m : Meaning) (scripts : List (List ScriptLine)) (s : ℕ) (watch : LockModel (Fixed D)) (seats : List (SeatModel Entry (Fixed D)))
     (count : length seats ≡ length scripts)
     (done : (k : ℕ) (script : List ScriptLine) (seat : SeatModel Entry (Fixed D)) → slice_get scripts k ≡ Some script → slice_get seats k ≡ Some seat → HasDone k (projection_of (script_of script) s) watch seat) where
   at_seat : (k : ℕ) (seat : SeatModel Entry (Fixed D)) → slice_get seats k ≡ Some seat → (script : List ScriptLine) × (slice_get scripts k ≡ Some script) × HasDone k (projection_of (script_of script) s) watch seat
@@ -112,7 +135,10 @@ module _ {D : Type 0} (m : Meaning) (scripts : List (List ScriptLine)) (s : ℕ)
       let script = get_there scripts k (omega arith) in
       (script.0, script.1, done k script.0 seat script.1 at)
 
-  module _ (closed : IsClosed m watch seats prop) where
+  pub seats_of_one : watch.seats ≡ length scripts → AreSeatsOfOne watch seats
+  seats_of_one all = record { count = count ∙ sym all; each = all_from_places (λ x. IsSeatOf watch x) seats (λ k seat at. (at_seat k seat at).2.lock) }
+
+  module _ (prop : Core D) (closed : IsClosed m watch seats prop) where
     own_at : (k : ℕ) (seat : SeatModel Entry (Fixed D)) → slice_get seats k ≡ Some seat → seat.number ≡ k → entries_by caller_of k prop.entries ≡ own_entries caller_of seat
     own_at k seat at number =
         subst (λ (n : ℕ). entries_by caller_of n prop.entries ≡ own_entries caller_of seat) number
@@ -151,3 +177,96 @@ module _ {D : Type 0} (m : Meaning) (scripts : List (List ScriptLine)) (s : ℕ)
             each = each_caller;
           };
         }
+
+-- ---- a whole run, over lists of watches with their seats
+module _ {F : Type 0} where
+  -- the number of the first seat is the caller's
+  pub first_number : (k : ℕ) (script : List ScriptLine) (watches : List (LockModel F)) (seats : List (SeatModel Entry F)) (seat : SeatModel Entry F) → 1 ≤ length watches → HaveDone k script watches seats
+      → slice_get seats 0 ≡ Some seat → seat.number ≡ k
+  first_number k script watches seats seat some h at =
+      let watch = get_there watches 0 (omega arith) in
+      (h.each 0 watch.0 seat watch.1 at).number
+
+  pub some_seat : (k : ℕ) (script : List ScriptLine) (watches : List (LockModel F)) (seats : List (SeatModel Entry F)) → 1 ≤ length watches → HaveDone k script watches seats → 0 < length seats
+  some_seat k script watches seats some h = let size = h.count in omega arith
+
+  pub has_worked : (n : ℕ) (mine : List ScriptLine) (watches : List (LockModel F)) (scripts : List (List ScriptLine)) (before after : List (SeatModel Entry F)) (seat : SeatModel Entry F) → 1 ≤ length watches
+      → slice_get before 0 ≡ Some seat → n ≡ seat.number → slice_get scripts n ≡ Some mine → HaveDone n mine watches after → HasWorked watches scripts before after
+  has_worked n mine watches scripts before after seat some first number mat done k script idle at =
+      let same : n ≡ k = number ∙ first_number k [] watches before seat some idle first in
+      let is : mine ≡ script = same_Some mine script (sym mat ∙ ap (λ j. slice_get scripts j) same ∙ at) in
+      subst (λ (j : ℕ). HaveDone j script watches after) same (subst (λ (x : List ScriptLine). HaveDone n x watches after) is done)
+
+module _ {D R V : Type 0} (meaning : D → Meaning) (scripts : List (List ScriptLine)) (running : List R) (watch_of : R → LockModel (Fixed D)) (seats_of : R → V) (items : V → List (SeatModel Entry (Fixed D)))
+    (watches : List (LockModel (Fixed D))) (rows : List V) (watches_are : watches ≡ map watch_of running) (rows_are : rows ≡ map seats_of running)
+    (ready : (s : ℕ) (r : R) → slice_get running s ≡ Some r → CanRun (meaning (watch_of r).fixed.definition) scripts s (watch_of r) (items (seats_of r))) where
+  watch_at : (s : ℕ) (watch : LockModel (Fixed D)) → slice_get watches s ≡ Some watch → (r : R) × (slice_get running s ≡ Some r) × (watch ≡ watch_of r)
+  watch_at s watch at = map_get watch_of running s watch (ap (λ l. slice_get l s) (sym watches_are) ∙ at)
+
+  pub rows_long : All (λ v. length (items v) ≡ length scripts) rows
+  rows_long = all_from_places (λ v. length (items v) ≡ length scripts) rows (λ s v at.
+      let r = map_get seats_of running s v (ap (λ l. slice_get l s) (sym rows_are) ∙ at) in
+      ap (λ x. length (items x)) r.2 ∙ (ready s r.0 r.1).all)
+
+  pub all_fit : FitAll meaning watches scripts
+  all_fit = fit_all meaning scripts watches (λ s watch at.
+      let r = watch_at s watch at in
+      subst (λ (w : LockModel (Fixed D)). All (λ steps. AreFitSteps (meaning w.fixed.definition) w.fixed.objects steps) (projections_of scripts s)) (sym r.2) (ready s r.0 r.1).fitting)
+
+  fresh : (s : ℕ) (watch : LockModel (Fixed D)) (row : List (SeatModel Entry (Fixed D))) → slice_get watches s ≡ Some watch → slice_get (map items rows) s ≡ Some row → AreNewcomers watch row
+  fresh s watch row wat at =
+      let r = watch_at s watch wat in
+      let v = map_get items rows s row at in
+      let q = map_get seats_of running s v.0 (ap (λ l. slice_get l s) (sym rows_are) ∙ v.1) in
+      let one : q.0 ≡ r.0 = same_Some q.0 r.0 (sym q.1 ∙ r.1) in
+      let row_is : row ≡ items (seats_of r.0) = v.2 ∙ ap items q.2 ∙ ap (λ x. items (seats_of x)) one in
+      subst (λ (w : LockModel (Fixed D)). AreNewcomers w row) (sym r.2) (subst (λ (l : List (SeatModel Entry (Fixed D))). AreNewcomers (watch_of r.0) l) (sym row_is) (ready s r.0 r.1).newcomers)
+
+  sizes : length (map items rows) ≡ length watches
+  sizes = length-map rows items ∙ ap length rows_are ∙ length-map running seats_of ∙ sym (length-map running watch_of) ∙ sym (ap length watches_are)
+
+  module _ (hands : List V) (hands_are : AreColumns (map items rows) (map items hands)) where
+    pub idle_hand : (k : ℕ) (v : V) → slice_get hands k ≡ Some v → HaveDone k [] watches (items v)
+    idle_hand k v at = idle_column watches (map items rows) (map items hands) k (items v) sizes fresh hands_are (slice_get-map items hands k ∙ ap (λ o. option_map items o) at)
+
+    pub can_work : 1 ≤ length watches → length watches ≤ 16 → length hands ≡ length scripts → All (λ v. CanWork meaning watches scripts (items v)) hands
+    can_work some few count = all_from_places (λ v. CanWork meaning watches scripts (items v)) hands (λ k v at.
+        let within : k < length hands = slice_get_within hands k v at in
+        record { some = some; few = few; fits = all_fit; caller = k; has_script = omega arith; idle = idle_hand k v at })
+
+    module _ (back : List V) (hand_count : length hands ≡ length scripts) (back_count : length back ≡ length hands)
+        (worked : (k : ℕ) (before after : V) → slice_get hands k ≡ Some before → slice_get back k ≡ Some after → HasWorked watches scripts (items before) (items after)) where
+      back_at : (k : ℕ) (script : List ScriptLine) (v : V) → slice_get scripts k ≡ Some script → slice_get back k ≡ Some v → HaveDone k script watches (items v)
+      back_at k script v sat at =
+          let within : k < length back = slice_get_within back k v at in
+          let hand = get_there hands k (omega arith) in
+          worked k hand.0 v hand.1 at k script (idle_hand k hand.0 hand.1) sat
+
+      pub back_long : All (λ v. length (items v) ≡ length watches) back
+      back_long = all_from_places (λ v. length (items v) ≡ length watches) back (λ k v at.
+          let within : k < length back = slice_get_within back k v at in
+          let script = get_there scripts k (omega arith) in
+          (back_at k script.0 v script.1 at).count)
+
+      module _ (all : List V) (all_are : AreColumns (map items back) (map items all)) (s : ℕ) (v : V) (at : slice_get all s ≡ Some v) where
+        done_by : (watch : LockModel (Fixed D)) → slice_get watches s ≡ Some watch
+            → (length (items v) ≡ length scripts)
+            × ((k : ℕ) (script : List ScriptLine) (seat : SeatModel Entry (Fixed D)) → slice_get scripts k ≡ Some script → slice_get (items v) k ≡ Some seat → HasDone k (projection_of (script_of script) s) watch seat)
+        done_by watch wat = done_column watches scripts (map items back) (map items all) s watch (items v) (length-map back items ∙ back_count ∙ hand_count)
+            (λ k script row sat rat.
+            let b = map_get items back k row rat in
+            subst (λ (l : List (SeatModel Entry (Fixed D))). HaveDone k script watches l) (sym b.2) (back_at k script b.0 sat b.1))
+            all_are wat (slice_get-map items all s ∙ ap (λ o. option_map items o) at)
+
+        pub all_of_one : (watch : LockModel (Fixed D)) → slice_get watches s ≡ Some watch → AreSeatsOfOne watch (items v)
+        all_of_one watch wat =
+            let r = watch_at s watch wat in
+            let d = done_by watch wat in
+            seats_of_one (meaning watch.fixed.definition) scripts s watch (items v) d.0 d.1 (ap (λ w. w.seats) r.2 ∙ (ready s r.0 r.1).count)
+
+        pub is_run : (r : R) (prop : Core D) → slice_get running s ≡ Some r → IsClosed (meaning (watch_of r).fixed.definition) (watch_of r) (items v) prop
+            → IsRunOf (meaning (watch_of r).fixed.definition) scripts s (watch_of r).fixed prop
+        is_run r prop rat closed =
+            let wat : slice_get watches s ≡ Some (watch_of r) = ap (λ l. slice_get l s) watches_are ∙ slice_get-map watch_of running s ∙ ap (λ o. option_map watch_of o) rat in
+            let d = done_by (watch_of r) wat in
+            run_of (meaning (watch_of r).fixed.definition) scripts s (watch_of r) (items v) d.0 d.1 prop closed

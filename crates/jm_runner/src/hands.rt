@@ -1,12 +1,14 @@
 //! The workers' threads: each has the seats of one caller.
 ghost use Rattle.std.specs.Prelude.{◌≡◌, ℕ, All, IfOk, Ok, Some, map, slice_get, vec_len};
+ghost use denote.Param.Send.{IsSync};
 ghost use Rattle.jm_runner.specs.Hands.{CanWork, HasWorked};
 
 use crate::gate::Gate;
 use crate::worker::work;
-use jm_dispatch::{Seat, Watch};
+use jm_dispatch::{Seat, Watch, Watched};
 use jm_model::{Monitor, NoMemory};
 use jm_script::Script;
+use jm_turn::Lock;
 use std::alloc::Global;
 use std::sync::Wait;
 use std::thread;
@@ -27,6 +29,8 @@ where
     ensures count { IfOk result (λ back. vec_len back ≡ vec_len hands) }
     ensures worked { IfOk result (λ back. (k : ℕ) (before : _) (after : _) → slice_get hands.items k ≡ Some before → slice_get back.items k ≡ Some after → HasWorked watches.now scripts.now before.items after.items) }
 {
+    is_shared::<Lock<Watched<M>>>();
+    is_shared::<Watch<M>>();
     let back = thread::map_vec(
         rt,
         hands,
@@ -37,6 +41,11 @@ where
     )?;
     all_ok(alloc, back)
 }
+
+/// Tells the proof of a caller that the type may be shared among threads.
+fn is_shared<T: Sync>()
+    ensures { IsSync T.row }
+{}
 
 /// The caller whose seats these are does its script.
 fn work_one<M: Monitor, G: Gate>(

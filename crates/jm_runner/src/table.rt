@@ -1,5 +1,5 @@
 //! Rows into columns.
-ghost use Rattle.std.specs.Prelude.{◌≡◌, ◌<◌, [], All, IfOk, OnOk, map, replicate, vec_len};
+ghost use Rattle.std.specs.Prelude.{◌≡◌, ◌<◌, [], All, IfOk, OnOk, length, map, replicate, vec_len};
 ghost use Rattle.jm_runner.specs.Tables.{AreColumns, AreLengthened, IsPushedAt};
 
 use jm_model::NoMemory;
@@ -11,7 +11,7 @@ pub(crate) fn columns<T: Drop>(
     rows: Vec<Vec<T>>,
     width: usize,
 ) -> Result<Vec<Vec<T>>, NoMemory>
-    requires { All (λ v. vec_len v ≡ width) rows.items }
+    requires { All (λ v. length v.items ≡ width) rows.items }
     ensures count { IfOk result (λ columns. vec_len columns ≡ width) }
     ensures columns { IfOk result (λ columns. AreColumns (map (λ v. v.items) rows.items) (map (λ v. v.items) columns.items)) }
 {
