@@ -1,20 +1,17 @@
-//! The workers' threads: each has the seats of one caller.
-ghost use Rattle.std.specs.Prelude.{◌≡◌, ℕ, All, IfOk, Ok, Some, map, slice_get, vec_len};
-ghost use denote.Param.Send.{IsSync};
+//! The workers, one after another: each has the seats of one caller.
+ghost use Rattle.std.specs.Prelude.{◌≡◌, ℕ, All, IfOk, Some, slice_get, vec_len};
 ghost use Rattle.jm_runner.specs.Hands.{CanWork, HasWorked};
 
 use crate::gate::Gate;
 use crate::worker::work;
-use jm_dispatch::{Seat, Watch, Watched};
+use jm_dispatch::{Seat, Watch};
 use jm_model::{Monitor, NoMemory};
 use jm_script::Script;
-use jm_turn::Lock;
 use std::alloc::Global;
 use std::sync::Wait;
-use std::thread;
 use std::thread::Threads;
 
-/// All workers do their scripts, each on a thread of its own. They get the seats of one caller each, and give them back.
+/// All workers do their scripts, one after another. They get the seats of one caller each, and give them back.
 pub(crate) fn work_all<M: Monitor + Send, G: Gate, R: Threads + Wait + Sync>(
     rt: &R,
     alloc: Global,
@@ -29,23 +26,13 @@ where
     ensures count { IfOk result (λ back. vec_len back ≡ vec_len hands) }
     ensures worked { IfOk result (λ back. (k : ℕ) (before : _) (after : _) → slice_get hands.items k ≡ Some before → slice_get back.items k ≡ Some after → HasWorked watches.now scripts.now before.items after.items) }
 {
-    is_shared::<Lock<Watched<M>>>();
-    is_shared::<Watch<M>>();
-    let back = thread::map_vec(
-        rt,
-        hands,
-        &|seats: Vec<Seat<M>>| -> Result<Vec<Seat<M>>, NoMemory>
-            requires { CanWork M.meaning watches.now scripts.now seats.items }
-            ensures { IfOk result (λ back. HasWorked watches.entry.now scripts.entry.now seats.items back.items) }
-        { work_one(rt, alloc, watches, scripts, seats, gate) },
-    )?;
-    all_ok(alloc, back)
+    let mut back = Vec::new(alloc);
+    for seats in hands {
+        let done = work_one(rt, alloc, watches, scripts, seats, gate)?;
+        back.push(done)?;
+    }
+    Ok(back)
 }
-
-/// Tells the proof of a caller that the type may be shared among threads.
-fn is_shared<T: Sync>()
-    ensures { IsSync T.row }
-{}
 
 /// The caller whose seats these are does its script.
 fn work_one<M: Monitor, G: Gate>(
@@ -69,15 +56,4 @@ fn work_one<M: Monitor, G: Gate>(
         &scripts[caller as usize],
         gate,
     )
-}
-
-/// The values, where no result is a want of memory.
-fn all_ok<T: Drop>(alloc: Global, results: Vec<Result<T, NoMemory>>) -> Result<Vec<T>, NoMemory>
-    ensures { IfOk result (λ values. map (λ x. Ok x) values.items ≡ results.items) }
-{
-    let mut values = Vec::new(alloc);
-    for result in results {
-        values.push(result?)?;
-    }
-    Ok(values)
 }

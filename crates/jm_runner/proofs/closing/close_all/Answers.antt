@@ -12,7 +12,7 @@ close-requires g c =
     let i = c.loop-watch.invariant in
     let watches = c.args.watches.items in
     let b = c.into_iter-watch-iterator.ensures.into_iter_gives in
-    let t = YieldsList-turn (YieldsList-from_vec watches b.0 (b.1 ∙ c.args.watches.ok.0)) c.loop-watch.yielded _ c.loop-watch.yielded_by _ _ c.in-Some.watch c.in-Some.is c.next.ensures.steps in
+    let t = YieldsList-turn (YieldsList-from_vec {s = c.into_iter-watch-iterator.result} watches b.0 (b.1 ∙ c.args.watches.ok.0)) c.loop-watch.yielded c.loop-watch.watch-iterator c.loop-watch.yielded_by c.next.result c.next.new.self c.in-Some.watch c.in-Some.is c.next.ensures.steps in
     let at : slice_get watches c.loop-watch.s ≡ Some c.in-Some.watch = ap (λ n. slice_get watches n) i.place ∙ slice_get_read watches (length watches) (length c.loop-watch.yielded) c.in-Some.watch refl t.0 t.1 in
     c.requires.seats c.loop-watch.s c.in-Some.watch c.take_row-all.result at (sym (i.others c.loop-watch.s (omega arith)) ∙ c.take_row-all.ensures.row)
 
@@ -20,7 +20,7 @@ pub returns-clause-closed : goal.returns-clause-closed
 returns-clause-closed g c =
     let watches = c.args.watches.items in
     let b = c.into_iter-watch-iterator.ensures.into_iter_gives in
-    let t = YieldsList-end (YieldsList-from_vec watches b.0 (b.1 ∙ c.args.watches.ok.0)) c.loop-watch.yielded _ c.loop-watch.yielded_by _ _ c.in-None.is c.next.ensures.steps in
+    let t = YieldsList-end (YieldsList-from_vec {s = c.into_iter-watch-iterator.result} watches b.0 (b.1 ∙ c.args.watches.ok.0)) c.loop-watch.yielded c.loop-watch.watch-iterator c.loop-watch.yielded_by c.next.result c.next.new.self c.in-None.is c.next.ensures.steps in
     let all_of : c.loop-watch.yielded ≡ watches = sym (map_same c.loop-watch.yielded) ∙ t.0 in
     λ s watch all prop wat aat pat. c.loop-watch.invariant.closed s watch all prop (ap (λ l. slice_get l s) all_of ∙ wat) aat pat
 
