@@ -44,16 +44,16 @@ pub related_more : {A B C : Type 0} (R : A → B → C → Type 0) (ls : List A)
     → (k : ℕ) (x : A) (y : B) (z : C) → slice_get (ls ++ a ∷ []) k ≡ Some x → slice_get bs k ≡ Some y → slice_get more k ≡ Some z → R x y z
 related_more R ls bs cs more n a b c an cn is there new old k x y z xat yat zat =
     elim (get_snoc ls a x k xat) [
-      inl before ↦ elim (get_snoc cs c z k (ap (λ l. slice_get l k) (sym is) ∙ zat)) [
-        inl zbefore ↦ old k x y z before yat zbefore
+      | inl before ↦ elim (get_snoc cs c z k (ap (λ l. slice_get l k) (sym is) ∙ zat)) [
+        | inl zbefore ↦ old k x y z before yat zbefore
         | inr zlast ↦ let within : k < length ls = slice_get_within ls k x before in let place : k ≡ length cs = zlast.0 in absurd (omega arith)
       ]
       | inr last ↦ elim (get_snoc cs c z k (ap (λ l. slice_get l k) (sym is) ∙ zat)) [
-        inl zbefore ↦ let within : k < length cs = slice_get_within cs k z zbefore in let place : k ≡ length ls = last.0 in absurd (omega arith)
+        | inl zbefore ↦ let within : k < length cs = slice_get_within cs k z zbefore in let place : k ≡ length ls = last.0 in absurd (omega arith)
         | inr zlast ↦
-          let place : k ≡ n = last.0 ∙ an in
-          let y_is : b ≡ y = same_Some b y (sym there ∙ ap (λ j. slice_get bs j) (sym place) ∙ yat) in
-          subst (λ v. R v y z) last.1 (subst (λ v. R a v z) y_is (subst (λ v. R a b v) zlast.1 new))
+            let place : k ≡ n = last.0 ∙ an in
+            let y_is : b ≡ y = same_Some b y (sym there ∙ ap (λ j. slice_get bs j) (sym place) ∙ yat) in
+            subst (λ v. R v y z) last.1 (subst (λ v. R a v z) y_is (subst (λ v. R a b v) zlast.1 new))
       ]
     ]
 

@@ -77,7 +77,7 @@ module _ {A : Type 0} (rows columns : List (List A)) (row : List A) (width : len
       let l = get-lengthened columns row k column width at in
       let long : length l.before ≡ length rows = place_from_all (λ c. length c ≡ length rows) columns k l.before h.long l.was in
       elim (get_snoc l.before l.element x s (subst (λ (c : List A). slice_get c s ≡ Some x) l.is here)) [
-        inl old ↦ in_old_row k s x (h.same k s l.before x l.was old)
+        | inl old ↦ in_old_row k s x (h.same k s l.before x l.was old)
         | inr last ↦ record {
           row = row;
           there = subst (λ (n : ℕ). slice_get (rows ++ row ∷ []) n ≡ Some row) (sym (last.0 ∙ long)) (get_last rows row);

@@ -80,10 +80,10 @@ module _ {F : Type 0} where
     count = length-set after n new ∙ h.count;
     below = λ s w o x less wat oat xat.
         elim (set_cases after n s new x xat) [
-          inl here ↦
-            let w_is : watch ≡ w = same_Some watch w (sym at ∙ ap (λ k. slice_get watches k) (sym here.0) ∙ wat) in
-            let o_is : old ≡ o = same_Some old o (sym was ∙ h.others n (omega arith) ∙ ap (λ k. slice_get before k) (sym here.0) ∙ oat) in
-            moved s w o x here.0 w_is o_is here.1
+          | inl here ↦
+              let w_is : watch ≡ w = same_Some watch w (sym at ∙ ap (λ k. slice_get watches k) (sym here.0) ∙ wat) in
+              let o_is : old ≡ o = same_Some old o (sym was ∙ h.others n (omega arith) ∙ ap (λ k. slice_get before k) (sym here.0) ∙ oat) in
+              moved s w o x here.0 w_is o_is here.1
           | inr other ↦ h.below s w o x (smaller s less other.0) wat oat other.1
         ];
     others = λ s above. set_other after n s new (omega arith) ∙ h.others s (omega arith);
