@@ -6,11 +6,19 @@
 //! | Module | What it has |
 //! |---|---|
 //! | `gate` | what is told of each line before and after it is done |
+//! | `worker` | what one caller does |
+//! | `hands` | a thread for each worker |
+//! | `closing` | the cores come out |
+//! | `table` | rows of seats into columns |
 //! | `run` | the run: seats are dealt to workers, and gathered once all are done |
 #![tactic(auto)]
 
+mod closing;
 mod gate;
+mod hands;
 mod run;
+mod table;
+mod worker;
 
 pub use gate::{FreeGate, Gate};
 pub use run::{Running, run_scripts};

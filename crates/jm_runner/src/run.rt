@@ -1,7 +1,10 @@
-ghost use Rattle.std.specs.Prelude.{◌≡◌, ◌≤◌, ℕ, length, vec_len, slice_get, Some, IfOk};
+ghost use Rattle.std.specs.Prelude.{◌≡◌, ◌≤◌, ℕ, length, map, vec_len, slice_get, Some, IfOk};
 ghost use Rattle.jm_runner.specs.Runs.{CanRun, IsRunOf};
 
+use crate::closing::close_all;
 use crate::gate::Gate;
+use crate::hands::work_all;
+use crate::table::columns;
 use jm_core::Prop;
 use jm_dispatch::{Seat, Watch};
 use jm_model::{Monitor, NoMemory};
@@ -37,6 +40,26 @@ where
     ensures count { IfOk result (λ props. vec_len props ≡ vec_len watches) }
     ensures runs { IfOk result (λ props. (s : ℕ) (r : _) (p : _) → slice_get watches.items s ≡ Some r → slice_get props.items s ≡ Some p → IsRunOf (M.meaning r.watch.fixed.definition) scripts.now s r.watch.fixed p) }
 {
-    let _unused = (rt, alloc, watches, scripts, gate);
-    Err(NoMemory)
+    let (watches, seats) = part(alloc, watches)?;
+    let hands = columns(alloc, seats, scripts.len())?;
+    let back = work_all(rt, alloc, &watches, scripts, hands, gate)?;
+    let seats = columns(alloc, back, watches.len())?;
+    close_all(alloc, watches, seats)
+}
+
+/// The watches, and their seats.
+fn part<M: Monitor>(
+    alloc: Global,
+    running: Vec<Running<M>>,
+) -> Result<(Vec<Watch<M>>, Vec<Vec<Seat<M>>>), NoMemory>
+    ensures watches { IfOk result (λ p. p.0.items ≡ map (λ r. r.watch) running.items) }
+    ensures seats { IfOk result (λ p. p.1.items ≡ map (λ r. r.seats) running.items) }
+{
+    let mut watches = Vec::new(alloc);
+    let mut seats = Vec::new(alloc);
+    for Running { watch, seats: all } in running {
+        watches.push(watch)?;
+        seats.push(all)?;
+    }
+    Ok((watches, seats))
 }

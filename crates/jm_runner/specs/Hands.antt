@@ -1,0 +1,43 @@
+-- The seats of one caller, and the seats of one watch.
+use Rattle.std.specs.Prelude.{◌≡◌, ◌<◌, ◌≤◌, ℕ, List, [], All, Any, Some, length, slice_get}
+use Rattle.jm_model.specs.Meanings.{Meaning}
+use Rattle.jm_model.specs.declared.step.Entry.{Entry}
+use Rattle.jm_semantics.specs.Legality.{IsLegal}
+use Rattle.jm_core.specs.Cores.{Core, FitsHistory}
+use Rattle.jm_turn.specs.Lists.{entries_by}
+use Rattle.jm_turn.specs.Seats.{LockModel, SeatModel, IsSeatOf, own_entries}
+use Rattle.jm_script.specs.declared.script.ScriptLine.{ScriptLine}
+use Rattle.jm_dispatch.specs.declared.watched.Fixed.{Fixed}
+use Rattle.jm_dispatch.specs.Steps.{caller_of}
+use Rattle.jm_runner.specs.Work.{FitsWatches, HaveDone}
+
+-- the lines of each script fit the watches
+abbrev pub FitAll : {D : Type 0} → (D → Meaning) → List (LockModel (Fixed D)) → List (List ScriptLine) → Type 0
+FitAll meaning watches scripts = All (λ script. All (λ line. FitsWatches meaning watches line) script) scripts
+
+-- These are the seats of a caller, who has a script that fits the watches, and has done nothing of it.
+pub record CanWork {D : Type 0} (meaning : D → Meaning) (watches : List (LockModel (Fixed D))) (scripts : List (List ScriptLine)) (seats : List (SeatModel Entry (Fixed D))) : Type 0 where
+  pub some : 1 ≤ length watches
+  pub few : length watches ≤ 16
+  pub fits : FitAll meaning watches scripts
+  pub caller : ℕ
+  pub has_script : caller < length scripts
+  pub idle : HaveDone caller [] watches seats
+
+-- the caller whose seats these are has done its script
+abbrev pub HasWorked : {F : Type 0} → List (LockModel F) → List (List ScriptLine) → List (SeatModel Entry F) → List (SeatModel Entry F) → Type 0
+HasWorked watches scripts before after = (k : ℕ) (script : List ScriptLine) → HaveDone k [] watches before → slice_get scripts k ≡ Some script → HaveDone k script watches after
+
+-- as many seats of the watch as it has
+pub record AreSeatsOfOne {F : Type 0} (watch : LockModel F) (seats : List (SeatModel Entry F)) : Type 0 where
+  pub count : length seats ≡ watch.seats
+  pub each : All (λ s. IsSeatOf watch s) seats
+
+-- the core of a watch that was closed with these seats
+pub record IsClosed {D : Type 0} (m : Meaning) (watch : LockModel (Fixed D)) (seats : List (SeatModel Entry (Fixed D))) (prop : Core D) : Type 0 where
+  pub definition : prop.definition ≡ watch.fixed.definition
+  pub objects : prop.objects ≡ watch.fixed.objects
+  pub legal : IsLegal m prop.entries
+  pub fits : FitsHistory m prop.entries prop.stored prop.marks
+  pub own : All (λ s. entries_by caller_of s.number prop.entries ≡ own_entries caller_of s) seats
+  pub others : All (λ x. Any (λ s. s.number ≡ x.caller) seats) prop.entries
