@@ -26,7 +26,7 @@ invariant_of-self g c =
     let alive : is_dead_object dead o ≡ false = get_or_from_slice_get dead o (not c.kill.result) false c.kill.ensures.answer ∙ ap not c.if-kill.true in
     subst (λ (l : List Entry). IsCore m Stands l c.kill.new.self c.self.inside.store) (sym c.push.ensures)
     (subst (λ (d : List Bool). IsCore m Stands (c.self.inside.history ++ answered c.args.node Done ∷ []) d c.self.inside.store) (sym c.kill.ensures.dead)
-    (core_after_death m Stands c.self.inside.history dead c.self.inside.store c.args.node o c.self.invariant is within alive))
+    (core_after_death m Stands c.self.inside.history dead c.self.inside.store c.args.node o c.self.invariant.0 is within alive))
 
 pub invariant_of-self-else-kill : goal.invariant_of-self-else-kill
 invariant_of-self-else-kill g c =
@@ -39,18 +39,18 @@ invariant_of-self-else-kill g c =
     let kept : c.kill.new.self ≡ dead = c.kill.ensures.dead ∙ ap (λ v. slice_set dead o v) (sym gone) ∙ set-get_or dead o false in
     subst (λ (l : List Entry). IsCore m Stands l c.kill.new.self c.self.inside.store) (sym c.push-else-kill.ensures)
     (subst (λ (d : List Bool). IsCore m Stands (c.self.inside.history ++ answered c.args.node (Refused o) ∷ []) d c.self.inside.store) (sym kept)
-    (core_after_refusal m Stands c.self.inside.history dead c.self.inside.store c.args.node o c.self.invariant is gone))
+    (core_after_refusal m Stands c.self.inside.history dead c.self.inside.store c.args.node o c.self.invariant.0 is gone))
 
 pub returns-then-kill-clause-legal : goal.returns-then-kill-clause-legal
-returns-then-kill-clause-legal g c = (invariant_of-self g c).legal
+returns-then-kill-clause-legal g c = (invariant_of-self g c).0.legal
 
 pub returns-then-kill-clause-fits : goal.returns-then-kill-clause-fits
 returns-then-kill-clause-fits g c =
-    fits_history (g.M.Monitor.meaning (g.M.Monitor.definition c.self.inside.rules)) (g.M.Monitor.StandsFor c.self.inside.rules) c.push.new.self c.kill.new.self c.self.inside.store (invariant_of-self g c)
+    fits_history (g.M.Monitor.meaning (g.M.Monitor.definition c.self.inside.rules)) (g.M.Monitor.StandsFor c.self.inside.rules) c.push.new.self c.kill.new.self c.self.inside.store (invariant_of-self g c).0
 
 pub returns-else-kill-clause-legal : goal.returns-else-kill-clause-legal
-returns-else-kill-clause-legal g c = (invariant_of-self-else-kill g c).legal
+returns-else-kill-clause-legal g c = (invariant_of-self-else-kill g c).0.legal
 
 pub returns-else-kill-clause-fits : goal.returns-else-kill-clause-fits
 returns-else-kill-clause-fits g c =
-    fits_history (g.M.Monitor.meaning (g.M.Monitor.definition c.self.inside.rules)) (g.M.Monitor.StandsFor c.self.inside.rules) c.push-else-kill.new.self c.kill.new.self c.self.inside.store (invariant_of-self-else-kill g c)
+    fits_history (g.M.Monitor.meaning (g.M.Monitor.definition c.self.inside.rules)) (g.M.Monitor.StandsFor c.self.inside.rules) c.push-else-kill.new.self c.kill.new.self c.self.inside.store (invariant_of-self-else-kill g c).0

@@ -16,4 +16,4 @@ invariant_of-result g c =
 
 pub returns-clause-fits : goal.returns-clause-fits
 returns-clause-fits g c =
-    fits_history (g.M.Monitor.meaning (g.M.Monitor.definition c.args.rules)) (g.M.Monitor.StandsFor c.args.rules) c.new-3.result c.in_ok-objects.objects c.in_ok-store.store (invariant_of-result g c)
+    fits_history (g.M.Monitor.meaning (g.M.Monitor.definition c.args.rules)) (g.M.Monitor.StandsFor c.args.rules) c.new-3.result c.in_ok-objects.objects c.in_ok-store.store (invariant_of-result g c).0
