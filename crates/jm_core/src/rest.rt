@@ -1,6 +1,5 @@
 //! The last event that is known to leave all monitors above its binding as they are.
-ghost use Rattle.std.specs.Prelude.{◌≡◌, ◌⊎◌, true, false, IsTrue, ◌↔◌};
-ghost use Rattle.jm_model.specs.Bindings.{empty};
+ghost use Rattle.std.specs.Prelude.{◌≡◌, ◌⊎◌, true, false, IsTrue};
 
 use jm_model::{Binding, Letter};
 
@@ -31,10 +30,13 @@ impl Rest {
         ensures letter { IsTrue result → self.now.letter.0 ≡ letter.0 }
         ensures binding { IsTrue result → self.now.binding ≡ binding.now }
     {
-        self.is_known
-            && self.letter.0 == letter.0
-            && self.binding.le(binding)
-            && binding.le(&self.binding)
+        if !self.is_known {
+            return false;
+        }
+        if self.letter.0 != letter.0 {
+            return false;
+        }
+        is_same(&self.binding, binding)
     }
 
     /// Forgets the event.
@@ -57,4 +59,14 @@ impl Rest {
             self.is_known = false;
         }
     }
+}
+
+/// Whether two bindings are one.
+fn is_same(one: &Binding, other: &Binding) -> bool
+    ensures { IsTrue result → one.now ≡ other.now }
+{
+    if !one.le(other) {
+        return false;
+    }
+    other.le(one)
 }

@@ -9,4 +9,4 @@ returns-then-is_of-clause-works g c =
     let is = c.is_of.ensures in
     let known = c.if-is_of.true in
     let out = at_rest m Stands trace c.args.objects.now c.args.letter.0 c.args.binding.now c.args.store.now c.args.rest.now store ended c.requires.event rested (is.known known) (is.letter known) (is.binding known) in
-    ?
+    ((c.requires.live, rw c.new.ensures out.0, out.1), rested)
