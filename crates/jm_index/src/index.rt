@@ -125,8 +125,7 @@ impl Index {
             slot,
             live: false,
         })?;
-        self.trees
-            .file_all(&self.dropped, &binding, position)?;
+        self.trees.file_all(&self.dropped, &binding, position)?;
         self.places.insert(binding, position)?;
         self.entries[position].live = true;
         Ok(())

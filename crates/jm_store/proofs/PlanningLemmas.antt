@@ -349,11 +349,13 @@ may_reach m {S} Stands letter b dead marks known ending stored marked ended s th
     apart off (inr is) unmarked =
         elim (asked_unless known ending letter (mask_of s.instance) b is) [
           | inl ask ↦ inl ask
-          | inr ends ↦ inr (off, λ w stands.
-              let over = ended s there letter ends w stands in
-              (over.0, cut-more_dead m (w ++ letter ∷ []) 0 (dead_mask_of dead (join s.instance b)) none_dead over.1))
+          | inr ends ↦ inr (
+            off,
+            λ w stands.
+                let over = ended s there letter ends w stands in
+                (over.0, cut-more_dead m (w ++ letter ∷ []) 0 (dead_mask_of dead (join s.instance b)) none_dead over.1),
+          )
         ]
-
 
 -- a plan is for the store with other letters too
 pub plan_for_ending : {S : Type 0} (store : Contents S) (ending : List ℕ) (plan : Plan S) → IsPlanFor store plan → IsPlanFor (with_ending store ending) plan
