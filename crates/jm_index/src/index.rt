@@ -77,9 +77,12 @@ impl Index {
         Ok(())
     }
 
-    /// Whether it is time for that.
+    /// Whether it is time for that. Since a new tree has a path for each object below its greatest, there are to be entries
+    /// enough to pay for these.
     fn is_sparse(&self) -> bool {
-        self.entries.len() == self.entries.capacity() && self.places.len() < self.entries.len() / 2
+        self.entries.len() == self.entries.capacity()
+            && self.places.len() < self.entries.len() / 2
+            && self.entries.len() / 16 >= self.dropped.words()
     }
 
     /// The same pairs, with no entry that isn't live.
