@@ -52,8 +52,8 @@ impl Index {
     /// Adds a pair at the end. Where memory is wanting, the pairs are as before. The index fits what it fitted, if the
     /// objects of the binding stand in the table.
     ///
-    /// Where there is no room for an entry and more than half of the entries aren't live, the index is made anew of
-    /// those that are.
+    /// Where there is no room for an entry and more than half of many entries aren't live, the index is made anew of those
+    /// that are.
     pub fn add(&mut self, binding: Binding, slot: usize) -> Result<(), NoMemory>
         requires { (pair : Pair) → Contains self.old.list pair → pair.binding ≢ binding }
         ensures added { OnOk result (self.new.list ≡ self.old.list ++ record { binding = binding; slot = slot } ∷ []) }
