@@ -1,5 +1,5 @@
 -- What holds of what is inside a core.
-use Rattle.std.specs.Prelude.{◌≡◌, ℕ, Bool, false, List, [], ◌∷◌, ◌++◌, Option, Some, None, map, find}
+use Rattle.std.specs.Prelude.{◌≡◌, ℕ, Bool, true, false, List, [], ◌∷◌, ◌++◌, Option, Some, None, map, find}
 use Rattle.jm_model.specs.Meanings.{Meaning}
 use Rattle.jm_model.specs.Bindings.{objects_of}
 use Rattle.jm_model.specs.declared.binding.Binding.{Binding}
@@ -14,9 +14,10 @@ use Rattle.jm_marks.specs.Marks.{is_dead_object}
 use Rattle.jm_monitors.specs.declared.stored.Stored.{Stored}
 use Rattle.jm_monitors.specs.Deaths.{AreFlagsOf}
 use Rattle.jm_monitors.specs.Stores.{IsStoreOf}
-use Rattle.jm_monitors.specs.Steps.{NoneCutAbove}
+use Rattle.jm_monitors.specs.Steps.{NoneCutAbove, AreResting}
 use Rattle.jm_store.specs.Contents.{Contents, stored_of, IsFit, IsEnded}
 use Rattle.jm_store.specs.Moves.{EndsFewer}
+use Rattle.jm_core.specs.declared.rest.Rest.{Rest}
 use Rattle.jm_core.specs.Cores.{IsTidy}
 
 -- the instances of monitors
@@ -56,3 +57,7 @@ IsOutcomeOf m Stands trace dead a before after (Fired firings) = (first_dead_by 
 IsOutcomeOf m Stands trace dead a before after (Refused o) = (first_dead_by dead a.binding ≡ Some o) × IsUntouched before after
 IsOutcomeOf m Stands trace dead a before after NoMemory = (first_dead_by dead a.binding ≡ None) × IsUntouched before after
 IsOutcomeOf m Stands trace dead a before after _ = ⊥
+
+-- the event that is known, if one is, leaves all monitors above its binding as they are
+abbrev pub IsRested : Meaning → {S : Type 0} → (S → List ℕ → Type 0) → List Bool → Contents S → Rest → Type 0
+IsRested m Stands dead store rest = rest.is_known ≡ true → AreResting m Stands dead rest.letter.0 rest.binding (stored_of store) store.marks

@@ -5,20 +5,24 @@ ghost use Rattle.jm_index.specs.Index.{AreBelow};
 ghost use Rattle.jm_monitors.specs.Stores.{IsStoreOf};
 ghost use Rattle.jm_monitors.specs.Steps.{IsLiveEvent};
 ghost use Rattle.jm_store.specs.Contents.{stored_of, IsFit, IsPlanFor, IsPlanOf, IsEnded};
-ghost use Rattle.jm_core.specs.Inside.{first_dead_by, IsUntouched, IsOutcomeOf};
+ghost use Rattle.jm_core.specs.Inside.{first_dead_by, IsUntouched, IsOutcomeOf, IsRested};
 
-use jm_model::{Binding, Letter, Monitor, NoMemory, Outcome, Steps};
+use crate::rest::Rest;
+use jm_model::{Binding, Firings, Letter, Monitor, NoMemory, Outcome, Steps};
 use jm_objects::Objects;
 use jm_store::{Plan, Store};
+use std::alloc::Global;
 use std::marker::Brand;
 use std::sync::ledger::{Blank, Ledger};
 
 /// What an event comes to, twice: it is refused where it binds a dead object, with the first one. Unless it is answered,
 /// monitors and marks stay as they are.
 pub(crate) fn perform<M: Monitor>(
+    alloc: Global,
     rules: &M,
     objects: &Objects,
     store: &mut Store<M>,
+    rest: &mut Rest,
     letter: Letter,
     binding: &Binding,
 ) -> (Outcome, Outcome)
@@ -34,13 +38,50 @@ pub(crate) fn perform<M: Monitor>(
     ensures works { (trace : List ParametricEvent)
         → IsStoreOf (M.meaning (M.definition rules.now)) (M.StandsFor rules.now) trace objects.now (stored_of store.old) store.old.marks
         → IsEnded (M.meaning (M.definition rules.now)) (M.StandsFor rules.now) store.old
+        → IsRested (M.meaning (M.definition rules.now)) (M.StandsFor rules.now) objects.now store.old rest.old
         → IsOutcomeOf (M.meaning (M.definition rules.now)) (M.StandsFor rules.now) trace objects.now
-        (record { letter = letter.0; binding = binding.now }) store.old store.new result.0 }
+        (record { letter = letter.0; binding = binding.now }) store.old store.new result.0
+        × IsRested (M.meaning (M.definition rules.now)) (M.StandsFor rules.now) objects.now store.new rest.new }
 {
     match first_dead(objects, binding) {
         Some(object) => (Outcome::Refused(object), Outcome::Refused(object)),
-        None => fire(rules, objects, store, letter, binding),
+        None => answer(alloc, rules, objects, store, rest, letter, binding),
     }
+}
+
+/// What an event comes to that binds no dead object. One that is known to leave all as it is isn't worked out again.
+fn answer<M: Monitor>(
+    alloc: Global,
+    rules: &M,
+    objects: &Objects,
+    store: &mut Store<M>,
+    rest: &mut Rest,
+    letter: Letter,
+    binding: &Binding,
+) -> (Outcome, Outcome)
+    requires closed { store.old.is_open ≡ false }
+    requires fits { IsFit store.old objects.now }
+    requires event { IsLiveEvent (M.meaning (M.definition rules.now)) objects.now letter.0 binding.now }
+    requires there { AreBelow (length objects.now) binding.now }
+    requires live { first_dead_by objects.now binding.now ≡ None }
+    ensures twice { result.1 ≡ result.0 }
+    ensures closed { store.new.is_open ≡ false }
+    ensures fits { IsFit store.new objects.now }
+    ensures works { (trace : List ParametricEvent)
+        → IsStoreOf (M.meaning (M.definition rules.now)) (M.StandsFor rules.now) trace objects.now (stored_of store.old) store.old.marks
+        → IsEnded (M.meaning (M.definition rules.now)) (M.StandsFor rules.now) store.old
+        → IsRested (M.meaning (M.definition rules.now)) (M.StandsFor rules.now) objects.now store.old rest.old
+        → IsOutcomeOf (M.meaning (M.definition rules.now)) (M.StandsFor rules.now) trace objects.now
+        (record { letter = letter.0; binding = binding.now }) store.old store.new result.0
+        × IsRested (M.meaning (M.definition rules.now)) (M.StandsFor rules.now) objects.now store.new rest.new }
+{
+    if rest.is_of(letter, binding) {
+        return (
+            Outcome::Fired(Firings::new(alloc)),
+            Outcome::Fired(Firings::new(alloc)),
+        );
+    }
+    fire(rules, objects, store, rest, letter, binding)
 }
 
 /// The first dead object that a binding binds, in the order of the parameters.
@@ -59,11 +100,12 @@ fn first_dead(objects: &Objects, binding: &Binding) -> Option<u32>
     None
 }
 
-/// What an event comes to that binds no dead object.
+/// The same, worked out.
 fn fire<M: Monitor>(
     rules: &M,
     objects: &Objects,
     store: &mut Store<M>,
+    rest: &mut Rest,
     letter: Letter,
     binding: &Binding,
 ) -> (Outcome, Outcome)
@@ -78,12 +120,17 @@ fn fire<M: Monitor>(
     ensures works { (trace : List ParametricEvent)
         → IsStoreOf (M.meaning (M.definition rules.now)) (M.StandsFor rules.now) trace objects.now (stored_of store.old) store.old.marks
         → IsEnded (M.meaning (M.definition rules.now)) (M.StandsFor rules.now) store.old
+        → IsRested (M.meaning (M.definition rules.now)) (M.StandsFor rules.now) objects.now store.old rest.old
         → IsOutcomeOf (M.meaning (M.definition rules.now)) (M.StandsFor rules.now) trace objects.now
-        (record { letter = letter.0; binding = binding.now }) store.old store.new result.0 }
+        (record { letter = letter.0; binding = binding.now }) store.old store.new result.0
+        × IsRested (M.meaning (M.definition rules.now)) (M.StandsFor rules.now) objects.now store.new rest.new }
 {
     match counted_plan::<M, Brand>(rules, objects, store, letter, binding, Blank::new(1)) {
         Ok(plan) => {
+            let rests = plan.rests(rules, letter);
+            let drops = plan.only_drops();
             let (answer, copy) = store.commit(plan);
+            rest.follow(rests, drops, letter, binding);
             (Outcome::Fired(answer), Outcome::Fired(copy))
         }
         Err(NoMemory) => (Outcome::NoMemory, Outcome::NoMemory),

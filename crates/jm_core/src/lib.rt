@@ -7,5 +7,6 @@
 
 mod firing;
 mod prop;
+mod rest;
 
 pub use prop::Prop;

@@ -7,6 +7,7 @@ ghost use Rattle.jm_core.specs.Cores.{IsExtended, KeepsMemory, KeepsMemoryUnless
 ghost use Rattle.jm_core.specs.Replays.{Replayed, ReplayedInPart};
 
 use crate::firing::perform;
+use crate::rest::Rest;
 use jm_history::{History, Node};
 use jm_model::{Binding, Monitor, NoMemory, Outcome, Step};
 use jm_objects::Objects;
@@ -20,6 +21,7 @@ pub struct Prop<M: Monitor> {
     rules: M,
     objects: Objects,
     store: Store<M>,
+    rest: Rest,
     history: History,
     alloc: Global,
 }
@@ -28,7 +30,7 @@ impl<M: Monitor> Model for Prop<M> {
     ghost use Rattle.std.specs.Prelude.{length};
     ghost use Rattle.jm_store.specs.Contents.{stored_of};
     ghost use Rattle.jm_core.specs.Cores.{Core};
-    ghost use Rattle.jm_core.specs.Inside.{IsCore, instances_of};
+    ghost use Rattle.jm_core.specs.Inside.{IsCore, IsRested, instances_of};
 
     ghost Value = { Core M.Definition };
 
@@ -40,7 +42,8 @@ impl<M: Monitor> Model for Prop<M> {
       marks = p.store.marks;
     } };
 
-    ghost invariant = { λ p. IsCore (M.meaning (M.definition p.rules)) (M.StandsFor p.rules) p.history p.objects p.store };
+    ghost invariant = { λ p. IsCore (M.meaning (M.definition p.rules)) (M.StandsFor p.rules) p.history p.objects p.store
+        × IsRested (M.meaning (M.definition p.rules)) (M.StandsFor p.rules) p.objects p.store p.rest };
 }
 
 impl<M: Monitor> Prop<M> {
@@ -58,6 +61,7 @@ impl<M: Monitor> Prop<M> {
             rules,
             objects,
             store,
+            rest: Rest::new(),
             history: History::new(),
             alloc,
         })
@@ -77,9 +81,11 @@ impl<M: Monitor> Prop<M> {
             unreachable!()
         };
         let (outcome, copy) = perform(
+            self.alloc,
             &self.rules,
             &self.objects,
             &mut self.store,
+            &mut self.rest,
             *letter,
             binding,
         );
@@ -101,6 +107,7 @@ impl<M: Monitor> Prop<M> {
         };
         let object = *object;
         if self.objects.kill(object) {
+            self.rest.forget();
             self.history.push(node, Outcome::Done);
             Outcome::Done
         } else {
@@ -118,6 +125,7 @@ impl<M: Monitor> Prop<M> {
         ensures fits { FitsHistory (M.meaning self.new.definition) self.new.entries self.new.stored self.new.marks }
     {
         let kept = self.store.dispose(&self.rules, &self.objects);
+        self.rest.forget();
         self.history.push(node, Outcome::Kept(kept));
         Outcome::Kept(kept)
     }

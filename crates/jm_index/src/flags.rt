@@ -40,6 +40,11 @@ impl Flags {
         Ok(Flags { words })
     }
 
+    /// How many words there are.
+    pub(crate) fn words(&self) -> usize {
+        self.words.len()
+    }
+
     /// Whether an object has a flag.
     pub(crate) fn has(&self, object: u32) -> bool
         ensures yes { result ≡ true → object < length self.now }

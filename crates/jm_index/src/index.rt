@@ -52,8 +52,8 @@ impl Index {
     /// Adds a pair at the end. Where memory is wanting, the pairs are as before. The index fits what it fitted, if the
     /// objects of the binding stand in the table.
     ///
-    /// Where there is no room for an entry and more than half of the entries aren't live, the index is made anew of
-    /// those that are.
+    /// Where there is no room for an entry and more than half of many entries aren't live, the index is made anew of those
+    /// that are.
     pub fn add(&mut self, binding: Binding, slot: usize) -> Result<(), NoMemory>
         requires { (pair : Pair) → Contains self.old.list pair → pair.binding ≢ binding }
         ensures added { OnOk result (self.new.list ≡ self.old.list ++ record { binding = binding; slot = slot } ∷ []) }
@@ -77,9 +77,12 @@ impl Index {
         Ok(())
     }
 
-    /// Whether it is time for that.
+    /// Whether it is time for that. Since a new tree has a path for each object below its greatest, there are to be entries
+    /// enough to pay for these.
     fn is_sparse(&self) -> bool {
-        self.entries.len() == self.entries.capacity() && self.places.len() < self.entries.len() / 2
+        self.entries.len() == self.entries.capacity()
+            && self.places.len() < self.entries.len() / 2
+            && self.entries.len() / 16 >= self.dropped.words()
     }
 
     /// The same pairs, with no entry that isn't live.
@@ -125,8 +128,7 @@ impl Index {
             slot,
             live: false,
         })?;
-        self.trees
-            .file_all(&self.dropped, &binding, position)?;
+        self.trees.file_all(&self.dropped, &binding, position)?;
         self.places.insert(binding, position)?;
         self.entries[position].live = true;
         Ok(())

@@ -1,5 +1,5 @@
 -- The parameters that are bound to dead objects, one after another from the last.
-use Rattle.std.proofs.Common.{◌≡◌, ℕ, zero, suc, ◌+◌, ◌-◌, ◌*◌, ◌^◌, ◌<◌, ◌≤◌, Bool, true, false, cond, not, ◌||◌, List, [], ◌∷◌, Option, Some, None, length, drop, refl, ◌∙◌, ap, arith, pow-suc, length-drop, add_comm}
+use Rattle.std.proofs.Common.{◌≡◌, ℕ, zero, suc, ◌+◌, ◌-◌, ◌*◌, ◌^◌, ◌<◌, ◌≤◌, Bool, true, false, cond, ◌||◌, List, [], ◌∷◌, Option, Some, None, length, drop, refl, ◌∙◌, ap, arith, pow-suc, length-drop, add_comm}
 use Rattle.std.proofs.Math.Pow.{pow_mono}
 use Rattle.jm_model.specs.Bindings.{object_at, mask_of, mask_where}
 use Rattle.jm_marks.specs.Marks.{is_dead_object, is_at_dead, is_at_live, dead_mask_of, has_live}

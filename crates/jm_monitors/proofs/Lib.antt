@@ -6,3 +6,4 @@ pub mod StartLemmas
 pub mod DeathLemmas
 pub mod RankLemmas
 pub mod CountLemmas
+pub mod RestLemmas

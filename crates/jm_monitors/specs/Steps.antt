@@ -116,3 +116,13 @@ pub record IsAfterPass (m : Meaning) {S : Type 0} (Stands : S → List ℕ → T
 -- the flags after the death of o
 abbrev pub after_death : List Bool → ℕ → List Bool
 after_death dead o = slice_set dead o true
+
+-- the letter leaves the state as it is, and its words hit nothing
+pub record IsResting (m : Meaning) {S : Type 0} (Stands : S → List ℕ → Type 0) (letter : ℕ) (state : S) : Type 0 where
+  pub stays : (w : List ℕ) → Stands state w → Stands state (w ++ letter ∷ [])
+  pub quiet : (w : List ℕ) → Stands state w → (k : ℕ) → IsHit m w k → ⊥
+
+-- b is a mark, and the letter leaves each stored monitor above b as it is, none of which is cut
+pub record AreResting (m : Meaning) {S : Type 0} (Stands : S → List ℕ → Type 0) (dead : List Bool) (letter : ℕ) (b : Binding) (stored : List (Stored S)) (marks : List Binding) : Type 0 where
+  pub marked : Contains marks b
+  pub each : (s : Stored S) → Contains stored s → is_below b s.instance ≡ true → IsResting m Stands letter s.state × IsAliveState m Stands s.state (dead_mask_of dead s.instance)

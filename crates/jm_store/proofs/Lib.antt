@@ -17,3 +17,4 @@ pub mod FitLemmas
 pub mod ListLemmas
 pub mod ReportLemmas
 pub mod EndingLemmas
+pub mod RestLemmas

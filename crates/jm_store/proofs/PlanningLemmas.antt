@@ -37,7 +37,7 @@ use Rattle.jm_store.proofs.VisitLemmas.{asked_above, asked_unless}
 use Rattle.std.proofs.lemmas.Nat.Bits.{bit_at-zero}
 use Rattle.jm_semantics.proofs.MaskLemmas.{IsWithin}
 use Rattle.jm_semantics.proofs.MeaningLemmas.{cut-more_dead}
-use Rattle.jm_store.proofs.AfterLemmas.{AreSingle, AreSlotted, after_event}
+use Rattle.jm_store.proofs.AfterLemmas.{AreSingle, AreSlotted, after_event, in_after}
 
 cond_slot : (t : Bool) (k n : ℕ) → cond t (Some k) None ≡ Some n → (t ≡ true) × (k ≡ n)
 cond_slot true k n e = (refl, same_Some k n e)
@@ -306,6 +306,16 @@ module _ (m : Meaning) {S : Type 0} (Stands : S → List ℕ → Type 0) (letter
         | inr kept ↦ λ e ends. before s (subst (λ (l : List (Stored S)). Contains l s) stored kept.0) e (fewer e (mask_of s.instance) ends)
       ]
 
+  -- each monitor after the event is that of a move, or a stored one that it doesn't reach
+  each_after : (s : Stored S) → Contains (stored_in (after_moves placed new.monitors)) s
+      → ((move : Move S) × Contains placed move × (move.monitor ≡ s) × (move.stays ≡ true)) ⊎ (Contains (stored_in new.monitors) s × (is_below b s.instance ≡ false))
+  each_after s there =
+      let (k, at) = place_of (after_moves placed new.monitors) s there in
+      elim (in_after m Stands b dead new.monitors placed slotted single_new k s at) [
+        | inl moved ↦ inl (moved.move, moved.among, moved.monitor, moved.stays)
+        | inr kept ↦ inr (stored_at new.monitors k s kept.0, kept.1)
+      ]
+
   pub sorted_distinct : AreDistinct sorted
   sorted_distinct = distinct_permuted moves sorted order distinct
 
@@ -316,6 +326,7 @@ module _ (m : Meaning) {S : Type 0} (Stands : S → List ℕ → Type 0) (letter
     store = λ marks added. rw (is, moves') (carried_out marks (subst (λ (t : Binding). AreMarksAfter t old.marks marks) is (rw marks_same at added))).0;
     none_cut = rw (is, moves') (carried_out (old.marks ++ b ∷ []) (marks_push old.marks b)).1;
     ended = rw moves' (ended_after ending fewer before moved);
+    each = rw (is, moves') each_after;
     answer = rw (is, answer) (answer_sorted firings report);
   }
 
@@ -338,11 +349,13 @@ may_reach m {S} Stands letter b dead marks known ending stored marked ended s th
     apart off (inr is) unmarked =
         elim (asked_unless known ending letter (mask_of s.instance) b is) [
           | inl ask ↦ inl ask
-          | inr ends ↦ inr (off, λ w stands.
-              let over = ended s there letter ends w stands in
-              (over.0, cut-more_dead m (w ++ letter ∷ []) 0 (dead_mask_of dead (join s.instance b)) none_dead over.1))
+          | inr ends ↦ inr (
+            off,
+            λ w stands.
+                let over = ended s there letter ends w stands in
+                (over.0, cut-more_dead m (w ++ letter ∷ []) 0 (dead_mask_of dead (join s.instance b)) none_dead over.1),
+          )
         ]
-
 
 -- a plan is for the store with other letters too
 pub plan_for_ending : {S : Type 0} (store : Contents S) (ending : List ℕ) (plan : Plan S) → IsPlanFor store plan → IsPlanFor (with_ending store ending) plan

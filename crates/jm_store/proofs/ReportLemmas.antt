@@ -130,7 +130,7 @@ firings_below-increasing t hits (suc n) =
     after f p false h d = absurd (Contains-nil h d)
 
 -- ---- bits
-bit_from_set : (n k : ℕ) → IsBitSet n k → bit_at n k ≡ 1
+pub bit_from_set : (n k : ℕ) → IsBitSet n k → bit_at n k ≡ 1
 bit_from_set n k h =
     elim (cases_lt (bit_at n k) 1) [
       | inl low ↦

@@ -1,5 +1,6 @@
 -- What contracts see of a store, and what a plan is for it.
-use Rattle.std.specs.Prelude.{ℕ, ◌≡◌, ◌<◌, Bool, List, [], ◌∷◌, ◌++◌, Option, Some, None, Contains, length, ◌⊎◌, ◌≢◌, AllPairs}
+use Rattle.std.specs.Prelude.{ℕ, ◌≡◌, ◌<◌, Bool, true, false, List, [], ◌∷◌, ◌++◌, Option, Some, None, Contains, length, ◌⊎◌, ◌≢◌, AllPairs}
+use Rattle.jm_model.specs.Bindings.{is_below}
 use Rattle.jm_model.specs.Meanings.{Meaning}
 use Rattle.jm_model.specs.declared.binding.Binding.{Binding}
 use Rattle.jm_semantics.specs.Traces.{ParametricEvent}
@@ -64,12 +65,15 @@ abbrev pub monitors_after : {S : Type 0} → Contents S → Plan S → List (Opt
 monitors_after store plan = after_moves plan.moves.items store.monitors
 
 -- The plan is that of the event with this letter after the trace: what the store is to have is a store of the trace with the
--- event, in which no monitor above the event's binding is cut; the letters kept end its monitors; and the answer is the event's.
+-- event, in which no monitor above the event's binding is cut; the letters kept end its monitors; and the answer is the event's. Each
+-- of its monitors is that of a move, or a stored one that the event's binding isn't below.
 pub record IsPlanOf (m : Meaning) {S : Type 0} (Stands : S → List ℕ → Type 0) (trace : List ParametricEvent) (dead : List Bool) (letter : ℕ) (contents : Contents S) (plan : Plan S) : Type 0 where
   pub store : (marks : List Binding) → AreMarksAfter plan.binding contents.marks marks
       → IsStoreOf m Stands (trace ++ record { letter = letter; binding = plan.binding } ∷ []) dead (stored_in (monitors_after contents plan)) marks
   pub none_cut : NoneCutAbove m Stands plan.binding dead (stored_in (monitors_after contents plan))
   pub ended : AreEnding m Stands contents.ending (stored_in (monitors_after contents plan))
+  pub each : (s : Stored S) → Contains (stored_in (monitors_after contents plan)) s
+      → ((move : Move S) × Contains plan.moves.items move × (move.monitor ≡ s) × (move.stays ≡ true)) ⊎ (Contains (stored_of contents) s × (is_below plan.binding s.instance ≡ false))
   pub answer : IsAnswer m trace (record { letter = letter; binding = plan.binding }) plan.answer
 
 -- Instance t has the pair of a slot which no pair had and in which there was no monitor; or it had a pair before.

@@ -17,11 +17,7 @@ pub(crate) fn end_fewer(ending: &mut [u32; 256], domain: u8, letters: u32)
 }
 
 /// Keeps for the sets of parameters of the moves those letters that end the moved monitors.
-pub(crate) fn end_fewer_by<M: Monitor>(
-    ending: &mut [u32; 256],
-    rules: &M,
-    moves: &[Move<M::State>],
-)
+pub(crate) fn end_fewer_by<M: Monitor>(ending: &mut [u32; 256], rules: &M, moves: &[Move<M::State>])
     ensures fewer { EndsFewer ending.old ending.new }
     ensures ended { AreEnding (M.meaning (M.definition rules.now)) (M.StandsFor rules.now) ending.new (reached_by moves.now) }
 {

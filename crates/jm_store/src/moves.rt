@@ -1,6 +1,13 @@
 //! What an event comes to, before it is carried out.
-use jm_model::{Binding, Firings};
+ghost use Rattle.std.specs.Prelude.{◌≡◌, ◌<◌, IsTrue, true, false, Contains};
+ghost use Rattle.jm_monitors.specs.Steps.{IsResting};
+ghost use Rattle.jm_store.specs.declared.moves.Move.{Move as Change};
+
+use jm_model::{Binding, Firings, Letter, Monitor};
 use jm_monitors::Stored;
+
+/// From so many moves on it is worth finding out whether the event leaves the monitors as they are from now on.
+const MANY: usize = 8;
 
 /// What a monitor that an event reaches becomes.
 #[derive(Drop)]
@@ -19,4 +26,43 @@ pub struct Plan<S> {
     pub(crate) moves: Vec<Move<S>>,
     pub(crate) answer: Firings,
     pub(crate) copy: Firings,
+}
+
+impl<S> Plan<S> {
+    /// Whether no monitor changes or is made: all that the event reaches goes.
+    pub fn only_drops(&self) -> bool
+        ensures { IsTrue result → (move : Change S) → Contains self.now.moves.items move → move.stays ≡ false }
+    {
+        for step in &self.moves {
+            if step.stays {
+                return false;
+            }
+        }
+        true
+    }
+
+    /// Whether many monitors are reached, and the letter leaves each that stays as it is then.
+    pub fn rests<M: Monitor<State = S>>(&self, rules: &M, letter: Letter) -> bool
+        requires { letter.0 < (M.meaning (M.definition rules.now)).letters }
+        ensures { IsTrue result → (move : Change S) → Contains self.now.moves.items move → move.stays ≡ true → IsResting (M.meaning (M.definition rules.now)) (M.StandsFor rules.now) letter.0 move.monitor.state }
+    {
+        if self.moves.len() < MANY {
+            return false;
+        }
+        for step in &self.moves {
+            if step.stays && !is_resting(rules, &step.monitor.state, letter) {
+                return false;
+            }
+        }
+        true
+    }
+}
+
+/// Whether a letter leaves a state as it is, and the state hits nothing.
+fn is_resting<M: Monitor>(rules: &M, state: &M::State, letter: Letter) -> bool
+    requires { letter.0 < (M.meaning (M.definition rules.now)).letters }
+    ensures { IsTrue result → IsResting (M.meaning (M.definition rules.now)) (M.StandsFor rules.now) letter.0 state.now }
+{
+    let _letters = rules.letters();
+    rules.hits(state) == 0 && (rules.idle(state) >> letter.0) % 2 == 1
 }

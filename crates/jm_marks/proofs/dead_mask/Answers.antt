@@ -1,4 +1,4 @@
-use Rattle.std.proofs.Common.{◌<◌, ◌≤◌, ◌^◌, subst, sym, ◌∙◌, length, arith}
+use Rattle.std.proofs.Common.{◌<◌, ◌≤◌, ◌^◌, subst, sym, length, arith}
 use Rattle.jm_marks.proofs.DeadLemmas.{dead_mask-behind, dead_mask-room, dead_mask-before}
 use Rattle.jm_marks.proofs.dead_mask.Goals as goal
 

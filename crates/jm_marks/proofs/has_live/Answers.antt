@@ -1,4 +1,4 @@
-use Rattle.std.proofs.Common.{◌≡◌, ◌<◌, length, sym, ◌∙◌, arith}
+use Rattle.std.proofs.Common.{sym, ◌∙◌, arith}
 use Rattle.jm_marks.proofs.DeadLemmas.{has_live-found, has_live-passed, has_live-end}
 use Rattle.jm_marks.proofs.has_live.Goals as goal
 

@@ -1,7 +1,7 @@
 use Rattle.std.proofs.Common.{sym, subst, length}
 use Rattle.jm_model.specs.declared.binding.Binding.{Binding}
 use Rattle.jm_index.specs.Index.{AreBelow}
-use Rattle.jm_core.proofs.FireLemmas.{carried_out}
+use Rattle.jm_core.proofs.FireLemmas.{carried_out, rest_followed, rest_untouched}
 use Rattle.jm_core.proofs.firing.fire.Goals as goal
 
 pub returns-in-Ok-clause-fits : goal.returns-in-Ok-clause-fits
@@ -14,7 +14,21 @@ returns-in-Ok-clause-works g c =
     let m = g.M.Monitor.meaning (g.M.Monitor.definition c.args.rules.now) in
     let Stands = g.M.Monitor.StandsFor c.args.rules.now in
     let done = c.commit-answer.ensures in
-    λ trace store ended.
-    let out = carried_out m Stands trace c.args.objects.now c.args.letter.0 c.args.binding.now c.counted_plan.new.store c.commit-answer.new.self c.in-Ok.plan c.commit-answer.result.0
-    (c.in-Ok.ensures.works trace store ended) c.in-Ok.ensures.binding done.monitors done.marks done.ending done.answer in
-    (c.requires.live, out.0, out.1)
+    λ trace store ended rested.
+    let works = c.in-Ok.ensures.works trace store ended in
+    let before = c.counted_plan.new.store in
+    let after = c.commit-answer.new.self in
+    let out = carried_out m Stands trace c.args.objects.now c.args.letter.0 c.args.binding.now before after c.in-Ok.plan c.commit-answer.result.0
+    works c.in-Ok.ensures.binding done.monitors done.marks done.ending done.answer in
+    let known = rest_followed m Stands trace c.args.objects.now c.args.letter.0 c.args.binding.now before after c.in-Ok.plan c.args.rest.now c.follow.new.self c.rests-rests.result c.only_drops-drops.result
+    works c.in-Ok.ensures.binding done.monitors done.marks
+    (rest_untouched m Stands c.args.objects.now c.args.store.now before c.args.rest.now c.in-Ok.ensures.untouched.stored c.in-Ok.ensures.untouched.marks rested)
+    c.rests-rests.ensures c.only_drops-drops.ensures c.follow.ensures in
+    ((c.requires.live, out.0, out.1), known)
+
+pub returns-in-Err-clause-works : goal.returns-in-Err-clause-works
+returns-in-Err-clause-works g c =
+    let m = g.M.Monitor.meaning (g.M.Monitor.definition c.args.rules.now) in
+    let Stands = g.M.Monitor.StandsFor c.args.rules.now in
+    let same = c.in-Err.ensures.untouched in
+    λ trace store ended rested. ((c.requires.live, same), rest_untouched m Stands c.args.objects.now c.args.store.now c.counted_plan.new.store c.args.rest.now same.stored same.marks rested)

@@ -3,6 +3,7 @@ use Rattle.jm_model.specs.declared.step.Entry.{Entry}
 use Rattle.jm_core.specs.Inside.{IsCore}
 use Rattle.jm_core.proofs.FitLemmas.{fits_history}
 use Rattle.jm_core.proofs.CoreLemmas.{core_after_pass}
+use Rattle.jm_core.proofs.FireLemmas.{rest_none}
 use Rattle.jm_core.proofs.prop.Prop.pass.Goals as goal
 
 pub invariant_of-self : goal.invariant_of-self
@@ -11,12 +12,13 @@ invariant_of-self g c =
     let Stands = g.M.Monitor.StandsFor c.self.inside.rules in
     let done = c.dispose-kept.ensures in
     let small : c.dispose-kept.result < 2 ^ 64 = c.dispose-kept.type_inv in
-    subst (λ (l : List Entry). IsCore m Stands l c.self.inside.objects c.dispose-kept.new.self) (sym c.push.ensures)
-    (core_after_pass m Stands c.self.inside.history c.self.inside.objects c.self.inside.store c.dispose-kept.new.self c.args.node c.dispose-kept.result c.self.invariant c.requires done.pass small done.left done.closed done.fits done.ending)
+    let core = subst (λ (l : List Entry). IsCore m Stands l c.self.inside.objects c.dispose-kept.new.self) (sym c.push.ensures)
+    (core_after_pass m Stands c.self.inside.history c.self.inside.objects c.self.inside.store c.dispose-kept.new.self c.args.node c.dispose-kept.result c.self.invariant.0 c.requires done.pass small done.left done.closed done.fits done.ending) in
+    (core, rest_none m Stands c.self.inside.objects c.dispose-kept.new.self c.forget.new.self c.forget.ensures)
 
 pub returns-clause-legal : goal.returns-clause-legal
-returns-clause-legal g c = (invariant_of-self g c).legal
+returns-clause-legal g c = (invariant_of-self g c).0.legal
 
 pub returns-clause-fits : goal.returns-clause-fits
 returns-clause-fits g c =
-    fits_history (g.M.Monitor.meaning (g.M.Monitor.definition c.self.inside.rules)) (g.M.Monitor.StandsFor c.self.inside.rules) c.push.new.self c.self.inside.objects c.dispose-kept.new.self (invariant_of-self g c)
+    fits_history (g.M.Monitor.meaning (g.M.Monitor.definition c.self.inside.rules)) (g.M.Monitor.StandsFor c.self.inside.rules) c.push.new.self c.self.inside.objects c.dispose-kept.new.self (invariant_of-self g c).0
