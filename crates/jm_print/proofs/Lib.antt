@@ -6,3 +6,4 @@ pub mod HistoriesTold
 pub mod MarkedLines
 pub mod TextsTold
 pub mod RunLemmas
+pub mod ListLemmas

@@ -1,4 +1,5 @@
 use crate::print::print;
+use crate::rules::{check, coenable};
 use case_events::or_fault;
 use cases::Case;
 use std::alloc::{AllocError, Global};
@@ -7,6 +8,8 @@ use std::alloc::{AllocError, Global};
 pub(crate) fn answer(alloc: Global, case: &Case) -> Result<String, AllocError> {
     match case.verb.as_str() {
         "print" => or_fault(alloc, print(alloc, case)),
+        "check" => or_fault(alloc, check(alloc, case)),
+        "coenable" => or_fault(alloc, coenable(alloc, case)),
         _ => laws(alloc),
     }
 }

@@ -1,8 +1,9 @@
-//! The cases of printed histories.
+//! The cases of printed histories, and of what specifications declare and need.
 #![tactic(auto)]
 
 mod answer;
 mod print;
+mod rules;
 mod shop;
 
 use std::io;

@@ -67,7 +67,7 @@ fn handlers_of(alloc: Global, blocks: &str, table: &EventTable) -> Result<Vec<Ha
     Ok(handlers)
 }
 
-fn names(alloc: Global, words: &str) -> Result<Names, NoMemory> {
+pub(crate) fn names(alloc: Global, words: &str) -> Result<Names, NoMemory> {
     let mut names = Names::new(alloc);
     for word in words.split_whitespace() {
         if names.len() < 100 {

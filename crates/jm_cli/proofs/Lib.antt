@@ -1,0 +1,6 @@
+mod Named
+mod Numbers
+mod Positions
+mod Runs
+mod Saying
+mod Reading

@@ -1,0 +1,80 @@
+-- The words of the table spell their command.
+use Rattle.std.proofs.Common.{ℕ, ◌≡◌, ◌+◌, ◌<◌, ◌≤◌, Bool, true, false, not, List, [], ◌∷◌, ◌++◌, length, get_or, Some, codes, decimal, inl, inr, refl, sym, ◌∙◌, ap, subst, position, bytes_eq, nat_eq, nat_lt, nat_le, arith, rules}
+use Rattle.std.specs.List.{list_all, starts_with, position_or_len}
+use Rattle.std.specs.Char.{is_ascii_digit}
+use Rattle.std.specs.Str.Parse.{digits_value}
+use Rattle.std.proofs.Math.Seq.{take-append_seam, drop-append-add}
+use Rattle.std.proofs.lemmas.Bool.{false≢true, lt-ltb}
+use Rattle.std.proofs.lemmas.Bool.Decides.{eqb_tells}
+use Rattle.std.proofs.lemmas.List.{length-append}
+use Rattle.std.proofs.lemmas.Fmt.{decimal_nonempty, length-decimal-le, digits_decimal, digits_value-decimal, first_decimal}
+use Rattle.jm_cli.specs.Words.{CommandWords, is_name, are_names, is_short_number, rounds_of, run_of, command_of}
+use Rattle.jm_cli.specs.Words.CommandWords.{Replay, Run, Check, Coenable, Gen}
+use Rattle.jm_cli.specs.Spelling.{AreNames, Spells}
+use Rattle.jm_cli.proofs.Numbers.{own}
+use Rattle.jm_cli.proofs.Saying.{both, same_bytes}
+
+names_told : (words : List (List ℕ)) → AreNames words → are_names words ≡ true
+names_told words names = search (rules, names.some, names.few, names.each)
+
+-- ---- the separator
+no_separator_by : (x : List ℕ) (b : Bool) → bytes_eq (codes "--") x ≡ b → is_name x ≡ true → b ≡ false
+no_separator_by x false e name = refl
+no_separator_by x true e name =
+    let bad : is_name (codes "--") ≡ true = subst (λ y. is_name y ≡ true) (sym (same_bytes (codes "--") x e)) name in
+    absurd (false≢true bad)
+
+-- names stand before the separator
+first_separator : (specs rest : List (List ℕ)) → list_all is_name specs ≡ true
+    → position_or_len (bytes_eq (codes "--")) (specs ++ codes "--" ∷ rest) ≡ length specs
+first_separator [] rest names = refl
+first_separator (x ∷ specs) rest names =
+    let b = both (is_name x) (list_all is_name specs) names in
+    let other : bytes_eq (codes "--") x ≡ false = no_separator_by x (bytes_eq (codes "--") x) refl b.0 in
+    let up : 1 + length specs ≡ length (x ∷ specs) = omega arith in
+    rw other (ap (λ n. 1 + n) (first_separator specs rest b.1) ∙ up)
+
+separator_at : (specs scripts : List (List ℕ)) → list_all is_name specs ≡ true
+    → position (bytes_eq (codes "--")) (specs ++ codes "--" ∷ scripts) ≡ Some (length specs)
+separator_at specs scripts names =
+    let first = first_separator specs scripts names in
+    let within : nat_lt (length specs) (length (specs ++ codes "--" ∷ scripts)) ≡ true =
+    lt-ltb (length specs) (length (specs ++ codes "--" ∷ scripts)) (omega (arith, length-append specs (codes "--" ∷ scripts))) in
+    rw (first, within) refl
+
+run_told : (specs scripts : List (List ℕ)) → AreNames specs → AreNames scripts
+    → run_of (specs ++ codes "--" ∷ scripts) ≡ Some (Run specs scripts)
+run_told specs scripts first second =
+    let at = separator_at specs scripts first.each in
+    rw (at, take-append_seam specs (codes "--" ∷ scripts), drop-append-add specs (codes "--" ∷ scripts) 1, names_told specs first, names_told scripts second) refl
+
+-- ---- the number
+begins_past_zero : (word : List ℕ) → 48 < get_or word 0 0 → not (starts_with nat_eq word (codes "0")) ≡ true
+begins_past_zero [] past = refl
+begins_past_zero (d ∷ word) past =
+    let other : nat_eq 48 d ≡ false = elim (eqb_tells 48 d) [
+      | inl same ↦ absurd (omega (arith, past, same.1))
+      | inr other ↦ other.0
+    ] in
+    rw other refl
+
+short_decimal : (n : ℕ) → 1 ≤ n → n ≤ 8000 → is_short_number (decimal n) ≡ true
+short_decimal n some few =
+    let nonempty = decimal_nonempty n (omega arith) in
+    let short = length-decimal-le 4 n (omega arith) (omega arith) (omega arith) in
+    let all : list_all is_ascii_digit (decimal n) ≡ true = digits_decimal own n (omega arith) in
+    let front = begins_past_zero (decimal n) (first_decimal n (omega arith) (omega arith)) in
+    search (rules, nonempty, short, all, front)
+
+rounds_told : (n : ℕ) → 1 ≤ n → n ≤ 8000 → rounds_of (decimal n) ≡ Some n
+rounds_told n some few =
+    let value : digits_value 10 (decimal n) ≡ n = digits_value-decimal own n (omega arith) in
+    let within : nat_le n 8000 ≡ true = search rules in
+    rw (short_decimal n some few, value, within) refl
+
+pub told : (words : List (List ℕ)) (c : CommandWords) → Spells words c → command_of words ≡ Some c
+told words (Replay spec script) s = rw (s.0, s.1, s.2) refl
+told words (Run specs scripts) s = rw s.0 (run_told specs scripts s.1 s.2)
+told words (Check specs) s = rw (s.0, names_told specs s.1) refl
+told words (Coenable specs) s = rw (s.0, names_told specs s.1) refl
+told words (Gen n) s = rw (s.0, rounds_told n s.1 s.2) refl

@@ -1,0 +1,20 @@
+-- What words spell each command, as a table.
+use Rattle.std.specs.Prelude.{ℕ, ◌≡◌, ◌≤◌, true, List, [], ◌∷◌, ◌++◌, length, codes, decimal}
+use Rattle.std.specs.List.{list_all}
+use Rattle.jm_cli.specs.Words.{CommandWords, is_name}
+use Rattle.jm_cli.specs.Words.CommandWords.{Replay, Run, Check, Coenable, Gen}
+
+-- 1 to 16 words, each of which may name a file
+pub record AreNames (words : List (List ℕ)) : Type 0 where
+  pub some : 1 ≤ length words
+  pub few : length words ≤ 16
+  pub each : list_all is_name words ≡ true
+
+abbrev pub Spells : List (List ℕ) → CommandWords → Type 0
+Spells words (Replay spec script) =
+    (words ≡ codes "replay" ∷ spec ∷ script ∷ []) × (is_name spec ≡ true) × (is_name script ≡ true)
+Spells words (Run specs scripts) =
+    (words ≡ codes "run" ∷ (specs ++ codes "--" ∷ scripts)) × AreNames specs × AreNames scripts
+Spells words (Check specs) = (words ≡ codes "check" ∷ specs) × AreNames specs
+Spells words (Coenable specs) = (words ≡ codes "coenable" ∷ specs) × AreNames specs
+Spells words (Gen n) = (words ≡ codes "gen" ∷ decimal n ∷ []) × (1 ≤ n) × (n ≤ 8000)

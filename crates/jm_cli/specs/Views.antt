@@ -1,0 +1,21 @@
+-- What a command that was read holds, in the words of `Words`.
+use Rattle.std.specs.Prelude.{◌≡◌, map, string_bytes, Option, Some, None, Result, Err, MatchResult}
+use Rattle.jm_cli.specs.declared.command.Command.{Command}
+use Rattle.jm_cli.specs.declared.command.Command.TheVariants as read
+use Rattle.jm_cli.specs.declared.command.WordsError.{WordsError}
+use Rattle.jm_cli.specs.declared.command.WordsError.TheVariants.{Usage, NoMemory}
+use Rattle.jm_cli.specs.Words.{CommandWords}
+use Rattle.jm_cli.specs.Words.CommandWords.{Replay, Run, Check, Coenable, Gen}
+
+-- the command, with its names as bytes
+abbrev pub command_words : Command → CommandWords
+command_words (read.Replay spec script) = Replay (string_bytes spec) (string_bytes script)
+command_words (read.Run specs scripts) = Run (map string_bytes specs.items) (map string_bytes scripts.items)
+command_words (read.Check specs) = Check (map string_bytes specs.items)
+command_words (read.Coenable specs) = Coenable (map string_bytes specs.items)
+command_words (read.Gen n) = Gen n
+
+-- words that spell this command, or none, were read
+abbrev pub Reads : Option CommandWords → Result Command WordsError → Type 0
+Reads None result = result ≡ Err Usage
+Reads (Some c) result = MatchResult result (λ command. command_words command ≡ c) (λ e. e ≡ NoMemory)

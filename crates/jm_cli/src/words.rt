@@ -1,0 +1,105 @@
+//! Names and numbers among the words.
+ghost use Rattle.std.specs.Prelude.{◌&&◌, nat_lt, nat_le, ◌≡◌, ◌<◌, length, map, string_bytes, codes, Some, None, IfOk, IfSome, IsOkUnless, position};
+ghost use Rattle.std.specs.Char.{is_ascii_digit};
+ghost use Rattle.std.specs.List.{list_all};
+ghost use Rattle.std.specs.Str.{bytes_eq};
+ghost use Rattle.jm_cli.specs.Words.{is_name, are_names, is_short_number, rounds_of};
+
+use crate::command::WordsError;
+use std::alloc::Global;
+
+/// The most names of one kind.
+const MAX_NAMES: usize = 16;
+
+/// The most digits of a number, and its greatest value.
+const MAX_DIGITS: usize = 4;
+
+const MAX_ROUNDS: u32 = 8000;
+
+/// Whether a word may name a file.
+pub(crate) fn is_name(word: &str) -> bool
+    ensures { result ≡ is_name word.now }
+{
+    !word.as_bytes().starts_with(b"-")
+}
+
+/// Whether each word is a name.
+fn is_each_a_name(words: &[String]) -> bool
+    ensures { result ≡ list_all (λ word. is_name (string_bytes word)) words.now }
+{
+    words.iter().all(|word| is_name(word.as_str()))
+}
+
+/// Whether there is a word, and no more than a command may have.
+fn are_few(words: &[String]) -> bool
+    ensures { result ≡ (nat_lt 0 (length words.now) && nat_le (length words.now) 16) }
+{
+    !words.is_empty() && words.len() <= MAX_NAMES
+}
+
+/// Whether the words are as many names as a command may have.
+pub(crate) fn are_names(words: &[String]) -> bool
+    ensures { result ≡ are_names (map string_bytes words.now) }
+{
+    are_few(words) && is_each_a_name(words)
+}
+
+/// The place of the first separator.
+pub(crate) fn separator(words: &[String]) -> Option<usize>
+    ensures value { result ≡ position (λ word. bytes_eq (codes "--") (string_bytes word)) words.now }
+    ensures within { IfSome result (λ place. place < length words.now) }
+{
+    words.iter().position(|word| word.as_str() == "--")
+}
+
+/// The same text.
+pub(crate) fn copy(alloc: Global, word: &str) -> Result<String, WordsError>
+    ensures ok { IfOk result (λ copy. string_bytes copy ≡ word.now) }
+    ensures err { IsOkUnless result WordsError.NoMemory }
+{
+    match String::from_str(alloc, word) {
+        Ok(copy) => Ok(copy),
+        Err(_) => Err(WordsError::NoMemory),
+    }
+}
+
+/// The same texts.
+pub(crate) fn copies(alloc: Global, words: &[String]) -> Result<Vec<String>, WordsError>
+    ensures ok { IfOk result (λ copies. map string_bytes copies.items ≡ map string_bytes words.now) }
+    ensures err { IsOkUnless result WordsError.NoMemory }
+{
+    let mut copies = Vec::new(alloc);
+    for word in words {
+        let copy = copy(alloc, word.as_str())?;
+        let Ok(()) = copies.push(copy) else {
+            return Err(WordsError::NoMemory);
+        };
+    }
+    Ok(copies)
+}
+
+/// The number of rounds that a word gives.
+pub(crate) fn rounds(word: &str) -> Option<u32>
+    ensures { result ≡ rounds_of word.now }
+{
+    if !is_short_number(word.as_bytes()) {
+        return None;
+    }
+    match word.parse::<u32>() {
+        Ok(n) if n <= MAX_ROUNDS => Some(n),
+        _ => None,
+    }
+}
+
+/// Whether a word is 1 to 4 digits without a leading zero.
+fn is_short_number(word: &[u8]) -> bool
+    ensures { result ≡ is_short_number word.now }
+{
+    !word.is_empty() && word.len() <= MAX_DIGITS && are_digits(word) && !word.starts_with(b"0")
+}
+
+fn are_digits(word: &[u8]) -> bool
+    ensures { result ≡ list_all is_ascii_digit word.now }
+{
+    word.iter().all(|byte| byte.is_ascii_digit())
+}

@@ -1,0 +1,2 @@
+pub mod Specifications
+pub mod Scripts

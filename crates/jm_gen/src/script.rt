@@ -1,0 +1,95 @@
+//! A script of a workload.
+ghost use Rattle.std.specs.Prelude.{◌≡◌, ◌≤◌, ◌<◌, ◌++◌, codes, IfOk, OnOk};
+ghost use Rattle.jm_gen.specs.Scripts.{object, step_line, create_line, round_over, passes_after, round_text, script_text};
+
+use crate::text::Text;
+use std::alloc::{AllocError, Global};
+
+/// After how many rounds a pass comes.
+const ROUNDS_TO_A_PASS: u32 = 16;
+
+/// The script of a number, with `n` rounds.
+pub(crate) fn script(alloc: Global, number: u32, n: u32) -> Result<Vec<u8>, AllocError>
+    requires { n ≤ 8000 }
+    ensures { IfOk result (λ text. text.items ≡ script_text number n) }
+{
+    let mut text = Text::new(alloc);
+    for round in 0..n {
+        add_round(alloc, &mut text, number, round)?;
+    }
+    Ok(text.into_bytes())
+}
+
+/// Adds a round, and the passes that follow it.
+#[tactic(auto, unfolding(crate::specs::Scripts::round_text))]
+fn add_round(alloc: Global, text: &mut Text, number: u32, round: u32) -> Result<(), AllocError>
+    requires { round < 8000 }
+    ensures { OnOk result (text.new ≡ text.old ++ round_text number round) }
+{
+    let collection = object(alloc, "c", number, round)?;
+    let iterator = object(alloc, "i", number, round)?;
+    add_steps(text, collection.as_slice(), iterator.as_slice())?;
+    add_passes(text, round)
+}
+
+/// The name of an object of a round, behind the letter of its kind.
+#[tactic(auto, unfolding(crate::specs::Scripts::object))]
+fn object(alloc: Global, kind: &str, number: u32, round: u32) -> Result<Vec<u8>, AllocError>
+    ensures { IfOk result (λ text. text.items ≡ object kind.now number round) }
+{
+    let mut text = Text::new(alloc);
+    text.push(kind)?;
+    text.number(number)?;
+    text.push("_")?;
+    text.number(round)?;
+    Ok(text.into_bytes())
+}
+
+/// Adds the steps of a round over a collection and its iterator.
+#[tactic(auto, unfolding(crate::specs::Scripts::round_over))]
+fn add_steps(text: &mut Text, collection: &[u8], iterator: &[u8]) -> Result<(), AllocError>
+    ensures { OnOk result (text.new ≡ text.old ++ round_over collection.now iterator.now) }
+{
+    add_create(text, collection, iterator)?;
+    add_step(text, "UnsafeIter.update ", collection)?;
+    add_step(text, "UnsafeIter.next ", iterator)?;
+    add_step(text, "HasNext.next ", iterator)?;
+    add_step(text, "death ", iterator)?;
+    add_step(text, "death ", collection)?;
+    Ok(())
+}
+
+/// Adds the step that makes an iterator of a collection.
+#[tactic(auto, unfolding(crate::specs::Scripts::create_line))]
+fn add_create(text: &mut Text, collection: &[u8], iterator: &[u8]) -> Result<(), AllocError>
+    ensures { OnOk result (text.new ≡ text.old ++ create_line collection.now iterator.now) }
+{
+    text.push("UnsafeIter.create ")?;
+    text.bytes(collection)?;
+    text.push(" ")?;
+    text.bytes(iterator)?;
+    text.push("\n")?;
+    Ok(())
+}
+
+/// Adds a step on an object, behind the step's words.
+#[tactic(auto, unfolding(crate::specs::Scripts::step_line))]
+fn add_step(text: &mut Text, words: &str, object: &[u8]) -> Result<(), AllocError>
+    ensures { OnOk result (text.new ≡ text.old ++ step_line words.now object.now) }
+{
+    text.push(words)?;
+    text.bytes(object)?;
+    text.push("\n")
+}
+
+/// Adds a pass on each specification, where one follows the round.
+#[tactic(auto, unfolding(crate::specs::Scripts::passes_after))]
+fn add_passes(text: &mut Text, round: u32) -> Result<(), AllocError>
+    requires { round < 8000 }
+    ensures { OnOk result (text.new ≡ text.old ++ passes_after round) }
+{
+    if (round + 1) % ROUNDS_TO_A_PASS == 0 {
+        text.push("pass UnsafeIter\npass HasNext\n")?;
+    }
+    Ok(())
+}
