@@ -8,3 +8,4 @@ pub mod MeaningLemmas
 pub mod ReadingLemmas
 pub mod SpellingLemmas
 pub mod FittingLemmas
+pub mod KnownLemmas

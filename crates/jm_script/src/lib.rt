@@ -6,6 +6,7 @@
 
 mod catalog;
 mod event;
+mod known;
 mod laws;
 mod line;
 mod objects;

@@ -4,8 +4,10 @@ ghost use Rattle.jm_script.specs.Statements.{statement_of};
 ghost use Rattle.jm_script.specs.Meanings.{statement_meaning, line_meaning};
 ghost use Rattle.jm_script.specs.Answers.{IsReadAs};
 ghost use Rattle.jm_script.specs.Fitting.{FitsTarget};
+ghost use Rattle.jm_script.specs.Known.{IsSound};
 
 use crate::catalog::Catalog;
+use crate::known::Known;
 use crate::script::Target;
 use crate::statement::{Place, death_line, event_line, pass_line};
 use crate::words::{is_word, read_words};
@@ -21,8 +23,11 @@ pub fn read_line<'a>(
     line: &'a [u8],
     words: &mut Vec<&'a [u8]>,
     names: &mut Names,
+    known: &mut Option<Known<'a>>,
 ) -> Result<Option<Target>, ScriptError>
-    requires { length names.old ≤ 65536 }
+    requires few { length names.old ≤ 65536 }
+    requires known { IfSome known.old (IsSound catalog.now) }
+    ensures known { IfSome known.new (IsSound catalog.now) }
     ensures fits { IfOk result (λ target. IfSome target (FitsTarget catalog.now (length names.new))) }
     ensures read { IsReadAs (line_meaning catalog.now place.count place.line line.now names.old) names.old result names.new }
 {
@@ -31,20 +36,23 @@ pub fn read_line<'a>(
     };
     match words.as_slice() {
         [] => Ok(None),
-        [word, rest @ ..] => words_line(alloc, catalog, place, word, rest, names),
+        [word, rest @ ..] => words_line(alloc, catalog, place, word, rest, names, known),
     }
 }
 
 /// The same of a line with words, by its first word and the rest.
-fn words_line(
+fn words_line<'a>(
     alloc: Global,
     catalog: &Catalog,
     place: Place,
-    word: &[u8],
+    word: &'a [u8],
     rest: &[&[u8]],
     names: &mut Names,
+    known: &mut Option<Known<'a>>,
 ) -> Result<Option<Target>, ScriptError>
-    requires { length names.old ≤ 65536 }
+    requires few { length names.old ≤ 65536 }
+    requires known { IfSome known.old (IsSound catalog.now) }
+    ensures known { IfSome known.new (IsSound catalog.now) }
     ensures fits { IfOk result (λ target. IfSome target (FitsTarget catalog.now (length names.new))) }
     ensures read { IsReadAs (statement_meaning catalog.now place.count place.line names.old (statement_of word.now (map (λ w. w.now) rest.now))) names.old result names.new }
 {
@@ -53,6 +61,6 @@ fn words_line(
     } else if is_word(word, b"pass") {
         pass_line(catalog, place, rest)
     } else {
-        event_line(alloc, catalog, place, word, rest, names)
+        event_line(alloc, catalog, place, word, rest, names, known)
     }
 }

@@ -36,6 +36,7 @@ pub fn read_script(
 {
     let mut lines = Vec::new(alloc);
     let mut words = Vec::new(alloc);
+    let mut known = None;
     let mut number = 0;
     for line in bytes.split(|b| *b == b'\n') {
         number += 1;
@@ -43,7 +44,7 @@ pub fn read_script(
             line: number,
             count: *count + lines.len() as u32,
         };
-        let target = match read_line(alloc, catalog, place, line, &mut words, objects) {
+        let target = match read_line(alloc, catalog, place, line, &mut words, objects, &mut known) {
             Ok(target) => target,
             Err(error) => {
                 *count = count_left(error, place.count, *count);

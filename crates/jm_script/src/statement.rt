@@ -8,9 +8,11 @@ ghost use Rattle.jm_script.specs.Objects.{mentioned, numbers_of};
 ghost use Rattle.jm_script.specs.Meanings.{mentioning, statement_meaning};
 ghost use Rattle.jm_script.specs.Answers.{IsStoppedBy, IsReadAs};
 ghost use Rattle.jm_script.specs.Fitting.{FitsTarget};
+ghost use Rattle.jm_script.specs.Known.{IsEventOf, IsSound};
 
 use crate::catalog::Catalog;
-use crate::event::named_event;
+use crate::event::{NamedEvent, named_event};
+use crate::known::{Known, known_event};
 use crate::objects::{are_objects, have_room, mention};
 use crate::script::Target;
 use crate::words::{dot_place, is_name, text};
@@ -48,31 +50,25 @@ impl Place {
     }
 }
 
-/// A line `SPEC.EVENT OBJECT..`, by its first word and its objects.
-pub fn event_line(
+/// A line `SPEC.EVENT OBJECT..`, by its first word and its objects. The word is known then.
+pub fn event_line<'a>(
     alloc: Global,
     catalog: &Catalog,
     place: Place,
-    word: &[u8],
+    word: &'a [u8],
     objects: &[&[u8]],
     names: &mut Names,
+    known: &mut Option<Known<'a>>,
 ) -> Result<Option<Target>, ScriptError>
-    requires { length names.old ≤ 65536 }
+    requires few { length names.old ≤ 65536 }
+    requires known { IfSome known.old (IsSound catalog.now) }
+    ensures known { IfSome known.new (IsSound catalog.now) }
     ensures fits { IfOk result (λ target. IfSome target (FitsTarget catalog.now (length names.new))) }
     ensures read { IsReadAs (statement_meaning catalog.now place.count place.line names.old (event_statement word.now (map (λ w. w.now) objects.now))) names.old result names.new }
 {
-    let dot = dot_place(word);
-    let spec = &word[..dot];
-    let event = behind(word, dot);
-    if !is_event_line(spec, event, objects) {
-        return Err(place.bad_line());
-    }
-    if place.is_full() {
-        return Err(place.too_many_lines());
-    }
-    let event = match named_event(catalog, place.line, spec, event, objects.len()) {
+    let event = match event_of(catalog, place, word, objects, known) {
         Ok(event) => event,
-        Err(fault) => return Err(ScriptError::Bad(fault)),
+        Err(error) => return Err(error),
     };
     let numbers = match numbers(alloc, place, objects, names) {
         Ok(numbers) => numbers,
@@ -84,6 +80,62 @@ pub fn event_line(
         letter: event.letter,
         binding,
     }))
+}
+
+/// The event of a line, if it has one more step; it is looked up where it isn't the known one.
+fn event_of<'a>(
+    catalog: &Catalog,
+    place: Place,
+    word: &'a [u8],
+    objects: &[&[u8]],
+    known: &mut Option<Known<'a>>,
+) -> Result<NamedEvent, ScriptError>
+    requires { IfSome known.old (IsSound catalog.now) }
+    ensures known { IfSome known.new (IsSound catalog.now) }
+    ensures ok { IfOk result (IsEventOf catalog.now word.now (length objects.now)) }
+    ensures objects { OnOk result (IsTrue (list_all is_object (map (λ w. w.now) objects.now))) }
+    ensures room { OnOk result (place.count < 200000) }
+    ensures err { (names : List (List ℕ)) → IfErr result (λ error. IsStoppedBy (statement_meaning catalog.now place.count place.line names (event_statement word.now (map (λ w. w.now) objects.now))) names error names) }
+{
+    if let Some(event) = known_event(known, word, objects.len()) {
+        if are_objects(objects) && !place.is_full() {
+            return Ok(event);
+        }
+    }
+    let event = new_event(catalog, place, word, objects)?;
+    *known = Some(Known {
+        word,
+        count: objects.len(),
+        event,
+    });
+    Ok(event)
+}
+
+/// The same by a look-up.
+fn new_event(
+    catalog: &Catalog,
+    place: Place,
+    word: &[u8],
+    objects: &[&[u8]],
+) -> Result<NamedEvent, ScriptError>
+    ensures ok { IfOk result (IsEventOf catalog.now word.now (length objects.now)) }
+    ensures objects { OnOk result (IsTrue (list_all is_object (map (λ w. w.now) objects.now))) }
+    ensures room { OnOk result (place.count < 200000) }
+    ensures err { (names : List (List ℕ)) → IfErr result (λ error. IsStoppedBy (statement_meaning catalog.now place.count place.line names (event_statement word.now (map (λ w. w.now) objects.now))) names error names) }
+{
+    let dot = dot_place(word);
+    let spec = &word[..dot];
+    let event = behind(word, dot);
+    if !is_event_line(spec, event, objects) {
+        return Err(place.bad_line());
+    }
+    if place.is_full() {
+        return Err(place.too_many_lines());
+    }
+    match named_event(catalog, place.line, spec, event, objects.len()) {
+        Ok(event) => Ok(event),
+        Err(fault) => Err(ScriptError::Bad(fault)),
+    }
 }
 
 /// What stands behind a place of a word, if anything does.

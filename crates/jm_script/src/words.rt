@@ -7,7 +7,7 @@ ghost use Rattle.jm_script.specs.Lines.{is_hash, is_blank, content_of, words_of}
 ghost use Rattle.jm_script.specs.Statements.{is_dot, is_name_byte, is_name, is_object_byte, is_object};
 
 use jm_model::NoMemory;
-use std::str::from_utf8;
+use std::str::from_utf8_unchecked;
 
 /// Puts the words of a line in the place of those that are there.
 pub fn read_words<'a>(line: &'a [u8], words: &mut Vec<&'a [u8]>) -> Result<(), NoMemory>
@@ -123,13 +123,10 @@ fn is_object_byte(b: u8) -> bool
     is_name_byte(b) || b == b'.' || b == b'@' || b == b'-'
 }
 
-/// The text of a word.
+/// The text of a word. It isn't checked again: the bytes of a name are ASCII.
 pub fn text(word: &[u8]) -> &str
     requires { IsUtf8 word.now }
     ensures { result.now ≡ word.now }
 {
-    match from_utf8(word) {
-        Ok(text) => text,
-        Err(_) => unreachable!(),
-    }
+    unsafe { from_utf8_unchecked(word) }
 }

@@ -15,6 +15,7 @@ loop-line-init c =
     record {
       counted = refl;
       numbered = refl;
+      known = tt;
       fitting = rw c.new-lines.ensures.items (All-nil (λ l. FitsTarget c.args.catalog.now (length c.args.objects.now) l.target));
       read = rw c.new-lines.ensures.items (read_nothing c.args.catalog.now c.args.bytes.now c.args.count.now c.args.objects.now c.requires.few_objects c.requires.few_steps (IsExtension-none c.args.objects.now));
     }
@@ -35,6 +36,7 @@ loop-line-preserved-in_default c =
     record {
       counted = c.loop-line.invariant.counted;
       numbered = ap (λ n. n + 1) c.loop-line.invariant.numbered ∙ sym (length_push c.loop-line.yielded c.in-Some.line);
+      known = c.read_line.ensures.known;
       fitting = FitsCatalog-more c.args.catalog.now (length c.loop-line.objects) (length c.read_line.new.names) (more_names c.args.catalog.now c.args.bytes.now _ c.args.count.now c.args.objects.now c.loop-line.lines.items c.loop-line.objects c.loop-line.number c.loop-line.invariant.read c.in-Some.line.now here.0 here.1 None c.read_line.new.names meaning) c.loop-line.lines.items c.loop-line.invariant.fitting;
       read = no_step c.args.catalog.now c.args.bytes.now _ c.args.count.now c.args.objects.now c.loop-line.lines.items c.loop-line.objects c.loop-line.number c.loop-line.invariant.read c.in-Some.line.now here.0 here.1 c.read_line.new.names meaning;
     }
@@ -50,6 +52,7 @@ loop-line-preserved c =
     record {
       counted = c.loop-line.invariant.counted;
       numbered = ap (λ n. n + 1) c.loop-line.invariant.numbered ∙ sym (length_push c.loop-line.yielded c.in-Some.line);
+      known = c.read_line.ensures.known;
       fitting = rw c.in-Ok-push.ensures.items (All-push (λ l. FitsTarget c.args.catalog.now (length c.read_line.new.names) l.target) c.loop-line.lines.items (record { line = c.loop-line.number + 1; target = c.in-Some-target.target }) kept fits);
       read = rw c.in-Ok-push.ensures.items (one_step c.args.catalog.now c.args.bytes.now _ c.args.count.now c.args.objects.now c.loop-line.lines.items c.loop-line.objects c.loop-line.number c.loop-line.invariant.read c.in-Some.line.now here.0 here.1 c.in-Some-target.target c.read_line.new.names meaning);
     }

@@ -1,34 +1,22 @@
-use Rattle.std.proofs.Common.{◌+◌, length, take, drop, sym, ap, ◌∙◌}
+use Rattle.std.proofs.Common.{length, sym, ap, ◌∙◌}
 use Rattle.jm_script.specs.Events.{spread}
 use Rattle.jm_script.specs.declared.script.Target.TheVariants as target
-use Rattle.jm_script.proofs.WordLemmas.{both_left, both_right, name_utf8}
 use Rattle.jm_script.proofs.ObjectLemmas.{texts, length-texts}
 use Rattle.jm_script.proofs.EventLemmas.{spread_is}
 use Rattle.jm_script.proofs.FittingLemmas.{numbers_of-below}
-use Rattle.jm_script.proofs.MeaningLemmas.{event_steps, mentions, stopped}
+use Rattle.jm_script.proofs.KnownLemmas.{known_steps}
+use Rattle.jm_script.proofs.MeaningLemmas.{mentions, stopped}
 use Rattle.jm_script.proofs.statement.event_line.Goals as goal
-
-pub named_event-requires-clause-spec_text : goal.named_event-requires-clause-spec_text
-named_event-requires-clause-spec_text c = name_utf8 _ (both_left _ _ (both_left _ _ (sym c.is_event_line.ensures ∙ c.if-not-is_event_line.false)))
-
-pub named_event-requires-clause-event_text : goal.named_event-requires-clause-event_text
-named_event-requires-clause-event_text c = name_utf8 _ (both_right _ _ (both_left _ _ (sym c.is_event_line.ensures ∙ c.if-not-is_event_line.false)))
 
 pub returns-in-Err-numbers-clause-read : goal.returns-in-Err-numbers-clause-read
 returns-in-Err-numbers-clause-read c =
     stopped _ _ _ _ _
-    (event_steps c.args.catalog.now c.args.place.count c.args.place.line c.args.names.now c.args.word.now _ _ (texts c.args.objects.now) (length c.args.objects.now) c.in-Ok.event
-    (ap (λ n. take n c.args.word.now) c.dot_place-dot.ensures.value)
-    (c.behind-event.ensures ∙ ap (λ n. drop (n + 1) c.args.word.now) c.dot_place-dot.ensures.value)
-    (sym (length-texts c.args.objects.now))
-    (sym c.is_event_line.ensures ∙ c.if-not-is_event_line.false)
-    (sym c.is_full.ensures ∙ c.if-is_full.false)
-    c.in-Ok.ensures.value)
+    (known_steps c.args.catalog.now c.args.place.count c.args.place.line c.args.names.now c.args.word.now (texts c.args.objects.now) (length c.args.objects.now) c.in-Ok.event (sym (length-texts c.args.objects.now)) c.in-Ok.ensures.ok c.in-Ok.ensures.objects c.in-Ok.ensures.room)
     (c.in-Err-numbers.ensures.err (λ numbers. target.Event c.in-Ok.event.spec c.in-Ok.event.letter (spread 8 c.in-Ok.event.mask numbers)))
 
 pub returns-clause-fits : goal.returns-clause-fits
 returns-clause-fits c = record {
-  event = rw c.of-binding.ensures.mask c.in-Ok.ensures.there;
+  event = rw c.of-binding.ensures.mask c.in-Ok.ensures.ok.there;
   eight = c.of-binding.ensures.eight;
   named = rw (c.of-binding.ensures.objects, c.in-Ok-numbers.ensures.numbers, c.in-Ok-numbers.ensures.ok) (numbers_of-below c.args.names.now (texts c.args.objects.now));
 }
@@ -36,13 +24,7 @@ returns-clause-fits c = record {
 pub returns-clause-read : goal.returns-clause-read
 returns-clause-read c =
     mentions _ c.args.place.line c.args.names.now (texts c.args.objects.now) _ (λ numbers. target.Event c.in-Ok.event.spec c.in-Ok.event.letter (spread 8 c.in-Ok.event.mask numbers)) _
-    (event_steps c.args.catalog.now c.args.place.count c.args.place.line c.args.names.now c.args.word.now _ _ (texts c.args.objects.now) (length c.args.objects.now) c.in-Ok.event
-    (ap (λ n. take n c.args.word.now) c.dot_place-dot.ensures.value)
-    (c.behind-event.ensures ∙ ap (λ n. drop (n + 1) c.args.word.now) c.dot_place-dot.ensures.value)
-    (sym (length-texts c.args.objects.now))
-    (sym c.is_event_line.ensures ∙ c.if-not-is_event_line.false)
-    (sym c.is_full.ensures ∙ c.if-is_full.false)
-    c.in-Ok.ensures.value)
+    (known_steps c.args.catalog.now c.args.place.count c.args.place.line c.args.names.now c.args.word.now (texts c.args.objects.now) (length c.args.objects.now) c.in-Ok.event (sym (length-texts c.args.objects.now)) c.in-Ok.ensures.ok c.in-Ok.ensures.objects c.in-Ok.ensures.room)
     c.in-Ok-numbers.ensures.room
     c.in-Ok-numbers.ensures.ok
     (ap (target.Event c.in-Ok.event.spec c.in-Ok.event.letter) (spread_is _ _ _ c.of-binding.ensures.eight c.of-binding.ensures.mask (c.of-binding.ensures.objects ∙ c.in-Ok-numbers.ensures.numbers)))
