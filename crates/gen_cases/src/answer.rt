@@ -28,20 +28,20 @@ fn file(alloc: Global, files: &[Vec<u8>], number: usize) -> Result<String, Alloc
     }
 }
 
-/// How many lines each script has, and its last one.
+/// How many lines each script has.
 fn sizes(alloc: Global, files: &Workload) -> Result<String, AllocError> {
     let mut out = format!(in alloc; "{} specifications", files.specs.len())?;
     for script in &files.scripts {
-        let mut lines = 0u64;
-        let mut last = "";
-        for line in text_of(script.as_slice()).lines() {
-            lines = lines.wrapping_add(1);
-            last = line;
-        }
-        put_line(
-            &mut out,
-            format!(in alloc; "{lines} lines to {last}")?.as_str(),
-        )?;
+        let lines = lines_of(text_of(script.as_slice()));
+        put_line(&mut out, format!(in alloc; "{lines} lines")?.as_str())?;
     }
     Ok(out)
+}
+
+fn lines_of(text: &str) -> u64 {
+    let mut lines = 0u64;
+    for _ in text.lines() {
+        lines = lines.wrapping_add(1);
+    }
+    lines
 }
