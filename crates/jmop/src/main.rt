@@ -14,7 +14,9 @@ fn main(rt: HostRuntime) -> ExitCode {
     let mut files = HostFolder::new(rt);
     let mut out = HostSink::new(rt);
     let mut err = HostFault::new(rt);
-    let status = jmop(&rt, alloc, &words, &mut files, &mut out, &mut err, &FreeGate);
+    let status = jmop(
+        &rt, alloc, &words, &mut files, &mut out, &mut err, &FreeGate,
+    );
     ExitCode::from(status.code())
 }
 
