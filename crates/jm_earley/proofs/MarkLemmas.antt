@@ -6,7 +6,7 @@ use Rattle.std.proofs.lemmas.List.Elements.{Contains-push_cases, Contains-push, 
 use Rattle.std.proofs.lemmas.Option.{none-some, same_Some, slice_get_within, slice_get-get_or}
 use Rattle.jm_earley.specs.declared.item.Item.{Item}
 use Rattle.jm_earley.specs.declared.place.Place.{Place}
-use Rattle.jm_earley.specs.Kept.{IsSorted, place_at, IsPlaceNumber, IsOrigin, AreBack, IsReached, at_once, through, IsMarked, IsMarkedMore, IsSpreadAt, AreClosedFrom, IsWithin, IsSpread, AreReached}
+use Rattle.jm_earley.specs.Kept.{IsSorted, place_at, IsPlaceNumber, IsOrigin, AreBack, IsReached, at_once, through, IsMarked, AreMarkedTo, IsMarkedMore, IsSpreadAt, AreClosedFrom, IsWithin, IsSpread, AreReached}
 use Rattle.jm_earley.proofs.PlaceLemmas.{take_next, past_end}
 use Rattle.jm_earley.proofs.KeptLemmas.{sorted_at, number_le, number_at}
 
@@ -167,20 +167,15 @@ module _ (places : List Place) where
     only = λ items within. within_next items from old new (before.only items within) step;
   }
 
-  pub spread_ends : (from : ℕ) (old new : List Bool) → from ≡ 0 → IsSpreadFrom from old new → IsSpread places old new
-  spread_ends from old new end is = record {
+  pub spread_stops : IsSorted places → (from first : ℕ) (old new : List Bool) → from ≤ first → AreMarkedTo new first → IsSpreadFrom from old new → IsSpread places old new
+  spread_stops sorted from first old new le marked is = record {
     count = is.count;
     kept = is.kept;
-    closed = λ back. subst (λ (k : ℕ). AreClosedFrom places k new) end (is.closed back);
+    closed = λ back via number p zero_le at here origin. elim (cases_lt via from) [
+      | inl before ↦ let near = back_by sorted back via number p at origin in marked number (omega (arith, near, before, le))
+      | inr behind ↦ is.closed back via number p behind at here origin
+    ];
     only = is.only;
-  }
-
-  pub spread_all : (marks : List Bool) → length marks ≡ length places → ((number : ℕ) → number < length marks → IsMarked marks number) → IsSpread places marks marks
-  spread_all marks count all = record {
-    count = refl;
-    kept = λ j h. h;
-    closed = λ back via number p le at marked (x, among, (q, there, is)). all number (omega (arith, count, slice_get_within places number q there));
-    only = λ items within. within;
   }
 
   -- ---- together
@@ -200,3 +195,10 @@ unmarked_more [] none zero h = false≢true (same_Some false true h)
 unmarked_more [] none (suc k) h = none-some true h
 unmarked_more (m ∷ marks) none zero h = none 0 h
 unmarked_more (m ∷ marks) none (suc k) h = unmarked_more marks (λ j there. none (suc j) there) k h
+
+-- one mark more
+pub marked_to_next : (marks : List Bool) (first : ℕ) → AreMarkedTo marks first → IsMarked marks first → AreMarkedTo marks (first + 1)
+marked_to_next marks first before here number lt = elim (cases_eq number first) [
+  | inl same ↦ subst (λ (k : ℕ). IsMarked marks k) (sym same) here
+  | inr differs ↦ before number (omega (arith, lt, differs))
+]

@@ -38,6 +38,10 @@ pub data IsReached (places : List Place) (items : List Item) : ℕ → Type 0 wh
 abbrev pub IsMarked : List Bool → ℕ → Type 0
 IsMarked marks number = slice_get marks number ≡ Some true
 
+-- each place before this number is marked
+abbrev pub AreMarkedTo : List Bool → ℕ → Type 0
+AreMarkedTo marks count = (number : ℕ) → number < count → IsMarked marks number
+
 -- the places where the items began are marked as well
 pub record IsMarkedMore (places : List Place) (items : List Item) (old new : List Bool) : Type 0 where
   pub count : length new ≡ length old

@@ -1,7 +1,7 @@
 //! Which of the places some items reach: the places where they began, where the items of those began, and so on.
 ghost use Rattle.std.specs.Prelude.{ℕ, ◌≡◌, ◌<◌, [], ◌∷◌, IfOk, IsTrue, length};
 ghost use Rattle.jm_earley.specs.declared.item.Item.{Item};
-ghost use Rattle.jm_earley.specs.Kept.{IsSorted, IsMarked, IsOrigin, IsReached, AreReached, IsMarkedMore, IsSpread, IsSpreadAt, IsPlaceNumber};
+ghost use Rattle.jm_earley.specs.Kept.{IsSorted, IsMarked, AreMarkedTo, IsOrigin, IsReached, AreReached, IsMarkedMore, IsSpread, IsSpreadAt, IsPlaceNumber};
 
 use crate::item::Item;
 use crate::place::Places;
@@ -20,19 +20,17 @@ impl Places {
         Ok(marks)
     }
 
-    /// Marks what the items of marked places reach.
+    /// Marks what the items of marked places reach, from the last place on, as long as one before it isn't marked.
     fn spread(&self, marks: &mut Vec<bool>)
         requires { length marks.old.items ≡ length self.now }
         ensures { IsSpread self.now marks.old.items marks.new.items }
     {
-        // Often the items began at each of the places.
-        if are_all(marks.as_slice()) {
-            return;
-        }
         let mut number = self.len();
-        'places: while number > 0 {
+        let mut first = after_marked(marks.as_slice(), 0);
+        'places: while number > first {
             number -= 1;
             self.spread_at(marks, number);
+            first = after_marked(marks.as_slice(), first);
         }
     }
 
@@ -82,9 +80,24 @@ fn no_marks(alloc: Global, count: usize) -> Result<Vec<bool>, NoMemory>
     Ok(marks)
 }
 
-/// Whether each place is marked.
-fn are_all(marks: &[bool]) -> bool
-    ensures { IsTrue result → (number : ℕ) → number < length marks.now → IsMarked marks.now number }
+/// A number from this one on before which each place is marked: the first that isn't.
+fn after_marked(marks: &[bool], from: usize) -> usize
+    requires { AreMarkedTo marks.now from }
+    ensures { AreMarkedTo marks.now result }
 {
-    marks.iter().all(|mark| *mark)
+    let mut first = from;
+    'marks: while is_marked(marks, first) {
+        first += 1;
+    }
+    first
+}
+
+fn is_marked(marks: &[bool], number: usize) -> bool
+    ensures marked { IsTrue result → IsMarked marks.now number }
+    ensures there { IsTrue result → number < length marks.now }
+{
+    match marks.get(number) {
+        Some(mark) => *mark,
+        None => false,
+    }
 }

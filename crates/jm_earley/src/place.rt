@@ -1,5 +1,5 @@
 //! The places that a chart keeps.
-ghost use Rattle.std.specs.Prelude.{ℕ, ◌≡◌, ◌<◌, ◌-◌, [], ◌∷◌, ◌++◌, IfOk, OnOk, MatchOption, Some, None, length, slice_get};
+ghost use Rattle.std.specs.Prelude.{ℕ, ◌≡◌, ◌<◌, ◌-◌, [], ◌∷◌, ◌++◌, IsTrue, IfOk, OnOk, MatchOption, Some, None, length, slice_get};
 ghost use Rattle.jm_earley.specs.declared.place.Place.{Place};
 ghost use Rattle.jm_earley.specs.Kept.{IsSorted, place_at, IsPlaceNumber, IsFollowedBy, ArePicked};
 
@@ -76,6 +76,31 @@ impl Places {
 
     /// The number of the place at a position, if it is kept.
     pub(crate) fn number_of(&self, position: u32) -> Option<usize>
+        ensures value { MatchOption result ((number : ℕ) → IsPlaceNumber self.now position number → ⊥) (λ number. IsPlaceNumber self.now position number) }
+        ensures sorted { IsSorted self.now }
+    {
+        // Where no place was left out, numbers are positions.
+        let number = position as usize;
+        if self.is_at(number, position) {
+            return Some(number);
+        }
+        self.search(position)
+    }
+
+    /// Whether the place of a number is there, and at the position.
+    fn is_at(&self, number: usize, position: u32) -> bool
+        ensures value { IsTrue result → IsPlaceNumber self.now position number }
+        ensures sorted { IsSorted self.now }
+    {
+        if number < self.len() {
+            self.at(number).position == position
+        } else {
+            false
+        }
+    }
+
+    /// The number of the place at a position, by halves.
+    fn search(&self, position: u32) -> Option<usize>
         ensures value { MatchOption result ((number : ℕ) → IsPlaceNumber self.now position number → ⊥) (λ number. IsPlaceNumber self.now position number) }
         ensures sorted { IsSorted self.now }
     {
