@@ -1,4 +1,4 @@
-//! Many scripts over many specifications, each script on a thread of its own.
+//! Many scripts over many specifications.
 //!
 //! Script k is caller k: a worker does its lines in order, on seat k of every specification's dispatcher. So each
 //! specification gets one history, in which the projections of all scripts are interleaved.
@@ -7,7 +7,7 @@
 //! |---|---|
 //! | `gate` | what is told of each line before and after it is done |
 //! | `worker` | what one caller does |
-//! | `hands` | a thread for each worker |
+//! | `hands` | the workers, one after another |
 //! | `closing` | the cores come out |
 //! | `table` | rows of seats into columns |
 //! | `run` | the run: seats are dealt to workers, and gathered once all are done |

@@ -20,9 +20,10 @@ pub struct Running<M: Monitor> {
     pub seats: Vec<Seat<M>>,
 }
 
-/// Runs 1 to 16 scripts over 1 to 16 specifications, and gives the core of each specification. Script k is caller k: its
-/// lines are done in order by a worker on a thread of its own, a death on every specification in order. Each line stands
-/// between `before` and `after` of the gate. The answer is NoMemory where a worker met want of memory, which stops it.
+/// Runs 1 to 16 scripts over 1 to 16 specifications, one after another for now, and gives the core of each
+/// specification. Script k is caller k: its lines are done in order by a worker, a death on every specification in order.
+/// Each line stands between `before` and `after` of the gate. The answer is NoMemory where a worker met want of memory,
+/// which stops it.
 ///
 /// The watches are fresh, each with all its seats, as many as there are scripts.
 pub fn run_scripts<M: Monitor + Send, G: Gate, R: Threads + Wait + Sync>(
