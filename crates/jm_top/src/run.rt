@@ -1,4 +1,4 @@
-//! Running scripts over specifications, each script on a thread of its own.
+//! Running scripts over specifications.
 ghost use Rattle.std.specs.Prelude.{◌≡◌, ◌<◌, ◌≤◌, length, map, IfOk};
 ghost use Rattle.jm_top.specs.Histories.{IsTextOfHistories};
 ghost use Rattle.jm_top.specs.Reading.{specs_in, IsCatalogued, AreCounted};
