@@ -1,10 +1,11 @@
 use crate::lists::list_shown;
 use crate::rig::Rig;
+use crate::stingy::Stingy;
 use case_rules::rules_of;
 use case_steps::outcome_shown;
 use cases::{Case, number_of, put};
 use jm_machine::Rules;
-use jm_model::{NoMemory, SpecError};
+use jm_model::{Monitor, NoMemory, SpecError};
 use std::alloc::{AllocError, Global};
 
 /// What the runs of a case answer, over the specification in its text and so many objects, with a `|` between two.
@@ -32,20 +33,29 @@ fn wanting(alloc: Global, text: Result<String, NoMemory>) -> Result<String, Allo
 }
 
 fn answered(alloc: Global, case: &Case, words: &str, rules: Rules) -> Result<String, NoMemory> {
-    let rig = Rig::new(alloc, rules, number_of(case.second.as_str()))?;
+    let (objects, left) = case
+        .second
+        .split_once(' ')
+        .unwrap_or((case.second.as_str(), ""));
+    let objects = number_of(objects);
     match case.verb.as_str() {
-        "run" => run(alloc, words, rig),
-        _ => replay(alloc, words, rig),
+        "run" => run(alloc, words, Rig::new(alloc, rules, objects)?),
+        "stingy" => {
+            let rules = Stingy::new(rules, number_of(left));
+            run(alloc, words, Rig::new(alloc, rules, objects)?)
+        }
+        _ => replay(alloc, words, Rig::new(alloc, rules, objects)?),
     }
 }
 
 /// The answer of each word, with one space between two.
-fn run(alloc: Global, words: &str, mut rig: Rig) -> Result<String, NoMemory> {
+fn run<M: Monitor>(alloc: Global, words: &str, mut rig: Rig<M>) -> Result<String, NoMemory> {
     let mut out = String::new(alloc);
     for word in words.split_whitespace() {
         let answer = match word {
             "stored" => list_shown(alloc, &rig.stored()?)?,
             "marks" => list_shown(alloc, &rig.marks()?)?,
+            "entries" => format!(in alloc; "{} entries", rig.history().len())?,
             step => outcome_shown(alloc, &rig.fire(step)?)?,
         };
         put(&mut out, ' ', answer.as_str())?;
@@ -54,7 +64,7 @@ fn run(alloc: Global, words: &str, mut rig: Rig) -> Result<String, NoMemory> {
 }
 
 /// The outcomes in the history after a replay of all words.
-fn replay(alloc: Global, words: &str, mut rig: Rig) -> Result<String, NoMemory> {
+fn replay<M: Monitor>(alloc: Global, words: &str, mut rig: Rig<M>) -> Result<String, NoMemory> {
     rig.replay(words)?;
     let mut out = String::new(alloc);
     for entry in &rig.history().entries(alloc)? {

@@ -5,6 +5,7 @@
 mod answer;
 mod lists;
 mod rig;
+mod stingy;
 
 use answer::answer;
 use std::io;

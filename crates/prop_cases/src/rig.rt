@@ -1,23 +1,21 @@
 //! A core over compiled rules.
 ghost use Rattle.std.specs.Prelude.{◌≡◌, ◌<◌, true, IfSome, IfOk, All};
-ghost use Rattle.jm_machine.specs.Meanings.{rules_meaning};
 ghost use Rattle.jm_core.specs.Steps.{IsFitStep};
 
 use cases::number_of;
 use jm_core::Prop;
 use jm_history::{History, Node};
-use jm_machine::Rules;
 use jm_model::{Binding, Letter, Monitor, NoMemory, Outcome, Step};
 use std::alloc::{AllocError, Global};
 
 #[derive(Drop)]
-pub(crate) struct Rig {
+pub(crate) struct Rig<M: Monitor> {
     alloc: Global,
-    prop: Prop<Rules>,
+    prop: Prop<M>,
 }
 
-impl Rig {
-    pub(crate) fn new(alloc: Global, rules: Rules, objects: u32) -> Result<Rig, NoMemory> {
+impl<M: Monitor> Rig<M> {
+    pub(crate) fn new(alloc: Global, rules: M, objects: u32) -> Result<Rig<M>, NoMemory> {
         let prop = Prop::new(alloc, rules, objects)?;
         Ok(Rig { alloc, prop })
     }
@@ -44,7 +42,7 @@ impl Rig {
     }
 
     fn answer(&mut self, node: Node) -> Outcome
-        requires { IsFitStep (rules_meaning self.old.prop.definition.definition) self.old.prop.objects node.step }
+        requires { IsFitStep (M.meaning self.old.prop.definition) self.old.prop.objects node.step }
     {
         match node.step() {
             Step::Event { .. } => self.prop.event(node),
@@ -60,7 +58,7 @@ impl Rig {
     }
 
     fn steps(&self, words: &str) -> Result<Vec<(u32, Step)>, NoMemory>
-        ensures { IfOk result (λ steps. All (λ s. IsFitStep (rules_meaning self.now.prop.definition.definition) self.now.prop.objects s.1) steps.items) }
+        ensures { IfOk result (λ steps. All (λ s. IsFitStep (M.meaning self.now.prop.definition) self.now.prop.objects s.1) steps.items) }
     {
         let mut steps = Vec::new(self.alloc);
         for word in words.split_whitespace() {
@@ -73,7 +71,7 @@ impl Rig {
 
     /// The step of a word: `event:LETTER:OBJECT,..`, `death:OBJECT` or `pass`.
     fn step_of(&self, word: &str) -> Result<Option<Step>, NoMemory>
-        ensures { IfOk result (λ step. IfSome step (λ step. IsFitStep (rules_meaning self.now.prop.definition.definition) self.now.prop.objects step)) }
+        ensures { IfOk result (λ step. IfSome step (λ step. IsFitStep (M.meaning self.now.prop.definition) self.now.prop.objects step)) }
     {
         let (verb, rest) = word.split_once(':').unwrap_or((word, ""));
         match verb {
@@ -84,7 +82,7 @@ impl Rig {
     }
 
     fn death_of(&self, object: u32) -> Option<Step>
-        ensures { IfSome result (λ step. IsFitStep (rules_meaning self.now.prop.definition.definition) self.now.prop.objects step) }
+        ensures { IfSome result (λ step. IsFitStep (M.meaning self.now.prop.definition) self.now.prop.objects step) }
     {
         if object < self.prop.objects() {
             Some(Step::Death { object })
@@ -94,7 +92,7 @@ impl Rig {
     }
 
     fn event_of(&self, text: &str) -> Result<Option<Step>, NoMemory>
-        ensures { IfOk result (λ step. IfSome step (λ step. IsFitStep (rules_meaning self.now.prop.definition.definition) self.now.prop.objects step)) }
+        ensures { IfOk result (λ step. IfSome step (λ step. IsFitStep (M.meaning self.now.prop.definition) self.now.prop.objects step)) }
     {
         let (letter, objects) = text.split_once(':').unwrap_or((text, ""));
         let objects = numbers(self.alloc, objects)?;
@@ -104,7 +102,7 @@ impl Rig {
 
     /// The event of a letter and the objects of its parameters.
     fn event(&self, letter: Letter, objects: &[u32]) -> Option<Step>
-        ensures { IfSome result (λ step. IsFitStep (rules_meaning self.now.prop.definition.definition) self.now.prop.objects step) }
+        ensures { IfSome result (λ step. IsFitStep (M.meaning self.now.prop.definition) self.now.prop.objects step) }
     {
         let rules = self.prop.rules();
         if letter.0 >= rules.letters() {

@@ -1,0 +1,92 @@
+//! Rules of which one call is refused memory.
+use jm_machine::{Rules, Run};
+use jm_model::{Letter, Monitor, NoMemory};
+use std::cell::Cell;
+use std::marker::Model;
+
+/// Rules, and how many calls of `next` there are up to the one that answers NoMemory; with 0 none does.
+#[derive(Drop)]
+pub(crate) struct Stingy {
+    rules: Rules,
+    left: Cell<u32>,
+}
+
+impl Model for Stingy {
+    ghost use Rattle.jm_machine.specs.RuleSets.{CompiledRules};
+
+    ghost Value = { CompiledRules };
+
+    ghost view = { λ s. s.rules };
+}
+
+impl Stingy {
+    pub(crate) fn new(rules: Rules, left: u32) -> Stingy
+        ensures { result ≡ rules }
+    {
+        Stingy {
+            rules,
+            left: Cell::new(left),
+        }
+    }
+}
+
+impl Monitor for Stingy {
+    ghost use Rattle.std.specs.Prelude.{◌≡◌};
+    ghost use Rattle.jm_machine.specs.Meanings.{rules_meaning};
+    ghost use Rattle.jm_machine.specs.Runs.{IsRunOf};
+
+    type State = Run;
+
+    type Definition = Rules;
+
+    ghost definition = { λ s. s };
+
+    ghost meaning = { λ r. rules_meaning r.definition };
+
+    ghost StandsFor = { λ s r w. IsRunOf s r w };
+
+    fn letters(&self) -> u8 {
+        self.rules.letters()
+    }
+
+    fn params(&self, letter: Letter) -> u8 {
+        self.rules.params(letter)
+    }
+
+    fn must_bind(&self) -> u8 {
+        self.rules.must_bind()
+    }
+
+    fn begin(&self) -> Result<Run, NoMemory> {
+        self.rules.begin()
+    }
+
+    fn copy(&self, state: &Run) -> Result<Run, NoMemory> {
+        self.rules.copy(state)
+    }
+
+    fn next(&self, state: &Run, letter: Letter) -> Result<Run, NoMemory> {
+        let left = self.left.get();
+        self.left.set(left.wrapping_sub(1));
+        if left == 1 {
+            return Err(NoMemory);
+        }
+        self.rules.next(state, letter)
+    }
+
+    fn hits(&self, state: &Run) -> u16 {
+        self.rules.hits(state)
+    }
+
+    fn cut(&self, state: &Run, dead: u8) -> bool {
+        self.rules.cut(state, dead)
+    }
+
+    fn idle(&self, state: &Run) -> u32 {
+        self.rules.idle(state)
+    }
+
+    fn ending(&self, state: &Run) -> u32 {
+        self.rules.ending(state)
+    }
+}
