@@ -1,10 +1,12 @@
 -- From what each caller has done to what each specification's history has.
-use Rattle.std.proofs.Common.{◌≡◌, ◌≢◌, ℕ, zero, suc, ◌<◌, ◌≤◌, Bool, true, false, cond, List, [], ◌∷◌, ◌++◌, map, filter, length, Option, Some, None, slice_get, refl, sym, ap, ◌∙◌, subst, arith, eq-eqb, inl, inr}
-use Rattle.std.specs.Prelude.{All, Any, ◌==◌}
+use Rattle.std.proofs.Common.{◌≡◌, ◌≢◌, ℕ, zero, suc, ◌<◌, ◌≤◌, Bool, true, false, cond, List, [], ◌∷◌, ◌++◌, map, filter, length, Some, get_or, slice_get, refl, sym, ap, ◌∙◌, subst, arith, eq-eqb, inl, inr}
+use Rattle.std.specs.Prelude.{All, Any, ◌==◌, Result, Ok}
+use Rattle.std.specs.Fork.{GivesJobs}
 use Rattle.std.specs.Option.{option_map}
-use Rattle.std.proofs.lemmas.Option.{same_Some, slice_get-map, slice_get_within, slice_get-get_or}
+use Rattle.std.proofs.lemmas.Option.{same_Some, slice_get-map, slice_get_within, slice_get-get_or, get_or_from_slice_get}
+use denote.Param.Members.{Shared}
 use Rattle.std.proofs.lemmas.List.{length-map}
-use Rattle.std.proofs.lemmas.List.Elements.{All-head, All-tail, All-map}
+use Rattle.std.proofs.lemmas.List.Elements.{All-head, All-tail}
 use Rattle.jm_model.specs.Meanings.{Meaning}
 use Rattle.jm_model.specs.declared.step.Step.{Step}
 use Rattle.jm_model.specs.declared.step.Outcome.TheVariants.{NoMemory}
@@ -37,6 +39,16 @@ map_get f (x ∷ xs) (suc k) y e = map_get f xs k y e
 pub map_same : {A : Type 0} (xs : List A) → map (λ x. x) xs ≡ xs
 map_same [] = refl
 map_same (x ∷ xs) = ap (λ l. x ∷ l) (map_same xs)
+
+-- what the call with a job gave, where all calls gave a value
+pub job_met : {F J T E : Type 0} (g : Shared F (J × Unit {0}) (Result T E)) (f : F) (jobs : List J) (all : List (Result T E)) (values : List T) (k : ℕ) (job : J) (value : T)
+    → GivesJobs g f jobs all → map (λ x. Ok x) values ≡ all → slice_get jobs k ≡ Some job → slice_get values k ≡ Some value → g.post f (job, tt) (Ok value)
+job_met g f jobs all values k job value gives same jat vat =
+    let given = (gives k (Ok value) (slice_get_within jobs k job jat)).1 in
+    let there : slice_get all k ≡ Some (Ok value) = ap (λ l. slice_get l k) (sym same) ∙ slice_get-map (λ x. Ok x) values k ∙ ap (λ o. option_map (λ x. Ok x) o) vat in
+    let gave : get_or all k (Ok value) ≡ Ok value = get_or_from_slice_get all k (Ok value) (Ok value) there in
+    let with : given.job ≡ job = sym (given.job_is job) ∙ get_or_from_slice_get jobs k job job jat in
+    subst (λ r. g.post f (job, tt) r) gave (subst (λ j. g.post f (j, tt) (get_or all k (Ok value))) with given.call.met)
 
 -- what holds at each place of three lists holds with one place more
 pub related_more : {A B C : Type 0} (R : A → B → C → Type 0) (ls : List A) (bs : List B) (cs more : List C) (n : ℕ) (a : A) (b : B) (c : C) → length ls ≡ n → length cs ≡ n → more ≡ cs ++ c ∷ []

@@ -12,7 +12,6 @@ use Rattle.jm_script.specs.declared.script.ScriptLine.{ScriptLine}
 use Rattle.jm_script.specs.Projections.{script_of, spec_of, step_of}
 use Rattle.jm_dispatch.specs.declared.watched.Fixed.{Fixed}
 use Rattle.jm_dispatch.specs.Steps.{caller_of}
-use Rattle.jm_runner.specs.Runs.{AreFitSteps}
 
 module _ {F : Type 0} where
   -- Seat k of the watch, whose own entries are these steps, in order. None met want of memory.

@@ -7,7 +7,7 @@
 //! |---|---|
 //! | `gate` | what is told of each line before and after it is done |
 //! | `worker` | what one caller does |
-//! | `hands` | the workers, one after another |
+//! | `workers` | the workers, each on a thread of its own |
 //! | `closing` | the cores come out |
 //! | `table` | rows of seats into columns |
 //! | `run` | the run: seats are dealt to workers, and gathered once all are done |
@@ -15,10 +15,10 @@
 
 mod closing;
 mod gate;
-mod hands;
 mod run;
 mod table;
 mod worker;
+mod workers;
 
 pub use gate::{FreeGate, Gate};
 pub use run::{Running, run_scripts};

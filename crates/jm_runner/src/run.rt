@@ -3,8 +3,8 @@ ghost use Rattle.jm_runner.specs.Runs.{CanRun, IsRunOf};
 
 use crate::closing::close_all;
 use crate::gate::Gate;
-use crate::hands::work_all;
 use crate::table::columns;
+use crate::workers::work_all;
 use jm_core::Prop;
 use jm_dispatch::{Seat, Watch};
 use jm_model::{Monitor, NoMemory};
@@ -20,10 +20,10 @@ pub struct Running<M: Monitor> {
     pub seats: Vec<Seat<M>>,
 }
 
-/// Runs 1 to 16 scripts over 1 to 16 specifications, one after another for now, and gives the core of each
-/// specification. Script k is caller k: its lines are done in order by a worker, a death on every specification in order.
-/// Each line stands between `before` and `after` of the gate. The answer is NoMemory where a worker met want of memory,
-/// which stops it.
+/// Runs 1 to 16 scripts over 1 to 16 specifications, and gives the core of each specification. Script k is caller k: its
+/// lines are done in order by a worker, a death on every specification in order. Each worker has a thread of its own;
+/// where none can be had, some scripts are done one after another. Each line stands between `before` and `after` of the
+/// gate. The answer is NoMemory where a worker met want of memory, which stops it and no other.
 ///
 /// The watches are fresh, each with all its seats, as many as there are scripts.
 pub fn run_scripts<M: Monitor + Send, G: Gate, R: Threads + Wait + Sync>(

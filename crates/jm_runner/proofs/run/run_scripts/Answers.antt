@@ -1,12 +1,11 @@
-use Rattle.std.proofs.Common.{◌≡◌, ◌<◌, ◌≤◌, ◌∙◌, ℕ, length, map, Some, slice_get, sym, ap, subst, arith}
-use Rattle.std.specs.Prelude.{All, IfOk}
+use Rattle.std.proofs.Common.{◌≡◌, ◌<◌, ◌∙◌, ℕ, length, Some, slice_get, sym, ap, subst, arith}
+use Rattle.std.specs.Prelude.{All}
 use Rattle.std.proofs.lemmas.List.{length-map}
 use Rattle.std.proofs.lemmas.Result.{IfOk-weaker}
 use Rattle.std.proofs.lemmas.Option.{slice_get_within, slice_get-map}
 use Rattle.std.specs.Option.{option_map}
 use Rattle.jm_runner.proofs.PlaceLemmas.{get_there}
-use Rattle.jm_runner.specs.Hands.{CanWork, HasWorked, IsClosed}
-use Rattle.jm_runner.specs.Runs.{IsRunOf}
+use Rattle.jm_runner.specs.Hands.{CanWork, HasWorked}
 use Rattle.jm_runner.proofs.RunLemmas.{rows_long, can_work, back_long, all_of_one, is_run}
 use Rattle.jm_runner.proofs.run.run_scripts.Goals as goal
 

@@ -1,7 +1,6 @@
-use Rattle.std.proofs.Common.{◌≡◌, ◌∷◌, ◌++◌, [], map, length, vec_len, sym, ◌∙◌, ap, subst, arith}
+use Rattle.std.proofs.Common.{◌∷◌, [], map, sym, subst, arith}
 use Rattle.std.specs.Prelude.{List}
-use Rattle.std.proofs.lemmas.Grind.{common_steps}
-use Rattle.std.proofs.lemmas.List.{map-append, length-map}
+use Rattle.std.proofs.lemmas.List.{map-append}
 use Rattle.jm_runner.specs.Tables.{AreColumns}
 use Rattle.jm_runner.proofs.TableLemmas.{columns_more, same_lengths}
 use Rattle.jm_runner.proofs.table.columns.Goals as goal

@@ -1,4 +1,4 @@
-use Rattle.jm_runner.specs.Work.{AreSeatsOf, DoesLineBelow, FitsWatches}
+use Rattle.jm_runner.specs.Work.{DoesLineBelow}
 use Rattle.jm_runner.proofs.worker.do_line.Given as goal
 
 abbrev pub invariant-loop-spec : goal.invariant-loop-spec

@@ -1,4 +1,4 @@
-use Rattle.std.proofs.Common.{◌≡◌, ◌<◌, [], ℕ, All, Some, List, length, slice_get, sym, ◌∙◌, subst, refl, arith}
+use Rattle.std.proofs.Common.{◌≡◌, [], ℕ, All, List, length, sym, ◌∙◌, subst, refl, arith}
 use Rattle.std.proofs.lemmas.Option.{slice_get_read}
 use Rattle.std.proofs.lemmas.Result.{IfOk-weaker}
 use Rattle.jm_script.specs.declared.script.ScriptLine.{ScriptLine}
@@ -6,7 +6,7 @@ use Rattle.jm_turn.proofs.Elements.{place_from_all}
 use Rattle.jm_runner.specs.Hands.{HasWorked}
 use Rattle.jm_runner.specs.Work.{FitsWatches, HaveDone}
 use Rattle.jm_runner.proofs.RunLemmas.{first_number, has_worked, some_seat}
-use Rattle.jm_runner.proofs.hands.work_one.Goals as goal
+use Rattle.jm_runner.proofs.workers.work_one.Goals as goal
 
 pub bounds-scripts-caller : goal.bounds-scripts-caller
 bounds-scripts-caller g c =

@@ -1,0 +1,18 @@
+use Rattle.std.proofs.lemmas.Result.{IfOk-weaker}
+use Rattle.jm_runner.proofs.RunLemmas.{job_met}
+use mir.Syntax.{w8}
+use denote.Array.{Array}
+use denote.Plain.{UInt}
+use denote.Param.Send.{IsSync, sendable}
+use Rattle.jm_runner.proofs.workers.work_all.Goals as goal
+
+-- a watch has a lock and the masks of its letters
+pub may_be_shared-requires-2-sync-T : goal.may_be_shared-requires-2-sync-T
+may_be_shared-requires-2-sync-T g c κs within =
+    let lock = c.may_be_shared.ensures in
+    let masks : IsSync (Array (UInt w8) 32) = search sendable in
+    record { shared = λ d b o κ x. (((lock.shared x.0.lock b _ κ, (masks.shared x.0.masks b _ κ, tt)), (λ q. tt)), tt) }
+
+pub returns-clause-worked : goal.returns-clause-worked
+returns-clause-worked g c =
+    IfOk-weaker c.all_ok.result _ _ (λ back same k before after bat aat. job_met _ _ c.args.hands.items c.in_ok-done.done.items back.items k before after c.in_ok-done.ensures.each same bat aat) c.all_ok.ensures
