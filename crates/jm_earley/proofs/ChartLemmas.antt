@@ -10,9 +10,9 @@ use Rattle.jm_grammar.specs.Derivations.{IsWord, no_tree, leaf}
 use Rattle.jm_earley.specs.declared.item.Item.{Item}
 use Rattle.jm_earley.specs.declared.place.Place.{Place}
 use Rattle.jm_earley.specs.Items.{IsAwaited, at_start, IsItem, IsItemSet, IsWhole, symbol_after, advanced}
-use Rattle.jm_earley.specs.Kept.{place_at, IsKept, AreBack}
-use Rattle.jm_earley.specs.Places.{AreFutures, AreEarlier}
-use Rattle.jm_earley.specs.Waiting.{IsWaiting, AreWaiting}
+use Rattle.jm_earley.specs.Kept.{place_at, IsKept, AreBack, AreLinked}
+use Rattle.jm_earley.specs.Places.{AreEarlier}
+use Rattle.jm_earley.specs.Waiting.{AreWaiting}
 use Rattle.jm_earley.specs.Charts.{ChartsDefinition, ChartDefinition, AreItemSets, IsPlaceOf, IsChartOf, IsChartWith}
 use Rattle.jm_earley.specs.Growth.{Grows, IsAdvancedOver, AreAdvancedOver, IsPrediction, ArePredicted}
 use Rattle.jm_earley.proofs.PlaceLemmas.{same_push}
@@ -54,6 +54,7 @@ module _ (charts : ChartsDefinition) where
   module _ (word : List ℕ) (earlier : List Place) (position : ℕ) (first : List Item) (count : position ≡ length word)
       (each : (k : ℕ) (p : Place) → place_at earlier k ≡ Some p → (k < length word) × IsPlaceOf charts (take k word) p)
       (closed : (k : ℕ) (p : Place) → place_at earlier k ≡ Some p → (x : Item) → Contains p.items x → IsKept earlier x.origin)
+      (linked : AreLinked earlier)
       (none : (length earlier ≡ 0) ↔ (length word ≡ 0))
       (begins : (x : Item) → Contains first x → (x.origin ≡ position) ⊎ IsKept earlier x.origin)
       (sound : (x : Item) → Contains first x → IsItem g word x)
@@ -91,7 +92,7 @@ module _ (charts : ChartsDefinition) where
           ends = follows.ends;
           here = subst (λ (k : ℕ). place_at chart.places k ≡ Some made.place) (made.place_is.position_is ∙ count) follows.here;
           each = λ k p at. elim (follows.only k p at) [
-            | inl old ↦ let known = each k p old.0 in ((omega (arith, known.0)), known.1)
+            | inl old ↦ let known = each k p old in ((omega (arith, known.0)), known.1)
             | inr (end, same) ↦
                 let whole : take k word ≡ word = take_all k word (omega (arith, end, made.place_is.position_is, count)) in (
                   (omega (arith, end, made.place_is.position_is, count)),
@@ -99,7 +100,7 @@ module _ (charts : ChartsDefinition) where
                 )
           ];
           closed = λ k p at x there. elim (follows.only k p at) [
-            | inl old ↦ follows.closed back k p at old.0 x there (closed k p old.0 x there)
+            | inl old ↦ follows.closed back k p at old x there (closed k p old x there)
             | inr (end, same) ↦
                 let mine : Contains items x = subst (λ (q : Place). Contains q.items x) same there in
                 elim (from x mine) [
@@ -108,6 +109,7 @@ module _ (charts : ChartsDefinition) where
                   | inr old ↦ follows.first x mine old
                 ]
           ];
+          linked = follows.linked linked;
         }
 
   -- ---- the empty word
@@ -119,7 +121,7 @@ module _ (charts : ChartsDefinition) where
       subst (λ (l : List Item). Grows (IsPrediction g 0 g.start) l first) nothing_is (subst (λ (n : ℕ). Grows (IsPrediction g 0 n) nothing first) start_is grows) in
       let each : ArePredicted g 0 g.start first = subst (λ (n : ℕ). ArePredicted g 0 n first) start_is all in
       let prediction : (x : Item) → Contains first x → IsPrediction g 0 g.start x = λ x there. elim (predictions.only x there) [ inl nowhere ↦ absurd (omega (arith, nowhere.1)) | inr is ↦ is ] in
-      chart_follows [] [] 0 first refl (λ k p at. absurd (none-some p at)) (λ k p at. absurd (none-some p at)) ((λ h. refl), (λ h. refl))
+      chart_follows [] [] 0 first refl (λ k p at. absurd (none-some p at)) (λ k p at. absurd (none-some p at)) (λ number p q at. absurd (none-some p at)) ((λ h. refl), (λ h. refl))
       (λ x there. let (number, p, at, left, is) = prediction x there in inl (ap (λ (y : Item). y.origin) is))
       (λ x there.
       let (number, p, at, left, is) = prediction x there in
@@ -166,7 +168,7 @@ module _ (charts : ChartsDefinition) where
           | inr is ↦ is
         ] in
         let within : length old.places - 1 < length old.places = slice_get_within old.places (length old.places - 1) last at in
-        chart_follows longer old.places position first (omega (arith, position_is, longer_is)) old_each of_word.closed
+        chart_follows longer old.places position first (omega (arith, position_is, longer_is)) old_each of_word.closed of_word.linked
         ((λ h. absurd (omega (arith, h, within))), (λ h. absurd (omega (arith, h, longer_is))))
         (λ x there.
         let (y, among, after, is) = advances x there in

@@ -57,9 +57,6 @@ number_le ps sorted i j p q at_i at_j le = elim (cases_lt j i) [
   | inr ge ↦ ge
 ]
 
-pub none_sorted : IsSorted []
-none_sorted i j p q lt at_i at_j = absurd (none-some p at_i)
-
 -- one place more, behind the others
 pub sorted_push : (ps : List Place) (p : Place) → IsSorted ps → ((q : Place) → Contains ps q → q.position < p.position) → IsSorted (ps ++ p ∷ [])
 sorted_push ps p sorted behind i j a b lt at_i at_j = elim (slice_get-push_cases ps p i a at_i) [

@@ -3,8 +3,7 @@ pub mod SetLemmas
 pub mod GrowthLemmas
 pub mod ItemLemmas
 pub mod KeptLemmas
-pub mod MarkLemmas
-pub mod PickLemmas
+pub mod ReachLemmas
 pub mod WaitingLemmas
 pub mod WorkLemmas
 pub mod ChartLemmas

@@ -1,6 +1,6 @@
 use Rattle.std.proofs.Common.{ℕ, ◌≡◌, ◌<◌, ◌+◌, ◌⊎◌, inl, inr, suc, zero, List, [], ◌∷◌, ◌++◌, Some, length, get_or, slice_get, take, drop, map, option_map, None, ◌≤◌, Contains, refl, sym, ap, ◌∙◌, arith, add-one, length-append}
 use Rattle.std.proofs.lemmas.Option.{none-some, same_Some, slice_get_within, get_or_from_slice_get, slice_get-get_or, slice_get-map, slice_get_read}
-use Rattle.std.proofs.lemmas.List.{map-append, length-map}
+use Rattle.std.proofs.lemmas.List.{map-append}
 
 -- What stands where in a list.
 
@@ -50,6 +50,20 @@ module _ {X : Type 0} where
       by [] j e = absurd (none-some x e)
       by (y ∷ ys) zero e = ap (λ z. z ∷ []) (same_Some y x e)
       by (y ∷ ys) (suc j) e = ap (λ l. y ∷ l) (by ys j e)
+
+  -- what stands in a front
+  pub get-take : (xs : List X) (n k : ℕ) (x : X) → slice_get (take n xs) k ≡ Some x → (k < n) × (slice_get xs k ≡ Some x)
+  get-take [] zero k x h = absurd (none-some x h)
+  get-take [] (suc n) k x h = absurd (none-some x h)
+  get-take (y ∷ xs) zero k x h = absurd (none-some x h)
+  get-take (y ∷ xs) (suc n) zero x h = ((omega arith), h)
+  get-take (y ∷ xs) (suc n) (suc k) x h = let rest = get-take xs n k x h in ((omega (arith, rest.0)), rest.1)
+
+  pub take-get : (xs : List X) (n k : ℕ) (x : X) → k < n → slice_get xs k ≡ Some x → slice_get (take n xs) k ≡ Some x
+  take-get [] n k x lt h = absurd (none-some x h)
+  take-get (y ∷ xs) zero k x lt h = absurd (omega (arith, lt))
+  take-get (y ∷ xs) (suc n) zero x lt h = h
+  take-get (y ∷ xs) (suc n) (suc k) x lt h = take-get xs n k x (omega (arith, lt)) h
 
   -- what stands first behind a front
   pub place_behind : (xs front : List X) (x : X) (back : List X) → xs ≡ front ++ x ∷ back → slice_get xs (length front) ≡ Some x
@@ -104,13 +118,3 @@ copied_more f items copy new images i item read lt is same images_are so_far mor
     ap (λ l. slice_get l i) (sym images_are) ∙ slice_get-map f items i ∙ ap (λ o. option_map f o) (slice_get_read items (length items) i read refl lt is) in
     let last : map f new ≡ map f copy ++ f item ∷ [] = ap (λ l. map f l) more ∙ map-append f copy (item ∷ []) in
     last ∙ ap (λ l. l ++ f item ∷ []) so_far ∙ ap (λ y. take i images ++ y ∷ []) same ∙ sym (take_next images i (f read) at)
-
--- one element of another list at the end, by what both stand for
-pub shared_more : {X Y : Type 0} (f : X → Y) (items new from : List X) (images other : List Y) (i : ℕ) (read item : X) → map f items ≡ images → map f from ≡ other → i < length other → read ≡ get_or from i read
-    → f item ≡ f read → new ≡ items ++ item ∷ [] → (y : Y) × (slice_get other i ≡ Some y) × (map f new ≡ images ++ y ∷ [])
-shared_more f items new from images other i read item is from_is lt there same more =
-    let within : i < length from = omega (arith, lt, ap length from_is, length-map from f) in (
-      f read,
-      ap (λ l. slice_get l i) (sym from_is) ∙ slice_get-map f from i ∙ ap (λ o. option_map f o) (slice_get_read from (length from) i read refl within there),
-      ap (λ l. map f l) more ∙ map-append f items (item ∷ []) ∙ ap (λ l. l ++ f item ∷ []) is ∙ ap (λ y. images ++ y ∷ []) same,
-    )

@@ -9,7 +9,7 @@ use Rattle.jm_earley.specs.declared.item.Item.{Item}
 use Rattle.jm_earley.specs.declared.letter_set.LetterSet.{LetterSet}
 use Rattle.jm_earley.specs.declared.place.Place.{Place}
 use Rattle.jm_earley.specs.Items.{IsItemSet}
-use Rattle.jm_earley.specs.Kept.{place_at, IsKept, IsFollowedBy}
+use Rattle.jm_earley.specs.Kept.{place_at, IsKept, AreLinked, IsFollowedBy}
 use Rattle.jm_earley.specs.Growth.{IsClosure}
 use Rattle.jm_earley.specs.Waiting.{IsWaiting}
 use Rattle.jm_earley.specs.Places.{AreFutures, AreEarlier}
@@ -51,13 +51,14 @@ pub record IsPlaceOf (charts : ChartsDefinition) (word : List ℕ) (p : Place) :
   pub futures : AreFutures charts.grammar charts.letter_sets word p.futures
 
 -- The chart stands for the word: its last place is that at the word's end; each place that it keeps is that of a front of the
--- word; and it keeps each place where an item of one of them began.
+-- word; it keeps each place where an item of one of them began; and none that its last place doesn't reach.
 pub record IsChartOf (charts : ChartsDefinition) (word : List ℕ) (chart : ChartDefinition) : Type 0 where
   pub last : Place
   pub ends : slice_get chart.places (length chart.places - 1) ≡ Some last
   pub here : place_at chart.places (length word) ≡ Some last
   pub each : (position : ℕ) (p : Place) → place_at chart.places position ≡ Some p → (position ≤ length word) × IsPlaceOf charts (take position word) p
   pub closed : (position : ℕ) (p : Place) → place_at chart.places position ≡ Some p → (x : Item) → Contains p.items x → IsKept chart.places x.origin
+  pub linked : AreLinked chart.places
 
 -- The place has this position and these items, and what may follow where these are the items behind earlier places.
 pub record IsPlaceWith (charts : ChartsDefinition) (earlier : List Place) (position : ℕ) (items : List Item) (p : Place) : Type 0 where
@@ -66,7 +67,7 @@ pub record IsPlaceWith (charts : ChartsDefinition) (earlier : List Place) (posit
   pub waits : IsWaiting charts.grammar items p.waiting
   pub follows : (word : List ℕ) → IsItemSet charts.grammar word items → AreEarlier charts.grammar charts.letter_sets word earlier → AreFutures charts.grammar charts.letter_sets word p.futures
 
--- The chart has the place of what the rules make of the first items, and those of the earlier places that its items reach.
+-- The chart has the place of what the rules make of the first items, and those of the earlier places that it reaches.
 pub record IsChartWith (charts : ChartsDefinition) (earlier : List Place) (position : ℕ) (first : List Item) (chart : ChartDefinition) : Type 0 where
   pub place : Place
   pub closure : IsClosure charts.grammar earlier position first place.items

@@ -149,10 +149,9 @@ impl Charts {
         requires { (number : ℕ) (p : Place) → slice_get earlier.now number ≡ Some p → p.position < position }
         ensures { AreWaiting self.now.grammar earlier.now → IfOk result (IsChartWith self.now earlier.now position first) }
     {
-        let alloc = *self.params.allocator();
         let items = self.close(earlier, position, first)?;
         let place = self.place_with(earlier, position, items)?;
-        let places = earlier.followed_by(alloc, place)?;
+        let places = earlier.followed_by(place)?;
         Ok(Chart { places })
     }
 

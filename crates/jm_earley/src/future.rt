@@ -98,9 +98,9 @@ fn future_at(earlier: &Places, number: usize, position: u32) -> Option<Future>
     }
 }
 
-/// The rule for the nonterminals that a rest may follow.
-fn ends_rule(link: Option<Link>, there: Option<Future>) -> Rule
-    ensures { result ≡ ends_rule link there }
+/// The rule for the nonterminals that a rest may follow, of an item that began at the position.
+fn ends_rule(link: Option<Link>, earlier: &Places, number: usize, position: u32) -> Rule
+    ensures { result ≡ ends_rule link (future_at earlier.now number position) }
 {
     let Some(link) = link else {
         return Rule {
@@ -109,7 +109,7 @@ fn ends_rule(link: Option<Link>, there: Option<Future>) -> Rule
             always: false,
         };
     };
-    match there {
+    match future_at(earlier, number, position) {
         Some(there) => Rule {
             gives: only(link.next),
             any: 0,
@@ -123,9 +123,9 @@ fn ends_rule(link: Option<Link>, there: Option<Future>) -> Rule
     }
 }
 
-/// The rule for the nonterminals that a rest of one or more letters may follow.
-fn more_rule(ends: u64, link: Option<Link>, there: Option<Future>) -> Rule
-    ensures { result ≡ more_rule ends link there }
+/// The rule for the nonterminals that a rest of one or more letters may follow, of an item that began at the position.
+fn more_rule(ends: u64, link: Option<Link>, earlier: &Places, number: usize, position: u32) -> Rule
+    ensures { result ≡ more_rule ends link (future_at earlier.now number position) }
 {
     let Some(link) = link else {
         return Rule {
@@ -134,7 +134,7 @@ fn more_rule(ends: u64, link: Option<Link>, there: Option<Future>) -> Rule
             always: false,
         };
     };
-    match there {
+    match future_at(earlier, number, position) {
         Some(there) => Rule {
             gives: only(link.next),
             any: 0,
@@ -191,7 +191,7 @@ fn ends_rules(
     };
     for item in items {
         let link = link_of(productions, set, *item);
-        let rule = ends_rule(link, future_at(earlier, number, item.origin));
+        let rule = ends_rule(link, earlier, number, item.origin);
         let Ok(()) = rules.push(rule) else {
             return Err(NoMemory);
         };
@@ -213,7 +213,7 @@ fn more_rules(
     let mut rules = Vec::new(alloc);
     for item in items {
         let link = link_of(productions, set, *item);
-        let rule = more_rule(ends, link, future_at(earlier, number, item.origin));
+        let rule = more_rule(ends, link, earlier, number, item.origin);
         let Ok(()) = rules.push(rule) else {
             return Err(NoMemory);
         };

@@ -14,7 +14,6 @@ mod growth;
 mod item;
 mod letter_set;
 mod link;
-mod marks;
 mod place;
 mod rule;
 mod set;

@@ -1,9 +1,10 @@
 //! The places that a chart keeps.
-ghost use Rattle.std.specs.Prelude.{ℕ, ◌≡◌, ◌<◌, ◌-◌, [], ◌∷◌, ◌++◌, IsTrue, IfOk, OnOk, MatchOption, Some, None, length, slice_get};
+ghost use Rattle.std.specs.Prelude.{ℕ, ◌≡◌, ◌<◌, ◌≤◌, ◌+◌, ◌^◌, [], false, IsTrue, IfOk, IfSome, MatchOption, Some, None, length, slice_get};
 ghost use Rattle.jm_earley.specs.declared.place.Place.{Place};
-ghost use Rattle.jm_earley.specs.Kept.{IsSorted, place_at, IsPlaceNumber, IsFollowedBy, ArePicked};
+ghost use Rattle.jm_earley.specs.Kept.{IsSorted, place_at, IsPlaceNumber, IsReach, IsReachTo, IsFollowedBy};
 
 use crate::future::Futures;
+use crate::item::Item;
 use crate::set::ItemSet;
 use crate::shared::Shared;
 use crate::waiting::Waiting;
@@ -75,8 +76,9 @@ impl Places {
     }
 
     /// The number of the place at a position, if it is kept.
-    pub(crate) fn number_of(&self, position: u32) -> Option<usize>
+    fn number_of(&self, position: u32) -> Option<usize>
         ensures value { MatchOption result ((number : ℕ) → IsPlaceNumber self.now position number → ⊥) (λ number. IsPlaceNumber self.now position number) }
+        ensures small { IfSome result (λ number. number + 1 < 2 ^ 64) }
         ensures sorted { IsSorted self.now }
     {
         // Where no place was left out, numbers are positions.
@@ -84,7 +86,11 @@ impl Places {
         if self.is_at(number, position) {
             return Some(number);
         }
-        self.search(position)
+        if self.is_passed(position, self.len()) {
+            self.search(position)
+        } else {
+            None
+        }
     }
 
     /// Whether the place of a number is there, and at the position.
@@ -102,6 +108,7 @@ impl Places {
     /// The number of the place at a position, by halves.
     fn search(&self, position: u32) -> Option<usize>
         ensures value { MatchOption result ((number : ℕ) → IsPlaceNumber self.now position number → ⊥) (λ number. IsPlaceNumber self.now position number) }
+        ensures small { IfSome result (λ number. number + 1 < 2 ^ 64) }
         ensures sorted { IsSorted self.now }
     {
         let mut low = 0;
@@ -129,37 +136,52 @@ impl Places {
         Ok(Places { list })
     }
 
-    /// Those of the places that the items of a new one reach, and the new one behind them.
-    pub(crate) fn followed_by(&self, alloc: Global, place: Place) -> Result<Places, NoMemory>
+    /// The places up to the last where an item of a new one began, and the new one behind them.
+    pub(crate) fn followed_by(&self, place: Place) -> Result<Places, NoMemory>
         requires { (number : ℕ) (p : Place) → slice_get self.now number ≡ Some p → p.position < place.position }
         ensures { IfOk result (IsFollowedBy self.now place) }
     {
-        let reached = self.reached(alloc, place.items.as_slice())?;
-        let mut list = self.picked(alloc, reached.as_slice())?;
+        let count = self.reach(place.items.as_slice());
+        let mut list = self.list.first(count)?;
         list.push(place)?;
         Ok(Places { list })
     }
 
-    /// The places that are marked.
-    fn picked(&self, alloc: Global, marks: &[bool]) -> Result<Shared<Place>, NoMemory>
-        requires { length marks.now ≡ length self.now }
-        ensures { IfOk result (ArePicked self.now marks.now) }
+    /// The number behind the last place where one of the items began.
+    fn reach(&self, items: &[Item]) -> usize
+        ensures { IsReach self.now items.now result }
     {
-        let mut list = Shared::new(alloc);
-        for (number, mark) in marks.iter().enumerate() {
-            if *mark {
-                self.share(number, &mut list)?;
-            }
+        let mut count = 0;
+        for item in items {
+            count = self.reach_to(item.origin, count);
         }
-        Ok(list)
+        count
     }
 
-    /// Adds the place of a number to a list.
-    fn share(&self, number: usize, list: &mut Shared<Place>) -> Result<(), NoMemory>
-        requires { number < length self.now }
-        ensures value { OnOk result ((p : Place) × (slice_get self.now number ≡ Some p) × (list.new ≡ list.old ++ p ∷ [])) }
-        ensures sorted { IsSorted self.now }
+    /// The number behind the place at a position, if that is more than the number so far.
+    fn reach_to(&self, position: u32, count: usize) -> usize
+        requires { count ≤ length self.now }
+        ensures { IsReachTo self.now position count result }
     {
-        list.push_shared(&self.list, number)
+        if self.is_passed(position, count) {
+            return count;
+        }
+        match self.number_of(position) {
+            Some(number) => number + 1,
+            None => count,
+        }
+    }
+
+    /// Whether the last of the first places is at the position or behind it.
+    fn is_passed(&self, position: u32, count: usize) -> bool
+        requires { count ≤ length self.now }
+        ensures passed { IsTrue result → (number : ℕ) → IsPlaceNumber self.now position number → number < count }
+        ensures ahead { result ≡ false → (number : ℕ) → IsPlaceNumber self.now position number → count ≤ number }
+    {
+        if count == 0 {
+            false
+        } else {
+            position <= self.at(count - 1).position
+        }
     }
 }

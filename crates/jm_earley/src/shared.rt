@@ -1,4 +1,4 @@
-ghost use Rattle.std.specs.Prelude.{◌≡◌, ◌<◌, [], ◌∷◌, ◌++◌, Some, IfOk, OnOk, length, slice_get};
+ghost use Rattle.std.specs.Prelude.{◌≡◌, ◌<◌, ◌≤◌, [], ◌∷◌, ◌++◌, Some, IfOk, OnOk, length, take, slice_get};
 
 use jm_model::NoMemory;
 use std::alloc::Global;
@@ -57,33 +57,30 @@ impl<T: Drop> Shared<T> {
         Ok(())
     }
 
-    /// Adds an item of another list, and shares it.
-    pub(crate) fn push_shared(&mut self, from: &Shared<T>, number: usize) -> Result<(), NoMemory>
-        requires { number < length from.now }
-        ensures { OnOk result ((item : T) × (slice_get from.now number ≡ Some item) × (self.new ≡ self.old ++ item ∷ [])) }
+    /// The first items, with room for one more.
+    pub(crate) fn first(&self, count: usize) -> Result<Shared<T>, NoMemory>
+        requires { count ≤ length self.now }
+        ensures { IfOk result (λ first. first ≡ take count self.now) }
     {
-        let Ok(item) = Arc::try_clone(&from.items[number]) else {
+        let alloc = *self.items.allocator();
+        let Ok(mut first) = Vec::with_capacity(alloc, count.saturating_add(1)) else {
             return Err(NoMemory);
         };
-        let Ok(()) = self.items.push(item) else {
-            return Err(NoMemory);
-        };
-        Ok(())
+        for item in &self.items.as_slice()[..count] {
+            let Ok(item) = Arc::try_clone(item) else {
+                return Err(NoMemory);
+            };
+            let Ok(()) = first.push(item) else {
+                return Err(NoMemory);
+            };
+        }
+        Ok(Shared { items: first })
     }
 
     /// The same items.
     pub(crate) fn copy(&self) -> Result<Shared<T>, NoMemory>
         ensures { IfOk result (λ copy. copy ≡ self.now) }
     {
-        let mut copy = Vec::new(*self.items.allocator());
-        for item in &self.items {
-            let Ok(item) = Arc::try_clone(item) else {
-                return Err(NoMemory);
-            };
-            let Ok(()) = copy.push(item) else {
-                return Err(NoMemory);
-            };
-        }
-        Ok(Shared { items: copy })
+        self.first(self.len())
     }
 }

@@ -1,4 +1,4 @@
-use Rattle.std.proofs.Common.{[], ap, subst, sym, ◌∙◌, List}
+use Rattle.std.proofs.Common.{ap, subst, sym, ◌∙◌, List}
 use Rattle.std.proofs.lemmas.Option.{none-some}
 use Rattle.jm_earley.specs.declared.place.Place.{Place}
 use Rattle.jm_earley.specs.Waiting.{AreWaiting}

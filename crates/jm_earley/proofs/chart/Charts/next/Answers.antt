@@ -1,11 +1,10 @@
-use Rattle.std.proofs.Common.{ℕ, ◌≡◌, ◌<◌, ◌+◌, ◌-◌, List, [], ◌∷◌, ◌++◌, Some, length, slice_get, ap, sym, subst, ◌∙◌, refl, arith}
+use Rattle.std.proofs.Common.{ℕ, ◌≡◌, ◌<◌, ◌+◌, List, [], ◌∷◌, ◌++◌, Some, length, slice_get, sym, subst, arith}
 use Rattle.std.proofs.lemmas.Result.{IfOk-weaker}
 use Rattle.jm_earley.specs.declared.item.Item.{Item}
 use Rattle.jm_earley.specs.declared.place.Place.{Place}
 use Rattle.jm_grammar.specs.declared.grammar.GrammarSymbol.TheVariants.{Letter}
 use Rattle.jm_earley.specs.Growth.{Grows, IsAdvancedOver, AreAdvancedOver}
 use Rattle.jm_earley.specs.Waiting.{AreWaiting}
-use Rattle.jm_earley.specs.Kept.{IsSorted, place_at}
 use Rattle.jm_earley.specs.Charts.{ChartsDefinition, ChartDefinition, IsChartOf, IsChartWith}
 use Rattle.jm_earley.proofs.KeptLemmas.{last_behind, number_at}
 use Rattle.jm_earley.proofs.ChartLemmas.{grown_chart, lists_are, last_at}

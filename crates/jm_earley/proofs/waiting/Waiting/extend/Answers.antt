@@ -1,4 +1,4 @@
-use Rattle.std.proofs.Common.{List, ℕ, ◌≡◌, [], ◌∷◌, ◌++◌, ap, ◌∙◌, refl, get_or, map}
+use Rattle.std.proofs.Common.{[], ap, ◌∙◌, get_or, map}
 use Rattle.jm_earley.proofs.WaitingLemmas.{empty_more}
 use Rattle.jm_earley.proofs.waiting.Waiting.extend.Goals as goal
 
