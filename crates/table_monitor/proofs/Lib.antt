@@ -1,1 +1,1 @@
-mod TableLemmas
+pub mod TableLemmas

@@ -20,7 +20,7 @@ bit_from_set n k h =
     zero-mul' : (m : ℕ) → 0 * m ≡ 0
     zero-mul' m = omega arith
 
-bit_below : (n width k : ℕ) → n < 2 ^ width → IsBitSet n k → k < width
+pub bit_below : (n width k : ℕ) → n < 2 ^ width → IsBitSet n k → k < width
 bit_below n width k fits set =
     elim (cases_lt k width) [
       | inl lt ↦ lt
