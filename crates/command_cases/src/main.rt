@@ -3,6 +3,7 @@
 
 mod answer;
 mod command;
+mod gate;
 mod shown;
 
 use std::io;

@@ -2,5 +2,5 @@ mod Named
 mod Numbers
 mod Positions
 mod Runs
-mod Saying
+pub mod Saying
 mod Reading

@@ -1,6 +1,6 @@
 -- The commands, by what was read.
-use Rattle.std.proofs.Common.{◌≡◌, ℕ, ◌+◌, ◌<◌, ◌≤◌, ◌⊎◌, inl, inr, Bool, true, false, ◌&&◌, List, [], ◌∷◌, ◌++◌, length, Option, Some, None, refl, sym, ap, subst, ◌∙◌, arith}
-use Rattle.std.specs.Prelude.{All, map, option_map, string_bytes, if◌then◌else◌}
+use Rattle.std.proofs.Common.{◌≡◌, ℕ, inl, inr, Bool, true, false, ◌&&◌, List, [], ◌∷◌, ◌++◌, length, Option, Some, None, Result, Ok, Err, IfOk, IfErr, refl, sym, ap, subst, ◌∙◌}
+use Rattle.std.specs.Prelude.{All, map, option_map, if◌then◌else◌}
 use Rattle.std.specs.List.{flat_map}
 use Rattle.std.proofs.lemmas.List.{length-map}
 use Rattle.std.proofs.lemmas.List.Elements.{All-nil, All-cons, All-head, All-tail}
@@ -9,23 +9,24 @@ use Rattle.jm_model.specs.declared.fault.SpecFault.TheVariants.{UnsupportedLogic
 use Rattle.jm_events.specs.Names.{number_of}
 use Rattle.jm_machine.specs.Formulas.{is_grammar}
 use Rattle.jm_script.specs.Catalogs.{spec_names}
-use Rattle.jm_script.specs.declared.script.ScriptLine.{ScriptLine}
-use Rattle.jm_cli.specs.Words.CommandWords.{Replay, Run, Check, Coenable}
+use Rattle.jm_cli.specs.Words.CommandWords.{Replay, Run, Check, Coenable, Gen}
 use Rattle.jm_top.specs.declared.status.Status.{Status}
+use Rattle.jm_top.specs.declared.status.Status.TheVariants.{ReadFailed}
 use Rattle.jm_top.specs.declared.specification.Loaded.{Loaded}
 use Rattle.jm_top.specs.declared.library.Library.{Library}
 use Rattle.jm_top.specs.declared.scripts.Scripts.{Scripts}
-use Rattle.jm_top.specs.declared.job.Inputs.{Inputs}
-use Rattle.jm_top.specs.Sources.{Source}
-use Rattle.jm_top.specs.Commands.{named}
+use Rattle.jm_top.specs.declared.inputs.Inputs.{Inputs}
+use Rattle.jm_top.specs.Sources.{Source, Given, IsFile}
+use Rattle.jm_top.specs.Commands.{named, given_files, workload_specs, workload_scripts}
 use Rattle.jm_top.specs.Specifications.{Specification}
 use Rattle.jm_top.specs.Scripts.{catalog_of}
-use Rattle.jm_top.specs.Inputs.{refusal_of, SaySpecifications}
-use Rattle.jm_top.specs.Histories.{IsTextOfHistories}
+use Rattle.jm_top.specs.Inputs.{SaySpecifications, step_count}
+use Rattle.jm_top.specs.Histories.{IsTextOfHistories, IsTextOfSummaries}
 use Rattle.jm_top.specs.Texts.{declared_text, IsTextOfFamilies}
-use Rattle.jm_top.specs.Causes.{StopsSpecs, StopsScripts, StopsInputs, StopsCommand, at_spec, at_script, IsTextOfCommand}
+use Rattle.jm_top.specs.Causes.{IsNoSpec, IsNoScript, StopsSpecs, StopsScripts, StopsInputs, StopsCommand, short, at_spec, at_script, IsTextOfCommand}
 use Rattle.jm_top.specs.Reading.{specification_of, specs_in, IsLibraryOf, AreScriptsOf, AreInputsOf}
-use Rattle.jm_top.proofs.OneReadingLemmas.{never_some}
+use Rattle.jm_top.proofs.OneReadingLemmas.{never_some, same_err}
+use Rattle.jm_top.proofs.InputLemmas.{length-said, length-scripts}
 
 -- ---- specifications and scripts
 
@@ -57,6 +58,13 @@ module _ (contents : List ℕ → Option (List ℕ)) where
   pub coenable_stops : (specs : List (List ℕ)) (status : Status) → StopsSpecs contents true (named specs) status → StopsCommand contents (Coenable specs) status
   coenable_stops specs status h = at_spec status h
 
+  pub gen_stops : (n : ℕ) (specs scripts : List (List ℕ)) (status : Status) → specs ≡ workload_specs → scripts ≡ workload_scripts n → StopsInputs contents (given_files specs) (given_files scripts) status → StopsCommand contents (Gen n) status
+  gen_stops n specs scripts status first second h = stops (subst (λ v. StopsInputs contents (given_files workload_specs) (given_files v) status) second (subst (λ v. StopsInputs contents (given_files v) (given_files scripts) status) first h))
+    where
+      stops : StopsInputs contents (given_files workload_specs) (given_files (workload_scripts n)) status → StopsCommand contents (Gen n) status
+      stops (inl h) = at_spec status h
+      stops (inr h) = at_script h.0 status h.1 h.2
+
   pub replay_made : (spec script : List ℕ) (inputs : Inputs) (text : List ℕ) → AreInputsOf contents (named (spec ∷ [])) (named (script ∷ [])) inputs
       → IsTextOfHistories (specs_in inputs.library) inputs.scripts.list.items inputs.scripts.objects text → IsTextOfCommand contents (Replay spec script) text
   replay_made spec script inputs text h made = record {
@@ -79,11 +87,74 @@ module _ (contents : List ℕ → Option (List ℕ)) where
     is_text = made;
   }
 
+  pub gen_made : (n : ℕ) (inputs : Inputs) (text : List ℕ) → AreInputsOf contents (given_files workload_specs) (given_files (workload_scripts n)) inputs → IsTextOfSummaries (specs_in inputs.library) inputs.scripts.list.items text → IsTextOfCommand contents (Gen n) text
+  gen_made n inputs text h made = record {
+    specs = specs_in inputs.library;
+    scripts = inputs.scripts.list.items;
+    objects = inputs.scripts.objects;
+    said = h.library.said;
+    told = h.read.said;
+    is_text = made;
+  }
+
+  -- what was read of files that are those of a workload
+  pub inputs_are : (n : ℕ) (specs scripts : List (List ℕ)) (r : Result Inputs Status) → specs ≡ workload_specs → scripts ≡ workload_scripts n → IfOk r (AreInputsOf contents (given_files specs) (given_files scripts))
+      → IfOk r (AreInputsOf contents (given_files workload_specs) (given_files (workload_scripts n)))
+  inputs_are n specs scripts r first second h =
+      subst (λ v. IfOk r (AreInputsOf contents (given_files workload_specs) (given_files v))) second (subst (λ v. IfOk r (AreInputsOf contents (given_files v) (given_files scripts))) first h)
+
   pub check_made : (specs : List (List ℕ)) (library : Library) (text : List ℕ) → IsLibraryOf contents false (named specs) library → text ≡ flat_map declared_text (specs_in library) → IsTextOfCommand contents (Check specs) text
   check_made specs library text h made = record { specs = specs_in library; scripts = []; objects = []; said = h.said; told = (refl, refl); is_text = made }
 
   pub coenable_made : (specs : List (List ℕ)) (library : Library) (text : List ℕ) → IsLibraryOf contents true (named specs) library → IsTextOfFamilies (specs_in library) text → IsTextOfCommand contents (Coenable specs) text
   coenable_made specs library text h made = record { specs = specs_in library; scripts = []; objects = []; said = h.said; told = (refl, refl); is_text = made }
+
+-- ---- files that are given
+
+-- a workload has two specifications, and four scripts
+pub specs_length : length workload_specs ≡ 2
+unfolding workload_specs
+specs_length = refl
+
+pub scripts_length_of : (n : ℕ) → length (workload_scripts n) ≡ 4
+unfolding workload_scripts
+scripts_length_of n = refl
+
+pub given_length : {V : Type 0} (items : V → List ℕ) (files : List V) (texts : List (List ℕ)) (n : ℕ) → map items files ≡ texts → length texts ≡ n → length files ≡ n
+given_length {V} items files texts n is many = sym (length-map files items) ∙ ap (λ v. length v) is ∙ many
+
+pub workload_library : (contents : List ℕ → Option (List ℕ)) (library : Library) → IsLibraryOf contents false (given_files workload_specs) library → length library.specs.items ≡ 2
+workload_library contents library h =
+    sym (length-map library.specs.items specification_of) ∙ length-said contents false [] (given_files workload_specs) (specs_in library) h.said ∙ length-map workload_specs (λ bytes. Given bytes) ∙ specs_length
+
+pub workload_many : (contents : List ℕ → Option (List ℕ)) (specs : List Specification) (n : ℕ) (scripts : Scripts) → AreScriptsOf contents specs (given_files (workload_scripts n)) scripts → length scripts.list.items ≡ 4
+workload_many contents specs n scripts h =
+    length-scripts contents specs 0 [] (given_files (workload_scripts n)) scripts.list.items scripts.objects h.said ∙ length-map (workload_scripts n) (λ bytes. Given bytes) ∙ scripts_length_of n
+
+-- no file is among them
+no_file : (files : List (List ℕ)) (first rest : List Source) (source : Source) → given_files files ≡ first ++ source ∷ rest → IsFile source → ⊥
+no_file [] [] rest source split is = absurd cc
+no_file [] (x ∷ first) rest source split is = absurd cc
+no_file (bytes ∷ files) [] rest source split is = let same : source ≡ Given bytes = cc in subst IsFile same is
+no_file (bytes ∷ files) (x ∷ first) rest source split is = no_file files first rest source (cc) is
+
+module _ (contents : List ℕ → Option (List ℕ)) (file : ℕ) where
+  given_specs_unread : (files : List (List ℕ)) (status : Status) → StopsSpecs contents false (given_files files) status → status ≡ ReadFailed file → ⊥
+  given_specs_unread files status h is = no_file files h.reached.first h.reached.rest h.source h.reached.split (subst (λ (s : Status). IsNoSpec contents false h.before h.number h.source s) is h.stopped).1
+
+  given_scripts_unread : (specs : List Specification) (count : ℕ) (files : List (List ℕ)) (status : Status) → StopsScripts contents specs count (given_files files) status → status ≡ ReadFailed file → ⊥
+  given_scripts_unread specs count files status h is =
+      no_file files h.reached.first h.reached.rest h.source h.reached.split (subst (λ (s : Status). IsNoScript contents specs count (step_count h.before) h.names h.number h.source s) is h.stopped).1
+
+  unread : (n : ℕ) (status : Status) → StopsCommand contents (Gen n) status → status ≡ ReadFailed file → ⊥
+  unread n _ short is = absurd cc
+  unread n _ (at_spec status h) is = given_specs_unread workload_specs status h is
+  unread n _ (at_script specs status said h) is = given_scripts_unread specs (length (given_files workload_specs)) (workload_scripts n) status h is
+
+  -- so none fails to be read
+  pub gen_reads_none : {V : Type 0} (n : ℕ) (r : Result V Status) → IfErr r (StopsCommand contents (Gen n)) → r ≡ Err (ReadFailed file) → ⊥
+  gen_reads_none {V} n (Ok v) h is = absurd cc
+  gen_reads_none {V} n (Err status) h is = unread n status h (same_err is)
 
 -- ---- families
 

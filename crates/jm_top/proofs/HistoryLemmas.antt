@@ -1,12 +1,12 @@
 -- The histories of scripts' steps, and their texts.
-use Rattle.std.proofs.Common.{◌≡◌, ◌≢◌, ℕ, zero, suc, ◌+◌, ◌^◌, ◌<◌, ◌≤◌, Bool, true, List, [], ◌∷◌, ◌++◌, length, get_or, pow-suc, append-nil, refl, sym, ◌∙◌, ap, subst, arith}
+use Rattle.std.proofs.Common.{◌≡◌, ◌≢◌, ℕ, zero, suc, ◌^◌, ◌<◌, ◌≤◌, true, List, [], ◌∷◌, ◌++◌, length, get_or, pow-suc, append-nil, refl, sym, ◌∙◌, ap, subst, arith}
 use Rattle.std.specs.Prelude.{All, Contains, Option, Some, None, ◌==◌, map, filter, slice_get, unwrap_or, option_map, string_bytes, Result, Ok, Err, IfOk}
 use Rattle.std.specs.Option.{option_map_or}
 use Rattle.std.specs.List.{AllByRecursion}
 use Rattle.std.proofs.lemmas.Option.{slice_get-map, none-some}
 use Rattle.std.proofs.lemmas.List.{length-map, length_push}
 use Rattle.std.proofs.lemmas.Bool.Decides.{nat_tests}
-use Rattle.std.proofs.lemmas.List.Elements.{All-from_recursion, recursion_from_All, All-weaker, All-head, All-tail, All-contains, All-contains_itself}
+use Rattle.std.proofs.lemmas.List.Elements.{recursion_from_All, All-weaker, All-head, All-tail, All-contains, All-contains_itself}
 use Rattle.jm_model.specs.Bindings.{object_at, objects_of, mask_of}
 use Rattle.jm_model.specs.Meanings.{Meaning}
 use Rattle.jm_model.specs.declared.binding.Binding.{Binding}
@@ -19,7 +19,7 @@ use Rattle.jm_semantics.specs.Legality.{IsLegal}
 use Rattle.jm_semantics.proofs.ListLemmas.{Contains-filter, Contains-map}
 use Rattle.jm_core.specs.Steps.{IsFitStep}
 use Rattle.jm_core.specs.Cores.{Core}
-use Rattle.jm_core.specs.Replays.{line_and_step, AreEntriesOf, Replayed}
+use Rattle.jm_core.specs.Replays.{AreEntriesOf, Replayed}
 use Rattle.jm_events.specs.Events.{EventDefinition, EventDefinitions}
 use Rattle.jm_print.specs.Lexicons.{Lexicon, lexicon_of}
 use Rattle.jm_print.specs.Texts.{IsPrintable, history_text}
@@ -33,7 +33,6 @@ use Rattle.jm_top.specs.declared.specification.Titles.{Titles}
 use Rattle.jm_top.specs.declared.specification.Loaded.{Loaded}
 use Rattle.jm_top.specs.declared.library.Library.{Library}
 use Rattle.jm_top.specs.declared.scripts.Scripts.{Scripts}
-use Rattle.jm_top.specs.Specifications.{Specification, meaning_of}
 use Rattle.jm_top.specs.Scripts.{catalog_of}
 use Rattle.jm_top.specs.Reading.{AreTitlesOf, titled, title_lexicon, specification_of, IsWhole, specs_in, IsCatalogued, AreCounted}
 use Rattle.jm_top.specs.Histories.{lexicon, IsTextOfHistories}

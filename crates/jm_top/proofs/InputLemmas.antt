@@ -1,7 +1,6 @@
 -- What files say, one behind the other.
-use Rattle.std.proofs.Common.{◌≡◌, ℕ, ◌+◌, ◌<◌, ◌≤◌, Bool, true, false, ◌&&◌, List, [], ◌∷◌, ◌++◌, length, get_or, take, drop, Option, Some, None, refl, sym, ap, subst, ◌∙◌, arith, append_assoc, append-nil}
-use Rattle.std.specs.Prelude.{map, IfSome, IsSome, option_map, if◌then◌else◌}
-use Rattle.std.proofs.lemmas.Option.{none-some}
+use Rattle.std.proofs.Common.{◌≡◌, ℕ, ◌+◌, ◌<◌, Bool, false, ◌&&◌, List, [], ◌∷◌, ◌++◌, length, get_or, take, drop, Option, Some, None, refl, sym, ap, subst, ◌∙◌, arith, append_assoc, append-nil}
+use Rattle.std.specs.Prelude.{map, IfSome, IsSome, option_map}
 use Rattle.std.proofs.lemmas.List.{take-append-drop, take_more, drop_more, map-append, length-map}
 use Rattle.jm_model.specs.declared.fault.SpecFault.{SpecFault}
 use Rattle.jm_model.specs.declared.fault.SpecFault.TheVariants.{DuplicateSpec}
@@ -11,10 +10,10 @@ use Rattle.jm_machine.specs.Formulas.{is_grammar}
 use Rattle.jm_script.specs.Catalogs.{spec_names}
 use Rattle.jm_script.specs.declared.script.ScriptLine.{ScriptLine}
 use Rattle.jm_top.specs.Sources.{Source, Named, Given, Gives, IsTold, AllTold}
-use Rattle.jm_top.specs.Specifications.{Specification, IsSpecification, IsSpecFault}
+use Rattle.jm_top.specs.Specifications.{Specification, IsSpecification}
 use Rattle.jm_top.specs.Scripts.{catalog_of, IsScript, IsScriptFault, too_long, in_line}
 use Rattle.jm_top.specs.Inputs.{refusal_of, IsAdmitted, IsRefusal, faulty, refused, SaySpecifications, AreReadUpTo, step_count, SayScripts, AreScriptsUpTo}
-use Rattle.jm_top.proofs.OneReadingLemmas.{one_specification, specification_has_no_fault, same_some, never_some}
+use Rattle.jm_top.proofs.OneReadingLemmas.{one_specification, specification_has_no_fault, never_some}
 
 -- ---- lists
 

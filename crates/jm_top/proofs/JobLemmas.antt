@@ -1,28 +1,26 @@
 -- What the status of a command says of its job.
-use Rattle.std.proofs.Common.{◌≡◌, ℕ, zero, suc, ◌+◌, ◌<◌, ◌≤◌, ◌⊎◌, inl, inr, Bool, true, false, List, [], ◌∷◌, length, Option, Some, None, Result, Ok, Err, IfOk, IfErr, refl, sym, ap, subst, ◌∙◌, arith}
+use Rattle.std.proofs.Common.{◌≡◌, ℕ, zero, suc, ◌<◌, ◌≤◌, ◌⊎◌, inl, inr, Bool, List, [], ◌∷◌, length, Option, Some, None, Result, Ok, Err, IfOk, IfErr, refl, sym, subst, ◌∙◌, arith}
 use Rattle.std.specs.Prelude.{IfSome}
 use Rattle.jm_port.specs.Faults.{HasRisen}
-use Rattle.jm_model.specs.declared.fault.SpecFault.{SpecFault}
 use Rattle.jm_model.specs.declared.fault.SpecFault.TheVariants as spec
-use Rattle.jm_model.specs.declared.fault.ScriptFault.{ScriptFault}
 use Rattle.jm_model.specs.declared.fault.ScriptFault.TheVariants as script
 use Rattle.jm_script.specs.declared.script.ScriptLine.{ScriptLine}
-use Rattle.jm_cli.specs.Words.{CommandWords}
+use Rattle.jm_cli.specs.Words.{CommandWords, command_of}
 use Rattle.jm_top.specs.declared.status.Status.{Status}
 use Rattle.jm_top.specs.declared.status.Status.TheVariants.{Done, Usage, BadSpec, BadScript, ReadFailed, WriteFailed, NoMemory}
-use Rattle.jm_top.specs.Sources.{Source, Named, Holds, Gives}
-use Rattle.jm_top.specs.Commands.{spelled_command, spec_sources, script_sources, needs_families}
+use Rattle.jm_top.specs.Sources.{Source, Named, Gives}
+use Rattle.jm_top.specs.Commands.{spec_sources, script_sources, needs_families}
 use Rattle.jm_top.specs.Specifications.{Specification, too_long as spec_too_long, most_bytes}
 use Rattle.jm_top.specs.Scripts.{IsScriptFault, too_long}
-use Rattle.jm_top.specs.Inputs.{IsRefusal, faulty, SaySpecifications, AreReadUpTo, step_count, SayScripts, AreScriptsUpTo}
+use Rattle.jm_top.specs.Inputs.{IsRefusal, faulty, SaySpecifications, AreReadUpTo, step_count, AreScriptsUpTo}
 use Rattle.jm_top.specs.Jobs.{Refused, Accepted, IsJob, no_command, bad_spec, bad_script, accepted, ReachesFile, spec_file, script_file, IsCaused, AreTold}
-use Rattle.jm_top.specs.Causes.{IsBeforeWriting, IsNoSpec, IsNoSpecIn, StopsSpecs, IsNoScript, IsNoScriptIn, StopsScripts, StopsInputs, StopsCommand, short, at_spec, at_script, IsTextOfCommand}
+use Rattle.jm_top.specs.Causes.{IsBeforeWriting, IsNoSpec, IsNoSpecIn, StopsSpecs, IsNoScript, IsNoScriptIn, StopsScripts, StopsCommand, short, at_spec, at_script, IsTextOfCommand}
 use Rattle.jm_top.specs.Endings.{IsText}
 use Rattle.jm_top.proofs.OneReadingLemmas.{same_some, never_some}
 use Rattle.jm_top.proofs.InputLemmas.{say_one, specs_not_refused, scripts_not_refused}
 
 module _ (words : List (List ℕ)) (contents : List ℕ → Option (List ℕ)) (told : AreTold words contents) where
-  same_command : (c d : CommandWords) → spelled_command words ≡ Some c → spelled_command words ≡ Some d → d ≡ c
+  same_command : (c d : CommandWords) → command_of words ≡ Some c → command_of words ≡ Some d → d ≡ c
   same_command c d a b = same_some (sym b ∙ a)
 
   -- a job that isn't refused is refused for nothing
@@ -54,7 +52,7 @@ module _ (words : List (List ℕ)) (contents : List ℕ → Option (List ℕ)) (
 
 -- ---- the causes, in the order of the work
 
-module _ (words : List (List ℕ)) (contents : List ℕ → Option (List ℕ)) (c : CommandWords) (spelled : spelled_command words ≡ Some c) where
+module _ (words : List (List ℕ)) (contents : List ℕ → Option (List ℕ)) (c : CommandWords) (spelled : command_of words ≡ Some c) where
   specs_stopped : (status : Status) → StopsSpecs contents (needs_families c) (spec_sources c) status → IsCaused words contents status
   specs_stopped (BadSpec f x) h =
       let same : h.number ≡ f = sym h.stopped.0 in
@@ -179,6 +177,6 @@ pub error_is : {V E : Type 0} (P : E → Type 0) (r : Result V E) (e : E) → r 
 error_is P r e is h = subst (λ q. IfErr q P) is h
 
 -- words that spell no command
-pub words_caused : (words : List (List ℕ)) (contents : List ℕ → Option (List ℕ)) (status : Status) → ((status ≡ Usage) × (spelled_command words ≡ None)) ⊎ (status ≡ NoMemory) → IsCaused words contents status
+pub words_caused : (words : List (List ℕ)) (contents : List ℕ → Option (List ℕ)) (status : Status) → ((status ≡ Usage) × (command_of words ≡ None)) ⊎ (status ≡ NoMemory) → IsCaused words contents status
 words_caused words contents status (inl h) = subst (IsCaused words contents) (sym h.0) (no_command h.1)
 words_caused words contents status (inr e) = subst (IsCaused words contents) (sym e) tt

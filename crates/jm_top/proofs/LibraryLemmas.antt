@@ -1,5 +1,5 @@
 -- A library that grows.
-use Rattle.std.proofs.Common.{◌≡◌, ℕ, ◌+◌, ◌<◌, ◌≤◌, Bool, true, false, ◌&&◌, List, [], ◌∷◌, ◌++◌, length, get_or, take, drop, Option, Some, None, Result, Ok, Err, refl, sym, ap, subst, ◌∙◌, arith}
+use Rattle.std.proofs.Common.{◌≡◌, ℕ, ◌+◌, ◌<◌, ◌≤◌, Bool, true, false, ◌&&◌, List, [], ◌∷◌, ◌++◌, length, get_or, take, drop, Option, Some, None, Result, Ok, Err, refl, sym, ap, subst, ◌∙◌}
 use Rattle.std.specs.Prelude.{map, All, IsSome, OnOk, string_bytes}
 use Rattle.std.proofs.lemmas.List.{map-append, length-map, length-take-le, take_all}
 use Rattle.std.proofs.lemmas.List.Elements.{All-push}
@@ -9,14 +9,13 @@ use Rattle.jm_model.specs.declared.fault.SpecFault.{SpecFault}
 use Rattle.jm_model.specs.declared.fault.SpecFault.TheVariants.{DuplicateSpec, UnsupportedLogic}
 use Rattle.jm_model.specs.declared.fault.SpecError.{SpecError}
 use Rattle.jm_model.specs.declared.fault.SpecError.TheVariants.{Bad, NoMemory}
-use Rattle.jm_script.specs.Catalogs.{CatalogEntry, spec_names}
+use Rattle.jm_script.specs.Catalogs.{spec_names}
 use Rattle.jm_top.specs.declared.specification.Loaded.{Loaded}
 use Rattle.jm_top.specs.declared.library.Library.{Library}
 use Rattle.jm_top.specs.declared.status.Status.{Status}
-use Rattle.jm_top.specs.Sources.{Source, Gives}
-use Rattle.jm_top.specs.Specifications.{Specification, IsSpecification}
+use Rattle.jm_top.specs.Sources.{Source}
 use Rattle.jm_top.specs.Scripts.{entry_of, catalog_of}
-use Rattle.jm_top.specs.Inputs.{refusal_of, IsRefusal, faulty, refused, SaySpecifications, AreReadUpTo}
+use Rattle.jm_top.specs.Inputs.{refusal_of, IsRefusal, refused, SaySpecifications}
 use Rattle.jm_top.specs.Causes.{IsNoSpec, StopsSpecs}
 use Rattle.jm_top.specs.Reading.{specification_of, IsWhole, IsRead, specs_in, IsCatalogued, HasNext, HasNextFrom, IsLibraryOf}
 use Rattle.jm_top.proofs.OneReadingLemmas.{same_err}
@@ -47,6 +46,9 @@ module _ (families : Bool) (bytes : List ℕ) (old : Library) (l : Loaded) (read
   grammar_of fault grammar is =
       let here : refusal_of families (specs_in old) (specification_of l) ≡ Some (UnsupportedLogic l.titles.logic_line) = rw grammar refl in
       refused (specification_of l) read.said (here ∙ ap (λ f. Some f) (sym is))
+
+pub empty_library : (contents : List ℕ → Option (List ℕ)) (families : Bool) (library : Library) → library.specs.items ≡ [] → IsCatalogued library → IsLibraryOf contents families [] library
+empty_library contents families library none catalogued = record { said = ap (λ v. map specification_of v) none; catalogued = catalogued }
 
 -- ---- the loop over the names
 

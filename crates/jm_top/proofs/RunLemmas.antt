@@ -1,22 +1,22 @@
 -- Runs of scripts over specifications, and the texts of their histories.
-use Rattle.std.proofs.Common.{◌≡◌, ℕ, zero, suc, ◌+◌, ◌<◌, ◌≤◌, List, [], ◌∷◌, ◌++◌, length, get_or, take, Option, Some, None, refl, sym, ap, subst, ◌∙◌, arith, append_assoc, append-nil}
+use Rattle.std.proofs.Common.{◌≡◌, ℕ, zero, suc, ◌+◌, List, [], ◌∷◌, ◌++◌, length, Option, Some, refl, sym, ap, subst, ◌∙◌, arith}
 use Rattle.std.specs.Prelude.{All, map, slice_get, option_map, string_bytes}
 use Rattle.std.specs.Option.{option_map_or}
 use Rattle.std.proofs.lemmas.Option.{slice_get-map, none-some}
 use Rattle.std.proofs.lemmas.List.{length-map, map-append}
-use Rattle.std.proofs.lemmas.List.Elements.{All-contains, All-head, All-tail, All-map, All-weaker}
+use Rattle.std.proofs.lemmas.List.Elements.{All-head, All-tail, All-map, All-weaker}
 use Rattle.jm_model.specs.declared.step.Step.{Step}
 use Rattle.jm_model.specs.declared.step.Entry.{Entry}
 use Rattle.jm_semantics.specs.Legality.{IsLegal}
 use Rattle.jm_semantics.specs.Scripts.{projection_of, IsInterleaving}
 use Rattle.jm_core.specs.Cores.{Core}
-use Rattle.jm_core.specs.Steps.{IsFitStep}
 use Rattle.jm_turn.specs.Seats.{LockModel, SeatModel}
 use Rattle.jm_dispatch.specs.declared.watched.Fixed.{Fixed}
 use Rattle.jm_runner.specs.Runs.{projections_of, AreFitSteps, CanRun, IsRunOf}
-use Rattle.jm_print.specs.Lexicons.{Lexicon, lexicon_of}
-use Rattle.jm_print.specs.Texts.{IsPrintable, history_text}
+use Rattle.jm_print.specs.Lexicons.{lexicon_of}
+use Rattle.jm_print.specs.Texts.{IsPrintable}
 use Rattle.jm_print.specs.Told.{texts_of}
+use Rattle.jm_print.specs.Summaries.{summary_text}
 use Rattle.jm_script.specs.Catalogs.{CatalogEntry, table_of}
 use Rattle.jm_script.specs.Fitting.{FitsCatalog, FitsSpecification}
 use Rattle.jm_script.specs.Projections.{script_of}
@@ -28,10 +28,9 @@ use Rattle.jm_top.specs.declared.specification.Titles.{Titles}
 use Rattle.jm_top.specs.declared.specification.Loaded.{Loaded}
 use Rattle.jm_top.specs.declared.library.Library.{Library}
 use Rattle.jm_top.specs.declared.scripts.Scripts.{Scripts}
-use Rattle.jm_top.specs.Specifications.{Specification, meaning_of}
 use Rattle.jm_top.specs.Scripts.{entry_of, catalog_of}
-use Rattle.jm_top.specs.Reading.{AreTitlesOf, titled, specification_of, IsWhole, specs_in, IsCatalogued, AreCounted, title_lexicon, ArePrintable}
-use Rattle.jm_top.specs.Histories.{lexicon, IsHistoryOf, AreHistoriesFrom, IsTextOfHistories}
+use Rattle.jm_top.specs.Reading.{titled, specification_of, IsWhole, specs_in, IsCatalogued, AreCounted, title_lexicon, ArePrintable, title_summaries}
+use Rattle.jm_top.specs.Histories.{lexicon, IsHistoryOf, AreHistoriesFrom, IsTextOfHistories, summaries_of, IsTextOfSummaries}
 use Rattle.jm_top.specs.Runs.{IsWatchOf, AreWatchesOf, AreRunsOf}
 use Rattle.jm_top.proofs.OneReadingLemmas.{same_some}
 use Rattle.jm_top.proofs.HistoryLemmas.{doable, history_printable}
@@ -141,6 +140,11 @@ lexicons_are objects (l ∷ ls) all =
     let rest = lexicons_are objects ls (All-tail IsWhole l ls all) in
     λ i. here i ∷ rest i
 
+summaries_are : (ls : List Loaded) (hs : List (List Entry)) → title_summaries (map (λ (l : Loaded). l.titles) ls) hs ≡ summaries_of (map specification_of ls) hs
+summaries_are [] hs = refl
+summaries_are (l ∷ ls) [] = refl
+summaries_are (l ∷ ls) (h ∷ hs) = ap (λ v. summary_text (string_bytes l.titles.name) h ++ v) (summaries_are ls hs)
+
 module _ (library : Library) (scripts : Scripts) (catalogued : IsCatalogued library) (counted : AreCounted (specs_in library) scripts) (titles : List Titles) (ps : List (Core CompiledRules)) (runs : AreRunsOf library.specs.items scripts.list.items titles ps) where
   pub runs_printable : ArePrintable (map (title_lexicon scripts.objects) titles) (map (λ (p : Core CompiledRules). p.entries) ps)
   runs_printable =
@@ -157,6 +161,13 @@ module _ (library : Library) (scripts : Scripts) (catalogued : IsCatalogued libr
     histories = map (λ (p : Core CompiledRules). p.entries) ps;
     each = run_histories;
     printed = printed ∙ ap (λ ls. texts_of ls (map (λ (p : Core CompiledRules). p.entries) ps)) (ap (map (title_lexicon scripts.objects)) runs.titled ∙ lexicons_are scripts.objects library.specs.items catalogued.kept);
+  }
+
+  pub runs_summaries : (text : List ℕ) → text ≡ title_summaries titles (map (λ (p : Core CompiledRules). p.entries) ps) → IsTextOfSummaries (specs_in library) scripts.list.items text
+  runs_summaries text printed = record {
+    histories = map (λ (p : Core CompiledRules). p.entries) ps;
+    each = run_histories;
+    printed = printed ∙ ap (λ ts. title_summaries ts (map (λ (p : Core CompiledRules). p.entries) ps)) runs.titled ∙ summaries_are library.specs.items (map (λ (p : Core CompiledRules). p.entries) ps);
   }
 
 -- what was run is what the scripts had to do

@@ -1,5 +1,5 @@
 -- Scripts, read one behind the other.
-use Rattle.std.proofs.Common.{◌≡◌, ℕ, ◌+◌, ◌<◌, ◌≤◌, List, [], ◌∷◌, ◌++◌, length, get_or, take, drop, Option, refl, sym, ap, subst, ◌∙◌, arith}
+use Rattle.std.proofs.Common.{◌≡◌, ℕ, ◌+◌, ◌<◌, ◌≤◌, List, [], ◌∷◌, ◌++◌, length, get_or, take, drop, Option, sym, ap, subst, ◌∙◌, arith}
 use Rattle.std.specs.Prelude.{map, All}
 use Rattle.std.proofs.lemmas.List.{length-take-le, take_all}
 use Rattle.std.proofs.lemmas.List.Elements.{All-push, All-weaker}
@@ -12,10 +12,10 @@ use Rattle.jm_script.specs.Fitting.{FitsCatalog}
 use Rattle.jm_script.proofs.FittingLemmas.{FitsCatalog-more}
 use Rattle.jm_top.specs.declared.scripts.Scripts.{Scripts}
 use Rattle.jm_top.specs.declared.status.Status.{Status}
-use Rattle.jm_top.specs.Sources.{Source, Gives}
+use Rattle.jm_top.specs.Sources.{Source}
 use Rattle.jm_top.specs.Specifications.{Specification, most_bytes}
 use Rattle.jm_top.specs.Scripts.{catalog_of, meaning_over, IsScript, IsScriptFault, in_line}
-use Rattle.jm_top.specs.Inputs.{step_count, SayScripts, AreScriptsUpTo}
+use Rattle.jm_top.specs.Inputs.{step_count, SayScripts}
 use Rattle.jm_top.specs.Causes.{IsNoScript, StopsScripts}
 use Rattle.jm_top.specs.Reading.{AreCounted, HasScript, HasScriptFrom, AreScriptsOf}
 use Rattle.jm_top.proofs.InputLemmas.{split_sources, more_sources, length-sources, length-scripts, scripts_more, step_count-more}
@@ -48,6 +48,9 @@ module _ (specs : List Specification) (catalog : List CatalogEntry) (over : cata
   pub script_refused : (old : Scripts) (fault : ScriptFault) (objects : List (List ℕ)) (count : ℕ) → IsRefused (script_meaning catalog old.count bytes old.objects) old.count fault objects count → IsScriptFault specs old.count old.objects bytes fault
   script_refused old fault objects count left =
       in_line fault small (ap (λ v. (script_meaning v old.count bytes old.objects).fault) (sym over) ∙ left.first)
+
+pub no_scripts : (contents : List ℕ → Option (List ℕ)) (specs : List Specification) (s : Scripts) → s.list.items ≡ [] → s.objects ≡ [] → AreCounted specs s → AreScriptsOf contents specs [] s
+no_scripts contents specs s none unnamed counted = record { said = (none, unnamed); counted = counted }
 
 -- ---- the loop over the names
 

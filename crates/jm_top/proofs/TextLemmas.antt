@@ -1,6 +1,6 @@
 -- The texts of several specifications, one after another.
-use Rattle.std.proofs.Common.{◌≡◌, ℕ, zero, suc, ◌+◌, ◌<◌, ◌≤◌, List, [], ◌∷◌, ◌++◌, length, get_or, take, Option, Some, None, refl, sym, ap, subst, ◌∙◌, arith, append_assoc, append-nil}
-use Rattle.std.specs.Prelude.{All, Contains, map, slice_get, IfSome}
+use Rattle.std.proofs.Common.{◌≡◌, ℕ, zero, suc, ◌+◌, ◌<◌, List, [], ◌∷◌, ◌++◌, length, get_or, take, refl, sym, ap, subst, ◌∙◌, arith, append_assoc, append-nil}
+use Rattle.std.specs.Prelude.{All, Contains, map, slice_get, IfSome, string_bytes}
 use Rattle.std.specs.List.{flat_map}
 use Rattle.std.proofs.lemmas.List.{take_more, map-append, length-map, length_push, length-take-le}
 use Rattle.std.proofs.lemmas.List.Elements.{All-contains, Contains-get_or}
@@ -9,11 +9,12 @@ use Rattle.jm_model.specs.declared.step.Entry.{Entry}
 use Rattle.jm_print.specs.Lexicons.{Lexicon}
 use Rattle.jm_print.specs.Texts.{history_text, IsPrintable}
 use Rattle.jm_print.specs.Told.{texts_of}
-use Rattle.jm_semantics.specs.Families.{IsFamily}
+use Rattle.jm_print.specs.Summaries.{summary_text}
+use Rattle.jm_top.specs.declared.specification.Titles.{Titles}
 use Rattle.jm_top.specs.declared.specification.Loaded.{Loaded}
-use Rattle.jm_top.specs.Specifications.{Specification, meaning_of}
-use Rattle.jm_top.specs.Reading.{specification_of, ArePrintable}
-use Rattle.jm_top.specs.Texts.{declared_text, AreFamiliesOf, IsTextOfFamily, IsTextOfFamilies}
+use Rattle.jm_top.specs.Specifications.{Specification}
+use Rattle.jm_top.specs.Reading.{specification_of, ArePrintable, title_summaries}
+use Rattle.jm_top.specs.Texts.{declared_text, IsTextOfFamily, IsTextOfFamilies}
 
 -- what holds of each holds of the one of a place
 pub All-place : {X : Type 0} (P : X → Type 0) (xs : List X) (i : ℕ) (x : X) → All P xs → i < length xs → x ≡ get_or xs i x → P x
@@ -71,6 +72,22 @@ histories_more {A} {B} f g xs ys i x y in_xs in_ys here there =
     let left : map f (take (i + 1) xs) ≡ map f (take i xs) ++ f x ∷ [] = ap (map f) (one_more xs i x in_xs here) ∙ map-append f (take i xs) (x ∷ []) in
     let right : map g (take (i + 1) ys) ≡ map g (take i ys) ++ g y ∷ [] = ap (map g) (one_more ys i y in_ys there) ∙ map-append g (take i ys) (y ∷ []) in
     (λ j. texts_of (left j) (right j)) ∙ behind (map f (take i xs)) (map g (take i ys)) (f x) (g y) same
+
+summaries_behind : (ts : List Titles) (hs : List (List Entry)) (t : Titles) (h : List Entry) → length ts ≡ length hs → title_summaries (ts ++ t ∷ []) (hs ++ h ∷ []) ≡ title_summaries ts hs ++ summary_text (string_bytes t.name) h
+summaries_behind [] [] t h same = append-nil (summary_text (string_bytes t.name) h)
+summaries_behind [] (g ∷ hs) t h same = absurd (omega (arith, same))
+summaries_behind (k ∷ ts) [] t h same = absurd (omega (arith, same))
+summaries_behind (k ∷ ts) (g ∷ hs) t h same =
+    ap (λ v. summary_text (string_bytes k.name) g ++ v) (summaries_behind ts hs t h (omega (arith, same))) ∙ sym (append_assoc (summary_text (string_bytes k.name) g) (title_summaries ts hs) (summary_text (string_bytes t.name) h))
+
+-- the summary of one history more
+pub summaries_more : {B : Type 0} (g : B → List Entry) (xs : List Titles) (ys : List B) (i : ℕ) (x : Titles) (y : B) → i < length xs → i < length ys → x ≡ get_or xs i x → y ≡ get_or ys i y
+    → title_summaries (take (i + 1) xs) (map g (take (i + 1) ys)) ≡ title_summaries (take i xs) (map g (take i ys)) ++ summary_text (string_bytes x.name) (g y)
+summaries_more {B} g xs ys i x y in_xs in_ys here there =
+    let same : length (take i xs) ≡ length (map g (take i ys)) = length-take-le i xs (omega arith) ∙ sym (length-take-le i ys (omega arith)) ∙ sym (length-map (take i ys) g) in
+    let left : take (i + 1) xs ≡ take i xs ++ x ∷ [] = one_more xs i x in_xs here in
+    let right : map g (take (i + 1) ys) ≡ map g (take i ys) ++ g y ∷ [] = ap (map g) (one_more ys i y in_ys there) ∙ map-append g (take i ys) (y ∷ []) in
+    (λ j. title_summaries (left j) (right j)) ∙ summaries_behind (take i xs) (map g (take i ys)) x (g y) same
 
 -- the history of a place can be printed
 pub printable_place : {A B : Type 0} (f : A → Lexicon) (g : B → List Entry) (xs : List A) (ys : List B) (i : ℕ) (x : A) (y : B) → ArePrintable (map f xs) (map g ys) → i < length xs → i < length ys → x ≡ get_or xs i x → y ≡ get_or ys i y → All (IsPrintable (f x)) (g y)

@@ -1,6 +1,5 @@
 -- Why the work of a command ends before its text is written.
 use Rattle.std.specs.Prelude.{ℕ, ◌+◌, ◌≡◌, ◌⊎◌, Bool, false, List, [], length, Option}
-use Rattle.jm_model.specs.declared.fault.SpecFault.{SpecFault}
 use Rattle.jm_script.specs.declared.script.ScriptLine.{ScriptLine}
 use Rattle.jm_top.specs.declared.status.Status.{Status}
 use Rattle.jm_top.specs.declared.status.Status.TheVariants.{Done, BadSpec, BadScript, ReadFailed, WriteFailed, NoMemory}

@@ -1,20 +1,24 @@
 -- What a command reads.
-use Rattle.std.specs.Prelude.{ℕ, ◌≤◌, Bool, true, false, List, [], ◌∷◌, length, map, Option, Some, None}
-use Rattle.jm_cli.specs.Words.{CommandWords, command_of}
+use Rattle.std.specs.Prelude.{ℕ, ◌≤◌, Bool, true, false, List, [], ◌∷◌, length, map}
+use Rattle.jm_cli.specs.Words.{CommandWords}
 use Rattle.jm_cli.specs.Words.CommandWords.{Replay, Run, Check, Coenable, Gen}
-use Rattle.jm_top.specs.Sources.{Source, Named}
+use Rattle.jm_gen.specs.Specifications.{unsafe_iter, has_next}
+use Rattle.jm_gen.specs.Scripts.{IsInRange, script_text}
+use Rattle.jm_top.specs.Sources.{Source, Named, Given}
 
--- files by these names
+-- files by these names, and files of these bytes
 abbrev pub named : List (List ℕ) → List Source
 named names = map (λ name. Named name) names
 
--- the command that the words spell, of those that are there: `gen` isn't yet
-abbrev pub without_gen : Option CommandWords → Option CommandWords
-without_gen (Some (Gen n)) = None
-without_gen command = command
+abbrev pub given_files : List (List ℕ) → List Source
+given_files files = map (λ bytes. Given bytes) files
 
-unfoldable pub spelled_command : List (List ℕ) → Option CommandWords
-spelled_command words = without_gen (command_of words)
+-- the specifications of a workload, and its scripts, of so many rounds each
+unfoldable pub workload_specs : List (List ℕ)
+workload_specs = unsafe_iter ∷ has_next ∷ []
+
+unfoldable pub workload_scripts : ℕ → List (List ℕ)
+workload_scripts n = script_text 0 n ∷ script_text 1 n ∷ script_text 2 n ∷ script_text 3 n ∷ []
 
 -- the specifications of a command, in order
 abbrev pub spec_sources : CommandWords → List Source
@@ -22,7 +26,7 @@ spec_sources (Replay spec script) = named (spec ∷ [])
 spec_sources (Run specs scripts) = named specs
 spec_sources (Check specs) = named specs
 spec_sources (Coenable specs) = named specs
-spec_sources (Gen n) = []
+spec_sources (Gen n) = given_files workload_specs
 
 -- its scripts, in order
 abbrev pub script_sources : CommandWords → List Source
@@ -30,7 +34,7 @@ script_sources (Replay spec script) = named (script ∷ [])
 script_sources (Run specs scripts) = named scripts
 script_sources (Check specs) = []
 script_sources (Coenable specs) = []
-script_sources (Gen n) = []
+script_sources (Gen n) = given_files (workload_scripts n)
 
 -- the command asks for coenable families, which grammars don't have
 abbrev pub needs_families : CommandWords → Bool
@@ -47,4 +51,4 @@ IsWithin (Replay spec script) = Unit {0}
 IsWithin (Run specs scripts) = AreFew specs × AreFew scripts
 IsWithin (Check specs) = AreFew specs
 IsWithin (Coenable specs) = AreFew specs
-IsWithin (Gen n) = ⊥
+IsWithin (Gen n) = IsInRange n

@@ -1,13 +1,13 @@
 -- What a command is to do, by its words and the contents of its files.
-use Rattle.std.specs.Prelude.{ℕ, ◌+◌, ◌≡◌, List, [], ◌∷◌, length, Option, Some, None}
+use Rattle.std.specs.Prelude.{ℕ, ◌+◌, ◌≡◌, List, [], length, Option, Some, None}
 use Rattle.jm_model.specs.declared.fault.SpecFault.{SpecFault}
 use Rattle.jm_model.specs.declared.fault.ScriptFault.{ScriptFault}
 use Rattle.jm_script.specs.declared.script.ScriptLine.{ScriptLine}
-use Rattle.jm_cli.specs.Words.{CommandWords}
+use Rattle.jm_cli.specs.Words.{CommandWords, command_of}
 use Rattle.jm_top.specs.declared.status.Status.{Status}
 use Rattle.jm_top.specs.declared.status.Status.TheVariants.{Usage, BadSpec, BadScript, ReadFailed}
 use Rattle.jm_top.specs.Sources.{Source, IsFile, Gives, AllTold}
-use Rattle.jm_top.specs.Commands.{spelled_command, spec_sources, script_sources, needs_families}
+use Rattle.jm_top.specs.Commands.{spec_sources, script_sources, needs_families}
 use Rattle.jm_top.specs.Specifications.{Specification}
 use Rattle.jm_top.specs.Scripts.{IsScriptFault}
 use Rattle.jm_top.specs.Inputs.{IsRefusal, SaySpecifications, AreReadUpTo, step_count, SayScripts, AreScriptsUpTo}
@@ -21,22 +21,22 @@ module _ (words : List (List ℕ)) (contents : List ℕ → Option (List ℕ)) w
   -- The job: the first fault in the order of the work, which is the words, each specification in order, each script in order;
   -- or, where there is none, what was read.
   pub data IsJob : Job → Type 0 where
-    no_command : spelled_command words ≡ None → IsJob (Refused Usage)
+    no_command : command_of words ≡ None → IsJob (Refused Usage)
     bad_spec : (command : CommandWords) (number : ℕ) (source : Source) (before : List Specification) (bytes : List ℕ) (fault : SpecFault)
-        → spelled_command words ≡ Some command
+        → command_of words ≡ Some command
         → AreReadUpTo contents (needs_families command) (spec_sources command) number source before
         → Gives contents source bytes
         → IsRefusal (needs_families command) before bytes fault
         → IsJob (Refused (BadSpec number fault))
     bad_script : (command : CommandWords) (specs : List Specification) (number : ℕ) (source : Source) (before : List (List ScriptLine)) (names : List (List ℕ)) (bytes : List ℕ) (fault : ScriptFault)
-        → spelled_command words ≡ Some command
+        → command_of words ≡ Some command
         → SaySpecifications contents (needs_families command) [] (spec_sources command) specs
         → AreScriptsUpTo contents specs (script_sources command) number source before names
         → Gives contents source bytes
         → IsScriptFault specs (step_count before) names bytes fault
         → IsJob (Refused (BadScript number fault))
     accepted : (command : CommandWords) (specs : List Specification) (scripts : List (List ScriptLine)) (objects : List (List ℕ))
-        → spelled_command words ≡ Some command
+        → command_of words ≡ Some command
         → SaySpecifications contents (needs_families command) [] (spec_sources command) specs
         → SayScripts contents specs 0 [] (script_sources command) scripts objects
         → IsJob (Accepted command specs scripts objects)
@@ -44,12 +44,12 @@ module _ (words : List (List ℕ)) (contents : List ℕ → Option (List ℕ)) w
   -- nothing has a fault that comes before the file of this number is loaded: files are counted in the order of the words
   pub data ReachesFile : ℕ → Type 0 where
     spec_file : (command : CommandWords) (number : ℕ) (file : Source) (before : List Specification)
-        → spelled_command words ≡ Some command
+        → command_of words ≡ Some command
         → AreReadUpTo contents (needs_families command) (spec_sources command) number file before
         → IsFile file
         → ReachesFile number
     script_file : (command : CommandWords) (specs : List Specification) (number : ℕ) (file : Source) (before : List (List ScriptLine)) (names : List (List ℕ))
-        → spelled_command words ≡ Some command
+        → command_of words ≡ Some command
         → SaySpecifications contents (needs_families command) [] (spec_sources command) specs
         → AreScriptsUpTo contents specs (script_sources command) number file before names
         → IsFile file
@@ -65,4 +65,4 @@ module _ (words : List (List ℕ)) (contents : List ℕ → Option (List ℕ)) w
 
   -- it is told what the files of the command hold
   abbrev pub AreTold : Type 0
-  AreTold = (command : CommandWords) → spelled_command words ≡ Some command → AllTold contents (spec_sources command) × AllTold contents (script_sources command)
+  AreTold = (command : CommandWords) → command_of words ≡ Some command → AllTold contents (spec_sources command) × AllTold contents (script_sources command)

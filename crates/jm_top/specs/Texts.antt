@@ -1,5 +1,5 @@
 -- The text of a command.
-use Rattle.std.specs.Prelude.{ℕ, ◌≡◌, ◌<◌, List, [], ◌∷◌, ◌++◌, length, slice_get, IfSome}
+use Rattle.std.specs.Prelude.{ℕ, ◌≡◌, List, [], ◌∷◌, ◌++◌, length, slice_get, IfSome}
 use Rattle.std.specs.List.{flat_map}
 use Rattle.jm_semantics.specs.Families.{IsFamily}
 use Rattle.jm_print.specs.Checks.{check_text}

@@ -2,10 +2,9 @@
 ghost use Rattle.std.specs.Prelude.{◌≡◌, ◌⊎◌, ℕ, List, map, string_bytes, None, Some, IfOk, IfErr};
 ghost use Rattle.jm_port.specs.Faults.{HasRisen};
 ghost use Rattle.jm_script.specs.declared.script.ScriptLine.{ScriptLine};
-ghost use Rattle.jm_cli.specs.Words.{CommandWords};
-ghost use Rattle.jm_cli.specs.Words.CommandWords.{Gen};
+ghost use Rattle.jm_cli.specs.Words.{CommandWords, command_of};
 ghost use Rattle.jm_cli.specs.Views.{command_words};
-ghost use Rattle.jm_top.specs.Commands.{spelled_command, IsWithin};
+ghost use Rattle.jm_top.specs.Commands.{IsWithin};
 ghost use Rattle.jm_top.specs.Specifications.{Specification};
 ghost use Rattle.jm_top.specs.Jobs.{IsJob, Accepted, IsCaused, AreTold};
 ghost use Rattle.jm_top.specs.Endings.{Writes, WritesText, Ends, Reports};
@@ -42,7 +41,7 @@ pub fn jmop<R: Threads + Wait + Sync, F: Folder, S: Sink, E: Sink, G: Gate>(
 ) -> Status
     ensures written { Writes (map string_bytes words.now) (F.holds files.old) result (S.written out.old) (S.written out.new) }
     ensures caused { IsCaused (map string_bytes words.now) (F.holds files.old) result }
-    ensures no_command { spelled_command (map string_bytes words.now) ≡ None → (result ≡ Status.Usage) ⊎ (result ≡ Status.NoMemory) }
+    ensures no_command { command_of (map string_bytes words.now) ≡ None → (result ≡ Status.Usage) ⊎ (result ≡ Status.NoMemory) }
     ensures read_failed { (file : ℕ) → result ≡ Status.ReadFailed file → HasRisen (F.faults files.old) (F.faults files.new) }
     ensures write_failed { result ≡ Status.WriteFailed → HasRisen (S.faults out.old) (S.faults out.new) }
     ensures complete { (command : CommandWords) (specs : List Specification) (scripts : List (List ScriptLine)) (objects : List (List ℕ)) → AreTold (map string_bytes words.now) (F.holds files.old)
@@ -66,7 +65,7 @@ fn carry_out<R: Threads + Wait + Sync, F: Folder, S: Sink, G: Gate>(
 ) -> Status
     ensures written { Writes (map string_bytes words.now) (F.holds files.old) result (S.written out.old) (S.written out.new) }
     ensures caused { IsCaused (map string_bytes words.now) (F.holds files.old) result }
-    ensures no_command { spelled_command (map string_bytes words.now) ≡ None → (result ≡ Status.Usage) ⊎ (result ≡ Status.NoMemory) }
+    ensures no_command { command_of (map string_bytes words.now) ≡ None → (result ≡ Status.Usage) ⊎ (result ≡ Status.NoMemory) }
     ensures read_failed { (file : ℕ) → result ≡ Status.ReadFailed file → HasRisen (F.faults files.old) (F.faults files.new) }
     ensures write_failed { result ≡ Status.WriteFailed → HasRisen (S.faults out.old) (S.faults out.new) }
 {
@@ -82,26 +81,15 @@ fn carry_out<R: Threads + Wait + Sync, F: Folder, S: Sink, G: Gate>(
 
 /// The command that the words spell.
 fn read_command(alloc: Global, words: &[String]) -> Result<Command, Status>
-    ensures spelled { IfOk result (λ command. spelled_command (map string_bytes words.now) ≡ Some (command_words command)) }
+    ensures spelled { IfOk result (λ command. command_of (map string_bytes words.now) ≡ Some (command_words command)) }
     ensures within { IfOk result (λ command. IsWithin (command_words command)) }
-    ensures err { IfErr result (λ status. ((status ≡ Status.Usage) × (spelled_command (map string_bytes words.now) ≡ None)) ⊎ (status ≡ Status.NoMemory)) }
+    ensures err { IfErr result (λ status. ((status ≡ Status.Usage) × (command_of (map string_bytes words.now) ≡ None)) ⊎ (status ≡ Status.NoMemory)) }
 {
     match read_words(alloc, words) {
-        Ok(command) => without_gen(command),
+        Ok(command) => Ok(command),
         Err(WordsError::Usage) => Err(Status::Usage),
         Err(WordsError::NoMemory) => Err(Status::NoMemory),
     }
-}
-
-/// The command, if it is there: `gen` isn't yet.
-fn without_gen(command: Command) -> Result<Command, Status>
-    ensures ok { IfOk result (λ c. (c ≡ command) × ((n : ℕ) → command_words c ≡ Gen n → ⊥)) }
-    ensures err { IfErr result (λ status. (status ≡ Status.Usage) × ((n : ℕ) × (command_words command ≡ Gen n))) }
-{
-    if let Command::Gen { .. } = &command {
-        return Err(Status::Usage);
-    }
-    Ok(command)
 }
 
 /// Gives the text to the sink.

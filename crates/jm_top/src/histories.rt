@@ -52,3 +52,27 @@ fn history_text<M: Monitor>(
         objects,
     )
 }
+
+/// The summaries of the histories of these cores, each by its titles, one after another.
+pub(crate) fn summaries_text<M: Monitor>(
+    alloc: Global,
+    titles: &[Titles],
+    props: &[Prop<M>],
+) -> Result<Vec<u8>, NoMemory>
+    requires { length titles.now ≡ length props.now }
+    ensures { IfOk result (λ text. text.items ≡ title_summaries titles.now (map (λ p. p.entries) props.now)) }
+{
+    let mut text = Vec::new(alloc);
+    for number in 0..titles.len() {
+        let line = summary(alloc, &titles[number], &props[number])?;
+        text = joined(text, line)?;
+    }
+    Ok(text)
+}
+
+/// The summary of the history of a core.
+fn summary<M: Monitor>(alloc: Global, titles: &Titles, prop: &Prop<M>) -> Result<Vec<u8>, NoMemory>
+    ensures { IfOk result (λ text. text.items ≡ summary_text (string_bytes titles.now.name) prop.now.entries) }
+{
+    render_summary(alloc, titles.name.as_str(), prop.history())
+}

@@ -1,17 +1,17 @@
 //! The text of each command.
-ghost use Rattle.std.specs.Prelude.{◌≡◌, ◌≤◌, [], ◌∷◌, false, ℕ, List, length, map, IfOk, IfErr, string_bytes};
+ghost use Rattle.std.specs.Prelude.{◌≡◌, ℕ, List, Option, map, IfOk, IfErr, string_bytes};
 ghost use Rattle.jm_port.specs.Faults.{HasRisen};
 ghost use Rattle.jm_cli.specs.Words.CommandWords.{Replay, Run, Check, Coenable, Gen};
 ghost use Rattle.jm_cli.specs.Views.{command_words};
-ghost use Rattle.jm_top.specs.Commands.{named, AreFew, IsWithin};
-ghost use Rattle.jm_top.specs.Causes.{StopsCommand, IsTextOfCommand, StopsInputs};
-ghost use Rattle.jm_top.specs.Reading.{AreInputsOf};
+ghost use Rattle.jm_gen.specs.Scripts.{IsInRange};
+ghost use Rattle.jm_top.specs.Commands.{AreFew, IsWithin};
+ghost use Rattle.jm_top.specs.Causes.{StopsCommand, IsTextOfCommand};
 
 use crate::blocks::{declared, families};
-use crate::library::{Library, read_specifications};
+use crate::inputs::{read_inputs, read_workload};
+use crate::library::read_specifications;
 use crate::replay::replay;
-use crate::run::run;
-use crate::scripts::{Scripts, read_scripts};
+use crate::run::{run, run_in_short};
 use crate::status::Status;
 use jm_cli::Command;
 use jm_port::Folder;
@@ -41,7 +41,7 @@ pub(crate) fn make_text<R: Threads + Wait + Sync, F: Folder, G: Gate>(
         }
         Command::Check { specs } => checked(alloc, specs.as_slice(), files),
         Command::Coenable { specs } => coenabled(alloc, specs.as_slice(), files),
-        Command::Gen { .. } => unreachable!(),
+        Command::Gen { n } => generated(rt, alloc, *n, gate),
     }
 }
 
@@ -105,27 +105,18 @@ fn coenabled<F: Folder>(alloc: Global, specs: &[String], files: &mut F) -> Resul
     Ok(text)
 }
 
-/// The specifications and the scripts of a command.
-#[derive(Drop)]
-struct Inputs {
-    library: Library,
-    scripts: Scripts,
-}
-
-/// Reads the specifications of these names, and then the scripts of those names.
-fn read_inputs<F: Folder>(
+/// The text of `gen`, over a workload of `n` rounds. It reads no file of the folder.
+fn generated<R: Threads + Wait + Sync, G: Gate>(
+    rt: &R,
     alloc: Global,
-    specs: &[String],
-    scripts: &[String],
-    files: &mut F,
-) -> Result<Inputs, Status>
-    requires few_specs { length specs.now ≤ 16 }
-    requires few_scripts { length scripts.now ≤ 16 }
-    ensures read { IfOk result (AreInputsOf (F.holds files.old) (named (map string_bytes specs.now)) (named (map string_bytes scripts.now))) }
-    ensures err { IfErr result (StopsInputs (F.holds files.old) (named (map string_bytes specs.now)) (named (map string_bytes scripts.now))) }
-    ensures read_failed { (file : ℕ) → result ≡ Err (Status.ReadFailed file) → HasRisen (F.faults files.old) (F.faults files.new) }
+    n: u32,
+    gate: &G,
+) -> Result<Vec<u8>, Status>
+    requires { IsInRange n }
+    ensures made { (contents : List ℕ → Option (List ℕ)) → IfOk result (λ text. IsTextOfCommand contents (Gen n) text.items) }
+    ensures caused { (contents : List ℕ → Option (List ℕ)) → IfErr result (StopsCommand contents (Gen n)) }
 {
-    let library = read_specifications(alloc, specs, false, files)?;
-    let scripts = read_scripts(alloc, scripts, &library, files)?;
-    Ok(Inputs { library, scripts })
+    let inputs = read_workload(alloc, n)?;
+    let text = run_in_short(rt, alloc, inputs.library, &inputs.scripts, gate)?;
+    Ok(text)
 }

@@ -1,7 +1,7 @@
 //! The top call: a command from the words of its command line to its status.
 //!
 //! `jmop` reads the words, loads the files from a folder, does the command, and writes its text to a sink and what went wrong to
-//! another. It knows `replay`, `run`, `check` and `coenable`, over all four logics and over scripts of events, deaths and passes.
+//! another. It knows `replay`, `run`, `check`, `coenable` and `gen`, over all four logics and over scripts of events, deaths and passes.
 //!
 //! What a command is to do stands in `specs`, apart from how it is done: `Jobs.antt` says what its words and the contents
 //! of its files ask for or which fault is the first, `Inputs.antt` what files say one behind the other, and `Texts.antt` and
@@ -11,6 +11,7 @@
 //! |---|---|
 //! | `command` | the call, from the words to the status |
 //! | `job` | the text of each command |
+//! | `inputs` | the specifications and scripts of a command, loaded or made |
 //! | `library`, `specification` | specifications, read one behind the other |
 //! | `scripts` | scripts, read one behind the other |
 //! | `replay`, `run` | the histories of scripts |
@@ -20,6 +21,7 @@
 mod blocks;
 mod command;
 mod histories;
+mod inputs;
 mod job;
 mod laws;
 mod library;

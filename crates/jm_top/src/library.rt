@@ -1,11 +1,11 @@
 //! The specifications of a command, read one behind the other.
-ghost use Rattle.std.specs.Prelude.{◌≡◌, ◌<◌, ◌≤◌, ◌&&◌, ◌∷◌, ◌++◌, [], ℕ, Bool, List, length, map, IfOk, IfErr, OnOk, IsSome, None, true, false, string_bytes};
+ghost use Rattle.std.specs.Prelude.{◌≡◌, ◌<◌, ◌≤◌, ◌&&◌, ◌∷◌, ◌++◌, [], ℕ, Bool, List, Option, length, map, IfOk, IfErr, OnOk, IsSome, None, true, false, string_bytes};
 ghost use Rattle.jm_port.specs.Faults.{HasRisen};
 ghost use Rattle.jm_events.specs.Names.{number_of};
 ghost use Rattle.jm_machine.specs.Formulas.{is_grammar};
 ghost use Rattle.jm_model.specs.declared.fault.SpecFault.{SpecFault};
 ghost use Rattle.jm_script.specs.Catalogs.{spec_names};
-ghost use Rattle.jm_top.specs.Commands.{named};
+ghost use Rattle.jm_top.specs.Commands.{named, given_files};
 ghost use Rattle.jm_top.specs.Sources.{Named, Gives};
 ghost use Rattle.jm_top.specs.Specifications.{Specification, most_bytes};
 ghost use Rattle.jm_top.specs.Scripts.{catalog_of};
@@ -78,6 +78,37 @@ pub(crate) fn read_specifications<F: Folder>(
         read_next(alloc, name.as_str(), families, files, &mut library)?;
     }
     Ok(library)
+}
+
+/// Reads the specifications that these bytes say, in order.
+pub(crate) fn given_specifications(alloc: Global, files: &[Vec<u8>]) -> Result<Library, Status>
+    requires { length files.now ≤ 16 }
+    ensures read { (contents : List ℕ → Option (List ℕ)) → IfOk result (IsLibraryOf contents false (given_files (map (λ file. file.items) files.now))) }
+    ensures err { (contents : List ℕ → Option (List ℕ)) → IfErr result (StopsSpecs contents false (given_files (map (λ file. file.items) files.now))) }
+{
+    let mut library = Library::new(alloc);
+    for file in files {
+        read_given(alloc, file.as_slice(), &mut library)?;
+    }
+    Ok(library)
+}
+
+/// Reads the specification that these bytes say, behind those of the library, however many they are.
+fn read_given(alloc: Global, bytes: &[u8], library: &mut Library) -> Result<(), Status>
+    requires few { length library.old.specs.items < 16 }
+    requires catalogued { IsCatalogued library.old }
+    ensures read { OnOk result (HasNext false bytes.now library.old library.new) }
+    ensures err { IfErr result (IsNoSpecIn false (specs_in library.old) (length library.old.specs.items) bytes.now) }
+{
+    let number = library.specs.len() as u32;
+    if bytes.len() > MOST_BYTES {
+        let fault = SpecFault::TooLong;
+        return Err(Status::BadSpec {
+            file: number,
+            fault,
+        });
+    }
+    read_bytes(alloc, bytes, number, false, library)
 }
 
 /// Reads the specification of this name, behind those of the library. After an error the library is of no use.

@@ -1,10 +1,10 @@
 //! Running scripts over specifications.
 ghost use Rattle.std.specs.Prelude.{◌≡◌, ◌<◌, ◌≤◌, length, map, IfOk};
-ghost use Rattle.jm_top.specs.Histories.{IsTextOfHistories};
+ghost use Rattle.jm_top.specs.Histories.{IsTextOfHistories, IsTextOfSummaries};
 ghost use Rattle.jm_top.specs.Reading.{specs_in, IsCatalogued, AreCounted};
 ghost use Rattle.jm_top.specs.Runs.{IsWatchOf, AreWatchesOf, AreRunsOf};
 
-use crate::histories::histories_text;
+use crate::histories::{histories_text, summaries_text};
 use crate::library::Library;
 use crate::scripts::Scripts;
 use crate::specification::{Loaded, Titles};
@@ -38,6 +38,24 @@ pub(crate) fn run<R: Threads + Wait + Sync, G: Gate>(
         runs.props.as_slice(),
         &scripts.objects,
     )
+}
+
+/// The summaries of the specifications' histories, over which the scripts run.
+pub(crate) fn run_in_short<R: Threads + Wait + Sync, G: Gate>(
+    rt: &R,
+    alloc: Global,
+    library: Library,
+    scripts: &Scripts,
+    gate: &G,
+) -> Result<Vec<u8>, NoMemory>
+    requires specs { (1 ≤ length library.specs.items) × (length library.specs.items ≤ 16) }
+    requires scripts { (1 ≤ length scripts.now.list.items) × (length scripts.now.list.items ≤ 16) }
+    requires catalogued { IsCatalogued library }
+    requires counted { AreCounted (specs_in library) scripts.now }
+    ensures { IfOk result (λ text. IsTextOfSummaries (specs_in library) scripts.now.list.items text.items) }
+{
+    let runs = run_all(rt, alloc, library, scripts, gate)?;
+    summaries_text(alloc, runs.titles.as_slice(), runs.props.as_slice())
 }
 
 /// The titles of each specification, and its core after the run.

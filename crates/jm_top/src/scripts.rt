@@ -1,8 +1,8 @@
 //! The scripts of a command, read one behind the other.
-ghost use Rattle.std.specs.Prelude.{◌≡◌, ◌+◌, ◌<◌, ◌≤◌, ◌^◌, [], ℕ, List, length, map, IfOk, IfErr, OnOk, string_bytes};
+ghost use Rattle.std.specs.Prelude.{◌≡◌, ◌+◌, ◌<◌, ◌≤◌, ◌^◌, [], ℕ, List, Option, length, map, IfOk, IfErr, OnOk, string_bytes};
 ghost use Rattle.jm_port.specs.Faults.{HasRisen};
 ghost use Rattle.jm_model.specs.declared.fault.ScriptFault.{ScriptFault};
-ghost use Rattle.jm_top.specs.Commands.{named};
+ghost use Rattle.jm_top.specs.Commands.{named, given_files};
 ghost use Rattle.jm_top.specs.Sources.{Named, Gives};
 ghost use Rattle.jm_top.specs.Specifications.{Specification, most_bytes};
 ghost use Rattle.jm_top.specs.Scripts.{IsScriptFault};
@@ -60,6 +60,48 @@ pub(crate) fn read_scripts<F: Folder>(
         read_next(alloc, name.as_str(), library, files, &mut scripts)?;
     }
     Ok(scripts)
+}
+
+/// Reads the scripts that these bytes say, in order, over the specifications of the library.
+pub(crate) fn given_scripts(
+    alloc: Global,
+    files: &[Vec<u8>],
+    library: &Library,
+) -> Result<Scripts, Status>
+    requires few { length files.now ≤ 16 }
+    requires catalogued { IsCatalogued library.now }
+    ensures read { (contents : List ℕ → Option (List ℕ)) → IfOk result (AreScriptsOf contents (specs_in library.now) (given_files (map (λ file. file.items) files.now))) }
+    ensures err { (contents : List ℕ → Option (List ℕ)) → IfErr result (StopsScripts contents (specs_in library.now) (length library.now.specs.items) (given_files (map (λ file. file.items) files.now))) }
+{
+    let mut scripts = Scripts::new(alloc);
+    for file in files {
+        read_given(alloc, file.as_slice(), library, &mut scripts)?;
+    }
+    Ok(scripts)
+}
+
+/// Reads the script that these bytes say, behind the others, however many they are.
+fn read_given(
+    alloc: Global,
+    bytes: &[u8],
+    library: &Library,
+    scripts: &mut Scripts,
+) -> Result<(), Status>
+    requires few { length scripts.old.list.items < 16 }
+    requires catalogued { IsCatalogued library.now }
+    requires counted { AreCounted (specs_in library.now) scripts.old }
+    ensures read { OnOk result (HasScript (specs_in library.now) bytes.now scripts.old scripts.new) }
+    ensures err { IfErr result (IsNoScriptIn (specs_in library.now) scripts.old.count scripts.old.objects (length scripts.old.list.items) bytes.now) }
+{
+    let number = scripts.list.len() as u32;
+    if bytes.len() > MOST_BYTES {
+        let fault = ScriptFault::TooLong;
+        return Err(Status::BadScript {
+            script: number,
+            fault,
+        });
+    }
+    read_bytes(alloc, bytes, number, library, scripts)
 }
 
 /// Reads the script of this name, behind the others. After an error these are of no use.

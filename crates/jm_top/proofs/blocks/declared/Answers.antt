@@ -1,4 +1,3 @@
-use Rattle.std.proofs.Common.{◌≡◌}
 use Rattle.jm_top.specs.Reading.{IsWhole}
 use Rattle.jm_top.proofs.TextLemmas.{All-place, declared_more}
 use Rattle.jm_top.proofs.blocks.declared.Goals as goal

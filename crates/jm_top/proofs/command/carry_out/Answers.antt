@@ -1,7 +1,9 @@
+use Rattle.std.proofs.Common.{subst}
 use Rattle.std.specs.Prelude.{map, string_bytes}
+use Rattle.jm_top.specs.Causes.{IsBeforeWriting}
 use Rattle.jm_cli.specs.Views.{command_words}
-use Rattle.jm_top.proofs.JobLemmas.{words_caused, stopped_caused, text_made}
-use Rattle.jm_top.proofs.EndingLemmas.{writes_text}
+use Rattle.jm_top.proofs.JobLemmas.{words_caused, stopped_caused, text_made, stopped_before}
+use Rattle.jm_top.proofs.EndingLemmas.{writes_text, writes_nothing}
 use Rattle.jm_top.proofs.command.carry_out.Goals as goal
 
 pub returns-in-Err-clause-caused : goal.returns-in-Err-clause-caused
@@ -17,3 +19,12 @@ returns-in-Ok-make_text-clause-written g c =
 pub returns-clause-caused : goal.returns-clause-caused
 returns-clause-caused g c =
     stopped_caused (map string_bytes c.args.words.now) (g.F.Folder.holds c.args.files.now) (command_words c.in-Ok.command) c.in-Ok.ensures.spelled _ c.in-Err-make_text.ensures.caused
+
+pub returns-clause-written : goal.returns-clause-written
+returns-clause-written g c =
+    let contents = g.F.Folder.holds c.args.files.now in
+    writes_nothing (map string_bytes c.args.words.now) contents c.in-Err-make_text.status (g.S.Sink.written c.args.out.now) (stopped_before contents (command_words c.in-Ok.command) c.in-Err-make_text.status c.in-Err-make_text.ensures.caused)
+
+pub returns-clause-write_failed : goal.returns-clause-write_failed
+returns-clause-write_failed g c = λ is.
+    absurd (subst IsBeforeWriting is (stopped_before (g.F.Folder.holds c.args.files.now) (command_words c.in-Ok.command) c.in-Err-make_text.status c.in-Err-make_text.ensures.caused))

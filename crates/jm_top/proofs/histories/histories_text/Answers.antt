@@ -1,4 +1,4 @@
-use Rattle.std.proofs.Common.{◌≡◌, ◌<◌, ◌∙◌, ◌++◌, sym, ap, arith, length}
+use Rattle.std.proofs.Common.{◌∙◌, ◌++◌, sym, arith}
 use Rattle.jm_top.specs.Reading.{title_lexicon}
 use Rattle.jm_top.proofs.TextLemmas.{histories_more, printable_place}
 use Rattle.jm_top.proofs.histories.histories_text.Goals as goal

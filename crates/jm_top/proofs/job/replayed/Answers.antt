@@ -1,5 +1,5 @@
-use Rattle.std.specs.Prelude.{map, string_bytes}
-use Rattle.std.proofs.Common.{◌≡◌, ◌∙◌, sym, length, [], ◌∷◌, arith}
+use Rattle.std.specs.Prelude.{string_bytes}
+use Rattle.std.proofs.Common.{◌∙◌}
 use Rattle.std.proofs.lemmas.Result.{err_from_is_err_and}
 use Rattle.jm_top.specs.Sources.{Named}
 use Rattle.jm_top.specs.Causes.{short}

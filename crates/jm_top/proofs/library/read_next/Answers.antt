@@ -1,4 +1,4 @@
-use Rattle.std.proofs.Common.{◌≡◌, ◌∙◌, ℕ, length, IfErr, subst, arith}
+use Rattle.std.proofs.Common.{◌≡◌, ℕ, length, IfErr, subst, arith}
 use Rattle.std.proofs.lemmas.Result.{err_from_is_err_and}
 use Rattle.jm_top.specs.Sources.{Named}
 use Rattle.jm_top.specs.Causes.{IsNoSpec, IsNoSpecIn}

@@ -1,8 +1,6 @@
-use Rattle.std.proofs.Common.{◌≡◌, List, ℕ, sym, ap, subst, ◌∙◌, length, All}
-use Rattle.jm_core.specs.Steps.{IsFitStep}
-use Rattle.jm_machine.specs.Meanings.{rules_meaning}
+use Rattle.std.proofs.Common.{length}
 use Rattle.jm_top.specs.Scripts.{catalog_of}
-use Rattle.jm_top.specs.Reading.{specs_in, title_lexicon}
+use Rattle.jm_top.specs.Reading.{specs_in}
 use Rattle.jm_top.proofs.HistoryLemmas.{script_fits, own_doable, own_printable, own_text, made_text}
 use Rattle.jm_top.proofs.replay.replay.Goals as goal
 

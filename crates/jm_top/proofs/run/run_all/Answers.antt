@@ -1,4 +1,4 @@
-use Rattle.std.proofs.Common.{◌≡◌, ◌≤◌, ◌∙◌, sym, length, arith}
+use Rattle.std.proofs.Common.{◌≡◌, length, arith}
 use Rattle.std.specs.Prelude.{vec_len}
 use Rattle.jm_top.proofs.RunLemmas.{watches_many, runs_from, ready_at}
 use Rattle.jm_top.proofs.run.run_all.Goals as goal

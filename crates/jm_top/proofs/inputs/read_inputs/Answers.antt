@@ -1,4 +1,4 @@
-use Rattle.std.proofs.Common.{◌≡◌, ◌≤◌, ◌∙◌, ℕ, List, length, sym, ap, inl, inr, Err, arith}
+use Rattle.std.proofs.Common.{◌∙◌, sym, ap, inl, Err, arith}
 use Rattle.std.specs.Prelude.{map, string_bytes}
 use Rattle.std.proofs.lemmas.Result.{err_from_is_err_and}
 use Rattle.jm_top.specs.Sources.{Named}
@@ -9,7 +9,7 @@ use Rattle.jm_top.proofs.InputLemmas.{length-sources}
 use Rattle.jm_top.proofs.JobLemmas.{risen_before}
 use Rattle.jm_top.proofs.LibraryLemmas.{library_length}
 use Rattle.jm_top.proofs.CommandLemmas.{scripts_before, stopped_behind}
-use Rattle.jm_top.proofs.job.read_inputs.Goals as goal
+use Rattle.jm_top.proofs.inputs.read_inputs.Goals as goal
 
 pub read_scripts-requires-clause-few_specs : goal.read_scripts-requires-clause-few_specs
 read_scripts-requires-clause-few_specs g c =
