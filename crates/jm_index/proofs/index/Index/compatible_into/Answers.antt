@@ -4,7 +4,7 @@ use Rattle.jm_index.specs.Index.{IsFitting, asked_slots}
 use Rattle.jm_index.specs.Layout.{Rises, live_pairs, posting_at, slot_at}
 use Rattle.jm_index.proofs.AskLemmas.{path_slots}
 use Rattle.jm_index.proofs.IndexLemmas.{list_distinct}
-use Rattle.jm_index.proofs.index.Index.compatible.Goals as goal
+use Rattle.jm_index.proofs.index.Index.compatible_into.Goals as goal
 
 pub returns-clause-slots : goal.returns-clause-slots
 returns-clause-slots c =
@@ -14,7 +14,8 @@ returns-clause-slots c =
     rw (c.as_slice.ensures.value, c.positions-positions.ensures.value, ← c.self.view_is)
     (path_slots _ _ _ (record { list = live_pairs c.self.inside.entries.items; dropped = c.self.inside.dropped }) _ _ _ _ _ c.self.invariant fits c.requires.live c.restrict-common.ensures c.shortest-path.ensures rising)
     in
-    rw (← is) c.slots_at.ensures
+    let added = rw c.clear.ensures.items at c.add_slots_at.ensures in
+    rw (← is) added
 
 pub returns-clause-distinct : goal.returns-clause-distinct
 returns-clause-distinct c = rw (← c.self.view_is) (list_distinct _ _ _ _ c.self.invariant)
