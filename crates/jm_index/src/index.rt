@@ -195,6 +195,9 @@ impl Index {
         ensures distinct { AllPairs (λ a b. a.binding ≢ b.binding) self.now.list }
     {
         slots.clear();
+        if binding.mask() == domain {
+            return self.add_exact(domain, binding, binding, slots);
+        }
         let common = binding.restrict(domain);
         if common.mask() == domain {
             return self.add_exact(domain, binding, &common, slots);

@@ -1,4 +1,6 @@
-use Rattle.std.proofs.Common.{◌≡◌}
+use Rattle.std.proofs.Common.{◌≡◌, ℕ, sym, ◌∙◌, subst}
+use Rattle.jm_model.specs.Bindings.{mask_of, restriction}
+use Rattle.jm_index.proofs.BindingLemmas.{restriction-whole}
 use Rattle.std.specs.List.{filter_map}
 use Rattle.jm_index.specs.Index.{IsFitting, asked_slots}
 use Rattle.jm_index.specs.Layout.{Rises, live_pairs, posting_at, slot_at}
@@ -19,3 +21,9 @@ returns-clause-slots c =
 
 pub returns-clause-distinct : goal.returns-clause-distinct
 returns-clause-distinct c = rw (← c.self.view_is) (list_distinct _ _ _ _ c.self.invariant)
+
+pub add_exact-requires : goal.add_exact-requires
+add_exact-requires c =
+    let b = c.args.binding.now in
+    let all : mask_of b ≡ c.args.domain = sym c.mask.ensures.value ∙ c.if-mask-domain.true in
+    record { common = sym (subst (λ (m : ℕ). restriction b m ≡ b) all (restriction-whole b)); all = all; none = c.clear.ensures.items }
