@@ -83,3 +83,9 @@ is_same-refl (Some x ∷ a) = rw (eq-eqb x x refl) (is_same-refl a)
 
 pub is_same-same : (a b : List (Option ℕ)) → a ≡ b → is_same a b ≡ true
 is_same-same a b e = subst (λ (v : List (Option ℕ)). is_same a v ≡ true) e (is_same-refl a)
+
+-- what a binding gives to all of its parameters is the binding
+pub restriction-whole : (b : List (Option ℕ)) → restriction b (mask_of b) ≡ b
+restriction-whole [] = refl
+restriction-whole (None ∷ b) = rw ((even (mask_of b)).0, (even (mask_of b)).1) (ap (λ (v : List (Option ℕ)). None ∷ v) (restriction-whole b))
+restriction-whole (Some x ∷ b) = rw ((odd (mask_of b)).0, (odd (mask_of b)).1) (ap (λ (v : List (Option ℕ)). Some x ∷ v) (restriction-whole b))

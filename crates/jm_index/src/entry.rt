@@ -1,10 +1,9 @@
 //! The entries of an index.
-ghost use Rattle.std.specs.Prelude.{◌≡◌, IfOk};
+ghost use Rattle.std.specs.Prelude.{◌≡◌, ◌++◌, OnOk};
 ghost use Rattle.std.specs.List.{filter_map};
 ghost use Rattle.jm_index.specs.Layout.{is_live_at, slot_of, slot_at};
 
 use jm_model::{Binding, NoMemory};
-use std::alloc::Global;
 
 /// A binding and its slot. One that is no longer live counts for nothing.
 #[derive(Drop)]
@@ -47,21 +46,20 @@ fn slot_at(entries: &[Entry], domain: u8, binding: &Binding, position: usize) ->
     }
 }
 
-/// The slots of the entries at these positions that are asked for.
-pub(crate) fn slots_at(
-    alloc: Global,
+/// Adds the slots of the entries at these positions that are asked for.
+pub(crate) fn add_slots_at(
     entries: &[Entry],
     domain: u8,
     binding: &Binding,
     positions: &[usize],
-) -> Result<Vec<usize>, NoMemory>
-    ensures { IfOk result (λ slots. slots.items ≡ filter_map (slot_at entries.now domain binding.now) positions.now) }
+    slots: &mut Vec<usize>,
+) -> Result<(), NoMemory>
+    ensures { OnOk result (slots.new.items ≡ slots.old.items ++ filter_map (slot_at entries.now domain binding.now) positions.now) }
 {
-    let mut slots = Vec::new(alloc);
     for position in positions {
         if let Some(slot) = slot_at(entries, domain, binding, *position) {
             slots.push(slot)?;
         }
     }
-    Ok(slots)
+    Ok(())
 }

@@ -2,7 +2,7 @@ ghost use Rattle.std.specs.Prelude.{◌≡◌, ◌≢◌, ℕ, ◌<◌, ◌*◌,
 ghost use Rattle.jm_model.specs.Bindings.{mask_of, restriction};
 ghost use Rattle.jm_index.specs.Index.{Pair, flag_of, IsKey, AreBelow, IsFitting, AreLive, without, asked_slots};
 
-use crate::entry::{Entry, slots_at};
+use crate::entry::{Entry, add_slots_at};
 use crate::flags::Flags;
 use crate::trees::Trees;
 use jm_model::{Binding, NoMemory};
@@ -176,33 +176,60 @@ impl Index {
         ensures slots { IfOk result (λ slots. slots.items ≡ asked_slots domain binding.now self.now.list) }
         ensures distinct { AllPairs (λ a b. a.binding ≢ b.binding) self.now.list }
     {
+        let mut slots = Vec::new(*self.entries.allocator());
+        self.compatible_into(objects, domain, binding, &mut slots)?;
+        Ok(slots)
+    }
+
+    /// Puts the same slots in the place of those that are there, so that their room can be used again.
+    pub fn compatible_into(
+        &self,
+        objects: &Objects,
+        domain: u8,
+        binding: &Binding,
+        slots: &mut Vec<usize>,
+    ) -> Result<(), NoMemory>
+        requires fits { IsFitting self.now objects.now }
+        requires live { AreLive objects.now binding.now }
+        ensures slots { OnOk result (slots.new.items ≡ asked_slots domain binding.now self.now.list) }
+        ensures distinct { AllPairs (λ a b. a.binding ≢ b.binding) self.now.list }
+    {
+        slots.clear();
+        if binding.mask() == domain {
+            return self.add_exact(domain, binding, binding, slots);
+        }
         let common = binding.restrict(domain);
         if common.mask() == domain {
-            return self.exact(domain, binding, &common);
+            return self.add_exact(domain, binding, &common, slots);
         }
         let path = self.trees.shortest(domain, &common);
         let positions = self.trees.positions(domain, path);
-        let alloc = *self.entries.allocator();
-        slots_at(alloc, self.entries.as_slice(), domain, binding, positions)
+        add_slots_at(self.entries.as_slice(), domain, binding, positions, slots)
     }
 
-    /// The same where `binding` binds all parameters of `domain`, to what `common` does.
-    fn exact(&self, domain: u8, binding: &Binding, common: &Binding) -> Result<Vec<usize>, NoMemory>
+    /// The same where `binding` binds all parameters of `domain`, to what `common` does. No slot is there before.
+    fn add_exact(
+        &self,
+        domain: u8,
+        binding: &Binding,
+        common: &Binding,
+        slots: &mut Vec<usize>,
+    ) -> Result<(), NoMemory>
         requires common { common.now ≡ restriction binding.now domain }
         requires all { mask_of common.now ≡ domain }
-        ensures slots { IfOk result (λ slots. slots.items ≡ asked_slots domain binding.now self.now.list) }
+        requires none { slots.old.items ≡ [] }
+        ensures slots { OnOk result (slots.new.items ≡ asked_slots domain binding.now self.now.list) }
         ensures distinct { AllPairs (λ a b. a.binding ≢ b.binding) self.now.list }
     {
-        let alloc = *self.entries.allocator();
         match self.places.get(common) {
-            Some(position) => slots_at(
-                alloc,
+            Some(position) => add_slots_at(
                 self.entries.as_slice(),
                 domain,
                 binding,
                 &[*position],
+                slots,
             ),
-            None => Ok(Vec::new(alloc)),
+            None => Ok(()),
         }
     }
 

@@ -63,11 +63,11 @@ pub fn render_history(
     let mut page = Page::new(alloc);
     page.text("spec ")?;
     page.text(name)?;
-    page.text("\n")?;
+    page.byte(b'\n')?;
     printer.entries(&mut page, &entries)?;
     page.text("end ")?;
     page.number(entries.len() as u64)?;
-    page.text("\n")?;
+    page.byte(b'\n')?;
     Ok(page.into_bytes())
 }
 
@@ -90,9 +90,9 @@ impl Printer<'_> {
         ensures { OnOk result (page.new ≡ page.old ++ full_entry_text self.now entry.now) }
     {
         page.number(u64::from(entry.caller))?;
-        page.text(":")?;
+        page.byte(b':')?;
         page.number(u64::from(entry.line))?;
-        page.text(" ")?;
+        page.byte(b' ')?;
         self.step(page, entry, &entry.step, &entry.outcome)
     }
 
@@ -116,7 +116,7 @@ impl Printer<'_> {
                 self.event(page, *letter, binding)?;
                 page.text(" refused ")?;
                 page.text(self.objects.name(*object))?;
-                page.text("\n")
+                page.byte(b'\n')
             }
             (Step::Death { object }, Outcome::Done) => {
                 page.text("death ")?;
@@ -128,12 +128,12 @@ impl Printer<'_> {
                 page.text(self.objects.name(*object))?;
                 page.text(" refused ")?;
                 page.text(self.objects.name(*dead))?;
-                page.text("\n")
+                page.byte(b'\n')
             }
             (Step::Pass, Outcome::Kept(kept)) => {
                 page.text("pass kept ")?;
                 page.number(*kept)?;
-                page.text("\n")
+                page.byte(b'\n')
             }
             _ => unreachable!(),
         }
@@ -155,9 +155,12 @@ impl Printer<'_> {
             (Outcome.Fired firings.now)) }
     {
         self.event(page, letter, binding)?;
+        if firings.len() == 0 {
+            return page.text(" fired 0\n");
+        }
         page.text(" fired ")?;
         page.number(firings.len() as u64)?;
-        page.text("\n")?;
+        page.byte(b'\n')?;
         self.firings(page, entry, firings)
     }
 
@@ -215,9 +218,9 @@ impl Printer<'_> {
     {
         page.text("  @")?;
         page.text(self.categories.name(u32::from(firing.handler)))?;
-        page.text(" ")?;
+        page.byte(b' ')?;
         self.binding(page, &firing.instance)?;
-        page.text("\n")
+        page.byte(b'\n')
     }
 
     /// An event with its binding.
@@ -226,7 +229,7 @@ impl Printer<'_> {
         ensures { OnOk result (page.new ≡ page.old ++ name_of self.now.events letter.0 ++ codes " " ++ binding_text self.now binding.now) }
     {
         page.text(self.table.event_name(letter))?;
-        page.text(" ")?;
+        page.byte(b' ')?;
         self.binding(page, binding)
     }
 
@@ -236,7 +239,7 @@ impl Printer<'_> {
         ensures { OnOk result (page.new ≡ page.old ++ binding_text self.now binding.now) }
     {
         if binding.mask() == 0 {
-            return page.text("-");
+            return page.byte(b'-');
         }
         let mut first = true;
         for p in 0..8 {
@@ -254,10 +257,10 @@ impl Printer<'_> {
         ensures { OnOk result (page.new ≡ page.old ++ (if first then [] else codes ",") ++ pair_text self.now p object) }
     {
         if !first {
-            page.text(",")?;
+            page.byte(b',')?;
         }
         page.text(self.table.param_name(p))?;
-        page.text("=")?;
+        page.byte(b'=')?;
         page.text(self.objects.name(object))
     }
 }

@@ -43,10 +43,20 @@ impl Page {
         Ok(self.bytes.extend_from_slice(bytes)?)
     }
 
+    /// Writes a byte.
+    pub(crate) fn byte(&mut self, byte: u8) -> Result<(), NoMemory>
+        ensures { OnOk result (self.new ≡ self.old ++ byte ∷ []) }
+    {
+        Ok(self.bytes.push(byte)?)
+    }
+
     /// Writes a number, without leading zeros.
     pub(crate) fn number(&mut self, number: u64) -> Result<(), NoMemory>
         ensures { OnOk result (self.new ≡ self.old ++ decimal number) }
     {
+        if number < 10 {
+            return self.byte(b'0' + number as u8);
+        }
         let mut buffer = Buffer::new();
         self.text(buffer.format(number))
     }

@@ -1,10 +1,9 @@
 -- The next move gets its slot.
-use Rattle.std.proofs.Common.{◌≡◌, ◌≢◌, ℕ, ◌<◌, ◌≤◌, ◌⊎◌, inl, inr, Bool, List, [], ◌∷◌, ◌++◌, length, get_or, refl, sym, ap, ◌∙◌, subst, append_assoc, arith}
+use Rattle.std.proofs.Common.{◌≡◌, ◌≢◌, ℕ, inl, inr, List, [], ◌∷◌, ◌++◌, length, get_or, refl, sym, ap, ◌∙◌, subst, append_assoc, arith}
 use Rattle.std.specs.Prelude.{Option, Some, None, Contains, AllPairs}
 use Rattle.std.proofs.lemmas.Option.{same_Some, none-some}
 use Rattle.std.proofs.lemmas.List.Elements.{Contains-append_left, Contains-append_right, Contains-push, Contains-push_cases, Contains-get_or}
 use Rattle.std.proofs.lemmas.List.Quantifiers.{all_pairs_push}
-use Rattle.jm_model.specs.declared.binding.Binding.{Binding}
 use Rattle.jm_semantics.proofs.ListLemmas.{Contains-cons_cases, Contains-head}
 use Rattle.jm_index.specs.Index.{Pair}
 use Rattle.jm_index.proofs.ReadLemmas.{Contains-none, Contains-cons}
@@ -220,3 +219,18 @@ module _ {S : Type 0} where
   pub all_placed : (old new : Contents S) (moves rest done placed : List (Move S)) → moves ≡ rest ++ done → length rest ≡ 0 → ArePlacedOf old new moves done placed → ArePlacedOf old new moves moves placed
   all_placed old new moves [] done placed split none h = subst (λ (l : List (Move S)). ArePlacedOf old new moves l placed) (sym split) h
   all_placed old new moves (x ∷ rest) done placed split none h = absurd (omega (arith, none))
+
+  -- moves that all have slots are placed as they are
+  pub placed_already : (store : Contents S) (moves : List (Move S)) → AreApart moves → ArePlaced store moves → ((pair : Pair) → Contains store.index.list pair → IsFilled store pair)
+      → ((move : Move S) → Contains moves move → move.slot ≡ None → ⊥) → ArePlacedOf store store moves moves moves
+  placed_already store moves apart leads settled slotted = record {
+    apart = apart;
+    leads = leads;
+    filled = λ pair there. inl (settled pair there);
+    each = λ move there. (move, there, itself move there, λ distinct none. absurd (slotted move there none));
+    all = λ move there. (move, there, itself move there, λ distinct none. absurd (slotted move there none));
+    kept = λ pair there. there;
+  }
+    where
+      itself : (move : Move S) → Contains moves move → IsPlacedFrom store move move
+      itself move there = record { monitor = refl; stays = refl; kept = λ k slot. slot; got = λ k none slot. absurd (slotted move there none) }

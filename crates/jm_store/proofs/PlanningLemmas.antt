@@ -1,12 +1,12 @@
 -- From the moves of an event to its plan.
-use Rattle.std.proofs.Common.{◌≡◌, ◌≢◌, ℕ, ◌+◌, ◌<◌, ◌≤◌, ◌⊎◌, inl, inr, Bool, true, false, cond, List, [], ◌∷◌, ◌++◌, length, map, get_or, refl, sym, ap, ◌∙◌, subst, arith}
-use Rattle.std.specs.Prelude.{Option, Some, None, Contains, AllPairs, IsTrue}
-use Rattle.std.specs.List.Sorted.{IsPermutation, IsSortedBy, IsStrictlySortedBy}
+use Rattle.std.proofs.Common.{◌≡◌, ◌≢◌, ℕ, ◌⊎◌, inl, inr, Bool, true, false, cond, List, [], ◌∷◌, ◌++◌, refl, sym, ap, ◌∙◌, subst, arith}
+use Rattle.std.specs.Prelude.{Option, Some, None, Contains, IsTrue}
+use Rattle.std.specs.List.Sorted.{IsPermutation}
 use Rattle.std.proofs.lemmas.Bool.{both_ways, cases_Bool}
 use Rattle.std.proofs.lemmas.Option.{same_Some, none-some}
 use Rattle.std.proofs.lemmas.List.Sorted.{Contains-permutation, IsPermutation-sym}
 use Rattle.std.proofs.lemmas.List.Elements.{Contains-append_left, Contains-push, Contains-push_cases}
-use Rattle.jm_model.specs.Bindings.{is_below, is_compatible, join, binding_cmp, mask_of}
+use Rattle.jm_model.specs.Bindings.{is_below, join, mask_of}
 use Rattle.jm_model.specs.Meanings.{Meaning}
 use Rattle.jm_model.specs.declared.binding.Binding.{Binding}
 use Rattle.jm_model.specs.declared.firings.Firing.{Firing}
@@ -26,13 +26,12 @@ use Rattle.jm_store.specs.declared.moves.Move.{Move}
 use Rattle.jm_store.specs.declared.moves.Plan.{Plan}
 use Rattle.jm_store.specs.Slots.{monitor_at, stored_in}
 use Rattle.jm_store.specs.Moves.{IsOutcomeAt, AreMovesOf, AreApart, reached_by, after_moves, AreEnding, EndsFewer, asks_by}
-use Rattle.jm_store.specs.Contents.{Contents, stored_of, IsFit, ArePlaced, IsPlacedFrom, AreDistinct, ArePlacedOf, ArePaired, IsPlanFor, IsPlanOf, with_ending}
-use Rattle.jm_store.specs.Reports.{instances_of}
+use Rattle.jm_store.specs.Contents.{Contents, stored_of, IsFit, IsPlacedFrom, AreDistinct, ArePlacedOf, ArePaired, IsPlanFor, IsPlanOf, with_ending}
 use Rattle.jm_store.proofs.SlotLemmas.{stored_at, place_of}
 use Rattle.jm_store.proofs.GivenLemmas.{given_pairs, pairs_map, pairs_weaker, Contains-from_map}
 use Rattle.jm_store.proofs.HousingLemmas.{same_one}
 use Rattle.jm_store.proofs.PermuteLemmas.{pairs_permuted}
-use Rattle.jm_store.proofs.MoveLemmas.{HasBase, base_of, move_base, becomes, are_reached, distinct_moves, join_above, compatible_above}
+use Rattle.jm_store.proofs.MoveLemmas.{base_of, move_base, becomes, are_reached, distinct_moves, join_above, compatible_above}
 use Rattle.jm_store.proofs.VisitLemmas.{asked_above, asked_unless}
 use Rattle.std.proofs.lemmas.Nat.Bits.{bit_at-zero}
 use Rattle.jm_semantics.proofs.MaskLemmas.{IsWithin}
@@ -359,4 +358,4 @@ may_reach m {S} Stands letter b dead marks known ending stored marked ended s th
 
 -- a plan is for the store with other letters too
 pub plan_for_ending : {S : Type 0} (store : Contents S) (ending : List ℕ) (plan : Plan S) → IsPlanFor store plan → IsPlanFor (with_ending store ending) plan
-plan_for_ending store ending plan h = record { twice = h.twice; apart = h.apart; placed = h.placed; filled = h.filled }
+plan_for_ending store ending plan h = record { twice = h.twice; known = h.known; apart = h.apart; placed = h.placed; filled = h.filled }

@@ -11,7 +11,7 @@ use Rattle.std.proofs.lemmas.Bool.{ne_eqb, eqb-true, eq-eqb, lt-ltb, cases_lt}
 use Rattle.std.proofs.lemmas.Cmp.{tied_itself}
 use Rattle.std.proofs.lemmas.Map.Keys.{Less-from_sorted}
 use Rattle.std.proofs.lemmas.List.Elements.{Contains-append_left, Contains-append_right, Contains-append_cases}
-use Rattle.std.proofs.lemmas.Nat.Bits.{and_pow, bit_at-lt, bit_at_above}
+use Rattle.std.proofs.lemmas.Nat.Bits.{bit_at-zero, and_pow, bit_at-lt, bit_at_above}
 use Rattle.jm_model.specs.Bindings.{binding_cmp}
 use Rattle.jm_model.specs.Meanings.{Meaning, IsHit}
 use Rattle.jm_model.specs.declared.binding.Binding.{Binding}
@@ -99,6 +99,12 @@ hits_skip t hits n other =
 pub hits_none : (t : Binding) (hits : ℕ) → firings_below t hits 0 ≡ []
 unfolding firings_below
 hits_none t hits = refl
+
+-- no firing where no handler is hit
+pub no_hits : (t : Binding) (n : ℕ) → firings_below t 0 n ≡ []
+unfolding firings_below
+no_hits t zero = refl
+no_hits t (suc n) = rw (no_hits t n, bit_at-zero n) refl
 
 nat-Less : (x y : ℕ) → x < y → nat_cmp x y ≡ Less
 nat-Less x y h = ap (λ (b : Bool). cond b Less (cond (eqb x y) Equal Greater)) (lt-ltb x y h)

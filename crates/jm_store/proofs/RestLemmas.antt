@@ -1,13 +1,12 @@
 -- Moves that leave monitors at rest.
-use Rattle.std.proofs.Common.{◌≡◌, ℕ, ◌+◌, ◌<◌, ◌⊎◌, inl, inr, Bool, true, false, List, [], ◌∷◌, ◌++◌, length, get_or, take, refl, sym, ap, ◌∙◌, subst, eqb}
-use Rattle.std.specs.Prelude.{Contains, IsBitSet, ◌↔◌}
+use Rattle.std.proofs.Common.{◌≡◌, ℕ, ◌+◌, ◌<◌, inl, inr, true, false, List, [], ◌∷◌, ◌++◌, length, get_or, take, sym, ap, ◌∙◌, subst, eqb}
+use Rattle.std.specs.Prelude.{Contains, IsBitSet, ◌↔◌, None}
 use Rattle.std.specs.Int.{bit_at}
-use Rattle.std.proofs.lemmas.Bool.{both_ways, eqb-true}
+use Rattle.std.proofs.lemmas.Bool.{eqb-true}
 use Rattle.std.proofs.lemmas.List.{take_more}
 use Rattle.std.proofs.lemmas.List.Elements.{Contains-push_cases}
 use Rattle.std.proofs.lemmas.Nat.Bits.{bit_at-zero}
 use Rattle.jm_model.specs.Meanings.{Meaning, IsHit}
-use Rattle.jm_index.proofs.ReadLemmas.{Contains-none}
 use Rattle.jm_monitors.specs.Steps.{IsResting}
 use Rattle.jm_store.specs.declared.moves.Move.{Move}
 use Rattle.jm_store.proofs.ReportLemmas.{set_from_bit, bit_from_set}
@@ -25,6 +24,12 @@ NoneStays {S} moves = (move : Move S) → Contains moves move → move.stays ≡
 
 abbrev pub AllRest : Meaning → {S : Type 0} → (S → List ℕ → Type 0) → ℕ → List (Move S) → Type 0
 AllRest m {S} Stands letter moves = (move : Move S) → Contains moves move → move.stays ≡ true → IsResting m Stands letter move.monitor.state
+
+abbrev pub AllSlotted : {S : Type 0} → List (Move S) → Type 0
+AllSlotted {S} moves = (move : Move S) → Contains moves move → move.slot ≡ None → ⊥
+
+pub all_slotted_more : {S : Type 0} (moves : List (Move S)) (i : ℕ) (move : Move S) → i < length moves → move ≡ get_or moves i move → AllSlotted (take i moves) → (move.slot ≡ None → ⊥) → AllSlotted (take (i + 1) moves)
+all_slotted_more {S} moves i move low is before here = each_more (λ (x : Move S). x.slot ≡ None → ⊥) moves i move low is before here
 
 pub none_stays_more : {S : Type 0} (moves : List (Move S)) (i : ℕ) (move : Move S) → i < length moves → move ≡ get_or moves i move → NoneStays (take i moves) → move.stays ≡ false → NoneStays (take (i + 1) moves)
 none_stays_more {S} moves i move low is before here = each_more (λ (x : Move S). x.stays ≡ false) moves i move low is before here

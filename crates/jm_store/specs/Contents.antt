@@ -1,5 +1,5 @@
 -- What contracts see of a store, and what a plan is for it.
-use Rattle.std.specs.Prelude.{ℕ, ◌≡◌, ◌<◌, Bool, true, false, List, [], ◌∷◌, ◌++◌, Option, Some, None, Contains, length, ◌⊎◌, ◌≢◌, AllPairs}
+use Rattle.std.specs.Prelude.{ℕ, ◌≡◌, ◌<◌, Bool, true, false, List, [], ◌∷◌, ◌++◌, Option, Some, None, Contains, IsTrue, length, ◌⊎◌, ◌≢◌, AllPairs}
 use Rattle.jm_model.specs.Bindings.{is_below}
 use Rattle.jm_model.specs.Meanings.{Meaning}
 use Rattle.jm_model.specs.declared.binding.Binding.{Binding}
@@ -52,9 +52,10 @@ abbrev pub IsPlannedBy : {S : Type 0} → List (Move S) → Pair → Type 0
 IsPlannedBy {S} moves pair = (move : Move S) × Contains moves move × (move.slot ≡ Some pair.slot) × (move.monitor.instance ≡ pair.binding)
 
 -- The plan is for the store: where one of its moves has a slot, the index leads to it, and a slot to which the index leads
--- has a monitor, or one of the moves is for it. It has its answer twice.
+-- has a monitor, or one of the moves is for it. Its binding is a mark where it says so. It has its answer twice.
 pub record IsPlanFor {S : Type 0} (store : Contents S) (plan : Plan S) : Type 0 where
   pub twice : plan.copy ≡ plan.answer
+  pub known : IsTrue plan.known → Contains store.marks plan.binding
   pub apart : AreApart plan.moves.items
   pub placed : (move : Move S) (k : ℕ) → Contains plan.moves.items move → move.slot ≡ Some k → Contains store.index.list (record { binding = move.monitor.instance; slot = k })
   pub filled : (pair : Pair) → Contains store.index.list pair

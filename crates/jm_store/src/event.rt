@@ -48,10 +48,10 @@ impl<M: Monitor> Event<'_, M> {
         ensures { IfOk result (λ o. IsOutcome (M.meaning (M.definition self.now.rules.now)) (M.StandsFor self.now.rules.now)
             self.now.letter.0 self.now.binding.now self.now.objects.now self.now.marks.now.list slot base.now o) }
     {
-        let instance = base.instance.join(self.binding);
         if self.binding.le(&base.instance) {
-            return Ok(Some(self.advance(Some(slot), instance, &base.state)?));
+            return Ok(Some(self.advance(Some(slot), base.instance, &base.state)?));
         }
+        let instance = base.instance.join(self.binding);
         if self.known || !self.marks.covers(&instance, &base.instance) {
             return Ok(None);
         }

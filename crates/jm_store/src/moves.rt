@@ -1,5 +1,5 @@
 //! What an event comes to, before it is carried out.
-ghost use Rattle.std.specs.Prelude.{◌≡◌, ◌<◌, IsTrue, true, false, Contains};
+ghost use Rattle.std.specs.Prelude.{◌≡◌, ◌<◌, IsTrue, true, false, None, Contains};
 ghost use Rattle.jm_monitors.specs.Steps.{IsResting};
 ghost use Rattle.jm_store.specs.declared.moves.Move.{Move as Change};
 
@@ -23,6 +23,8 @@ pub struct Move<S> {
 #[derive(Drop)]
 pub struct Plan<S> {
     pub(crate) binding: Binding,
+    /// Whether the binding is a mark already.
+    pub(crate) known: bool,
     pub(crate) moves: Vec<Move<S>>,
     pub(crate) answer: Firings,
     pub(crate) copy: Firings,
@@ -65,4 +67,16 @@ fn is_resting<M: Monitor>(rules: &M, state: &M::State, letter: Letter) -> bool
 {
     let _letters = rules.letters();
     rules.hits(state) == 0 && (rules.idle(state) >> letter.0) % 2 == 1
+}
+
+/// Whether each of the moves has a slot.
+pub(crate) fn have_slots<S>(moves: &[Move<S>]) -> bool
+    ensures { IsTrue result → (move : Change S) → Contains moves.now move → move.slot ≡ None → ⊥ }
+{
+    for step in moves {
+        if step.slot.is_none() {
+            return false;
+        }
+    }
+    true
 }

@@ -57,6 +57,9 @@ pub(crate) fn report<M: Monitor>(
 fn report_hits(firings: &mut Firings, instance: Binding, hits: u16) -> Result<(), NoMemory>
     ensures { OnOk result (firings.new ≡ firings.old ++ firings_below instance hits 16) }
 {
+    if hits == 0 {
+        return Ok(());
+    }
     for handler in 0..16 {
         if (hits >> handler) % 2 == 1 {
             firings.push(Firing { instance, handler })?;

@@ -16,7 +16,7 @@ ghost use Rattle.jm_store.specs.Contents.{Contents, stored_of, monitors_after, I
 use crate::ending::end_fewer_by;
 use crate::event::Event;
 use crate::monitors::{Monitors, Slot};
-use crate::moves::{Move, Plan};
+use crate::moves::{Move, Plan, have_slots};
 use crate::report::{arrange, report};
 use jm_index::Index;
 use jm_marks::{Marks, dead_mask};
@@ -25,6 +25,7 @@ use jm_monitors::Stored;
 use jm_objects::Objects;
 use std::alloc::Global;
 use std::marker::Model;
+use std::mem;
 use std::sync::ledger::Ledger;
 
 /// The stored monitors of one specification, and its marks.
@@ -38,6 +39,9 @@ pub struct Store<M: Monitor> {
     /// For each set of parameters letters that end all monitors with it.
     ending: [u32; 256],
     is_open: bool,
+    /// Room for the slots that an event reads, and for its moves. It is used again from event to event.
+    slots: Vec<usize>,
+    moves: Vec<Move<M::State>>,
 }
 
 impl<M: Monitor> Model for Store<M> {
@@ -91,6 +95,8 @@ impl<M: Monitor> Store<M> {
             domains: Vec::new(alloc),
             ending: [u32::MAX; 256],
             is_open: false,
+            slots: Vec::new(alloc),
+            moves: Vec::new(alloc),
         }
     }
 
@@ -118,6 +124,8 @@ impl<M: Monitor> Store<M> {
             domains,
             ending,
             is_open: false,
+            slots: Vec::new(alloc),
+            moves: Vec::new(alloc),
         })
     }
 
@@ -149,15 +157,53 @@ impl<M: Monitor> Store<M> {
             → IsPlanOf (M.meaning (M.definition rules.now)) (M.StandsFor rules.now) trace objects.now letter.0 self.new plan) }
         ensures steps { steps.new ≤ steps.old + count_by (λ s. is_compatible s.instance binding.now) (stored_of self.old) }
     {
+        let moves = self.take_moves();
+        let mut slots = self.take_slots();
+        let plan = self.plan_in(rules, objects, letter, binding, steps, &mut slots, moves);
+        self.give_slots(slots);
+        plan
+    }
+
+    /// The same, in this room.
+    fn plan_in<L: Ledger>(
+        &mut self,
+        rules: &M,
+        objects: &Objects,
+        letter: Letter,
+        binding: &Binding,
+        steps: &mut Steps<L>,
+        slots: &mut Vec<usize>,
+        moves: Vec<Move<M::State>>,
+    ) -> Result<Plan<M::State>, NoMemory>
+        requires closed { self.old.is_open ≡ false }
+        requires fits { IsFit self.old objects.now }
+        requires event { IsLiveEvent (M.meaning (M.definition rules.now)) objects.now letter.0 binding.now }
+        requires there { AreBelow (length objects.now) binding.now }
+        requires none { moves.items ≡ [] }
+        ensures stored { stored_of self.new ≡ stored_of self.old }
+        ensures marks { self.new.marks ≡ self.old.marks }
+        ensures fits { IsFit self.new objects.now }
+        ensures closed { OnErr result (self.new.is_open ≡ false) }
+        ensures opened { OnOk result (self.new.is_open ≡ true) }
+        ensures binding { IfOk result (λ plan. plan.binding ≡ binding.now) }
+        ensures plan { IfOk result (λ plan. IsPlanFor self.new plan) }
+        ensures fewer { EndsFewer self.old.ending self.new.ending }
+        ensures works { IfOk result (λ plan. (trace : List ParametricEvent)
+            → IsStoreOf (M.meaning (M.definition rules.now)) (M.StandsFor rules.now) trace objects.now (stored_of self.old) self.old.marks
+            → IsEnded (M.meaning (M.definition rules.now)) (M.StandsFor rules.now) self.old
+            → IsPlanOf (M.meaning (M.definition rules.now)) (M.StandsFor rules.now) trace objects.now letter.0 self.new plan) }
+        ensures steps { steps.new ≤ steps.old + count_by (λ s. is_compatible s.instance binding.now) (stored_of self.old) }
+    {
+        let known = self.marks.contains(binding);
         let event = Event {
             rules,
             objects,
             marks: &self.marks,
             letter,
             binding,
-            known: self.marks.contains(binding),
+            known,
         };
-        let mut moves = self.reach(&event, steps)?;
+        let mut moves = self.reach(&event, slots, moves, steps)?;
         arrange(&mut moves);
         let answer = report(*self.domains.allocator(), rules, &moves)?;
         let copy = answer.copy()?;
@@ -165,16 +211,45 @@ impl<M: Monitor> Store<M> {
         self.end_fewer(rules, &moves);
         Ok(Plan {
             binding: *binding,
+            known,
             moves,
             answer,
             copy,
         })
     }
 
+    /// Takes the room for moves, which is empty then.
+    fn take_moves(&mut self) -> Vec<Move<M::State>>
+        ensures same { self.new ≡ self.old }
+        ensures none { result.items ≡ [] }
+    {
+        let alloc = *self.domains.allocator();
+        let mut moves = mem::replace(&mut self.moves, Vec::new(alloc));
+        moves.clear();
+        moves
+    }
+
+    /// Takes the room for slots.
+    fn take_slots(&mut self) -> Vec<usize>
+        ensures { self.new ≡ self.old }
+    {
+        let alloc = *self.domains.allocator();
+        mem::replace(&mut self.slots, Vec::new(alloc))
+    }
+
+    /// Gives the room for slots back.
+    fn give_slots(&mut self, slots: Vec<usize>)
+        ensures { self.new ≡ self.old }
+    {
+        self.slots = slots;
+    }
+
     /// What the event makes of the stored monitors.
     fn reach<L: Ledger>(
         &self,
         event: &Event<'_, M>,
+        slots: &mut Vec<usize>,
+        mut moves: Vec<Move<M::State>>,
         steps: &mut Steps<L>,
     ) -> Result<Vec<Move<M::State>>, NoMemory>
         requires closed { self.now.is_open ≡ false }
@@ -182,17 +257,16 @@ impl<M: Monitor> Store<M> {
         requires known { IsTrue event.now.known ↔ Contains event.now.marks.now.list event.now.binding.now }
         requires fits { IsFitting self.now.index event.now.objects.now }
         requires live { AreLive event.now.objects.now event.now.binding.now }
+        requires none { moves.items ≡ [] }
         ensures moves { IfOk result (λ moves. AreMovesOf (M.meaning (M.definition event.now.rules.now)) (M.StandsFor event.now.rules.now) event.now.letter.0 event.now.binding.now
             event.now.objects.now event.now.marks.now.list (asks_by event.now.known self.now.ending event.now.letter.0 event.now.binding.now) self.now.monitors moves.items) }
         ensures steps { steps.new ≤ steps.old + count_by (λ s. is_compatible s.instance event.now.binding.now) (stored_of self.now) }
     {
-        let mut moves = Vec::new(*self.domains.allocator());
         for domain in &self.domains {
             if event.asks(self.ending[*domain as usize], *domain) {
-                let slots = self
-                    .index
-                    .compatible(event.objects, *domain, event.binding)?;
-                self.reach_slots(event, &slots, &mut moves, steps)?;
+                self.index
+                    .compatible_into(event.objects, *domain, event.binding, slots)?;
+                self.reach_slots(event, slots.as_slice(), &mut moves, steps)?;
             }
         }
         Ok(moves)
@@ -272,6 +346,10 @@ impl<M: Monitor> Store<M> {
     {
         self.marks.reserve()?;
         self.is_open = true;
+        if have_slots(&moves) {
+            let _monitors = &self.monitors;
+            return Ok(moves);
+        }
         let mut placed = Vec::new(*self.domains.allocator());
         match self.place_all(moves, &mut placed) {
             Ok(()) => {
@@ -432,6 +510,7 @@ impl<M: Monitor> Store<M> {
     {
         let Plan {
             binding,
+            known,
             mut moves,
             answer,
             copy,
@@ -439,8 +518,9 @@ impl<M: Monitor> Store<M> {
         while let Some(step) = moves.pop() {
             self.carry_out(step);
         }
-        self.marks.add(binding);
+        add_mark(&mut self.marks, binding, known);
         self.is_open = false;
+        self.moves = moves;
         (answer, copy)
     }
 
@@ -525,5 +605,16 @@ impl<M: Monitor> Store<M> {
         let mut list = self.marks.to_list()?;
         list.sort_unstable_by(|a, b| a.cmp(b));
         Ok(list)
+    }
+}
+
+/// Adds the binding of an event to the marks, where it isn't known to be one. It takes no memory.
+fn add_mark(marks: &mut Marks, binding: Binding, known: bool)
+    requires room { 1 ≤ marks.old.spare }
+    requires known { IsTrue known → Contains marks.old.list binding }
+    ensures { AreMarksAfter binding marks.old.list marks.new.list }
+{
+    if !known {
+        marks.add(binding);
     }
 }

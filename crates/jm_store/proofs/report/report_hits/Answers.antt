@@ -1,7 +1,7 @@
 use Rattle.std.proofs.Common.{◌≡◌, ℕ, ◌++◌, List, [], ◌∷◌, sym, ◌∙◌, ap, append-nil, append_assoc, arith}
 use Rattle.jm_model.specs.declared.firings.Firing.{Firing}
 use Rattle.jm_store.specs.Reports.{firings_below}
-use Rattle.jm_store.proofs.ReportLemmas.{hits_none, hits_more, hits_skip}
+use Rattle.jm_store.proofs.ReportLemmas.{hits_none, hits_more, hits_skip, no_hits}
 use Rattle.jm_store.proofs.report.report_hits.Goals as goal
 use Rattle.jm_store.proofs.report.report_hits.Goals.{then-hits-handler-eq1+in_ok-push, else-hits-handler-eq1}
 
@@ -27,3 +27,6 @@ pub returns : goal.returns
 returns c =
     let last : c.loop-handler.handler ≡ 16 = omega arith in
     c.loop-handler.invariant ∙ ap (λ (n : ℕ). c.args.firings.now ++ firings_below c.args.instance c.args.hits n) last
+
+pub returns-then-hits-eq0 : goal.returns-then-hits-eq0
+returns-then-hits-eq0 c = rw (c.if-hits-eq0.true, no_hits c.args.instance 16) (sym (append-nil c.args.firings.now))

@@ -10,7 +10,7 @@ pub returns-then-mask-eq0 : goal.returns-then-mask-eq0
 returns-then-mask-eq0 c =
     let l = c.args.self.now in
     let b = c.args.binding.now in
-    subst (λ (t : List ℕ). OnOk c.text.result (c.text.new.self ≡ c.args.page.now ++ t)) (sym (unbound_text l 0 b (sym c.mask.ensures.value ∙ c.if-mask-eq0.true))) c.text.ensures
+    subst (λ (t : List ℕ). OnOk c.byte.result (c.byte.new.self ≡ c.args.page.now ++ t)) (sym (unbound_text l 0 b (sym c.mask.ensures.value ∙ c.if-mask-eq0.true))) c.byte.ensures
 
 pub pair-requires : goal.pair-requires
 pair-requires c =

@@ -1,7 +1,8 @@
 use Rattle.std.proofs.Common.{◌≡◌, true, false, refl, sym, ◌∙◌}
 use Rattle.std.specs.Prelude.{Contains}
 use Rattle.std.proofs.lemmas.Bool.{both_ways}
-use Rattle.jm_store.proofs.EventLemmas.{left_known, left_uncovered, left_lost}
+use Rattle.jm_store.proofs.EventLemmas.{left_known, left_uncovered, left_lost, moved_above}
+use Rattle.jm_store.proofs.MoveLemmas.{join_above}
 use Rattle.jm_store.proofs.event.Event.outcome.Goals as goal
 use Rattle.jm_store.proofs.event.Event.outcome.Goals.{then-self-via-then-self, then-self-via-else-self+then-not-covers}
 
@@ -23,3 +24,10 @@ returns-then-is_lost g c =
     let Stands = g.M.Monitor.StandsFor c.args.self.now.rules.now in
     let apart = sym c.le.ensures ∙ c.if-le.false in
     left_lost m Stands _ _ _ _ c.args.base.now c.join-instance.result c.in_ok-made.made c.join-instance.ensures apart c.in_ok-made.ensures (c.is_lost.ensures.cut c.if-is_lost.true) (c.is_lost.ensures.quiet c.if-is_lost.true)
+
+pub returns-then-le : goal.returns-then-le
+returns-then-le g c =
+    let m = g.M.Monitor.meaning (g.M.Monitor.definition c.args.self.now.rules.now) in
+    let Stands = g.M.Monitor.StandsFor c.args.self.now.rules.now in
+    let below = sym c.le.ensures ∙ c.if-le.true in
+    moved_above m Stands _ _ _ _ c.args.slot c.args.base.now _ _ (sym (join_above _ _ c.requires.compatible below)) c.requires.compatible below c.in_ok-advance.ensures

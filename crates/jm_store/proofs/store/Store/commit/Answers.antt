@@ -1,12 +1,8 @@
-use Rattle.std.proofs.Common.{◌≡◌, ◌++◌, ◌∷◌, [], ◌≤◌, ◌<◌, ℕ, List, inl, inr, length, refl, sym, ap, ◌∙◌, subst, arith, true, false}
-use Rattle.std.specs.Prelude.{Contains}
+use Rattle.std.proofs.Common.{◌≡◌, inl, inr, length, sym, ap, ◌∙◌, arith}
 use Rattle.std.proofs.lemmas.Grind.{common_steps}
 use Rattle.std.proofs.lemmas.Bool.{false≢true}
-use Rattle.std.proofs.lemmas.List.{length_push}
-use Rattle.jm_store.specs.declared.moves.Move.{Move}
-use Rattle.jm_store.specs.Moves.{AreApart, after_moves}
-use Rattle.jm_store.specs.Contents.{ArePlaced}
-use Rattle.jm_store.proofs.CommitLemmas.{after_push, apart_front, leads_on, filled_on, marks_added, unplanned}
+use Rattle.jm_store.specs.Moves.{after_moves}
+use Rattle.jm_store.proofs.CommitLemmas.{after_push, apart_front, leads_on, filled_on, unplanned}
 use Rattle.jm_store.proofs.FitLemmas.{housed_fits}
 use Rattle.jm_store.proofs.store.Store.commit.Goals as goal
 
@@ -41,13 +37,13 @@ invariant_of-self g c =
 pub returns-clause-marks : goal.returns-clause-marks
 returns-clause-marks g c =
     let same = rw (← c.self.view_is) at c.loop-step.invariant.marks in
-    rw (← same) (marks_added _ _ c.args.plan.binding c.add.ensures.known c.add.ensures.unknown)
+    rw (← same) c.add_mark.ensures
 
 pub returns-clause-fits : goal.returns-clause-fits
 returns-clause-fits g c =
     let fits = rw (← c.self.view_is) at c.loop-step.invariant.fits in
     let same = rw (← c.self.view_is) at c.loop-step.invariant.marks in
-    let added = marks_added _ _ c.args.plan.binding c.add.ensures.known c.add.ensures.unknown in
+    let added = c.add_mark.ensures in
     λ dead fit below. housed_fits _ _ _ _ _ dead c.self.invariant.housed (fits dead fit.index)
     (λ b there. elim ((added b).0 there) [
       | inl before ↦ fit.marks b (rw same at before)

@@ -1,7 +1,6 @@
-use Rattle.std.proofs.Common.{◌≡◌, ◌++◌, ◌+◌, ◌≤◌, ℕ, ◌⊎◌, List, length, true}
+use Rattle.std.proofs.Common.{◌≡◌, ◌⊎◌, List, length, true}
 use Rattle.std.specs.Prelude.{Bool, Contains}
 use Rattle.jm_index.specs.Index.{Pair, IsFitting}
-use Rattle.jm_store.specs.declared.moves.Move.{Move}
 use Rattle.jm_store.specs.Moves.{after_moves, AreApart}
 use Rattle.jm_store.specs.Contents.{IsFilled, IsPlannedBy, ArePlaced}
 use Rattle.jm_store.proofs.store.Store.commit.Given as goal

@@ -1,9 +1,8 @@
-use Rattle.std.proofs.Common.{◌≡◌, List, refl, sym, ap, ◌∙◌, subst, true, false}
-use Rattle.std.specs.Prelude.{Contains}
+use Rattle.std.proofs.Common.{refl, ◌∙◌}
 use Rattle.std.proofs.lemmas.Bool.{false≢true}
 use Rattle.jm_store.proofs.VisitLemmas.{settled_monitor}
 use Rattle.jm_store.proofs.FitLemmas.{are_paired}
-use Rattle.jm_store.proofs.PlacingLemmas.{placed_same}
+use Rattle.jm_store.proofs.PlacingLemmas.{placed_same, placed_already}
 use Rattle.jm_store.proofs.store.Store.open_plan.Goals as goal
 
 pub place_all-requires-clause-settled : goal.place_all-requires-clause-settled
@@ -15,7 +14,7 @@ pub place_all-requires-clause-leads : goal.place_all-requires-clause-leads
 place_all-requires-clause-leads g c = rw (← c.self.view_is) at c.requires.leads
 
 pub take_back-requires-clause-filled : goal.take_back-requires-clause-filled
-take_back-requires-clause-filled g c = rw c.deref.ensures.value c.in-Err.ensures.filled
+take_back-requires-clause-filled g c = rw c.deref-in-Err.ensures.value c.in-Err.ensures.filled
 
 pub invariant_of-self-in-Err-1 : goal.invariant_of-self-in-Err-1
 invariant_of-self-in-Err-1 g c =
@@ -42,3 +41,24 @@ returns-in-Err-clause-fits g c =
 
 pub returns-in-Ok-clause-housed : goal.returns-in-Ok-clause-housed
 returns-in-Ok-clause-housed g c = rw (← c.self-in-Ok.view_is) (are_paired _ _ _ c.self-in-Ok.inside.index _ c.self-in-Ok.invariant.housed)
+
+pub returns-then-have_slots-clause-placed : goal.returns-then-have_slots-clause-placed
+returns-then-have_slots-clause-placed g c =
+    let closed = rw (← c.self.view_is) at c.requires.closed in
+    let leads = rw (← c.self.view_is) at c.requires.leads in
+    let slotted = rw c.deref.ensures.value at (c.have_slots.ensures c.if-have_slots.true) in
+    rw (← c.self.view_is)
+    (placed_same _ _ _ c.args.moves.items c.args.moves.items _ refl refl
+    (placed_already _ c.args.moves.items c.requires.apart leads (settled_monitor _ _ c.self.invariant.housed (c.self.invariant.settled closed)) slotted))
+
+pub returns-then-have_slots-clause-housed : goal.returns-then-have_slots-clause-housed
+returns-then-have_slots-clause-housed g c = are_paired _ _ _ c.self.inside.index _ c.self.invariant.housed
+
+pub take_back-requires-clause-placed : goal.take_back-requires-clause-placed
+take_back-requires-clause-placed g c = rw c.deref-in-Err.ensures.value c.in-Err.ensures.leads
+
+pub returns-in-Ok-clause-monitors : goal.returns-in-Ok-clause-monitors
+returns-in-Ok-clause-monitors g c = rw (← c.self.view_is) (λ k. c.in-Ok.ensures.monitors k)
+
+pub returns-in-Ok-clause-fits : goal.returns-in-Ok-clause-fits
+returns-in-Ok-clause-fits g c = rw (← c.self.view_is) (λ dead fits within. c.in-Ok.ensures.fits dead fits within)

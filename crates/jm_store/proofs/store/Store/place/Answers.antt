@@ -47,3 +47,9 @@ returns-in-Err-clause-monitors g c = rw (← c.self.view_is, c.release.ensures) 
 
 pub returns-in-Err-clause-fits : goal.returns-in-Err-clause-fits
 returns-in-Err-clause-fits g c = rw (← c.self.view_is) (λ dead fits below. c.in-Err.ensures.fits dead fits below)
+
+pub invariant_of-self : goal.invariant_of-self
+invariant_of-self g c = kept_listed _ _ _ _ _ _ c.self.invariant c.in_err-list_domain.ensures.distinct c.in_err-list_domain.ensures.kept
+
+pub returns-then-has-clause-placed : goal.returns-then-has-clause-placed
+returns-then-has-clause-placed g c = rw (← c.self.view_is) (refl, c.has.ensures.yes c.if-has.true)

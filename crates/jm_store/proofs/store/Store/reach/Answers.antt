@@ -1,14 +1,10 @@
-use Rattle.std.proofs.Common.{◌≡◌, ◌++◌, ◌∷◌, [], ◌+◌, ◌≤◌, ◌<◌, ℕ, List, take, length, get_or, refl, sym, ap, ◌∙◌, subst, append-nil, arith, true, false}
-use Rattle.std.specs.Prelude.{Option, Some, Contains}
+use Rattle.std.proofs.Common.{◌+◌, take, length, get_or, sym, ap, ◌∙◌, append-nil, arith, true, false}
 use Rattle.std.proofs.lemmas.List.{take_all, length-append}
-use Rattle.jm_monitors.specs.declared.stored.Stored.{Stored}
 use Rattle.jm_index.specs.Index.{asked_slots}
-use Rattle.jm_store.specs.Slots.{monitors_of}
-use Rattle.jm_store.specs.Moves.{AreGiven, IsOutcomeAt, IsCompatibleAt, visited, asks_by}
-use Rattle.jm_store.specs.Housing.{AreDomains}
+use Rattle.jm_store.specs.Moves.{visited, asks_by}
 use Rattle.jm_store.proofs.VisitLemmas.{visited_taken, visited_bound, are_visited, compatible_at}
 use Rattle.jm_store.proofs.store.Store.reach.Goals as goal
-use Rattle.jm_store.proofs.store.Store.reach.Goals.{then-asks+in_ok-slots+in_ok-reach_slots, else-asks}
+use Rattle.jm_store.proofs.store.Store.reach.Goals.{then-asks+in_ok-compatible_into+in_ok-reach_slots, else-asks}
 
 pub loop-domain-preserved : goal.loop-domain-preserved
 loop-domain-preserved g c =
@@ -18,9 +14,9 @@ loop-domain-preserved g c =
     let b = c.args.event.now.binding.now in
     let pairs = c.self.inside.index.list in
     elim c.if-asks.branch [
-      | then-asks+in_ok-slots+in_ok-reach_slots w ↦
+      | then-asks+in_ok-compatible_into+in_ok-reach_slots w ↦
           let more = visited_taken (asks_by c.args.event.now.known c.self.inside.ending c.args.event.now.letter.0 c.args.event.now.binding.now) b pairs ds i true c.loop-domain-test.true (sym c.asks.ensures ∙ w.if-asks.true) in
-          let slots = w.deref.ensures.value ∙ w.in_ok-slots.ensures.slots in
+          let slots = w.as_slice.ensures.value ∙ w.in_ok-compatible_into.ensures.slots in
           let step = rw (← c.self.view_is, slots) at w.in_ok-reach_slots.ensures.moves in
           let next = step (visited (asks_by c.args.event.now.known c.self.inside.ending c.args.event.now.letter.0 c.args.event.now.binding.now) b pairs (take i ds)) inv.moves in
           rw (← c.self.view_is, w.moves-is, w.steps-is, more) (record {
@@ -35,15 +31,15 @@ loop-domain-preserved g c =
 pub reach_slots-requires : goal.reach_slots-requires
 reach_slots-requires g c =
     let closed = rw (← c.self.view_is) at c.requires.closed in
-    let slots = c.deref.ensures.value ∙ c.in_ok-slots.ensures.slots in
+    let slots = c.as_slice.ensures.value ∙ c.in_ok-compatible_into.ensures.slots in
     record {
       letter = c.requires.letter;
       known = c.requires.known;
       compatible = rw (← c.self.view_is, slots) (compatible_at _ _ _ _ c.self.invariant.housed (c.self.invariant.settled closed));
     }
 
-pub returns-in_err-slots-clause-steps : goal.returns-in_err-slots-clause-steps
-returns-in_err-slots-clause-steps g c =
+pub returns-in_err-compatible_into-clause-steps : goal.returns-in_err-compatible_into-clause-steps
+returns-in_err-compatible_into-clause-steps g c =
     let closed = rw (← c.self.view_is) at c.requires.closed in
     let inv = rw (← c.self.view_is) at c.loop-domain.invariant in
     let items = c.deref-domain-items.ensures.value in
@@ -60,7 +56,7 @@ returns-in_err-reach_slots-clause-steps g c =
     let closed = rw (← c.self.view_is) at c.requires.closed in
     let inv = rw (← c.self.view_is) at c.loop-domain.invariant in
     let items = c.deref-domain-items.ensures.value in
-    let slots = c.deref.ensures.value ∙ c.in_ok-slots.ensures.slots in
+    let slots = c.as_slice.ensures.value ∙ c.in_ok-compatible_into.ensures.slots in
     let more = visited_taken (asks_by c.args.event.now.known c.self.inside.ending c.args.event.now.letter.0 c.args.event.now.binding.now) b pairs ds i true c.loop-domain-test.true (sym c.asks.ensures ∙ c.if-asks.true) in
     let bound = visited_bound (asks_by c.args.event.now.known c.self.inside.ending c.args.event.now.letter.0 c.args.event.now.binding.now) b _ _ _ (i + 1) c.self.invariant.housed (c.self.invariant.settled closed) (rw (← items) at c.self.invariant.domains) in
     rw (← c.self.view_is)

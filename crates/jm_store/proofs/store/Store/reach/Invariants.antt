@@ -1,4 +1,4 @@
-use Rattle.std.proofs.Common.{◌≡◌, ◌++◌, ◌+◌, ◌≤◌, ℕ, take, List, length}
+use Rattle.std.proofs.Common.{◌+◌, ◌≤◌, take, length}
 use Rattle.jm_store.specs.Moves.{AreGiven, IsOutcomeAt, visited, asks_by}
 use Rattle.jm_store.proofs.store.Store.reach.Given as goal
 

@@ -4,18 +4,19 @@ use Rattle.jm_index.specs.Index.{asked_slots}
 use Rattle.jm_index.specs.Layout.{slot_at}
 use Rattle.jm_index.proofs.AskLemmas.{exact_slots, no_slots}
 use Rattle.jm_index.proofs.IndexLemmas.{list_distinct}
-use Rattle.jm_index.proofs.index.Index.exact.Goals as goal
+use Rattle.jm_index.proofs.index.Index.add_exact.Goals as goal
 
 pub returns-in-Some-clause-slots : goal.returns-in-Some-clause-slots
 returns-in-Some-clause-slots c =
     let is : filter_map (slot_at c.as_slice.result.now c.args.domain c.args.binding.now) (c.in-Some.position.now ∷ []) ≡ asked_slots c.args.domain c.args.binding.now c.args.self.now.list =
     rw (c.as_slice.ensures.value, ← c.self.view_is) (exact_slots _ _ _ _ _ _ _ _ c.self.invariant c.requires.common c.requires.all (sym c.in-Some.ensures.value))
     in
-    rw (← is) c.slots_at.ensures
+    let added = rw c.requires.none at c.add_slots_at.ensures in
+    rw (← is) added
 
 pub returns-in-None-clause-slots : goal.returns-in-None-clause-slots
 returns-in-None-clause-slots c =
-    rw (← c.self.view_is, c.new.ensures.items)
+    rw (← c.self.view_is, c.requires.none)
     (no_slots _ _ _ _ _ _ _ c.self.invariant c.requires.common c.requires.all (sym c.in-None.ensures.value))
 
 pub returns-in-Some-clause-distinct : goal.returns-in-Some-clause-distinct
