@@ -40,18 +40,6 @@ impl Node {
         })
     }
 
-    /// The same, with this memory.
-    pub(crate) fn with_link(caller: u32, line: u32, step: Step, link: Box<Chain>) -> Node
-        ensures { result ≡ record { caller = caller; line = line; step = step } }
-    {
-        Node {
-            caller,
-            line,
-            step,
-            link,
-        }
-    }
-
     /// The caller of `Node::new`.
     pub fn caller(&self) -> u32
         ensures { result ≡ self.now.caller }
