@@ -2,7 +2,6 @@
 use jm_machine::{Rules, Run};
 use jm_model::{Letter, Monitor, NoMemory};
 use std::cell::Cell;
-use std::marker::Model;
 
 /// Rules, and how many calls of `next` there are up to the one that answers NoMemory; with 0 none does.
 #[derive(Drop)]
@@ -11,18 +10,8 @@ pub(crate) struct Stingy {
     left: Cell<u32>,
 }
 
-impl Model for Stingy {
-    ghost use Rattle.jm_machine.specs.RuleSets.{CompiledRules};
-
-    ghost Value = { CompiledRules };
-
-    ghost view = { λ s. s.rules };
-}
-
 impl Stingy {
-    pub(crate) fn new(rules: Rules, left: u32) -> Stingy
-        ensures { result ≡ rules }
-    {
+    pub(crate) fn new(rules: Rules, left: u32) -> Stingy {
         Stingy {
             rules,
             left: Cell::new(left),
@@ -39,11 +28,11 @@ impl Monitor for Stingy {
 
     type Definition = Rules;
 
-    ghost definition = { λ s. s };
+    ghost definition = { λ s. s.rules };
 
     ghost meaning = { λ r. rules_meaning r.definition };
 
-    ghost StandsFor = { λ s r w. IsRunOf s r w };
+    ghost StandsFor = { λ s r w. IsRunOf s.rules r w };
 
     fn letters(&self) -> u8 {
         self.rules.letters()
