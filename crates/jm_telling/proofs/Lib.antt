@@ -1,0 +1,5 @@
+pub mod NameLists
+pub mod TableNames
+pub mod HandlerNames
+pub mod ObjectNames
+pub mod JobNames
