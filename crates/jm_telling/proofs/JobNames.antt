@@ -1,16 +1,13 @@
 -- The names of what an accepted command reads.
-use Rattle.std.proofs.Common.{◌≡◌, ℕ, ◌+◌, Bool, List, [], ◌∷◌, ◌++◌, length, map, Option, Some, None, sym, ap, subst}
-use Rattle.jm_text.specs.declared.token.Token.{Token}
-use Rattle.jm_events.specs.Events.{EventDefinitions, event_names}
+use Rattle.std.proofs.Common.{ℕ, ◌+◌, Bool, List, [], ◌∷◌, ◌++◌, length, map, Option, sym, ap, subst}
 use Rattle.jm_script.specs.declared.script.ScriptLine.{ScriptLine}
 use Rattle.jm_machine.specs.Formulas.{category_names}
-use Rattle.jm_machine.specs.Handlers.{handler_names}
 use Rattle.jm_machine.specs.Meanings.{RuleDefinition}
 use Rattle.jm_print.specs.Told.{AreNames, HasNames, HaveNames}
 use Rattle.jm_cli.specs.Words.{CommandWords}
 use Rattle.jm_top.specs.Sources.{Source}
 use Rattle.jm_top.specs.Specifications.{Specification, IsSpecification}
-use Rattle.jm_top.specs.Scripts.{catalog_of, IsScript}
+use Rattle.jm_top.specs.Scripts.{catalog_of}
 use Rattle.jm_top.specs.Inputs.{SaySpecifications, SayScripts}
 use Rattle.jm_top.specs.Histories.{lexicon}
 use Rattle.jm_top.specs.Jobs.{IsJob, Accepted, accepted}
@@ -20,7 +17,7 @@ use Rattle.jm_telling.proofs.HandlerNames.{handlers_named}
 use Rattle.jm_telling.proofs.ObjectNames.{script_named}
 
 -- the parameters, events and handlers of a specification
-specification_tables : (bytes : List ℕ) (s : Specification) → IsSpecification bytes s → HasTableNames s.table
+pub specification_tables : (bytes : List ℕ) (s : Specification) → IsSpecification bytes s → HasTableNames s.table
 specification_tables bytes s is = subst HasTableNames (sym is.table) (table_names bytes is.told.told.0.params is.told.told.0.events is.tree.table is.told.told.3.table)
 
 specification_handlers : (bytes : List ℕ) (s : Specification) → IsSpecification bytes s → AreNames s.rules.handlers

@@ -1,5 +1,5 @@
 -- Lists of distinct names, one name after the other, and the bytes of names.
-use Rattle.std.proofs.Common.{◌≡◌, ℕ, zero, suc, Bool, true, false, cond, ◌⊎◌, inl, inr, List, [], ◌∷◌, ◌++◌, Option, Some, None, length, slice_get, refl, sym, ap, subst, ◌∙◌}
+use Rattle.std.proofs.Common.{◌≡◌, ℕ, zero, suc, Bool, true, false, cond, ◌⊎◌, inl, inr, List, [], ◌∷◌, ◌++◌, Some, length, slice_get, refl, sym, ap, subst, ◌∙◌}
 use Rattle.std.specs.Prelude.{◌&&◌, nat_le}
 use Rattle.std.specs.List.{list_all, list_any}
 use Rattle.std.specs.Str.{bytes_eq}
@@ -11,7 +11,7 @@ use Rattle.jm_text.specs.Texts.{is_word_kind, is_name_byte, is_name_text, is_nam
 use Rattle.jm_events.specs.Names.{with_name}
 use Rattle.jm_events.proofs.NameLemmas.{list_any-place}
 use Rattle.jm_reading.specs.Tokens.{name_of}
-use Rattle.jm_print.specs.Told.{IsNameByte, IsName, AreNames}
+use Rattle.jm_print.specs.Told.{IsName, AreNames}
 use Rattle.jm_script.proofs.WordLemmas.{both_left, both_right}
 
 -- ---- lists

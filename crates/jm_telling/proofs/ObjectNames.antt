@@ -1,5 +1,5 @@
 -- The objects of scripts have names of their own.
-use Rattle.std.proofs.Common.{◌≡◌, ℕ, ◌+◌, Bool, true, false, cond, ◌&&◌, List, [], ◌∷◌, length, Option, Some, None, Result, Ok, Err, IfOk, refl, sym, ap, subst}
+use Rattle.std.proofs.Common.{◌≡◌, ℕ, ◌+◌, Bool, true, false, cond, ◌&&◌, List, [], ◌∷◌, length, Option, Some, None, Result, Ok, Err, IfOk, refl}
 use Rattle.std.specs.Prelude.{nat_le, nat_lt}
 use Rattle.std.specs.List.{list_all}
 use Rattle.jm_model.specs.declared.fault.ScriptFault.{ScriptFault}
@@ -9,7 +9,6 @@ use Rattle.jm_print.specs.Told.{IsName, AreNames}
 use Rattle.jm_script.specs.declared.event.NamedEvent.{NamedEvent}
 use Rattle.jm_script.specs.declared.script.Target.{Target}
 use Rattle.jm_script.specs.declared.script.Target.TheVariants as target
-use Rattle.jm_script.specs.declared.script.ScriptLine.{ScriptLine}
 use Rattle.jm_script.specs.Lines.{lines_of, words_of}
 use Rattle.jm_script.specs.Statements.{Statement, Event, Death, Pass, is_object_byte, is_object, statement_of}
 use Rattle.jm_script.specs.Objects.{mentioned, numbers_of}

@@ -1,6 +1,7 @@
--- The parameters and the events of a table that was read have names of their own.
-use Rattle.std.proofs.Common.{◌≡◌, ℕ, Bool, true, false, cond, List, [], ◌∷◌, ◌++◌, Option, Some, None, Result, Ok, Err, map, length, refl, sym, ap, subst, ◌∙◌}
-use Rattle.std.specs.Prelude.{◌&&◌, ◌||◌, ◌==◌, nat_le}
+-- The parameters and the events of a table that was read have names of their own, and an event's parameters are some
+-- of the table's.
+use Rattle.std.proofs.Common.{◌≡◌, ℕ, ◌<◌, ◌^◌, Bool, true, false, cond, List, [], ◌∷◌, ◌++◌, Option, Some, None, Result, Ok, Err, map, length, refl, sym, ap, subst, ◌∙◌}
+use Rattle.std.specs.Prelude.{◌&&◌, ◌==◌, nat_le}
 use Rattle.std.specs.List.{list_any}
 use Rattle.std.specs.Str.{bytes_eq}
 use Rattle.std.proofs.lemmas.Option.{cond_some}
@@ -21,11 +22,13 @@ use Rattle.jm_spec.specs.declared.events.Mention.{Mention}
 use Rattle.jm_spec.specs.Faults.{name_of, ◌>>>◌, unless, with_param, with_params, with_names, with_mention, with_advice, with_events, table_of}
 use Rattle.jm_top.proofs.OneReadingLemmas.{same_ok}
 use Rattle.jm_telling.proofs.NameLists.{no_names, name_more, name_mentioned, plain_token}
+use Rattle.jm_telling.proofs.TableMasks.{HasMasks, mask_said, parameter_masks, same_after, event_masks}
 
--- a table whose parameters and events have names of their own
+-- a table whose parameters and events have names of their own, and whose events have some of its parameters
 pub record HasTableNames (t : EventDefinitions) : Type 0 where
   pub parameters : AreNames t.parameters
   pub events : AreNames (event_names t)
+  pub masks : HasMasks t
 
 -- the name that a token says, if it says one
 said_plain : (bytes : List ℕ) (token : Token) (name : List ℕ) → name_of bytes token ≡ Some name → IsName name
@@ -52,7 +55,7 @@ parameter_named t u name line before plain e = by_case (list_any (bytes_eq name)
     by_case true known e = absurd cc
     by_case false new e =
         subst HasTableNames (unless_made (cond (length t.parameters == 8) (Some (TooMany Parameters)) None) (with_parameter t name) u e)
-        (record { parameters = name_more t.parameters name new before.parameters plain; events = before.events })
+        (record { parameters = name_more t.parameters name new before.parameters plain; events = before.events; masks = parameter_masks t name before.masks })
 
 said_parameter : (t u : EventDefinitions) (said : Option (List ℕ)) (line : ℕ) → ((name : List ℕ) → said ≡ Some name → IsName name) → HasTableNames t → with_param t said line ≡ Ok u → HasTableNames u
 said_parameter t u None line plain before e = subst HasTableNames (same_ok e) before
@@ -66,16 +69,9 @@ parameters_named bytes (p ∷ ps) t u before e =
 
 -- ---- events
 
-same_name : (e known : EventDefinition) → (after_mention e known).name ≡ known.name
-same_name e known = by_case (bytes_eq e.name known.name)
-  where
-    by_case : (b : Bool) → (cond b (record known { creation = known.creation || e.creation }) known).name ≡ known.name
-    by_case true = refl
-    by_case false = refl
-
 same_names : (e : EventDefinition) (events : List EventDefinition) → map (λ (x : EventDefinition). x.name) (map (after_mention e) events) ≡ map (λ (x : EventDefinition). x.name) events
 same_names e [] = refl
-same_names e (x ∷ events) = ap (λ (n : List ℕ). n ∷ map (λ (y : EventDefinition). y.name) (map (after_mention e) events)) (same_name e x) ∙ ap (λ (ns : List (List ℕ)). x.name ∷ ns) (same_names e events)
+same_names e (x ∷ events) = ap (λ (n : List ℕ). n ∷ map (λ (y : EventDefinition). y.name) (map (after_mention e) events)) (same_after (λ (d : EventDefinition). d.name) (λ d c. refl) e x) ∙ ap (λ (ns : List (List ℕ)). x.name ∷ ns) (same_names e events)
 
 -- the names after a mention of an event
 names_mentioned : (t : EventDefinitions) (e : EventDefinition) → event_names (with_event t e) ≡ with_name (event_names t) e.name
@@ -85,17 +81,17 @@ names_mentioned t e = by_case (list_any (bytes_eq e.name) (event_names t))
     by_case true = same_names e t.events
     by_case false = map-append (λ (x : EventDefinition). x.name) t.events (e ∷ [])
 
-event_named : (t u : EventDefinitions) (e : EventDefinition) → HasTableNames t → IsName e.name → unless (event_fault t e) (with_event t e) ≡ Ok u → HasTableNames u
-event_named t u e before plain made =
+event_named : (t u : EventDefinitions) (e : EventDefinition) → HasTableNames t → IsName e.name → e.mask < 2 ^ length t.parameters → unless (event_fault t e) (with_event t e) ≡ Ok u → HasTableNames u
+event_named t u e before plain small made =
     subst HasTableNames (unless_made (event_fault t e) (with_event t e) u made)
-    (record { parameters = before.parameters; events = subst AreNames (sym (names_mentioned t e)) (name_mentioned (event_names t) e.name before.events plain) })
+    (record { parameters = before.parameters; events = subst AreNames (sym (names_mentioned t e)) (name_mentioned (event_names t) e.name before.events plain); masks = event_masks t e before.masks small })
 
-said_event : (t u : EventDefinitions) (said : Option (List ℕ)) (mask : ℕ) (creation : Bool) (line : ℕ) → ((name : List ℕ) → said ≡ Some name → IsName name) → HasTableNames t → with_mention t said mask creation line ≡ Ok u → HasTableNames u
-said_event t u None mask creation line plain before e = subst HasTableNames (same_ok e) before
-said_event t u (Some name) mask creation line plain before e = event_named t u (record { name = name; mask = mask; creation = creation; line = line }) before (plain name refl) e
+said_event : (t u : EventDefinitions) (said : Option (List ℕ)) (mask : ℕ) (creation : Bool) (line : ℕ) → ((name : List ℕ) → said ≡ Some name → IsName name) → mask < 2 ^ length t.parameters → HasTableNames t → with_mention t said mask creation line ≡ Ok u → HasTableNames u
+said_event t u None mask creation line plain small before e = subst HasTableNames (same_ok e) before
+said_event t u (Some name) mask creation line plain small before e = event_named t u (record { name = name; mask = mask; creation = creation; line = line }) before (plain name refl) small e
 
 advice_named : (bytes : List ℕ) (t u : EventDefinitions) (m : Mention) (advice : Advice) → HasTableNames t → with_advice bytes t m advice ≡ Ok u → HasTableNames u
-advice_named bytes t u m (Known names) before e = said_event t u (name_of bytes m.name) (with_names bytes t 0 names) m.creation m.name.line (said_plain bytes m.name) before e
+advice_named bytes t u m (Known names) before e = said_event t u (name_of bytes m.name) (with_names bytes t 0 names) m.creation m.name.line (said_plain bytes m.name) (mask_said bytes t names) before e
 advice_named bytes t u m (Other line) before e = subst HasTableNames (same_ok e) before
 
 events_named : (bytes : List ℕ) (ms : List Mention) (t u : EventDefinitions) → HasTableNames t → with_events bytes t ms ≡ Ok u → HasTableNames u
@@ -108,4 +104,4 @@ events_named bytes (m ∷ ms) t u before e =
 pub table_names : (bytes : List ℕ) (params : List Token) (events : List Mention) (u : EventDefinitions) → table_of bytes params events ≡ Ok u → HasTableNames u
 table_names bytes params events u e =
     let step = step_before (with_params bytes (record { parameters = []; events = [] }) params) (λ t. with_events bytes t events) u e in
-    events_named bytes events step.0 u (parameters_named bytes params (record { parameters = []; events = [] }) step.0 (record { parameters = no_names; events = no_names }) step.1) step.2
+    events_named bytes events step.0 u (parameters_named bytes params (record { parameters = []; events = [] }) step.0 (record { parameters = no_names; events = no_names; masks = tt }) step.1) step.2
