@@ -1,0 +1,45 @@
+-- The names of what an accepted command reads.
+use Rattle.std.proofs.Common.{ℕ, ◌+◌, Bool, List, [], ◌∷◌, ◌++◌, length, map, Option, sym, ap, subst}
+use Rattle.jm_script.specs.declared.script.ScriptLine.{ScriptLine}
+use Rattle.jm_machine.specs.Formulas.{category_names}
+use Rattle.jm_machine.specs.Meanings.{RuleDefinition}
+use Rattle.jm_print.specs.Told.{AreNames, HasNames, HaveNames}
+use Rattle.jm_cli.specs.Words.{CommandWords}
+use Rattle.jm_top.specs.Sources.{Source}
+use Rattle.jm_top.specs.Specifications.{Specification, IsSpecification}
+use Rattle.jm_top.specs.Scripts.{catalog_of}
+use Rattle.jm_top.specs.Inputs.{SaySpecifications, SayScripts}
+use Rattle.jm_top.specs.Histories.{lexicon}
+use Rattle.jm_top.specs.Jobs.{IsJob, Accepted, accepted}
+use Rattle.jm_telling.proofs.NameLists.{no_names}
+use Rattle.jm_telling.proofs.TableNames.{HasTableNames, table_names}
+use Rattle.jm_telling.proofs.HandlerNames.{handlers_named}
+use Rattle.jm_telling.proofs.ObjectNames.{script_named}
+
+-- the parameters, events and handlers of a specification
+pub specification_tables : (bytes : List ℕ) (s : Specification) → IsSpecification bytes s → HasTableNames s.table
+specification_tables bytes s is = subst HasTableNames (sym is.table) (table_names bytes is.told.told.0.params is.told.told.0.events is.tree.table is.told.told.3.table)
+
+specification_handlers : (bytes : List ℕ) (s : Specification) → IsSpecification bytes s → AreNames s.rules.handlers
+specification_handlers bytes s is =
+    subst AreNames (sym (ap (λ (r : RuleDefinition). r.handlers) is.rules.rules)) (handlers_named bytes is.tokens (category_names s.rules.formula) is.tree.handlers.items is.rules.handled)
+
+specification_names : (objects : List (List ℕ)) → AreNames objects → (bytes : List ℕ) (s : Specification) → IsSpecification bytes s → HasNames (lexicon objects s)
+specification_names objects named bytes s is =
+    let tables = specification_tables bytes s is in
+    record { parameters = tables.parameters; events = tables.events; handlers = specification_handlers bytes s is; objects = named }
+
+specifications_names : (objects : List (List ℕ)) → AreNames objects → (contents : List ℕ → Option (List ℕ)) (families : Bool) (before : List Specification) (sources : List Source) (specs : List Specification) → SaySpecifications contents families before sources specs → HaveNames (map (lexicon objects) specs)
+specifications_names objects named contents families before [] specs said = subst (λ (ss : List Specification). HaveNames (map (lexicon objects) ss)) (sym said) tt
+specifications_names objects named contents families before (source ∷ sources) specs said =
+    subst (λ (ss : List Specification). HaveNames (map (lexicon objects) ss)) (sym said.3)
+    (specification_names objects named said.0 said.1 said.5.said, specifications_names objects named contents families (before ++ said.1 ∷ []) sources said.2 said.6)
+
+scripts_names : (contents : List ℕ → Option (List ℕ)) (specs : List Specification) (count : ℕ) (names : List (List ℕ)) (sources : List Source) (scripts : List (List ScriptLine)) (objects : List (List ℕ)) → AreNames names → SayScripts contents specs count names sources scripts objects → AreNames objects
+scripts_names contents specs count names [] scripts objects before said = subst AreNames (sym said.1) before
+scripts_names contents specs count names (source ∷ sources) scripts objects before said =
+    scripts_names contents specs (count + length said.1) said.3 sources said.2 objects (subst AreNames (sym said.6.named) (script_named (catalog_of specs) count said.0 names before)) said.7
+
+pub job_names : (words : List (List ℕ)) (contents : List ℕ → Option (List ℕ)) (command : CommandWords) (specs : List Specification) (scripts : List (List ScriptLine)) (objects : List (List ℕ)) → IsJob words contents (Accepted command specs scripts objects) → HaveNames (map (lexicon objects) specs)
+job_names words contents _ _ _ _ (accepted command specs scripts objects spelled said tells) =
+    specifications_names objects (scripts_names contents specs 0 [] _ scripts objects no_names tells) contents _ [] _ specs said

@@ -1,0 +1,9 @@
+pub mod NameLists
+pub mod TableMasks
+pub mod TableNames
+pub mod HandlerNames
+pub mod ObjectNames
+pub mod JobNames
+pub mod ScriptSteps
+pub mod HistorySteps
+pub mod JobTold

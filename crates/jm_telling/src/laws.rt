@@ -1,0 +1,40 @@
+//! What holds of the histories of all accepted commands.
+ghost use Rattle.std.specs.Prelude.{◌≡◌, ℕ, List, Option, map};
+ghost use Rattle.jm_model.specs.declared.step.Entry.{Entry};
+ghost use Rattle.jm_script.specs.declared.script.ScriptLine.{ScriptLine};
+ghost use Rattle.jm_cli.specs.Words.{CommandWords};
+ghost use Rattle.jm_print.specs.Told.{HaveNames, AreToldBy, texts_of};
+ghost use Rattle.jm_top.specs.Specifications.{Specification};
+ghost use Rattle.jm_top.specs.Histories.{AreHistoriesFrom, lexicon};
+ghost use Rattle.jm_top.specs.Jobs.{IsJob, Accepted};
+ghost use Rattle.jm_telling.specs.Counts.{HaveFewFirings};
+
+/// The names of an accepted command are fit to be printed: in each of its specifications the parameters, the events
+/// and the handlers each have names of their own, and so have the objects; and none of these holds a line feed, a space,
+/// `,` or `=`.
+pub fn inputs_have_names()
+    ensures { (words : List (List ℕ)) (contents : List ℕ → Option (List ℕ)) (command : CommandWords)
+        → (specs : List Specification) (scripts : List (List ScriptLine)) (objects : List (List ℕ))
+        → IsJob words contents (Accepted command specs scripts objects)
+        → HaveNames (map (lexicon objects) specs) }
+{}
+
+/// The text of an accepted command tells its histories. Each list of histories that its scripts may have, one for each
+/// specification, is told by its text; and two such lists with one text are one list. Of the histories it is asked only
+/// that an event has fewer than 2 ^ 64 firings, which no definition bounds.
+pub fn text_tells_histories()
+    ensures told { (words : List (List ℕ)) (contents : List ℕ → Option (List ℕ)) (command : CommandWords)
+        → (specs : List Specification) (scripts : List (List ScriptLine)) (objects : List (List ℕ))
+        → (hs : List (List Entry))
+        → IsJob words contents (Accepted command specs scripts objects)
+        → AreHistoriesFrom 0 specs scripts hs → HaveFewFirings hs
+        → AreToldBy (map (lexicon objects) specs) hs }
+    ensures one { (words : List (List ℕ)) (contents : List ℕ → Option (List ℕ)) (command : CommandWords)
+        → (specs : List Specification) (scripts : List (List ScriptLine)) (objects : List (List ℕ))
+        → (hs others : List (List Entry))
+        → IsJob words contents (Accepted command specs scripts objects)
+        → AreHistoriesFrom 0 specs scripts hs → HaveFewFirings hs
+        → AreHistoriesFrom 0 specs scripts others → HaveFewFirings others
+        → texts_of (map (lexicon objects) specs) hs ≡ texts_of (map (lexicon objects) specs) others
+        → hs ≡ others }
+{}
