@@ -26,8 +26,9 @@ use std::thread::Threads;
 /// text given to `err`. Want of memory may end the work at any point.
 ///
 /// At `Done` the text is that of the command's job. For `replay` and `run` it is, for each specification in order, a printed
-/// history that is legal for what the specification means, and an interleaving of the scripts' steps for it. A refusal is the
-/// job's first fault in the order of work. `ReadFailed` and `WriteFailed` come only where the folder or the sink counted a
+/// history that is legal for what the specification means, and an interleaving of the scripts' steps for it; for `gen` the
+/// summaries of such histories over the workload's files; for `check` what the specifications declare, and for `coenable`
+/// their families. A refusal is the job's first fault in the order of work. `ReadFailed` and `WriteFailed` come only where the folder or the sink counted a
 /// fault. So where the job has no fault, it is told what the files hold, and no fault was counted, the whole text was
 /// written, or memory was short.
 pub fn jmop<R: Threads + Wait + Sync, F: Folder, S: Sink, E: Sink, G: Gate>(

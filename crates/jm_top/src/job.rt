@@ -57,7 +57,7 @@ fn replayed<F: Folder>(
     ensures read_failed { (file : ℕ) → result ≡ Err (Status.ReadFailed file) → HasRisen (F.faults files.old) (F.faults files.new) }
 {
     let inputs = read_inputs(alloc, slice::from_ref(spec), slice::from_ref(script), files)?;
-    let text = replay(alloc, inputs.library, &inputs.scripts)?;
+    let text = replay(alloc, inputs.library, inputs.scripts)?;
     Ok(text)
 }
 

@@ -18,37 +18,36 @@ use jm_print::render_history;
 use jm_script::project;
 use std::alloc::Global;
 
-/// The printed history of the one script, replayed over the one specification.
-pub(crate) fn replay(
-    alloc: Global,
-    library: Library,
-    scripts: &Scripts,
-) -> Result<Vec<u8>, NoMemory>
+/// The printed history of the one script, replayed over the one specification. The script is let go before the replay, and
+/// its steps before the printing.
+pub(crate) fn replay(alloc: Global, library: Library, scripts: Scripts) -> Result<Vec<u8>, NoMemory>
     requires one_spec { length library.specs.items ≡ 1 }
-    requires one_script { length scripts.now.list.items ≡ 1 }
+    requires one_script { length scripts.list.items ≡ 1 }
     requires catalogued { IsCatalogued library }
-    requires counted { AreCounted (specs_in library) scripts.now }
-    ensures { IfOk result (λ text. IsTextOfHistories (specs_in library) scripts.now.list.items scripts.now.objects text.items) }
+    requires counted { AreCounted (specs_in library) scripts }
+    ensures { IfOk result (λ text. IsTextOfHistories (specs_in library) scripts.list.items scripts.objects text.items) }
 {
-    let own = project(alloc, &scripts.list[0], 0)?;
+    let Scripts { list, objects, .. } = scripts;
+    let own = project(alloc, &list[0], 0)?;
+    drop(list);
     let mut specs = library.specs;
     let Some(loaded) = specs.pop() else {
         unreachable!()
     };
-    replay_own(alloc, loaded, own.as_slice(), &scripts.objects)
+    replay_own(alloc, loaded, own, &objects)
 }
 
 /// The printed history of these steps of a specification.
 fn replay_own(
     alloc: Global,
     loaded: Loaded,
-    own: &[(u32, Step)],
+    own: Vec<(u32, Step)>,
     objects: &Names,
 ) -> Result<Vec<u8>, NoMemory>
-    requires steps { All (λ step. IsFitStep (rules_meaning loaded.rules.definition) (length objects.now) step.1) own.now }
-    requires printable { (h : List Entry) → IsReplayOf (rules_meaning loaded.rules.definition) own.now h
+    requires steps { All (λ step. IsFitStep (rules_meaning loaded.rules.definition) (length objects.now) step.1) own.items }
+    requires printable { (h : List Entry) → IsReplayOf (rules_meaning loaded.rules.definition) own.items h
         → All (IsPrintable (title_lexicon objects.now loaded.titles)) h }
-    ensures { IfOk result (λ text. IsPrintedReplay (rules_meaning loaded.rules.definition) own.now
+    ensures { IfOk result (λ text. IsPrintedReplay (rules_meaning loaded.rules.definition) own.items
         (title_lexicon objects.now loaded.titles) text.items) }
 {
     let Loaded { titles, rules } = loaded;
@@ -59,18 +58,17 @@ fn replay_own(
 fn history_of<M: Monitor>(
     alloc: Global,
     rules: M,
-    steps: &[(u32, Step)],
+    steps: Vec<(u32, Step)>,
     titles: &Titles,
     objects: &Names,
 ) -> Result<Vec<u8>, NoMemory>
-    requires steps { All (λ step. IsFitStep (M.meaning (M.definition rules)) (length objects.now) step.1) steps.now }
-    requires printable { (h : List Entry) → IsReplayOf (M.meaning (M.definition rules)) steps.now h
+    requires steps { All (λ step. IsFitStep (M.meaning (M.definition rules)) (length objects.now) step.1) steps.items }
+    requires printable { (h : List Entry) → IsReplayOf (M.meaning (M.definition rules)) steps.items h
         → All (IsPrintable (title_lexicon objects.now titles.now)) h }
-    ensures { IfOk result (λ text. IsPrintedReplay (M.meaning (M.definition rules)) steps.now
+    ensures { IfOk result (λ text. IsPrintedReplay (M.meaning (M.definition rules)) steps.items
         (title_lexicon objects.now titles.now) text.items) }
 {
-    let mut prop = Prop::new(alloc, rules, objects.len())?;
-    prop.replay(0, steps)?;
+    let prop = replayed(alloc, rules, steps, objects.len())?;
     render_history(
         alloc,
         titles.name.as_str(),
@@ -80,4 +78,20 @@ fn history_of<M: Monitor>(
         titles.texts.as_slice(),
         objects,
     )
+}
+
+/// The core after these steps of one caller, which are let go.
+fn replayed<M: Monitor>(
+    alloc: Global,
+    rules: M,
+    steps: Vec<(u32, Step)>,
+    objects: u32,
+) -> Result<Prop<M>, NoMemory>
+    requires { All (λ step. IsFitStep (M.meaning (M.definition rules)) objects step.1) steps.items }
+    ensures { IfOk result (λ prop. IsReplayOf (M.meaning (M.definition rules)) steps.items prop.entries) }
+{
+    let mut prop = Prop::new(alloc, rules, objects)?;
+    prop.replay(0, steps.as_slice())?;
+    let _history = prop.history();
+    Ok(prop)
 }

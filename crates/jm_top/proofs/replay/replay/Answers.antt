@@ -7,25 +7,25 @@ use Rattle.jm_top.proofs.replay.replay.Goals as goal
 pub replay_own-requires-clause-steps : goal.replay_own-requires-clause-steps
 replay_own-requires-clause-steps c =
     let library = c.args.library in
-    let scripts = c.args.scripts.now in
+    let scripts = c.args.scripts in
     let fits = script_fits library c.requires.catalogued scripts c.requires.counted c.requires.one_script c.index.result.now c.index.ensures in
     let own = c.in_ok-own.ensures.fitting (catalog_of (specs_in library)) (length scripts.objects) fits in
-    rw c.as_slice.ensures.value (own_doable library c.requires.catalogued scripts c.requires.counted c.requires.one_script c.index.result.now c.index.ensures _ c.in-Some.loaded c.in-Some.ensures.items c.requires.one_spec c.in_ok-own.own.items own)
+    (own_doable library c.requires.catalogued scripts c.requires.counted c.requires.one_script c.index.result.now c.index.ensures _ c.in-Some.loaded c.in-Some.ensures.items c.requires.one_spec c.in_ok-own.own.items own)
 
 pub replay_own-requires-clause-printable : goal.replay_own-requires-clause-printable
 replay_own-requires-clause-printable c = λ h is.
     let library = c.args.library in
-    let scripts = c.args.scripts.now in
+    let scripts = c.args.scripts in
     let fits = script_fits library c.requires.catalogued scripts c.requires.counted c.requires.one_script c.index.result.now c.index.ensures in
     let own = c.in_ok-own.ensures.fitting (catalog_of (specs_in library)) (length scripts.objects) fits in
-    own_printable library c.requires.catalogued scripts c.requires.counted c.requires.one_script c.index.result.now c.index.ensures _ c.in-Some.loaded c.in-Some.ensures.items c.requires.one_spec c.in_ok-own.own.items own h (rw c.as_slice.ensures.value at is)
+    own_printable library c.requires.catalogued scripts c.requires.counted c.requires.one_script c.index.result.now c.index.ensures _ c.in-Some.loaded c.in-Some.ensures.items c.requires.one_spec c.in_ok-own.own.items own h is
 
 pub returns : goal.returns
 returns c =
     let library = c.args.library in
-    let scripts = c.args.scripts.now in
+    let scripts = c.args.scripts in
     let fits = script_fits library c.requires.catalogued scripts c.requires.counted c.requires.one_script c.index.result.now c.index.ensures in
     let own = c.in_ok-own.ensures.fitting (catalog_of (specs_in library)) (length scripts.objects) fits in
     made_text (λ text. text.items) _ _ c.replay_own.result
     (own_text library c.requires.catalogued scripts c.requires.counted c.requires.one_script c.index.result.now c.index.ensures _ c.in-Some.loaded c.in-Some.ensures.items c.requires.one_spec c.in_ok-own.own.items own c.in_ok-own.ensures.value)
-    (rw c.as_slice.ensures.value at c.replay_own.ensures)
+    c.replay_own.ensures

@@ -8,4 +8,4 @@ pub returns : goal.returns
 returns g c =
     let after = c.replay.new.self in
     replay_of g.M.Monitor.meaning (g.M.Monitor.definition c.args.rules) c.args.steps.items c.in_ok-prop.prop after after.entries c.in_ok-prop.ensures.definition c.in_ok-prop.ensures.entries
-    (rw c.as_slice.ensures.value at c.in_ok-replay.ensures.ok) c.history.ensures.legal refl
+    (rw c.as_slice.ensures.value at c.in_ok-replay.ensures.ok) c.history-history.ensures.legal refl
