@@ -12,7 +12,6 @@ pub(crate) fn answer<R: Threads + Wait + Sync>(
 ) -> Result<String, AllocError> {
     match case.verb.as_str() {
         "run" => command::run(rt, alloc, case),
-        "counted" => command::counted(rt, alloc, case),
         "long" => command::long(rt, alloc, case),
         "told" => command::told(alloc, case),
         "laws" => command::laws(alloc),

@@ -1,10 +1,9 @@
 //! Whole commands.
-use crate::gate::CountingGate;
 use crate::shown::{last_line, put_text};
 use case_files::{calls_of, files, sink_of};
-use cases::{Case, put_line};
+use cases::Case;
 use jm_port::{Folder, MemoryFolder, Sink, SureFolder, SureSink};
-use jm_runner::{FreeGate, Gate};
+use jm_runner::FreeGate;
 use jm_top::{Status, fault_text, jmop, one_reading};
 use std::alloc::{AllocError, Global};
 use std::sync::Wait;
@@ -35,7 +34,7 @@ fn nothing_fails<R: Threads + Wait + Sync>(
 ) -> Result<String, AllocError> {
     let mut folder = SureFolder::new(files(alloc, case.text.as_slice())?);
     let mut out = SureSink::new(alloc);
-    let (status, err) = done(rt, alloc, case, &mut folder, &mut out, &FreeGate)?;
+    let (status, err) = done(rt, alloc, case, &mut folder, &mut out)?;
     shown(alloc, &status, out.bytes(), err.bytes())
 }
 
@@ -48,7 +47,7 @@ fn read_fails<R: Threads + Wait + Sync>(
     let fail = calls_of(alloc, calls)?;
     let mut folder = MemoryFolder::new(files(alloc, case.text.as_slice())?, fail);
     let mut out = SureSink::new(alloc);
-    let (status, err) = done(rt, alloc, case, &mut folder, &mut out, &FreeGate)?;
+    let (status, err) = done(rt, alloc, case, &mut folder, &mut out)?;
     shown(alloc, &status, out.bytes(), err.bytes())
 }
 
@@ -60,39 +59,21 @@ fn write_fails<R: Threads + Wait + Sync>(
 ) -> Result<String, AllocError> {
     let mut folder = SureFolder::new(files(alloc, case.text.as_slice())?);
     let mut out = sink_of(alloc, rest)?;
-    let (status, err) = done(rt, alloc, case, &mut folder, &mut out, &FreeGate)?;
+    let (status, err) = done(rt, alloc, case, &mut folder, &mut out)?;
     shown(alloc, &status, out.bytes(), err.bytes())
 }
 
-/// The same where nothing fails, with a gate that counts how often it is told that a line is to be done, and that it was.
-pub(crate) fn counted<R: Threads + Wait + Sync>(
-    rt: &R,
-    alloc: Global,
-    case: &Case,
-) -> Result<String, AllocError> {
-    let mut folder = SureFolder::new(files(alloc, case.text.as_slice())?);
-    let mut out = SureSink::new(alloc);
-    let gate = CountingGate::new();
-    let (status, err) = done(rt, alloc, case, &mut folder, &mut out, &gate)?;
-    let mut answer = shown(alloc, &status, out.bytes(), err.bytes())?;
-    let (begun, done) = gate.counts();
-    let counts = format!(in alloc; "before {begun}, after {done}")?;
-    put_line(&mut answer, counts.as_str())?;
-    Ok(answer)
-}
-
 /// Does the command of the case's words, and gives its status and what the error sink was given.
-fn done<R: Threads + Wait + Sync, F: Folder, S: Sink, G: Gate>(
+fn done<R: Threads + Wait + Sync, F: Folder, S: Sink>(
     rt: &R,
     alloc: Global,
     case: &Case,
     files: &mut F,
     out: &mut S,
-    gate: &G,
 ) -> Result<(Status, SureSink), AllocError> {
     let words = words_of(alloc, case.first.as_str())?;
     let mut err = SureSink::new(alloc);
-    let status = ended(rt, alloc, words.as_slice(), files, out, &mut err, gate);
+    let status = ended(rt, alloc, words.as_slice(), files, out, &mut err);
     Ok((status, err))
 }
 
@@ -105,16 +86,15 @@ fn words_of(alloc: Global, line: &str) -> Result<Vec<String>, AllocError> {
 }
 
 /// The call alone, so that its long contract ends here.
-fn ended<R: Threads + Wait + Sync, F: Folder, S: Sink, G: Gate>(
+fn ended<R: Threads + Wait + Sync, F: Folder, S: Sink>(
     rt: &R,
     alloc: Global,
     words: &[String],
     files: &mut F,
     out: &mut S,
     err: &mut SureSink,
-    gate: &G,
 ) -> Status {
-    jmop(rt, alloc, words, files, out, err, gate)
+    jmop(rt, alloc, words, files, out, err, &FreeGate)
 }
 
 fn shown(alloc: Global, status: &Status, out: &[u8], err: &[u8]) -> Result<String, AllocError> {
@@ -134,7 +114,7 @@ pub(crate) fn long<R: Threads + Wait + Sync>(
     let text = with_line_feeds(alloc, case.text.as_slice())?;
     let mut folder = SureFolder::new(files(alloc, text.as_slice())?);
     let mut out = SureSink::new(alloc);
-    let (status, _) = done(rt, alloc, case, &mut folder, &mut out, &FreeGate)?;
+    let (status, _) = done(rt, alloc, case, &mut folder, &mut out)?;
     let bytes = out.bytes();
     format!(in alloc; "{status:?} {} bytes\n{}", bytes.len(), last_line(bytes))
 }

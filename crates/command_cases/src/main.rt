@@ -3,7 +3,6 @@
 
 mod answer;
 mod command;
-mod gate;
 mod shown;
 
 use std::io;

@@ -2,17 +2,22 @@ use jm_runner::Gate;
 use std::alloc::{AllocError, Global};
 use std::sync::atomic::{AtomicU64, Ordering};
 
-/// A gate that counts, for each of three callers, what it is told, and how often that isn't what comes next.
+/// A gate that counts, for each of four callers, what it is told, and how often that isn't what comes next.
 #[derive(Drop)]
 pub(crate) struct CountingGate {
-    told: [AtomicU64; 3],
+    told: [AtomicU64; 4],
     astray: AtomicU64,
 }
 
 impl CountingGate {
     pub(crate) fn new() -> CountingGate {
         CountingGate {
-            told: [AtomicU64::new(0), AtomicU64::new(0), AtomicU64::new(0)],
+            told: [
+                AtomicU64::new(0),
+                AtomicU64::new(0),
+                AtomicU64::new(0),
+                AtomicU64::new(0),
+            ],
             astray: AtomicU64::new(0),
         }
     }
