@@ -76,8 +76,6 @@ fn add_group(table: &mut Table, states: &[u16]) -> Result<(), SpecError>
         × ((state : ℕ) → Contains members state ↔ Contains states.now state)) }
     ensures fault { IfErr result (λ e. e ≡ SpecError.NoMemory) }
 {
-    let Ok(_) = table.add_group(states) else {
-        return Err(SpecError::NoMemory);
-    };
+    table.add_group(states)?;
     Ok(())
 }

@@ -14,10 +14,7 @@ pub(crate) fn boxed(alloc: Global, tree: Tree) -> Result<Box<Tree>, SpecError>
     ensures ok { IfOk result (λ b. expression_of b.value ≡ expression_of tree) }
     ensures err { IfErr result (λ e. e ≡ SpecError.NoMemory) }
 {
-    let Ok(tree) = Box::new(alloc, tree) else {
-        return Err(SpecError::NoMemory);
-    };
-    Ok(tree)
+    Ok(Box::new(alloc, tree)?)
 }
 
 /// The same expression.

@@ -20,10 +20,7 @@ pub(crate) fn matching(alloc: Global, forms: &[Ere]) -> Result<Vec<bool>, SpecEr
         .iter()
         .map(|form| is_nullable(&form.tree))
         .collect(alloc);
-    match flags {
-        Ok(flags) => Ok(flags),
-        Err(_) => Err(SpecError::NoMemory),
-    }
+    Ok(flags?)
 }
 
 /// Whether a letter leads from a state to one whose flag is set.
@@ -79,9 +76,7 @@ pub(crate) fn places(alloc: Global, flags: &[bool], value: bool) -> Result<Vec<u
     let mut places = Vec::new(alloc);
     for (place, flag) in flags.iter().enumerate() {
         if *flag == value {
-            let Ok(()) = places.push(place as u16) else {
-                return Err(SpecError::NoMemory);
-            };
+            places.push(place as u16)?;
         }
     }
     Ok(places)

@@ -35,9 +35,7 @@ impl<T: Drop> Stack<T> {
         ensures ok { OnOk result (self.new ≡ item ∷ self.old) }
         ensures err { IfErr result (λ e. e ≡ SpecError.NoMemory) }
     {
-        if self.items.push(item).is_err() {
-            return Err(SpecError::NoMemory);
-        }
+        self.items.push(item)?;
         Ok(())
     }
 

@@ -2,10 +2,10 @@ use Rattle.std.proofs.Common.{ℕ, ◌≡◌, ◌<◌, ◌+◌, ◌↔◌, inl, 
 use Rattle.std.proofs.lemmas.Bool.{cases_lt}
 use Rattle.jm_model.specs.declared.fault.SpecFault.{SpecFault}
 use Rattle.jm_table.specs.Graphs.{GraphMeaning, step_from, reached_by}
-use Rattle.jm_table.specs.Tables.{Transitions, state_after_of, Follows}
+use Rattle.jm_table.specs.Tables.{Transitions, IsWord, state_after_of, Follows}
 use Rattle.jm_fsm.specs.declared.machine.Target.{Target}
 use Rattle.jm_fsm.specs.declared.machine.Target.TheVariants.{State}
-use Rattle.jm_fsm.specs.Machines.{StateMachine, IsMember, HasGroups, IsCompiled, category_count, next_target, fsm_state_after}
+use Rattle.jm_fsm.specs.Machines.{StateMachine, IsMember, HasGroups, HasStates, IsCompiled, category_count, next_target, fsm_state_after}
 
 -- a machine as a graph
 abbrev pub graph_of : StateMachine → GraphMeaning Target
@@ -60,12 +60,29 @@ module _ (m : StateMachine) (nodes : List Target) where
   same_states : (before after : Transitions) (word : List ℕ) → after.letters ≡ before.letters → after.next ≡ before.next → state_after_of after word ≡ state_after_of before word
   same_states before after word letters next = rw (letters, next) refl
 
-  pub is_compiled : (before after : Transitions) → Follows (graph_of m) before nodes → HasGroups m nodes (category_count m) before after → IsCompiled m after
-  is_compiled before after follows groups word below category lt =
+  -- where the path of a word ends stands at the word's state
+  stands_at : (before after : Transitions) → Follows (graph_of m) before nodes → HasGroups m nodes (category_count m) before after
+      → (word : List ℕ) → IsWord after word → slice_get nodes (state_after_of after word) ≡ Some (fsm_state_after m word)
+  stands_at before after follows groups word below =
       let stands = follows.stands word (subst (λ n. All (λ letter. letter < n) word) groups.letters below) in
       let end : stands.0 ≡ fsm_state_after m word = let e : ◌≡◌ {A = Result Target SpecFault} (Ok stands.0) (Ok (fsm_state_after m word)) = sym stands.1 ∙ reached_is m word in cc in
       let same = same_states before after word groups.letters groups.next in
-      let at : slice_get nodes (state_after_of after word) ≡ Some (fsm_state_after m word) = ap (λ k. slice_get nodes k) same ∙ stands.2 ∙ ap (λ x. Some x) end in
+      ap (λ k. slice_get nodes k) same ∙ stands.2 ∙ ap (λ x. Some x) end
+
+  pub has_states : (before after : Transitions) → Follows (graph_of m) before nodes → HasGroups m nodes (category_count m) before after → HasStates m after
+  has_states before after follows groups = record {
+    targets = nodes;
+    count = follows.count ∙ sym groups.states;
+    stands = stands_at before after follows groups;
+    reached = λ state lt.
+        let r = follows.reached state (subst (λ n. state < n) groups.states lt) in
+        (r.0, subst (λ n. All (λ letter. letter < n) r.0) (sym groups.letters) r.1, same_states before after r.0 groups.letters groups.next ∙ r.2);
+    distinct = follows.distinct;
+  }
+
+  pub is_compiled : (before after : Transitions) → Follows (graph_of m) before nodes → HasGroups m nodes (category_count m) before after → IsCompiled m after
+  is_compiled before after follows groups word below category lt =
+      let at = stands_at before after follows groups word below in
       let group = groups.each category lt (state_after_of after word) in
       let member = holds_of (slice_get nodes (state_after_of after word)) (fsm_state_after m word) category at in
       (λ h. member.0 (group.0 h), λ h. group.1 (member.1 h))

@@ -1,5 +1,6 @@
 use Rattle.std.specs.Prelude.{ℕ, ◌≡◌, ◌==◌, ◌<◌, ◌≤◌, ◌+◌, ◌⊎◌, ◌↔◌, List, [], ◌∷◌, ◌++◌, length, map, fold, find, All, Contains, Option, Some, IsSomeAnd, option_map, unwrap_or, slice_get, codes, count_by}
 use Rattle.std.specs.Str.{bytes_eq}
+use Rattle.jm_table.specs.Explorations.{IsWithoutRepeats}
 use Rattle.jm_table.specs.Tables.{Transitions, IsInGroup, IsWord, state_after_of}
 use Rattle.jm_fsm.specs.declared.machine.Target.{Target}
 use Rattle.jm_fsm.specs.declared.machine.Target.TheVariants.{State, Fail}
@@ -74,6 +75,16 @@ pub record IsMachine (m : StateMachine) : Type 0 where
   pub fallen : All (λ s. (target : Target) → s.fallback ≡ Some target → IsTarget (length m.states) target) m.states
   pub members : All (λ a. All (IsTarget (length m.states)) a.members) m.aliases
   pub distinct : AreDistinct (category_names m)
+
+-- Each state of the table stands for a state of the machine: after each word its state for where the word's path ends.
+-- Each is the state after some word, and no two stand for the same. So the table holds the states that words reach, and
+-- no others.
+pub record HasStates (m : StateMachine) (t : Transitions) : Type 0 where
+  pub targets : List Target
+  pub count : length targets ≡ t.states
+  pub stands : (word : List ℕ) → IsWord t word → slice_get targets (state_after_of t word) ≡ Some (fsm_state_after m word)
+  pub reached : (state : ℕ) → state < t.states → (word : List ℕ) × IsWord t word × (state_after_of t word ≡ state)
+  pub distinct : IsWithoutRepeats targets
 
 -- The table after has that many groups more than the table before, which had none: the states of the group of a
 -- category are the places of the list at which its members stand.

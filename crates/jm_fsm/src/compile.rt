@@ -1,5 +1,5 @@
 ghost use Rattle.std.specs.Prelude.{ℕ, ◌≡◌, ◌<◌, ◌≤◌, ◌↔◌, [], Contains, IsSomeAnd, IfOk, IfErr, OnOk, slice_get, length};
-ghost use Rattle.jm_fsm.specs.Machines.{IsMember, HasGroups, IsCompiled, category_count};
+ghost use Rattle.jm_fsm.specs.Machines.{IsMember, HasGroups, HasStates, IsCompiled, category_count};
 
 use crate::machine::{Fsm, Target};
 use jm_events::EventTable;
@@ -8,11 +8,12 @@ use jm_table::{Table, build};
 use std::alloc::Global;
 
 impl Fsm {
-    /// A table of the states that words reach, with a group for each category, in the order of the categories; the
-    /// group of a category that never holds is empty.
+    /// A table of the states that words reach and of no others, with a group for each category, in the order of the
+    /// categories; the group of a category that never holds is empty.
     pub fn compile(&self, alloc: Global, events: &EventTable) -> Result<Table, SpecError>
         ensures letters { IfOk result (λ table. table.letters ≡ length events.now.events) }
         ensures groups { IfOk result (λ table. length table.groups ≡ category_count self.now) }
+        ensures states { IfOk result (λ table. HasStates self.now table) }
         ensures compiled { IfOk result (λ table. IsCompiled self.now table) }
         ensures fault { IfErr result (λ e. e ≡ SpecError.NoMemory) }
     {
@@ -40,9 +41,7 @@ impl Fsm {
     {
         for category in 0..categories {
             let members = self.members(alloc, nodes, category)?;
-            let Ok(_) = table.add_group(members.as_slice()) else {
-                return Err(SpecError::NoMemory);
-            };
+            table.add_group(members.as_slice())?;
         }
         Ok(())
     }
@@ -62,9 +61,7 @@ impl Fsm {
         let mut members = Vec::new(alloc);
         for (place, node) in nodes.iter().enumerate() {
             if self.is_member(category, *node) {
-                let Ok(()) = members.push(place as u16) else {
-                    return Err(SpecError::NoMemory);
-                };
+                members.push(place as u16)?;
             }
         }
         Ok(members)

@@ -95,10 +95,8 @@ fn add(names: &mut Names, name: &str) -> Result<(), SpecError>
     if names.len() == u32::MAX {
         return Err(SpecError::NoMemory);
     }
-    match names.add(name) {
-        Ok(_) => Ok(()),
-        Err(_) => Err(SpecError::NoMemory),
-    }
+    names.add(name)?;
+    Ok(())
 }
 
 /// Adds a name that isn't among others, where there are fewer than 2^32 - 1.

@@ -57,9 +57,7 @@ impl State {
         ensures ok { IfOk result (λ s. s ≡ record { name = name.now; transitions = []; fallback = None }) }
         ensures err { IfErr result (λ e. e ≡ SpecError.NoMemory) }
     {
-        let Ok(name) = String::from_str(alloc, name) else {
-            return Err(SpecError::NoMemory);
-        };
+        let name = String::from_str(alloc, name)?;
         Ok(State {
             name,
             transitions: Vec::new(alloc),
@@ -78,9 +76,7 @@ impl State {
         ensures ok { OnOk result (self.new ≡ record self.old { transitions = self.old.transitions ++ transition ∷ [] }) }
         ensures err { IfErr result (λ e. e ≡ SpecError.NoMemory) }
     {
-        if self.transitions.push(transition).is_err() {
-            return Err(SpecError::NoMemory);
-        }
+        self.transitions.push(transition)?;
         Ok(())
     }
 
@@ -126,9 +122,7 @@ impl Alias {
         ensures ok { IfOk result (λ a. a ≡ record { name = name.now; members = [] }) }
         ensures err { IfErr result (λ e. e ≡ SpecError.NoMemory) }
     {
-        let Ok(name) = String::from_str(alloc, name) else {
-            return Err(SpecError::NoMemory);
-        };
+        let name = String::from_str(alloc, name)?;
         Ok(Alias {
             name,
             members: Vec::new(alloc),
@@ -146,9 +140,7 @@ impl Alias {
         ensures ok { OnOk result (self.new ≡ record self.old { members = self.old.members ++ member ∷ [] }) }
         ensures err { IfErr result (λ e. e ≡ SpecError.NoMemory) }
     {
-        if self.members.push(member).is_err() {
-            return Err(SpecError::NoMemory);
-        }
+        self.members.push(member)?;
         Ok(())
     }
 
@@ -196,9 +188,7 @@ impl Draft {
         ensures ok { OnOk result (self.new ≡ record self.old { states = self.old.states ++ state ∷ [] }) }
         ensures err { IfErr result (λ e. e ≡ SpecError.NoMemory) }
     {
-        if self.states.push(state).is_err() {
-            return Err(SpecError::NoMemory);
-        }
+        self.states.push(state)?;
         Ok(())
     }
 
@@ -207,9 +197,7 @@ impl Draft {
         ensures ok { OnOk result (self.new ≡ record self.old { aliases = self.old.aliases ++ alias ∷ [] }) }
         ensures err { IfErr result (λ e. e ≡ SpecError.NoMemory) }
     {
-        if self.aliases.push(alias).is_err() {
-            return Err(SpecError::NoMemory);
-        }
+        self.aliases.push(alias)?;
         Ok(())
     }
 

@@ -48,9 +48,7 @@ fn add_group(
     ensures fault { IfErr result (λ e. e ≡ SpecError.NoMemory) }
 {
     let members = members(alloc, nodes, place, truth)?;
-    let Ok(_) = table.add_group(members.as_slice()) else {
-        return Err(SpecError::NoMemory);
-    };
+    table.add_group(members.as_slice())?;
     Ok(())
 }
 
@@ -69,9 +67,7 @@ fn members(
     let mut members = Vec::new(alloc);
     for (state, node) in nodes.iter().enumerate() {
         if says(*node, place, truth) {
-            let Ok(()) = members.push(state as u16) else {
-                return Err(SpecError::NoMemory);
-            };
+            members.push(state as u16)?;
         }
     }
     Ok(members)

@@ -58,9 +58,7 @@ fn prefixes(cursor: &mut Cursor) -> Result<Vec<Unary>, SpecError>
     let mut ops = Vec::new(cursor.alloc);
     while let Class::Prefix(op) = class(cursor) {
         skip(cursor);
-        let Ok(()) = ops.push(op) else {
-            return Err(SpecError::NoMemory);
-        };
+        ops.push(op)?;
     }
     Ok(ops)
 }
@@ -170,9 +168,7 @@ fn imply(
     ensures left { OnOk result (length cursor.new.rest.now < length cursor.old.rest.now) }
 {
     skip(cursor);
-    let Ok(()) = starts.push(nodes.as_slice().len()) else {
-        return Err(SpecError::NoMemory);
-    };
+    starts.push(nodes.as_slice().len())?;
     part(cursor, IMPLIES - 1, nodes)
 }
 

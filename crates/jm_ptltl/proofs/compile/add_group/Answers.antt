@@ -9,7 +9,7 @@ add_group-requires-clause-states c =
 
 pub returns-clause-group : goal.returns-clause-group
 returns-clause-group c =
-    let added = c.in-Ok.ensures.ok in record {
+    let added = c.in_ok-add_group.ensures.ok in record {
       members = added.0;
       added = added.1;
       each = λ state.

@@ -4,7 +4,7 @@ use Rattle.std.proofs.lemmas.Option.{slice_get-get_or}
 use Rattle.jm_ptltl.specs.Vectors.{Says}
 use Rattle.jm_ptltl.proofs.PlaceLemmas.{ArePlaces, no_places, place_more, place_same, all_places}
 use Rattle.jm_ptltl.proofs.compile.members.Goals as goal
-use Rattle.jm_ptltl.proofs.compile.members.Goals.{then-says+in-Ok, else-says}
+use Rattle.jm_ptltl.proofs.compile.members.Goals.{then-says+in_ok-push, else-says}
 
 pub loop-state-init : goal.loop-state-init
 loop-state-init c = rw c.new-members.ensures.items (no_places (Says c.args.place c.args.truth) c.args.nodes.now)
@@ -16,7 +16,7 @@ loop-state-preserved c =
     let i = c.loop-state.state in
     let so_far = c.loop-state.members.items in
     elim c.if-says.branch [
-      | then-says+in-Ok w ↦ subst (λ (l : List ℕ). ArePlaces P nodes (i + 1) l) (sym (ap (λ v. v.items) w.members-is ∙ w.in-Ok.ensures.items))
+      | then-says+in_ok-push w ↦ subst (λ (l : List ℕ). ArePlaces P nodes (i + 1) l) (sym (ap (λ v. v.items) w.members-is ∙ w.in_ok-push.ensures.items))
           (place_more P nodes i _ so_far (slice_get-get_or nodes i _ c.loop-state-test.true) (c.says.ensures.0 w.if-says.true) c.loop-state.invariant)
       | else-says w ↦ subst (λ (l : List ℕ). ArePlaces P nodes (i + 1) l) (sym (ap (λ v. v.items) w.members-is))
           (place_same P nodes i _ so_far (slice_get-get_or nodes i _ c.loop-state-test.true) (λ h. false≢true (sym w.if-says.false ∙ c.says.ensures.1 h)) c.loop-state.invariant)

@@ -18,5 +18,5 @@ loop-op-preserved c =
           ∙ ap (λ r. over_all ops r) (prefix_more bytes rest c.in-Prefix.op inner (ap (λ b. class_at b rest) (sym c.loop-op.invariant.same_bytes) ∙ sym c.in-Prefix.ensures))
           ∙ sym (over_all-push ops c.in-Prefix.op (operand_at bytes inner (drop 1 rest)))
           ∙ ap (λ (l : List Token). over_all (ops ++ c.in-Prefix.op ∷ []) (operand_at bytes inner l)) (sym c.skip.ensures.rest)
-          ∙ ap (λ (l : List Unary). over_all l (operand_at bytes inner c.skip.new.cursor.rest.now)) (sym c.in-Ok.ensures.items);
+          ∙ ap (λ (l : List Unary). over_all l (operand_at bytes inner c.skip.new.cursor.rest.now)) (sym c.in_ok-push.ensures.items);
     }

@@ -11,6 +11,6 @@ add_group-requires-clause-states c =
 
 pub loop-category-preserved : goal.loop-category-preserved
 loop-category-preserved c =
-    let added = c.in-Ok.ensures.ok in
+    let added = c.in_ok-add_group.ensures.ok in
     group_more c.args.self.now c.args.nodes.now c.loop-category.category c.args.table.now c.loop-category.table c.add_group.new.self added.0 c.in_ok-members.members.items c.loop-category.invariant added.1
     (subst (λ (l : List ℕ). (s : ℕ) → Contains added.0 s ↔ Contains l s) c.as_slice.ensures.value added.2) c.in_ok-members.ensures.members
