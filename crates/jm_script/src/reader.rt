@@ -5,9 +5,11 @@ ghost use Rattle.jm_script.specs.Answers.{IsWhole, IsLeft, count_left};
 ghost use Rattle.jm_script.specs.Fitting.{FitsCatalog};
 
 use crate::catalog::Catalog;
+use crate::known::KnownWords;
 use crate::line::read_line;
 use crate::script::{Script, ScriptLine};
 use crate::statement::Place;
+use crate::words::{behind_line, first_words};
 use jm_events::Names;
 use jm_model::ScriptError;
 use std::alloc::Global;
@@ -36,15 +38,20 @@ pub fn read_script(
 {
     let mut lines = Vec::new(alloc);
     let mut words = Vec::new(alloc);
-    let mut known = None;
+    let mut known = KnownWords::new();
     let mut number = 0;
-    for line in bytes.split(|b| *b == b'\n') {
+    let mut rest = Some(bytes);
+    while let Some(text) = rest {
         number += 1;
         let place = Place {
             line: number,
             count: *count + lines.len() as u32,
         };
-        let target = match read_line(alloc, catalog, place, line, &mut words, objects, &mut known) {
+        let Ok(end) = first_words(text, &mut words) else {
+            return Err(ScriptError::NoMemory);
+        };
+        rest = behind_line(text, end);
+        let target = match read_line(alloc, catalog, place, &words, objects, &mut known) {
             Ok(target) => target,
             Err(error) => {
                 *count = count_left(error, place.count, *count);
