@@ -5,6 +5,9 @@ ghost use Rattle.jm_script.specs.Known.{IsEventOf, IsSound, AreSound};
 
 use crate::event::NamedEvent;
 
+/// An odd number that spreads the bits of another over the high ones of their product.
+const SPREAD: u64 = 0x9e37_79b9_7f4a_7c15;
+
 /// The word of an event line, with its event and the number of its objects.
 #[derive(Clone, Copy)]
 pub struct Known<'a> {
@@ -16,7 +19,7 @@ pub struct Known<'a> {
 /// Known words, each in the place that its bytes give. A new word takes the place of one that stands there.
 #[derive(Clone, Copy)]
 pub struct KnownWords<'a> {
-    places: [Option<Known<'a>>; 16],
+    places: [Option<Known<'a>>; 64],
 }
 
 impl<'a> KnownWords<'a> {
@@ -24,7 +27,7 @@ impl<'a> KnownWords<'a> {
     pub fn new() -> KnownWords<'a>
         ensures { (catalog : List CatalogEntry) → AreSound catalog result.places }
     {
-        KnownWords { places: [None; 16] }
+        KnownWords { places: [None; 64] }
     }
 
     /// The event of a word with so many objects, if it is known.
@@ -42,16 +45,17 @@ impl<'a> KnownWords<'a> {
     }
 }
 
-/// The place of a word, by its length and two of its bytes.
+/// The place of a word, by its last bytes: the words of a specification begin with the same.
 fn place_of(word: &[u8]) -> usize
-    ensures { result < 16 }
+    ensures { result < 64 }
 {
-    match word.last() {
-        None => 0,
-        Some(last) => {
-            let middle = word[word.len() / 2] as usize;
-            (word.len() % 16 + 5 * middle + 3 * *last as usize) % 16
+    match word {
+        [.., a, b, c, d, e, f, g, h] => {
+            let last = u64::from_le_bytes([*a, *b, *c, *d, *e, *f, *g, *h]);
+            (last.wrapping_mul(SPREAD) >> 58) as usize
         }
+        [.., last] => *last as usize % 64,
+        [] => 0,
     }
 }
 

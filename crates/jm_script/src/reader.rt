@@ -14,6 +14,11 @@ use jm_events::Names;
 use jm_model::ScriptError;
 use std::alloc::Global;
 
+/// About how many bytes the shortest lines of steps have. Room that no step takes is never touched.
+const SHORTEST_STEP: usize = 8;
+
+const MOST_STEPS: usize = 200_000;
+
 /// Reads a script: adds the names of its new objects, and its number of steps to the count of all scripts.
 ///
 /// The fault is the first of the first line that has one, in this order: `BadLine` where the line has none of the three
@@ -36,7 +41,10 @@ pub fn read_script(
     ensures rising { IfOk result (λ script. RisesFrom 1 script) }
     ensures err { IfErr result (λ error. IsLeft (script_meaning catalog.now count.old bytes.now objects.old) count.old objects.old error objects.new count.new) }
 {
-    let mut lines = Vec::new(alloc);
+    let room = (bytes.len() / SHORTEST_STEP).min(MOST_STEPS);
+    let Ok(mut lines) = Vec::with_capacity(alloc, room) else {
+        return Err(ScriptError::NoMemory);
+    };
     let mut words = Vec::new(alloc);
     let mut known = KnownWords::new();
     let mut number = 0;

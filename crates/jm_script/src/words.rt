@@ -233,7 +233,10 @@ fn is_name_byte(b: u8) -> bool
 fn is_object_byte(b: u8) -> bool
     ensures { result ≡ is_object_byte b }
 {
-    is_name_byte(b) || b == b'.' || b == b'@' || b == b'-'
+    match b {
+        b'_' | b'$' | b'.' | b'@' | b'-' => true,
+        _ => b.is_ascii_alphanumeric(),
+    }
 }
 
 /// The text of a word. It isn't checked again: the bytes of a name are ASCII.
