@@ -1,13 +1,15 @@
 -- The words of a text's first line, found one after another, and the lines behind it.
 use Rattle.std.proofs.Common.{◌≡◌, ℕ, suc, ◌+◌, ◌-◌, ◌<◌, ◌≤◌, Bool, true, false, ◌==◌, cond, not, List, [], ◌∷◌, ◌++◌, filter, length, get_or, take, drop, refl, sym, ap, ◌∙◌, append_assoc, arith, length-append, length-drop, drop-drop}
-use Rattle.std.specs.Prelude.{All, slice_index}
+use Rattle.std.specs.Prelude.{All, nat_lt, slice_index}
 use Rattle.std.specs.List.{slice_split, position_or_len, before_first}
 use Rattle.std.specs.Str.Lines.{strip_carriage_return}
 use Rattle.std.proofs.lemmas.Bool.Decides.{nat_tests}
 use Rattle.std.proofs.lemmas.List.{take_all, get_or-drop}
 use Rattle.std.proofs.lemmas.Grind.{common_steps}
 use Rattle.std.proofs.lemmas.List.Elements.{All-head, All-tail, All-weaker}
-use Rattle.std.proofs.lemmas.List.Sums.{prefix_len-le-length, fails_before_first, split_at_first}
+use Rattle.std.proofs.lemmas.List.Sums.{prefix_len-le-length, fails_before_first, split_at_first, position_or_len_is}
+use Rattle.std.specs.Simd.Lanes.{chunk}
+use Rattle.std.proofs.lemmas.Simd.{run_in_chunk_le, run_in_chunk_fails}
 use Rattle.std.proofs.lemmas.List.Splits.{slice_split_none, slice_split_at, slice_split_first}
 use Rattle.jm_script.specs.Lines.{is_line_feed, is_hash, is_blank, is_end, is_some_word, first_line, content_of, words_of, lines_of}
 
@@ -142,6 +144,23 @@ module _ (part : List ℕ) (plain : NonePass is_end part) where
 
     place_on : position_or_len is_line_feed (part ++ b ∷ rest) ≡ length part + 1 + position_or_len is_line_feed rest
     place_on = place_front is_line_feed part (b ∷ rest) feeds ∙ omega (arith, place_skip is_line_feed b rest (blank_no_feed b blank))
+
+-- ---- bytes that are looked at together
+
+high_no_end : (b : ℕ) → nat_lt b 36 ≡ false → is_end b ≡ false
+high_no_end b h = grind (arith, nat_tests)
+
+-- a word ends at the first that is low, if that is one at which a word ends
+pub run_to_end : (text : List ℕ) (at run : ℕ) → at + 32 ≤ length text → run ≡ position_or_len (λ b. nat_lt b 36) (chunk at 32 text) → run < 32 → is_end (get_or text (at + run) 0) ≡ true → run ≡ position_or_len is_end (drop at text)
+run_to_end text at run room counted short ends =
+    let inside : run ≤ length (drop at text) = omega (arith, length-drop at text) in
+    sym (position_or_len_is is_end (drop at text) run 0 inside (λ k lt. high k lt) (λ _. ap is_end (get_or-drop at text run 0) ∙ ends))
+  where
+    high : (k : ℕ) → k < run → is_end (get_or (drop at text) k 0) ≡ false
+    high k lt = ap is_end (get_or-drop at text k 0) ∙ high_no_end (get_or text (at + k) 0) (run_in_chunk_fails (λ b. nat_lt b 36) text at 32 run 0 room counted (at + k) (omega arith) (omega arith))
+
+pub run_fits : (text : List ℕ) (at run : ℕ) → at + 32 ≤ length text → run ≡ position_or_len (λ b. nat_lt b 36) (chunk at 32 text) → run ≤ 32
+run_fits text at run room counted = run_in_chunk_le (λ b. nat_lt b 36) text at 32 run 0 room counted
 
 -- ---- the words so far
 
