@@ -32,14 +32,16 @@ impl<'a> KnownWords<'a> {
 
     /// The event of a word with so many objects, if it is known.
     pub fn find(&self, word: &[u8], count: usize) -> Option<NamedEvent>
-        ensures { (catalog : List CatalogEntry) → AreSound catalog self.now.places → IfSome result (IsEventOf catalog word.now count) }
+        ensures { (catalog : List CatalogEntry) → AreSound catalog self.now.places →
+            IfSome result (IsEventOf catalog word.now count) }
     {
         known_event(&self.places[place_of(word)], word, count)
     }
 
     /// Keeps a word.
     pub fn keep(&mut self, known: Known<'a>)
-        ensures { (catalog : List CatalogEntry) → AreSound catalog self.old.places → IsSound catalog known.entry → AreSound catalog self.new.places }
+        ensures { (catalog : List CatalogEntry) → AreSound catalog self.old.places → IsSound catalog known.entry →
+            AreSound catalog self.new.places }
     {
         self.places[place_of(known.word)] = Some(known);
     }
@@ -61,7 +63,8 @@ fn place_of(word: &[u8]) -> usize
 
 /// The event of a word with so many objects, if it is the known one.
 fn known_event(known: &Option<Known<'_>>, word: &[u8], count: usize) -> Option<NamedEvent>
-    ensures { (catalog : List CatalogEntry) → IfSome known.now (IsSound catalog) → IfSome result (IsEventOf catalog word.now count) }
+    ensures { (catalog : List CatalogEntry) → IfSome known.now (IsSound catalog) →
+        IfSome result (IsEventOf catalog word.now count) }
 {
     match known {
         Some(known) if known.count == count && known.word == word => Some(known.event),

@@ -29,7 +29,8 @@ pub fn read_line<'a>(
     requires known { AreSound catalog.now known.old.places }
     ensures known { AreSound catalog.now known.new.places }
     ensures fits { IfOk result (λ target. IfSome target (FitsTarget catalog.now (length names.new))) }
-    ensures read { (line : List ℕ) → map (λ w. w.now) words.now ≡ words_of line → IsReadAs (line_meaning catalog.now place.count place.line line names.old) names.old result names.new }
+    ensures read { (line : List ℕ) → map (λ w. w.now) words.now ≡ words_of line →
+        IsReadAs (line_meaning catalog.now place.count place.line line names.old) names.old result names.new }
 {
     match words {
         [] => Ok(None),

@@ -15,7 +15,7 @@ use crate::event::{NamedEvent, named_event};
 use crate::known::{Known, KnownWords};
 use crate::objects::{are_objects, have_room, mention};
 use crate::script::Target;
-use crate::words::{dot_place, is_name, text};
+use crate::words::{is_name, place_of, text};
 use jm_events::Names;
 use jm_model::{Binding, ScriptError, ScriptFault};
 use std::alloc::Global;
@@ -123,7 +123,7 @@ fn new_event(
     ensures room { OnOk result (place.count < 200000) }
     ensures err { (names : List (List ℕ)) → IfErr result (λ error. IsStoppedBy (statement_meaning catalog.now place.count place.line names (event_statement word.now (map (λ w. w.now) objects.now))) names error names) }
 {
-    let dot = dot_place(word);
+    let dot = place_of(word, b'.');
     let spec = &word[..dot];
     let event = behind(word, dot);
     if !is_event_line(spec, event, objects) {

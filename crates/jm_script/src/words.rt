@@ -1,5 +1,5 @@
 //! The words of a line.
-ghost use Rattle.std.specs.Prelude.{◌≡◌, ◌<◌, ◌≤◌, ◌+◌, [], ◌∷◌, ◌++◌, map, filter, length, drop, nat_lt, OnOk, IfOk, IfSome, IsUtf8};
+ghost use Rattle.std.specs.Prelude.{◌≡◌, ◌==◌, ◌<◌, ◌≤◌, ◌+◌, [], ◌∷◌, ◌++◌, map, filter, length, drop, nat_lt, OnOk, IfOk, IfSome, IsUtf8};
 ghost use Rattle.std.specs.Simd.Lanes.{chunk};
 ghost use Rattle.std.specs.List.{list_all, position_or_len};
 ghost use Rattle.std.specs.Str.{bytes_eq};
@@ -25,7 +25,8 @@ pub fn first_words<'a>(text: &'a [u8], words: &mut Vec<&'a [u8]>) -> Result<usiz
 
 /// The same in one walk over the line, if no comment and no carriage return stands in it.
 fn plain_words<'a>(text: &'a [u8], words: &mut Vec<&'a [u8]>) -> Result<Option<usize>, NoMemory>
-    ensures words { IfOk result (λ end. IfSome end (λ n. map (λ w. w.now) words.new.items ≡ words_of (first_line text.now))) }
+    ensures words { IfOk result (λ end. IfSome end (λ _.
+        map (λ w. w.now) words.new.items ≡ words_of (first_line text.now))) }
     ensures line { IfOk result (λ end. IfSome end (λ n. n ≡ position_or_len is_line_feed text.now)) }
 {
     words.clear();
@@ -52,7 +53,7 @@ fn marked_words<'a>(text: &'a [u8], words: &mut Vec<&'a [u8]>) -> Result<usize, 
     ensures words { OnOk result (map (λ w. w.now) words.new.items ≡ words_of (first_line text.now)) }
     ensures line { IfOk result (λ end. end ≡ position_or_len is_line_feed text.now) }
 {
-    let end = line_len(text);
+    let end = place_of(text, b'\n');
     read_words(&text[..end], words)?;
     Ok(end)
 }
@@ -69,20 +70,7 @@ pub fn behind_line(text: &[u8], end: usize) -> Option<&[u8]>
     Some(&text[end + 1..])
 }
 
-/// Where the first line of a text ends.
-fn line_len(text: &[u8]) -> usize
-    ensures value { result ≡ position_or_len is_line_feed text.now }
-    ensures fits { result ≤ length text.now }
-{
-    for (i, b) in text.iter().enumerate() {
-        if *b == b'\n' {
-            return i;
-        }
-    }
-    text.len()
-}
-
-/// Where the bytes of a word end that may begin at a place. Most words end within the bytes that are looked at together.
+/// Where the bytes of a word end that may begin at a place. Most words end among the bytes that are looked at together.
 fn word_end(text: &[u8], at: usize) -> usize
     requires { at ≤ length text.now }
     ensures value { result ≡ at + position_or_len is_end (drop at text.now) }
@@ -132,7 +120,8 @@ fn word_len(text: &[u8]) -> usize
 
 /// Adds a word, if it has some bytes.
 fn add_word<'a>(word: &'a [u8], words: &mut Vec<&'a [u8]>) -> Result<(), NoMemory>
-    ensures { OnOk result (map (λ w. w.now) words.new.items ≡ map (λ w. w.now) words.old.items ++ filter is_some_word (word.now ∷ [])) }
+    ensures { OnOk result (map (λ w. w.now) words.new.items ≡
+        map (λ w. w.now) words.old.items ++ filter is_some_word (word.now ∷ [])) }
 {
     if word.is_empty() {
         return Ok(());
@@ -164,7 +153,7 @@ fn content(line: &[u8]) -> &[u8]
     ensures { result.now ≡ content_of line.now }
 {
     let line = without_carriage_return(line);
-    &line[..hash_place(line)]
+    &line[..place_of(line, b'#')]
 }
 
 /// Without a carriage return at the end.
@@ -177,30 +166,17 @@ fn without_carriage_return(line: &[u8]) -> &[u8]
     }
 }
 
-/// Where the comment begins, or the line ends.
-fn hash_place(line: &[u8]) -> usize
-    ensures value { result ≡ position_or_len is_hash line.now }
-    ensures fits { result ≤ length line.now }
+/// Where a byte first stands, or the text ends.
+pub fn place_of(text: &[u8], byte: u8) -> usize
+    ensures value { result ≡ position_or_len (λ b. b == byte) text.now }
+    ensures fits { result ≤ length text.now }
 {
-    for (i, b) in line.iter().enumerate() {
-        if *b == b'#' {
+    for (i, b) in text.iter().enumerate() {
+        if *b == byte {
             return i;
         }
     }
-    line.len()
-}
-
-/// Where the first dot of a word stands, or the word ends.
-pub fn dot_place(word: &[u8]) -> usize
-    ensures value { result ≡ position_or_len is_dot word.now }
-    ensures fits { result ≤ length word.now }
-{
-    for (i, b) in word.iter().enumerate() {
-        if *b == b'.' {
-            return i;
-        }
-    }
-    word.len()
+    text.len()
 }
 
 /// Whether a word may end at this byte.
