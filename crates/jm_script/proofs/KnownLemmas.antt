@@ -15,7 +15,7 @@ use Rattle.jm_script.specs.Known.{IsEventOf}
 use Rattle.jm_script.specs.Meanings.{mentioning, statement_meaning}
 use Rattle.jm_script.specs.declared.event.NamedEvent.{NamedEvent}
 use Rattle.jm_script.specs.declared.script.Target.TheVariants as target
-use Rattle.jm_script.proofs.WordLemmas.{both_left, both_right}
+use Rattle.jm_script.proofs.WordLemmas.{both_left}
 use Rattle.jm_script.proofs.MeaningLemmas.{event_steps}
 
 counted_line : (line other count : ℕ) (ev e : NamedEvent) → counted line count ev ≡ Ok e → counted other count ev ≡ Ok e

@@ -1,6 +1,7 @@
 pub mod CatalogLemmas
 pub mod NameLemmas
 pub mod WordLemmas
+pub mod LineLemmas
 pub mod ObjectLemmas
 pub mod EventLemmas
 pub mod ProjectionLemmas

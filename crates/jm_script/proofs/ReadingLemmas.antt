@@ -1,6 +1,6 @@
 -- A script, line after line.
-use Rattle.std.proofs.Common.{◌≡◌, ℕ, ◌+◌, ◌<◌, ◌≤◌, List, [], ◌∷◌, ◌++◌, length, get_or, drop, Option, Some, None, Result, Ok, Err, refl, sym, ap, ◌∙◌, append_assoc, arith}
-use Rattle.std.proofs.lemmas.List.{drop_more, drop_all, length_push}
+use Rattle.std.proofs.Common.{◌≡◌, ℕ, ◌+◌, ◌≤◌, List, [], ◌∷◌, ◌++◌, length, Option, Some, None, Result, Ok, Err, refl, sym, ap, ◌∙◌, append_assoc, arith}
+use Rattle.std.proofs.lemmas.List.{length_push}
 use Rattle.jm_model.specs.declared.fault.ScriptFault.{ScriptFault}
 use Rattle.jm_script.specs.Lines.{lines_of}
 use Rattle.jm_script.specs.Objects.{IsExtension}
@@ -18,28 +18,28 @@ use Rattle.jm_script.specs.declared.script.ScriptLine.{ScriptLine}
 abbrev pub behind : List ScriptLine → ScriptMeaning → ScriptMeaning
 behind steps m = record { lines = steps ++ m.lines; names = m.names; fault = m.fault }
 
--- what was read: these steps, names and lines, of the script that has this meaning
-pub record HasRead (catalog : List CatalogEntry) (bytes : List ℕ) (meaning : ScriptMeaning) (count : ℕ) (old : List (List ℕ)) (steps : List ScriptLine) (names : List (List ℕ)) (n : ℕ) : Type 0 where
+-- what was read: these steps, names and lines, of the script that has this meaning; these lines are left
+pub record HasRead (catalog : List CatalogEntry) (meaning : ScriptMeaning) (count : ℕ) (old : List (List ℕ)) (steps : List ScriptLine) (names : List (List ℕ)) (n : ℕ) (lines : List (List ℕ)) : Type 0 where
   pub few_names : length names ≤ 65536
   pub few_steps : count + length steps ≤ 200000
   pub extended : IsExtension old names
-  pub left : behind steps (lines_meaning catalog (count + length steps) (n + 1) names (drop n (lines_of bytes))) ≡ meaning
+  pub left : behind steps (lines_meaning catalog (count + length steps) (n + 1) names lines) ≡ meaning
 
 append_none : {A : Type 0} (xs : List A) → xs ++ [] ≡ xs
 append_none [] = refl
 append_none (x ∷ xs) = ap (λ rest. x ∷ rest) (append_none xs)
 
 -- no line is read yet
-pub read_nothing : (catalog : List CatalogEntry) (bytes : List ℕ) (count : ℕ) (names : List (List ℕ)) → length names ≤ 65536 → count ≤ 200000 → IsExtension names names → HasRead catalog bytes (script_meaning catalog count bytes names) count names [] names 0
+pub read_nothing : (catalog : List CatalogEntry) (bytes : List ℕ) (count : ℕ) (names : List (List ℕ)) → length names ≤ 65536 → count ≤ 200000 → IsExtension names names → HasRead catalog (script_meaning catalog count bytes names) count names [] names 0 (lines_of bytes)
 unfolding script_meaning
 read_nothing catalog bytes count names few room extended =
     let none : count + 0 ≡ count = omega arith in
     record { few_names = few; few_steps = omega arith; extended = extended; left = rw none refl }
 
-module _ (catalog : List CatalogEntry) (bytes : List ℕ) (meaning : ScriptMeaning) (count : ℕ) (old : List (List ℕ)) (steps : List ScriptLine) (names : List (List ℕ)) (n : ℕ) (before : HasRead catalog bytes meaning count old steps names n) where
-  module _ (line : List ℕ) (lt : n < length (lines_of bytes)) (here : line ≡ get_or (lines_of bytes) n line) where
-    there : behind steps (led_by (n + 1) (count + length steps) names (line_meaning catalog (count + length steps) (n + 1) line names) (λ c o. lines_meaning catalog c (n + 1 + 1) o (drop (n + 1) (lines_of bytes)))) ≡ meaning
-    there = ap (λ ls. behind steps (lines_meaning catalog (count + length steps) (n + 1) names ls)) (sym (drop_more (lines_of bytes) n line lt ∙ ap (λ l. l ∷ drop (n + 1) (lines_of bytes)) (sym here))) ∙ before.left
+module _ (catalog : List CatalogEntry) (meaning : ScriptMeaning) (count : ℕ) (old : List (List ℕ)) (steps : List ScriptLine) (names : List (List ℕ)) (n : ℕ) (lines : List (List ℕ)) (before : HasRead catalog meaning count old steps names n lines) where
+  module _ (line : List ℕ) (rest : List (List ℕ)) (here : lines ≡ line ∷ rest) where
+    there : behind steps (led_by (n + 1) (count + length steps) names (line_meaning catalog (count + length steps) (n + 1) line names) (λ c o. lines_meaning catalog c (n + 1 + 1) o rest)) ≡ meaning
+    there = ap (λ ls. behind steps (lines_meaning catalog (count + length steps) (n + 1) names ls)) (sym here) ∙ before.left
 
     -- a line leaves the names that are there
     pub more_names : (target : Option Target) (new : List (List ℕ)) → line_meaning catalog (count + length steps) (n + 1) line names ≡ Ok (record { target = target; names = new }) → length names ≤ length new
@@ -48,18 +48,18 @@ module _ (catalog : List CatalogEntry) (bytes : List ℕ) (meaning : ScriptMeani
         length-IsExtension names new kept.extended
 
     -- a line that is no step
-    pub no_step : (new : List (List ℕ)) → line_meaning catalog (count + length steps) (n + 1) line names ≡ Ok (record { target = None; names = new }) → HasRead catalog bytes meaning count old steps new (n + 1)
+    pub no_step : (new : List (List ℕ)) → line_meaning catalog (count + length steps) (n + 1) line names ≡ Ok (record { target = None; names = new }) → HasRead catalog meaning count old steps new (n + 1) rest
     no_step new e =
         let kept = line_keeps catalog (count + length steps) (n + 1) line names (record { target = None; names = new }) before.few_names before.few_steps e in
         let none : count + length steps + 0 ≡ count + length steps = omega arith in
         record { few_names = kept.few; few_steps = before.few_steps; extended = IsExtension-trans old names new before.extended kept.extended; left = rw none at (rw e at there) }
 
     -- a line that is a step
-    pub one_step : (target : Target) (new : List (List ℕ)) → line_meaning catalog (count + length steps) (n + 1) line names ≡ Ok (record { target = Some target; names = new }) → HasRead catalog bytes meaning count old (steps ++ record { line = n + 1; target = target } ∷ []) new (n + 1)
+    pub one_step : (target : Target) (new : List (List ℕ)) → line_meaning catalog (count + length steps) (n + 1) line names ≡ Ok (record { target = Some target; names = new }) → HasRead catalog meaning count old (steps ++ record { line = n + 1; target = target } ∷ []) new (n + 1) rest
     one_step target new e =
         let kept = line_keeps catalog (count + length steps) (n + 1) line names (record { target = Some target; names = new }) before.few_names before.few_steps e in
         let more : count + length (steps ++ record { line = n + 1; target = target } ∷ []) ≡ count + length steps + 1 = omega (arith, length_push steps (record { line = n + 1; target = target })) in
-        let after = lines_meaning catalog (count + length steps + 1) (n + 1 + 1) new (drop (n + 1) (lines_of bytes)) in
+        let after = lines_meaning catalog (count + length steps + 1) (n + 1 + 1) new rest in
         record {
           few_names = kept.few;
           few_steps = omega (arith, kept.room);
@@ -85,9 +85,8 @@ module _ (catalog : List CatalogEntry) (bytes : List ℕ) (meaning : ScriptMeani
     ended NoMemory new h = record { extended = IsExtension-trans old names new before.extended h; counted = refl }
 
   -- all lines are read
-  pub all_read : n ≡ length (lines_of bytes) → IsWhole meaning count steps names (count + length steps)
-  all_read e =
-      let none : drop n (lines_of bytes) ≡ [] = drop_all n (lines_of bytes) (omega arith) in
+  pub all_read : lines ≡ [] → IsWhole meaning count steps names (count + length steps)
+  all_read none =
       let whole : record { lines = steps; names = names; fault = None } ≡ meaning =
       ap (λ ls. record { lines = ls; names = names; fault = None }) (sym (append_none steps)) ∙ (rw none at before.left) in
       record { sound = sym (ap (λ m. m.fault) whole); lines = ap (λ m. m.lines) whole; named = ap (λ m. m.names) whole; counted = refl }

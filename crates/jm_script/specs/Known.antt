@@ -1,5 +1,5 @@
--- The event of a word, which stays known from line to line.
-use Rattle.std.specs.Prelude.{ℕ, ◌≡◌, ◌≤◌, ◌&&◌, true, count_ones, List, Ok}
+-- The events of words, which stay known from line to line.
+use Rattle.std.specs.Prelude.{ℕ, ◌≡◌, ◌≤◌, ◌&&◌, true, count_ones, All, IfSome, List, Option, Ok}
 use Rattle.std.specs.List.{before_first, after_first}
 use Rattle.jm_script.specs.Statements.{is_dot, is_name}
 use Rattle.jm_script.specs.Catalogs.{CatalogEntry}
@@ -19,3 +19,7 @@ pub record IsEventOf (catalog : List CatalogEntry) (word : List ℕ) (count : �
 -- a known word names its event
 abbrev pub IsSound : List CatalogEntry → Known → Type 0
 IsSound catalog known = IsEventOf catalog known.word.now known.count known.event
+
+-- and so does each that there is
+abbrev pub AreSound : List CatalogEntry → List (Option Known) → Type 0
+AreSound catalog places = All (λ place. IfSome place (IsSound catalog)) places

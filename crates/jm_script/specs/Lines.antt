@@ -1,5 +1,6 @@
 -- The lines of a script, and the words of a line.
-use Rattle.std.specs.Prelude.{ℕ, Bool, not, ◌||◌, ◌==◌, List, length, filter}
+use Rattle.std.specs.Prelude.{ℕ, ◌+◌, Bool, not, ◌||◌, ◌==◌, List, [], length, filter, Option, Some, None}
+use Rattle.std.specs.Borrow.{Bor}
 use Rattle.std.specs.List.{slice_split, before_first}
 use Rattle.std.specs.Str.Lines.{strip_carriage_return}
 
@@ -15,9 +16,26 @@ is_hash b = b == 35
 abbrev pub is_blank : ℕ → Bool
 is_blank b = b == 32 || b == 9
 
+-- a byte at which a word may end: a blank, `#`, and what may end a line
+abbrev pub is_end : ℕ → Bool
+is_end b = is_blank b || is_hash b || is_line_feed b || b == 13
+
 -- the lines of a script; what stands behind the last line feed is a line too
 abbrev pub lines_of : List ℕ → List (List ℕ)
 lines_of bytes = slice_split is_line_feed bytes
+
+-- the first of them
+abbrev pub first_line : List ℕ → List ℕ
+first_line text = before_first is_line_feed text
+
+-- the lines of what is left of a script, if anything is, and how long they are
+abbrev pub lines_left : Option (Bor (List ℕ)) → List (List ℕ)
+lines_left None = []
+lines_left (Some text) = lines_of text.now
+
+abbrev pub bytes_left : Option (Bor (List ℕ)) → ℕ
+bytes_left None = 0
+bytes_left (Some text) = length text.now + 1
 
 -- what counts of a line: without a carriage return at its end, and without its comment
 abbrev pub content_of : List ℕ → List ℕ

@@ -1,9 +1,12 @@
-//! The event word of the line before, which is often that of the next line too.
-ghost use Rattle.std.specs.Prelude.{List, IfSome};
+//! The event words that were looked up, which often come again.
+ghost use Rattle.std.specs.Prelude.{◌<◌, List, IfSome};
 ghost use Rattle.jm_script.specs.Catalogs.{CatalogEntry};
-ghost use Rattle.jm_script.specs.Known.{IsEventOf, IsSound};
+ghost use Rattle.jm_script.specs.Known.{IsEventOf, IsSound, AreSound};
 
 use crate::event::NamedEvent;
+
+/// An odd number that spreads the bits of another over the high ones of their product.
+const SPREAD: u64 = 0x9e37_79b9_7f4a_7c15;
 
 /// The word of an event line, with its event and the number of its objects.
 #[derive(Clone, Copy)]
@@ -13,9 +16,55 @@ pub struct Known<'a> {
     pub event: NamedEvent,
 }
 
+/// Known words, each in the place that its bytes give. A new word takes the place of one that stands there.
+#[derive(Clone, Copy)]
+pub struct KnownWords<'a> {
+    places: [Option<Known<'a>>; 64],
+}
+
+impl<'a> KnownWords<'a> {
+    /// No word.
+    pub fn new() -> KnownWords<'a>
+        ensures { (catalog : List CatalogEntry) → AreSound catalog result.places }
+    {
+        KnownWords { places: [None; 64] }
+    }
+
+    /// The event of a word with so many objects, if it is known.
+    pub fn find(&self, word: &[u8], count: usize) -> Option<NamedEvent>
+        ensures { (catalog : List CatalogEntry) → AreSound catalog self.now.places →
+            IfSome result (IsEventOf catalog word.now count) }
+    {
+        known_event(&self.places[place_of(word)], word, count)
+    }
+
+    /// Keeps a word.
+    pub fn keep(&mut self, known: Known<'a>)
+        ensures { (catalog : List CatalogEntry) → AreSound catalog self.old.places → IsSound catalog known.entry →
+            AreSound catalog self.new.places }
+    {
+        self.places[place_of(known.word)] = Some(known);
+    }
+}
+
+/// The place of a word, by its last bytes: the words of a specification begin with the same.
+fn place_of(word: &[u8]) -> usize
+    ensures { result < 64 }
+{
+    match word {
+        [.., a, b, c, d, e, f, g, h] => {
+            let last = u64::from_le_bytes([*a, *b, *c, *d, *e, *f, *g, *h]);
+            (last.wrapping_mul(SPREAD) >> 58) as usize
+        }
+        [.., last] => *last as usize % 64,
+        [] => 0,
+    }
+}
+
 /// The event of a word with so many objects, if it is the known one.
-pub fn known_event(known: &Option<Known<'_>>, word: &[u8], count: usize) -> Option<NamedEvent>
-    ensures { (catalog : List CatalogEntry) → IfSome known.now (IsSound catalog) → IfSome result (IsEventOf catalog word.now count) }
+fn known_event(known: &Option<Known<'_>>, word: &[u8], count: usize) -> Option<NamedEvent>
+    ensures { (catalog : List CatalogEntry) → IfSome known.now (IsSound catalog) →
+        IfSome result (IsEventOf catalog word.now count) }
 {
     match known {
         Some(known) if known.count == count && known.word == word => Some(known.event),

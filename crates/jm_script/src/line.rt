@@ -1,40 +1,38 @@
 //! What a line means.
-ghost use Rattle.std.specs.Prelude.{◌≤◌, length, map, IfOk, IfSome};
+ghost use Rattle.std.specs.Prelude.{◌≡◌, ◌≤◌, ℕ, List, length, map, IfOk, IfSome};
+ghost use Rattle.jm_script.specs.Lines.{words_of};
 ghost use Rattle.jm_script.specs.Statements.{statement_of};
 ghost use Rattle.jm_script.specs.Meanings.{statement_meaning, line_meaning};
 ghost use Rattle.jm_script.specs.Answers.{IsReadAs};
 ghost use Rattle.jm_script.specs.Fitting.{FitsTarget};
-ghost use Rattle.jm_script.specs.Known.{IsSound};
+ghost use Rattle.jm_script.specs.Known.{AreSound};
 
 use crate::catalog::Catalog;
-use crate::known::Known;
+use crate::known::KnownWords;
 use crate::script::Target;
 use crate::statement::{Place, death_line, event_line, pass_line};
-use crate::words::{is_word, read_words};
+use crate::words::is_word;
 use jm_events::Names;
 use jm_model::ScriptError;
 use std::alloc::Global;
 
-/// The target of a line, if it is a step. The words are room for those of the line.
+/// The target of a line of these words, if it is a step.
 pub fn read_line<'a>(
     alloc: Global,
     catalog: &Catalog,
     place: Place,
-    line: &'a [u8],
-    words: &mut Vec<&'a [u8]>,
+    words: &[&'a [u8]],
     names: &mut Names,
-    known: &mut Option<Known<'a>>,
+    known: &mut KnownWords<'a>,
 ) -> Result<Option<Target>, ScriptError>
     requires few { length names.old ≤ 65536 }
-    requires known { IfSome known.old (IsSound catalog.now) }
-    ensures known { IfSome known.new (IsSound catalog.now) }
+    requires known { AreSound catalog.now known.old.places }
+    ensures known { AreSound catalog.now known.new.places }
     ensures fits { IfOk result (λ target. IfSome target (FitsTarget catalog.now (length names.new))) }
-    ensures read { IsReadAs (line_meaning catalog.now place.count place.line line.now names.old) names.old result names.new }
+    ensures read { (line : List ℕ) → map (λ w. w.now) words.now ≡ words_of line →
+        IsReadAs (line_meaning catalog.now place.count place.line line names.old) names.old result names.new }
 {
-    let Ok(()) = read_words(line, words) else {
-        return Err(ScriptError::NoMemory);
-    };
-    match words.as_slice() {
+    match words {
         [] => Ok(None),
         [word, rest @ ..] => words_line(alloc, catalog, place, word, rest, names, known),
     }
@@ -48,11 +46,11 @@ fn words_line<'a>(
     word: &'a [u8],
     rest: &[&[u8]],
     names: &mut Names,
-    known: &mut Option<Known<'a>>,
+    known: &mut KnownWords<'a>,
 ) -> Result<Option<Target>, ScriptError>
     requires few { length names.old ≤ 65536 }
-    requires known { IfSome known.old (IsSound catalog.now) }
-    ensures known { IfSome known.new (IsSound catalog.now) }
+    requires known { AreSound catalog.now known.old.places }
+    ensures known { AreSound catalog.now known.new.places }
     ensures fits { IfOk result (λ target. IfSome target (FitsTarget catalog.now (length names.new))) }
     ensures read { IsReadAs (statement_meaning catalog.now place.count place.line names.old (statement_of word.now (map (λ w. w.now) rest.now))) names.old result names.new }
 {

@@ -5,12 +5,19 @@ ghost use Rattle.jm_script.specs.Answers.{IsWhole, IsLeft, count_left};
 ghost use Rattle.jm_script.specs.Fitting.{FitsCatalog};
 
 use crate::catalog::Catalog;
+use crate::known::KnownWords;
 use crate::line::read_line;
 use crate::script::{Script, ScriptLine};
 use crate::statement::Place;
+use crate::words::{behind_line, first_words};
 use jm_events::Names;
 use jm_model::ScriptError;
 use std::alloc::Global;
+
+/// About how many bytes the shortest lines of steps have. Room that no step takes is never touched.
+const SHORTEST_STEP: usize = 8;
+
+const MOST_STEPS: usize = 200_000;
 
 /// Reads a script: adds the names of its new objects, and its number of steps to the count of all scripts.
 ///
@@ -34,17 +41,25 @@ pub fn read_script(
     ensures rising { IfOk result (λ script. RisesFrom 1 script) }
     ensures err { IfErr result (λ error. IsLeft (script_meaning catalog.now count.old bytes.now objects.old) count.old objects.old error objects.new count.new) }
 {
-    let mut lines = Vec::new(alloc);
+    let room = (bytes.len() / SHORTEST_STEP).min(MOST_STEPS);
+    let Ok(mut lines) = Vec::with_capacity(alloc, room) else {
+        return Err(ScriptError::NoMemory);
+    };
     let mut words = Vec::new(alloc);
-    let mut known = None;
+    let mut known = KnownWords::new();
     let mut number = 0;
-    for line in bytes.split(|b| *b == b'\n') {
+    let mut rest = Some(bytes);
+    while let Some(text) = rest {
         number += 1;
         let place = Place {
             line: number,
             count: *count + lines.len() as u32,
         };
-        let target = match read_line(alloc, catalog, place, line, &mut words, objects, &mut known) {
+        let Ok(end) = first_words(text, &mut words) else {
+            return Err(ScriptError::NoMemory);
+        };
+        rest = behind_line(text, end);
+        let target = match read_line(alloc, catalog, place, &words, objects, &mut known) {
             Ok(target) => target,
             Err(error) => {
                 *count = count_left(error, place.count, *count);

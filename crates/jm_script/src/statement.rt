@@ -8,14 +8,14 @@ ghost use Rattle.jm_script.specs.Objects.{mentioned, numbers_of};
 ghost use Rattle.jm_script.specs.Meanings.{mentioning, statement_meaning};
 ghost use Rattle.jm_script.specs.Answers.{IsStoppedBy, IsReadAs};
 ghost use Rattle.jm_script.specs.Fitting.{FitsTarget};
-ghost use Rattle.jm_script.specs.Known.{IsEventOf, IsSound};
+ghost use Rattle.jm_script.specs.Known.{IsEventOf, AreSound};
 
 use crate::catalog::Catalog;
 use crate::event::{NamedEvent, named_event};
-use crate::known::{Known, known_event};
+use crate::known::{Known, KnownWords};
 use crate::objects::{are_objects, have_room, mention};
 use crate::script::Target;
-use crate::words::{dot_place, is_name, text};
+use crate::words::{is_name, place_of, text};
 use jm_events::Names;
 use jm_model::{Binding, ScriptError, ScriptFault};
 use std::alloc::Global;
@@ -58,11 +58,11 @@ pub fn event_line<'a>(
     word: &'a [u8],
     objects: &[&[u8]],
     names: &mut Names,
-    known: &mut Option<Known<'a>>,
+    known: &mut KnownWords<'a>,
 ) -> Result<Option<Target>, ScriptError>
     requires few { length names.old ≤ 65536 }
-    requires known { IfSome known.old (IsSound catalog.now) }
-    ensures known { IfSome known.new (IsSound catalog.now) }
+    requires known { AreSound catalog.now known.old.places }
+    ensures known { AreSound catalog.now known.new.places }
     ensures fits { IfOk result (λ target. IfSome target (FitsTarget catalog.now (length names.new))) }
     ensures read { IsReadAs (statement_meaning catalog.now place.count place.line names.old (event_statement word.now (map (λ w. w.now) objects.now))) names.old result names.new }
 {
@@ -82,28 +82,28 @@ pub fn event_line<'a>(
     }))
 }
 
-/// The event of a line, if it has one more step; it is looked up where it isn't the known one.
+/// The event of a line, if it has one more step; it is looked up where the word isn't known.
 fn event_of<'a>(
     catalog: &Catalog,
     place: Place,
     word: &'a [u8],
     objects: &[&[u8]],
-    known: &mut Option<Known<'a>>,
+    known: &mut KnownWords<'a>,
 ) -> Result<NamedEvent, ScriptError>
-    requires { IfSome known.old (IsSound catalog.now) }
-    ensures known { IfSome known.new (IsSound catalog.now) }
+    requires { AreSound catalog.now known.old.places }
+    ensures known { AreSound catalog.now known.new.places }
     ensures ok { IfOk result (IsEventOf catalog.now word.now (length objects.now)) }
     ensures objects { OnOk result (IsTrue (list_all is_object (map (λ w. w.now) objects.now))) }
     ensures room { OnOk result (place.count < 200000) }
     ensures err { (names : List (List ℕ)) → IfErr result (λ error. IsStoppedBy (statement_meaning catalog.now place.count place.line names (event_statement word.now (map (λ w. w.now) objects.now))) names error names) }
 {
-    if let Some(event) = known_event(known, word, objects.len()) {
+    if let Some(event) = known.find(word, objects.len()) {
         if are_objects(objects) && !place.is_full() {
             return Ok(event);
         }
     }
     let event = new_event(catalog, place, word, objects)?;
-    *known = Some(Known {
+    known.keep(Known {
         word,
         count: objects.len(),
         event,
@@ -123,7 +123,7 @@ fn new_event(
     ensures room { OnOk result (place.count < 200000) }
     ensures err { (names : List (List ℕ)) → IfErr result (λ error. IsStoppedBy (statement_meaning catalog.now place.count place.line names (event_statement word.now (map (λ w. w.now) objects.now))) names error names) }
 {
-    let dot = dot_place(word);
+    let dot = place_of(word, b'.');
     let spec = &word[..dot];
     let event = behind(word, dot);
     if !is_event_line(spec, event, objects) {

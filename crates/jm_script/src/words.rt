@@ -1,16 +1,139 @@
 //! The words of a line.
-ghost use Rattle.std.specs.Prelude.{◌≡◌, ◌<◌, ◌≤◌, map, length, OnOk, IsUtf8};
+ghost use Rattle.std.specs.Prelude.{◌≡◌, ◌==◌, ◌<◌, ◌≤◌, ◌+◌, [], ◌∷◌, ◌++◌, map, filter, length, drop, nat_lt, OnOk, IfOk, IfSome, IsUtf8};
+ghost use Rattle.std.specs.Simd.Lanes.{chunk};
 ghost use Rattle.std.specs.List.{list_all, position_or_len};
 ghost use Rattle.std.specs.Str.{bytes_eq};
 ghost use Rattle.std.specs.Str.Lines.{strip_carriage_return};
-ghost use Rattle.jm_script.specs.Lines.{is_hash, is_blank, content_of, words_of};
+ghost use Rattle.jm_script.specs.Lines.{is_line_feed, is_hash, is_blank, is_end, is_some_word, first_line, lines_of, lines_left, bytes_left, content_of, words_of};
 ghost use Rattle.jm_script.specs.Statements.{is_dot, is_name_byte, is_name, is_object_byte, is_object};
 
 use jm_model::NoMemory;
+use std::simd::prelude::*;
 use std::str::from_utf8_unchecked;
 
+/// Puts the words of a text's first line in the place of those that are there, and answers where the line ends.
+pub fn first_words<'a>(text: &'a [u8], words: &mut Vec<&'a [u8]>) -> Result<usize, NoMemory>
+    ensures words { OnOk result (map (λ w. w.now) words.new.items ≡ words_of (first_line text.now)) }
+    ensures line { IfOk result (λ end. end ≡ position_or_len is_line_feed text.now) }
+{
+    match plain_words(text, words) {
+        Ok(Some(end)) => Ok(end),
+        Ok(None) => marked_words(text, words),
+        Err(error) => Err(error),
+    }
+}
+
+/// The same in one walk over the line, if no comment and no carriage return stands in it.
+fn plain_words<'a>(text: &'a [u8], words: &mut Vec<&'a [u8]>) -> Result<Option<usize>, NoMemory>
+    ensures words { IfOk result (λ end. IfSome end (λ _.
+        map (λ w. w.now) words.new.items ≡ words_of (first_line text.now))) }
+    ensures line { IfOk result (λ end. IfSome end (λ n. n ≡ position_or_len is_line_feed text.now)) }
+{
+    words.clear();
+    let mut at = 0;
+    loop {
+        let end = word_end(text, at);
+        add_word(&text[at..end], words)?;
+        if end == text.len() {
+            return Ok(Some(end));
+        }
+        let b = text[end];
+        if b == b'\n' {
+            return Ok(Some(end));
+        }
+        if !is_blank(b) {
+            return Ok(None);
+        }
+        at = end + 1;
+    }
+}
+
+/// The same in several walks.
+fn marked_words<'a>(text: &'a [u8], words: &mut Vec<&'a [u8]>) -> Result<usize, NoMemory>
+    ensures words { OnOk result (map (λ w. w.now) words.new.items ≡ words_of (first_line text.now)) }
+    ensures line { IfOk result (λ end. end ≡ position_or_len is_line_feed text.now) }
+{
+    let end = place_of(text, b'\n');
+    read_words(&text[..end], words)?;
+    Ok(end)
+}
+
+/// What stands behind a text's first line, which ends here, if a line feed ends it.
+pub fn behind_line(text: &[u8], end: usize) -> Option<&[u8]>
+    requires { end ≡ position_or_len is_line_feed text.now }
+    ensures lines { lines_of text.now ≡ first_line text.now ∷ lines_left result }
+    ensures shorter { bytes_left result ≤ length text.now }
+{
+    if end >= text.len() {
+        return None;
+    }
+    Some(&text[end + 1..])
+}
+
+/// Where the bytes of a word end that may begin at a place. Most words end among the bytes that are looked at together.
+fn word_end(text: &[u8], at: usize) -> usize
+    requires { at ≤ length text.now }
+    ensures value { result ≡ at + position_or_len is_end (drop at text.now) }
+    ensures fits { result ≤ length text.now }
+{
+    if text.len() - at >= TOGETHER {
+        let run = high_run(text, at);
+        if run < TOGETHER {
+            if is_end(text[at + run]) {
+                return at + run;
+            }
+        }
+    }
+    at + word_len(&text[at..])
+}
+
+const TOGETHER: usize = 32;
+
+/// How many bytes stand in front of the first that is below `$`, of those that are looked at together. Each byte at
+/// which a word ends is below `$`, and most others are not.
+fn high_run(text: &[u8], at: usize) -> usize
+    requires { at + TOGETHER ≤ length text.now }
+    ensures { result ≡ position_or_len (λ b. nat_lt b 36) (chunk at 32 text.now) }
+{
+    let low = u8x32::from_slice(&text[at..])
+        .simd_lt(u8x32::splat(b'$'))
+        .to_bitmask();
+    if low == 0 {
+        TOGETHER
+    } else {
+        low.trailing_zeros() as usize
+    }
+}
+
+/// How many bytes of a word a text begins with.
+fn word_len(text: &[u8]) -> usize
+    ensures value { result ≡ position_or_len is_end text.now }
+    ensures fits { result ≤ length text.now }
+{
+    for (i, b) in text.iter().enumerate() {
+        if is_end(*b) {
+            return i;
+        }
+    }
+    text.len()
+}
+
+/// Adds a word, if it has some bytes.
+fn add_word<'a>(word: &'a [u8], words: &mut Vec<&'a [u8]>) -> Result<(), NoMemory>
+    ensures { OnOk result (map (λ w. w.now) words.new.items ≡
+        map (λ w. w.now) words.old.items ++ filter is_some_word (word.now ∷ [])) }
+{
+    if word.is_empty() {
+        return Ok(());
+    }
+    match words.push(word) {
+        Ok(()) => Ok(()),
+        Err(_) => Err(NoMemory),
+    }
+}
+
 /// Puts the words of a line in the place of those that are there.
-pub fn read_words<'a>(line: &'a [u8], words: &mut Vec<&'a [u8]>) -> Result<(), NoMemory>
+fn read_words<'a>(line: &'a [u8], words: &mut Vec<&'a [u8]>) -> Result<(), NoMemory>
     ensures { OnOk result (map (λ w. w.now) words.new.items ≡ words_of line.now) }
 {
     words.clear();
@@ -30,7 +153,7 @@ fn content(line: &[u8]) -> &[u8]
     ensures { result.now ≡ content_of line.now }
 {
     let line = without_carriage_return(line);
-    &line[..hash_place(line)]
+    &line[..place_of(line, b'#')]
 }
 
 /// Without a carriage return at the end.
@@ -43,30 +166,24 @@ fn without_carriage_return(line: &[u8]) -> &[u8]
     }
 }
 
-/// Where the comment begins, or the line ends.
-fn hash_place(line: &[u8]) -> usize
-    ensures value { result ≡ position_or_len is_hash line.now }
-    ensures fits { result ≤ length line.now }
+/// Where a byte first stands, or the text ends.
+pub fn place_of(text: &[u8], byte: u8) -> usize
+    ensures value { result ≡ position_or_len (λ b. b == byte) text.now }
+    ensures fits { result ≤ length text.now }
 {
-    for (i, b) in line.iter().enumerate() {
-        if *b == b'#' {
+    for (i, b) in text.iter().enumerate() {
+        if *b == byte {
             return i;
         }
     }
-    line.len()
+    text.len()
 }
 
-/// Where the first dot of a word stands, or the word ends.
-pub fn dot_place(word: &[u8]) -> usize
-    ensures value { result ≡ position_or_len is_dot word.now }
-    ensures fits { result ≤ length word.now }
+/// Whether a word may end at this byte.
+fn is_end(b: u8) -> bool
+    ensures { result ≡ is_end b }
 {
-    for (i, b) in word.iter().enumerate() {
-        if *b == b'.' {
-            return i;
-        }
-    }
-    word.len()
+    is_blank(b) || b == b'#' || b == b'\n' || b == b'\r'
 }
 
 fn is_blank(b: u8) -> bool
@@ -120,7 +237,10 @@ fn is_name_byte(b: u8) -> bool
 fn is_object_byte(b: u8) -> bool
     ensures { result ≡ is_object_byte b }
 {
-    is_name_byte(b) || b == b'.' || b == b'@' || b == b'-'
+    match b {
+        b'_' | b'$' | b'.' | b'@' | b'-' => true,
+        _ => b.is_ascii_alphanumeric(),
+    }
 }
 
 /// The text of a word. It isn't checked again: the bytes of a name are ASCII.

@@ -1,0 +1,11 @@
+use Rattle.std.proofs.Common.{◌==◌, eq-eqb, sym, arith}
+use Rattle.std.proofs.lemmas.List.Sums.{position_or_len_is}
+use Rattle.jm_script.proofs.words.place_of.Goals as goal
+
+pub returns-then-b-byte-clause-value : goal.returns-then-b-byte-clause-value
+returns-then-b-byte-clause-value c =
+    sym (position_or_len_is (λ b. b == c.args.byte) c.args.text.now c.loop-i.i 0 (omega arith) c.loop-i.invariant (λ _. eq-eqb _ c.args.byte c.if-b-byte.true))
+
+pub returns-clause-value : goal.returns-clause-value
+returns-clause-value c =
+    sym (position_or_len_is (λ b. b == c.args.byte) c.args.text.now _ 0 (omega arith) (λ k h. c.loop-i.invariant k (omega arith)) (λ h. absurd (omega arith)))

@@ -1,0 +1,9 @@
+use Rattle.std.proofs.Common.{◌-◌, map, length}
+use Rattle.jm_script.proofs.LineLemmas.{HasFound}
+use Rattle.jm_script.proofs.words.plain_words.Given as goal
+
+abbrev pub invariant-loop-b : goal.invariant-loop-b
+invariant-loop-b l = HasFound l.text (map (λ w. w.now) l.words.items) l.at
+
+abbrev pub decreases-loop-b : goal.decreases-loop-b
+decreases-loop-b l = length l.text - l.at
