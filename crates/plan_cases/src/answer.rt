@@ -1,5 +1,6 @@
 use crate::both::Both;
 use crate::random::{Runs, random};
+use case_rules::rules_of;
 use case_steps::step_of;
 use cases::{Case, byte_of, number_of, numbers_of, put};
 use jm_model::{Monitor, NoMemory};
@@ -14,17 +15,23 @@ pub(crate) fn answer(alloc: Global, case: &Case) -> Result<String, AllocError> {
     }
 }
 
-/// The answer over the number of objects behind the `/`, and the table whose name stands behind that number:
-/// `unsafe_iter`, or `tick` with what a reported instance has to bind.
+/// The answer over the number of objects behind the `/`. The rules are those of the case's text, or the table whose
+/// name stands behind that number: `unsafe_iter`, or `tick` with what a reported instance has to bind.
 fn answered(alloc: Global, case: &Case) -> Result<String, NoMemory> {
     let (objects, table) = case
         .second
         .split_once(' ')
         .unwrap_or((case.second.as_str(), ""));
     let objects = number_of(objects);
-    match table.strip_prefix("tick ") {
-        Some(must_bind) => told(alloc, case, &Table::tick(byte_of(must_bind)), objects),
-        None => told(alloc, case, &Table::unsafe_iter(0), objects),
+    if table == "unsafe_iter" {
+        return told(alloc, case, &Table::unsafe_iter(0), objects);
+    }
+    if let Some(must_bind) = table.strip_prefix("tick ") {
+        return told(alloc, case, &Table::tick(byte_of(must_bind)), objects);
+    }
+    match rules_of(alloc, &case.text) {
+        Ok(rules) => told(alloc, case, &rules, objects),
+        Err(fault) => Ok(format!(in alloc; "{fault:?}")?),
     }
 }
 

@@ -1,4 +1,4 @@
-//! The store by itself, over tables of states: rows of steps, and runs at random against a slow store.
+//! The store by itself, over tables of states and rules of texts: rows of steps, and runs at random against a slow one.
 #![tactic(auto)]
 
 mod answer;
