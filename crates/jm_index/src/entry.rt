@@ -81,11 +81,7 @@ pub(crate) fn add_live_slots(
 }
 
 /// Adds the slot of the entry at a position, if it is live.
-fn add_live_slot(
-    entries: &[Entry],
-    position: usize,
-    slots: &mut Vec<usize>,
-) -> Result<(), NoMemory>
+fn add_live_slot(entries: &[Entry], position: usize, slots: &mut Vec<usize>) -> Result<(), NoMemory>
     ensures kept { OnOk result ((k : ℕ) → Contains slots.old.items k → Contains slots.new.items k) }
     ensures here { OnOk result ((pair : Pair) → pair_at entries.now position ≡ Some pair → Contains slots.new.items pair.slot) }
 {

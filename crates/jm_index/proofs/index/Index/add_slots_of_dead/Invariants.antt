@@ -1,4 +1,4 @@
-use Rattle.std.proofs.Common.{ℕ, ◌/◌, ◌<◌}
+use Rattle.std.proofs.Common.{◌/◌, ◌<◌}
 use Rattle.jm_index.specs.Index.{HasDied, AreListed}
 use Rattle.jm_index.proofs.index.Index.add_slots_of_dead.Given as goal
 

@@ -1,4 +1,4 @@
-use Rattle.std.proofs.Common.{◌≡◌, ℕ, ◌*◌, ◌<◌, ◌≤◌}
+use Rattle.std.proofs.Common.{ℕ, ◌*◌, ◌<◌, ◌≤◌}
 use Rattle.std.specs.Prelude.{Contains}
 use Rattle.jm_index.specs.Index.{HasDied, AreListed}
 use Rattle.jm_index.proofs.index.Index.add_slots_of_dead_at.Given as goal
