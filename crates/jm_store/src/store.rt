@@ -10,8 +10,8 @@ ghost use Rattle.jm_index.specs.Index.{Pair, IsKey, flag_of, AreBelow, AreLive, 
 ghost use Rattle.jm_monitors.specs.Stores.{IsStoreOf};
 ghost use Rattle.jm_monitors.specs.Steps.{IsAtStart, IsLiveEvent, IsAfterPass, AreMarksAfter, IsCutState, IsAliveState};
 ghost use Rattle.jm_store.specs.Slots.{monitor_at, stored_in};
-ghost use Rattle.jm_store.specs.Moves.{AreGiven, IsOutcomeAt, IsPushed, IsCompatibleAt, AreMovesOf, AreApart, LieWithin, IsSwept, after_move, pairs_after, asks_by, ends_all, EndsFewer, AreEnding, reached_by};
-ghost use Rattle.jm_store.specs.Contents.{Contents, stored_of, monitors_after, IsFit, IsFilled, IsPlannedBy, IsPlaced, ArePlaced, IsPlacedNext, ArePlacedOf, ArePaired, IsPlanFor, IsPlanOf, IsEnded, with_ending};
+ghost use Rattle.jm_store.specs.Moves.{AreGiven, IsOutcomeAt, IsPushed, IsCompatibleAt, AreMovesOf, AreApart, LieWithin, IsSwept, after_move, pairs_after, asks_by, ends_all, EndsFewer, AreEnding, StayAlive, reached_by};
+ghost use Rattle.jm_store.specs.Contents.{Contents, stored_of, monitors_after, IsFit, IsCutDown, IsFilled, IsPlannedBy, IsPlaced, ArePlaced, IsPlacedNext, ArePlacedOf, ArePaired, IsPlanFor, IsPlanOf, IsEnded, with_ending};
 
 use crate::ending::end_fewer_by;
 use crate::event::Event;
@@ -68,7 +68,7 @@ impl<M: Monitor> Store<M> {
         ensures stored { IfOk result (λ store. IsAtStart (M.meaning (M.definition rules.now)) (M.StandsFor rules.now) (stored_of store)) }
         ensures marks { IfOk result (λ store. store.marks ≡ []) }
         ensures closed { IfOk result (λ store. store.is_open ≡ false) }
-        ensures fits { IfOk result (λ store. (dead : List Bool) → IsFit store dead) }
+        ensures fits { IfOk result (λ store. (dead : List Bool) → IsFit (M.meaning (M.definition rules.now)) (M.StandsFor rules.now) store dead) }
         ensures ended { IfOk result (IsEnded (M.meaning (M.definition rules.now)) (M.StandsFor rules.now)) }
     {
         let state = rules.begin()?;
@@ -86,7 +86,7 @@ impl<M: Monitor> Store<M> {
         ensures marks { result.marks ≡ [] }
         ensures closed { result.is_open ≡ false }
         ensures index { result.index.list ≡ [] }
-        ensures fits { (dead : List Bool) → IsFit result dead }
+        ensures fits { (rules : M) (dead : List Bool) → IsFit (M.meaning (M.definition rules)) (M.StandsFor rules) result dead }
     {
         Store {
             monitors: Monitors::new(alloc),
@@ -107,7 +107,8 @@ impl<M: Monitor> Store<M> {
         ensures stored { IfOk result (λ store. stored_of store ≡ monitor ∷ []) }
         ensures marks { IfOk result (λ store. store.marks ≡ []) }
         ensures closed { IfOk result (λ store. store.is_open ≡ false) }
-        ensures fits { IfOk result (λ store. (dead : List Bool) → IsFit store dead) }
+        ensures fits { IfOk result (λ store. (rules : M) (dead : List Bool) → IsAliveState (M.meaning (M.definition rules)) (M.StandsFor rules) monitor.state 0
+            → IsFit (M.meaning (M.definition rules)) (M.StandsFor rules) store dead) }
     {
         let mut index = Index::new(alloc);
         index.add(monitor.instance, 0)?;
@@ -140,16 +141,17 @@ impl<M: Monitor> Store<M> {
         steps: &mut Steps<L>,
     ) -> Result<Plan<M::State>, NoMemory>
         requires closed { self.old.is_open ≡ false }
-        requires fits { IsFit self.old objects.now }
+        requires fits { IsFit (M.meaning (M.definition rules.now)) (M.StandsFor rules.now) self.old objects.now }
         requires event { IsLiveEvent (M.meaning (M.definition rules.now)) objects.now letter.0 binding.now }
         requires there { AreBelow (length objects.now) binding.now }
         ensures stored { stored_of self.new ≡ stored_of self.old }
         ensures marks { self.new.marks ≡ self.old.marks }
-        ensures fits { IsFit self.new objects.now }
+        ensures fits { IsFit (M.meaning (M.definition rules.now)) (M.StandsFor rules.now) self.new objects.now }
         ensures closed { OnErr result (self.new.is_open ≡ false) }
         ensures opened { OnOk result (self.new.is_open ≡ true) }
         ensures binding { IfOk result (λ plan. plan.binding ≡ binding.now) }
         ensures plan { IfOk result (λ plan. IsPlanFor self.new plan) }
+        ensures stay { IfOk result (λ plan. StayAlive (M.meaning (M.definition rules.now)) (M.StandsFor rules.now) objects.now plan.moves.items) }
         ensures fewer { EndsFewer self.old.ending self.new.ending }
         ensures works { IfOk result (λ plan. (trace : List ParametricEvent)
             → IsStoreOf (M.meaning (M.definition rules.now)) (M.StandsFor rules.now) trace objects.now (stored_of self.old) self.old.marks
@@ -176,17 +178,18 @@ impl<M: Monitor> Store<M> {
         moves: Vec<Move<M::State>>,
     ) -> Result<Plan<M::State>, NoMemory>
         requires closed { self.old.is_open ≡ false }
-        requires fits { IsFit self.old objects.now }
+        requires fits { IsFit (M.meaning (M.definition rules.now)) (M.StandsFor rules.now) self.old objects.now }
         requires event { IsLiveEvent (M.meaning (M.definition rules.now)) objects.now letter.0 binding.now }
         requires there { AreBelow (length objects.now) binding.now }
         requires none { moves.items ≡ [] }
         ensures stored { stored_of self.new ≡ stored_of self.old }
         ensures marks { self.new.marks ≡ self.old.marks }
-        ensures fits { IsFit self.new objects.now }
+        ensures fits { IsFit (M.meaning (M.definition rules.now)) (M.StandsFor rules.now) self.new objects.now }
         ensures closed { OnErr result (self.new.is_open ≡ false) }
         ensures opened { OnOk result (self.new.is_open ≡ true) }
         ensures binding { IfOk result (λ plan. plan.binding ≡ binding.now) }
         ensures plan { IfOk result (λ plan. IsPlanFor self.new plan) }
+        ensures stay { IfOk result (λ plan. StayAlive (M.meaning (M.definition rules.now)) (M.StandsFor rules.now) objects.now plan.moves.items) }
         ensures fewer { EndsFewer self.old.ending self.new.ending }
         ensures works { IfOk result (λ plan. (trace : List ParametricEvent)
             → IsStoreOf (M.meaning (M.definition rules.now)) (M.StandsFor rules.now) trace objects.now (stored_of self.old) self.old.marks
@@ -503,7 +506,8 @@ impl<M: Monitor> Store<M> {
         ensures monitors { self.new.monitors ≡ monitors_after self.old plan }
         ensures marks { AreMarksAfter plan.binding self.old.marks self.new.marks }
         ensures closed { self.new.is_open ≡ false }
-        ensures fits { (dead : List Bool) → IsFit self.old dead → AreBelow (length dead) plan.binding → IsFit self.new dead }
+        ensures fits { (rules : M) (dead : List Bool) → IsFit (M.meaning (M.definition rules)) (M.StandsFor rules) self.old dead → AreBelow (length dead) plan.binding
+            → StayAlive (M.meaning (M.definition rules)) (M.StandsFor rules) dead plan.moves.items → IsFit (M.meaning (M.definition rules)) (M.StandsFor rules) self.new dead }
         ensures answer { result.0 ≡ plan.answer }
         ensures copy { result.1 ≡ plan.answer }
         ensures ending { self.new.ending ≡ self.old.ending }
@@ -552,21 +556,59 @@ impl<M: Monitor> Store<M> {
     /// takes no memory.
     pub fn dispose(&mut self, rules: &M, objects: &Objects) -> u64
         requires closed { self.old.is_open ≡ false }
-        requires fits { IsFit self.old objects.now }
+        requires fits { IsFit (M.meaning (M.definition rules.now)) (M.StandsFor rules.now) self.old objects.now }
         ensures pass { IsAfterPass (M.meaning (M.definition rules.now)) (M.StandsFor rules.now) objects.now (stored_of self.old) (stored_of self.new)
             self.old.marks self.new.marks }
         ensures left { result ≡ length (stored_of self.new) }
         ensures closed { self.new.is_open ≡ false }
-        ensures fits { IsFit self.new objects.now }
+        ensures fits { IsFit (M.meaning (M.definition rules.now)) (M.StandsFor rules.now) self.new objects.now }
         ensures keys { (o : ℕ) → IsKey self.new.index o → flag_of objects.now o ≡ false }
         ensures ending { self.new.ending ≡ self.old.ending }
+    {
+        self.drop_all_cut(rules, objects);
+        self.marks.sweep(objects);
+        self.index.drop_dead(objects);
+        self.monitors.len()
+    }
+
+    /// Drops the monitors that are cut. These bind objects that died since the last pass, so that no others are looked at, unless
+    /// there is no room for a list of them.
+    fn drop_all_cut(&mut self, rules: &M, objects: &Objects)
+        requires closed { self.old.is_open ≡ false }
+        requires fits { IsFit (M.meaning (M.definition rules.now)) (M.StandsFor rules.now) self.old objects.now }
+        ensures down { IsCutDown (M.meaning (M.definition rules.now)) (M.StandsFor rules.now) objects.now self.old self.new }
+        ensures all { (k : ℕ) → IsSwept (M.meaning (M.definition rules.now)) (M.StandsFor rules.now) objects.now (monitor_at self.old.monitors k) (monitor_at self.new.monitors k) }
+    {
+        let mut slots = self.take_slots();
+        slots.clear();
+        match self.index.add_slots_of_dead(objects, &mut slots) {
+            Ok(()) => self.drop_cut_in(rules, objects, slots.as_slice()),
+            Err(NoMemory) => self.drop_cut_everywhere(rules, objects),
+        }
+        self.give_slots(slots);
+    }
+
+    /// Drops those in these slots.
+    fn drop_cut_in(&mut self, rules: &M, objects: &Objects, slots: &[usize])
+        requires closed { self.old.is_open ≡ false }
+        ensures down { IsCutDown (M.meaning (M.definition rules.now)) (M.StandsFor rules.now) objects.now self.old self.new }
+        ensures there { (k : ℕ) → Contains slots.now k
+            → IsSwept (M.meaning (M.definition rules.now)) (M.StandsFor rules.now) objects.now (monitor_at self.old.monitors k) (monitor_at self.new.monitors k) }
+    {
+        for slot in slots {
+            self.drop_cut(rules, objects, *slot);
+        }
+    }
+
+    /// Drops those in all slots.
+    fn drop_cut_everywhere(&mut self, rules: &M, objects: &Objects)
+        requires closed { self.old.is_open ≡ false }
+        ensures down { IsCutDown (M.meaning (M.definition rules.now)) (M.StandsFor rules.now) objects.now self.old self.new }
+        ensures all { (k : ℕ) → IsSwept (M.meaning (M.definition rules.now)) (M.StandsFor rules.now) objects.now (monitor_at self.old.monitors k) (monitor_at self.new.monitors k) }
     {
         for slot in 0..self.monitors.slots.len() {
             self.drop_cut(rules, objects, slot);
         }
-        self.marks.sweep(objects);
-        self.index.drop_dead(objects);
-        self.monitors.len()
     }
 
     /// Drops the monitor of a slot, if it is cut.
