@@ -160,7 +160,8 @@ fn counted_plan<M: Monitor, L: Ledger>(
     ensures opened { OnOk result (store.new.is_open ≡ true) }
     ensures binding { IfOk result (λ plan. plan.binding ≡ binding.now) }
     ensures plan { IfOk result (λ plan. IsPlanFor store.new plan) }
-    ensures stay { IfOk result (λ plan. StayAlive (M.meaning (M.definition rules.now)) (M.StandsFor rules.now) objects.now plan.moves.items) }
+    ensures stay { IfOk result
+        (λ plan. StayAlive (M.meaning (M.definition rules.now)) (M.StandsFor rules.now) objects.now plan.moves.items) }
     ensures works { IfOk result (λ plan. (trace : List ParametricEvent)
         → IsStoreOf (M.meaning (M.definition rules.now)) (M.StandsFor rules.now) trace objects.now (stored_of store.old) store.old.marks
         → IsEnded (M.meaning (M.definition rules.now)) (M.StandsFor rules.now) store.old

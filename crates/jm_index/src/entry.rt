@@ -65,14 +65,15 @@ pub(crate) fn add_slots_at(
     Ok(())
 }
 
-/// Adds the slots of the live entries at these positions.
+/// Adds the slots of the live entries at these positions. It takes no memory: where there is no room for one, it ends.
 pub(crate) fn add_live_slots(
     entries: &[Entry],
     positions: &[usize],
     slots: &mut Vec<usize>,
 ) -> Result<(), NoMemory>
     ensures kept { OnOk result ((k : ℕ) → Contains slots.old.items k → Contains slots.new.items k) }
-    ensures all { OnOk result ((k : ℕ) (pair : Pair) → Contains positions.now k → pair_at entries.now k ≡ Some pair → Contains slots.new.items pair.slot) }
+    ensures all { OnOk result ((k : ℕ) (pair : Pair) → Contains positions.now k → pair_at entries.now k ≡ Some pair
+        → Contains slots.new.items pair.slot) }
 {
     for position in positions {
         add_live_slot(entries, *position, slots)?;
@@ -88,7 +89,10 @@ fn add_live_slot(entries: &[Entry], position: usize, slots: &mut Vec<usize>) -> 
     if let Some(entry) = entries.get(position)
         && entry.live
     {
-        slots.push(entry.slot)?;
+        if slots.len() >= slots.capacity() {
+            return Err(NoMemory);
+        }
+        slots.push_reserved(entry.slot);
     }
     Ok(())
 }

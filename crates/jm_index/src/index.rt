@@ -233,7 +233,8 @@ impl Index {
         }
     }
 
-    /// Adds the slots of the pairs that bind an object which died since the dead were dropped last, once for each such object.
+    /// Adds the slots of the pairs that bind an object which died since the dead were dropped last, once for each such
+    /// object. It takes no memory: where there is no room for a slot, it ends.
     pub fn add_slots_of_dead(
         &self,
         objects: &Objects,
@@ -258,7 +259,8 @@ impl Index {
     ) -> Result<(), NoMemory>
         requires { 64 * index < length objects.now }
         ensures kept { OnOk result ((k : ℕ) → Contains slots.old.items k → Contains slots.new.items k) }
-        ensures all { OnOk result (AreListed self.now (λ o. (o / 64 ≡ index) × HasDied self.now objects.now o) slots.new.items) }
+        ensures all { OnOk result
+            (AreListed self.now (λ o. (o / 64 ≡ index) × HasDied self.now objects.now o) slots.new.items) }
     {
         let len = objects.len();
         let first = 64 * index;
@@ -273,7 +275,8 @@ impl Index {
     /// Adds the slots of the pairs that bind an object, if it wasn't dropped.
     fn add_slots_of(&self, object: u32, slots: &mut Vec<usize>) -> Result<(), NoMemory>
         ensures kept { OnOk result ((k : ℕ) → Contains slots.old.items k → Contains slots.new.items k) }
-        ensures all { OnOk result (AreListed self.now (λ o. (o ≡ object) × (flag_of self.now.dropped o ≡ false)) slots.new.items) }
+        ensures all { OnOk result
+            (AreListed self.now (λ o. (o ≡ object) × (flag_of self.now.dropped o ≡ false)) slots.new.items) }
     {
         let entries = self.entries.as_slice();
         for tree in 0..self.trees.len() {
