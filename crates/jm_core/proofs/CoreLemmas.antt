@@ -36,18 +36,19 @@ use Rattle.jm_core.proofs.FlagLemmas.{first_dead-by_flags}
 use Rattle.jm_core.proofs.FitLemmas.{tidy-push, none_cut, swept}
 
 -- a store that fits the objects fits them after a death
-fit-death : {S : Type 0} (store : Contents S) (dead : List Bool) (o : ℕ) → IsFit store dead → IsFit store (after_death dead o)
-fit-death store dead o fit =
+fit-death : (m : Meaning) {S : Type 0} (Stands : S → List ℕ → Type 0) (store : Contents S) (dead : List Bool) (o : ℕ) → IsFit m Stands store dead → IsFit m Stands store (after_death dead o)
+fit-death m Stands store dead o fit =
     let size : length (slice_set dead o true) ≡ length dead = length-set dead o true in
     record {
       instances = λ s h q at. subst (λ n. q < n) (sym size) (fit.instances s h q at);
       marks = λ b h q at. subst (λ n. q < n) (sym size) (fit.marks b h q at);
       index = IsFitting-death store.index dead o fit.index;
+      spared = fit.spared;
     }
 
 module _ (m : Meaning) {S : Type 0} (Stands : S → List ℕ → Type 0) where
   -- before the first step
-  pub core_at_start : (n : ℕ) (store : Contents S) → IsAtStart m Stands (stored_of store) → store.marks ≡ [] → store.is_open ≡ false → ((dead : List Bool) → IsFit store dead)
+  pub core_at_start : (n : ℕ) (store : Contents S) → IsAtStart m Stands (stored_of store) → store.marks ≡ [] → store.is_open ≡ false → ((dead : List Bool) → IsFit m Stands store dead)
       → IsEnded m Stands store → IsCore m Stands [] (replicate n false) store
   core_at_start n store start none closed fits ended = record {
     legal = tt;
@@ -62,7 +63,7 @@ module _ (m : Meaning) {S : Type 0} (Stands : S → List ℕ → Type 0) where
 
   -- a step that leaves monitors, marks and dead objects as they are
   core_same : (h : List Entry) (dead : List Bool) (before after : Contents S) (x : Entry) → IsCore m Stands h dead before → IsLegal m (h ++ x ∷ []) → accepted_event x.step x.outcome ≡ None
-      → accepted_death x.step x.outcome ≡ None → after.is_open ≡ false → IsFit after dead → IsUntouched before after
+      → accepted_death x.step x.outcome ≡ None → after.is_open ≡ false → IsFit m Stands after dead → IsUntouched before after
       → IsTidyAfter m (h ++ x ∷ []) (instances_of (stored_of after)) after.marks x.step x.outcome → IsCore m Stands (h ++ x ∷ []) dead after
   core_same h dead before after x core legal no_event no_death closed fits same tidy =
       record {
@@ -80,7 +81,7 @@ module _ (m : Meaning) {S : Type 0} (Stands : S → List ℕ → Type 0) where
   -- ---- events
   -- an event, whatever it was answered
   named_event : (h : List Entry) (dead : List Bool) (before after : Contents S) (caller line : ℕ) (e : Letter) (b : Binding) (o : Outcome) → IsCore m Stands h dead before → IsStepOf m (Event e b)
-      → after.is_open ≡ false → IsFit after dead → IsOutcomeOf m Stands (trace_of h) dead (record { letter = e.0; binding = b }) before after o
+      → after.is_open ≡ false → IsFit m Stands after dead → IsOutcomeOf m Stands (trace_of h) dead (record { letter = e.0; binding = b }) before after o
       → IsCore m Stands (h ++ record { caller = caller; line = line; step = Event e b; outcome = o } ∷ []) dead after
   named_event h dead before after caller line e b (Fired firings) core is closed fits parts =
       let a : ParametricEvent = record { letter = e.0; binding = b } in
@@ -108,7 +109,7 @@ module _ (m : Meaning) {S : Type 0} (Stands : S → List ℕ → Type 0) where
   named_event h dead before after caller line e b (Kept n) core is closed fits parts = absurd parts
 
   pub core_after_event : (h : List Entry) (dead : List Bool) (before after : Contents S) (u : Unanswered) (e : Letter) (b : Binding) (o : Outcome) → IsCore m Stands h dead before → u.step ≡ Event e b
-      → IsStepOf m (Event e b) → after.is_open ≡ false → IsFit after dead → IsOutcomeOf m Stands (trace_of h) dead (record { letter = e.0; binding = b }) before after o
+      → IsStepOf m (Event e b) → after.is_open ≡ false → IsFit m Stands after dead → IsOutcomeOf m Stands (trace_of h) dead (record { letter = e.0; binding = b }) before after o
       → IsCore m Stands (h ++ answered u o ∷ []) dead after
   core_after_event h dead before after u e b o core step is closed fits parts =
       subst (λ (s : Step). IsCore m Stands (h ++ record { caller = u.caller; line = u.line; step = s; outcome = o } ∷ []) dead after) (sym step)
@@ -123,7 +124,7 @@ module _ (m : Meaning) {S : Type 0} (Stands : S → List ℕ → Type 0) where
         legal = legal-push m h x core.legal tt (core.flags o ∙ alive);
         flags = flags_after_death-lem h dead x o core.flags refl within;
         closed = core.closed;
-        fits = fit-death store dead o core.fits;
+        fits = fit-death m Stands store dead o core.fits;
         monitors = subst (λ (tr : List ParametricEvent). IsStoreOf m Stands tr (after_death dead o) (stored_of store) store.marks) (sym (trace_of-other h x refl))
             (death_keeps_store-lem m Stands (trace_of h) dead (stored_of store) store.marks o core.monitors);
         ended = core.ended;
@@ -150,7 +151,7 @@ module _ (m : Meaning) {S : Type 0} (Stands : S → List ℕ → Type 0) where
 
   -- ---- passes
   named_pass : (h : List Entry) (dead : List Bool) (before after : Contents S) (caller line kept : ℕ) → IsCore m Stands h dead before
-      → IsAfterPass m Stands dead (stored_of before) (stored_of after) before.marks after.marks → kept < 2 ^ 64 → kept ≡ length (stored_of after) → after.is_open ≡ false → IsFit after dead
+      → IsAfterPass m Stands dead (stored_of before) (stored_of after) before.marks after.marks → kept < 2 ^ 64 → kept ≡ length (stored_of after) → after.is_open ≡ false → IsFit m Stands after dead
       → after.ending ≡ before.ending → IsCore m Stands (h ++ record { caller = caller; line = line; step = Pass; outcome = Kept kept } ∷ []) dead after
   named_pass h dead before after caller line kept core pass small is closed fits ending =
       let x : Entry = record { caller = caller; line = line; step = Pass; outcome = Kept kept } in
@@ -171,7 +172,7 @@ module _ (m : Meaning) {S : Type 0} (Stands : S → List ℕ → Type 0) where
       }
 
   pub core_after_pass : (h : List Entry) (dead : List Bool) (before after : Contents S) (u : Unanswered) (kept : ℕ) → IsCore m Stands h dead before → u.step ≡ Pass
-      → IsAfterPass m Stands dead (stored_of before) (stored_of after) before.marks after.marks → kept < 2 ^ 64 → kept ≡ length (stored_of after) → after.is_open ≡ false → IsFit after dead
+      → IsAfterPass m Stands dead (stored_of before) (stored_of after) before.marks after.marks → kept < 2 ^ 64 → kept ≡ length (stored_of after) → after.is_open ≡ false → IsFit m Stands after dead
       → after.ending ≡ before.ending → IsCore m Stands (h ++ answered u (Kept kept) ∷ []) dead after
   core_after_pass h dead before after u kept core step pass small is closed fits ending =
       subst (λ (s : Step). IsCore m Stands (h ++ record { caller = u.caller; line = u.line; step = s; outcome = Kept kept } ∷ []) dead after) (sym step)

@@ -30,7 +30,7 @@ pub record IsCore (m : Meaning) {S : Type 0} (Stands : S → List ℕ → Type 0
   pub legal : IsLegal m h
   pub flags : AreFlagsOf h dead
   pub closed : store.is_open ≡ false
-  pub fits : IsFit store dead
+  pub fits : IsFit m Stands store dead
   pub monitors : IsStoreOf m Stands (trace_of h) dead (stored_of store) store.marks
   pub ended : IsEnded m Stands store
   pub tidy : IsTidy m h (instances_of (stored_of store)) store.marks

@@ -6,3 +6,4 @@ pub mod PostingLemmas
 pub mod TreeLemmas
 pub mod IndexLemmas
 pub mod AskLemmas
+pub mod ListedLemmas

@@ -57,3 +57,11 @@ asked domain b list = filter (λ pair. (mask_of pair.binding == domain) && is_co
 -- the slots of these
 abbrev pub asked_slots : ℕ → Binding → List Pair → List ℕ
 asked_slots domain b list = map (λ pair. pair.slot) (asked domain b list)
+
+-- object o is dead, and wasn't dropped: it died since the dead were dropped last
+abbrev pub HasDied : PairList → List Bool → ℕ → Type 0
+HasDied index dead o = (flag_of dead o ≡ true) × (flag_of index.dropped o ≡ false)
+
+-- among the slots are those of the pairs that bind such an object
+abbrev pub AreListed : PairList → (ℕ → Type 0) → List ℕ → Type 0
+AreListed index IsSuch slots = (pair : Pair) (o : ℕ) → Contains index.list pair → Binds pair.binding o → IsSuch o → Contains slots pair.slot

@@ -1,7 +1,8 @@
 //! The entries of an index.
-ghost use Rattle.std.specs.Prelude.{◌≡◌, ◌++◌, OnOk};
+ghost use Rattle.std.specs.Prelude.{◌≡◌, ◌++◌, ℕ, Some, Contains, OnOk};
 ghost use Rattle.std.specs.List.{filter_map};
-ghost use Rattle.jm_index.specs.Layout.{is_live_at, slot_of, slot_at};
+ghost use Rattle.jm_index.specs.Index.{Pair};
+ghost use Rattle.jm_index.specs.Layout.{is_live_at, pair_at, slot_of, slot_at};
 
 use jm_model::{Binding, NoMemory};
 
@@ -60,6 +61,38 @@ pub(crate) fn add_slots_at(
         if let Some(slot) = slot_at(entries, domain, binding, *position) {
             slots.push(slot)?;
         }
+    }
+    Ok(())
+}
+
+/// Adds the slots of the live entries at these positions. It takes no memory: where there is no room for one, it ends.
+pub(crate) fn add_live_slots(
+    entries: &[Entry],
+    positions: &[usize],
+    slots: &mut Vec<usize>,
+) -> Result<(), NoMemory>
+    ensures kept { OnOk result ((k : ℕ) → Contains slots.old.items k → Contains slots.new.items k) }
+    ensures all { OnOk result ((k : ℕ) (pair : Pair) → Contains positions.now k → pair_at entries.now k ≡ Some pair
+        → Contains slots.new.items pair.slot) }
+{
+    for position in positions {
+        add_live_slot(entries, *position, slots)?;
+    }
+    Ok(())
+}
+
+/// Adds the slot of the entry at a position, if it is live.
+fn add_live_slot(entries: &[Entry], position: usize, slots: &mut Vec<usize>) -> Result<(), NoMemory>
+    ensures kept { OnOk result ((k : ℕ) → Contains slots.old.items k → Contains slots.new.items k) }
+    ensures here { OnOk result ((pair : Pair) → pair_at entries.now position ≡ Some pair → Contains slots.new.items pair.slot) }
+{
+    if let Some(entry) = entries.get(position)
+        && entry.live
+    {
+        if slots.len() >= slots.capacity() {
+            return Err(NoMemory);
+        }
+        slots.push_reserved(entry.slot);
     }
     Ok(())
 }

@@ -1,8 +1,8 @@
 ghost use Rattle.std.specs.Prelude.{◌≡◌, ◌≢◌, ℕ, ◌<◌, ◌*◌, ◌/◌, Bool, List, [], ◌∷◌, ◌++◌, ◌⊎◌, true, false, length, AllPairs, Contains, IsTrue, IfOk, OnOk, OnErr};
 ghost use Rattle.jm_model.specs.Bindings.{mask_of, restriction};
-ghost use Rattle.jm_index.specs.Index.{Pair, flag_of, IsKey, AreBelow, IsFitting, AreLive, without, asked_slots};
+ghost use Rattle.jm_index.specs.Index.{Pair, flag_of, IsKey, AreBelow, IsFitting, AreLive, HasDied, AreListed, without, asked_slots};
 
-use crate::entry::{Entry, add_slots_at};
+use crate::entry::{Entry, add_live_slots, add_slots_at};
 use crate::flags::Flags;
 use crate::trees::Trees;
 use jm_model::{Binding, NoMemory};
@@ -231,6 +231,59 @@ impl Index {
             ),
             None => Ok(()),
         }
+    }
+
+    /// Adds the slots of the pairs that bind an object which died since the dead were dropped last, once for each such
+    /// object. It takes no memory: where there is no room for a slot, it ends.
+    pub fn add_slots_of_dead(
+        &self,
+        objects: &Objects,
+        slots: &mut Vec<usize>,
+    ) -> Result<(), NoMemory>
+        ensures { OnOk result (AreListed self.now (HasDied self.now objects.now) slots.new.items) }
+    {
+        for index in 0..objects.len().div_ceil(64) {
+            if !self.has_dropped(objects, index) {
+                self.add_slots_of_dead_at(objects, index, slots)?;
+            }
+        }
+        Ok(())
+    }
+
+    /// The same for the 64 objects of a word of the table.
+    fn add_slots_of_dead_at(
+        &self,
+        objects: &Objects,
+        index: u32,
+        slots: &mut Vec<usize>,
+    ) -> Result<(), NoMemory>
+        requires { 64 * index < length objects.now }
+        ensures kept { OnOk result ((k : ℕ) → Contains slots.old.items k → Contains slots.new.items k) }
+        ensures all { OnOk result
+            (AreListed self.now (λ o. (o / 64 ≡ index) × HasDied self.now objects.now o) slots.new.items) }
+    {
+        let len = objects.len();
+        let first = 64 * index;
+        for object in first..len.min(first.saturating_add(64)) {
+            if objects.is_dead(object) && !self.dropped.is_set(object) {
+                self.add_slots_of(object, slots)?;
+            }
+        }
+        Ok(())
+    }
+
+    /// Adds the slots of the pairs that bind an object, if it wasn't dropped.
+    fn add_slots_of(&self, object: u32, slots: &mut Vec<usize>) -> Result<(), NoMemory>
+        ensures kept { OnOk result ((k : ℕ) → Contains slots.old.items k → Contains slots.new.items k) }
+        ensures all { OnOk result
+            (AreListed self.now (λ o. (o ≡ object) × (flag_of self.now.dropped o ≡ false)) slots.new.items) }
+    {
+        let entries = self.entries.as_slice();
+        for tree in 0..self.trees.len() {
+            let positions = self.trees.positions_in(tree, object as usize + 1);
+            add_live_slots(entries, positions, slots)?;
+        }
+        Ok(())
     }
 
     /// Drops an object, where it has a flag.

@@ -218,7 +218,22 @@ impl Trees {
         ensures value { result.now ≡ posting_at self.now mask path }
         ensures rising { Rises 0 result.now }
     {
-        match self.trees.get(mask as usize) {
+        self.positions_in(mask as usize, path)
+    }
+
+    /// How many sets of parameters may have a tree.
+    pub(crate) fn len(&self) -> usize
+        ensures { result ≡ length self.now }
+    {
+        self.trees.len()
+    }
+
+    /// The positions under a path of the tree of a set's number.
+    pub(crate) fn positions_in(&self, tree: usize, path: usize) -> &[usize]
+        ensures value { result.now ≡ posting_at self.now tree path }
+        ensures rising { Rises 0 result.now }
+    {
+        match self.trees.get(tree) {
             Some(tree) => tree.positions(path),
             None => &[],
         }

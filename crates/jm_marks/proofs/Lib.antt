@@ -1,3 +1,4 @@
 pub mod SetLemmas
 pub mod DeadLemmas
 pub mod CoverLemmas
+pub mod SweepLemmas

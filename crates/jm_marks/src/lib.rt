@@ -1,12 +1,15 @@
-//! The marks: the bindings that were seen and can still matter, each once, in the order of first sight.
+//! The marks: the bindings that were seen and can still matter, each once.
 //!
 //! They stand in one hash set, whose keys tell by themselves which parameters they bind. Beside it stands a list of
 //! the sets of parameters that ever were those of a mark: at most one for each letter. So to ask something of all
 //! marks below a binding takes one look-up for each of these sets, and no walk over marks.
 #![tactic(auto)]
 
-ghost use Rattle.std.specs.Prelude.{ℕ, ◌≡◌, ◌≢◌, ◌+◌, ◌<◌, ◌≤◌, ◌^◌, ◌↔◌, [], ◌∷◌, ◌++◌, filter, Contains, IsTrue, IfOk, OnOk, false, vec_len, vec_capacity, if◌then◌else◌};
-ghost use Rattle.std.specs.List.{AllPairs};
+ghost use Rattle.std.specs.Prelude.{ℕ, ◌≡◌, ◌≢◌, ◌+◌, ◌<◌, ◌≤◌, ◌^◌, ◌↔◌, [], ◌∷◌, ◌++◌, filter, Contains, IsTrue, IfOk, OnOk, false, not, Some, length, map, slice_get, vec_len, vec_capacity, if◌then◌else◌};
+ghost use Rattle.std.specs.List.{AllPairs, IsDistinct};
+ghost use Rattle.std.specs.List.Sorted.{IsPermutation};
+ghost use Rattle.indexmap.specs.IndexSet.{spare};
+ghost use Rattle.jm_model.specs.Layout.{binding_eq};
 ghost use Rattle.jm_model.specs.declared.binding.Binding.{Binding as Bound};
 ghost use Rattle.jm_model.specs.Bindings.{object_at};
 ghost use Rattle.jm_marks.specs.Marks.{dead_mask_of, is_at_dead, is_at_live, has_live, IsCovered, IsCoveredAt};
@@ -97,7 +100,31 @@ fn list_mask(masks: &mut Vec<u8>, mask: u8)
     }
 }
 
-/// Distinct bindings, in order. Contracts see them as a list, and a number beside it, `spare`: so many calls of `add`
+/// Drops the bindings that bind no live object, the last ones first. The last binding takes the place of one that goes, so
+/// that no other is filed anew.
+fn drop_dead(bindings: &mut IndexSet<Binding>, objects: &Objects)
+    ensures list { IsPermutation (filter (has_live objects.now) bindings.old.keys) bindings.new.keys }
+    ensures distinct { IsDistinct binding_eq bindings.old.keys → IsDistinct binding_eq bindings.new.keys }
+    ensures room { spare bindings.old ≤ spare bindings.new }
+{
+    let mut place = bindings.len();
+    while place > 0 {
+        place -= 1;
+        if is_dead_at(bindings, objects, place) {
+            let _ = bindings.swap_remove_index(place);
+        }
+    }
+}
+
+/// Whether the binding at a place binds no live object.
+fn is_dead_at(bindings: &IndexSet<Binding>, objects: &Objects, place: usize) -> bool
+    requires { place < length bindings.now.keys }
+    ensures { slice_get (map (has_live objects.now) bindings.now.keys) place ≡ Some (not result) }
+{
+    !has_live(objects, &bindings.as_slice()[place])
+}
+
+/// Distinct bindings. Contracts see them as a list, and a number beside it, `spare`: so many calls of `add`
 /// can be made at least before memory is wanted again.
 #[derive(Drop)]
 pub struct Marks {
@@ -190,12 +217,12 @@ impl Marks {
         self.contains(&part)
     }
 
-    /// Keeps exactly the marks that bind a live object.
+    /// Keeps exactly the marks that bind a live object, in an order of their own.
     pub fn sweep(&mut self, objects: &Objects)
-        ensures list { self.new.list ≡ filter (has_live objects.now) self.old.list }
+        ensures list { IsPermutation (filter (has_live objects.now) self.old.list) self.new.list }
         ensures spare { self.old.spare ≤ self.new.spare }
     {
-        self.bindings.retain(|binding| has_live(objects, binding));
+        drop_dead(&mut self.bindings, objects);
     }
 
     /// The marks, in order.

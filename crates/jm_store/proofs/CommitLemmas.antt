@@ -1,9 +1,9 @@
 -- A plan is carried out, move by move.
-use Rattle.std.proofs.Common.{◌≡◌, ◌≢◌, ℕ, suc, ◌+◌, ◌<◌, ◌≤◌, ◌⊎◌, inl, inr, Bool, true, false, cond, List, [], ◌∷◌, ◌++◌, length, map, get_or, refl, sym, ap, ◌∙◌, subst, arith}
+use Rattle.std.proofs.Common.{◌≡◌, ◌≢◌, ℕ, ◌<◌, ◌⊎◌, inl, inr, Bool, true, false, cond, List, [], ◌∷◌, ◌++◌, length, refl, sym, ap, ◌∙◌, subst, arith}
 use Rattle.std.specs.Prelude.{Option, Some, None, Contains, AllPairs}
 use Rattle.std.proofs.lemmas.Bool.{both_ways, cases_Bool}
-use Rattle.std.proofs.lemmas.Option.{same_Some, none-some}
-use Rattle.std.proofs.lemmas.List.{length-map, length_push}
+use Rattle.std.proofs.lemmas.Option.{none-some}
+use Rattle.std.proofs.lemmas.List.{length-map}
 use Rattle.std.proofs.lemmas.List.Elements.{Contains-append_left, Contains-push, Contains-push_cases}
 use Rattle.std.specs.List.{list_any}
 use Rattle.jm_model.specs.declared.binding.Binding.{Binding}
@@ -12,13 +12,13 @@ use Rattle.jm_model.proofs.EqLemmas.{found-Contains, Contains-found}
 use Rattle.jm_semantics.proofs.ListLemmas.{Contains-cons_cases}
 use Rattle.jm_index.specs.Index.{Pair, without}
 use Rattle.jm_index.proofs.IndexLemmas.{without_absent}
-use Rattle.jm_index.proofs.ReadLemmas.{Contains-none, Contains-cons}
+use Rattle.jm_index.proofs.ReadLemmas.{Contains-none}
 use Rattle.jm_monitors.specs.declared.stored.Stored.{Stored}
 use Rattle.jm_monitors.specs.Steps.{AreMarksAfter}
 use Rattle.jm_store.specs.declared.monitors.Slot.{Slot}
 use Rattle.jm_store.specs.declared.moves.Move.{Move}
 use Rattle.jm_store.specs.Slots.{monitor_in, monitor_at, monitors_of}
-use Rattle.jm_store.specs.Moves.{AreApart, moved_at, after_move, after_moves, pairs_at, pairs_after}
+use Rattle.jm_store.specs.Moves.{AreApart, after_move, after_moves, pairs_at, pairs_after}
 use Rattle.jm_store.specs.Contents.{Contents, IsFilled, IsPlannedBy, ArePlaced}
 use Rattle.jm_store.specs.Housing.{IsHoused}
 use Rattle.jm_store.proofs.SlotLemmas.{used_within}

@@ -1,6 +1,6 @@
 -- What lies in memory still fits together after a move.
-use Rattle.std.proofs.Common.{◌≡◌, ◌≢◌, ℕ, ◌<◌, ◌≤◌, Bool, true, false, List, [], ◌∷◌, ◌++◌, refl, sym, ap, ◌∙◌, subst, arith}
-use Rattle.std.specs.Prelude.{Option, Some, None, Contains, slice_set, AllPairs}
+use Rattle.std.proofs.Common.{◌≡◌, ◌≢◌, ℕ, Bool, true, false, List, [], ◌∷◌, ◌++◌, refl, sym, ap, ◌∙◌, arith}
+use Rattle.std.specs.Prelude.{Some, None, Contains, slice_set, AllPairs}
 use Rattle.std.proofs.lemmas.Bool.{both_ways, false≢true}
 use Rattle.std.proofs.lemmas.Option.{none-some}
 use Rattle.jm_model.specs.Bindings.{mask_of}
@@ -12,7 +12,7 @@ use Rattle.jm_monitors.specs.declared.stored.Stored.{Stored}
 use Rattle.jm_store.specs.declared.monitors.Slot.{Slot}
 use Rattle.jm_store.specs.declared.monitors.Slot.TheVariants.{Free, Planned, Taken}
 use Rattle.jm_store.specs.Slots.{monitor_in, IsUsed, slot_at, monitors_of, monitor_at, stored_in, IsReserved}
-use Rattle.jm_store.specs.Housing.{IsHoused, IsSettled, IsKept}
+use Rattle.jm_store.specs.Housing.{IsHoused, IsKept}
 use Rattle.jm_store.proofs.SlotLemmas.{monitor_at-slot, slot_at-set_same, slot_at-set_other, used_within, monitor_used, unused_none, stored_in-planned}
 use Rattle.jm_store.proofs.HousingLemmas.{housed_put, housed_gone, housed_planned, housed_released, domains_more, domains_added, domains_without, pair_by_slot, pair_by_binding, from_without}
 

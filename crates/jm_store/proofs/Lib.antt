@@ -18,3 +18,4 @@ pub mod ListLemmas
 pub mod ReportLemmas
 pub mod EndingLemmas
 pub mod RestLemmas
+pub mod SparedLemmas

@@ -1,20 +1,19 @@
 -- What the moves of an event come to.
-use Rattle.std.proofs.Common.{◌≡◌, ◌≢◌, ℕ, zero, suc, ◌+◌, ◌<◌, ◌≤◌, ◌⊎◌, inl, inr, Bool, true, false, cond, List, [], ◌∷◌, ◌++◌, length, map, get_or, refl, sym, ap, ◌∙◌, subst, arith}
-use Rattle.std.specs.Prelude.{Option, Some, None, Contains, AllPairs, IsTrue}
-use Rattle.std.proofs.lemmas.Bool.{both_ways, cases_Bool}
-use Rattle.std.proofs.lemmas.Option.{same_Some, none-some}
+use Rattle.std.proofs.Common.{◌≡◌, ◌≢◌, ℕ, ◌⊎◌, inl, inr, Bool, true, false, List, refl, sym, ◌∙◌, subst}
+use Rattle.std.specs.Prelude.{Option, Some, None, Contains, AllPairs}
+use Rattle.std.proofs.lemmas.Bool.{both_ways}
 use Rattle.jm_model.specs.Bindings.{is_below, is_compatible, join, mask_of}
 use Rattle.jm_model.specs.Meanings.{Meaning}
 use Rattle.jm_model.specs.declared.binding.Binding.{Binding}
 use Rattle.jm_semantics.proofs.ListLemmas.{Contains-map}
-use Rattle.jm_semantics.proofs.BindingLemmas.{below-join_right, below-refl, below-antisym, below-join_left, below-compatible, join-below}
+use Rattle.jm_semantics.proofs.BindingLemmas.{below-refl, below-antisym, below-join_left, below-compatible, join-below}
 use Rattle.jm_marks.specs.Marks.{dead_mask_of}
 use Rattle.jm_monitors.specs.declared.stored.Stored.{Stored}
 use Rattle.jm_monitors.specs.Stores.{HasInstance}
-use Rattle.jm_monitors.specs.Steps.{Follows, IsBase, IsReached, IsOverAfter, AreReached, IsCutState, IsAliveState}
+use Rattle.jm_monitors.specs.Steps.{IsBase, IsReached, IsOverAfter, AreReached}
 use Rattle.jm_store.specs.declared.moves.Move.{Move}
 use Rattle.jm_store.specs.Slots.{monitor_at, stored_in}
-use Rattle.jm_store.specs.Moves.{IsAdvanced, IsMoved, IsLeft, IsOutcome, IsOutcomeIn, IsOutcomeAt, AreGiven, AreVisited, AreMovesOf, reached_by}
+use Rattle.jm_store.specs.Moves.{IsMoved, IsOutcome, IsOutcomeIn, IsOutcomeAt, AreMovesOf, reached_by}
 use Rattle.jm_store.proofs.SlotLemmas.{stored_at, place_of}
 use Rattle.jm_store.proofs.GivenLemmas.{given_each, given_all, given_pairs, pairs_map, Contains-from_map}
 

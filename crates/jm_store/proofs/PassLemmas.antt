@@ -1,9 +1,10 @@
 -- What a pass leaves.
-use Rattle.std.proofs.Common.{◌≡◌, ◌≢◌, ℕ, zero, suc, ◌+◌, ◌<◌, ◌≤◌, ◌⊎◌, inl, inr, Bool, true, false, cond, List, [], ◌∷◌, ◌++◌, length, get_or, refl, sym, ap, ◌∙◌, subst, arith}
-use Rattle.std.specs.Prelude.{Option, Some, None, Contains, AllPairs, filter}
-use Rattle.std.proofs.lemmas.Bool.{cases_lt}
+use Rattle.std.proofs.Common.{◌≡◌, ℕ, zero, suc, ◌<◌, ◌≤◌, ◌⊎◌, inl, inr, Bool, List, [], ◌∷◌, length, sym, ap, ◌∙◌, subst, arith}
+use Rattle.std.specs.Prelude.{Option, Some, None, filter}
 use Rattle.std.proofs.lemmas.List.{length-map}
 use Rattle.std.proofs.lemmas.Option.{none-some}
+use Rattle.std.specs.List.Sorted.{IsPermutation}
+use Rattle.std.proofs.lemmas.List.Sorted.{Contains-permutation, IsPermutation-sym}
 use Rattle.jm_model.specs.Meanings.{Meaning}
 use Rattle.jm_model.specs.declared.binding.Binding.{Binding}
 use Rattle.jm_semantics.proofs.ListLemmas.{Contains-filter, Contains-from_filter}
@@ -52,7 +53,7 @@ module _ (m : Meaning) {S : Type 0} (Stands : S → List ℕ → Type 0) (dead :
   goes (Some r) (Some t) s swept is = let same : r ≡ s = cc in inl (ap (λ (v : Stored S). Some v) (swept.0 ∙ same))
 
   pub after_pass : (old new : List (Option (Stored S))) (n : ℕ) (marks left : List Binding) → length old ≤ n → length new ≡ length old
-      → ((k : ℕ) → k < n → IsSwept m Stands dead (monitor_at old k) (monitor_at new k)) → AreSingle new → left ≡ filter (has_live dead) marks
+      → ((k : ℕ) → k < n → IsSwept m Stands dead (monitor_at old k) (monitor_at new k)) → AreSingle new → IsPermutation (filter (has_live dead) marks) left
       → IsAfterPass m Stands dead (stored_in old) (stored_in new) marks left
   after_pass old new n marks left all size swept single kept = record {
     distinct = single_stored new single;
@@ -66,7 +67,7 @@ module _ (m : Meaning) {S : Type 0} (Stands : S → List ℕ → Type 0) (dead :
         let lt = within_length old k s at in
         elim (goes (monitor_at old k) (monitor_at new k) s (swept k (omega (arith, lt, all))) at) [ inl is ↦ inl (stored_at new k s is) | inr cut ↦ inr cut ];
     left_marks = λ b. (
-      (λ there. Contains-from_filter (has_live dead) marks b (subst (λ (l : List Binding). Contains l b) kept there)),
-      (λ both. subst (λ (l : List Binding). Contains l b) (sym kept) (Contains-filter (has_live dead) marks b both.0 both.1)),
+      (λ there. Contains-from_filter (has_live dead) marks b (Contains-permutation left (filter (has_live dead) marks) b (IsPermutation-sym (filter (has_live dead) marks) left kept) there)),
+      (λ both. Contains-permutation (filter (has_live dead) marks) left b kept (Contains-filter (has_live dead) marks b both.0 both.1)),
     );
   }

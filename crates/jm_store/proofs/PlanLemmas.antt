@@ -1,10 +1,8 @@
 -- Loops over the moves of a plan.
-use Rattle.std.proofs.Common.{◌≡◌, ℕ, zero, suc, ◌+◌, ◌<◌, ◌≤◌, ◌⊎◌, inl, inr, Bool, true, false, List, [], ◌∷◌, ◌++◌, length, take, drop, get_or, refl, sym, ap, ◌∙◌, subst, arith, add-one, drop-cons, length-drop}
-use Rattle.std.specs.Prelude.{Option, Some, None, Contains}
+use Rattle.std.proofs.Common.{◌≡◌, ℕ, suc, ◌+◌, ◌<◌, ◌≤◌, ◌⊎◌, inl, inr, List, ◌∷◌, length, drop, get_or, sym, ap, ◌∙◌, subst, arith, drop-cons, length-drop}
+use Rattle.std.specs.Prelude.{Some, Contains}
 use Rattle.jm_semantics.proofs.ListLemmas.{Contains-cons_cases}
 use Rattle.jm_index.specs.Index.{Pair}
-use Rattle.jm_index.proofs.ReadLemmas.{Contains-none}
-use Rattle.jm_monitors.specs.declared.stored.Stored.{Stored}
 use Rattle.jm_store.specs.declared.moves.Move.{Move}
 use Rattle.jm_store.specs.Slots.{monitor_at}
 use Rattle.jm_store.specs.Contents.{Contents, IsFilled, IsPlannedBy}

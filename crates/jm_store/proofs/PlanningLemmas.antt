@@ -15,7 +15,7 @@ use Rattle.jm_semantics.specs.Answers.{IsAnswer}
 use Rattle.jm_semantics.proofs.ListLemmas.{Contains-map}
 use Rattle.jm_semantics.proofs.BindingLemmas.{below-join_right, join-gives}
 use Rattle.jm_marks.specs.Marks.{dead_mask_of}
-use Rattle.jm_index.specs.Index.{Pair, AreBelow, IsFitting}
+use Rattle.jm_index.specs.Index.{Pair, AreBelow, IsFitting, flag_of}
 use Rattle.jm_monitors.specs.declared.stored.Stored.{Stored}
 use Rattle.jm_monitors.specs.Stores.{HasInstance, IsStoreOf}
 use Rattle.jm_monitors.specs.Steps.{IsBase, IsOverAfter, AreReached, IsReport, IsLiveEvent, AreMarksAfter, NoneCutAbove, IsCutState, IsAliveState}
@@ -25,7 +25,7 @@ use Rattle.jm_monitors.proofs.EventLemmas.{event_keeps_store-lem}
 use Rattle.jm_store.specs.declared.moves.Move.{Move}
 use Rattle.jm_store.specs.declared.moves.Plan.{Plan}
 use Rattle.jm_store.specs.Slots.{monitor_at, stored_in}
-use Rattle.jm_store.specs.Moves.{IsOutcomeAt, AreMovesOf, AreApart, reached_by, after_moves, AreEnding, EndsFewer, asks_by}
+use Rattle.jm_store.specs.Moves.{IsOutcomeAt, AreMovesOf, AreApart, reached_by, after_moves, AreEnding, EndsFewer, StayAlive, asks_by}
 use Rattle.jm_store.specs.Contents.{Contents, stored_of, IsFit, IsPlacedFrom, AreDistinct, ArePlacedOf, ArePaired, IsPlanFor, IsPlanOf, with_ending}
 use Rattle.jm_store.proofs.SlotLemmas.{stored_at, place_of}
 use Rattle.jm_store.proofs.GivenLemmas.{given_pairs, pairs_map, pairs_weaker, Contains-from_map}
@@ -37,6 +37,7 @@ use Rattle.std.proofs.lemmas.Nat.Bits.{bit_at-zero}
 use Rattle.jm_semantics.proofs.MaskLemmas.{IsWithin}
 use Rattle.jm_semantics.proofs.MeaningLemmas.{cut-more_dead}
 use Rattle.jm_store.proofs.AfterLemmas.{AreSingle, AreSlotted, after_event, in_after}
+use Rattle.jm_store.proofs.SparedLemmas.{spared_fewer}
 
 cond_slot : (t : Bool) (k n : ℕ) → cond t (Some k) None ≡ Some n → (t ≡ true) × (k ≡ n)
 cond_slot true k n e = (refl, same_Some k n e)
@@ -85,11 +86,13 @@ module _ (m : Meaning) {S : Type 0} (Stands : S → List ℕ → Type 0) (letter
         | inr right ↦ mine o (binds.0, right)
       ])
 
-pub fit_same : {S : Type 0} (old new : Contents S) (dead : List Bool) → stored_of new ≡ stored_of old → new.marks ≡ old.marks → IsFitting new.index dead → IsFit old dead → IsFit new dead
-fit_same {S} old new dead stored marks fits fit = record {
+pub fit_same : (m : Meaning) {S : Type 0} (Stands : S → List ℕ → Type 0) (old new : Contents S) (dead : List Bool) → stored_of new ≡ stored_of old → new.marks ≡ old.marks → IsFitting new.index dead
+    → ((o : ℕ) → flag_of new.index.dropped o ≡ true → flag_of old.index.dropped o ≡ true) → IsFit m Stands old dead → IsFit m Stands new dead
+fit_same m {S} Stands old new dead stored marks fits fewer fit = record {
   instances = λ s there. fit.instances s (subst (λ (l : List (Stored S)). Contains l s) stored there);
   marks = λ b there. fit.marks b (subst (λ (l : List Binding). Contains l b) marks there);
   index = fits;
+  spared = spared_fewer m Stands old.index.dropped new.index.dropped (stored_of new) fewer (λ s there. fit.spared s (subst (λ (l : List (Stored S)). Contains l s) stored there));
 }
 
 pub marks_push : (marks : List Binding) (b : Binding) → AreMarksAfter b marks (marks ++ b ∷ [])
@@ -97,6 +100,16 @@ marks_push marks b t = (
   (λ h. elim (Contains-push_cases marks b t h) [ inl before ↦ inl before | inr is ↦ inr (sym is) ]),
   (λ h. elim h [ inl before ↦ Contains-append_left marks (b ∷ []) t before | inr is ↦ subst (λ (x : Binding). Contains (marks ++ b ∷ []) x) (sym is) (Contains-push marks b) ]),
 )
+
+-- what stays of the placed moves isn't cut
+pub stay_alive : (m : Meaning) {S : Type 0} (Stands : S → List ℕ → Type 0) (letter : ℕ) (b : Binding) (dead : List Bool) (marks : List Binding) (asks : ℕ → Bool) (monitors : List (Option (Stored S)))
+    (old new : Contents S) (moves sorted placed : List (Move S)) → AreMovesOf m Stands letter b dead marks asks monitors moves → IsPermutation moves sorted → ArePlacedOf old new sorted sorted placed
+    → StayAlive m Stands dead placed
+stay_alive m {S} Stands letter b dead marks asks monitors old new moves sorted placed all order p move there stays =
+    let (first, within, from, missed) = p.each move there in
+    let (k, visited, base) = move_base m Stands letter b dead marks monitors asks moves all first (Contains-permutation sorted moves first (IsPermutation-sym moves sorted order) within) in
+    subst (λ (x : Stored S). IsAliveState m Stands x.state (dead_mask_of dead x.instance)) (sym from.monitor)
+    (subst (λ (t : Binding). IsAliveState m Stands first.monitor.state (dead_mask_of dead t)) (sym base.moved.advanced.instance) (base.moved.advanced.alive (sym from.stays ∙ stays)))
 
 -- in another order
 pub apart_permuted : {S : Type 0} (xs ys : List (Move S)) → IsPermutation xs ys → AreApart xs → AreApart ys

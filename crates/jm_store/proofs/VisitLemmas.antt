@@ -1,14 +1,13 @@
 -- The slots that an event reads.
-use Rattle.std.proofs.Common.{◌≡◌, ◌≢◌, ℕ, zero, suc, ◌+◌, ◌<◌, ◌≤◌, ◌==◌, ◌⊎◌, inl, inr, Bool, true, false, cond, ◌&&◌, ◌||◌, not, List, [], ◌∷◌, ◌++◌, length, take, map, get_or, refl, sym, ap, ◌∙◌, subst, append_assoc, append-nil, arith}
-use Rattle.std.specs.Prelude.{Option, Some, None, Contains, AllPairs, filter, count_by, slice_set, bit_and, IsTrue}
+use Rattle.std.proofs.Common.{◌≡◌, ◌≢◌, ℕ, zero, suc, ◌+◌, ◌<◌, ◌≤◌, ◌==◌, ◌⊎◌, inl, inr, Bool, true, false, cond, ◌&&◌, ◌||◌, not, List, [], ◌∷◌, ◌++◌, length, take, get_or, refl, sym, ap, ◌∙◌, subst, append_assoc, append-nil, arith}
+use Rattle.std.specs.Prelude.{Option, Some, None, Contains, AllPairs, filter, count_by, slice_set, bit_and}
 use Rattle.std.specs.List.{cons_option}
-use Rattle.std.proofs.lemmas.Bool.{and_parts, and_from, eqb-true, eq-eqb, both_ways, cases_eq, cases_Bool}
+use Rattle.std.proofs.lemmas.Bool.{and_parts, and_from, eqb-true, eq-eqb, cases_Bool}
 use Rattle.std.proofs.lemmas.List.{take_more, length-append, get_or-set_other}
 use Rattle.std.proofs.lemmas.List.Elements.{Contains-append_left, Contains-append_right, Contains-append_cases}
 use Rattle.std.proofs.lemmas.List.Kept.{AllPairs-filter}
 use Rattle.std.proofs.lemmas.List.Sums.{sum_by-cons}
 use Rattle.std.proofs.lemmas.Nat.Bits.{bit_at_and, same_from_bits}
-use Rattle.std.proofs.lemmas.Option.{same_Some}
 use Rattle.jm_model.specs.Bindings.{is_below, is_compatible, mask_of}
 use Rattle.jm_model.specs.declared.binding.Binding.{Binding}
 use Rattle.jm_semantics.proofs.ListLemmas.{Contains-cons_cases, Contains-head, Contains-filter, Contains-from_filter, Contains-map}
@@ -18,10 +17,10 @@ use Rattle.jm_index.proofs.ReadLemmas.{Contains-none, Contains-cons}
 use Rattle.jm_monitors.specs.declared.stored.Stored.{Stored}
 use Rattle.jm_store.specs.declared.monitors.Slot.{Slot}
 use Rattle.jm_store.specs.Slots.{monitors_of, monitor_at, stored_in}
-use Rattle.jm_store.specs.Moves.{is_asked, asks_by, ends_all, visited, AreVisited, IsCompatibleAt}
+use Rattle.jm_store.specs.Moves.{asks_by, ends_all, visited, AreVisited, IsCompatibleAt}
 use Rattle.jm_store.specs.Housing.{IsHoused, IsSettled, AreDomains}
 use Rattle.jm_store.proofs.HousingLemmas.{same_one, pair_by_slot}
-use Rattle.jm_store.proofs.GivenLemmas.{Contains-from_map, pairs_head, pairs_tail, pairs_none, pairs_append, pairs_map, pairs_weaker}
+use Rattle.jm_store.proofs.GivenLemmas.{Contains-from_map, pairs_head, pairs_tail, pairs_none, pairs_append, pairs_map}
 
 -- one set of parameters more
 pub visited_more : (asks : ℕ → Bool) (b : Binding) (pairs : List Pair) (ds : List ℕ) (d : ℕ) → visited asks b pairs (ds ++ d ∷ []) ≡ visited asks b pairs ds ++ cond (asks d) (asked_slots d b pairs) []

@@ -5,14 +5,15 @@ use Rattle.jm_model.specs.Meanings.{Meaning}
 use Rattle.jm_model.specs.declared.binding.Binding.{Binding}
 use Rattle.jm_semantics.specs.Traces.{ParametricEvent}
 use Rattle.jm_semantics.specs.Answers.{IsAnswer}
+use Rattle.jm_marks.specs.Marks.{dead_mask_of}
 use Rattle.jm_index.specs.Index.{Pair, PairList, IsFitting, AreBelow}
 use Rattle.jm_monitors.specs.declared.stored.Stored.{Stored}
 use Rattle.jm_monitors.specs.Stores.{IsStoreOf, HasInstance}
-use Rattle.jm_monitors.specs.Steps.{AreMarksAfter, NoneCutAbove}
+use Rattle.jm_monitors.specs.Steps.{AreMarksAfter, NoneCutAbove, IsAliveState}
 use Rattle.jm_store.specs.declared.moves.Move.{Move}
 use Rattle.jm_store.specs.declared.moves.Plan.{Plan}
 use Rattle.jm_store.specs.Slots.{monitor_at, stored_in}
-use Rattle.jm_store.specs.Moves.{after_moves, AreApart, AreEnding}
+use Rattle.jm_store.specs.Moves.{after_moves, AreApart, AreEnding, IsSwept}
 
 -- The monitors by slot, the marks, whether a plan is open, and the index, which has a pair for each monitor. What the
 -- store is to have where a plan is open isn't among the monitors. Last, for each set of parameters letters that end the monitors
@@ -36,12 +37,27 @@ with_ending store ending = record { monitors = store.monitors; marks = store.mar
 abbrev pub IsEnded : Meaning → {S : Type 0} → (S → List ℕ → Type 0) → Contents S → Type 0
 IsEnded m Stands store = AreEnding m Stands store.ending (stored_of store)
 
--- the store fits a table of objects, given by its flags of dead objects: the objects of its bindings and marks stand in
--- the table, and its index fits it
-pub record IsFit {S : Type 0} (store : Contents S) (dead : List Bool) : Type 0 where
+-- none of the monitors is cut by the death of these objects, given by their flags
+abbrev pub AreSpared : Meaning → {S : Type 0} → (S → List ℕ → Type 0) → List Bool → List (Stored S) → Type 0
+AreSpared m {S} Stands dead stored = (s : Stored S) → Contains stored s → IsAliveState m Stands s.state (dead_mask_of dead s.instance)
+
+-- The store fits a table of objects, given by its flags of dead objects: the objects of its bindings and marks stand in
+-- the table, and its index fits it. None of its monitors is cut by the objects that the index dropped: what is cut by the
+-- table's dead ones binds one that died since.
+pub record IsFit (m : Meaning) {S : Type 0} (Stands : S → List ℕ → Type 0) (store : Contents S) (dead : List Bool) : Type 0 where
   pub instances : (s : Stored S) → Contains (stored_of store) s → AreBelow (length dead) s.instance
   pub marks : (b : Binding) → Contains store.marks b → AreBelow (length dead) b
   pub index : IsFitting store.index dead
+  pub spared : AreSpared m Stands store.index.dropped (stored_of store)
+
+-- Some monitors of the store were dropped that the dead objects cut, and nothing else but their pairs.
+pub record IsCutDown (m : Meaning) {S : Type 0} (Stands : S → List ℕ → Type 0) (dead : List Bool) (old new : Contents S) : Type 0 where
+  pub closed : new.is_open ≡ false
+  pub each : (k : ℕ) → (monitor_at new.monitors k ≡ monitor_at old.monitors k) ⊎ IsSwept m Stands dead (monitor_at old.monitors k) (monitor_at new.monitors k)
+  pub size : length new.monitors ≡ length old.monitors
+  pub marks : new.marks ≡ old.marks
+  pub ending : new.ending ≡ old.ending
+  pub index : (flags : List Bool) → IsFitting old.index flags → IsFitting new.index flags
 
 -- the pair's slot has a monitor, of its binding
 abbrev pub IsFilled : {S : Type 0} → Contents S → Pair → Type 0

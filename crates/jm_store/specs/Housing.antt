@@ -1,7 +1,6 @@
 -- How a store lies in memory.
-use Rattle.std.specs.Prelude.{ℕ, ◌≡◌, ◌≢◌, ◌≤◌, Bool, true, false, List, Some, Contains, AllPairs, ◌⊎◌}
+use Rattle.std.specs.Prelude.{ℕ, ◌≡◌, ◌≢◌, ◌≤◌, Bool, true, false, List, Some, Contains, AllPairs}
 use Rattle.jm_model.specs.Bindings.{mask_of}
-use Rattle.jm_model.specs.declared.binding.Binding.{Binding}
 use Rattle.jm_index.specs.Index.{Pair}
 use Rattle.jm_monitors.specs.declared.stored.Stored.{Stored}
 use Rattle.jm_store.specs.declared.monitors.Slot.{Slot}

@@ -90,8 +90,9 @@ impl Rows {
         if self.list.len() < before {
             self.dropped = self.dropped.wrapping_add(1);
         }
-        let marks = self.marks.to_list()?;
-        let same = marks.as_slice() == self.list.as_slice();
+        let marks = in_order(self.marks.to_list()?);
+        let list = in_order(self.list.as_slice().to_vec(*self.list.allocator())?);
+        let same = marks.as_slice() == list.as_slice();
         self.see(same);
         Ok(())
     }
@@ -106,6 +107,12 @@ impl Rows {
         let often = self.covered >= 100 && self.uncovered >= 100 && self.dropped >= 3;
         Ok(format!(in alloc; "{} differ, often: {often}", self.differ)?)
     }
+}
+
+/// The bindings in their order: a sweep keeps none.
+fn in_order(mut list: Vec<Binding>) -> Vec<Binding> {
+    list.sort_unstable_by(|a, b| a.cmp(b));
+    list
 }
 
 fn contains(list: &[Binding], binding: &Binding) -> bool {

@@ -7,7 +7,7 @@ use Rattle.jm_core.proofs.firing.fire.Goals as goal
 pub returns-in-Ok-clause-fits : goal.returns-in-Ok-clause-fits
 returns-in-Ok-clause-fits g c =
     let dead = c.args.objects.now in
-    c.commit-answer.ensures.fits dead c.in-Ok.ensures.fits (subst (λ (b : Binding). AreBelow (length dead) b) (sym c.in-Ok.ensures.binding) c.requires.there)
+    c.commit-answer.ensures.fits c.args.rules.now dead c.in-Ok.ensures.fits (subst (λ (b : Binding). AreBelow (length dead) b) (sym c.in-Ok.ensures.binding) c.requires.there) c.in-Ok.ensures.stay
 
 pub returns-in-Ok-clause-works : goal.returns-in-Ok-clause-works
 returns-in-Ok-clause-works g c =

@@ -1,4 +1,4 @@
-use Rattle.std.proofs.Common.{◌≡◌, ◌<◌, length, sym, arith}
+use Rattle.std.proofs.Common.{◌<◌, length, sym, arith}
 use Rattle.std.proofs.lemmas.Grind.{common_steps, get_or_default_zero}
 use Rattle.jm_store.proofs.EndingLemmas.{kept_fewer, kept_among}
 use Rattle.jm_store.proofs.ending.end_fewer.Goals as goal

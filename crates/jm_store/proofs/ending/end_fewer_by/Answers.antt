@@ -1,4 +1,3 @@
-use Rattle.std.proofs.Common.{sym}
 use Rattle.std.proofs.lemmas.List.{take_all}
 use Rattle.jm_index.proofs.ReadLemmas.{Contains-none}
 use Rattle.jm_store.proofs.EndingLemmas.{fewer-refl, fewer-trans, ending_one, ending_more}

@@ -1,4 +1,4 @@
-use Rattle.std.proofs.Common.{◌≡◌, true, false, refl, sym, subst, ap}
+use Rattle.std.proofs.Common.{sym, subst}
 use Rattle.std.specs.Prelude.{ℕ}
 use Rattle.std.proofs.lemmas.Bool.{both_ways}
 use Rattle.jm_model.specs.Meanings.{IsCutWord}

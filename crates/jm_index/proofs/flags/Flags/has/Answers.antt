@@ -1,4 +1,4 @@
-use Rattle.std.proofs.Common.{◌≡◌, ◌<◌, ◌≤◌, ◌*◌, ◌/◌, length, arith, sym}
+use Rattle.std.proofs.Common.{◌<◌, ◌≤◌, ◌/◌, length, arith}
 use Rattle.std.proofs.lemmas.Grind.{common_steps}
 use Rattle.jm_index.proofs.FlagLemmas.{length-all_flags}
 use Rattle.jm_index.proofs.flags.Flags.has.Goals as goal

@@ -1,4 +1,4 @@
-use Rattle.std.proofs.Common.{◌≡◌, ◌<◌, ◌≤◌, length, arith, sym}
+use Rattle.std.proofs.Common.{◌<◌, ◌≤◌, length, arith}
 use Rattle.std.proofs.lemmas.Grind.{common_steps}
 use Rattle.jm_index.proofs.FlagLemmas.{dead_read, dead_missed}
 use Rattle.jm_index.proofs.flags.Flags.has_dead.Goals as goal

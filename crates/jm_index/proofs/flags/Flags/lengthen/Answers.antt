@@ -1,4 +1,4 @@
-use Rattle.std.proofs.Common.{◌≡◌, ◌<◌, ◌≤◌, length, arith, sym}
+use Rattle.std.proofs.Common.{arith}
 use Rattle.jm_index.proofs.FlagLemmas.{flag_lengthened, length_lengthened}
 use Rattle.jm_index.proofs.flags.Flags.lengthen.Goals as goal
 

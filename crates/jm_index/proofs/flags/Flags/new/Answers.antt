@@ -1,4 +1,3 @@
-use Rattle.std.proofs.Common.{◌≡◌, [], length}
 use Rattle.jm_index.proofs.FlagLemmas.{no_flags}
 use Rattle.jm_index.proofs.flags.Flags.new.Goals as goal
 

@@ -1,4 +1,4 @@
-use Rattle.std.proofs.Common.{List, subst, ◌≡◌, ◌∙◌, arith, inl, inr}
+use Rattle.std.proofs.Common.{List, subst, ◌∙◌, inl, inr}
 use Rattle.std.specs.Prelude.{Contains}
 use Rattle.jm_index.specs.Index.{Pair}
 use Rattle.jm_index.proofs.IndexLemmas.{none_more, none_fewer}

@@ -1,7 +1,4 @@
-use Rattle.std.proofs.Common.{◌≡◌, true, false, sym, ◌∙◌, ap, refl, subst}
-use Rattle.std.specs.Prelude.{List, Contains, Some, None}
-use Rattle.std.proofs.lemmas.Bool.{false≢true}
-use Rattle.jm_index.specs.Index.{Pair}
+use Rattle.std.proofs.Common.{sym}
 use Rattle.jm_index.proofs.IndexLemmas.{list_distinct, list_found, list_missing}
 use Rattle.jm_index.proofs.index.Index.has.Goals as goal
 

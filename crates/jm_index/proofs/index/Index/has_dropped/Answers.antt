@@ -1,6 +1,6 @@
-use Rattle.std.proofs.Common.{◌≡◌, true, false, sym, ◌∙◌, subst}
+use Rattle.std.proofs.Common.{sym, subst}
 use Rattle.std.proofs.lemmas.Bool.{both_ways}
-use Rattle.jm_index.specs.Index.{PairList, flag_of, IsKey}
+use Rattle.jm_index.specs.Index.{PairList, IsKey}
 use Rattle.jm_index.specs.Layout.{live_pairs}
 use Rattle.jm_index.proofs.IndexLemmas.{key_flagged}
 use Rattle.jm_index.proofs.index.Index.has_dropped.Goals as goal

@@ -1,6 +1,6 @@
-use Rattle.std.proofs.Common.{◌≡◌, ◌<◌, true, false, length, sym, ◌∙◌, subst, arith}
+use Rattle.std.proofs.Common.{sym, ◌∙◌, subst, arith}
 use Rattle.std.proofs.lemmas.Bool.{both_ways}
-use Rattle.jm_index.specs.Index.{PairList, flag_of, IsKey}
+use Rattle.jm_index.specs.Index.{PairList, IsKey}
 use Rattle.jm_index.specs.Layout.{live_pairs}
 use Rattle.jm_index.proofs.IndexLemmas.{IsIndexed-dropped, key_flagged}
 use Rattle.jm_index.proofs.index.Index.let_go.Goals.{else-has-via-then-has+else-not-is_set, else-has-via-else-has}

@@ -1,9 +1,7 @@
-use Rattle.std.proofs.Common.{◌≡◌, true, false, refl, sym, subst, ap}
+use Rattle.std.proofs.Common.{refl, sym, subst}
 use Rattle.std.specs.Prelude.{ℕ}
 use Rattle.std.proofs.lemmas.Bool.{not-true, not-false, both_ways}
 use Rattle.jm_model.specs.Meanings.{IsCutWord}
-use Rattle.jm_marks.specs.Marks.{dead_mask_of}
-use Rattle.jm_store.specs.Moves.{IsAdvanced}
 use Rattle.jm_store.proofs.event.Event.advance.Goals as goal
 
 pub returns : goal.returns

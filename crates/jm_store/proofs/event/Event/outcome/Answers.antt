@@ -1,5 +1,4 @@
-use Rattle.std.proofs.Common.{◌≡◌, true, false, refl, sym, ◌∙◌}
-use Rattle.std.specs.Prelude.{Contains}
+use Rattle.std.proofs.Common.{sym, ◌∙◌}
 use Rattle.std.proofs.lemmas.Bool.{both_ways}
 use Rattle.jm_store.proofs.EventLemmas.{left_known, left_uncovered, left_lost, moved_above}
 use Rattle.jm_store.proofs.MoveLemmas.{join_above}

@@ -1,6 +1,5 @@
-use Rattle.std.proofs.Common.{◌≡◌, sym, ap, ◌∙◌, append-nil}
+use Rattle.std.proofs.Common.{◌∙◌, append-nil}
 use Rattle.std.specs.Prelude.{List}
-use Rattle.jm_monitors.specs.declared.stored.Stored.{Stored}
 use Rattle.jm_store.specs.declared.monitors.Slot.{Slot}
 use Rattle.jm_store.specs.declared.monitors.Slot.TheVariants.{Planned}
 use Rattle.jm_store.specs.Slots.{monitors_of, stored_in}

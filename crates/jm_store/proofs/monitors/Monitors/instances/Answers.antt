@@ -1,4 +1,4 @@
-use Rattle.std.proofs.Common.{◌≡◌, ◌++◌, ◌∷◌, [], List, map, sym, ap, ◌∙◌}
+use Rattle.std.proofs.Common.{◌++◌, ◌∷◌, [], List, map, sym, ap, ◌∙◌}
 use Rattle.jm_model.specs.declared.binding.Binding.{Binding}
 use Rattle.jm_monitors.specs.declared.stored.Stored.{Stored}
 use Rattle.std.proofs.lemmas.List.{map_push}

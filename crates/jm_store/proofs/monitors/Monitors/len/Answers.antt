@@ -1,4 +1,4 @@
-use Rattle.std.proofs.Common.{◌≡◌, sym, ap, ◌∙◌, length, arith}
+use Rattle.std.proofs.Common.{sym, ap, ◌∙◌, length, arith}
 use Rattle.jm_store.proofs.SlotLemmas.{counted_taken, stored_other}
 use Rattle.jm_store.proofs.monitors.Monitors.len.Goals as goal
 use Rattle.jm_store.proofs.monitors.Monitors.len.Goals.{in-Taken, in_default}

@@ -1,4 +1,4 @@
-use Rattle.std.proofs.Common.{◌≡◌, List, ◌∙◌, subst}
+use Rattle.std.proofs.Common.{List, ◌∙◌, subst}
 use Rattle.std.proofs.lemmas.List.{take_all}
 use Rattle.jm_store.specs.declared.moves.Move.{Move}
 use Rattle.jm_store.proofs.RestLemmas.{NoneStays, none_stays_more}

@@ -1,5 +1,4 @@
-use Rattle.std.proofs.Common.{◌≡◌, take, false}
-use Rattle.std.specs.Prelude.{Contains}
+use Rattle.std.proofs.Common.{take}
 use Rattle.jm_store.proofs.RestLemmas.{NoneStays}
 use Rattle.jm_store.proofs.moves.Plan.only_drops.Given as goal
 

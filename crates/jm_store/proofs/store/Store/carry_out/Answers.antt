@@ -1,7 +1,4 @@
-use Rattle.std.proofs.Common.{◌≡◌, Bool, List, refl, sym, ap, ◌∙◌, subst}
-use Rattle.std.specs.Prelude.{Option, Some, Contains, slice_set, cond, None}
 use Rattle.std.proofs.lemmas.List.{map-set}
-use Rattle.jm_index.specs.Index.{Pair}
 use Rattle.jm_store.specs.Slots.{monitor_in}
 use Rattle.jm_store.proofs.KeptLemmas.{kept_put, kept_gone}
 use Rattle.jm_store.proofs.CommitLemmas.{housed_within}

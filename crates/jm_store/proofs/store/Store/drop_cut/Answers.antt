@@ -1,8 +1,3 @@
-use Rattle.std.proofs.Common.{◌≡◌, List, refl, sym, ap, ◌∙◌, subst}
-use Rattle.std.specs.Prelude.{Some, None}
-use Rattle.jm_model.specs.declared.binding.Binding.{Binding}
-use Rattle.jm_store.specs.Slots.{monitor_at, monitors_of}
-use Rattle.jm_index.specs.Index.{without}
 use Rattle.jm_store.proofs.KeptLemmas.{kept_dropped, freed_other, freed_here}
 use Rattle.jm_store.proofs.store.Store.drop_cut.Goals as goal
 

@@ -1,13 +1,11 @@
-use Rattle.std.proofs.Common.{◌≡◌, ℕ, List, refl, sym, ap, ◌∙◌, subst}
+use Rattle.std.proofs.Common.{List, refl, ap, subst}
 use Rattle.std.specs.Prelude.{Contains}
 use Rattle.std.proofs.lemmas.Bool.{both_ways}
 use Rattle.jm_index.specs.Index.{Pair}
-use Rattle.jm_store.specs.declared.monitors.Slot.TheVariants.{Free}
-use Rattle.jm_store.specs.Slots.{monitor_in, slot_at}
+use Rattle.jm_store.specs.Slots.{monitor_in}
 use Rattle.jm_store.proofs.SlotLemmas.{stored_in-planned}
 use Rattle.jm_store.proofs.HousingLemmas.{from_without, emptied_monitors}
 use Rattle.jm_store.proofs.KeptLemmas.{kept_taken_back, filled_unplanned}
-use Rattle.jm_index.proofs.IndexLemmas.{without_absent}
 use Rattle.jm_store.proofs.store.Store.free.Goals as goal
 
 pub invariant_of-self : goal.invariant_of-self

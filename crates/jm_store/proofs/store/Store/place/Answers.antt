@@ -1,7 +1,5 @@
-use Rattle.std.proofs.Common.{◌≡◌, ℕ, List, refl, sym, ap, ◌∙◌, subst, inl, inr}
+use Rattle.std.proofs.Common.{ℕ, refl, subst}
 use Rattle.std.specs.Prelude.{Contains}
-use Rattle.jm_index.specs.Index.{Pair}
-use Rattle.jm_store.specs.declared.monitors.Slot.{Slot}
 use Rattle.jm_store.proofs.HousingLemmas.{reserved_apart, reserved_monitors, released_monitors}
 use Rattle.jm_store.proofs.KeptLemmas.{kept_planned, kept_released, kept_listed, released_stored, reserved_none}
 use Rattle.jm_store.proofs.store.Store.place.Goals as goal

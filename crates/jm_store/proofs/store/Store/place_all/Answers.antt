@@ -1,10 +1,6 @@
-use Rattle.std.proofs.Common.{◌≡◌, ◌++◌, ◌∷◌, [], ◌+◌, ◌≤◌, ◌<◌, ℕ, List, inl, inr, length, refl, sym, ap, ◌∙◌, subst, append-nil, arith}
-use Rattle.std.specs.Prelude.{Contains}
+use Rattle.std.proofs.Common.{◌≡◌, ◌∷◌, [], inl, inr, length, refl, sym, ap, ◌∙◌, append-nil, arith}
 use Rattle.std.proofs.lemmas.List.{length_push}
 use Rattle.std.proofs.lemmas.Grind.{common_steps}
-use Rattle.jm_index.specs.Index.{Pair}
-use Rattle.jm_store.specs.declared.moves.Move.{Move}
-use Rattle.jm_store.specs.Contents.{ArePlaced, ArePlacedOf, IsPlannedBy}
 use Rattle.jm_store.proofs.PlanLemmas.{filled_same}
 use Rattle.jm_store.proofs.PlacingLemmas.{placed_none, placed_next, step_split, split_among, all_placed}
 use Rattle.jm_store.proofs.store.Store.place_all.Goals as goal

@@ -1,6 +1,6 @@
-use Rattle.std.proofs.Common.{◌≡◌, ◌++◌, ◌+◌, ◌≤◌, ℕ, List, length, true}
-use Rattle.std.specs.Prelude.{Bool, Contains}
-use Rattle.jm_index.specs.Index.{Pair, IsFitting}
+use Rattle.std.proofs.Common.{◌≡◌, ◌++◌, ℕ, List, length, true}
+use Rattle.std.specs.Prelude.{Bool}
+use Rattle.jm_index.specs.Index.{IsFitting}
 use Rattle.jm_store.specs.declared.moves.Move.{Move}
 use Rattle.jm_store.specs.Slots.{monitor_at}
 use Rattle.jm_store.specs.Moves.{LieWithin}

@@ -3,11 +3,13 @@ use Rattle.std.specs.Prelude.{Contains, IsTrue}
 use Rattle.jm_model.specs.declared.binding.Binding.{Binding}
 use Rattle.std.proofs.lemmas.List.Sorted.{Contains-permutation, IsPermutation-sym}
 use Rattle.jm_monitors.proofs.BaseLemmas.{object-among}
+use Rattle.jm_store.specs.declared.moves.Move.{Move}
 use Rattle.jm_store.specs.Moves.{AreMovesOf, asks_by}
 use Rattle.jm_store.specs.Contents.{stored_of}
 use Rattle.jm_store.proofs.FitLemmas.{fit_ending}
 use Rattle.jm_store.proofs.EndingLemmas.{fewer-refl}
-use Rattle.jm_store.proofs.PlanningLemmas.{apart_moves, apart_permuted, leads_moves, moves_within, fit_same, sorted_distinct, plan_works, plan_for_ending, may_reach}
+use Rattle.jm_store.proofs.PlanningLemmas.{apart_moves, apart_permuted, leads_moves, moves_within, fit_same, stay_alive, sorted_distinct, plan_works, plan_for_ending, may_reach}
+use Rattle.jm_store.proofs.SparedLemmas.{opened_fewer}
 use Rattle.jm_store.proofs.OrderLemmas.{strictly}
 use Rattle.jm_store.proofs.store.Store.plan_in.Goals as goal
 
@@ -34,10 +36,11 @@ returns-in_err-moves-2-clause-fits g c =
     let m = g.M.Monitor.meaning (g.M.Monitor.definition c.args.rules.now) in
     let Stands = g.M.Monitor.StandsFor c.args.rules.now in
     let opened = c.in_err-moves-2.ensures in
-    fit_same c.args.self.now c.open_plan.new.self c.args.objects.now opened.stored opened.marks
-    (opened.fits c.args.objects.now c.requires.fits.index
-    (λ move there. moves_within m Stands _ _ _ _ _ _ _ c.in_ok-moves.ensures.moves (length c.args.objects.now) c.requires.fits.instances c.requires.there move
-    (Contains-permutation _ _ move (IsPermutation-sym _ _ c.arrange.ensures.same) there))) c.requires.fits
+    let within = λ (move : Move g.row.M-State.Denot) (there : Contains c.arrange.new.moves.items move).
+    moves_within m Stands _ _ _ _ _ _ _ c.in_ok-moves.ensures.moves (length c.args.objects.now) c.requires.fits.instances c.requires.there move
+    (Contains-permutation _ _ move (IsPermutation-sym _ _ c.arrange.ensures.same) there) in
+    fit_same m Stands c.args.self.now c.open_plan.new.self c.args.objects.now opened.stored opened.marks (opened.fits c.args.objects.now c.requires.fits.index within)
+    (opened_fewer c.args.self.now.index c.open_plan.new.self.index c.args.objects.now c.arrange.new.moves.items c.requires.fits.index within opened.fits) c.requires.fits
 
 pub returns-in_err-moves-2-clause-fewer : goal.returns-in_err-moves-2-clause-fewer
 returns-in_err-moves-2-clause-fewer g c = rw c.in_err-moves-2.ensures.ending (fewer-refl _)
@@ -68,12 +71,19 @@ returns-clause-fits g c =
     let m = g.M.Monitor.meaning (g.M.Monitor.definition c.args.rules.now) in
     let Stands = g.M.Monitor.StandsFor c.args.rules.now in
     let opened = c.in_ok-moves-2.ensures in
+    let within = λ (move : Move g.row.M-State.Denot) (there : Contains c.arrange.new.moves.items move).
+    moves_within m Stands _ _ _ _ _ _ _ c.in_ok-moves.ensures.moves (length c.args.objects.now) c.requires.fits.instances c.requires.there move
+    (Contains-permutation _ _ move (IsPermutation-sym _ _ c.arrange.ensures.same) there) in
     rw c.end_fewer.ensures.same
-    (fit_ending c.open_plan.new.self _ c.args.objects.now
-    (fit_same c.args.self.now c.open_plan.new.self c.args.objects.now opened.stored opened.marks
-    (opened.fits c.args.objects.now c.requires.fits.index
-    (λ move there. moves_within m Stands _ _ _ _ _ _ _ c.in_ok-moves.ensures.moves (length c.args.objects.now) c.requires.fits.instances c.requires.there move
-    (Contains-permutation _ _ move (IsPermutation-sym _ _ c.arrange.ensures.same) there))) c.requires.fits))
+    (fit_ending m Stands c.open_plan.new.self _ c.args.objects.now
+    (fit_same m Stands c.args.self.now c.open_plan.new.self c.args.objects.now opened.stored opened.marks (opened.fits c.args.objects.now c.requires.fits.index within)
+    (opened_fewer c.args.self.now.index c.open_plan.new.self.index c.args.objects.now c.arrange.new.moves.items c.requires.fits.index within opened.fits) c.requires.fits))
+
+pub returns-clause-stay : goal.returns-clause-stay
+returns-clause-stay g c =
+    let m = g.M.Monitor.meaning (g.M.Monitor.definition c.args.rules.now) in
+    let Stands = g.M.Monitor.StandsFor c.args.rules.now in
+    stay_alive m Stands _ _ _ _ _ _ c.args.self.now c.open_plan.new.self _ _ _ c.in_ok-moves.ensures.moves c.arrange.ensures.same c.in_ok-moves-2.ensures.placed
 
 pub returns-clause-works : goal.returns-clause-works
 returns-clause-works g c =

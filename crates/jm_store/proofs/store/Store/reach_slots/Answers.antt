@@ -1,6 +1,5 @@
-use Rattle.std.proofs.Common.{◌≡◌, ◌++◌, ◌∷◌, [], ◌+◌, ◌≤◌, ℕ, List, take, sym, ap, ◌∙◌, subst, append_assoc, append-nil, arith}
+use Rattle.std.proofs.Common.{arith}
 use Rattle.std.proofs.lemmas.List.{take_all}
-use Rattle.jm_store.specs.Moves.{AreGiven, IsOutcomeAt}
 use Rattle.jm_store.proofs.GivenLemmas.{pushed_next}
 use Rattle.jm_store.proofs.store.Store.reach_slots.Goals as goal
 

@@ -1,4 +1,4 @@
-use Rattle.std.proofs.Common.{◌≡◌, ◌++◌, ◌+◌, ◌≤◌, ℕ, take, List}
+use Rattle.std.proofs.Common.{◌++◌, ◌+◌, ◌≤◌, ℕ, take, List}
 use Rattle.jm_store.specs.Moves.{AreGiven, IsOutcomeAt}
 use Rattle.jm_store.proofs.store.Store.reach_slots.Given as goal
 

@@ -1,9 +1,5 @@
-use Rattle.std.proofs.Common.{◌≡◌, ◌∙◌, ◌<◌, ◌≤◌, ℕ, inl, inr, refl, sym, ap, subst, true}
-use Rattle.std.specs.Prelude.{List, Bool, Contains, Some, None}
+use Rattle.std.proofs.Common.{◌∙◌, inl, inr, refl, sym}
 use Rattle.std.proofs.lemmas.Option.{same_Some}
-use Rattle.jm_index.specs.Index.{Pair, IsFitting}
-use Rattle.jm_store.specs.Slots.{monitor_at}
-use Rattle.jm_store.specs.Contents.{Contents, stored_of, IsFilled, IsPlannedBy}
 use Rattle.jm_store.proofs.HousingLemmas.{pair_by_slot, pair_by_binding}
 use Rattle.jm_store.proofs.PlanLemmas.{planned_next, planned_none, filled_same, item_among}
 use Rattle.jm_store.proofs.store.Store.take_back.Goals as goal

@@ -1,5 +1,5 @@
-use Rattle.std.proofs.Common.{◌≡◌, ◌⊎◌, ℕ, ◌<◌, take, drop}
-use Rattle.std.specs.Prelude.{List, Bool, Contains, length, true}
+use Rattle.std.proofs.Common.{◌≡◌, ◌⊎◌, ℕ, drop}
+use Rattle.std.specs.Prelude.{List, Bool, Contains, true}
 use Rattle.jm_index.specs.Index.{Pair, IsFitting}
 use Rattle.jm_store.specs.Slots.{monitor_at}
 use Rattle.jm_store.specs.Contents.{stored_of, IsFilled, IsPlannedBy}

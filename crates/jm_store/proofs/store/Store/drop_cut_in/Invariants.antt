@@ -1,0 +1,12 @@
+use Rattle.std.proofs.Common.{ℕ, take}
+use Rattle.std.specs.Prelude.{Contains}
+use Rattle.jm_store.specs.Slots.{monitor_at}
+use Rattle.jm_store.specs.Moves.{IsSwept}
+use Rattle.jm_store.specs.Contents.{IsCutDown}
+use Rattle.jm_store.proofs.store.Store.drop_cut_in.Given as goal
+
+abbrev pub invariant-loop-slot : goal.invariant-loop-slot
+invariant-loop-slot g l = record {
+  down : IsCutDown (g.M.Monitor.meaning (g.M.Monitor.definition l.rules)) (g.M.Monitor.StandsFor l.rules) l.objects l.initial.self l.self;
+  there : (k : ℕ) → Contains (take l.slot-index l.slots) k → IsSwept (g.M.Monitor.meaning (g.M.Monitor.definition l.rules)) (g.M.Monitor.StandsFor l.rules) l.objects (monitor_at l.initial.self.monitors k) (monitor_at l.self.monitors k);
+}

@@ -1,0 +1,79 @@
+//! How a plan is carried out.
+ghost use Rattle.std.specs.Prelude.{◌≡◌, ◌≢◌, ℕ, ◌<◌, ◌≤◌, AllPairs, List, Bool, true, false, Contains, IsTrue, Some, length};
+ghost use Rattle.jm_index.specs.Index.{Pair, AreBelow, IsFitting};
+ghost use Rattle.jm_monitors.specs.Steps.{AreMarksAfter};
+ghost use Rattle.jm_store.specs.Moves.{after_move, pairs_after, StayAlive};
+ghost use Rattle.jm_store.specs.Contents.{monitors_after, IsFit, IsPlanFor};
+
+use super::Store;
+use crate::moves::{Move, Plan};
+use jm_marks::Marks;
+use jm_model::{Binding, Firings, Monitor};
+
+impl<M: Monitor> Store<M> {
+    /// Carries a plan out, and gives its answer twice. It takes no memory.
+    pub fn commit(&mut self, plan: Plan<M::State>) -> (Firings, Firings)
+        requires open { self.old.is_open ≡ true }
+        requires plan { IsPlanFor self.old plan }
+        ensures monitors { self.new.monitors ≡ monitors_after self.old plan }
+        ensures marks { AreMarksAfter plan.binding self.old.marks self.new.marks }
+        ensures closed { self.new.is_open ≡ false }
+        ensures fits { (rules : M) (dead : List Bool)
+            → IsFit (M.meaning (M.definition rules)) (M.StandsFor rules) self.old dead → AreBelow (length dead) plan.binding
+            → StayAlive (M.meaning (M.definition rules)) (M.StandsFor rules) dead plan.moves.items
+            → IsFit (M.meaning (M.definition rules)) (M.StandsFor rules) self.new dead }
+        ensures answer { result.0 ≡ plan.answer }
+        ensures copy { result.1 ≡ plan.answer }
+        ensures ending { self.new.ending ≡ self.old.ending }
+    {
+        let Plan {
+            binding,
+            known,
+            mut moves,
+            answer,
+            copy,
+        } = plan;
+        while let Some(step) = moves.pop() {
+            self.carry_out(step);
+        }
+        add_mark(&mut self.marks, binding, known);
+        self.is_open = false;
+        self.moves = moves;
+        (answer, copy)
+    }
+
+    /// Carries a move out.
+    fn carry_out(&mut self, step: Move<M::State>)
+        requires open { self.old.is_open ≡ true }
+        requires placed { (k : ℕ) → step.slot ≡ Some k → Contains self.old.index.list (record { binding = step.monitor.instance; slot = k }) }
+        ensures open { self.new.is_open ≡ true }
+        ensures monitors { self.new.monitors ≡ after_move step self.old.monitors }
+        ensures marks { self.new.marks ≡ self.old.marks }
+        ensures fits { (dead : List Bool) → IsFitting self.old.index dead → IsFitting self.new.index dead }
+        ensures index { self.new.index.list ≡ pairs_after step self.old.index.list }
+        ensures bindings { AllPairs (λ a b. a.binding ≢ b.binding) self.old.index.list }
+        ensures slots { AllPairs (λ a b. a.slot ≢ b.slot) self.old.index.list }
+        ensures within { (pair : Pair) → Contains self.old.index.list pair → pair.slot < length self.old.monitors }
+        ensures ending { self.new.ending ≡ self.old.ending }
+    {
+        let _monitors = &self.monitors;
+        let Some(slot) = step.slot else { return };
+        if step.stays {
+            self.monitors.put(slot, step.monitor);
+        } else {
+            self.index.remove(&step.monitor.instance);
+            self.monitors.release(slot);
+        }
+    }
+}
+
+/// Adds the binding of an event to the marks, where it isn't known to be one. It takes no memory.
+fn add_mark(marks: &mut Marks, binding: Binding, known: bool)
+    requires room { 1 ≤ marks.old.spare }
+    requires known { IsTrue known → Contains marks.old.list binding }
+    ensures { AreMarksAfter binding marks.old.list marks.new.list }
+{
+    if !known {
+        marks.add(binding);
+    }
+}

@@ -1,0 +1,183 @@
+//! How new instances get their slots, and how these are taken back.
+ghost use Rattle.std.specs.Prelude.{◌≡◌, ◌≢◌, ℕ, AllPairs, List, Bool, [], true, false, Contains, IfOk, OnOk, OnErr, Some, None, length, ◌⊎◌};
+ghost use Rattle.jm_index.specs.Index.{Pair, AreBelow, IsFitting};
+ghost use Rattle.jm_store.specs.Slots.{monitor_at};
+ghost use Rattle.jm_store.specs.Moves.{AreApart, LieWithin};
+ghost use Rattle.jm_store.specs.Contents.{stored_of, IsFilled, IsPlannedBy, IsPlaced, ArePlaced, IsPlacedNext, ArePlacedOf, ArePaired};
+
+use super::Store;
+use crate::moves::{Move, have_slots};
+use jm_model::{Binding, Monitor, NoMemory};
+
+impl<M: Monitor> Store<M> {
+    /// Opens a plan with these moves: new instances get slots. Where memory is wanting they are taken out again, and no
+    /// plan is open.
+    pub(super) fn open_plan(
+        &mut self,
+        moves: Vec<Move<M::State>>,
+    ) -> Result<Vec<Move<M::State>>, NoMemory>
+        requires closed { self.old.is_open ≡ false }
+        requires apart { AreApart moves.items }
+        requires leads { ArePlaced self.old moves.items }
+        ensures stored { stored_of self.new ≡ stored_of self.old }
+        ensures monitors { (k : ℕ) → monitor_at self.new.monitors k ≡ monitor_at self.old.monitors k }
+        ensures marks { self.new.marks ≡ self.old.marks }
+        ensures fits { (dead : List Bool) → IsFitting self.old.index dead → LieWithin (length dead) moves.items → IsFitting self.new.index dead }
+        ensures closed { OnErr result (self.new.is_open ≡ false) }
+        ensures opened { OnOk result (self.new.is_open ≡ true) }
+        ensures placed { IfOk result (λ placed. ArePlacedOf self.old self.new moves.items moves.items placed.items) }
+        ensures housed { OnOk result (ArePaired self.new) }
+        ensures ending { self.new.ending ≡ self.old.ending }
+    {
+        self.marks.reserve()?;
+        self.is_open = true;
+        if have_slots(&moves) {
+            let _monitors = &self.monitors;
+            return Ok(moves);
+        }
+        let mut placed = Vec::new(*self.domains.allocator());
+        match self.place_all(moves, &mut placed) {
+            Ok(()) => {
+                let _monitors = &self.monitors;
+                Ok(placed)
+            }
+            Err(NoMemory) => {
+                self.take_back(&placed);
+                self.is_open = false;
+                Err(NoMemory)
+            }
+        }
+    }
+
+    /// Gives each new instance a slot.
+    fn place_all(
+        &mut self,
+        mut moves: Vec<Move<M::State>>,
+        placed: &mut Vec<Move<M::State>>,
+    ) -> Result<(), NoMemory>
+        requires open { self.old.is_open ≡ true }
+        requires settled { (pair : Pair) → Contains self.old.index.list pair → IsFilled self.old pair }
+        requires apart { AreApart moves.items }
+        requires leads { ArePlaced self.old moves.items }
+        requires none { placed.old.items ≡ [] }
+        ensures open { self.new.is_open ≡ true }
+        ensures stored { stored_of self.new ≡ stored_of self.old }
+        ensures monitors { (k : ℕ) → monitor_at self.new.monitors k ≡ monitor_at self.old.monitors k }
+        ensures marks { self.new.marks ≡ self.old.marks }
+        ensures fits { (dead : List Bool) → IsFitting self.old.index dead → LieWithin (length dead) moves.items → IsFitting self.new.index dead }
+        ensures leads { ArePlaced self.new placed.new.items }
+        ensures filled { (pair : Pair) → Contains self.new.index.list pair → IsFilled self.new pair ⊎ IsPlannedBy placed.new.items pair }
+        ensures placed { OnOk result (ArePlacedOf self.old self.new moves.items moves.items placed.new.items) }
+        ensures ending { self.new.ending ≡ self.old.ending }
+    {
+        while let Some(step) = moves.pop() {
+            self.place_next(step, placed)?;
+        }
+        Ok(())
+    }
+
+    /// Puts a move at the end of those that have a slot, if it can get one.
+    fn place_next(
+        &mut self,
+        mut step: Move<M::State>,
+        placed: &mut Vec<Move<M::State>>,
+    ) -> Result<(), NoMemory>
+        requires { self.old.is_open ≡ true }
+        ensures open { self.new.is_open ≡ true }
+        ensures stored { stored_of self.new ≡ stored_of self.old }
+        ensures monitors { (k : ℕ) → monitor_at self.new.monitors k ≡ monitor_at self.old.monitors k }
+        ensures marks { self.new.marks ≡ self.old.marks }
+        ensures fits { (dead : List Bool) → IsFitting self.old.index dead → AreBelow (length dead) step.monitor.instance → IsFitting self.new.index dead }
+        ensures next { OnOk result (IsPlacedNext self.old self.new step placed.old.items placed.new.items) }
+        ensures same { OnErr result (self.new.index.list ≡ self.old.index.list) }
+        ensures none { OnErr result (placed.new.items ≡ placed.old.items) }
+        ensures ending { self.new.ending ≡ self.old.ending }
+    {
+        placed.reserve(1)?;
+        if step.slot.is_none() {
+            step.slot = self.place(&step.monitor.instance)?;
+        }
+        placed.push_reserved(step);
+        Ok(())
+    }
+
+    /// A planned slot for an instance, unless the index has the instance already.
+    fn place(&mut self, instance: &Binding) -> Result<Option<usize>, NoMemory>
+        requires open { self.old.is_open ≡ true }
+        ensures open { self.new.is_open ≡ true }
+        ensures stored { stored_of self.new ≡ stored_of self.old }
+        ensures monitors { (k : ℕ) → monitor_at self.new.monitors k ≡ monitor_at self.old.monitors k }
+        ensures marks { self.new.marks ≡ self.old.marks }
+        ensures fits { (dead : List Bool) → IsFitting self.old.index dead → AreBelow (length dead) instance.now → IsFitting self.new.index dead }
+        ensures placed { IfOk result (λ slot. IsPlaced self.old self.new instance.now slot) }
+        ensures same { OnErr result (self.new.index.list ≡ self.old.index.list) }
+        ensures ending { self.new.ending ≡ self.old.ending }
+    {
+        if self.index.has(instance) {
+            return Ok(None);
+        }
+        Self::list_domain(&mut self.domains, instance.mask())?;
+        let slot = self.monitors.reserve()?;
+        match self.index.add(*instance, slot) {
+            Ok(()) => Ok(Some(slot)),
+            Err(NoMemory) => {
+                self.monitors.release(slot);
+                Err(NoMemory)
+            }
+        }
+    }
+
+    /// Adds a set of parameters to the list, where it isn't there.
+    fn list_domain(domains: &mut Vec<u8>, domain: u8) -> Result<(), NoMemory>
+        requires { AllPairs (λ a b. a ≢ b) domains.old.items }
+        ensures distinct { AllPairs (λ a b. a ≢ b) domains.new.items }
+        ensures kept { (d : ℕ) → Contains domains.old.items d → Contains domains.new.items d }
+        ensures listed { OnOk result (Contains domains.new.items domain) }
+    {
+        if !domains.contains(&domain) {
+            domains.push(domain)?;
+        }
+        Ok(())
+    }
+
+    /// Takes planned instances out again.
+    fn take_back(&mut self, moves: &[Move<M::State>])
+        requires open { self.old.is_open ≡ true }
+        requires placed { ArePlaced self.old moves.now }
+        requires filled { (pair : Pair) → Contains self.old.index.list pair → IsFilled self.old pair ⊎ IsPlannedBy moves.now pair }
+        ensures open { self.new.is_open ≡ true }
+        ensures stored { stored_of self.new ≡ stored_of self.old }
+        ensures monitors { (k : ℕ) → monitor_at self.new.monitors k ≡ monitor_at self.old.monitors k }
+        ensures marks { self.new.marks ≡ self.old.marks }
+        ensures fits { (dead : List Bool) → IsFitting self.old.index dead → IsFitting self.new.index dead }
+        ensures filled { (pair : Pair) → Contains self.new.index.list pair → IsFilled self.new pair }
+        ensures ending { self.new.ending ≡ self.old.ending }
+    {
+        let _monitors = &self.monitors;
+        for step in moves {
+            if let Some(slot) = step.slot {
+                self.free(slot, &step.monitor.instance);
+            }
+        }
+    }
+
+    /// Frees a slot, if it is planned.
+    fn free(&mut self, slot: usize, instance: &Binding)
+        requires open { self.old.is_open ≡ true }
+        requires paired { (pair : Pair) → Contains self.old.index.list pair → pair.slot ≡ slot → pair.binding ≡ instance.now }
+        requires bound { (pair : Pair) → Contains self.old.index.list pair → pair.binding ≡ instance.now → pair.slot ≡ slot }
+        ensures open { self.new.is_open ≡ true }
+        ensures stored { stored_of self.new ≡ stored_of self.old }
+        ensures monitors { (k : ℕ) → monitor_at self.new.monitors k ≡ monitor_at self.old.monitors k }
+        ensures marks { self.new.marks ≡ self.old.marks }
+        ensures fits { (dead : List Bool) → IsFitting self.old.index dead → IsFitting self.new.index dead }
+        ensures within { (pair : Pair) → Contains self.new.index.list pair → Contains self.old.index.list pair }
+        ensures gone { (pair : Pair) → Contains self.new.index.list pair → pair.slot ≡ slot → IsFilled self.new pair }
+        ensures ending { self.new.ending ≡ self.old.ending }
+    {
+        if self.monitors.is_planned(slot) {
+            self.index.remove(instance);
+            self.monitors.release(slot);
+        }
+    }
+}

@@ -1,0 +1,218 @@
+//! How an event is worked out: which monitors it reaches, and what becomes of them.
+ghost use Rattle.std.specs.Prelude.{◌≡◌, ℕ, ◌+◌, ◌<◌, ◌≤◌, ◌↔◌, ◌++◌, List, [], true, false, Contains, IfOk, OnOk, OnErr, IsTrue, Some, length, count_by};
+ghost use Rattle.jm_model.specs.Bindings.{empty, is_compatible};
+ghost use Rattle.jm_semantics.specs.Traces.{ParametricEvent};
+ghost use Rattle.jm_index.specs.Index.{AreBelow, AreLive, IsFitting};
+ghost use Rattle.jm_monitors.specs.Stores.{IsStoreOf};
+ghost use Rattle.jm_monitors.specs.Steps.{IsLiveEvent};
+ghost use Rattle.jm_store.specs.Slots.{monitor_at};
+ghost use Rattle.jm_store.specs.Moves.{AreGiven, IsOutcomeAt, IsPushed, IsCompatibleAt, AreMovesOf, asks_by, EndsFewer, AreEnding, StayAlive, reached_by};
+ghost use Rattle.jm_store.specs.Contents.{stored_of, IsFit, IsPlanFor, IsPlanOf, IsEnded, with_ending};
+
+use super::Store;
+use crate::ending::end_fewer_by;
+use crate::event::Event;
+use crate::moves::{Move, Plan};
+use crate::report::{arrange, report};
+use jm_model::{Binding, Letter, Monitor, NoMemory, Steps};
+use jm_objects::Objects;
+use std::mem;
+use std::sync::ledger::Ledger;
+
+/// A pass has room for so many slots, and for one for each few slots that there are, so that it needn't look at all of them
+/// where few are to be looked at.
+const MANY: usize = 64;
+
+const FEW: usize = 4;
+
+impl<M: Monitor> Store<M> {
+    /// Works out an event, and makes all growths. The contents are as before. Only monitors that are compatible with the
+    /// binding are read, each once.
+    pub fn plan<L: Ledger>(
+        &mut self,
+        rules: &M,
+        objects: &Objects,
+        letter: Letter,
+        binding: &Binding,
+        steps: &mut Steps<L>,
+    ) -> Result<Plan<M::State>, NoMemory>
+        requires closed { self.old.is_open ≡ false }
+        requires fits { IsFit (M.meaning (M.definition rules.now)) (M.StandsFor rules.now) self.old objects.now }
+        requires event { IsLiveEvent (M.meaning (M.definition rules.now)) objects.now letter.0 binding.now }
+        requires there { AreBelow (length objects.now) binding.now }
+        ensures stored { stored_of self.new ≡ stored_of self.old }
+        ensures marks { self.new.marks ≡ self.old.marks }
+        ensures fits { IsFit (M.meaning (M.definition rules.now)) (M.StandsFor rules.now) self.new objects.now }
+        ensures closed { OnErr result (self.new.is_open ≡ false) }
+        ensures opened { OnOk result (self.new.is_open ≡ true) }
+        ensures binding { IfOk result (λ plan. plan.binding ≡ binding.now) }
+        ensures plan { IfOk result (λ plan. IsPlanFor self.new plan) }
+        ensures stay { IfOk result
+            (λ plan. StayAlive (M.meaning (M.definition rules.now)) (M.StandsFor rules.now) objects.now plan.moves.items) }
+        ensures fewer { EndsFewer self.old.ending self.new.ending }
+        ensures works { IfOk result (λ plan. (trace : List ParametricEvent)
+            → IsStoreOf (M.meaning (M.definition rules.now)) (M.StandsFor rules.now) trace objects.now (stored_of self.old) self.old.marks
+            → IsEnded (M.meaning (M.definition rules.now)) (M.StandsFor rules.now) self.old
+            → IsPlanOf (M.meaning (M.definition rules.now)) (M.StandsFor rules.now) trace objects.now letter.0 self.new plan) }
+        ensures steps { steps.new ≤ steps.old + count_by (λ s. is_compatible s.instance binding.now) (stored_of self.old) }
+    {
+        let moves = self.take_moves();
+        let mut slots = self.take_slots();
+        let plan = self.plan_in(rules, objects, letter, binding, steps, &mut slots, moves);
+        self.give_slots(slots);
+        plan
+    }
+
+    /// The same, in this room.
+    fn plan_in<L: Ledger>(
+        &mut self,
+        rules: &M,
+        objects: &Objects,
+        letter: Letter,
+        binding: &Binding,
+        steps: &mut Steps<L>,
+        slots: &mut Vec<usize>,
+        moves: Vec<Move<M::State>>,
+    ) -> Result<Plan<M::State>, NoMemory>
+        requires closed { self.old.is_open ≡ false }
+        requires fits { IsFit (M.meaning (M.definition rules.now)) (M.StandsFor rules.now) self.old objects.now }
+        requires event { IsLiveEvent (M.meaning (M.definition rules.now)) objects.now letter.0 binding.now }
+        requires there { AreBelow (length objects.now) binding.now }
+        requires none { moves.items ≡ [] }
+        ensures stored { stored_of self.new ≡ stored_of self.old }
+        ensures marks { self.new.marks ≡ self.old.marks }
+        ensures fits { IsFit (M.meaning (M.definition rules.now)) (M.StandsFor rules.now) self.new objects.now }
+        ensures closed { OnErr result (self.new.is_open ≡ false) }
+        ensures opened { OnOk result (self.new.is_open ≡ true) }
+        ensures binding { IfOk result (λ plan. plan.binding ≡ binding.now) }
+        ensures plan { IfOk result (λ plan. IsPlanFor self.new plan) }
+        ensures stay { IfOk result
+            (λ plan. StayAlive (M.meaning (M.definition rules.now)) (M.StandsFor rules.now) objects.now plan.moves.items) }
+        ensures fewer { EndsFewer self.old.ending self.new.ending }
+        ensures works { IfOk result (λ plan. (trace : List ParametricEvent)
+            → IsStoreOf (M.meaning (M.definition rules.now)) (M.StandsFor rules.now) trace objects.now (stored_of self.old) self.old.marks
+            → IsEnded (M.meaning (M.definition rules.now)) (M.StandsFor rules.now) self.old
+            → IsPlanOf (M.meaning (M.definition rules.now)) (M.StandsFor rules.now) trace objects.now letter.0 self.new plan) }
+        ensures steps { steps.new ≤ steps.old + count_by (λ s. is_compatible s.instance binding.now) (stored_of self.old) }
+    {
+        slots.clear();
+        slots.reserve(self.monitors.slots.len() / FEW + MANY)?;
+        let known = self.marks.contains(binding);
+        let event = Event {
+            rules,
+            objects,
+            marks: &self.marks,
+            letter,
+            binding,
+            known,
+        };
+        let mut moves = self.reach(&event, slots, moves, steps)?;
+        arrange(&mut moves);
+        let answer = report(*self.domains.allocator(), rules, &moves)?;
+        let copy = answer.copy()?;
+        let moves = self.open_plan(moves)?;
+        self.end_fewer(rules, &moves);
+        Ok(Plan {
+            binding: *binding,
+            known,
+            moves,
+            answer,
+            copy,
+        })
+    }
+
+    /// Takes the room for moves, which is empty then.
+    fn take_moves(&mut self) -> Vec<Move<M::State>>
+        ensures same { self.new ≡ self.old }
+        ensures none { result.items ≡ [] }
+    {
+        let alloc = *self.domains.allocator();
+        let mut moves = mem::replace(&mut self.moves, Vec::new(alloc));
+        moves.clear();
+        moves
+    }
+
+    /// What the event makes of the stored monitors.
+    fn reach<L: Ledger>(
+        &self,
+        event: &Event<'_, M>,
+        slots: &mut Vec<usize>,
+        mut moves: Vec<Move<M::State>>,
+        steps: &mut Steps<L>,
+    ) -> Result<Vec<Move<M::State>>, NoMemory>
+        requires closed { self.now.is_open ≡ false }
+        requires letter { event.now.letter.0 < (M.meaning (M.definition event.now.rules.now)).letters }
+        requires known { IsTrue event.now.known ↔ Contains event.now.marks.now.list event.now.binding.now }
+        requires fits { IsFitting self.now.index event.now.objects.now }
+        requires live { AreLive event.now.objects.now event.now.binding.now }
+        requires none { moves.items ≡ [] }
+        ensures moves { IfOk result (λ moves. AreMovesOf (M.meaning (M.definition event.now.rules.now)) (M.StandsFor event.now.rules.now) event.now.letter.0 event.now.binding.now
+            event.now.objects.now event.now.marks.now.list (asks_by event.now.known self.now.ending event.now.letter.0 event.now.binding.now) self.now.monitors moves.items) }
+        ensures steps { steps.new ≤ steps.old + count_by (λ s. is_compatible s.instance event.now.binding.now) (stored_of self.now) }
+    {
+        for domain in &self.domains {
+            if event.asks(self.ending[*domain as usize], *domain) {
+                self.index
+                    .compatible_into(event.objects, *domain, event.binding, slots)?;
+                self.reach_slots(event, slots.as_slice(), &mut moves, steps)?;
+            }
+        }
+        Ok(moves)
+    }
+
+    /// What it makes of those in some slots.
+    fn reach_slots<L: Ledger>(
+        &self,
+        event: &Event<'_, M>,
+        slots: &[usize],
+        moves: &mut Vec<Move<M::State>>,
+        steps: &mut Steps<L>,
+    ) -> Result<(), NoMemory>
+        requires letter { event.now.letter.0 < (M.meaning (M.definition event.now.rules.now)).letters }
+        requires known { IsTrue event.now.known ↔ Contains event.now.marks.now.list event.now.binding.now }
+        requires compatible { (k : ℕ) → Contains slots.now k → IsCompatibleAt event.now.binding.now (monitor_at self.now.monitors k) }
+        ensures moves { OnOk result ((slots_before : List ℕ) → AreGiven (IsOutcomeAt (M.meaning (M.definition event.now.rules.now)) (M.StandsFor event.now.rules.now) event.now.letter.0 event.now.binding.now
+            event.now.objects.now event.now.marks.now.list self.now.monitors) slots_before moves.old.items
+            → AreGiven (IsOutcomeAt (M.meaning (M.definition event.now.rules.now)) (M.StandsFor event.now.rules.now) event.now.letter.0 event.now.binding.now
+            event.now.objects.now event.now.marks.now.list self.now.monitors) (slots_before ++ slots.now) moves.new.items) }
+        ensures steps { steps.new ≤ steps.old + length slots.now }
+    {
+        for slot in slots {
+            self.reach_slot(event, *slot, moves, steps)?;
+        }
+        Ok(())
+    }
+
+    /// What it makes of the one in a slot.
+    fn reach_slot<L: Ledger>(
+        &self,
+        event: &Event<'_, M>,
+        slot: usize,
+        moves: &mut Vec<Move<M::State>>,
+        steps: &mut Steps<L>,
+    ) -> Result<(), NoMemory>
+        requires letter { event.now.letter.0 < (M.meaning (M.definition event.now.rules.now)).letters }
+        requires known { IsTrue event.now.known ↔ Contains event.now.marks.now.list event.now.binding.now }
+        requires compatible { IsCompatibleAt event.now.binding.now (monitor_at self.now.monitors slot) }
+        ensures moves { OnOk result (IsPushed (IsOutcomeAt (M.meaning (M.definition event.now.rules.now)) (M.StandsFor event.now.rules.now) event.now.letter.0 event.now.binding.now
+            event.now.objects.now event.now.marks.now.list self.now.monitors) slot moves.old.items moves.new.items) }
+        ensures steps { steps.new ≤ steps.old + 1 }
+    {
+        let Some(base) = self.monitors.lend(slot, steps) else {
+            return Ok(());
+        };
+        if let Some(outcome) = event.outcome(slot, base)? {
+            moves.push(outcome)?;
+        }
+        Ok(())
+    }
+
+    /// Keeps of the letters that end monitors those that end the moved ones too.
+    fn end_fewer(&mut self, rules: &M, moves: &[Move<M::State>])
+        ensures same { self.new ≡ with_ending self.old self.new.ending }
+        ensures fewer { EndsFewer self.old.ending self.new.ending }
+        ensures ended { AreEnding (M.meaning (M.definition rules.now)) (M.StandsFor rules.now) self.new.ending (reached_by moves.now) }
+    {
+        end_fewer_by(&mut self.ending, rules, moves);
+    }
+}
