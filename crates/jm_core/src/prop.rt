@@ -140,7 +140,7 @@ impl<M: Monitor> Prop<M> {
     {
         let alloc = self.alloc;
         for (line, step) in steps {
-            let Ok(node) = Node::new(alloc, caller, *line, *step) else {
+            let Ok(node) = self.node(alloc, caller, *line, *step) else {
                 return Err(NoMemory);
             };
             if let Outcome::NoMemory = self.step(node) {
@@ -148,6 +148,14 @@ impl<M: Monitor> Prop<M> {
             }
         }
         Ok(())
+    }
+
+    /// A step that is not recorded yet, with the memory that its entry takes.
+    fn node(&mut self, alloc: Global, caller: u32, line: u32, step: Step) -> Result<Node, NoMemory>
+        ensures same { self.new ≡ self.old }
+        ensures node { IfOk result (λ node. node ≡ record { caller = caller; line = line; step = step }) }
+    {
+        self.history.node(alloc, caller, line, step)
     }
 
     /// Does a step, and records it with the outcome that it answers.

@@ -1,9 +1,9 @@
-ghost use Rattle.std.specs.Prelude.{◌≡◌, ◌%◌, ◌^◌, [], ◌∷◌, ◌++◌, length, map, IfOk};
+ghost use Rattle.std.specs.Prelude.{◌≡◌, ◌%◌, ◌^◌, [], ◌∷◌, ◌++◌, length, map, reverse, IfOk, OnOk};
 ghost use Rattle.jm_history.specs.Nodes.{answered};
 
 use crate::chain::Chain;
 use crate::node::Node;
-use jm_model::{Entry, NoMemory, Outcome};
+use jm_model::{Entry, NoMemory, Outcome, Step};
 use std::alloc::Global;
 use std::marker::Model;
 use std::mem;
@@ -45,13 +45,31 @@ impl History {
         self.count
     }
 
+    /// A step of a caller, at a line of its script, as `Node::new` makes it. Where it can, it makes room for the entry in a
+    /// row of entries, which takes less memory than a link.
+    pub fn node(
+        &mut self,
+        alloc: Global,
+        caller: u32,
+        line: u32,
+        step: Step,
+    ) -> Result<Node, NoMemory>
+        ensures same { self.new ≡ self.old }
+        ensures node { IfOk result (λ node. node ≡ record { caller = caller; line = line; step = step }) }
+    {
+        self.newest.make_room(alloc);
+        Node::new(alloc, caller, line, step)
+    }
+
     /// Adds an entry at the end. It takes no memory: the node brings its own.
     pub fn push(&mut self, node: Node, outcome: Outcome)
         ensures { self.new ≡ self.old ++ answered node outcome ∷ [] }
     {
         let (entry, mut link) = node.into_entry(outcome);
-        *link = mem::replace(&mut self.newest, Chain::End);
-        self.newest = Chain::Link(entry, link);
+        if let Some(entry) = self.newest.add(entry) {
+            *link = mem::replace(&mut self.newest, Chain::End);
+            self.newest = Chain::Link(entry, link);
+        }
         self.count = self.count.wrapping_add(1);
     }
 
@@ -66,6 +84,11 @@ impl History {
                 return Err(NoMemory);
             }
             rest = older;
+        }
+        match rest {
+            Chain::End => {}
+            Chain::Row(row) => add_backwards(row.as_slice(), &mut entries)?,
+            Chain::Link(_, _) => unreachable!(),
         }
         entries.reverse();
         Ok(entries)
@@ -84,4 +107,19 @@ impl History {
         }
         Ok(entries)
     }
+}
+
+/// Adds the entries of a row, the newest first.
+fn add_backwards<'a>(row: &'a [Entry], entries: &mut Vec<&'a Entry>) -> Result<(), NoMemory>
+    ensures { OnOk result (map (λ entry. entry.now) entries.new.items
+        ≡ map (λ entry. entry.now) entries.old.items ++ reverse row.now) }
+{
+    let mut i = row.len();
+    while i > 0 {
+        i -= 1;
+        if entries.push(&row[i]).is_err() {
+            return Err(NoMemory);
+        }
+    }
+    Ok(())
 }

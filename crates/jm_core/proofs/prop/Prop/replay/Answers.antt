@@ -25,9 +25,10 @@ loop-line-preserved g c =
     let item = c.loop-line-item.result in
     let u = c.in-Ok.node in
     let next = c.step.new.self in
-    let grown = replayed_more c.args.caller (take i steps) c.args.self.now c.loop-line.self next u c.step.result (ap (λ n. n.caller) c.in-Ok.ensures) c.in_default-step.not-NoMemory c.loop-line.invariant.done c.step.ensures.added in
+    let added = rw c.node.ensures.same at c.step.ensures.added in
+    let grown = replayed_more c.args.caller (take i steps) c.args.self.now c.loop-line.self next u c.step.result (ap (λ n. n.caller) c.in-Ok.ensures.node) c.in_default-step.not-NoMemory c.loop-line.invariant.done added in
     let at_item : Replayed c.args.caller (take i steps ++ item ∷ []) c.args.self.now next =
-    subst (λ (s : ℕ × Step). Replayed c.args.caller (take i steps ++ s ∷ []) c.args.self.now next) (ap (λ n. (n.line, n.step)) c.in-Ok.ensures) grown in
+    subst (λ (s : ℕ × Step). Replayed c.args.caller (take i steps ++ s ∷ []) c.args.self.now next) (ap (λ n. (n.line, n.step)) c.in-Ok.ensures.node) grown in
     record {
       done = subst (λ (l : List (ℕ × Step)). Replayed c.args.caller l c.args.self.now next) (sym (take_with_item steps i item c.loop-line-test.true c.loop-line-item.is)) at_item;
       legal = c.step.ensures.legal;
@@ -36,7 +37,8 @@ loop-line-preserved g c =
 
 pub returns-in_default-clause-err : goal.returns-in_default-clause-err
 returns-in_default-clause-err g c =
-    stopped_before c.args.caller (take c.loop-line.line-index c.args.steps.now) c.args.steps.now c.args.self.now c.loop-line.self (take_is_prefix c.loop-line.line-index c.args.steps.now) c.loop-line.invariant.done
+    rw c.node.ensures.same
+    (stopped_before c.args.caller (take c.loop-line.line-index c.args.steps.now) c.args.steps.now c.args.self.now c.loop-line.self (take_is_prefix c.loop-line.line-index c.args.steps.now) c.loop-line.invariant.done)
 
 pub returns-in-NoMemory-clause-err : goal.returns-in-NoMemory-clause-err
 returns-in-NoMemory-clause-err g c =
@@ -45,9 +47,10 @@ returns-in-NoMemory-clause-err g c =
     let item = c.loop-line-item.result in
     let u = c.in-Ok.node in
     let next = c.step.new.self in
+    let added = rw c.node.ensures.same at c.step.ensures.added in
     let within : IsPrefix (take i steps ++ (u.line, u.step) ∷ []) steps =
     subst (λ (l : List (ℕ × Step)). IsPrefix l steps)
-    (take_with_item steps i item c.loop-line-test.true c.loop-line-item.is ∙ ap (λ n. take i steps ++ (n.line, n.step) ∷ []) (sym c.in-Ok.ensures))
+    (take_with_item steps i item c.loop-line-test.true c.loop-line-item.is ∙ ap (λ n. take i steps ++ (n.line, n.step) ∷ []) (sym c.in-Ok.ensures.node))
     (take_is_prefix (i + 1) steps) in
-    stopped_after c.args.caller (take i steps) steps c.args.self.now c.loop-line.self next u (ap (λ n. n.caller) c.in-Ok.ensures) within c.loop-line.invariant.done
-    (subst (λ (o : Outcome). IsExtended c.loop-line.self next (answered u o ∷ [])) c.in-NoMemory.is c.step.ensures.added)
+    stopped_after c.args.caller (take i steps) steps c.args.self.now c.loop-line.self next u (ap (λ n. n.caller) c.in-Ok.ensures.node) within c.loop-line.invariant.done
+    (subst (λ (o : Outcome). IsExtended c.loop-line.self next (answered u o ∷ [])) c.in-NoMemory.is added)

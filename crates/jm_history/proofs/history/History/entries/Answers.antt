@@ -2,13 +2,21 @@ use Rattle.std.proofs.Common.{◌≡◌, ◌++◌, [], map, List, sym, ◌∙◌
 use Rattle.std.specs.Prelude.{reverse}
 use Rattle.jm_history.specs.Chains.{newest_first}
 use Rattle.jm_history.proofs.ReverseLemmas.{map-reverse}
-use Rattle.jm_model.specs.declared.step.Entry.{Entry}
 use Rattle.jm_history.proofs.history.History.entries.Goals as goal
+use Rattle.jm_history.proofs.history.History.entries.Goals.{in-End, in-Row+in_ok-add_backwards-in-Row}
 
 pub returns : goal.returns
 returns c =
     let lent = map (λ entry. entry.now) c.loop-rest.entries.items in
+    let all : map (λ entry. entry.now) c.match-rest-2.entries.items ≡ lent ++ newest_first c.loop-rest.rest.now = elim c.match-rest-2.branch [
+      | in-End w ↦
+          ap (λ v. map (λ entry. entry.now) v.items) w.entries-is
+          ∙ sym (append-nil lent) ∙ ap (λ older. lent ++ newest_first older) (sym w.in-End.is)
+      | in-Row+in_ok-add_backwards-in-Row w ↦
+          ap (λ v. map (λ entry. entry.now) v.items) w.entries-is
+          ∙ w.in_ok-add_backwards-in-Row.ensures ∙ ap (λ row. lent ++ reverse row) w.as_slice.ensures.value ∙ ap (λ older. lent ++ newest_first older) (sym w.in-Row.is)
+    ] in
     ap (map (λ entry. entry.now)) c.reverse.ensures.items
-    ∙ map-reverse (λ entry. entry.now) c.loop-rest.entries.items
-    ∙ ap reverse (sym (append-nil lent) ∙ ap (λ older. lent ++ newest_first older) (sym c.in_default.is))
+    ∙ map-reverse (λ entry. entry.now) c.match-rest-2.entries.items
+    ∙ ap reverse all
     ∙ c.loop-rest.invariant
