@@ -60,6 +60,18 @@ impl Table {
         }
     }
 
+    /// Doors and keys: an unlocking of both parameters, a locking of the first and a pass of the second. The handler is hit
+    /// by a pass behind an unlocking, with no locking between.
+    pub fn doors() -> Table {
+        Table {
+            params: [3, 1, 2],
+            places: [1, 0, 0, 0, 1, 0, 2, 0, 1, 0, 2, 0, 0, 0, 0, 0, 0, 0, 0, 0],
+            hits: [0, 0, 1, 0, 0],
+            must_bind: 0,
+            left: Cell::new(0),
+        }
+    }
+
     /// The masks of the letters.
     pub fn params(&self) -> [u8; 3]
         ensures value { result ≡ self.now.params }
