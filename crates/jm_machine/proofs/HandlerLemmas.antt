@@ -73,5 +73,5 @@ pub has_number : (categories names : List (List ℕ)) (k : ℕ) (name : List ℕ
 has_number categories names k name known at none =
     let is : list_any (bytes_eq name) categories ≡ true =
     subst (λ n. list_any (bytes_eq n) categories ≡ true) (get_or_from_slice_get names k name name at)
-        (All-get_or (λ n. list_any (bytes_eq n) categories ≡ true) names k name (slice_get_within names k name at) known) in
+    (All-get_or (λ n. list_any (bytes_eq n) categories ≡ true) names k name (slice_get_within names k name at) known) in
     false≢true (sym (list_any-no_number categories name none) ∙ is)
