@@ -262,9 +262,7 @@ fn masks(alloc: Global, table: &EventTable) -> Result<Vec<u8>, NoMemory>
 {
     let mut masks = Vec::new(alloc);
     for letter in 0..table.letters() {
-        let Ok(()) = masks.push(table.mask(Letter(letter))) else {
-            return Err(NoMemory);
-        };
+        masks.push(table.mask(Letter(letter)))?;
     }
     Ok(masks)
 }

@@ -28,9 +28,7 @@ impl DeadSets {
         for dead in 0..256u16 {
             let letters = available(params, dead as u8);
             let number = number_of(&mut sets, grammar, letters)?;
-            let Ok(()) = numbers.push(number) else {
-                return Err(NoMemory);
-            };
+            numbers.push(number)?;
         }
         Ok(DeadSets { sets, numbers })
     }
@@ -99,8 +97,6 @@ fn append(sets: &mut Vec<LetterSet>, grammar: &Grammar, letters: u32) -> Result<
 {
     let number = sets.len();
     let set = LetterSet::new(*sets.allocator(), grammar, letters)?;
-    let Ok(()) = sets.push(set) else {
-        return Err(NoMemory);
-    };
+    sets.push(set)?;
     Ok(number)
 }

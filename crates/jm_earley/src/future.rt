@@ -49,9 +49,7 @@ impl Futures {
         let mut futures = Vec::new(alloc);
         for (number, set) in sets.sets().iter().enumerate() {
             let future = future_of(alloc, grammar, *set, number, items, earlier)?;
-            let Ok(()) = futures.push(future) else {
-                return Err(NoMemory);
-            };
+            futures.push(future)?;
         }
         Ok(Futures { futures })
     }
@@ -186,15 +184,11 @@ fn ends_rules(
     ensures { IfOk result (λ rules. rules.items ≡ ends_rules productions.now start set number earlier.now items.now) }
 {
     let mut rules = Vec::new(alloc);
-    let Ok(()) = rules.push(start_rule(start, earlier)) else {
-        return Err(NoMemory);
-    };
+    rules.push(start_rule(start, earlier))?;
     for item in items {
         let link = link_of(productions, set, *item);
         let rule = ends_rule(link, earlier, number, item.origin);
-        let Ok(()) = rules.push(rule) else {
-            return Err(NoMemory);
-        };
+        rules.push(rule)?;
     }
     Ok(rules)
 }
@@ -214,9 +208,7 @@ fn more_rules(
     for item in items {
         let link = link_of(productions, set, *item);
         let rule = more_rule(ends, link, earlier, number, item.origin);
-        let Ok(()) = rules.push(rule) else {
-            return Err(NoMemory);
-        };
+        rules.push(rule)?;
     }
     Ok(rules)
 }

@@ -128,9 +128,7 @@ fn spelling_rules(
 {
     let mut rules = Vec::new(alloc);
     for production in productions {
-        let Ok(()) = rules.push(spelling_rule(production, letters, known)) else {
-            return Err(NoMemory);
-        };
+        rules.push(spelling_rule(production, letters, known))?;
     }
     Ok(rules)
 }

@@ -37,9 +37,7 @@ impl ItemSet {
     pub(crate) fn add(&mut self, item: Item) -> Result<(), NoMemory>
         ensures { OnOk result (IsWithItem self.old item self.new) }
     {
-        let Ok(_) = self.items.insert(item) else {
-            return Err(NoMemory);
-        };
+        self.items.insert(item)?;
         Ok(())
     }
 

@@ -48,12 +48,8 @@ impl<T: Drop> Shared<T> {
     pub(crate) fn push(&mut self, item: T) -> Result<(), NoMemory>
         ensures { OnOk result (self.new ≡ self.old ++ item ∷ []) }
     {
-        let Ok(item) = Arc::new(*self.items.allocator(), item) else {
-            return Err(NoMemory);
-        };
-        let Ok(()) = self.items.push(item) else {
-            return Err(NoMemory);
-        };
+        let item = Arc::new(*self.items.allocator(), item)?;
+        self.items.push(item)?;
         Ok(())
     }
 
@@ -63,16 +59,10 @@ impl<T: Drop> Shared<T> {
         ensures { IfOk result (λ first. first ≡ take count self.now) }
     {
         let alloc = *self.items.allocator();
-        let Ok(mut first) = Vec::with_capacity(alloc, count.saturating_add(1)) else {
-            return Err(NoMemory);
-        };
+        let mut first = Vec::with_capacity(alloc, count.saturating_add(1))?;
         for item in &self.items.as_slice()[..count] {
-            let Ok(item) = Arc::try_clone(item) else {
-                return Err(NoMemory);
-            };
-            let Ok(()) = first.push(item) else {
-                return Err(NoMemory);
-            };
+            let item = Arc::try_clone(item)?;
+            first.push(item)?;
         }
         Ok(Shared { items: first })
     }

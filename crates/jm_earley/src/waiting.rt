@@ -50,9 +50,7 @@ impl Waiting {
     {
         let alloc = *self.lists.allocator();
         'lists: while self.lists.len() <= n as usize {
-            let Ok(()) = self.lists.push(Vec::new(alloc)) else {
-                return Err(NoMemory);
-            };
+            self.lists.push(Vec::new(alloc))?;
         }
         Ok(())
     }
@@ -64,9 +62,7 @@ impl Waiting {
         ensures others { OnOk result ((m : ℕ) → m ≢ n → slice_index_or self.new m [] ≡ slice_index_or self.old m []) }
     {
         let list = &mut self.lists[n as usize];
-        let Ok(()) = list.push(item) else {
-            return Err(NoMemory);
-        };
+        list.push(item)?;
         Ok(())
     }
 

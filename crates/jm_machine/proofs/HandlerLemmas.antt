@@ -1,16 +1,19 @@
 -- The steps over the handlers, one handler more.
-use Rattle.std.proofs.Common.{◌≡◌, ℕ, ◌+◌, ◌<◌, true, false, Option, Some, List, [], ◌∷◌, ◌++◌, map, take, drop, get_or, length, refl, sym, ◌∙◌, ap, add-one, drop-cons}
-use Rattle.std.specs.Prelude.{is_some, slice_get}
+use Rattle.std.proofs.Common.{◌≡◌, ℕ, ◌+◌, ◌<◌, Bool, true, false, Option, Some, None, List, [], ◌∷◌, ◌++◌, All, map, take, drop, get_or, length, refl, sym, ◌∙◌, ap, subst, add-one, drop-cons}
+use Rattle.std.specs.Prelude.{is_some, slice_get, if◌then◌else◌}
 use Rattle.std.specs.List.{list_any}
 use Rattle.std.specs.Str.{bytes_eq}
+use Rattle.std.proofs.lemmas.Bool.{false≢true}
 use Rattle.std.proofs.lemmas.List.{map_more, map-append}
+use Rattle.std.proofs.lemmas.List.Elements.{All-nil, All-cons, All-get_or}
 use Rattle.std.proofs.lemmas.Option.{slice_get_within, get_or_from_slice_get}
+use Rattle.jm_model.specs.declared.fault.SpecFault.{SpecFault}
 use Rattle.jm_model.specs.declared.fault.SpecFault.TheVariants.{DuplicateHandler, UnknownCategory}
 use Rattle.jm_reading.specs.Tokens.{name_of}
 use Rattle.jm_events.specs.Names.{number_of, with_name}
-use Rattle.jm_events.proofs.NameLemmas.{list_any-number_of, with_name-new}
+use Rattle.jm_events.proofs.NameLemmas.{list_any-number_of, list_any-no_number, with_name-new}
 use Rattle.jm_spec.specs.declared.property.HandlerText.{HandlerText}
-use Rattle.jm_machine.specs.Handlers.{handler_names, duplicate_fault, category_fault}
+use Rattle.jm_machine.specs.Handlers.{handler_names, AreCategories, duplicate_fault, category_fault}
 use Rattle.jm_machine.proofs.OptionLemmas.{none_of_not_some}
 
 module _ (bytes : List ℕ) (names : List (List ℕ)) (hs : List HandlerText) (i : ℕ) (d : HandlerText) (name : List ℕ) (found : Option ℕ) (less : i < length hs) (named : name ≡ name_of bytes (get_or hs i d).category) (lookup : found ≡ number_of names name) where
@@ -52,3 +55,23 @@ groups_more names handlers i groups name group filled at found =
     map-append Some groups (group ∷ []) ∙ ap (λ os. os ++ Some group ∷ []) filled
     ∙ ap (λ o. map (number_of names) (take i handlers) ++ o ∷ []) (found ∙ ap (number_of names) (sym (get_or_from_slice_get handlers i name name at)))
     ∙ sym (map_more (number_of names) handlers i name (slice_get_within handlers i name at))
+
+no_fault_left : (known : Bool) (later : Option SpecFault) (fault : SpecFault) → (if known then later else Some fault) ≡ None → (known ≡ true) × (later ≡ None)
+no_fault_left true later fault none = (refl, none)
+no_fault_left false later fault none = absurd cc
+
+-- where no handler is for an unknown category, the names of all are categories
+pub all_known : (bytes : List ℕ) (categories : List (List ℕ)) (hs : List HandlerText) → category_fault bytes categories hs ≡ None → AreCategories categories (handler_names bytes hs)
+all_known bytes categories [] none = All-nil (λ name. list_any (bytes_eq name) categories ≡ true)
+all_known bytes categories (h ∷ hs) none =
+    let name = name_of bytes h.category in
+    let left = no_fault_left (list_any (bytes_eq name) categories) (category_fault bytes categories hs) (UnknownCategory h.category.line) none in
+    All-cons (λ n. list_any (bytes_eq n) categories ≡ true) name (handler_names bytes hs) left.0 (all_known bytes categories hs left.1)
+
+-- so each has a number among them
+pub has_number : (categories names : List (List ℕ)) (k : ℕ) (name : List ℕ) → AreCategories categories names → slice_get names k ≡ Some name → number_of categories name ≡ None → ⊥
+has_number categories names k name known at none =
+    let is : list_any (bytes_eq name) categories ≡ true =
+    subst (λ n. list_any (bytes_eq n) categories ≡ true) (get_or_from_slice_get names k name name at)
+    (All-get_or (λ n. list_any (bytes_eq n) categories ≡ true) names k name (slice_get_within names k name at) known) in
+    false≢true (sym (list_any-no_number categories name none) ∙ is)

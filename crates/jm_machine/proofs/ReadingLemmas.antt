@@ -71,7 +71,7 @@ module _ (bytes : List ℕ) (tokens : List Token) (table : EventDefinitions) whe
 
   -- ---- formulas of all logics
 
-  one_formula : (logic : Logic) (f g : Formula) → IsReadAs bytes tokens table logic f → IsReadAs bytes tokens table logic g → f ≡ g
+  pub one_formula : (logic : Logic) (f g : Formula) → IsReadAs bytes tokens table logic f → IsReadAs bytes tokens table logic g → f ≡ g
   one_formula Fsm (Machine x) (Machine y) h k = ap Machine (one_machine x y h k)
   one_formula Fsm (Machine x) (Regular y) h k = absurd k
   one_formula Fsm (Machine x) (Temporal y) h k = absurd k
@@ -101,7 +101,7 @@ module _ (bytes : List ℕ) (tokens : List Token) (table : EventDefinitions) whe
   one_formula Cfg (Regular x) g h k = absurd h
   one_formula Cfg (Temporal x) g h k = absurd h
 
-  formula_or_fault : (logic : Logic) (f : Formula) (fault : SpecFault) → IsReadAs bytes tokens table logic f → IsRefusedIn bytes tokens table logic fault → ⊥
+  pub formula_or_fault : (logic : Logic) (f : Formula) (fault : SpecFault) → IsReadAs bytes tokens table logic f → IsRefusedIn bytes tokens table logic fault → ⊥
   formula_or_fault Fsm (Machine x) fault h k = machine_or_fault x fault h k
   formula_or_fault Fsm (Regular x) fault h k = h
   formula_or_fault Fsm (Temporal x) fault h k = h

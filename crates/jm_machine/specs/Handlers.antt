@@ -1,5 +1,5 @@
 -- What is wrong with the handlers of a specification, step by step.
-use Rattle.std.specs.Prelude.{ℕ, List, [], ◌∷◌, ◌++◌, length, map, Option, Some, None, codes, nat_le, slice_range, if◌then◌else◌}
+use Rattle.std.specs.Prelude.{ℕ, ◌≡◌, true, List, [], ◌∷◌, ◌++◌, length, map, All, Option, Some, None, codes, nat_le, slice_range, if◌then◌else◌}
 use Rattle.std.specs.List.{list_any}
 use Rattle.std.specs.Str.{bytes_eq}
 use Rattle.jm_model.specs.declared.fault.Counted.TheVariants.{Handlers}
@@ -14,6 +14,10 @@ use Rattle.jm_spec.specs.declared.property.HandlerText.{HandlerText}
 -- the names of the categories that are handled
 abbrev pub handler_names : List ℕ → List HandlerText → List (List ℕ)
 handler_names bytes handlers = map (λ h. name_of bytes h.category) handlers
+
+-- each of these names is one of the categories
+abbrev pub AreCategories : List (List ℕ) → List (List ℕ) → Type 0
+AreCategories categories names = All (λ name. list_any (bytes_eq name) categories ≡ true) names
 
 -- there are more than 16
 abbrev pub count_fault : List HandlerText → Option SpecFault

@@ -2,6 +2,7 @@
 ghost use Rattle.std.specs.Prelude.{ℕ, ◌≡◌, ◌<◌, ◌≤◌, ◌^◌, ◌-◌, ◌↔◌, All, Some, IsTrue, IsBitSet, IfOk, IfErr, length, map};
 ghost use Rattle.jm_events.specs.Names.{number_of};
 ghost use Rattle.jm_events.specs.Events.{IsCreation};
+ghost use Rattle.jm_machine.specs.Handlers.{AreCategories};
 ghost use Rattle.jm_machine.specs.Meanings.{must_bind_of};
 ghost use Rattle.jm_machine.specs.RuleSets.{may_begin};
 
@@ -21,6 +22,7 @@ pub(crate) fn goal_of(
 ) -> Result<Goal, SpecError>
     requires categories { length categories.now ≤ 65535 }
     requires handlers { length handlers.now ≤ 16 }
+    requires known { AreCategories categories.now handlers.now }
     ensures groups { IfOk result (λ goal. map Some goal.groups ≡ map (number_of categories.now) handlers.now) }
     ensures creation { IfOk result (λ goal. (k : ℕ) → IsBitSet goal.creation k ↔ IsCreation tree.now.table k) }
     ensures must_bind { IfOk result (λ goal. goal.must_bind ≡ must_bind_of tree.now.table tree.now.full_binding) }

@@ -3,7 +3,7 @@ ghost use Rattle.std.specs.Prelude.{ℕ, ◌≡◌, ◌<◌, ◌≤◌, Some, No
 ghost use Rattle.jm_text.specs.Spans.{LieWithin};
 ghost use Rattle.jm_reading.specs.Faults.{Checks};
 ghost use Rattle.jm_events.specs.Names.{number_of};
-ghost use Rattle.jm_machine.specs.Handlers.{handler_names, count_fault, duplicate_fault, category_fault, reset_in, reset_fault, handlers_fault};
+ghost use Rattle.jm_machine.specs.Handlers.{handler_names, AreCategories, count_fault, duplicate_fault, category_fault, reset_in, reset_fault, handlers_fault};
 
 use crate::ranges::range_of;
 use jm_events::Names;
@@ -29,6 +29,7 @@ pub(crate) fn handled(
     requires { LieWithin bytes.now tokens.now }
     ensures names { IfOk result (λ names. names ≡ handler_names bytes.now handlers.now) }
     ensures few { IfOk result (λ names. length names ≤ 16) }
+    ensures known { IfOk result (AreCategories categories.now) }
     ensures checked { Checks result (handlers_fault bytes.now tokens.now categories.now handlers.now) }
 {
     few(handlers)?;
@@ -113,13 +114,14 @@ pub(crate) fn groups_of(
     handlers: &Names,
 ) -> Result<Vec<u16>, SpecError>
     requires few { length categories.now ≤ 65535 }
+    requires known { AreCategories categories.now handlers.now }
     ensures groups { IfOk result (λ groups. map Some groups.items ≡ map (number_of categories.now) handlers.now) }
     ensures err { IfErr result (λ e. e ≡ SpecError.NoMemory) }
 {
     let mut groups = Vec::new(alloc);
     for handler in 0..handlers.len() {
         let Some(category) = categories.find(handlers.name(handler)) else {
-            return Err(SpecError::NoMemory);
+            unreachable!()
         };
         groups.push(category as u16)?;
     }

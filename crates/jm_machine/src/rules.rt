@@ -7,6 +7,7 @@ ghost use Rattle.jm_text.specs.Spans.{LieWithin};
 ghost use Rattle.jm_model.specs.declared.fault.SpecFault.{SpecFault};
 ghost use Rattle.jm_semantics.specs.Families.{IsFamily};
 ghost use Rattle.jm_machine.specs.Formulas.{category_names, is_grammar};
+ghost use Rattle.jm_machine.specs.Handlers.{AreCategories};
 ghost use Rattle.jm_machine.specs.Meanings.{rules_of, rules_meaning, is_failing_grammar};
 ghost use Rattle.jm_machine.specs.Engines.{letters_of_engine, categories_of_engine, is_parsing, HasParams, IsPlaceOf, IsCompiled, IsMinimal};
 ghost use Rattle.jm_machine.specs.RuleSets.{IsRuleSet, IsHandledBy};
@@ -111,6 +112,7 @@ impl Rules {
         requires categories { categories.now ≡ category_names formula }
         requires many { length categories.now ≤ 65535 }
         requires few { length handlers ≤ 16 }
+        requires known { AreCategories categories.now handlers }
         requires letters { letters_of_engine engine ≡ length tree.now.table.events }
         requires groups { categories_of_engine engine ≡ length categories.now }
         requires compiled { IsCompiled formula engine }

@@ -7,3 +7,4 @@ pub mod JobNames
 pub mod ScriptSteps
 pub mod HistorySteps
 pub mod JobTold
+pub mod FaultLemmas

@@ -1,13 +1,17 @@
-//! What holds of the histories of all accepted commands.
+//! What holds of the histories of all accepted commands, and of the first faults of all files.
 ghost use Rattle.std.specs.Prelude.{◌≡◌, ℕ, List, Option, map};
+ghost use Rattle.jm_model.specs.declared.fault.ScriptFault.{ScriptFault};
+ghost use Rattle.jm_model.specs.declared.fault.SpecFault.{SpecFault};
 ghost use Rattle.jm_model.specs.declared.step.Entry.{Entry};
 ghost use Rattle.jm_script.specs.declared.script.ScriptLine.{ScriptLine};
 ghost use Rattle.jm_cli.specs.Words.{CommandWords};
 ghost use Rattle.jm_print.specs.Told.{HaveNames, AreToldBy, texts_of};
-ghost use Rattle.jm_top.specs.Specifications.{Specification};
+ghost use Rattle.jm_top.specs.Specifications.{Specification, IsSpecFault};
+ghost use Rattle.jm_top.specs.Scripts.{IsScriptFault};
 ghost use Rattle.jm_top.specs.Histories.{AreHistoriesFrom, lexicon};
 ghost use Rattle.jm_top.specs.Jobs.{IsJob, Accepted};
 ghost use Rattle.jm_telling.specs.Counts.{HaveFewFirings};
+ghost use Rattle.jm_telling.specs.FirstFaults.{IsSameFault};
 
 /// The names of an accepted command are fit to be printed: in each of its specifications the parameters, the events
 /// and the handlers each have names of their own, and so have the objects; and none of these holds a line feed, a space,
@@ -37,4 +41,17 @@ pub fn text_tells_histories()
         → AreHistoriesFrom 0 specs scripts others → HaveFewFirings others
         → texts_of (map (lexicon objects) specs) hs ≡ texts_of (map (lexicon objects) specs) others
         → hs ≡ others }
+{}
+
+/// The first fault of a script is one, over the same specifications and behind the same scripts.
+pub fn one_script_fault()
+    ensures { (specs : List Specification) (count : ℕ) (names : List (List ℕ)) (bytes : List ℕ) (fault other : ScriptFault)
+        → IsScriptFault specs count names bytes fault → IsScriptFault specs count names bytes other → fault ≡ other }
+{}
+
+/// The first fault of a specification is one, but for the line of `Syntax`: where bytes have two, they are equal, or both
+/// are `Syntax`.
+pub fn one_spec_fault()
+    ensures { (bytes : List ℕ) (fault other : SpecFault)
+        → IsSpecFault bytes fault → IsSpecFault bytes other → IsSameFault fault other }
 {}

@@ -19,10 +19,10 @@ use Rattle.jm_spec.specs.Spelling.{Spells}
 use Rattle.jm_spec.specs.Trees.{IsTreeOf, IsTreeOfTokens, IsFaultOfTokens, TellsProperties}
 use Rattle.jm_spec.proofs.CompleteLemmas.{spelled_is_frame}
 use Rattle.jm_machine.specs.declared.formula.Formula.{Formula}
-use Rattle.jm_machine.specs.Formulas.{category_names, IsTableFault}
+use Rattle.jm_machine.specs.Formulas.{category_names, IsRefusedIn, IsTableFault}
 use Rattle.jm_machine.specs.Handlers.{handler_names, handlers_fault}
 use Rattle.jm_machine.specs.Meanings.{RuleDefinition, rules_of}
-use Rattle.jm_machine.specs.Compiling.{IsFormula, IsCompiledFrom}
+use Rattle.jm_machine.specs.Compiling.{formula_of, IsFormula, IsCompiledFrom, IsFaultyTree, in_formula, in_handlers, in_table}
 use Rattle.jm_machine.proofs.ReadingLemmas.{one_rules, rules_or_fault}
 use Rattle.jm_top.specs.Specifications.{Specification, IsTold, IsSpecification, BlocksSay, IsSpecFault, too_long, no_tokens, in_frame, in_tree}
 
@@ -44,10 +44,10 @@ same_err e = cc
 same_head : {X : Type 0} {x y : X} {xs ys : List X} → x ∷ xs ≡ y ∷ ys → x ≡ y
 same_head e = cc
 
-one_list : (bytes : List ℕ) (tokens other : List Token) → AreTokensOf bytes tokens → AreTokensOf bytes other → tokens ≡ other
+pub one_list : (bytes : List ℕ) (tokens other : List Token) → AreTokensOf bytes tokens → AreTokensOf bytes other → tokens ≡ other
 one_list bytes tokens other a b = same_ok (sym a.cut ∙ b.cut)
 
-one_frame : (bytes : List ℕ) (tokens other : List Token) (frame f : Frame) → tokens ≡ other → Spells bytes tokens frame → Spells bytes other f → frame ≡ f
+pub one_frame : (bytes : List ℕ) (tokens other : List Token) (frame f : Frame) → tokens ≡ other → Spells bytes tokens frame → Spells bytes other f → frame ≡ f
 one_frame bytes tokens other frame f same a b =
     same_some (sym (spelled_is_frame bytes tokens frame a) ∙ spelled_is_frame bytes tokens f (subst (λ ts. Spells bytes ts f) (sym same) b))
 
@@ -102,7 +102,7 @@ pub record IsSameTold (ts us : List Token) (a b : SpecTree) : Type 0 where
   tokens : ts ≡ us
   tree : IsSameTree a b
 
-one_told : (bytes : List ℕ) (ts us : List Token) (a b : SpecTree) → IsTold bytes ts a → IsTold bytes us b → IsSameTold ts us a b
+pub one_told : (bytes : List ℕ) (ts us : List Token) (a b : SpecTree) → IsTold bytes ts a → IsTold bytes us b → IsSameTold ts us a b
 one_told bytes ts us a b ha hb =
     let tokens = one_list bytes ts us ha.cut hb.cut in
     let frame = one_frame bytes ts us ha.told.0 hb.told.0 tokens ha.told.1 hb.told.1 in
@@ -130,11 +130,20 @@ module _ (bytes : List ℕ) (ts us : List Token) (a b : SpecTree) (same : IsSame
     rules = h.rules ∙ rules_moved r.formula;
   }
 
-tree_has_no_fault : (bytes : List ℕ) (tokens : List Token) (tree : SpecTree) (fault : SpecFault) → IsTreeOfTokens bytes tokens tree → IsFaultOfTokens bytes tokens (Bad fault) → ⊥
+  refused_moved : (fault : SpecFault) → IsRefusedIn bytes (formula_of ts a) a.table a.logic fault → IsRefusedIn bytes (formula_of us b) b.table b.logic fault
+  refused_moved fault h = rw (sym same.tokens, sym same.tree.first, sym same.tree.last, sym same.tree.table, sym same.tree.logic) h
+
+  pub faulty_moved : (fault : SpecFault) → IsFaultyTree bytes ts a fault → IsFaultyTree bytes us b fault
+  faulty_moved fault (in_formula refused) = in_formula (refused_moved fault refused)
+  faulty_moved fault (in_handlers f read bad) = in_handlers f (read_moved f read) (sym (handled_moved (category_names f)) ∙ bad)
+  faulty_moved fault (in_table f read sound bad) =
+      in_table f (read_moved f read) (sym (handled_moved (category_names f)) ∙ sound) (subst (λ n. IsTableFault f n fault) letters_moved bad)
+
+pub tree_has_no_fault : (bytes : List ℕ) (tokens : List Token) (tree : SpecTree) (fault : SpecFault) → IsTreeOfTokens bytes tokens tree → IsFaultOfTokens bytes tokens (Bad fault) → ⊥
 tree_has_no_fault bytes tokens tree (Syntax line) h k = k h.0 h.1
 tree_has_no_fault bytes tokens tree _ h k = never_some (sym h.2 ∙ ap (frame_fault bytes) (one_frame bytes tokens tokens h.0 k.0 refl h.1 k.1) ∙ k.2)
 
-cut_has_no_fault : (bytes : List ℕ) (tokens : List Token) (fault : SpecFault) → AreTokensOf bytes tokens → IsFaultOf bytes (Bad fault) → ⊥
+pub cut_has_no_fault : (bytes : List ℕ) (tokens : List Token) (fault : SpecFault) → AreTokensOf bytes tokens → IsFaultOf bytes (Bad fault) → ⊥
 cut_has_no_fault bytes tokens NotUtf8 cut h = h cut.utf8
 cut_has_no_fault bytes tokens (OpenText line) cut h = never_ok (sym cut.cut ∙ h.cut)
 cut_has_no_fault bytes tokens _ cut h = h

@@ -22,5 +22,5 @@ loop-dead-preserved c =
     (subst (λ (l : List LetterSet). IsLeft params l c.loop-dead.dead c.in_ok-number.number) kept.1 here) in
     let each : AreLeft params c.number_of.new.sets.items c.push.new.self.items (c.loop-dead.dead + 1) =
     subst (λ (l : List LetterSet). AreLeft params l c.push.new.self.items (c.loop-dead.dead + 1)) (sym kept.1)
-    (subst (λ (l : List ℕ). AreLeft params (sets ++ kept.0) l (c.loop-dead.dead + 1)) (sym c.in-Ok.ensures.items) grown) in
-    (rw c.in-Ok.ensures.items (simp length-append (omega (arith, inv.0))), c.in_ok-number.ensures.exact inv.1, each)
+    (subst (λ (l : List ℕ). AreLeft params (sets ++ kept.0) l (c.loop-dead.dead + 1)) (sym c.in_ok-push.ensures.items) grown) in
+    (rw c.in_ok-push.ensures.items (simp length-append (omega (arith, inv.0))), c.in_ok-number.ensures.exact inv.1, each)

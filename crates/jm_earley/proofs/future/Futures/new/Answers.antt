@@ -20,8 +20,8 @@ loop-number-preserved c =
     let lt : n < length sets = rw (sym c.sets-set-items.ensures) c.loop-number-test.true in
     let more : AreFuturesOf g sets items earlier (c.loop-number.futures.items ++ c.in_ok-future.future ∷ []) (n + 1) =
     one_more_future g sets items earlier c.loop-number.futures.items n set c.in_ok-future.future c.loop-number.invariant.0 c.loop-number.invariant.1 (slice_get-get_or sets n none lt) one in (
-      rw c.in-Ok.ensures.items (simp length-append (omega (arith, c.loop-number.invariant.0))),
-      subst (λ (l : List Future). AreFuturesOf g sets items earlier l (n + 1)) (sym c.in-Ok.ensures.items) more,
+      rw c.in_ok-push.ensures.items (simp length-append (omega (arith, c.loop-number.invariant.0))),
+      subst (λ (l : List Future). AreFuturesOf g sets items earlier l (n + 1)) (sym c.in_ok-push.ensures.items) more,
     )
 
 pub returns : goal.returns

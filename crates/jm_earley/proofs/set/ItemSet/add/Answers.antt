@@ -6,4 +6,4 @@ use Rattle.jm_earley.proofs.set.ItemSet.add.Goals as goal
 
 pub returns : goal.returns
 returns c = subst (λ (l : List Item). IsWithItem l c.args.item c.insert.new.self.keys) c.self.view_is
-    (with_item_from_keys _ same_item c.self.inside.items.keys c.insert.new.self.keys c.args.item c.in-Ok.ensures.keys)
+    (with_item_from_keys _ same_item c.self.inside.items.keys c.insert.new.self.keys c.args.item c.in_ok-insert.ensures.keys)

@@ -12,7 +12,7 @@ returns-clause-here c =
     let old : get_or (map (λ b. b.items) lists) c.args.n [] ≡ c.index_mut-list.result.now.items =
     get_or-map (λ b. b.items) lists c.args.n c.index_mut-list.result.now [] lt ∙ ap (λ b. b.items) (sym c.index_mut-list.ensures.value) in
     rw (← c.self.view_is)
-    (written_here (λ b. b.items) lists c.args.n c.push.new.self lt ∙ c.in-Ok.ensures.items ∙ ap (λ l. l ++ c.args.item ∷ []) (sym old))
+    (written_here (λ b. b.items) lists c.args.n c.push.new.self lt ∙ c.in_ok-push.ensures.items ∙ ap (λ l. l ++ c.args.item ∷ []) (sym old))
 
 pub returns-clause-others : goal.returns-clause-others
 returns-clause-others c = λ m other. rw (← c.self.view_is) (written_elsewhere (λ b. b.items) c.self.inside.lists.items c.args.n c.push.new.self m other)

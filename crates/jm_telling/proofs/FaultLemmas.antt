@@ -1,0 +1,202 @@
+-- The first fault of a script is one, and that of a specification is one but for the line of `Syntax`.
+use Rattle.std.proofs.Common.{◌≡◌, ℕ, ◌⊎◌, inl, inr, List, length, Option, Some, None, Err, refl, sym, ap, subst, ◌∙◌, arith}
+use Rattle.std.proofs.lemmas.Bool.{false≢true}
+use Rattle.std.specs.Prelude.{true, false, IsUtf8}
+use Rattle.jm_model.specs.declared.fault.Counted.TheVariants.{Nesting}
+use Rattle.jm_model.specs.declared.fault.SpecFault.{SpecFault}
+use Rattle.jm_model.specs.declared.fault.SpecFault.TheVariants.{Syntax, NotUtf8, OpenText, TooMany}
+use Rattle.jm_model.specs.declared.fault.SpecError.TheVariants.{Bad}
+use Rattle.jm_model.specs.declared.fault.ScriptFault.{ScriptFault}
+use Rattle.jm_text.specs.declared.token.Token.{Token}
+use Rattle.jm_text.specs.Tokens.{IsFaultOf, IsOpenOn}
+use Rattle.jm_events.specs.Events.{EventDefinitions}
+use Rattle.jm_spec.specs.declared.frame.Frame.{Frame}
+use Rattle.jm_spec.specs.declared.tree.Logic.{Logic}
+use Rattle.jm_spec.specs.declared.tree.Logic.TheVariants.{Fsm, Ere, Cfg, Ptltl}
+use Rattle.jm_spec.specs.declared.tree.SpecTree.{SpecTree}
+use Rattle.jm_spec.specs.Faults.{frame_fault}
+use Rattle.jm_spec.specs.Spelling.{Spells}
+use Rattle.jm_spec.specs.Trees.{IsFaultOfTokens}
+use Rattle.jm_table.proofs.ExplorationLemmas.{explored_one}
+use Rattle.jm_fsm.specs.Formulas as fsm_spelling
+use Rattle.jm_fsm.specs.Faults as fsm_faults
+use Rattle.jm_fsm.specs.Trees as fsm_trees
+use Rattle.jm_fsm.proofs.GrammarLemmas as fsm_grammar
+use Rattle.jm_ere.specs.NormalForms.{forms_of}
+use Rattle.jm_ere.specs.Spelling as ere_spelling
+use Rattle.jm_ere.specs.Readings as ere
+use Rattle.jm_ere.proofs.FormulaLemmas as ere_grammar
+use Rattle.jm_ptltl.specs.Grammar as past_spelling
+use Rattle.jm_ptltl.specs.Faults as past_faults
+use Rattle.jm_ptltl.specs.Readings as past_readings
+use Rattle.jm_ptltl.proofs.GrammarLemmas as past_grammar
+use Rattle.jm_grammar.specs.Formulas as grammar_spelling
+use Rattle.jm_grammar.specs.Faults as grammar_faults
+use Rattle.jm_grammar.specs.Trees as grammar_trees
+use Rattle.jm_grammar.proofs.GrammarLemmas as grammar
+use Rattle.jm_machine.specs.declared.formula.Formula.{Formula}
+use Rattle.jm_machine.specs.declared.formula.Formula.TheVariants.{Machine, Regular, Temporal, Grammatical}
+use Rattle.jm_machine.specs.Formulas.{category_names, IsRefusedIn, IsTableFault}
+use Rattle.jm_machine.specs.Handlers.{handlers_fault}
+use Rattle.jm_machine.specs.Compiling.{formula_of, IsFaultyTree, in_formula, in_handlers, in_table}
+use Rattle.jm_machine.proofs.ReadingLemmas.{one_formula, formula_or_fault}
+use Rattle.jm_top.specs.Specifications.{Specification, IsSpecFault, too_long, no_tokens, in_frame, in_tree}
+use Rattle.jm_top.specs.Scripts.{IsScriptFault, too_long as script_too_long, in_line}
+use Rattle.jm_top.proofs.OneReadingLemmas.{same_some, never_some, same_err, one_list, one_frame, one_told, faulty_moved, tree_has_no_fault, cut_has_no_fault}
+use Rattle.jm_telling.specs.FirstFaults.{IsSyntax, IsSameFault}
+
+-- ---- scripts
+
+pub one_script_fault : (specs : List Specification) (count : ℕ) (names : List (List ℕ)) (bytes : List ℕ) (fault other : ScriptFault)
+    → IsScriptFault specs count names bytes fault → IsScriptFault specs count names bytes other → fault ≡ other
+one_script_fault specs count names bytes _ _ (script_too_long more) (script_too_long less) = refl
+one_script_fault specs count names bytes _ _ (script_too_long more) (in_line other small has) = absurd (omega (arith, more, small))
+one_script_fault specs count names bytes _ _ (in_line fault small has) (script_too_long more) = absurd (omega (arith, more, small))
+one_script_fault specs count names bytes _ _ (in_line fault small has) (in_line other less also) = same_some (sym has ∙ also)
+
+-- ---- what is read, with a fault
+
+-- nothing is spelled, or what is spelled has the fault
+module _ {X : Type 0} (IsSpelled : X → Type 0) (first : X → Option SpecFault) where
+  abbrev IsBad : SpecFault → Type 0
+  IsBad fault = (IsSyntax fault × ((x : X) → IsSpelled x → ⊥)) ⊎ ((x : X) × IsSpelled x × (first x ≡ Some fault))
+
+  one_bad : ((x y : X) → IsSpelled x → IsSpelled y → x ≡ y) → (fault other : SpecFault) → IsBad fault → IsBad other → IsSameFault fault other
+  one_bad one fault other (inl a) (inl b) = inr (a.0, b.0)
+  one_bad one fault other (inl a) (inr b) = absurd (a.1 b.0 b.1)
+  one_bad one fault other (inr a) (inl b) = absurd (b.1 a.0 a.1)
+  one_bad one fault other (inr a) (inr b) = inl (same_some (sym a.2 ∙ ap first (one a.0 b.0 a.1 b.1) ∙ b.2))
+
+  -- or else it is nested too deeply, which is looked at first
+  abbrev IsDeepOrBad : Type 0 → SpecFault → Type 0
+  IsDeepOrBad IsDeep fault = (IsDeep × (fault ≡ TooMany Nesting)) ⊎ ((IsDeep → ⊥) × IsBad fault)
+
+  one_deep_or_bad : (IsDeep : Type 0) → ((x y : X) → IsSpelled x → IsSpelled y → x ≡ y) → (fault other : SpecFault)
+      → IsDeepOrBad IsDeep fault → IsDeepOrBad IsDeep other → IsSameFault fault other
+  one_deep_or_bad IsDeep one fault other (inl a) (inl b) = inl (a.1 ∙ sym b.1)
+  one_deep_or_bad IsDeep one fault other (inl a) (inr b) = absurd (b.0 a.0)
+  one_deep_or_bad IsDeep one fault other (inr a) (inl b) = absurd (a.0 b.0)
+  one_deep_or_bad IsDeep one fault other (inr a) (inr b) = one_bad one fault other a.1 b.1
+
+-- ---- formulas
+
+module _ (bytes : List ℕ) (tokens : List Token) (table : EventDefinitions) where
+  bad_machine : (fault : SpecFault) → fsm_trees.IsRefused bytes tokens table (Bad fault) → IsBad (fsm_spelling.Spells bytes tokens) (fsm_faults.first_fault bytes table) fault
+  bad_machine (Syntax line) h = inl (tt, h)
+  bad_machine _ h = inr h
+
+  is_shallow : ere.is_too_deep bytes 0 tokens ≡ false → ere.is_too_deep bytes 0 tokens ≡ true → ⊥
+  is_shallow shallow deep = false≢true (sym shallow ∙ deep)
+
+  bad_expression : (fault : SpecFault) → ere.IsRefused bytes tokens table (Bad fault)
+      → IsDeepOrBad (ere_spelling.Spells bytes tokens) (ere.first_fault bytes table) (ere.is_too_deep bytes 0 tokens ≡ true) fault
+  bad_expression (TooMany Nesting) h = inl (h, refl)
+  bad_expression (Syntax line) h = inr (is_shallow h.0, inl (tt, h.1))
+  bad_expression _ h = inr (is_shallow h.0, inr h.1)
+
+  bad_past : (fault : SpecFault) → past_readings.IsRefused bytes tokens table (Bad fault)
+      → IsDeepOrBad (past_spelling.Spells bytes tokens) (past_faults.first_fault bytes table) (past_faults.IsTooDeep bytes tokens) fault
+  bad_past (TooMany Nesting) h = inl (h, refl)
+  bad_past (Syntax line) h = inr (h.0, inl (tt, h.1))
+  bad_past _ h = inr (h.0, inr h.1)
+
+  bad_grammar : (fault : SpecFault) → grammar_trees.IsRefused bytes tokens table (Bad fault) → IsBad (grammar_spelling.Spells bytes tokens) (grammar_faults.first_fault bytes table) fault
+  bad_grammar (Syntax line) h = inl (tt, h)
+  bad_grammar _ h = inr h
+
+  one_formula_fault : (logic : Logic) (fault other : SpecFault) → IsRefusedIn bytes tokens table logic fault → IsRefusedIn bytes tokens table logic other → IsSameFault fault other
+  one_formula_fault Fsm fault other a b =
+      one_bad (fsm_spelling.Spells bytes tokens) (fsm_faults.first_fault bytes table) (fsm_grammar.one_formula bytes tokens) fault other (bad_machine fault a) (bad_machine other b)
+  one_formula_fault Ere fault other a b =
+      one_deep_or_bad (ere_spelling.Spells bytes tokens) (ere.first_fault bytes table) (ere.is_too_deep bytes 0 tokens ≡ true) (ere_grammar.one_formula bytes tokens) fault other
+      (bad_expression fault a) (bad_expression other b)
+  one_formula_fault Ptltl fault other a b =
+      one_deep_or_bad (past_spelling.Spells bytes tokens) (past_faults.first_fault bytes table) (past_faults.IsTooDeep bytes tokens) (past_grammar.one_formula bytes tokens) fault other
+      (bad_past fault a) (bad_past other b)
+  one_formula_fault Cfg fault other a b =
+      one_bad (grammar_spelling.Spells bytes tokens) (grammar_faults.first_fault bytes table) (grammar.one_formula bytes tokens) fault other (bad_grammar fault a) (bad_grammar other b)
+
+-- ---- tables
+
+one_table_fault : (f : Formula) (letters : ℕ) (fault other : SpecFault) → IsTableFault f letters fault → IsTableFault f letters other → fault ≡ other
+one_table_fault (Machine m) letters fault other a b = absurd a
+one_table_fault (Regular e) letters fault other a b = same_err (explored_one (forms_of e) letters (Err fault) (Err other) a b)
+one_table_fault (Temporal p) letters fault other a b = a.0 ∙ sym b.0
+one_table_fault (Grammatical g) letters fault other a b = absurd a
+
+-- ---- trees
+
+module _ (bytes : List ℕ) (tokens : List Token) (tree : SpecTree) where
+  one_tree_fault : (fault other : SpecFault) → IsFaultyTree bytes tokens tree fault → IsFaultyTree bytes tokens tree other → IsSameFault fault other
+  one_tree_fault fault other (in_formula a) (in_formula b) = one_formula_fault bytes (formula_of tokens tree) tree.table tree.logic fault other a b
+  one_tree_fault fault other (in_formula a) (in_handlers g says worse) = absurd (formula_or_fault bytes (formula_of tokens tree) tree.table tree.logic g fault says a)
+  one_tree_fault fault other (in_formula a) (in_table g says sound worse) = absurd (formula_or_fault bytes (formula_of tokens tree) tree.table tree.logic g fault says a)
+  one_tree_fault fault other (in_handlers f read bad) (in_formula b) = absurd (formula_or_fault bytes (formula_of tokens tree) tree.table tree.logic f other read b)
+  one_tree_fault fault other (in_table f read sound bad) (in_formula b) = absurd (formula_or_fault bytes (formula_of tokens tree) tree.table tree.logic f other read b)
+  one_tree_fault fault other (in_handlers f read bad) (in_handlers g says worse) =
+      let one = one_formula bytes (formula_of tokens tree) tree.table tree.logic f g read says in
+      inl (same_some (sym bad ∙ ap (λ x. handlers_fault bytes tokens (category_names x) tree.handlers.items) one ∙ worse))
+  one_tree_fault fault other (in_handlers f read bad) (in_table g says sound worse) =
+      let one = one_formula bytes (formula_of tokens tree) tree.table tree.logic g f says read in
+      absurd (never_some (sym sound ∙ ap (λ x. handlers_fault bytes tokens (category_names x) tree.handlers.items) one ∙ bad))
+  one_tree_fault fault other (in_table f read sound bad) (in_handlers g says worse) =
+      let one = one_formula bytes (formula_of tokens tree) tree.table tree.logic f g read says in
+      absurd (never_some (sym sound ∙ ap (λ x. handlers_fault bytes tokens (category_names x) tree.handlers.items) one ∙ worse))
+  one_tree_fault fault other (in_table f read sound bad) (in_table g says also worse) =
+      let one = one_formula bytes (formula_of tokens tree) tree.table tree.logic g f says read in
+      inl (one_table_fault f (length tree.table.events) fault other bad (subst (λ x. IsTableFault x (length tree.table.events) other) one worse))
+
+-- ---- frames
+
+bad_frame : (bytes : List ℕ) (tokens : List Token) (fault : SpecFault) → IsFaultOfTokens bytes tokens (Bad fault) → IsBad (Spells bytes tokens) (frame_fault bytes) fault
+bad_frame bytes tokens (Syntax line) h = inl (tt, h)
+bad_frame bytes tokens _ h = inr h
+
+one_frame_fault : (bytes : List ℕ) (tokens : List Token) (fault other : SpecFault) → IsFaultOfTokens bytes tokens (Bad fault) → IsFaultOfTokens bytes tokens (Bad other) → IsSameFault fault other
+one_frame_fault bytes tokens fault other a b =
+    one_bad (Spells bytes tokens) (frame_fault bytes) (λ f g. one_frame bytes tokens tokens f g refl) fault other (bad_frame bytes tokens fault a) (bad_frame bytes tokens other b)
+
+-- ---- tokens
+
+no_cut : (bytes : List ℕ) (fault : SpecFault) → IsFaultOf bytes (Bad fault)
+    → ((fault ≡ NotUtf8) × (IsUtf8 bytes → ⊥)) ⊎ ((line : ℕ) × (fault ≡ OpenText line) × IsOpenOn bytes line)
+no_cut bytes NotUtf8 h = inl (refl, h)
+no_cut bytes (OpenText line) h = inr (line, refl, h)
+no_cut bytes _ h = absurd h
+
+one_cut_fault : (bytes : List ℕ) (fault other : SpecFault) → IsFaultOf bytes (Bad fault) → IsFaultOf bytes (Bad other) → fault ≡ other
+one_cut_fault bytes fault other a b = elim (no_cut bytes fault a) [
+  | inl x ↦ elim (no_cut bytes other b) [
+    | inl y ↦ x.0 ∙ sym y.0
+    | inr y ↦ absurd (x.1 y.2.utf8)
+  ]
+  | inr x ↦ elim (no_cut bytes other b) [
+    | inl y ↦ absurd (y.1 x.2.utf8)
+    | inr y ↦ x.1 ∙ ap (λ line. OpenText line) (same_err (sym x.2.cut ∙ y.2.cut)) ∙ sym y.1
+  ]
+]
+
+-- ---- specifications
+
+pub one_spec_fault : (bytes : List ℕ) (fault other : SpecFault) → IsSpecFault bytes fault → IsSpecFault bytes other → IsSameFault fault other
+one_spec_fault bytes _ _ (too_long more) (too_long less) = inl refl
+one_spec_fault bytes _ _ (too_long more) (no_tokens other small none) = absurd (omega (arith, more, small))
+one_spec_fault bytes _ _ (too_long more) (in_frame tokens other small cut bad) = absurd (omega (arith, more, small))
+one_spec_fault bytes _ _ (too_long more) (in_tree tokens tree other told bad) = absurd (omega (arith, more, told.small))
+one_spec_fault bytes _ _ (no_tokens fault small none) (too_long more) = absurd (omega (arith, more, small))
+one_spec_fault bytes _ _ (in_frame tokens fault small cut bad) (too_long more) = absurd (omega (arith, more, small))
+one_spec_fault bytes _ _ (in_tree tokens tree fault told bad) (too_long more) = absurd (omega (arith, more, told.small))
+one_spec_fault bytes _ _ (no_tokens fault small none) (no_tokens other less neither) = inl (one_cut_fault bytes fault other none neither)
+one_spec_fault bytes _ _ (no_tokens fault small none) (in_frame tokens other less cut bad) = absurd (cut_has_no_fault bytes tokens fault cut none)
+one_spec_fault bytes _ _ (no_tokens fault small none) (in_tree tokens tree other told bad) = absurd (cut_has_no_fault bytes tokens fault told.cut none)
+one_spec_fault bytes _ _ (in_frame tokens fault small cut bad) (no_tokens other less none) = absurd (cut_has_no_fault bytes tokens other cut none)
+one_spec_fault bytes _ _ (in_tree tokens tree fault told bad) (no_tokens other less none) = absurd (cut_has_no_fault bytes tokens other told.cut none)
+one_spec_fault bytes _ _ (in_frame ts fault small cut bad) (in_frame us other less also worse) =
+    one_frame_fault bytes us fault other (subst (λ list. IsFaultOfTokens bytes list (Bad fault)) (one_list bytes ts us cut also) bad) worse
+one_spec_fault bytes _ _ (in_frame ts fault small cut bad) (in_tree us tree other told worse) =
+    absurd (tree_has_no_fault bytes us tree fault told.told (subst (λ list. IsFaultOfTokens bytes list (Bad fault)) (one_list bytes ts us cut told.cut) bad))
+one_spec_fault bytes _ _ (in_tree us tree fault told bad) (in_frame ts other small cut worse) =
+    absurd (tree_has_no_fault bytes us tree other told.told (subst (λ list. IsFaultOfTokens bytes list (Bad other)) (one_list bytes ts us cut told.cut) worse))
+one_spec_fault bytes _ _ (in_tree ts a fault told bad) (in_tree us b other says worse) =
+    let same = one_told bytes ts us a b told says in
+    one_tree_fault bytes us b fault other (faulty_moved bytes ts us a b same fault bad) worse
