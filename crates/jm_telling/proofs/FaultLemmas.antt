@@ -42,7 +42,7 @@ use Rattle.jm_machine.specs.Compiling.{formula_of, IsFaultyTree, in_formula, in_
 use Rattle.jm_machine.proofs.ReadingLemmas.{one_formula, formula_or_fault}
 use Rattle.jm_top.specs.Specifications.{Specification, IsSpecFault, too_long, no_tokens, in_frame, in_tree}
 use Rattle.jm_top.specs.Scripts.{IsScriptFault, too_long as script_too_long, in_line}
-use Rattle.jm_top.proofs.OneReadingLemmas.{same_some, never_some, same_err, one_list, one_frame, one_told, faulty_moved, tree_has_no_fault, cut_has_no_fault}
+use Rattle.jm_top.proofs.OneReadingLemmas.{IsSameTold, same_some, never_some, same_err, one_list, one_frame, one_told, read_moved, handled_moved, letters_moved, tree_has_no_fault, cut_has_no_fault}
 use Rattle.jm_telling.specs.FirstFaults.{IsSyntax, IsSameFault}
 
 -- ---- scripts
@@ -175,6 +175,18 @@ one_cut_fault bytes fault other a b = elim (no_cut bytes fault a) [
     | inr y ↦ x.1 ∙ ap (λ line. OpenText line) (same_err (sym x.2.cut ∙ y.2.cut)) ∙ sym y.1
   ]
 ]
+
+-- ---- trees of the same bytes
+
+module _ (bytes : List ℕ) (ts us : List Token) (a b : SpecTree) (same : IsSameTold ts us a b) where
+  refused_moved : (fault : SpecFault) → IsRefusedIn bytes (formula_of ts a) a.table a.logic fault → IsRefusedIn bytes (formula_of us b) b.table b.logic fault
+  refused_moved fault h = rw (sym same.tokens, sym same.tree.first, sym same.tree.last, sym same.tree.table, sym same.tree.logic) h
+
+  faulty_moved : (fault : SpecFault) → IsFaultyTree bytes ts a fault → IsFaultyTree bytes us b fault
+  faulty_moved fault (in_formula refused) = in_formula (refused_moved fault refused)
+  faulty_moved fault (in_handlers f read bad) = in_handlers f (read_moved bytes ts us a b same f read) (sym (handled_moved bytes ts us a b same (category_names f)) ∙ bad)
+  faulty_moved fault (in_table f read sound bad) =
+      in_table f (read_moved bytes ts us a b same f read) (sym (handled_moved bytes ts us a b same (category_names f)) ∙ sound) (subst (λ n. IsTableFault f n fault) (letters_moved bytes ts us a b same) bad)
 
 -- ---- specifications
 

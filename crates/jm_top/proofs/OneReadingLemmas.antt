@@ -19,10 +19,10 @@ use Rattle.jm_spec.specs.Spelling.{Spells}
 use Rattle.jm_spec.specs.Trees.{IsTreeOf, IsTreeOfTokens, IsFaultOfTokens, TellsProperties}
 use Rattle.jm_spec.proofs.CompleteLemmas.{spelled_is_frame}
 use Rattle.jm_machine.specs.declared.formula.Formula.{Formula}
-use Rattle.jm_machine.specs.Formulas.{category_names, IsRefusedIn, IsTableFault}
+use Rattle.jm_machine.specs.Formulas.{category_names, IsTableFault}
 use Rattle.jm_machine.specs.Handlers.{handler_names, handlers_fault}
 use Rattle.jm_machine.specs.Meanings.{RuleDefinition, rules_of}
-use Rattle.jm_machine.specs.Compiling.{formula_of, IsFormula, IsCompiledFrom, IsFaultyTree, in_formula, in_handlers, in_table}
+use Rattle.jm_machine.specs.Compiling.{IsFormula, IsCompiledFrom}
 use Rattle.jm_machine.proofs.ReadingLemmas.{one_rules, rules_or_fault}
 use Rattle.jm_top.specs.Specifications.{Specification, IsTold, IsSpecification, BlocksSay, IsSpecFault, too_long, no_tokens, in_frame, in_tree}
 
@@ -55,14 +55,14 @@ one_frame bytes tokens other frame f same a b =
 
 -- what two trees of one frame share
 pub record IsSameTree (a b : SpecTree) : Type 0 where
-  name : a.name ≡ b.name
-  logic : a.logic ≡ b.logic
-  full : a.full_binding ≡ b.full_binding
-  table : a.table ≡ b.table
-  first : a.first ≡ b.first
-  last : a.last ≡ b.last
-  handlers : a.handlers.items ≡ b.handlers.items
-  line : a.logic_line ≡ b.logic_line
+  pub name : a.name ≡ b.name
+  pub logic : a.logic ≡ b.logic
+  pub full : a.full_binding ≡ b.full_binding
+  pub table : a.table ≡ b.table
+  pub first : a.first ≡ b.first
+  pub last : a.last ≡ b.last
+  pub handlers : a.handlers.items ≡ b.handlers.items
+  pub line : a.logic_line ≡ b.logic_line
 
 -- the parts that come from the property
 record IsSameProperty (a b : SpecTree) : Type 0 where
@@ -99,8 +99,8 @@ same_tree_of bytes frame a b ha hb =
 
 -- bytes have one list of tokens and one tree
 pub record IsSameTold (ts us : List Token) (a b : SpecTree) : Type 0 where
-  tokens : ts ≡ us
-  tree : IsSameTree a b
+  pub tokens : ts ≡ us
+  pub tree : IsSameTree a b
 
 pub one_told : (bytes : List ℕ) (ts us : List Token) (a b : SpecTree) → IsTold bytes ts a → IsTold bytes us b → IsSameTold ts us a b
 one_told bytes ts us a b ha hb =
@@ -110,13 +110,13 @@ one_told bytes ts us a b ha hb =
 
 -- what one tree of the same tokens says, the other says
 module _ (bytes : List ℕ) (ts us : List Token) (a b : SpecTree) (same : IsSameTold ts us a b) where
-  read_moved : (f : Formula) → IsFormula bytes ts a f → IsFormula bytes us b f
+  pub read_moved : (f : Formula) → IsFormula bytes ts a f → IsFormula bytes us b f
   read_moved f h = rw (sym same.tokens, sym same.tree.first, sym same.tree.last, sym same.tree.table, sym same.tree.logic) h
 
-  handled_moved : (names : List (List ℕ)) → handlers_fault bytes ts names a.handlers.items ≡ handlers_fault bytes us names b.handlers.items
+  pub handled_moved : (names : List (List ℕ)) → handlers_fault bytes ts names a.handlers.items ≡ handlers_fault bytes us names b.handlers.items
   handled_moved names = λ i. handlers_fault bytes (same.tokens i) names (same.tree.handlers i)
 
-  letters_moved : length a.table.events ≡ length b.table.events
+  pub letters_moved : length a.table.events ≡ length b.table.events
   letters_moved = ap (λ (t : EventDefinitions). length t.events) same.tree.table
 
   rules_moved : (f : Formula) → rules_of a.table a.full_binding f (handler_names bytes a.handlers.items) ≡ rules_of b.table b.full_binding f (handler_names bytes b.handlers.items)
@@ -129,15 +129,6 @@ module _ (bytes : List ℕ) (ts us : List Token) (a b : SpecTree) (same : IsSame
     settled = λ fault is. h.settled fault (subst (λ n. IsTableFault r.formula n fault) (sym letters_moved) is);
     rules = h.rules ∙ rules_moved r.formula;
   }
-
-  refused_moved : (fault : SpecFault) → IsRefusedIn bytes (formula_of ts a) a.table a.logic fault → IsRefusedIn bytes (formula_of us b) b.table b.logic fault
-  refused_moved fault h = rw (sym same.tokens, sym same.tree.first, sym same.tree.last, sym same.tree.table, sym same.tree.logic) h
-
-  pub faulty_moved : (fault : SpecFault) → IsFaultyTree bytes ts a fault → IsFaultyTree bytes us b fault
-  faulty_moved fault (in_formula refused) = in_formula (refused_moved fault refused)
-  faulty_moved fault (in_handlers f read bad) = in_handlers f (read_moved f read) (sym (handled_moved (category_names f)) ∙ bad)
-  faulty_moved fault (in_table f read sound bad) =
-      in_table f (read_moved f read) (sym (handled_moved (category_names f)) ∙ sound) (subst (λ n. IsTableFault f n fault) letters_moved bad)
 
 pub tree_has_no_fault : (bytes : List ℕ) (tokens : List Token) (tree : SpecTree) (fault : SpecFault) → IsTreeOfTokens bytes tokens tree → IsFaultOfTokens bytes tokens (Bad fault) → ⊥
 tree_has_no_fault bytes tokens tree (Syntax line) h k = k h.0 h.1
