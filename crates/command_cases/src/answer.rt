@@ -13,6 +13,7 @@ pub(crate) fn answer<R: Threads + Wait + Sync>(
     match case.verb.as_str() {
         "run" => command::run(rt, alloc, case),
         "long" => command::long(rt, alloc, case),
+        "fronts" => command::fronts(rt, alloc, case),
         "told" => command::told(alloc, case),
         "laws" => command::laws(alloc),
         _ => String::from_str(alloc, "no such verb"),

@@ -1,7 +1,7 @@
 //! Whole commands.
-use crate::shown::{last_line, put_text};
+use crate::shown::{put_last_line, put_text};
 use case_files::{calls_of, files, sink_of};
-use cases::Case;
+use cases::{Case, put_line, text_of};
 use jm_port::{Folder, MemoryFolder, Sink, SureFolder, SureSink};
 use jm_runner::FreeGate;
 use jm_top::{Status, fault_text, jmop, one_reading};
@@ -104,8 +104,8 @@ fn shown(alloc: Global, status: &Status, out: &[u8], err: &[u8]) -> Result<Strin
     Ok(answer)
 }
 
-/// The same where nothing fails and the files are long: how many bytes are written, and their last line. In the files a
-/// `;` stands for a line feed.
+/// The same where nothing fails and the files are long: how many bytes are written, their last line, and that of what the
+/// error sink was given. In the files a `;` stands for a line feed.
 pub(crate) fn long<R: Threads + Wait + Sync>(
     rt: &R,
     alloc: Global,
@@ -114,9 +114,11 @@ pub(crate) fn long<R: Threads + Wait + Sync>(
     let text = with_line_feeds(alloc, case.text.as_slice())?;
     let mut folder = SureFolder::new(files(alloc, text.as_slice())?);
     let mut out = SureSink::new(alloc);
-    let (status, _) = done(rt, alloc, case, &mut folder, &mut out)?;
-    let bytes = out.bytes();
-    format!(in alloc; "{status:?} {} bytes\n{}", bytes.len(), last_line(bytes))
+    let (status, err) = done(rt, alloc, case, &mut folder, &mut out)?;
+    let mut answer = format!(in alloc; "{status:?} {} bytes", out.bytes().len())?;
+    put_last_line(&mut answer, out.bytes())?;
+    put_last_line(&mut answer, err.bytes())?;
+    Ok(answer)
 }
 
 fn with_line_feeds(alloc: Global, text: &[u8]) -> Result<Vec<u8>, AllocError> {
@@ -125,6 +127,49 @@ fn with_line_feeds(alloc: Global, text: &[u8]) -> Result<Vec<u8>, AllocError> {
         out.push(if *byte == b';' { b'\n' } else { *byte })?;
     }
     Ok(out)
+}
+
+/// How the command ends on each front of the case's file, from the empty one on: a line for each front that doesn't end as
+/// the one before it, with the front's length.
+pub(crate) fn fronts<R: Threads + Wait + Sync>(
+    rt: &R,
+    alloc: Global,
+    case: &Case,
+) -> Result<String, AllocError> {
+    let mut answer = String::new(alloc);
+    let mut before = String::new(alloc);
+    for file in &files(alloc, case.text.as_slice())? {
+        let bytes = file.1.as_slice();
+        for length in 0..=bytes.len() {
+            let end = end_on(rt, alloc, case, file.0.as_str(), &bytes[..length])?;
+            if end.as_str() != before.as_str() {
+                let line = format!(in alloc; "{length} {end}")?;
+                put_line(&mut answer, line.as_str())?;
+                before = end;
+            }
+        }
+    }
+    Ok(answer)
+}
+
+/// How the command ends where the file of this name holds these bytes and there is no other: what is written, and what the
+/// error sink is given.
+fn end_on<R: Threads + Wait + Sync>(
+    rt: &R,
+    alloc: Global,
+    case: &Case,
+    name: &str,
+    bytes: &[u8],
+) -> Result<String, AllocError> {
+    let mut contents = Vec::new(alloc);
+    contents.extend_from_slice(bytes)?;
+    let mut list = Vec::new(alloc);
+    list.push((String::from_str(alloc, name)?, contents))?;
+    let mut folder = SureFolder::new(list);
+    let mut out = SureSink::new(alloc);
+    let (_, err) = done(rt, alloc, case, &mut folder, &mut out)?;
+    let told = text_of(err.bytes()).trim_end();
+    format!(in alloc; "{}{told}", text_of(out.bytes()))
 }
 
 /// What is told of the status that the words name.

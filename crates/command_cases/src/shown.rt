@@ -15,8 +15,15 @@ pub(crate) fn put_text(answer: &mut String, heading: &str, bytes: &[u8]) -> Resu
     Ok(())
 }
 
-/// The last line of a text.
-pub(crate) fn last_line(bytes: &[u8]) -> &str {
+/// Appends the last line of a text, if it has any.
+pub(crate) fn put_last_line(answer: &mut String, bytes: &[u8]) -> Result<(), AllocError> {
+    if bytes.is_empty() {
+        return Ok(());
+    }
+    put_line(answer, last_line(bytes))
+}
+
+fn last_line(bytes: &[u8]) -> &str {
     let text = text_of(bytes).trim_end();
     match text.rsplit_once('\n') {
         Some((_, last)) => last,
