@@ -45,7 +45,7 @@ fn told<M: Monitor>(
     let mut both = Both::new(alloc, rules, objects)?;
     let words = case.first.as_str();
     if case.verb.as_str() == "steps" {
-        return steps(alloc, words, rules, &mut both);
+        return steps(alloc, words, &mut both);
     }
     if let [seed, steps, count] = numbers_of(alloc, words)?.as_slice() {
         let runs = Runs {
@@ -64,14 +64,13 @@ fn told<M: Monitor>(
 fn steps<M: Monitor>(
     alloc: Global,
     words: &str,
-    rules: &M,
-    both: &mut Both<M>,
+    both: &mut Both<'_, M>,
 ) -> Result<String, NoMemory> {
     let mut out = String::new(alloc);
     for word in words.split_whitespace() {
         let answer = match word {
-            "lists" => both.lists(rules)?,
-            step => both.step(rules, &step_of(step))?,
+            "lists" => both.lists()?,
+            step => both.step(&step_of(step))?,
         };
         put(&mut out, ' ', answer.as_str())?;
     }

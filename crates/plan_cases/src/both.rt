@@ -9,9 +9,9 @@ use std::alloc::{AllocError, Global};
 /// Both stores, how many of their answers agree, and a line for each that differs. Beside these it is counted how many
 /// handlers fired and how many instances were kept in the slow store.
 #[derive(Drop)]
-pub(crate) struct Both<M: Monitor> {
+pub(crate) struct Both<'a, M: Monitor> {
     alloc: Global,
-    rig: Rig<M>,
+    rig: Rig<'a, M>,
     slow: Slow,
     agree: u64,
     fired: u64,
@@ -20,8 +20,8 @@ pub(crate) struct Both<M: Monitor> {
     pub(crate) differ: String,
 }
 
-impl<M: Monitor> Both<M> {
-    pub(crate) fn new(alloc: Global, rules: &M, objects: u32) -> Result<Both<M>, NoMemory> {
+impl<'a, M: Monitor> Both<'a, M> {
+    pub(crate) fn new(alloc: Global, rules: &'a M, objects: u32) -> Result<Both<'a, M>, NoMemory> {
         Ok(Both {
             alloc,
             rig: Rig::new(alloc, rules, objects)?,
@@ -34,18 +34,18 @@ impl<M: Monitor> Both<M> {
     }
 
     /// Begins anew, and counts on.
-    pub(crate) fn begin(&mut self, rules: &M, objects: u32) -> Result<(), NoMemory> {
-        self.rig = Rig::new(self.alloc, rules, objects)?;
+    pub(crate) fn begin(&mut self, objects: u32) -> Result<(), NoMemory> {
+        self.rig = Rig::new(self.alloc, self.rig.rules, objects)?;
         self.slow = Slow::new(self.alloc)?;
         Ok(())
     }
 
     /// The text of the store's outcome of a step, or `none` where it isn't done.
-    pub(crate) fn step(&mut self, rules: &M, step: &Step) -> Result<String, NoMemory> {
-        let Some(found) = self.rig.step(rules, step)? else {
+    pub(crate) fn step(&mut self, step: &Step) -> Result<String, NoMemory> {
+        let Some(found) = self.rig.step(step)? else {
             return Ok(String::from_str(self.alloc, "none")?);
         };
-        let wanted = self.slow.step(rules, step)?;
+        let wanted = self.slow.step(self.rig.rules, step)?;
         match &wanted {
             Outcome::Fired(firings) => {
                 self.fired = self.fired.wrapping_add(firings.len() as u64);
@@ -58,9 +58,10 @@ impl<M: Monitor> Both<M> {
     }
 
     /// The texts of the stored bindings and of the marks. Directly after a pass the slow store has the same.
-    pub(crate) fn lists(&mut self, rules: &M) -> Result<String, NoMemory> {
+    pub(crate) fn lists(&mut self) -> Result<String, NoMemory> {
         let found = lists_shown(self.alloc, &self.rig.stored()?, &self.rig.marks()?)?;
-        let wanted = lists_shown(self.alloc, &self.slow.stored(rules)?, &self.slow.marks()?)?;
+        let stored = self.slow.stored(self.rig.rules)?;
+        let wanted = lists_shown(self.alloc, &stored, &self.slow.marks()?)?;
         self.see(found, wanted.as_str())
     }
 

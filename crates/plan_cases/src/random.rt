@@ -14,26 +14,26 @@ pub(crate) struct Runs {
 
 /// Does the runs, each with a pass at its end.
 pub(crate) fn random<M: Monitor>(
-    both: &mut Both<M>,
+    both: &mut Both<'_, M>,
     rules: &M,
     runs: Runs,
 ) -> Result<(), NoMemory> {
     let mut draw = Draw::new(runs.seed);
     for _ in 0..runs.count {
-        both.begin(rules, runs.objects)?;
+        both.begin(runs.objects)?;
         for _ in 0..runs.steps {
             let step = step_of(rules, &mut draw, runs.objects);
-            take(both, rules, &step)?;
+            take(both, &step)?;
         }
-        take(both, rules, &Step::Pass)?;
+        take(both, &Step::Pass)?;
     }
     Ok(())
 }
 
-fn take<M: Monitor>(both: &mut Both<M>, rules: &M, step: &Step) -> Result<(), NoMemory> {
-    both.step(rules, step)?;
+fn take<M: Monitor>(both: &mut Both<'_, M>, step: &Step) -> Result<(), NoMemory> {
+    both.step(step)?;
     if let Step::Pass = step {
-        both.lists(rules)?;
+        both.lists()?;
     }
     Ok(())
 }

@@ -1,4 +1,4 @@
-//! A store, and a table of objects that it fits.
+//! A store of some rules, and a table of objects that it fits.
 ghost use Rattle.std.specs.Prelude.{◌≡◌, ◌<◌, ℕ, true, false, Some, length};
 ghost use Rattle.jm_model.specs.Bindings.{object_at};
 ghost use Rattle.jm_index.specs.Index.{AreBelow};
@@ -14,25 +14,30 @@ use std::marker::Brand;
 use std::sync::ledger::{Blank, Ledger};
 
 #[derive(Drop)]
-pub(crate) struct Rig<M: Monitor> {
+pub(crate) struct Rig<'a, M: Monitor> {
+    pub(crate) rules: &'a M,
     objects: Objects,
     store: Store<M>,
     ghost closed: { store.is_open ≡ false },
-    ghost fits: { IsFit store objects },
+    ghost fits: { IsFit (M.meaning (M.definition rules.now)) (M.StandsFor rules.now) store objects },
 }
 
-impl<M: Monitor> Rig<M> {
-    pub(crate) fn new(alloc: Global, rules: &M, objects: u32) -> Result<Rig<M>, NoMemory> {
+impl<'a, M: Monitor> Rig<'a, M> {
+    pub(crate) fn new(alloc: Global, rules: &'a M, objects: u32) -> Result<Rig<'a, M>, NoMemory> {
         let objects = Objects::new(alloc, objects)?;
         let store = Store::new(alloc, rules)?;
-        Ok(Rig { objects, store })
+        Ok(Rig {
+            rules,
+            objects,
+            store,
+        })
     }
 
     /// Does a step. Nothing is done at an event that the rules don't have, or that binds an object which is dead or
     /// isn't there.
-    pub(crate) fn step(&mut self, rules: &M, step: &Step) -> Result<Option<Outcome>, NoMemory> {
+    pub(crate) fn step(&mut self, step: &Step) -> Result<Option<Outcome>, NoMemory> {
         match step {
-            Step::Event { letter, binding } => self.event(rules, *letter, binding),
+            Step::Event { letter, binding } => self.event(*letter, binding),
             Step::Death { object } => {
                 if *object < self.objects.len() {
                     self.objects.kill(*object);
@@ -40,31 +45,25 @@ impl<M: Monitor> Rig<M> {
                 Ok(Some(Outcome::Done))
             }
             Step::Pass => {
-                let kept = self.store.dispose(rules, &self.objects);
+                let kept = self.store.dispose(self.rules, &self.objects);
                 Ok(Some(Outcome::Kept(kept)))
             }
         }
     }
 
-    fn event(
-        &mut self,
-        rules: &M,
-        letter: Letter,
-        binding: &Binding,
-    ) -> Result<Option<Outcome>, NoMemory> {
-        if letter.0 >= rules.letters()
-            || rules.params(letter) != binding.mask()
+    fn event(&mut self, letter: Letter, binding: &Binding) -> Result<Option<Outcome>, NoMemory> {
+        if letter.0 >= self.rules.letters()
+            || self.rules.params(letter) != binding.mask()
             || !all_live(&self.objects, binding)
         {
             return Ok(None);
         }
-        let firings = self.fire::<Brand>(rules, letter, binding, Blank::new(1))?;
+        let firings = self.fire::<Brand>(letter, binding, Blank::new(1))?;
         Ok(Some(Outcome::Fired(firings)))
     }
 
     fn fire<L: Ledger>(
         &mut self,
-        rules: &M,
         letter: Letter,
         binding: &Binding,
         blank: Blank,
@@ -72,13 +71,13 @@ impl<M: Monitor> Rig<M> {
         requires name { blank.name ≡ L.name }
         requires parts { blank.parts ≡ L.parts }
         requires one { blank.parts ≡ 1 }
-        requires event { IsLiveEvent (M.meaning (M.definition rules.now)) self.old.objects letter.0 binding.now }
+        requires event { IsLiveEvent (M.meaning (M.definition self.old.rules.now)) self.old.objects letter.0 binding.now }
         requires there { AreBelow (length self.old.objects) binding.now }
     {
         let mut steps = Steps::<L>::new(blank);
         let plan = self
             .store
-            .plan(rules, &self.objects, letter, binding, &mut steps)?;
+            .plan(self.rules, &self.objects, letter, binding, &mut steps)?;
         let (answer, _) = self.store.commit(plan);
         Ok(answer)
     }
