@@ -1,7 +1,6 @@
 -- A core after one step more.
 use Rattle.std.proofs.Common.{◌≡◌, ℕ, ◌<◌, ◌%◌, ◌^◌, Bool, true, false, List, [], ◌∷◌, ◌++◌, length, replicate, refl, sym, ◌∙◌, ap, subst}
-use Rattle.std.specs.Prelude.{None, slice_set}
-use Rattle.std.proofs.lemmas.List.{length-set}
+use Rattle.std.specs.Prelude.{None}
 use Rattle.std.proofs.Math.Nat.{mod-eq_of_lt}
 use Rattle.jm_model.specs.Meanings.{Meaning}
 use Rattle.jm_model.specs.declared.binding.Binding.{Binding}
@@ -18,98 +17,76 @@ use Rattle.jm_semantics.proofs.HistoryLemmas.{trace_of-accepted, trace_of-other}
 use Rattle.jm_semantics.proofs.LegalityLemmas.{legal-push}
 use Rattle.jm_history.specs.Nodes.{Unanswered, answered}
 use Rattle.jm_marks.specs.Marks.{is_dead_object}
-use Rattle.jm_index.proofs.IndexLemmas.{IsFitting-death}
-use Rattle.jm_monitors.specs.declared.stored.Stored.{Stored}
 use Rattle.jm_monitors.specs.Deaths.{AreFlagsOf}
 use Rattle.jm_monitors.specs.Stores.{IsStoreOf}
-use Rattle.jm_monitors.specs.Steps.{IsAtStart, IsAfterPass, after_death}
-use Rattle.jm_monitors.proofs.StartLemmas.{start_is_store-lem}
+use Rattle.jm_monitors.specs.Steps.{IsAfterPass, after_death}
 use Rattle.jm_monitors.proofs.DeathLemmas.{flags_at_start-lem, flags_after_death-lem, flags_after_other-lem}
-use Rattle.jm_monitors.proofs.PassLemmas.{death_keeps_store-lem, pass_keeps_store-lem}
 use Rattle.jm_monitors.proofs.CountLemmas.{pass_counts_stored-lem}
-use Rattle.jm_store.specs.Contents.{Contents, stored_of, IsFit, IsEnded}
-use Rattle.jm_store.specs.Moves.{AreEnding}
-use Rattle.jm_store.proofs.EndingLemmas.{fewer-refl, ending_fewer}
+use Rattle.jm_store.specs.Contents.{Contents, stored_of, IsFit, IsStoreAfter}
+use Rattle.jm_store.proofs.StoreLemmas.{store_after_death, fit_after_death}
 use Rattle.jm_core.specs.Cores.{IsTidyAfter}
-use Rattle.jm_core.specs.Inside.{instances_of, IsCore, IsUntouched, IsOutcomeOf}
+use Rattle.jm_core.specs.Inside.{instances_of, IsCore, IsOutcomeOf}
 use Rattle.jm_core.proofs.FlagLemmas.{first_dead-by_flags}
 use Rattle.jm_core.proofs.FitLemmas.{tidy-push, none_cut, swept}
 
--- a store that fits the objects fits them after a death
-fit-death : (m : Meaning) {S : Type 0} (Stands : S → List ℕ → Type 0) (store : Contents S) (dead : List Bool) (o : ℕ) → IsFit m Stands store dead → IsFit m Stands store (after_death dead o)
-fit-death m Stands store dead o fit =
-    let size : length (slice_set dead o true) ≡ length dead = length-set dead o true in
-    record {
-      instances = λ s h q at. subst (λ n. q < n) (sym size) (fit.instances s h q at);
-      marks = λ b h q at. subst (λ n. q < n) (sym size) (fit.marks b h q at);
-      index = IsFitting-death store.index dead o fit.index;
-      spared = fit.spared;
-    }
-
 module _ (m : Meaning) {S : Type 0} (Stands : S → List ℕ → Type 0) where
   -- before the first step
-  pub core_at_start : (n : ℕ) (store : Contents S) → IsAtStart m Stands (stored_of store) → store.marks ≡ [] → store.is_open ≡ false → ((dead : List Bool) → IsFit m Stands store dead)
-      → IsEnded m Stands store → IsCore m Stands [] (replicate n false) store
-  core_at_start n store start none closed fits ended = record {
+  pub core_at_start : (n : ℕ) (store : Contents S) → store.is_open ≡ false → ((dead : List Bool) → IsFit store dead) → ((dead : List Bool) → IsStoreAfter m Stands [] dead store)
+      → IsCore m Stands [] (replicate n false) store
+  core_at_start n store closed fits holds = record {
     legal = tt;
     flags = flags_at_start-lem n;
     closed = closed;
     fits = fits (replicate n false);
-    monitors = subst (λ (marks : List Binding). IsStoreOf m Stands [] (replicate n false) (stored_of store) marks) (sym none)
-        (start_is_store-lem m Stands (replicate n false) (stored_of store) start);
-    ended = ended;
+    holds = holds (replicate n false);
     tidy = tt;
   }
 
   -- a step that leaves monitors, marks and dead objects as they are
   core_same : (h : List Entry) (dead : List Bool) (before after : Contents S) (x : Entry) → IsCore m Stands h dead before → IsLegal m (h ++ x ∷ []) → accepted_event x.step x.outcome ≡ None
-      → accepted_death x.step x.outcome ≡ None → after.is_open ≡ false → IsFit m Stands after dead → IsUntouched before after
+      → accepted_death x.step x.outcome ≡ None → after.is_open ≡ false → IsFit after dead → IsStoreAfter m Stands (trace_of h) dead after
       → IsTidyAfter m (h ++ x ∷ []) (instances_of (stored_of after)) after.marks x.step x.outcome → IsCore m Stands (h ++ x ∷ []) dead after
-  core_same h dead before after x core legal no_event no_death closed fits same tidy =
+  core_same h dead before after x core legal no_event no_death closed fits holds tidy =
       record {
         legal = legal;
         flags = flags_after_other-lem h dead x core.flags no_death;
         closed = closed;
         fits = fits;
-        monitors = subst (λ (tr : List ParametricEvent). IsStoreOf m Stands tr dead (stored_of after) after.marks) (sym (trace_of-other h x no_event))
-            (subst (λ (l : List (Stored S)). IsStoreOf m Stands (trace_of h) dead l after.marks) (sym same.stored)
-            (subst (λ (l : List Binding). IsStoreOf m Stands (trace_of h) dead (stored_of before) l) (sym same.marks) core.monitors));
-        ended = subst (λ (l : List (Stored S)). AreEnding m Stands after.ending l) (sym same.stored) (ending_fewer m Stands before.ending after.ending (stored_of before) same.fewer core.ended);
+        holds = subst (λ (tr : List ParametricEvent). IsStoreAfter m Stands tr dead after) (sym (trace_of-other h x no_event)) holds;
         tidy = tidy-push m h x (instances_of (stored_of after)) after.marks tidy;
       }
 
   -- ---- events
   -- an event, whatever it was answered
   named_event : (h : List Entry) (dead : List Bool) (before after : Contents S) (caller line : ℕ) (e : Letter) (b : Binding) (o : Outcome) → IsCore m Stands h dead before → IsStepOf m (Event e b)
-      → after.is_open ≡ false → IsFit m Stands after dead → IsOutcomeOf m Stands (trace_of h) dead (record { letter = e.0; binding = b }) before after o
+      → after.is_open ≡ false → IsFit after dead → IsOutcomeOf m Stands (trace_of h) dead (record { letter = e.0; binding = b }) before after o
       → IsCore m Stands (h ++ record { caller = caller; line = line; step = Event e b; outcome = o } ∷ []) dead after
   named_event h dead before after caller line e b (Fired firings) core is closed fits parts =
       let a : ParametricEvent = record { letter = e.0; binding = b } in
       let x : Entry = record { caller = caller; line = line; step = Event e b; outcome = Fired firings } in
       let flags : AreFlagsOf (h ++ x ∷ []) dead = flags_after_other-lem h dead x core.flags refl in
-      let monitors : IsStoreOf m Stands (trace_of (h ++ x ∷ [])) dead (stored_of after) after.marks =
-      subst (λ (tr : List ParametricEvent). IsStoreOf m Stands tr dead (stored_of after) after.marks) (sym (trace_of-accepted h x a refl)) parts.2.monitors in
+      let holds : IsStoreAfter m Stands (trace_of (h ++ x ∷ [])) dead after =
+      subst (λ (tr : List ParametricEvent). IsStoreAfter m Stands tr dead after) (sym (trace_of-accepted h x a refl)) parts.2.holds in
       record {
         legal = legal-push m h x core.legal is (first_dead-by_flags h dead b core.flags ∙ parts.0, parts.1);
         flags = flags;
         closed = closed;
         fits = fits;
-        monitors = monitors;
-        ended = parts.2.ended;
+        holds = holds;
         tidy = tidy-push m h x (instances_of (stored_of after)) after.marks
-            (none_cut m Stands (h ++ x ∷ []) dead (stored_of after) after.marks b flags monitors parts.2.none_cut);
+            (none_cut m Stands (h ++ x ∷ []) dead (stored_of after) after.marks b flags holds.monitors parts.2.none_cut);
       }
   named_event h dead before after caller line e b (Refused o) core is closed fits parts =
       let x : Entry = record { caller = caller; line = line; step = Event e b; outcome = Refused o } in
-      core_same h dead before after x core (legal-push m h x core.legal is (first_dead-by_flags h dead b core.flags ∙ parts.0)) refl refl closed fits parts.1 tt
+      core_same h dead before after x core (legal-push m h x core.legal is (first_dead-by_flags h dead b core.flags ∙ parts.0)) refl refl closed fits parts.1.holds tt
   named_event h dead before after caller line e b NoMemory core is closed fits parts =
       let x : Entry = record { caller = caller; line = line; step = Event e b; outcome = NoMemory } in
-      core_same h dead before after x core (legal-push m h x core.legal is (first_dead-by_flags h dead b core.flags ∙ parts.0)) refl refl closed fits parts.1 tt
+      core_same h dead before after x core (legal-push m h x core.legal is (first_dead-by_flags h dead b core.flags ∙ parts.0)) refl refl closed fits parts.1.holds tt
   named_event h dead before after caller line e b Done core is closed fits parts = absurd parts
   named_event h dead before after caller line e b (Kept n) core is closed fits parts = absurd parts
 
   pub core_after_event : (h : List Entry) (dead : List Bool) (before after : Contents S) (u : Unanswered) (e : Letter) (b : Binding) (o : Outcome) → IsCore m Stands h dead before → u.step ≡ Event e b
-      → IsStepOf m (Event e b) → after.is_open ≡ false → IsFit m Stands after dead → IsOutcomeOf m Stands (trace_of h) dead (record { letter = e.0; binding = b }) before after o
+      → IsStepOf m (Event e b) → after.is_open ≡ false → IsFit after dead → IsOutcomeOf m Stands (trace_of h) dead (record { letter = e.0; binding = b }) before after o
       → IsCore m Stands (h ++ answered u o ∷ []) dead after
   core_after_event h dead before after u e b o core step is closed fits parts =
       subst (λ (s : Step). IsCore m Stands (h ++ record { caller = u.caller; line = u.line; step = s; outcome = o } ∷ []) dead after) (sym step)
@@ -124,10 +101,9 @@ module _ (m : Meaning) {S : Type 0} (Stands : S → List ℕ → Type 0) where
         legal = legal-push m h x core.legal tt (core.flags o ∙ alive);
         flags = flags_after_death-lem h dead x o core.flags refl within;
         closed = core.closed;
-        fits = fit-death m Stands store dead o core.fits;
-        monitors = subst (λ (tr : List ParametricEvent). IsStoreOf m Stands tr (after_death dead o) (stored_of store) store.marks) (sym (trace_of-other h x refl))
-            (death_keeps_store-lem m Stands (trace_of h) dead (stored_of store) store.marks o core.monitors);
-        ended = core.ended;
+        fits = fit_after_death store dead o core.fits;
+        holds = subst (λ (tr : List ParametricEvent). IsStoreAfter m Stands tr (after_death dead o) store) (sym (trace_of-other h x refl))
+            (store_after_death m Stands (trace_of h) dead store o core.holds);
         tidy = tidy-push m h x (instances_of (stored_of store)) store.marks tt;
       }
 
@@ -141,7 +117,7 @@ module _ (m : Meaning) {S : Type 0} (Stands : S → List ℕ → Type 0) where
       → IsCore m Stands (h ++ record { caller = caller; line = line; step = Death o; outcome = Refused o } ∷ []) dead store
   named_refusal h dead store caller line o core is =
       let x : Entry = record { caller = caller; line = line; step = Death o; outcome = Refused o } in
-      core_same h dead store store x core (legal-push m h x core.legal tt (core.flags o ∙ is, refl)) refl refl core.closed core.fits (record { stored = refl; marks = refl; fewer = fewer-refl store.ending }) tt
+      core_same h dead store store x core (legal-push m h x core.legal tt (core.flags o ∙ is, refl)) refl refl core.closed core.fits core.holds tt
 
   pub core_after_refusal : (h : List Entry) (dead : List Bool) (store : Contents S) (u : Unanswered) (o : ℕ) → IsCore m Stands h dead store → u.step ≡ Death o
       → is_dead_object dead o ≡ true → IsCore m Stands (h ++ answered u (Refused o) ∷ []) dead store
@@ -151,29 +127,28 @@ module _ (m : Meaning) {S : Type 0} (Stands : S → List ℕ → Type 0) where
 
   -- ---- passes
   named_pass : (h : List Entry) (dead : List Bool) (before after : Contents S) (caller line kept : ℕ) → IsCore m Stands h dead before
-      → IsAfterPass m Stands dead (stored_of before) (stored_of after) before.marks after.marks → kept < 2 ^ 64 → kept ≡ length (stored_of after) → after.is_open ≡ false → IsFit m Stands after dead
-      → after.ending ≡ before.ending → IsCore m Stands (h ++ record { caller = caller; line = line; step = Pass; outcome = Kept kept } ∷ []) dead after
-  named_pass h dead before after caller line kept core pass small is closed fits ending =
+      → IsAfterPass m Stands dead (stored_of before) (stored_of after) before.marks after.marks → kept < 2 ^ 64 → kept ≡ length (stored_of after) → after.is_open ≡ false → IsFit after dead
+      → IsStoreAfter m Stands (trace_of h) dead after → IsCore m Stands (h ++ record { caller = caller; line = line; step = Pass; outcome = Kept kept } ∷ []) dead after
+  named_pass h dead before after caller line kept core pass small is closed fits holds =
       let x : Entry = record { caller = caller; line = line; step = Pass; outcome = Kept kept } in
       let count : kept ≡ length (stored_of after) % 2 ^ 64 = sym (mod-eq_of_lt small) ∙ ap (λ n. n % 2 ^ 64) is in
       let flags : AreFlagsOf (h ++ x ∷ []) dead = flags_after_other-lem h dead x core.flags refl in
       let monitors : IsStoreOf m Stands (trace_of (h ++ x ∷ [])) dead (stored_of before) before.marks =
-      subst (λ (tr : List ParametricEvent). IsStoreOf m Stands tr dead (stored_of before) before.marks) (sym (trace_of-other h x refl)) core.monitors in
+      subst (λ (tr : List ParametricEvent). IsStoreOf m Stands tr dead (stored_of before) before.marks) (sym (trace_of-other h x refl)) core.holds.monitors in
       record {
         legal = legal-push m h x core.legal tt
-            (length (stored_of after), pass_counts_stored-lem m Stands h dead (stored_of before) (stored_of after) before.marks after.marks core.flags core.monitors pass, count);
+            (length (stored_of after), pass_counts_stored-lem m Stands h dead (stored_of before) (stored_of after) before.marks after.marks core.flags core.holds.monitors pass, count);
         flags = flags;
         closed = closed;
         fits = fits;
-        monitors = (pass_keeps_store-lem m Stands (trace_of (h ++ x ∷ [])) dead (stored_of before) (stored_of after) before.marks after.marks monitors pass).0;
-        ended = subst (λ (l : List ℕ). AreEnding m Stands l (stored_of after)) (sym ending) (λ s there. core.ended s (pass.kept s there).0);
+        holds = subst (λ (tr : List ParametricEvent). IsStoreAfter m Stands tr dead after) (sym (trace_of-other h x refl)) holds;
         tidy = tidy-push m h x (instances_of (stored_of after)) after.marks
             (swept m Stands (h ++ x ∷ []) dead (stored_of before) (stored_of after) before.marks after.marks flags monitors pass);
       }
 
   pub core_after_pass : (h : List Entry) (dead : List Bool) (before after : Contents S) (u : Unanswered) (kept : ℕ) → IsCore m Stands h dead before → u.step ≡ Pass
-      → IsAfterPass m Stands dead (stored_of before) (stored_of after) before.marks after.marks → kept < 2 ^ 64 → kept ≡ length (stored_of after) → after.is_open ≡ false → IsFit m Stands after dead
-      → after.ending ≡ before.ending → IsCore m Stands (h ++ answered u (Kept kept) ∷ []) dead after
-  core_after_pass h dead before after u kept core step pass small is closed fits ending =
+      → IsAfterPass m Stands dead (stored_of before) (stored_of after) before.marks after.marks → kept < 2 ^ 64 → kept ≡ length (stored_of after) → after.is_open ≡ false → IsFit after dead
+      → IsStoreAfter m Stands (trace_of h) dead after → IsCore m Stands (h ++ answered u (Kept kept) ∷ []) dead after
+  core_after_pass h dead before after u kept core step pass small is closed fits holds =
       subst (λ (s : Step). IsCore m Stands (h ++ record { caller = u.caller; line = u.line; step = s; outcome = Kept kept } ∷ []) dead after) (sym step)
-      (named_pass h dead before after u.caller u.line kept core pass small is closed fits ending)
+      (named_pass h dead before after u.caller u.line kept core pass small is closed fits holds)

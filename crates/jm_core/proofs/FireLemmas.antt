@@ -14,12 +14,10 @@ use Rattle.jm_model.specs.declared.step.Outcome.TheVariants.{Fired, Refused, Don
 use Rattle.jm_semantics.specs.Traces.{ParametricEvent}
 use Rattle.jm_semantics.specs.Answers.{IsAnswer}
 use Rattle.jm_monitors.specs.declared.stored.Stored.{Stored}
-use Rattle.jm_monitors.specs.Stores.{IsStoreOf}
 use Rattle.jm_monitors.specs.Steps.{AreMarksAfter, NoneCutAbove, IsLiveEvent, IsResting, AreResting}
 use Rattle.jm_store.specs.declared.moves.Plan.{Plan}
 use Rattle.jm_store.specs.Slots.{stored_in}
-use Rattle.jm_store.specs.Contents.{Contents, stored_of, IsPlanOf, monitors_after, IsEnded}
-use Rattle.jm_store.specs.Moves.{AreEnding}
+use Rattle.jm_store.specs.Contents.{Contents, stored_of, IsStoreAfter, IsPlanOf, monitors_after}
 use Rattle.jm_core.specs.Cores.{Core, KeepsMemoryUnlessFired}
 use Rattle.jm_core.specs.Inside.{IsMoved, IsOutcomeOf, IsRested, instances_of}
 
@@ -29,17 +27,13 @@ module _ (m : Meaning) {S : Type 0} (Stands : S → List ℕ → Type 0) (trace 
   IsCarriedOut b after firings = IsAnswer m trace (record { letter = letter; binding = b }) firings × IsMoved m Stands trace dead (record { letter = letter; binding = b }) after
 
   pub carried_out : (b : Binding) (before after : Contents S) (plan : Plan S) (firings : List Firing) → IsPlanOf m Stands trace dead letter before plan → plan.binding ≡ b
-      → after.monitors ≡ monitors_after before plan → AreMarksAfter plan.binding before.marks after.marks → after.ending ≡ before.ending → firings ≡ plan.answer
+      → IsStoreAfter m Stands (trace ++ record { letter = letter; binding = plan.binding } ∷ []) dead after × NoneCutAbove m Stands plan.binding dead (stored_of after) → firings ≡ plan.answer
       → IsAnswer m trace (record { letter = letter; binding = b }) firings × IsMoved m Stands trace dead (record { letter = letter; binding = b }) after
-  carried_out b before after plan firings works is monitors marks ending answer =
+  carried_out b before after plan firings works is left answer =
       let a : ParametricEvent = record { letter = letter; binding = plan.binding } in
       let done : IsCarriedOut plan.binding after firings = (
         subst (λ (l : List Firing). IsAnswer m trace a l) (sym answer) works.answer,
-        record {
-          monitors = subst (λ (l : List (Option (Stored S))). IsStoreOf m Stands (trace ++ a ∷ []) dead (stored_in l) after.marks) (sym monitors) (works.store after.marks marks);
-          none_cut = subst (λ (l : List (Option (Stored S))). NoneCutAbove m Stands plan.binding dead (stored_in l)) (sym monitors) works.none_cut;
-          ended = subst (λ (l : List (Option (Stored S))). AreEnding m Stands after.ending (stored_in l)) (sym monitors) (subst (λ (e : List ℕ). AreEnding m Stands e (stored_in (monitors_after before plan))) (sym ending) works.ended);
-        },
+        record { holds = left.0; none_cut = left.1 },
       ) in
       subst (λ (c : Binding). IsCarriedOut c after firings) is done
 
@@ -62,14 +56,16 @@ keeps_memory m Stands trace dead a before after (Kept n) core next parts s k t l
 -- ---- the event that is known to leave all as it is
 module _ (m : Meaning) {S : Type 0} (Stands : S → List ℕ → Type 0) (trace : List ParametricEvent) (dead : List Bool) (letter : ℕ) (b : Binding) where
   -- it is the event
-  pub at_rest : (store : Contents S) (rest : Rest) → IsStoreOf m Stands trace dead (stored_of store) store.marks → IsEnded m Stands store → IsLiveEvent m dead letter b → IsRested m Stands dead store rest
+  pub at_rest : (store : Contents S) (rest : Rest) → IsStoreAfter m Stands trace dead store → IsLiveEvent m dead letter b → IsRested m Stands dead store rest
       → rest.is_known ≡ true → rest.letter.0 ≡ letter → rest.binding ≡ b
       → IsAnswer m trace (record { letter = letter; binding = b }) [] × IsMoved m Stands trace dead (record { letter = letter; binding = b }) store
-  at_rest store rest monitors ended event rested known is same =
+  at_rest store rest holds event rested known is same =
       let resting : AreResting m Stands dead letter b (stored_of store) store.marks =
       subst (λ (t : Binding). AreResting m Stands dead letter t (stored_of store) store.marks) same (subst (λ (e : ℕ). AreResting m Stands dead e rest.binding (stored_of store) store.marks) is (rested known)) in
-      let kept = rest_keeps_store m Stands trace dead letter b (stored_of store) store.marks monitors event resting in
-      (rest_answer m Stands trace dead letter b (stored_of store) store.marks monitors event resting, record { monitors = kept.0; none_cut = kept.1; ended = ended })
+      let kept = rest_keeps_store m Stands trace dead letter b (stored_of store) store.marks holds.monitors event resting in (
+        rest_answer m Stands trace dead letter b (stored_of store) store.marks holds.monitors event resting,
+        record { holds = record { monitors = kept.0; ended = holds.ended; spared = holds.spared }; none_cut = kept.1 },
+      )
 
   -- another was carried out, of which it is known whether it leaves all as it is and whether it only drops monitors
   pub rest_followed : (before after : Contents S) (plan : Plan S) (old new : Rest) (rests drops : Bool) → IsPlanOf m Stands trace dead letter before plan → plan.binding ≡ b → after.monitors ≡ monitors_after before plan

@@ -85,10 +85,10 @@ module _ (m : Meaning) where
     -- at every moment
     pub fits_history : (h : List Entry) (dead : List Bool) (store : Contents S) → IsCore m Stands h dead store → FitsHistory m h (instances_of (stored_of store)) store.marks
     fits_history h dead store core = record {
-      distinct = distinct_instances (stored_of store) core.monitors.distinct;
-      instances = λ t c. let g = has-from_instances (stored_of store) t c in subst (IsInstance (trace_of h)) g.2 (core.monitors.each g.0 g.1).0;
-      others_cut = λ t i none. cut-from_flags m h dead t core.flags (core.monitors.cut t i (λ has. none (instances-from_has (stored_of store) t has)));
-      seen = core.monitors.seen;
-      marked = λ b seen live. core.monitors.marked b seen (sym (live-by_flags h dead b core.flags) ∙ live);
+      distinct = distinct_instances (stored_of store) core.holds.monitors.distinct;
+      instances = λ t c. let g = has-from_instances (stored_of store) t c in subst (IsInstance (trace_of h)) g.2 (core.holds.monitors.each g.0 g.1).0;
+      others_cut = λ t i none. cut-from_flags m h dead t core.flags (core.holds.monitors.cut t i (λ has. none (instances-from_has (stored_of store) t has)));
+      seen = core.holds.monitors.seen;
+      marked = λ b seen live. core.holds.monitors.marked b seen (sym (live-by_flags h dead b core.flags) ∙ live);
       tidy = core.tidy;
     }

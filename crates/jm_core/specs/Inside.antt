@@ -13,10 +13,8 @@ use Rattle.jm_semantics.specs.Legality.{IsLegal}
 use Rattle.jm_marks.specs.Marks.{is_dead_object}
 use Rattle.jm_monitors.specs.declared.stored.Stored.{Stored}
 use Rattle.jm_monitors.specs.Deaths.{AreFlagsOf}
-use Rattle.jm_monitors.specs.Stores.{IsStoreOf}
 use Rattle.jm_monitors.specs.Steps.{NoneCutAbove, AreResting}
-use Rattle.jm_store.specs.Contents.{Contents, stored_of, IsFit, IsEnded}
-use Rattle.jm_store.specs.Moves.{EndsFewer}
+use Rattle.jm_store.specs.Contents.{Contents, stored_of, IsFit, IsStoreAfter}
 use Rattle.jm_core.specs.declared.rest.Rest.{Rest}
 use Rattle.jm_core.specs.Cores.{IsTidy}
 
@@ -24,38 +22,36 @@ use Rattle.jm_core.specs.Cores.{IsTidy}
 abbrev pub instances_of : {S : Type 0} → List (Stored S) → List Binding
 instances_of monitors = map (λ s. s.instance) monitors
 
--- The history is legal, and the flags of objects are those of its dead ones. The store fits the objects and has no open
--- plan; its monitors and marks are those of the history, and the letters that it keeps end its monitors.
+-- The history is legal, and the flags of objects are those of its dead ones. The store fits the objects, has no open plan,
+-- and is one of the history's events and dead objects.
 pub record IsCore (m : Meaning) {S : Type 0} (Stands : S → List ℕ → Type 0) (h : List Entry) (dead : List Bool) (store : Contents S) : Type 0 where
   pub legal : IsLegal m h
   pub flags : AreFlagsOf h dead
   pub closed : store.is_open ≡ false
-  pub fits : IsFit m Stands store dead
-  pub monitors : IsStoreOf m Stands (trace_of h) dead (stored_of store) store.marks
-  pub ended : IsEnded m Stands store
+  pub fits : IsFit store dead
+  pub holds : IsStoreAfter m Stands (trace_of h) dead store
   pub tidy : IsTidy m h (instances_of (stored_of store)) store.marks
 
 -- the first dead object that b binds, by the flags
 abbrev pub first_dead_by : List Bool → Binding → Option ℕ
 first_dead_by dead b = find (is_dead_object dead) (objects_of b)
 
--- monitors and marks are as before, and no letter is kept that wasn't
-pub record IsUntouched {S : Type 0} (before after : Contents S) : Type 0 where
+-- monitors and marks are as before, and the contents are still a store of the trace
+pub record IsUntouched (m : Meaning) {S : Type 0} (Stands : S → List ℕ → Type 0) (trace : List ParametricEvent) (dead : List Bool) (before after : Contents S) : Type 0 where
   pub stored : stored_of after ≡ stored_of before
   pub marks : after.marks ≡ before.marks
-  pub fewer : EndsFewer before.ending after.ending
+  pub holds : IsStoreAfter m Stands trace dead after
 
--- monitors and marks are those after the event a, none above its binding is cut, and the letters kept end the monitors
+-- the contents are a store of the trace with the event a, in which no monitor above its binding is cut
 pub record IsMoved (m : Meaning) {S : Type 0} (Stands : S → List ℕ → Type 0) (trace : List ParametricEvent) (dead : List Bool) (a : ParametricEvent) (after : Contents S) : Type 0 where
-  pub monitors : IsStoreOf m Stands (trace ++ a ∷ []) dead (stored_of after) after.marks
+  pub holds : IsStoreAfter m Stands (trace ++ a ∷ []) dead after
   pub none_cut : NoneCutAbove m Stands a.binding dead (stored_of after)
-  pub ended : IsEnded m Stands after
 
 -- what an event comes to in a store
 abbrev pub IsOutcomeOf : Meaning → {S : Type 0} → (S → List ℕ → Type 0) → List ParametricEvent → List Bool → ParametricEvent → Contents S → Contents S → Outcome → Type 0
 IsOutcomeOf m Stands trace dead a before after (Fired firings) = (first_dead_by dead a.binding ≡ None) × IsAnswer m trace a firings × IsMoved m Stands trace dead a after
-IsOutcomeOf m Stands trace dead a before after (Refused o) = (first_dead_by dead a.binding ≡ Some o) × IsUntouched before after
-IsOutcomeOf m Stands trace dead a before after NoMemory = (first_dead_by dead a.binding ≡ None) × IsUntouched before after
+IsOutcomeOf m Stands trace dead a before after (Refused o) = (first_dead_by dead a.binding ≡ Some o) × IsUntouched m Stands trace dead before after
+IsOutcomeOf m Stands trace dead a before after NoMemory = (first_dead_by dead a.binding ≡ None) × IsUntouched m Stands trace dead before after
 IsOutcomeOf m Stands trace dead a before after _ = ⊥
 
 -- the event that is known, if one is, leaves all monitors above its binding as they are

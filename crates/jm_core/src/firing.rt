@@ -2,11 +2,9 @@
 ghost use Rattle.std.specs.Prelude.{◌≡◌, ◌<◌, false, None, List, IfOk, OnErr, OnOk, length, true};
 ghost use Rattle.jm_semantics.specs.Traces.{ParametricEvent};
 ghost use Rattle.jm_index.specs.Index.{AreBelow};
-ghost use Rattle.jm_monitors.specs.Stores.{IsStoreOf};
 ghost use Rattle.jm_monitors.specs.Steps.{IsLiveEvent};
-ghost use Rattle.jm_store.specs.Moves.{StayAlive};
-ghost use Rattle.jm_store.specs.Contents.{stored_of, IsFit, IsPlanFor, IsPlanOf, IsEnded};
-ghost use Rattle.jm_core.specs.Inside.{first_dead_by, IsUntouched, IsOutcomeOf, IsRested};
+ghost use Rattle.jm_store.specs.Contents.{stored_of, IsFit, IsStoreAfter, IsPlanFor, IsPlanOf};
+ghost use Rattle.jm_core.specs.Inside.{first_dead_by, IsOutcomeOf, IsRested};
 
 use crate::rest::Rest;
 use jm_model::{Binding, Firings, Letter, Monitor, NoMemory, Outcome, Steps};
@@ -28,17 +26,16 @@ pub(crate) fn perform<M: Monitor>(
     binding: &Binding,
 ) -> (Outcome, Outcome)
     requires closed { store.old.is_open ≡ false }
-    requires fits { IsFit (M.meaning (M.definition rules.now)) (M.StandsFor rules.now) store.old objects.now }
+    requires fits { IsFit store.old objects.now }
     requires eight { length binding.now ≡ 8 }
     requires event { first_dead_by objects.now binding.now ≡ None
         → IsLiveEvent (M.meaning (M.definition rules.now)) objects.now letter.0 binding.now }
     requires there { AreBelow (length objects.now) binding.now }
     ensures twice { result.1 ≡ result.0 }
     ensures closed { store.new.is_open ≡ false }
-    ensures fits { IsFit (M.meaning (M.definition rules.now)) (M.StandsFor rules.now) store.new objects.now }
+    ensures fits { IsFit store.new objects.now }
     ensures works { (trace : List ParametricEvent)
-        → IsStoreOf (M.meaning (M.definition rules.now)) (M.StandsFor rules.now) trace objects.now (stored_of store.old) store.old.marks
-        → IsEnded (M.meaning (M.definition rules.now)) (M.StandsFor rules.now) store.old
+        → IsStoreAfter (M.meaning (M.definition rules.now)) (M.StandsFor rules.now) trace objects.now store.old
         → IsRested (M.meaning (M.definition rules.now)) (M.StandsFor rules.now) objects.now store.old rest.old
         → IsOutcomeOf (M.meaning (M.definition rules.now)) (M.StandsFor rules.now) trace objects.now
         (record { letter = letter.0; binding = binding.now }) store.old store.new result.0
@@ -61,16 +58,15 @@ fn answer<M: Monitor>(
     binding: &Binding,
 ) -> (Outcome, Outcome)
     requires closed { store.old.is_open ≡ false }
-    requires fits { IsFit (M.meaning (M.definition rules.now)) (M.StandsFor rules.now) store.old objects.now }
+    requires fits { IsFit store.old objects.now }
     requires event { IsLiveEvent (M.meaning (M.definition rules.now)) objects.now letter.0 binding.now }
     requires there { AreBelow (length objects.now) binding.now }
     requires live { first_dead_by objects.now binding.now ≡ None }
     ensures twice { result.1 ≡ result.0 }
     ensures closed { store.new.is_open ≡ false }
-    ensures fits { IsFit (M.meaning (M.definition rules.now)) (M.StandsFor rules.now) store.new objects.now }
+    ensures fits { IsFit store.new objects.now }
     ensures works { (trace : List ParametricEvent)
-        → IsStoreOf (M.meaning (M.definition rules.now)) (M.StandsFor rules.now) trace objects.now (stored_of store.old) store.old.marks
-        → IsEnded (M.meaning (M.definition rules.now)) (M.StandsFor rules.now) store.old
+        → IsStoreAfter (M.meaning (M.definition rules.now)) (M.StandsFor rules.now) trace objects.now store.old
         → IsRested (M.meaning (M.definition rules.now)) (M.StandsFor rules.now) objects.now store.old rest.old
         → IsOutcomeOf (M.meaning (M.definition rules.now)) (M.StandsFor rules.now) trace objects.now
         (record { letter = letter.0; binding = binding.now }) store.old store.new result.0
@@ -111,16 +107,15 @@ fn fire<M: Monitor>(
     binding: &Binding,
 ) -> (Outcome, Outcome)
     requires closed { store.old.is_open ≡ false }
-    requires fits { IsFit (M.meaning (M.definition rules.now)) (M.StandsFor rules.now) store.old objects.now }
+    requires fits { IsFit store.old objects.now }
     requires event { IsLiveEvent (M.meaning (M.definition rules.now)) objects.now letter.0 binding.now }
     requires there { AreBelow (length objects.now) binding.now }
     requires live { first_dead_by objects.now binding.now ≡ None }
     ensures twice { result.1 ≡ result.0 }
     ensures closed { store.new.is_open ≡ false }
-    ensures fits { IsFit (M.meaning (M.definition rules.now)) (M.StandsFor rules.now) store.new objects.now }
+    ensures fits { IsFit store.new objects.now }
     ensures works { (trace : List ParametricEvent)
-        → IsStoreOf (M.meaning (M.definition rules.now)) (M.StandsFor rules.now) trace objects.now (stored_of store.old) store.old.marks
-        → IsEnded (M.meaning (M.definition rules.now)) (M.StandsFor rules.now) store.old
+        → IsStoreAfter (M.meaning (M.definition rules.now)) (M.StandsFor rules.now) trace objects.now store.old
         → IsRested (M.meaning (M.definition rules.now)) (M.StandsFor rules.now) objects.now store.old rest.old
         → IsOutcomeOf (M.meaning (M.definition rules.now)) (M.StandsFor rules.now) trace objects.now
         (record { letter = letter.0; binding = binding.now }) store.old store.new result.0
@@ -151,20 +146,21 @@ fn counted_plan<M: Monitor, L: Ledger>(
     requires parts { blank.parts ≡ L.parts }
     requires one { blank.parts ≡ 1 }
     requires closed { store.old.is_open ≡ false }
-    requires fits { IsFit (M.meaning (M.definition rules.now)) (M.StandsFor rules.now) store.old objects.now }
+    requires fits { IsFit store.old objects.now }
     requires event { IsLiveEvent (M.meaning (M.definition rules.now)) objects.now letter.0 binding.now }
     requires there { AreBelow (length objects.now) binding.now }
-    ensures untouched { IsUntouched store.old store.new }
-    ensures fits { IsFit (M.meaning (M.definition rules.now)) (M.StandsFor rules.now) store.new objects.now }
+    ensures stored { stored_of store.new ≡ stored_of store.old }
+    ensures marks { store.new.marks ≡ store.old.marks }
+    ensures fits { IsFit store.new objects.now }
     ensures closed { OnErr result (store.new.is_open ≡ false) }
     ensures opened { OnOk result (store.new.is_open ≡ true) }
     ensures binding { IfOk result (λ plan. plan.binding ≡ binding.now) }
     ensures plan { IfOk result (λ plan. IsPlanFor store.new plan) }
-    ensures stay { IfOk result
-        (λ plan. StayAlive (M.meaning (M.definition rules.now)) (M.StandsFor rules.now) objects.now plan.moves.items) }
+    ensures keeps { (trace : List ParametricEvent)
+        → IsStoreAfter (M.meaning (M.definition rules.now)) (M.StandsFor rules.now) trace objects.now store.old
+        → IsStoreAfter (M.meaning (M.definition rules.now)) (M.StandsFor rules.now) trace objects.now store.new }
     ensures works { IfOk result (λ plan. (trace : List ParametricEvent)
-        → IsStoreOf (M.meaning (M.definition rules.now)) (M.StandsFor rules.now) trace objects.now (stored_of store.old) store.old.marks
-        → IsEnded (M.meaning (M.definition rules.now)) (M.StandsFor rules.now) store.old
+        → IsStoreAfter (M.meaning (M.definition rules.now)) (M.StandsFor rules.now) trace objects.now store.old
         → IsPlanOf (M.meaning (M.definition rules.now)) (M.StandsFor rules.now) trace objects.now letter.0 store.new plan) }
 {
     let mut steps = Steps::<L>::new(blank);

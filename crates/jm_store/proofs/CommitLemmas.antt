@@ -58,6 +58,10 @@ marks_added marks new b known unknown = by (cases_Bool (list_any (binding_eq b) 
         )
 
 module _ {S : Type 0} where
+  pub after_none : (moves : List (Move S)) (monitors : List (Option (Stored S))) → length moves ≡ 0 → after_moves moves monitors ≡ monitors
+  after_none [] monitors none = refl
+  after_none (x ∷ moves) monitors none = absurd (omega (arith, none))
+
   pub after_push : (moves : List (Move S)) (step : Move S) (monitors : List (Option (Stored S))) → after_moves (moves ++ step ∷ []) monitors ≡ after_moves moves (after_move step monitors)
   after_push [] step monitors = refl
   after_push (x ∷ moves) step monitors = ap (after_move x) (after_push moves step monitors)

@@ -4,7 +4,6 @@ use Rattle.std.specs.Prelude.{Some, Contains, AllPairs}
 use Rattle.std.proofs.lemmas.Bool.{false≢true}
 use Rattle.std.proofs.lemmas.Option.{none-some}
 use Rattle.jm_model.specs.Bindings.{mask_of, empty}
-use Rattle.jm_model.specs.Meanings.{Meaning}
 use Rattle.jm_semantics.proofs.BindingLemmas.{unbound-gives}
 use Rattle.jm_semantics.proofs.ListLemmas.{Contains-cons_cases, Contains-head}
 use Rattle.jm_model.specs.declared.binding.Binding.{Binding}
@@ -12,8 +11,8 @@ use Rattle.jm_index.specs.Index.{Pair, PairList, IsFitting, AreBelow}
 use Rattle.jm_index.proofs.ReadLemmas.{Contains-none}
 use Rattle.jm_monitors.specs.declared.stored.Stored.{Stored}
 use Rattle.jm_store.specs.declared.monitors.Slot.{Slot}
-use Rattle.jm_store.specs.Slots.{IsUsed, slot_at, monitors_of, monitor_at, stored_in}
-use Rattle.jm_store.specs.Contents.{Contents, IsFit, AreSpared, ArePaired, with_ending}
+use Rattle.jm_store.specs.Slots.{IsUsed, slot_at, monitors_of, monitor_at}
+use Rattle.jm_store.specs.Contents.{Contents, IsFit, ArePaired, with_ending}
 use Rattle.jm_store.specs.Housing.{IsHoused, IsKept}
 use Rattle.jm_store.specs.declared.monitors.Slot.TheVariants.{Taken}
 use Rattle.jm_store.proofs.SlotLemmas.{place_of}
@@ -21,25 +20,22 @@ use Rattle.jm_store.proofs.GivenLemmas.{pairs_cons, pairs_none}
 use Rattle.jm_store.proofs.CommitLemmas.{housed_within}
 
 module _ {S : Type 0} where
-  pub vacant_fits : (m : Meaning) (Stands : S → List ℕ → Type 0) (index : PairList) (ending : List ℕ) (dead : List Bool) → IsFitting index dead → IsFit m Stands (record { monitors = []; marks = []; is_open = false; index = index; ending = ending }) dead
-  vacant_fits m Stands index ending dead fits = record {
+  pub vacant_fits : (index : PairList) (ending : List ℕ) (dead : List Bool) → IsFitting index dead → IsFit {S = S} (record { monitors = []; marks = []; is_open = false; index = index; ending = ending }) dead
+  vacant_fits index ending dead fits = record {
     instances = λ s there. absurd (Contains-none s there);
     marks = λ b there. absurd (Contains-none b there);
     index = fits;
-    spared = λ s there. absurd (Contains-none s there);
   }
 
   -- an index that fits gives a store that fits
-  pub housed_fits : (m : Meaning) (Stands : S → List ℕ → Type 0) (slots : List (Slot S)) (marks : List Binding) (open' : Bool) (index : PairList) (ending : List ℕ) (dead : List Bool) → IsHoused slots index.list → IsFitting index dead
-      → ((b : Binding) → Contains marks b → AreBelow (length dead) b)
-      → AreSpared m Stands index.dropped (stored_in (monitors_of slots)) → IsFit m Stands (record { monitors = monitors_of slots; marks = marks; is_open = open'; index = index; ending = ending }) dead
-  housed_fits m Stands slots marks open' index ending dead h fits below spared = record {
+  pub housed_fits : (slots : List (Slot S)) (marks : List Binding) (open' : Bool) (index : PairList) (ending : List ℕ) (dead : List Bool) → IsHoused slots index.list → IsFitting index dead
+      → ((b : Binding) → Contains marks b → AreBelow (length dead) b) → IsFit (record { monitors = monitors_of slots; marks = marks; is_open = open'; index = index; ending = ending }) dead
+  housed_fits slots marks open' index ending dead h fits below = record {
     instances = λ s there.
         let (k, at) = place_of (monitors_of slots) s there in
         fits.within (record { binding = s.instance; slot = k }) (h.paired k s at);
     marks = below;
     index = fits;
-    spared = spared;
   }
 
   pub are_paired : (slots : List (Slot S)) (marks : List Binding) (open' : Bool) (index : PairList) (ending : List ℕ) → IsHoused slots index.list
@@ -77,5 +73,5 @@ pub below_empty : (n : ℕ) → AreBelow n empty
 below_empty n o (p, at) = absurd (unbound-gives 8 p o at)
 
 -- the same with other letters
-pub fit_ending : (m : Meaning) {S : Type 0} (Stands : S → List ℕ → Type 0) (store : Contents S) (ending : List ℕ) (dead : List Bool) → IsFit m Stands store dead → IsFit m Stands (with_ending store ending) dead
-fit_ending m Stands store ending dead h = record { instances = h.instances; marks = h.marks; index = h.index; spared = h.spared }
+pub fit_ending : {S : Type 0} (store : Contents S) (ending : List ℕ) (dead : List Bool) → IsFit store dead → IsFit (with_ending store ending) dead
+fit_ending store ending dead h = record { instances = h.instances; marks = h.marks; index = h.index }

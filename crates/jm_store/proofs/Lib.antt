@@ -19,3 +19,4 @@ pub mod ReportLemmas
 pub mod EndingLemmas
 pub mod RestLemmas
 pub mod SparedLemmas
+pub mod StoreLemmas

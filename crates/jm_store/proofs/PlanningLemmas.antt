@@ -25,8 +25,8 @@ use Rattle.jm_monitors.proofs.EventLemmas.{event_keeps_store-lem}
 use Rattle.jm_store.specs.declared.moves.Move.{Move}
 use Rattle.jm_store.specs.declared.moves.Plan.{Plan}
 use Rattle.jm_store.specs.Slots.{monitor_at, stored_in}
-use Rattle.jm_store.specs.Moves.{IsOutcomeAt, AreMovesOf, AreApart, reached_by, after_moves, AreEnding, EndsFewer, StayAlive, asks_by}
-use Rattle.jm_store.specs.Contents.{Contents, stored_of, IsFit, IsPlacedFrom, AreDistinct, ArePlacedOf, ArePaired, IsPlanFor, IsPlanOf, with_ending}
+use Rattle.jm_store.specs.Moves.{IsOutcomeAt, AreMovesOf, AreApart, reached_by, after_moves, AreEnding, EndsFewer, asks_by}
+use Rattle.jm_store.specs.Contents.{Contents, stored_of, AreSpared, IsFit, IsStoreAfter, IsPlacedFrom, AreDistinct, ArePlacedOf, ArePaired, IsPlanFor, IsPlanOf, with_ending}
 use Rattle.jm_store.proofs.SlotLemmas.{stored_at, place_of}
 use Rattle.jm_store.proofs.GivenLemmas.{given_pairs, pairs_map, pairs_weaker, Contains-from_map}
 use Rattle.jm_store.proofs.HousingLemmas.{same_one}
@@ -37,7 +37,7 @@ use Rattle.std.proofs.lemmas.Nat.Bits.{bit_at-zero}
 use Rattle.jm_semantics.proofs.MaskLemmas.{IsWithin}
 use Rattle.jm_semantics.proofs.MeaningLemmas.{cut-more_dead}
 use Rattle.jm_store.proofs.AfterLemmas.{AreSingle, AreSlotted, after_event, in_after}
-use Rattle.jm_store.proofs.SparedLemmas.{spared_fewer}
+use Rattle.jm_store.proofs.SparedLemmas.{StayAlive, spared_after}
 
 cond_slot : (t : Bool) (k n : ℕ) → cond t (Some k) None ≡ Some n → (t ≡ true) × (k ≡ n)
 cond_slot true k n e = (refl, same_Some k n e)
@@ -86,13 +86,11 @@ module _ (m : Meaning) {S : Type 0} (Stands : S → List ℕ → Type 0) (letter
         | inr right ↦ mine o (binds.0, right)
       ])
 
-pub fit_same : (m : Meaning) {S : Type 0} (Stands : S → List ℕ → Type 0) (old new : Contents S) (dead : List Bool) → stored_of new ≡ stored_of old → new.marks ≡ old.marks → IsFitting new.index dead
-    → ((o : ℕ) → flag_of new.index.dropped o ≡ true → flag_of old.index.dropped o ≡ true) → IsFit m Stands old dead → IsFit m Stands new dead
-fit_same m {S} Stands old new dead stored marks fits fewer fit = record {
+pub fit_same : {S : Type 0} (old new : Contents S) (dead : List Bool) → stored_of new ≡ stored_of old → new.marks ≡ old.marks → IsFitting new.index dead → IsFit old dead → IsFit new dead
+fit_same {S} old new dead stored marks fits fit = record {
   instances = λ s there. fit.instances s (subst (λ (l : List (Stored S)). Contains l s) stored there);
   marks = λ b there. fit.marks b (subst (λ (l : List Binding). Contains l b) marks there);
   index = fits;
-  spared = spared_fewer m Stands old.index.dropped new.index.dropped (stored_of new) fewer (λ s there. fit.spared s (subst (λ (l : List (Stored S)). Contains l s) stored there));
 }
 
 pub marks_push : (marks : List Binding) (b : Binding) → AreMarksAfter b marks (marks ++ b ∷ [])
@@ -333,13 +331,24 @@ module _ (m : Meaning) {S : Type 0} (Stands : S → List ℕ → Type 0) (letter
 
   -- the plan of the event
   pub plan_works : (firings : List Firing) → IsReport m Stands (reached_by sorted) firings → (plan : Plan S) → plan.binding ≡ b → plan.moves.items ≡ placed → plan.answer ≡ firings
-      → (ending : List ℕ) → EndsFewer old.ending ending → AreEnding m Stands old.ending (stored_of old) → AreEnding m Stands ending (reached_by placed) → IsPlanOf m Stands trace dead letter (with_ending new ending) plan
-  plan_works firings report plan is moves' answer ending fewer before moved = record {
-    store = λ marks added. rw (is, moves') (carried_out marks (subst (λ (t : Binding). AreMarksAfter t old.marks marks) is (rw marks_same at added))).0;
-    none_cut = rw (is, moves') (carried_out (old.marks ++ b ∷ []) (marks_push old.marks b)).1;
-    ended = rw moves' (ended_after ending fewer before moved);
-    each = rw (is, moves') each_after;
+      → (ending : List ℕ) → EndsFewer old.ending ending → AreEnding m Stands old.ending (stored_of old) → AreEnding m Stands ending (reached_by placed)
+      → AreSpared m Stands new.index.dropped (stored_of new) → ((o : ℕ) → flag_of new.index.dropped o ≡ true → flag_of dead o ≡ true) → IsPlanOf m Stands trace dead letter (with_ending new ending) plan
+  plan_works firings report plan is moves' answer ending fewer before moved spared dropped = record {
     answer = rw (is, answer) (answer_sorted firings report);
+    store = λ after done.
+        let monitors : after.monitors ≡ after_moves placed new.monitors = done.monitors ∙ ap (λ (l : List (Move S)). after_moves l new.monitors) moves' in
+        let marked : AreMarksAfter b old.marks after.marks = subst (λ (t : Binding). AreMarksAfter t old.marks after.marks) is (subst (λ (l : List Binding). AreMarksAfter plan.binding l after.marks) marks_same done.marks) in
+        subst (λ (t : Binding). IsStoreAfter m Stands (trace ++ record { letter = letter; binding = t } ∷ []) dead after) (sym is)
+        (record {
+          monitors = subst (λ (l : List (Option (Stored S))). IsStoreOf m Stands (trace ++ record { letter = letter; binding = b } ∷ []) dead (stored_in l) after.marks) (sym monitors) (carried_out after.marks marked).0;
+          ended = subst (λ (l : List (Option (Stored S))). AreEnding m Stands after.ending (stored_in l)) (sym monitors)
+              (subst (λ (e : List ℕ). AreEnding m Stands e (stored_in (after_moves placed new.monitors))) (sym done.ending) (ended_after ending fewer before moved));
+          spared = subst (λ (l : List (Option (Stored S))). AreSpared m Stands after.index.dropped (stored_in l)) (sym monitors)
+              (subst (λ (d : List Bool). AreSpared m Stands d (stored_in (after_moves placed new.monitors))) (sym done.dropped)
+              (spared_after m Stands new.index.dropped dead placed new.monitors dropped spared (stay_alive m Stands letter b dead old.marks asks old.monitors old new moves sorted placed all order p)));
+        });
+    none_cut = rw (is, moves') (carried_out (old.marks ++ b ∷ []) (marks_push old.marks b)).1;
+    each = rw (is, moves') each_after;
   }
 
 -- what an event may reach is asked for, unless the event ends it

@@ -19,10 +19,15 @@ use Rattle.jm_monitors.specs.Steps.{IsCutState, IsAliveState}
 use Rattle.jm_monitors.proofs.DeathLemmas.{cut_by_own_death-lem, object-placed}
 use Rattle.jm_store.specs.declared.moves.Move.{Move}
 use Rattle.jm_store.specs.Slots.{monitor_at, stored_in}
-use Rattle.jm_store.specs.Moves.{after_moves, IsSwept, StayAlive, LieWithin}
+use Rattle.jm_store.specs.Moves.{after_moves, IsSwept, LieWithin}
 use Rattle.jm_store.specs.Contents.{Contents, AreSpared, IsCutDown}
 use Rattle.jm_store.proofs.SlotLemmas.{stored_at, place_of}
 use Rattle.jm_store.proofs.AfterLemmas.{slot_is, moved_other, moved_here, length-after}
+
+-- the monitors that stay after the moves aren't cut
+abbrev pub StayAlive : Meaning → {S : Type 0} → (S → List ℕ → Type 0) → List Bool → List (Move S) → Type 0
+StayAlive m {S} Stands dead moves =
+    (move : Move S) → Contains moves move → move.stays ≡ true → IsAliveState m Stands move.monitor.state (dead_mask_of dead move.monitor.instance)
 
 -- ---- what an index dropped
 flag_none : (n o : ℕ) → flag_of (replicate n false) o ≡ false
@@ -70,6 +75,9 @@ module _ (m : Meaning) {S : Type 0} (Stands : S → List ℕ → Type 0) where
       only (inl same) = same
       only {x} {y} (inr none) = absurd (Contains-none y none)
 
+  pub spared_none : (dropped : List Bool) (stored : List (Stored S)) → stored ≡ [] → AreSpared m Stands dropped stored
+  spared_none dropped stored is s there = absurd (Contains-none s (subst (λ (l : List (Stored S)). Contains l s) is there))
+
   -- ---- fewer dead objects
   pub alive_fewer : (dead fewer : List Bool) (state : S) (t : Binding) → ((o : ℕ) → flag_of fewer o ≡ true → flag_of dead o ≡ true) → IsAliveState m Stands state (dead_mask_of dead t)
       → IsAliveState m Stands state (dead_mask_of fewer t)
@@ -81,10 +89,6 @@ module _ (m : Meaning) {S : Type 0} (Stands : S → List ℕ → Type 0) where
   spared_fewer dead fewer stored within spared s there = alive_fewer dead fewer s.state s.instance within (spared s there)
 
   -- ---- after the moves of a plan
-  pub after_none : (moves : List (Move S)) (monitors : List (Option (Stored S))) → length moves ≡ 0 → after_moves moves monitors ≡ monitors
-  after_none [] monitors none = refl
-  after_none (x ∷ moves) monitors none = absurd (omega (arith, none))
-
   -- the monitor of a slot is that of a move that stays, or was there
   after_cases : (moves : List (Move S)) (monitors : List (Option (Stored S))) (k : ℕ) (s : Stored S) → monitor_at (after_moves moves monitors) k ≡ Some s
       → ((move : Move S) × Contains moves move × (move.stays ≡ true) × (move.monitor ≡ s)) ⊎ (monitor_at monitors k ≡ Some s)

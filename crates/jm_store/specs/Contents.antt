@@ -33,21 +33,23 @@ stored_of store = stored_in store.monitors
 abbrev pub with_ending : {S : Type 0} → Contents S → List ℕ → Contents S
 with_ending store ending = record { monitors = store.monitors; marks = store.marks; is_open = store.is_open; index = store.index; ending = ending }
 
--- the letters that are kept for sets of parameters end the monitors with them
-abbrev pub IsEnded : Meaning → {S : Type 0} → (S → List ℕ → Type 0) → Contents S → Type 0
-IsEnded m Stands store = AreEnding m Stands store.ending (stored_of store)
-
 -- none of the monitors is cut by the death of these objects, given by their flags
 abbrev pub AreSpared : Meaning → {S : Type 0} → (S → List ℕ → Type 0) → List Bool → List (Stored S) → Type 0
 AreSpared m {S} Stands dead stored = (s : Stored S) → Contains stored s → IsAliveState m Stands s.state (dead_mask_of dead s.instance)
 
 -- The store fits a table of objects, given by its flags of dead objects: the objects of its bindings and marks stand in
--- the table, and its index fits it. None of its monitors is cut by the objects that the index dropped: what is cut by the
--- table's dead ones binds one that died since.
-pub record IsFit (m : Meaning) {S : Type 0} (Stands : S → List ℕ → Type 0) (store : Contents S) (dead : List Bool) : Type 0 where
+-- the table, and its index fits it.
+pub record IsFit {S : Type 0} (store : Contents S) (dead : List Bool) : Type 0 where
   pub instances : (s : Stored S) → Contains (stored_of store) s → AreBelow (length dead) s.instance
   pub marks : (b : Binding) → Contains store.marks b → AreBelow (length dead) b
   pub index : IsFitting store.index dead
+
+-- The contents are a store of this trace of events, with these dead objects. Stored are distinct instances whose states
+-- stand for their slices, each other instance is cut, and the marks are seen bindings, among them each one with a live
+-- object. What is kept beside them fits them: the letters end the monitors, and the objects that the index dropped cut none.
+pub record IsStoreAfter (m : Meaning) {S : Type 0} (Stands : S → List ℕ → Type 0) (trace : List ParametricEvent) (dead : List Bool) (store : Contents S) : Type 0 where
+  pub monitors : IsStoreOf m Stands trace dead (stored_of store) store.marks
+  pub ended : AreEnding m Stands store.ending (stored_of store)
   pub spared : AreSpared m Stands store.index.dropped (stored_of store)
 
 -- Some monitors of the store were dropped that the dead objects cut, and nothing else but their pairs.
@@ -67,7 +69,7 @@ IsFilled {S} store pair = (s : Stored S) × (monitor_at store.monitors pair.slot
 abbrev pub IsPlannedBy : {S : Type 0} → List (Move S) → Pair → Type 0
 IsPlannedBy {S} moves pair = (move : Move S) × Contains moves move × (move.slot ≡ Some pair.slot) × (move.monitor.instance ≡ pair.binding)
 
--- The plan is for the store: where one of its moves has a slot, the index leads to it, and a slot to which the index leads
+-- The plan fits the store: where one of its moves has a slot, the index leads to it, and a slot to which the index leads
 -- has a monitor, or one of the moves is for it. Its binding is a mark where it says so. It has its answer twice.
 pub record IsPlanFor {S : Type 0} (store : Contents S) (plan : Plan S) : Type 0 where
   pub twice : plan.copy ≡ plan.answer
@@ -81,17 +83,22 @@ pub record IsPlanFor {S : Type 0} (store : Contents S) (plan : Plan S) : Type 0 
 abbrev pub monitors_after : {S : Type 0} → Contents S → Plan S → List (Option (Stored S))
 monitors_after store plan = after_moves plan.moves.items store.monitors
 
--- The plan is that of the event with this letter after the trace: what the store is to have is a store of the trace with the
--- event, in which no monitor above the event's binding is cut; the letters kept end its monitors; and the answer is the event's. Each
--- of its monitors is that of a move, or a stored one that the event's binding isn't below.
+-- the store after the plan was carried out in it
+pub record IsCarriedOut {S : Type 0} (before after : Contents S) (plan : Plan S) : Type 0 where
+  pub monitors : after.monitors ≡ monitors_after before plan
+  pub marks : AreMarksAfter plan.binding before.marks after.marks
+  pub ending : after.ending ≡ before.ending
+  pub dropped : after.index.dropped ≡ before.index.dropped
+
+-- The plan is that of the event with this letter after the trace: its answer is the event's, and once it is carried out the
+-- contents are a store of the trace with the event, in which no monitor above the event's binding is cut. Each monitor is
+-- then that of a move, or a stored one that the event's binding isn't below.
 pub record IsPlanOf (m : Meaning) {S : Type 0} (Stands : S → List ℕ → Type 0) (trace : List ParametricEvent) (dead : List Bool) (letter : ℕ) (contents : Contents S) (plan : Plan S) : Type 0 where
-  pub store : (marks : List Binding) → AreMarksAfter plan.binding contents.marks marks
-      → IsStoreOf m Stands (trace ++ record { letter = letter; binding = plan.binding } ∷ []) dead (stored_in (monitors_after contents plan)) marks
+  pub answer : IsAnswer m trace (record { letter = letter; binding = plan.binding }) plan.answer
+  pub store : (after : Contents S) → IsCarriedOut contents after plan → IsStoreAfter m Stands (trace ++ record { letter = letter; binding = plan.binding } ∷ []) dead after
   pub none_cut : NoneCutAbove m Stands plan.binding dead (stored_in (monitors_after contents plan))
-  pub ended : AreEnding m Stands contents.ending (stored_in (monitors_after contents plan))
   pub each : (s : Stored S) → Contains (stored_in (monitors_after contents plan)) s
       → ((move : Move S) × Contains plan.moves.items move × (move.monitor ≡ s) × (move.stays ≡ true)) ⊎ (Contains (stored_of contents) s × (is_below plan.binding s.instance ≡ false))
-  pub answer : IsAnswer m trace (record { letter = letter; binding = plan.binding }) plan.answer
 
 -- Instance t has the pair of a slot which no pair had and in which there was no monitor; or it had a pair before.
 abbrev pub IsPlaced : {S : Type 0} → Contents S → Contents S → Binding → Option ℕ → Type 0

@@ -3,3 +3,4 @@ pub mod Moves
 pub mod Contents
 pub mod Housing
 pub mod Reports
+pub mod Laws

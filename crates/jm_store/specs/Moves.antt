@@ -140,8 +140,3 @@ abbrev pub IsSwept : Meaning → {S : Type 0} → (S → List ℕ → Type 0) �
 IsSwept m Stands dead None new = new ≡ None
 IsSwept m Stands dead (Some s) None = IsCutState m Stands s.state (dead_mask_of dead s.instance)
 IsSwept m Stands dead (Some s) (Some t) = (t ≡ s) × IsAliveState m Stands s.state (dead_mask_of dead s.instance)
-
--- the monitors that stay after the moves aren't cut
-abbrev pub StayAlive : Meaning → {S : Type 0} → (S → List ℕ → Type 0) → List Bool → List (Move S) → Type 0
-StayAlive m {S} Stands dead moves =
-    (move : Move S) → Contains moves move → move.stays ≡ true → IsAliveState m Stands move.monitor.state (dead_mask_of dead move.monitor.instance)

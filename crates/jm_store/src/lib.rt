@@ -10,10 +10,12 @@
 
 mod ending;
 mod event;
+mod laws;
 mod monitors;
 mod moves;
 mod report;
 mod store;
 
+pub use laws::death_keeps_store;
 pub use moves::{Move, Plan};
 pub use store::Store;

@@ -2,9 +2,9 @@ ghost use Rattle.std.specs.Prelude.{◌≡◌, ◌≢◌, ℕ, AllPairs, List, B
 ghost use Rattle.std.specs.List.Sorted.{IsPermutation, IsSortedBy};
 ghost use Rattle.std.specs.Ordering.{is_lt};
 ghost use Rattle.jm_model.specs.Bindings.{empty, binding_cmp};
-ghost use Rattle.jm_monitors.specs.Steps.{IsAtStart, IsAliveState};
+ghost use Rattle.jm_monitors.specs.Steps.{IsAtStart};
 ghost use Rattle.jm_store.specs.Moves.{ends_all};
-ghost use Rattle.jm_store.specs.Contents.{Contents, stored_of, IsFit, IsEnded};
+ghost use Rattle.jm_store.specs.Contents.{Contents, stored_of, IsFit, IsStoreAfter};
 
 mod commit;
 mod dispose;
@@ -61,9 +61,9 @@ impl<M: Monitor> Store<M> {
         ensures stored { IfOk result (λ store. IsAtStart (M.meaning (M.definition rules.now)) (M.StandsFor rules.now) (stored_of store)) }
         ensures marks { IfOk result (λ store. store.marks ≡ []) }
         ensures closed { IfOk result (λ store. store.is_open ≡ false) }
-        ensures fits { IfOk result (λ store. (dead : List Bool)
-            → IsFit (M.meaning (M.definition rules.now)) (M.StandsFor rules.now) store dead) }
-        ensures ended { IfOk result (IsEnded (M.meaning (M.definition rules.now)) (M.StandsFor rules.now)) }
+        ensures fits { IfOk result (λ store. (dead : List Bool) → IsFit store dead) }
+        ensures holds { IfOk result (λ store. (dead : List Bool)
+            → IsStoreAfter (M.meaning (M.definition rules.now)) (M.StandsFor rules.now) [] dead store) }
     {
         let state = rules.begin()?;
         if rules.cut(&state, 0) {
@@ -80,8 +80,7 @@ impl<M: Monitor> Store<M> {
         ensures marks { result.marks ≡ [] }
         ensures closed { result.is_open ≡ false }
         ensures index { result.index.list ≡ [] }
-        ensures fits { (rules : M) (dead : List Bool)
-            → IsFit (M.meaning (M.definition rules)) (M.StandsFor rules) result dead }
+        ensures fits { (dead : List Bool) → IsFit result dead }
     {
         Store {
             monitors: Monitors::new(alloc),
@@ -102,9 +101,7 @@ impl<M: Monitor> Store<M> {
         ensures stored { IfOk result (λ store. stored_of store ≡ monitor ∷ []) }
         ensures marks { IfOk result (λ store. store.marks ≡ []) }
         ensures closed { IfOk result (λ store. store.is_open ≡ false) }
-        ensures fits { IfOk result (λ store. (rules : M) (dead : List Bool)
-            → IsAliveState (M.meaning (M.definition rules)) (M.StandsFor rules) monitor.state 0
-            → IsFit (M.meaning (M.definition rules)) (M.StandsFor rules) store dead) }
+        ensures fits { IfOk result (λ store. (dead : List Bool) → IsFit store dead) }
     {
         let mut index = Index::new(alloc);
         index.add(monitor.instance, 0)?;

@@ -19,7 +19,7 @@ pub(crate) struct Rig<'a, M: Monitor> {
     objects: Objects,
     store: Store<M>,
     ghost closed: { store.is_open ≡ false },
-    ghost fits: { IsFit (M.meaning (M.definition rules.now)) (M.StandsFor rules.now) store objects },
+    ghost fits: { IsFit store objects },
 }
 
 impl<'a, M: Monitor> Rig<'a, M> {

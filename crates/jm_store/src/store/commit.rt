@@ -1,9 +1,10 @@
 //! How a plan is carried out.
-ghost use Rattle.std.specs.Prelude.{◌≡◌, ◌≢◌, ℕ, ◌<◌, ◌≤◌, AllPairs, List, Bool, true, false, Contains, IsTrue, Some, length};
+ghost use Rattle.std.specs.Prelude.{◌≡◌, ◌≢◌, ℕ, ◌<◌, ◌≤◌, AllPairs, List, Bool, [], ◌∷◌, ◌++◌, true, false, Contains, IsTrue, Some, length};
+ghost use Rattle.jm_semantics.specs.Traces.{ParametricEvent};
 ghost use Rattle.jm_index.specs.Index.{Pair, AreBelow, IsFitting};
-ghost use Rattle.jm_monitors.specs.Steps.{AreMarksAfter};
-ghost use Rattle.jm_store.specs.Moves.{after_move, pairs_after, StayAlive};
-ghost use Rattle.jm_store.specs.Contents.{monitors_after, IsFit, IsPlanFor};
+ghost use Rattle.jm_monitors.specs.Steps.{AreMarksAfter, NoneCutAbove};
+ghost use Rattle.jm_store.specs.Moves.{after_move, pairs_after};
+ghost use Rattle.jm_store.specs.Contents.{stored_of, monitors_after, IsFit, IsStoreAfter, IsPlanFor, IsPlanOf};
 
 use super::Store;
 use crate::moves::{Move, Plan};
@@ -18,13 +19,14 @@ impl<M: Monitor> Store<M> {
         ensures monitors { self.new.monitors ≡ monitors_after self.old plan }
         ensures marks { AreMarksAfter plan.binding self.old.marks self.new.marks }
         ensures closed { self.new.is_open ≡ false }
-        ensures fits { (rules : M) (dead : List Bool)
-            → IsFit (M.meaning (M.definition rules)) (M.StandsFor rules) self.old dead → AreBelow (length dead) plan.binding
-            → StayAlive (M.meaning (M.definition rules)) (M.StandsFor rules) dead plan.moves.items
-            → IsFit (M.meaning (M.definition rules)) (M.StandsFor rules) self.new dead }
+        ensures fits { (dead : List Bool) → IsFit self.old dead → AreBelow (length dead) plan.binding → IsFit self.new dead }
+        ensures works { (rules : M) (trace : List ParametricEvent) (dead : List Bool) (letter : ℕ)
+            → IsPlanOf (M.meaning (M.definition rules)) (M.StandsFor rules) trace dead letter self.old plan
+            → IsStoreAfter (M.meaning (M.definition rules)) (M.StandsFor rules)
+            (trace ++ record { letter = letter; binding = plan.binding } ∷ []) dead self.new
+            × NoneCutAbove (M.meaning (M.definition rules)) (M.StandsFor rules) plan.binding dead (stored_of self.new) }
         ensures answer { result.0 ≡ plan.answer }
         ensures copy { result.1 ≡ plan.answer }
-        ensures ending { self.new.ending ≡ self.old.ending }
     {
         let Plan {
             binding,
@@ -54,6 +56,7 @@ impl<M: Monitor> Store<M> {
         ensures bindings { AllPairs (λ a b. a.binding ≢ b.binding) self.old.index.list }
         ensures slots { AllPairs (λ a b. a.slot ≢ b.slot) self.old.index.list }
         ensures within { (pair : Pair) → Contains self.old.index.list pair → pair.slot < length self.old.monitors }
+        ensures dropped { self.new.index.dropped ≡ self.old.index.dropped }
         ensures ending { self.new.ending ≡ self.old.ending }
     {
         let _monitors = &self.monitors;

@@ -1,10 +1,11 @@
 //! What a pass drops.
 ghost use Rattle.std.specs.Prelude.{◌≡◌, ℕ, List, Bool, false, Contains, Some, length};
+ghost use Rattle.jm_semantics.specs.Traces.{ParametricEvent};
 ghost use Rattle.jm_index.specs.Index.{IsKey, flag_of, IsFitting, without};
 ghost use Rattle.jm_monitors.specs.Steps.{IsAfterPass};
 ghost use Rattle.jm_store.specs.Slots.{monitor_at};
 ghost use Rattle.jm_store.specs.Moves.{IsSwept};
-ghost use Rattle.jm_store.specs.Contents.{stored_of, IsFit, IsCutDown};
+ghost use Rattle.jm_store.specs.Contents.{stored_of, IsFit, IsStoreAfter, AreSpared, IsCutDown};
 
 use super::Store;
 use jm_model::{Monitor, NoMemory};
@@ -15,14 +16,18 @@ impl<M: Monitor> Store<M> {
     /// takes no memory.
     pub fn dispose(&mut self, rules: &M, objects: &Objects) -> u64
         requires closed { self.old.is_open ≡ false }
-        requires fits { IsFit (M.meaning (M.definition rules.now)) (M.StandsFor rules.now) self.old objects.now }
-        ensures pass { IsAfterPass (M.meaning (M.definition rules.now)) (M.StandsFor rules.now) objects.now (stored_of self.old) (stored_of self.new)
+        requires fits { IsFit self.old objects.now }
+        ensures pass { (trace : List ParametricEvent)
+            → IsStoreAfter (M.meaning (M.definition rules.now)) (M.StandsFor rules.now) trace objects.now self.old
+            → IsAfterPass (M.meaning (M.definition rules.now)) (M.StandsFor rules.now) objects.now (stored_of self.old) (stored_of self.new)
             self.old.marks self.new.marks }
+        ensures keeps { (trace : List ParametricEvent)
+            → IsStoreAfter (M.meaning (M.definition rules.now)) (M.StandsFor rules.now) trace objects.now self.old
+            → IsStoreAfter (M.meaning (M.definition rules.now)) (M.StandsFor rules.now) trace objects.now self.new }
         ensures left { result ≡ length (stored_of self.new) }
         ensures closed { self.new.is_open ≡ false }
-        ensures fits { IsFit (M.meaning (M.definition rules.now)) (M.StandsFor rules.now) self.new objects.now }
+        ensures fits { IsFit self.new objects.now }
         ensures keys { (o : ℕ) → IsKey self.new.index o → flag_of objects.now o ≡ false }
-        ensures ending { self.new.ending ≡ self.old.ending }
     {
         self.drop_all_cut(rules, objects);
         self.marks.sweep(objects);
@@ -34,9 +39,9 @@ impl<M: Monitor> Store<M> {
     /// unless there is no room for a list of them.
     fn drop_all_cut(&mut self, rules: &M, objects: &Objects)
         requires closed { self.old.is_open ≡ false }
-        requires fits { IsFit (M.meaning (M.definition rules.now)) (M.StandsFor rules.now) self.old objects.now }
         ensures down { IsCutDown (M.meaning (M.definition rules.now)) (M.StandsFor rules.now) objects.now self.old self.new }
-        ensures all { (k : ℕ) → IsSwept (M.meaning (M.definition rules.now)) (M.StandsFor rules.now) objects.now
+        ensures all { AreSpared (M.meaning (M.definition rules.now)) (M.StandsFor rules.now) self.old.index.dropped (stored_of self.old)
+            → (k : ℕ) → IsSwept (M.meaning (M.definition rules.now)) (M.StandsFor rules.now) objects.now
             (monitor_at self.old.monitors k) (monitor_at self.new.monitors k) }
     {
         let mut slots = self.take_slots();

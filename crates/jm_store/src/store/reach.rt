@@ -3,11 +3,10 @@ ghost use Rattle.std.specs.Prelude.{◌≡◌, ℕ, ◌+◌, ◌<◌, ◌≤◌,
 ghost use Rattle.jm_model.specs.Bindings.{empty, is_compatible};
 ghost use Rattle.jm_semantics.specs.Traces.{ParametricEvent};
 ghost use Rattle.jm_index.specs.Index.{AreBelow, AreLive, IsFitting};
-ghost use Rattle.jm_monitors.specs.Stores.{IsStoreOf};
 ghost use Rattle.jm_monitors.specs.Steps.{IsLiveEvent};
 ghost use Rattle.jm_store.specs.Slots.{monitor_at};
-ghost use Rattle.jm_store.specs.Moves.{AreGiven, IsOutcomeAt, IsPushed, IsCompatibleAt, AreMovesOf, asks_by, EndsFewer, AreEnding, StayAlive, reached_by};
-ghost use Rattle.jm_store.specs.Contents.{stored_of, IsFit, IsPlanFor, IsPlanOf, IsEnded, with_ending};
+ghost use Rattle.jm_store.specs.Moves.{AreGiven, IsOutcomeAt, IsPushed, IsCompatibleAt, AreMovesOf, asks_by, EndsFewer, AreEnding, reached_by};
+ghost use Rattle.jm_store.specs.Contents.{stored_of, IsFit, IsStoreAfter, IsPlanFor, IsPlanOf, with_ending};
 
 use super::Store;
 use crate::ending::end_fewer_by;
@@ -37,22 +36,21 @@ impl<M: Monitor> Store<M> {
         steps: &mut Steps<L>,
     ) -> Result<Plan<M::State>, NoMemory>
         requires closed { self.old.is_open ≡ false }
-        requires fits { IsFit (M.meaning (M.definition rules.now)) (M.StandsFor rules.now) self.old objects.now }
+        requires fits { IsFit self.old objects.now }
         requires event { IsLiveEvent (M.meaning (M.definition rules.now)) objects.now letter.0 binding.now }
         requires there { AreBelow (length objects.now) binding.now }
         ensures stored { stored_of self.new ≡ stored_of self.old }
         ensures marks { self.new.marks ≡ self.old.marks }
-        ensures fits { IsFit (M.meaning (M.definition rules.now)) (M.StandsFor rules.now) self.new objects.now }
+        ensures fits { IsFit self.new objects.now }
         ensures closed { OnErr result (self.new.is_open ≡ false) }
         ensures opened { OnOk result (self.new.is_open ≡ true) }
         ensures binding { IfOk result (λ plan. plan.binding ≡ binding.now) }
         ensures plan { IfOk result (λ plan. IsPlanFor self.new plan) }
-        ensures stay { IfOk result
-            (λ plan. StayAlive (M.meaning (M.definition rules.now)) (M.StandsFor rules.now) objects.now plan.moves.items) }
-        ensures fewer { EndsFewer self.old.ending self.new.ending }
+        ensures keeps { (trace : List ParametricEvent)
+            → IsStoreAfter (M.meaning (M.definition rules.now)) (M.StandsFor rules.now) trace objects.now self.old
+            → IsStoreAfter (M.meaning (M.definition rules.now)) (M.StandsFor rules.now) trace objects.now self.new }
         ensures works { IfOk result (λ plan. (trace : List ParametricEvent)
-            → IsStoreOf (M.meaning (M.definition rules.now)) (M.StandsFor rules.now) trace objects.now (stored_of self.old) self.old.marks
-            → IsEnded (M.meaning (M.definition rules.now)) (M.StandsFor rules.now) self.old
+            → IsStoreAfter (M.meaning (M.definition rules.now)) (M.StandsFor rules.now) trace objects.now self.old
             → IsPlanOf (M.meaning (M.definition rules.now)) (M.StandsFor rules.now) trace objects.now letter.0 self.new plan) }
         ensures steps { steps.new ≤ steps.old + count_by (λ s. is_compatible s.instance binding.now) (stored_of self.old) }
     {
@@ -75,23 +73,22 @@ impl<M: Monitor> Store<M> {
         moves: Vec<Move<M::State>>,
     ) -> Result<Plan<M::State>, NoMemory>
         requires closed { self.old.is_open ≡ false }
-        requires fits { IsFit (M.meaning (M.definition rules.now)) (M.StandsFor rules.now) self.old objects.now }
+        requires fits { IsFit self.old objects.now }
         requires event { IsLiveEvent (M.meaning (M.definition rules.now)) objects.now letter.0 binding.now }
         requires there { AreBelow (length objects.now) binding.now }
         requires none { moves.items ≡ [] }
         ensures stored { stored_of self.new ≡ stored_of self.old }
         ensures marks { self.new.marks ≡ self.old.marks }
-        ensures fits { IsFit (M.meaning (M.definition rules.now)) (M.StandsFor rules.now) self.new objects.now }
+        ensures fits { IsFit self.new objects.now }
         ensures closed { OnErr result (self.new.is_open ≡ false) }
         ensures opened { OnOk result (self.new.is_open ≡ true) }
         ensures binding { IfOk result (λ plan. plan.binding ≡ binding.now) }
         ensures plan { IfOk result (λ plan. IsPlanFor self.new plan) }
-        ensures stay { IfOk result
-            (λ plan. StayAlive (M.meaning (M.definition rules.now)) (M.StandsFor rules.now) objects.now plan.moves.items) }
-        ensures fewer { EndsFewer self.old.ending self.new.ending }
+        ensures keeps { (trace : List ParametricEvent)
+            → IsStoreAfter (M.meaning (M.definition rules.now)) (M.StandsFor rules.now) trace objects.now self.old
+            → IsStoreAfter (M.meaning (M.definition rules.now)) (M.StandsFor rules.now) trace objects.now self.new }
         ensures works { IfOk result (λ plan. (trace : List ParametricEvent)
-            → IsStoreOf (M.meaning (M.definition rules.now)) (M.StandsFor rules.now) trace objects.now (stored_of self.old) self.old.marks
-            → IsEnded (M.meaning (M.definition rules.now)) (M.StandsFor rules.now) self.old
+            → IsStoreAfter (M.meaning (M.definition rules.now)) (M.StandsFor rules.now) trace objects.now self.old
             → IsPlanOf (M.meaning (M.definition rules.now)) (M.StandsFor rules.now) trace objects.now letter.0 self.new plan) }
         ensures steps { steps.new ≤ steps.old + count_by (λ s. is_compatible s.instance binding.now) (stored_of self.old) }
     {

@@ -1,4 +1,4 @@
-use Rattle.std.proofs.Common.{◌≡◌, sym, ◌∙◌}
+use Rattle.std.proofs.Common.{sym, ◌∙◌}
 use Rattle.jm_semantics.proofs.BindingLemmas.{below-antisym}
 use Rattle.jm_core.proofs.rest.is_same.Goals as goal
 

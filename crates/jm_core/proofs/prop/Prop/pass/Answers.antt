@@ -1,5 +1,6 @@
 use Rattle.std.proofs.Common.{◌<◌, ◌^◌, List, sym, subst}
 use Rattle.jm_model.specs.declared.step.Entry.{Entry}
+use Rattle.jm_semantics.specs.Histories.{trace_of}
 use Rattle.jm_core.specs.Inside.{IsCore}
 use Rattle.jm_core.proofs.FitLemmas.{fits_history}
 use Rattle.jm_core.proofs.CoreLemmas.{core_after_pass}
@@ -13,7 +14,7 @@ invariant_of-self g c =
     let done = c.dispose-kept.ensures in
     let small : c.dispose-kept.result < 2 ^ 64 = c.dispose-kept.type_inv in
     let core = subst (λ (l : List Entry). IsCore m Stands l c.self.inside.objects c.dispose-kept.new.self) (sym c.push.ensures)
-    (core_after_pass m Stands c.self.inside.history c.self.inside.objects c.self.inside.store c.dispose-kept.new.self c.args.node c.dispose-kept.result c.self.invariant.0 c.requires done.pass small done.left done.closed done.fits done.ending) in
+    (core_after_pass m Stands c.self.inside.history c.self.inside.objects c.self.inside.store c.dispose-kept.new.self c.args.node c.dispose-kept.result c.self.invariant.0 c.requires (done.pass (trace_of c.self.inside.history) c.self.invariant.0.holds) small done.left done.closed done.fits (done.keeps (trace_of c.self.inside.history) c.self.invariant.0.holds)) in
     (core, rest_none m Stands c.self.inside.objects c.dispose-kept.new.self c.forget.new.self c.forget.ensures)
 
 pub returns-clause-legal : goal.returns-clause-legal

@@ -1,14 +1,10 @@
-use Rattle.std.proofs.Common.{◌≡◌, List, subst, inl, inr, length, sym, ap, ◌∙◌, arith}
+use Rattle.std.proofs.Common.{◌≡◌, inl, inr, length, sym, ap, ◌∙◌, arith}
 use Rattle.std.proofs.lemmas.Grind.{common_steps}
 use Rattle.std.proofs.lemmas.Bool.{false≢true}
-use Rattle.std.specs.Prelude.{Option}
-use Rattle.jm_monitors.specs.declared.stored.Stored.{Stored}
-use Rattle.jm_store.specs.Slots.{stored_in}
-use Rattle.jm_store.specs.Contents.{AreSpared}
 use Rattle.jm_store.specs.Moves.{after_moves}
-use Rattle.jm_store.proofs.CommitLemmas.{after_push, apart_front, leads_on, filled_on, unplanned}
+use Rattle.jm_store.proofs.CommitLemmas.{after_none, after_push, apart_front, leads_on, filled_on, unplanned}
 use Rattle.jm_store.proofs.FitLemmas.{housed_fits}
-use Rattle.jm_store.proofs.SparedLemmas.{plain_fewer, after_none, spared_fewer, spared_after}
+use Rattle.jm_store.proofs.StoreLemmas.{store_after_plan}
 use Rattle.jm_store.proofs.store.Store.commit.Goals as goal
 
 pub loop-step-preserved : goal.loop-step-preserved
@@ -22,6 +18,7 @@ loop-step-preserved g c =
       monitors = ap (after_moves rest) carried.monitors ∙ sym (after_push rest step c.loop-step.self.monitors) ∙ inv.monitors;
       marks = carried.marks ∙ inv.marks;
       ending = carried.ending ∙ inv.ending;
+      dropped = carried.dropped ∙ inv.dropped;
       fits = λ dead fits. carried.fits dead (inv.fits dead fits);
       apart = apart_front rest step inv.apart;
       leads = leads_on c.loop-step.self c.carry_out.new.self rest step carried.bindings carried.slots carried.within inv.apart inv.leads carried.monitors carried.index;
@@ -48,22 +45,20 @@ pub returns-clause-fits : goal.returns-clause-fits
 returns-clause-fits g c =
     let fits = rw (← c.self.view_is) at c.loop-step.invariant.fits in
     let same = rw (← c.self.view_is) at c.loop-step.invariant.marks in
-    let monitors = rw (← c.self.view_is) at c.loop-step.invariant.monitors in
-    let none : length c.loop-step.moves.items ≡ 0 = grind (arith, common_steps) in
     let added = c.add_mark.ensures in
-    λ rules dead fit below stay.
-    let m = g.M.Monitor.meaning (g.M.Monitor.definition rules) in
-    let Stands = g.M.Monitor.StandsFor rules in
-    let before = c.args.self.now in
-    let dropped = c.self.inside.index.dropped in
-    let fewer = plain_fewer before.index c.self.inside.index dead fit.index fits in
-    let after = sym (after_none m Stands c.loop-step.moves.items _ none) ∙ monitors in
-    let spared = spared_fewer m Stands before.index.dropped dropped _ fewer (spared_after m Stands before.index.dropped dead c.args.plan.moves.items before.monitors fit.index.reached fit.spared stay) in
-    housed_fits m Stands _ _ _ _ _ dead c.self.invariant.housed (fits dead fit.index)
+    λ dead fit below.
+    housed_fits _ _ _ _ _ dead c.self.invariant.housed (fits dead fit.index)
     (λ b there. elim ((added b).0 there) [
       | inl before ↦ fit.marks b (rw same at before)
       | inr is ↦ rw is below
-    ]) (subst (λ (l : List (Option (Stored g.row.M-State.Denot))). AreSpared m Stands dropped (stored_in l)) (sym after) spared)
+    ])
 
-pub returns-clause-ending : goal.returns-clause-ending
-returns-clause-ending g c = rw (← c.self.view_is) at c.loop-step.invariant.ending
+pub returns-clause-works : goal.returns-clause-works
+returns-clause-works g c =
+    let none : length c.loop-step.moves.items ≡ 0 = grind (arith, common_steps) in
+    let after = rw (← c.self.view_is) at c.loop-step.invariant.monitors in
+    let monitors = sym (after_none c.loop-step.moves.items _ none) ∙ after in
+    let ending = rw (← c.self.view_is) at c.loop-step.invariant.ending in
+    let dropped = rw (← c.self.view_is) at c.loop-step.invariant.dropped in
+    λ rules trace dead letter plan.
+    store_after_plan (g.M.Monitor.meaning (g.M.Monitor.definition rules)) (g.M.Monitor.StandsFor rules) trace dead letter c.args.self.now _ c.args.plan plan monitors (returns-clause-marks g c) ending dropped

@@ -11,6 +11,7 @@ invariant-loop-step g l = record {
   monitors : after_moves l.moves.items l.self.monitors ≡ after_moves l.initial.moves.items l.initial.self.monitors;
   marks : l.self.marks ≡ l.initial.self.marks;
   ending : l.self.ending ≡ l.initial.self.ending;
+  dropped : l.self.index.dropped ≡ l.initial.self.index.dropped;
   fits : (dead : List Bool) → IsFitting l.initial.self.index dead → IsFitting l.self.index dead;
   apart : AreApart l.moves.items;
   leads : ArePlaced l.self l.moves.items;

@@ -1,4 +1,4 @@
-use Rattle.std.proofs.Common.{ℕ, refl, sym, subst, length, arith, replicate, ◌<◌}
+use Rattle.std.proofs.Common.{ℕ, sym, subst, length, arith, replicate, ◌<◌}
 use Rattle.std.proofs.lemmas.List.{length-replicate}
 use Rattle.std.specs.Prelude.{List}
 use Rattle.jm_index.specs.Index.{AreBelow}
@@ -6,7 +6,6 @@ use Rattle.jm_model.specs.declared.binding.Binding.{Binding}
 use Rattle.jm_index.proofs.ReadLemmas.{Contains-none}
 use Rattle.jm_store.proofs.FitLemmas.{kept_first, below_empty, housed_fits}
 use Rattle.jm_store.proofs.EndingLemmas.{first_none}
-use Rattle.jm_store.proofs.SparedLemmas.{spared_first}
 use Rattle.jm_store.proofs.store.Store.with_first.Goals as goal
 
 pub invariant_of-result : goal.invariant_of-result
@@ -17,13 +16,10 @@ invariant_of-result g c =
 pub returns-clause-fits : goal.returns-clause-fits
 returns-clause-fits g c =
     let kept = kept_first c.args.monitor c.mask.result c.new.result.spare (sym c.mask.ensures.value) in
-    λ rules dead alive.
-    let m = g.M.Monitor.meaning (g.M.Monitor.definition rules) in
-    let Stands = g.M.Monitor.StandsFor rules in
+    λ dead.
     let below : AreBelow (length dead) c.args.monitor.instance = subst (λ (b : Binding). AreBelow (length dead) b) (sym c.requires) (below_empty (length dead)) in
-    housed_fits m Stands _ _ _ c.add.new.self _ dead (rw (c.in_ok-push-2.ensures.items, c.new-slots.ensures.items, c.in_ok-add.ensures.added, c.new-index.ensures.list) kept.housed)
+    housed_fits _ _ _ c.add.new.self _ dead (rw (c.in_ok-push-2.ensures.items, c.new-slots.ensures.items, c.in_ok-add.ensures.added, c.new-index.ensures.list) kept.housed)
     (c.in_ok-add.ensures.fits dead (c.new-index.ensures.fits dead) below) (λ b there. absurd (Contains-none b (rw c.new.ensures at there)))
-    (rw (c.in_ok-push-2.ensures.items, c.new-slots.ensures.items) (spared_first m Stands c.add.new.self.dropped _ c.args.monitor refl c.requires alive))
 
 pub returns-clause-none_ending : goal.returns-clause-none_ending
 returns-clause-none_ending g c =

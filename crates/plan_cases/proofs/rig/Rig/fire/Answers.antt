@@ -8,7 +8,6 @@ invariant_of-self-2 g c =
     let dead = c.args.self.now.objects in
     record {
       closed = c.commit-answer.ensures.closed;
-      fits = c.commit-answer.ensures.fits c.args.self.now.rules.now dead c.in_ok-plan.ensures.fits
-          (subst (λ (b : Binding). AreBelow (length dead) b) (sym c.in_ok-plan.ensures.binding) c.requires.there)
-          c.in_ok-plan.ensures.stay;
+      fits = c.commit-answer.ensures.fits dead c.in_ok-plan.ensures.fits
+          (subst (λ (b : Binding). AreBelow (length dead) b) (sym c.in_ok-plan.ensures.binding) c.requires.there);
     }
