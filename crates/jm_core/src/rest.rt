@@ -65,8 +65,5 @@ impl Rest {
 fn is_same(one: &Binding, other: &Binding) -> bool
     ensures { IsTrue result → one.now ≡ other.now }
 {
-    if !one.le(other) {
-        return false;
-    }
-    other.le(one)
+    *one == *other
 }

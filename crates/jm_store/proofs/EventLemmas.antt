@@ -1,6 +1,6 @@
 -- What an event makes of one stored monitor.
-use Rattle.std.proofs.Common.{◌≡◌, ℕ, inl, inr, Bool, true, false, List, [], ◌∷◌, ◌++◌, sym, subst}
-use Rattle.std.specs.Prelude.{Some, None, Contains}
+use Rattle.std.proofs.Common.{◌≡◌, ℕ, inl, inr, Bool, true, false, List, [], ◌∷◌, ◌++◌, refl, sym, subst}
+use Rattle.std.specs.Prelude.{Option, Some, None, Contains}
 use Rattle.std.proofs.lemmas.Bool.{both_ways}
 use Rattle.jm_model.specs.Bindings.{is_below, is_compatible, join}
 use Rattle.jm_model.specs.Meanings.{Meaning, IsHit, IsCutWord}
@@ -8,7 +8,11 @@ use Rattle.jm_model.specs.declared.binding.Binding.{Binding}
 use Rattle.jm_marks.specs.Marks.{dead_mask_of, IsCovered}
 use Rattle.jm_monitors.specs.declared.stored.Stored.{Stored}
 use Rattle.jm_store.specs.declared.moves.Move.{Move}
-use Rattle.jm_store.specs.Moves.{IsAdvanced, IsMoved, IsLeft}
+use Rattle.jm_store.specs.Moves.{IsNext, IsAdvanced, IsMoved, IsLeft}
+
+pub advanced_next : (m : Meaning) {S : Type 0} (Stands : S → List ℕ → Type 0) (letter : ℕ) (dead : List Bool) (k : Option ℕ) (t : Binding) (base state : S) (stays : Bool) → IsNext m Stands letter dead t base state stays
+    → IsAdvanced m Stands letter dead k t base (record { slot = k; monitor = record { instance = t; state = state }; stays = stays })
+advanced_next m Stands letter dead k t base state stays next = record { slot = refl; instance = refl; next = next.next; alive = next.alive; cut = next.cut }
 
 module _ (m : Meaning) {S : Type 0} (Stands : S → List ℕ → Type 0) (letter : ℕ) (b : Binding) (dead : List Bool) (marks : List Binding) where
   -- the binding is a mark, and isn't below

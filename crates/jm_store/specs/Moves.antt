@@ -13,6 +13,12 @@ use Rattle.jm_index.specs.Index.{Pair, AreBelow, asked_slots, without}
 use Rattle.jm_store.specs.declared.moves.Move.{Move}
 use Rattle.jm_store.specs.Slots.{monitor_at}
 
+-- the state of instance t follows a base by the letter, and the flag tells whether it isn't cut
+pub record IsNext (m : Meaning) {S : Type 0} (Stands : S → List ℕ → Type 0) (letter : ℕ) (dead : List Bool) (t : Binding) (base state : S) (stays : Bool) : Type 0 where
+  pub next : Follows Stands letter base state
+  pub alive : stays ≡ true → IsAliveState m Stands state (dead_mask_of dead t)
+  pub cut : stays ≡ false → IsCutState m Stands state (dead_mask_of dead t)
+
 -- the monitor of instance t whose state follows a base by the letter, and whether it isn't cut
 pub record IsAdvanced (m : Meaning) {S : Type 0} (Stands : S → List ℕ → Type 0) (letter : ℕ) (dead : List Bool) (k : Option ℕ) (t : Binding) (base : S) (move : Move S) : Type 0 where
   pub slot : move.slot ≡ k

@@ -1,10 +1,10 @@
 //! What an event makes of one stored monitor.
-ghost use Rattle.std.specs.Prelude.{◌≡◌, ◌<◌, ℕ, List, IfOk, IsTrue, ◌↔◌, Contains, true, false, ◌==◌, bit_and};
+ghost use Rattle.std.specs.Prelude.{◌≡◌, ◌<◌, ℕ, List, IfOk, OnOk, IsTrue, ◌↔◌, Contains, true, false, ◌==◌, bit_and};
 ghost use Rattle.std.specs.Int.{bit_at};
 ghost use Rattle.jm_model.specs.Bindings.{is_compatible, is_below, mask_of, join as union};
 ghost use Rattle.jm_model.specs.Meanings.{IsHit};
 ghost use Rattle.jm_marks.specs.Marks.{dead_mask_of};
-ghost use Rattle.jm_store.specs.Moves.{IsAdvanced, IsOutcome, is_asked};
+ghost use Rattle.jm_store.specs.Moves.{IsNext, IsOutcome, IsPushed, is_asked};
 
 use crate::moves::Move;
 use jm_marks::{Marks, dead_mask};
@@ -36,59 +36,64 @@ impl<M: Monitor> Event<'_, M> {
         mask & domain == mask || (!self.known && (ending >> self.letter.0) % 2 != 1)
     }
 
-    /// What the monitor of a slot becomes, or the new instance that it makes, if it does either.
-    pub(crate) fn outcome(
+    /// Puts what the monitor of a slot becomes, or the new instance that it makes, at the end of the moves, if it does either.
+    pub(crate) fn add_outcome(
         &self,
         slot: usize,
         base: &Stored<M::State>,
-    ) -> Result<Option<Move<M::State>>, NoMemory>
+        moves: &mut Vec<Move<M::State>>,
+    ) -> Result<(), NoMemory>
         requires letter { self.now.letter.0 < (M.meaning (M.definition self.now.rules.now)).letters }
         requires known { IsTrue self.now.known ↔ Contains self.now.marks.now.list self.now.binding.now }
         requires compatible { IsTrue (is_compatible base.now.instance self.now.binding.now) }
-        ensures { IfOk result (λ o. IsOutcome (M.meaning (M.definition self.now.rules.now)) (M.StandsFor self.now.rules.now)
-            self.now.letter.0 self.now.binding.now self.now.objects.now self.now.marks.now.list slot base.now o) }
+        ensures { OnOk result (IsPushed (IsOutcome (M.meaning (M.definition self.now.rules.now)) (M.StandsFor self.now.rules.now)
+            self.now.letter.0 self.now.binding.now self.now.objects.now self.now.marks.now.list slot) base.now moves.old.items moves.new.items) }
     {
         if self.binding.le(&base.instance) {
-            return Ok(Some(self.advance(Some(slot), base.instance, &base.state)?));
+            let (state, stays) = self.advance(&base.instance, &base.state)?;
+            moves.push(Move {
+                slot: Some(slot),
+                monitor: Stored {
+                    instance: base.instance,
+                    state,
+                },
+                stays,
+            })?;
+            return Ok(());
         }
         let instance = base.instance.join(self.binding);
         if self.known || !self.marks.covers(&instance, &base.instance) {
-            return Ok(None);
+            return Ok(());
         }
-        let made = self.advance(None, instance, &base.state)?;
-        if self.is_lost(&made) {
-            Ok(None)
-        } else {
-            Ok(Some(made))
+        let (state, stays) = self.advance(&instance, &base.state)?;
+        if self.is_lost(&state, stays) {
+            return Ok(());
         }
-    }
-
-    /// The monitor of an instance, moved on from a base.
-    fn advance(
-        &self,
-        slot: Option<usize>,
-        instance: Binding,
-        base: &M::State,
-    ) -> Result<Move<M::State>, NoMemory>
-        requires { self.now.letter.0 < (M.meaning (M.definition self.now.rules.now)).letters }
-        ensures { IfOk result (λ move. IsAdvanced (M.meaning (M.definition self.now.rules.now)) (M.StandsFor self.now.rules.now)
-            self.now.letter.0 self.now.objects.now slot instance base.now move) }
-    {
-        let state = self.rules.next(base, self.letter)?;
-        let stays = !self.rules.cut(&state, dead_mask(self.objects, &instance));
-        Ok(Move {
-            slot,
+        moves.push(Move {
+            slot: None,
             monitor: Stored { instance, state },
             stays,
-        })
+        })?;
+        Ok(())
+    }
+
+    /// The state of an instance, moved on from a base, and whether the instance isn't cut then.
+    fn advance(&self, instance: &Binding, base: &M::State) -> Result<(M::State, bool), NoMemory>
+        requires { self.now.letter.0 < (M.meaning (M.definition self.now.rules.now)).letters }
+        ensures { IfOk result (λ next. IsNext (M.meaning (M.definition self.now.rules.now)) (M.StandsFor self.now.rules.now)
+            self.now.letter.0 self.now.objects.now instance.now base.now next.0 next.1) }
+    {
+        let state = self.rules.next(base, self.letter)?;
+        let stays = !self.rules.cut(&state, dead_mask(self.objects, instance));
+        Ok((state, stays))
     }
 
     /// Whether a new instance hits nothing and is cut at once.
-    fn is_lost(&self, made: &Move<M::State>) -> bool
-        ensures quiet { IsTrue result → (w : List ℕ) → M.StandsFor self.now.rules.now made.now.monitor.state w
+    fn is_lost(&self, state: &M::State, stays: bool) -> bool
+        ensures quiet { IsTrue result → (w : List ℕ) → M.StandsFor self.now.rules.now state.now w
             → (k : ℕ) → IsHit (M.meaning (M.definition self.now.rules.now)) w k → ⊥ }
-        ensures cut { IsTrue result → made.now.stays ≡ false }
+        ensures cut { IsTrue result → stays ≡ false }
     {
-        !made.stays && self.rules.hits(&made.monitor.state) == 0
+        !stays && self.rules.hits(state) == 0
     }
 }

@@ -45,7 +45,7 @@ pub(crate) fn report<M: Monitor>(
         if must_bind & step.monitor.instance.mask() == must_bind {
             report_hits(
                 &mut firings,
-                step.monitor.instance,
+                &step.monitor.instance,
                 rules.hits(&step.monitor.state),
             )?;
         }
@@ -54,15 +54,18 @@ pub(crate) fn report<M: Monitor>(
 }
 
 /// Adds a firing of the instance for each handler whose bit is set.
-fn report_hits(firings: &mut Firings, instance: Binding, hits: u16) -> Result<(), NoMemory>
-    ensures { OnOk result (firings.new ≡ firings.old ++ firings_below instance hits 16) }
+fn report_hits(firings: &mut Firings, instance: &Binding, hits: u16) -> Result<(), NoMemory>
+    ensures { OnOk result (firings.new ≡ firings.old ++ firings_below instance.now hits 16) }
 {
     if hits == 0 {
         return Ok(());
     }
     for handler in 0..16 {
         if (hits >> handler) % 2 == 1 {
-            firings.push(Firing { instance, handler })?;
+            firings.push(Firing {
+                instance: *instance,
+                handler,
+            })?;
         }
     }
     Ok(())

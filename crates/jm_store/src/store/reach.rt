@@ -198,10 +198,7 @@ impl<M: Monitor> Store<M> {
         let Some(base) = self.monitors.lend(slot, steps) else {
             return Ok(());
         };
-        if let Some(outcome) = event.outcome(slot, base)? {
-            moves.push(outcome)?;
-        }
-        Ok(())
+        event.add_outcome(slot, base, moves)
     }
 
     /// Keeps of the letters that end monitors those that end the moved ones too.

@@ -7,11 +7,11 @@ use Rattle.jm_store.proofs.report.report_hits.Goals.{then-hits-handler-eq1+in_ok
 
 pub loop-handler-init : goal.loop-handler-init
 loop-handler-init c =
-    sym (append-nil c.args.firings.now) ∙ ap (λ (l : List Firing). c.args.firings.now ++ l) (sym (hits_none c.args.instance c.args.hits))
+    sym (append-nil c.args.firings.now) ∙ ap (λ (l : List Firing). c.args.firings.now ++ l) (sym (hits_none c.args.instance.now c.args.hits))
 
 pub loop-handler-preserved : goal.loop-handler-preserved
 loop-handler-preserved c =
-    let t = c.args.instance in
+    let t = c.args.instance.now in
     let k = c.loop-handler.handler in
     let before = firings_below t c.args.hits k in
     elim c.if-hits-handler-eq1.branch [
@@ -26,7 +26,7 @@ loop-handler-preserved c =
 pub returns : goal.returns
 returns c =
     let last : c.loop-handler.handler ≡ 16 = omega arith in
-    c.loop-handler.invariant ∙ ap (λ (n : ℕ). c.args.firings.now ++ firings_below c.args.instance c.args.hits n) last
+    c.loop-handler.invariant ∙ ap (λ (n : ℕ). c.args.firings.now ++ firings_below c.args.instance.now c.args.hits n) last
 
 pub returns-then-hits-eq0 : goal.returns-then-hits-eq0
-returns-then-hits-eq0 c = rw (c.if-hits-eq0.true, no_hits c.args.instance 16) (sym (append-nil c.args.firings.now))
+returns-then-hits-eq0 c = rw (c.if-hits-eq0.true, no_hits c.args.instance.now 16) (sym (append-nil c.args.firings.now))

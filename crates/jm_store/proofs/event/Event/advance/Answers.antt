@@ -1,4 +1,4 @@
-use Rattle.std.proofs.Common.{refl, sym, subst}
+use Rattle.std.proofs.Common.{sym, subst}
 use Rattle.std.specs.Prelude.{ℕ}
 use Rattle.std.proofs.lemmas.Bool.{not-true, not-false, both_ways}
 use Rattle.jm_model.specs.Meanings.{IsCutWord}
@@ -8,8 +8,6 @@ pub returns : goal.returns
 returns g c =
     let m = g.M.Monitor.meaning (g.M.Monitor.definition c.args.self.now.rules.now) in
     record {
-      slot = refl;
-      instance = refl;
       next = c.in_ok-state.ensures;
       alive = λ stays w stands gone.
           both_ways c.cut-stays.result (not-true c.cut-stays.result stays)
