@@ -32,9 +32,11 @@ pub struct Store<M: Monitor> {
     /// For each set of parameters letters that end all monitors with it.
     ending: [u32; 256],
     is_open: bool,
-    /// Room for the slots that an event reads, and for its moves. It is used again from event to event.
+    /// Room for the slots that an event reads, for its moves, and for these once they have slots. It is used again from event to
+    /// event.
     slots: Vec<usize>,
     moves: Vec<Move<M::State>>,
+    placed: Vec<Move<M::State>>,
 }
 
 impl<M: Monitor> Model for Store<M> {
@@ -91,6 +93,7 @@ impl<M: Monitor> Store<M> {
             is_open: false,
             slots: Vec::new(alloc),
             moves: Vec::new(alloc),
+            placed: Vec::new(alloc),
         }
     }
 
@@ -120,6 +123,7 @@ impl<M: Monitor> Store<M> {
             is_open: false,
             slots: Vec::new(alloc),
             moves: Vec::new(alloc),
+            placed: Vec::new(alloc),
         })
     }
 

@@ -8,6 +8,7 @@ ghost use Rattle.jm_store.specs.Contents.{stored_of, IsFilled, IsPlannedBy, IsPl
 use super::Store;
 use crate::moves::{Move, have_slots};
 use jm_model::{Binding, Monitor, NoMemory};
+use std::mem;
 
 impl<M: Monitor> Store<M> {
     /// Opens a plan with these moves: new instances get slots. Where memory is wanting they are taken out again, and no
@@ -59,7 +60,6 @@ impl<M: Monitor> Store<M> {
         requires settled { (pair : Pair) → Contains self.old.index.list pair → IsFilled self.old pair }
         requires apart { AreApart moves.items }
         requires leads { ArePlaced self.old moves.items }
-        requires none { placed.old.items ≡ [] }
         ensures open { self.new.is_open ≡ true }
         ensures stored { stored_of self.new ≡ stored_of self.old }
         ensures monitors { (k : ℕ) → monitor_at self.new.monitors k ≡ monitor_at self.old.monitors k }
@@ -70,10 +70,28 @@ impl<M: Monitor> Store<M> {
         ensures placed { OnOk result (ArePlacedOf self.old self.new moves.items moves.items placed.new.items) }
         ensures ending { self.new.ending ≡ self.old.ending }
     {
+        self.lend_room(placed);
         while let Some(step) = moves.pop() {
             self.place_next(step, placed)?;
         }
+        self.keep_room(moves);
         Ok(())
+    }
+
+    /// Gives a list the room for moves with slots.
+    fn lend_room(&mut self, placed: &mut Vec<Move<M::State>>)
+        ensures same { self.new ≡ self.old }
+        ensures none { placed.new.items ≡ [] }
+    {
+        mem::swap(&mut self.placed, placed);
+        placed.clear();
+    }
+
+    /// Keeps a list's room for the next time.
+    fn keep_room(&mut self, moves: Vec<Move<M::State>>)
+        ensures { self.new ≡ self.old }
+    {
+        self.placed = moves;
     }
 
     /// Puts a move at the end of those that have a slot, if it can get one.

@@ -6,17 +6,19 @@ use Rattle.jm_store.proofs.PlacingLemmas.{placed_none, placed_next, step_split, 
 use Rattle.jm_store.proofs.store.Store.place_all.Goals as goal
 
 pub loop-step-init : goal.loop-step-init
-loop-step-init g c = record {
-  open_now = c.requires.«open»;
-  stored = refl;
-  monitors = λ k. refl;
-  marks = refl;
-  ending = refl;
-  fits = λ dead fits within. fits;
-  done = [];
-  split = sym (append-nil c.args.moves.items);
-  placed = rw c.requires.none (placed_none _ _ c.args.moves.items refl (λ k. refl) c.requires.settled);
-}
+loop-step-init g c =
+    rw (c.lend_room.ensures.same, c.lend_room.ensures.none)
+    (record {
+      open_now = c.requires.«open»;
+      stored = refl;
+      monitors = λ k. refl;
+      marks = refl;
+      ending = refl;
+      fits = λ dead fits within. fits;
+      done = [];
+      split = sym (append-nil c.args.moves.items);
+      placed = placed_none _ _ c.args.moves.items refl (λ k. refl) c.requires.settled;
+    })
 
 pub loop-step-preserved : goal.loop-step-preserved
 loop-step-preserved g c =
@@ -75,33 +77,34 @@ returns-in_err-place_next-clause-filled g c =
     ])
 
 pub returns-clause-open : goal.returns-clause-open
-returns-clause-open g c = c.loop-step.invariant.open_now
+returns-clause-open g c = rw c.keep_room.ensures (c.loop-step.invariant.open_now)
 
 pub returns-clause-stored : goal.returns-clause-stored
-returns-clause-stored g c = c.loop-step.invariant.stored
+returns-clause-stored g c = rw c.keep_room.ensures (c.loop-step.invariant.stored)
 
 pub returns-clause-monitors : goal.returns-clause-monitors
-returns-clause-monitors g c = c.loop-step.invariant.monitors
+returns-clause-monitors g c = rw c.keep_room.ensures (c.loop-step.invariant.monitors)
 
 pub returns-clause-marks : goal.returns-clause-marks
-returns-clause-marks g c = c.loop-step.invariant.marks
+returns-clause-marks g c = rw c.keep_room.ensures (c.loop-step.invariant.marks)
 
 pub returns-clause-fits : goal.returns-clause-fits
-returns-clause-fits g c = c.loop-step.invariant.fits
+returns-clause-fits g c = rw c.keep_room.ensures (c.loop-step.invariant.fits)
 
 pub returns-clause-leads : goal.returns-clause-leads
-returns-clause-leads g c = c.loop-step.invariant.placed.leads
+returns-clause-leads g c = rw c.keep_room.ensures (c.loop-step.invariant.placed.leads)
 
 pub returns-clause-filled : goal.returns-clause-filled
-returns-clause-filled g c = c.loop-step.invariant.placed.filled
+returns-clause-filled g c = rw c.keep_room.ensures (c.loop-step.invariant.placed.filled)
 
 pub returns-clause-placed : goal.returns-clause-placed
 returns-clause-placed g c =
     let none : length c.loop-step.moves.items ≡ 0 = grind (arith, common_steps) in
-    all_placed _ _ c.args.moves.items c.loop-step.moves.items c.loop-step.invariant.done _ c.loop-step.invariant.split none c.loop-step.invariant.placed
+    rw c.keep_room.ensures
+    (all_placed _ _ c.args.moves.items c.loop-step.moves.items c.loop-step.invariant.done _ c.loop-step.invariant.split none c.loop-step.invariant.placed)
 
 pub returns-in_err-place_next-clause-ending : goal.returns-in_err-place_next-clause-ending
 returns-in_err-place_next-clause-ending g c = c.in_err-place_next.ensures.ending ∙ c.loop-step.invariant.ending
 
 pub returns-clause-ending : goal.returns-clause-ending
-returns-clause-ending g c = c.loop-step.invariant.ending
+returns-clause-ending g c = rw c.keep_room.ensures (c.loop-step.invariant.ending)

@@ -10,14 +10,14 @@ use Rattle.jm_store.proofs.store.Store.place_all.Given as goal
 abbrev pub invariant-loop-step : goal.invariant-loop-step
 invariant-loop-step g l = record {
   open_now : l.self.is_open ≡ true;
-  stored : stored_of l.self ≡ stored_of l.initial.self;
-  monitors : (k : ℕ) → monitor_at l.self.monitors k ≡ monitor_at l.initial.self.monitors k;
-  marks : l.self.marks ≡ l.initial.self.marks;
-  ending : l.self.ending ≡ l.initial.self.ending;
-  fits : (dead : List Bool) → IsFitting l.initial.self.index dead → LieWithin (length dead) l.initial.moves.items → IsFitting l.self.index dead;
+  stored : stored_of l.self ≡ stored_of l.fn.self;
+  monitors : (k : ℕ) → monitor_at l.self.monitors k ≡ monitor_at l.fn.self.monitors k;
+  marks : l.self.marks ≡ l.fn.self.marks;
+  ending : l.self.ending ≡ l.fn.self.ending;
+  fits : (dead : List Bool) → IsFitting l.fn.self.index dead → LieWithin (length dead) l.initial.moves.items → IsFitting l.self.index dead;
   done : List (Move g.row.M-State.Denot);
   split : l.initial.moves.items ≡ l.moves.items ++ done;
-  placed : ArePlacedOf l.initial.self l.self l.initial.moves.items done l.placed.items;
+  placed : ArePlacedOf l.fn.self l.self l.initial.moves.items done l.placed.items;
 }
 
 abbrev pub decreases-loop-step : goal.decreases-loop-step
