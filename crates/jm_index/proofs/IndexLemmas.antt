@@ -281,6 +281,15 @@ IsIndexed-place entries place after trees d i same =
       empty = i.empty;
     }
 
+-- a binding without a position still has none
+pub IsIndexed-absent : (entries : List Entry) (place after : Bound → Option ℕ) (trees : Trees) (d : List Bool) (b : Bound) → IsIndexed entries place trees d → place b ≡ None
+    → ((q : Bound) → after q ≡ cond (binding_eq b q) None (place q)) → IsIndexed entries after trees d
+IsIndexed-absent entries place after trees d b i none updated = IsIndexed-place entries place after trees d i (λ q. by q (cases_Bool (binding_eq b q)))
+  where
+    by : (q : Bound) → (binding_eq b q ≡ true) ⊎ (binding_eq b q ≡ false) → after q ≡ place q
+    by q (inl same) = rw same at (updated q) ∙ sym (ap place (sym ((binding_eq-Decides b q).0 same)) ∙ none)
+    by q (inr other) = rw other at (updated q)
+
 -- an entry that isn't live stands at the end, and its position in some postings
 pub staged : (entries new : List Entry) (place : Bound → Option ℕ) (a b : Trees) (d e f : List Bool) (k : ℕ) (hole : Entry) → IsIndexed entries place a d
     → ((o : ℕ) → flag_of e o ≡ flag_of d o) → length d ≤ length e → f ≡ e → AreFiled f k a b → hole.live ≡ false → k ≡ length entries → new ≡ entries ++ hole ∷ []
@@ -348,10 +357,6 @@ IsFitting-added (Ok u) old before new dead b slot list flags ok err same fits be
 IsFitting-added (Err u) old before new dead b slot list flags ok err same fits below =
     IsFitting-by old new dead fits (λ pair there. inl (subst (λ (v : List Pair). Contains v pair) (err ∙ list) there)) (λ o. same o ∙ flags o)
 
-pub on_err : {T E : Type 0} (r : Result T E) (P : Type 0) → P → OnErr r P
-on_err (Ok x) P h = tt
-on_err (Err e) P h = h
-
 -- no two pairs have one binding
 pub list_distinct : (entries : List Entry) (place : Bound → Option ℕ) (trees : Trees) (d : List Bool) → IsIndexed entries place trees d
     → AllPairs (λ a b. a.binding ≢ b.binding) (live_pairs entries)
@@ -385,6 +390,17 @@ IsFitting-death index dead o fits =
     dies x (inl is) (inl h) was = rw is (get_or-set_same dead o true false h)
     dies x (inl is) (inr past) was = rw (set_past dead o true past) was
     dies x (inr apart) h was = get_or-set_other dead o x true false apart ∙ was
+
+-- a binding that has no pair has no position
+pub no_position : (entries : List Entry) (place : Bound → Option ℕ) (trees : Trees) (d : List Bool) (b : Bound) → IsIndexed entries place trees d
+    → ((pair : Pair) → Contains (live_pairs entries) pair → pair.binding ≡ b → ⊥) → place b ≡ None
+no_position entries place trees d b i absent = by (place b) refl
+  where
+    by : (v : Option ℕ) → place b ≡ v → place b ≡ None
+    by None is = is
+    by (Some k) is =
+        let (slot, at) = i.found b k is in
+        absurd (absent (record { binding = b; slot = slot }) (Contains-live entries k (record { binding = b; slot = slot }) at) refl)
 
 -- a binding with a position has a pair, and one without has none
 pub list_found : (entries : List Entry) (place : Bound → Option ℕ) (trees : Trees) (d : List Bool) (b : Bound) (k : ℕ) → IsIndexed entries place trees d → place b ≡ Some k

@@ -1,5 +1,7 @@
 pub mod ReadLemmas
 pub mod BindingLemmas
+pub mod KeyLemmas
+pub mod PlaceLemmas
 pub mod EntryLemmas
 pub mod FlagLemmas
 pub mod PostingLemmas

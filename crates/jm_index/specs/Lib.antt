@@ -1,2 +1,4 @@
 pub mod Index
 pub mod Layout
+pub mod Keys
+pub mod Places

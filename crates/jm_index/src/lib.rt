@@ -10,8 +10,11 @@
 mod entry;
 mod flags;
 mod index;
+mod key;
 mod laws;
+mod places;
 mod posting;
+mod rows;
 mod trees;
 
 pub use index::Index;
