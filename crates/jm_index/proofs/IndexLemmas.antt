@@ -4,7 +4,7 @@ use Rattle.std.specs.Prelude.{◌≢◌, AllPairs, filter, Contains, slice_set, 
 use Rattle.std.proofs.Math.ListN.{length-set}
 use Rattle.std.proofs.lemmas.Bool.{cases_lt, cases_eq, cases_Bool, eq-eqb, ne_eqb, both_ways, not-true, false_from_ne_true}
 use Rattle.std.proofs.lemmas.Option.{none-some, same_Some, slice_get-get_or}
-use Rattle.std.proofs.lemmas.List.{set_past, length_push, get_or_push, get_or-set_same, get_or-set_other, set_at}
+use Rattle.std.proofs.lemmas.List.{set_past, length_push, get_or-set_same, get_or-set_other, set_at}
 use Rattle.std.proofs.lemmas.List.Elements.{Contains-push_cases}
 use Rattle.jm_model.specs.Bindings.{mask_of}
 use Rattle.jm_model.specs.Layout.{binding_eq}
@@ -299,35 +299,32 @@ staged entries new place a b d e f k hole i same longer is filed dead at more =
     let filed_by : AreFiled e k a b = subst (λ (v : List Bool). AreFiled v k a b) is filed in
     rw more (IsIndexed-filed (entries ++ hole ∷ []) place a b e k (IsIndexed-hole entries place a e hole (IsIndexed-covered entries place a d e i same longer) dead) filed_by within)
 
-pub held : (entries new : List Entry) (k : ℕ) (e hole : Entry) → new ≡ entries ++ hole ∷ [] → k ≡ length entries → e ≡ get_or new k e → e ≡ hole
-held entries new k e hole more at is = is ∙ rw more (get_or_push entries hole e k (sym at))
-
 -- .. and then comes to live
-pub added : (entries new : List Entry) (place after : Bound → Option ℕ) (a c : Trees) (d e f : List Bool) (k : ℕ) (b : Bound) (slot : ℕ) → IsIndexed entries place a d
+pub added : (entries new : List Entry) (place after : Bound → Option ℕ) (a c : Trees) (d e f : List Bool) (k : ℕ) (b : Bound) (slot : ℕ) (hole : Entry) → IsIndexed entries place a d → hole.live ≡ false
     → ((o : ℕ) → flag_of e o ≡ flag_of d o) → length d ≤ length e → f ≡ e → AreFiled f k a c
     → ((path : ℕ) → IsPath f b path → Contains (posting_at c (mask_of b) path) k) → AreBelow (length e) b → k ≡ length entries
-    → new ≡ entries ++ record { binding = b; slot = slot; live = false } ∷ [] → ((q : Bound) → after q ≡ cond (binding_eq b q) (Some k) (place q))
+    → new ≡ entries ++ hole ∷ [] → ((q : Bound) → after q ≡ cond (binding_eq b q) (Some k) (place q))
     → ((pair : Pair) → Contains (live_pairs entries) pair → pair.binding ≡ b → ⊥) → IsIndexed (slice_set new k (record { binding = b; slot = slot; live = true })) after c e
-added entries new place after a c d e f k b slot i same longer is filed there below at more updated absent =
+added entries new place after a c d e f k b slot hole i dead same longer is filed there below at more updated absent =
     IsIndexed-live new place after c e k (record { binding = b; slot = slot; live = true })
-    (staged entries new place a c d e f k (record { binding = b; slot = slot; live = false }) i same longer is filed refl at more) within none refl updated
+    (staged entries new place a c d e f k hole i same longer is filed dead at more) within none refl updated
     (λ j pair here. absent pair (Contains-live entries j pair (old j pair here))) (subst (λ (v : List Bool). (path : ℕ) → IsPath v b path → Contains (posting_at c (mask_of b) path) k) is there)
     below
   where
     within : k < length new
-    within = rw (more, length_push entries (record { binding = b; slot = slot; live = false })) (omega (arith, at))
+    within = rw (more, length_push entries hole) (omega (arith, at))
 
     none : pair_at new k ≡ None
-    none = rw (more, at) (pair_at-hole entries (record { binding = b; slot = slot; live = false }) (length entries) refl ∙ pair_at_past entries)
+    none = rw (more, at) (pair_at-hole entries hole (length entries) dead ∙ pair_at_past entries)
 
     old : (j : ℕ) (pair : Pair) → pair_at new j ≡ Some pair → pair_at entries j ≡ Some pair
     old j pair here =
-        sym (pair_at-hole entries (record { binding = b; slot = slot; live = false }) j refl) ∙ subst (λ (v : List Entry). pair_at v j ≡ Some pair) more here
+        sym (pair_at-hole entries hole j dead) ∙ subst (λ (v : List Entry). pair_at v j ≡ Some pair) more here
 
-pub list_added : (entries new : List Entry) (k : ℕ) (b : Bound) (slot : ℕ) → k ≡ length entries → new ≡ entries ++ record { binding = b; slot = slot; live = false } ∷ []
+pub list_added : (entries new : List Entry) (k : ℕ) (b : Bound) (slot : ℕ) (hole : Entry) → k ≡ length entries → new ≡ entries ++ hole ∷ []
     → live_pairs (slice_set new k (record { binding = b; slot = slot; live = true })) ≡ live_pairs entries ++ record { binding = b; slot = slot } ∷ []
-list_added entries new k b slot at more =
-    rw (more, set_at entries (record { binding = b; slot = slot; live = false }) [] (record { binding = b; slot = slot; live = true }) k (sym at))
+list_added entries new k b slot hole at more =
+    rw (more, set_at entries hole [] (record { binding = b; slot = slot; live = true }) k (sym at))
     (live_pairs-push entries (record { binding = b; slot = slot; live = true }) refl)
 
 -- no pair before a live entry has its binding

@@ -1,4 +1,6 @@
 pub mod Index
+pub mod Entries
+pub mod Forms
 pub mod Layout
 pub mod Keys
 pub mod Places

@@ -94,8 +94,8 @@ impl Index {
     {
         let mut index = self.emptied()?;
         for entry in &self.entries {
-            if entry.live {
-                index.append(entry.binding, entry.slot)?;
+            if entry.is_live() {
+                index.append(entry.binding(), entry.number())?;
             }
         }
         Ok(index)
@@ -124,16 +124,13 @@ impl Index {
         ensures same { OnErr result (self.new.list ≡ self.old.list) }
         ensures dropped { (o : ℕ) → flag_of self.new.dropped o ≡ flag_of self.old.dropped o }
     {
+        let entry = Entry::new(*self.entries.allocator(), &binding, slot)?;
         self.dropped.cover(&binding)?;
         let position = self.entries.len();
-        self.entries.push(Entry {
-            binding,
-            slot,
-            live: false,
-        })?;
+        self.entries.push(Entry::gone())?;
         self.trees.file_all(&self.dropped, &binding, position)?;
         self.places.insert(&binding, position)?;
-        self.entries[position].live = true;
+        self.entries[position] = entry;
         self.live = self.live.saturating_add(1);
         Ok(())
     }
@@ -146,7 +143,7 @@ impl Index {
         ensures fits { (dead : List Bool) → IsFitting self.old dead → IsFitting self.new dead }
     {
         if let Some(position) = self.places.remove(binding) {
-            self.entries[position].live = false;
+            self.entries[position] = Entry::gone();
             self.trees.thin_all(self.entries.as_slice(), binding);
             self.live = self.live.saturating_sub(1);
         }

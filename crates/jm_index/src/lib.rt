@@ -9,6 +9,7 @@
 
 mod entry;
 mod flags;
+mod form;
 mod index;
 mod key;
 mod laws;
