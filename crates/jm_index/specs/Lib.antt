@@ -4,3 +4,4 @@ pub mod Forms
 pub mod Layout
 pub mod Keys
 pub mod Places
+pub mod Postings
