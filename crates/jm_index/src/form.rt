@@ -1,5 +1,6 @@
 //! A binding as an entry keeps it.
-ghost use Rattle.std.specs.Prelude.{◌≡◌, ◌<◌, ◌≤◌, true, IfOk, IfSome};
+ghost use Rattle.std.specs.Prelude.{◌≡◌, ◌<◌, ◌≤◌, true, Some, IfOk, IfSome};
+ghost use Rattle.jm_model.specs.Bindings.{object_at};
 ghost use Rattle.jm_index.specs.Forms.{binding_in, is_kept, IsForm};
 
 use jm_model::{Binding, NoMemory};
@@ -21,7 +22,14 @@ pub(crate) fn form_of(alloc: Global, binding: &Binding) -> Result<Form, NoMemory
     ensures kept { IfOk result (λ form. is_kept form ≡ true) }
     ensures sound { IfOk result IsForm }
 {
-    if let Some(form) = few_of(binding)
+    let count = binding.mask().count_ones();
+    if count == 1
+        && let Some(one) = bound_from(binding, 0)
+    {
+        return Ok(Form::One(one.p, one.object));
+    }
+    if count == 2
+        && let Some(form) = two_of(binding)
         && binding_in(&form) == *binding
     {
         return Ok(form);
@@ -29,19 +37,12 @@ pub(crate) fn form_of(alloc: Global, binding: &Binding) -> Result<Form, NoMemory
     Ok(Form::Whole(Box::new(alloc, *binding)?))
 }
 
-/// A form of the parameters that are bound, where these are one or two.
-fn few_of(binding: &Binding) -> Option<Form>
+/// A form of the first two parameters that are bound.
+fn two_of(binding: &Binding) -> Option<Form>
     ensures kept { IfSome result (λ form. is_kept form ≡ true) }
     ensures sound { IfSome result IsForm }
 {
-    let count = binding.mask().count_ones();
-    if count > 2 {
-        return None;
-    }
     let one = bound_from(binding, 0)?;
-    if count < 2 {
-        return Some(Form::One(one.p, one.object));
-    }
     let other = bound_from(binding, one.p + 1)?;
     Some(Form::Two(one.p, other.p, one.object, other.object))
 }
@@ -57,6 +58,7 @@ struct Bound {
 fn bound_from(binding: &Binding, from: u8) -> Option<Bound>
     ensures within { IfSome result (λ bound. bound.p < 8) }
     ensures behind { IfSome result (λ bound. from ≤ bound.p) }
+    ensures object { IfSome result (λ bound. object_at binding.now bound.p ≡ Some bound.object) }
 {
     for p in from..8 {
         if let Some(object) = binding.get(p) {
