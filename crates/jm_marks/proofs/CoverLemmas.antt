@@ -71,19 +71,19 @@ covered-other marks above below mask other m there is low =
     absurd (other (ap mask_of part ∙ is))
 
 -- the marks of all listed sets of parameters
-pub covered-all : (marks : List (List (Option ℕ))) (masks : List ℕ) (above below : List (Option ℕ)) → AreMarks marks masks
+pub covered-all : (marks : List (List (Option ℕ))) (masks : List ℕ) (limit : ℕ) (above below : List (Option ℕ)) → AreMarks marks masks limit
     → ((k : ℕ) → k < length masks → IsCoveredAt marks above below (get_or masks k 0)) → IsCovered marks above below
-covered-all marks masks above below are at m there low =
+covered-all marks masks limit above below are at m there low =
     let (k, h, e) = are.listed m there in
     at k h m there (sym e ∙ get_or_default_zero masks k (mask_of m) h) low
 
 -- the same, at the end of the loop over the listed sets of parameters
-pub covered-end : (list keys : List (List (Option ℕ))) (masks items : List ℕ) (n : ℕ) (above below : List (Option ℕ)) → list ≡ keys → AreMarks keys masks → items ≡ masks
+pub covered-end : (list keys : List (List (Option ℕ))) (masks items : List ℕ) (limit n : ℕ) (above below : List (Option ℕ)) → list ≡ keys → AreMarks keys masks limit → items ≡ masks
     → length items ≤ n → ((k : ℕ) → k < n → IsCoveredAt list above below (get_or items k 0)) → IsCovered list above below
-covered-end list keys masks items n above below same are is end at =
-    let here : AreMarks list masks = subst (λ (v : List (List (Option ℕ))). AreMarks v masks) (sym same) are in
-    let all : AreMarks list items = subst (λ (v : List ℕ). AreMarks list v) (sym is) here in
-    covered-all list items above below all (λ k h. at k (omega arith))
+covered-end list keys masks items limit n above below same are is end at =
+    let here : AreMarks list masks limit = subst (λ (v : List (List (Option ℕ))). AreMarks v masks limit) (sym same) are in
+    let all : AreMarks list items limit = subst (λ (v : List ℕ). AreMarks list v limit) (sym is) here in
+    covered-all list items limit above below all (λ k h. at k (omega arith))
 
 pub not_true : (b : Bool) → b ≡ false → b ≡ true → ⊥
 not_true b isnt is_so = cc

@@ -1,5 +1,5 @@
 -- What an addition and a sweep leave of the marks.
-use Rattle.std.proofs.Common.{◌≡◌, ℕ, Bool, true, false, cond, zero, suc, List, [], ◌∷◌, ◌++◌, Option, refl, subst, arith, ⊎_elim}
+use Rattle.std.proofs.Common.{◌≡◌, ℕ, Bool, true, false, cond, zero, suc, ◌≤◌, List, [], ◌∷◌, ◌++◌, Option, refl, subst, arith, ⊎_elim}
 use Rattle.indexmap.specs.IndexSet.{insert_key}
 use Rattle.std.proofs.lemmas.List.Elements.{Contains-push_cases}
 use Rattle.std.specs.Prelude.{filter, Contains}
@@ -7,12 +7,13 @@ use Rattle.std.specs.List.{list_any, IsDistinct}
 use Rattle.jm_model.specs.Layout.{binding_eq}
 use Rattle.jm_model.specs.Bindings.{mask_of}
 use Rattle.jm_model.proofs.EqLemmas.{found-Contains, Contains-found}
+use Rattle.jm_marks.specs.Objects.{IsWithin}
 use Rattle.jm_marks.specs.Layout.{AreMarks}
 
 -- the marks after one is added, with its set of parameters listed
-pub AreMarks-add : (ks new : List (List (Option ℕ))) (masks listed : List ℕ) (b : List (Option ℕ)) (mask : ℕ) → AreMarks ks masks → ((m : ℕ) → Contains masks m → Contains listed m)
-    → Contains listed mask → mask ≡ mask_of b → new ≡ insert_key binding_eq ks b → IsDistinct binding_eq new → AreMarks new listed
-AreMarks-add ks new masks listed b mask are kept there is keys apart = record { distinct = apart; listed = all }
+pub AreMarks-add : (ks new : List (List (Option ℕ))) (masks listed : List ℕ) (limit raised : ℕ) (b : List (Option ℕ)) (mask : ℕ) → AreMarks ks masks limit → limit ≤ raised → IsWithin raised b → ((m : ℕ) → Contains masks m → Contains listed m)
+    → Contains listed mask → mask ≡ mask_of b → new ≡ insert_key binding_eq ks b → IsDistinct binding_eq new → AreMarks new listed raised
+AreMarks-add ks new masks listed limit raised b mask are more fits kept there is keys apart = record { distinct = apart; listed = all; within = all_within }
   where
     here : Contains listed (mask_of b)
     here = subst (λ (n : ℕ). Contains listed n) is there
@@ -23,6 +24,16 @@ AreMarks-add ks new masks listed b mask are kept there is keys apart = record { 
 
     all : (x : List (Option ℕ)) → Contains new x → Contains listed (mask_of x)
     all x h = at (list_any (binding_eq b) ks) x (subst (λ (w : List (List (Option ℕ))). Contains w x) keys h)
+
+    further : (x : List (Option ℕ)) → Contains ks x → IsWithin raised x
+    further x h p o here = let low = are.within x h p o here in omega (arith, low, more)
+
+    within_at : (v : Bool) (x : List (Option ℕ)) → Contains (cond v ks (ks ++ b ∷ [])) x → IsWithin raised x
+    within_at true x h = further x h
+    within_at false x h = ⊎_elim (λ old. further x old) (λ e. subst (λ (w : List (Option ℕ)). IsWithin raised w) e fits) (Contains-push_cases ks b x h)
+
+    all_within : (x : List (Option ℕ)) → Contains new x → IsWithin raised x
+    all_within x h = within_at (list_any (binding_eq b) ks) x (subst (λ (w : List (List (Option ℕ))). Contains w x) keys h)
 
 -- what an add leaves of the list
 pub added-known : (ks : List (List (Option ℕ))) (b : List (Option ℕ)) → Contains ks b → insert_key binding_eq ks b ≡ ks
@@ -36,8 +47,8 @@ added-unknown ks b h = at (list_any (binding_eq b) ks) (found-Contains ks b)
     at false found = refl
 
 -- fewer marks are marks
-pub AreMarks-fewer : (ks new : List (List (Option ℕ))) (masks : List ℕ) → AreMarks ks masks → IsDistinct binding_eq new → ((x : List (Option ℕ)) → Contains new x → Contains ks x) → AreMarks new masks
-AreMarks-fewer ks new masks are apart within = record { distinct = apart; listed = λ b h. are.listed b (within b h) }
+pub AreMarks-fewer : (ks new : List (List (Option ℕ))) (masks : List ℕ) (limit : ℕ) → AreMarks ks masks limit → IsDistinct binding_eq new → ((x : List (Option ℕ)) → Contains new x → Contains ks x) → AreMarks new masks limit
+AreMarks-fewer ks new masks limit are apart within = record { distinct = apart; listed = λ b h. are.listed b (within b h); within = λ b h. are.within b (within b h) }
 
 Contains-cons : (x y : List (Option ℕ)) (ks : List (List (Option ℕ))) → Contains ks x → Contains (y ∷ ks) x
 Contains-cons x y ks (k, h, e) = (suc k, omega arith, e)

@@ -12,6 +12,7 @@ ghost use Rattle.indexmap.specs.IndexSet.{spare};
 ghost use Rattle.jm_model.specs.Layout.{binding_eq};
 ghost use Rattle.jm_model.specs.declared.binding.Binding.{Binding as Bound};
 ghost use Rattle.jm_model.specs.Bindings.{object_at};
+ghost use Rattle.jm_marks.specs.Objects.{IsWithin};
 ghost use Rattle.jm_marks.specs.Marks.{dead_mask_of, is_at_dead, is_at_live, has_live, IsCovered, IsCoveredAt};
 
 use indexmap::IndexSet;
@@ -88,6 +89,37 @@ fn is_live_at(objects: &Objects, binding: &Binding, p: u8) -> bool
     }
 }
 
+/// Whether some object that is bound is at a limit or beyond it.
+fn is_beyond(limit: u64, binding: &Binding) -> bool
+    ensures yes { IsTrue result → IsWithin limit binding.now → ⊥ }
+    ensures no { result ≡ false → IsWithin limit binding.now }
+{
+    let _mask = binding.mask();
+    for p in 0..8 {
+        if let Some(object) = binding.get(p)
+            && object as u64 >= limit
+        {
+            return true;
+        }
+    }
+    false
+}
+
+/// The least limit, from one on, that all objects of a binding are below.
+fn raised(limit: u64, binding: &Binding) -> u64
+    ensures more { limit ≤ result }
+    ensures within { IsWithin result binding.now }
+{
+    let _mask = binding.mask();
+    let mut limit = limit;
+    for p in 0..8 {
+        if let Some(object) = binding.get(p) {
+            limit = limit.max(object as u64 + 1);
+        }
+    }
+    limit
+}
+
 /// Adds a set of parameters to a list where it isn't there.
 fn list_mask(masks: &mut Vec<u8>, mask: u8)
     requires { vec_len masks.old < vec_capacity masks.old }
@@ -130,6 +162,8 @@ fn is_dead_at(bindings: &IndexSet<Binding>, objects: &Objects, place: usize) -> 
 pub struct Marks {
     bindings: IndexSet<Binding>,
     masks: Vec<u8>,
+    /// All objects of marks are below it.
+    limit: u64,
 }
 
 impl Model for Marks {
@@ -143,7 +177,7 @@ impl Model for Marks {
 
     ghost view = { λ m. record { list = m.bindings.keys; spare = min (spare m.bindings) (vec_capacity m.masks - vec_len m.masks) } };
 
-    ghost invariant = { λ m. AreMarks m.bindings.keys m.masks.items };
+    ghost invariant = { λ m. AreMarks m.bindings.keys m.masks.items m.limit };
 }
 
 impl Marks {
@@ -154,6 +188,7 @@ impl Marks {
         Marks {
             bindings: IndexSet::new(alloc),
             masks: Vec::new(alloc),
+            limit: 0,
         }
     }
 
@@ -176,16 +211,20 @@ impl Marks {
         ensures spare { self.old.spare ≤ self.new.spare + 1 }
     {
         list_mask(&mut self.masks, binding.mask());
+        self.limit = raised(self.limit, &binding);
         match self.bindings.insert(binding) {
             Ok(_) => {}
             Err(_) => unreachable!(),
         }
     }
 
-    /// Whether a binding is a mark.
+    /// Whether a binding is a mark. One with an object beyond those of all marks is none, which takes no look-up.
     pub fn contains(&self, binding: &Binding) -> bool
         ensures { IsTrue result ↔ Contains self.now.list binding.now }
     {
+        if is_beyond(self.limit, binding) {
+            return false;
+        }
         self.bindings.contains(binding)
     }
 

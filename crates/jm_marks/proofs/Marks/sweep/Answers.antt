@@ -1,5 +1,3 @@
-use Rattle.std.proofs.Common.{◌≡◌, List, filter}
-use Rattle.std.specs.Prelude.{Contains}
 use Rattle.std.proofs.lemmas.List.Sorted.{Contains-permutation, IsPermutation-sym}
 use Rattle.jm_marks.specs.Marks.{has_live}
 use Rattle.jm_marks.proofs.SetLemmas.{AreMarks-fewer, Contains-filter}
@@ -7,7 +5,7 @@ use Rattle.jm_marks.proofs.Marks.sweep.Goals as goal
 
 pub invariant_of-self : goal.invariant_of-self
 invariant_of-self c =
-    AreMarks-fewer _ _ _ c.self.invariant (c.drop_dead.ensures.distinct c.self.invariant.distinct)
+    AreMarks-fewer _ _ _ _ c.self.invariant (c.drop_dead.ensures.distinct c.self.invariant.distinct)
     (λ x h. Contains-filter (has_live c.args.objects.now) _ x (Contains-permutation _ _ x (IsPermutation-sym _ _ c.drop_dead.ensures.list) h))
 
 pub returns-clause-list : goal.returns-clause-list
