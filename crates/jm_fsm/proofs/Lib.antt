@@ -2,6 +2,5 @@ pub mod MachineLemmas
 pub mod CompileLemmas
 pub mod FaultLemmas
 pub mod GrammarLemmas
-pub mod EventLemmas
 pub mod MadeLemmas
 pub mod ReadLemmas
