@@ -4,3 +4,4 @@ pub mod FaultLemmas
 pub mod GrammarLemmas
 pub mod MadeLemmas
 pub mod ReadLemmas
+pub mod WrittenLemmas
