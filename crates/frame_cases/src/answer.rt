@@ -12,7 +12,6 @@ pub(crate) fn answer(alloc: Global, case: &Case) -> Result<String, AllocError> {
 fn answered(alloc: Global, case: &Case) -> Result<String, SpecError> {
     match case.verb.as_str() {
         "spec" => spec::spec(alloc, case),
-        "logic" => spec::logic(alloc, case),
         "prefixes" => spec::prefixes(alloc, case),
         "laws" => spec::laws(alloc),
         _ => Ok(String::from_str(alloc, "no such verb")?),

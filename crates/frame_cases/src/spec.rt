@@ -1,9 +1,9 @@
 //! Frames of specifications.
 
 use case_events::{put_events, put_params, said, tokens_of};
-use cases::{Case, put_line, put_word};
+use cases::{Case, put_word};
 use jm_model::{SpecError, SpecFault};
-use jm_spec::{Frame, SpecTree, frame_logic, read_frame, read_spec, tree_of};
+use jm_spec::{SpecTree, read_spec};
 use jm_text::Token;
 use std::alloc::{AllocError, Global};
 
@@ -86,43 +86,6 @@ fn put_range(
         }
     }
     Ok(())
-}
-
-/// The logic of a frame, and below it the tree of the frame or its fault.
-pub(crate) fn logic(alloc: Global, case: &Case) -> Result<String, SpecError> {
-    let bytes = case.text.as_slice();
-    let all = tokens_of(alloc, bytes)?;
-    let frame = read_frame(alloc, bytes, all.as_slice())?;
-    Ok(frame_text(alloc, bytes, all.as_slice(), frame)?)
-}
-
-fn frame_text(
-    alloc: Global,
-    bytes: &[u8],
-    all: &[Token],
-    frame: Frame,
-) -> Result<String, AllocError> {
-    let mut out = logic_text(alloc, bytes, &frame)?;
-    let tree = made_text(alloc, bytes, all, frame)?;
-    put_line(&mut out, tree.as_str())?;
-    Ok(out)
-}
-
-fn logic_text(alloc: Global, bytes: &[u8], frame: &Frame) -> Result<String, AllocError> {
-    let logic = frame_logic(bytes, frame);
-    format!(in alloc; "{logic:?}")
-}
-
-fn made_text(
-    alloc: Global,
-    bytes: &[u8],
-    all: &[Token],
-    frame: Frame,
-) -> Result<String, AllocError> {
-    match tree_of(alloc, bytes, frame) {
-        Ok(tree) => tree_text(alloc, bytes, all, &tree),
-        Err(fault) => format!(in alloc; "{fault:?}"),
-    }
 }
 
 /// How many of the proper prefixes of a text are not refused for what is missing.

@@ -4,7 +4,7 @@ ghost use Rattle.jm_cli.specs.Words.{command_of, replay_of, run_of, run_around, 
 ghost use Rattle.jm_cli.specs.Views.{command_words, Reads};
 
 use crate::words::{are_names, copies, copy, is_name, rounds, separator};
-use std::alloc::Global;
+use std::alloc::{AllocError, AllocFailed, Global};
 
 /// A command.
 #[derive(Debug, Drop)]
@@ -40,6 +40,26 @@ pub enum WordsError {
     Usage,
     /// Memory is short.
     NoMemory,
+}
+
+impl From<AllocError> for WordsError {
+    ghost use Rattle.jm_cli.specs.declared.command.WordsError.TheVariants.{NoMemory};
+
+    ghost from_gives = { λ _ error. error ≡ NoMemory };
+
+    fn from(_refused: AllocError) -> WordsError {
+        WordsError::NoMemory
+    }
+}
+
+impl<T: Drop> From<AllocFailed<T>> for WordsError {
+    ghost use Rattle.jm_cli.specs.declared.command.WordsError.TheVariants.{NoMemory};
+
+    ghost from_gives = { λ _ error. error ≡ NoMemory };
+
+    fn from(_refused: AllocFailed<T>) -> WordsError {
+        WordsError::NoMemory
+    }
 }
 
 /// The command that words spell: `replay` and two names; `run`, 1 to 16 names, `--` and 1 to 16 names; `check` or

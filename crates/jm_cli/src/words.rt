@@ -57,10 +57,7 @@ pub(crate) fn copy(alloc: Global, word: &str) -> Result<String, WordsError>
     ensures ok { IfOk result (λ copy. string_bytes copy ≡ word.now) }
     ensures err { IsOkUnless result WordsError.NoMemory }
 {
-    match String::from_str(alloc, word) {
-        Ok(copy) => Ok(copy),
-        Err(_) => Err(WordsError::NoMemory),
-    }
+    Ok(String::from_str(alloc, word)?)
 }
 
 /// The same texts.
@@ -70,10 +67,7 @@ pub(crate) fn copies(alloc: Global, words: &[String]) -> Result<Vec<String>, Wor
 {
     let mut copies = Vec::new(alloc);
     for word in words {
-        let copy = copy(alloc, word.as_str())?;
-        let Ok(()) = copies.push(copy) else {
-            return Err(WordsError::NoMemory);
-        };
+        copies.push(copy(alloc, word.as_str())?)?;
     }
     Ok(copies)
 }

@@ -1,61 +1,15 @@
-use Rattle.std.proofs.Common.{ℕ, ◌≡◌, ◌≢◌, ◌==◌, ◌<◌, ◌*◌, ◌/◌, ◌%◌, ◌^◌, ◌↔◌, ◌⊎◌, inl, inr, Bool, true, List, [], ◌∷◌, length, get_or, set, filter, ◌≤◌, ◌+◌, zero, suc, false, replicate, Contains, bit_or, refl, sym, ap, subst, ◌∙◌, arith}
+use Rattle.std.proofs.Common.{ℕ, ◌≡◌, ◌≢◌, ◌==◌, ◌<◌, ◌*◌, ◌/◌, ◌%◌, ◌^◌, ◌↔◌, ◌⊎◌, inl, inr, Bool, true, List, [], ◌∷◌, length, get_or, set, filter, ◌≤◌, false, replicate, Contains, bit_or, refl, sym, ap, ◌∙◌, arith}
 use Rattle.std.specs.List.{range_with_len}
 use Rattle.std.specs.Int.{bit_at, w64}
-use Rattle.std.specs.List.Sorted.{IsStrictlySortedBy}
-use Rattle.std.specs.Ordering.{nat_cmp}
-use Rattle.std.specs.List.{AllByRecursion}
-use Rattle.std.specs.Cmp.{nat_cmp_is}
-use Rattle.std.specs.declared.cmp.Ordering.TheVariants.{Less}
-use Rattle.std.proofs.lemmas.List.Kept.{IsStrictlySortedBy-filter}
 use Rattle.std.proofs.lemmas.List.Sums.{length-filter, count_by-le-length}
 use Rattle.std.proofs.lemmas.Bool.{cases_Bool, eqb-true}
 use Rattle.std.proofs.lemmas.Bool.Decides.{eqb_tells}
 use Rattle.std.proofs.lemmas.List.{get_or-set_same, get_or-set_other, get_or-replicate}
-use Rattle.std.proofs.lemmas.List.Elements.{Contains-append_cases, Contains-append_right, Contains-push_cases}
 use Rattle.std.proofs.lemmas.List.FromFn.{get_or-range_with_len, length-range_with_len}
 use Rattle.std.proofs.lemmas.Nat.Bits.{bit_at_set_same, bit_at_set_other, bit_at-zero}
 use Rattle.std.proofs.lemmas.Nat.{div-add-mod'}
+use Rattle.jm_table.proofs.FilterLemmas.{Contains-cons_cases, kept_passes, kept_is_there, passing_is_kept}
 use Rattle.jm_coenable.specs.MaskSets.{has_mask, masks_in}
-
-Contains-cons_cases : {X : Type 0} (y : X) (xs : List X) (x : X) → Contains (y ∷ xs) x → (y ≡ x) ⊎ Contains xs x
-Contains-cons_cases y xs x h =
-    elim (Contains-append_cases (y ∷ []) xs x h)
-    [ inl one ↦ elim (Contains-push_cases [] y x one) [ inl none ↦ absurd (omega (arith, none.1)) | inr e ↦ inl e ] | inr rest ↦ inr rest ]
-
-Contains-head : {X : Type 0} (xs : List X) (x : X) → Contains (x ∷ xs) x
-Contains-head xs x = (0, omega arith, refl)
-
--- ---- what a filter keeps
-
-kept_passes : {X : Type 0} (p : X → Bool) (xs : List X) (x : X) → Contains (filter p xs) x → p x ≡ true
-kept_passes p [] x h = absurd (omega (arith, h.1))
-kept_passes p (y ∷ xs) x h =
-    elim (cases_Bool (p y)) [
-      | inl passed ↦ let k : Contains (y ∷ filter p xs) x = rw passed at h in
-          elim (Contains-cons_cases y (filter p xs) x k) [ inl e ↦ subst (λ z. p z ≡ true) e passed | inr rest ↦ kept_passes p xs x rest ]
-      | inr failed ↦ let k : Contains (filter p xs) x = rw failed at h in kept_passes p xs x k
-    ]
-
-kept_is_there : {X : Type 0} (p : X → Bool) (xs : List X) (x : X) → Contains (filter p xs) x → Contains xs x
-kept_is_there p [] x h = h
-kept_is_there p (y ∷ xs) x h =
-    elim (cases_Bool (p y)) [
-      | inl passed ↦ let k : Contains (y ∷ filter p xs) x = rw passed at h in
-          elim (Contains-cons_cases y (filter p xs) x k)
-          [ inl e ↦ subst (λ z. Contains (y ∷ xs) z) e (Contains-head xs y) | inr rest ↦ Contains-append_right (y ∷ []) xs x (kept_is_there p xs x rest) ]
-      | inr failed ↦ let k : Contains (filter p xs) x = rw failed at h in Contains-append_right (y ∷ []) xs x (kept_is_there p xs x k)
-    ]
-
-passing_is_kept : {X : Type 0} (p : X → Bool) (xs : List X) (x : X) → Contains xs x → p x ≡ true → Contains (filter p xs) x
-passing_is_kept p [] x h passes = h
-passing_is_kept p (y ∷ xs) x h passes =
-    elim (Contains-cons_cases y xs x h) [
-      | inl e ↦ let passed : p y ≡ true = ap p e ∙ passes in rw passed (subst (λ z. Contains (y ∷ filter p xs) z) e (Contains-head (filter p xs) y))
-      | inr rest ↦ elim (cases_Bool (p y)) [
-        | inl passed ↦ rw passed (Contains-append_right (y ∷ []) (filter p xs) x (passing_is_kept p xs x rest passes))
-        | inr failed ↦ rw failed (passing_is_kept p xs x rest passes)
-      ]
-    ]
 
 -- ---- the masks of words
 
@@ -166,19 +120,3 @@ mask_is_more words mask few whole absent =
 pub few_masks : (words : List ℕ) → length (masks_in words) ≤ 256
 unfolding masks_in
 few_masks words = omega (arith, kept-le (has_mask words) (range_with_len 0 256), length-range_with_len 0 256)
-
-after_first : (a b n : ℕ) → a < b → AllByRecursion (λ y. nat_cmp a y ≡ Less) (range_with_len b n)
-after_first a b zero lt = tt
-after_first a b (suc n) lt = (sym (nat_cmp_is a b Less lt), after_first a (b + 1) n (omega arith))
-
-range_rises : (a n : ℕ) → IsStrictlySortedBy nat_cmp (range_with_len a n)
-unfolding IsStrictlySortedBy
-range_rises a zero = tt
-range_rises a (suc n) = (after_first a (a + 1) n (omega arith), range_rises (a + 1) n)
-
-filter_rises : (p : ℕ → Bool) (n : ℕ) → IsStrictlySortedBy nat_cmp (filter p (range_with_len 0 n))
-filter_rises p n = IsStrictlySortedBy-filter nat_cmp p (range_with_len 0 n) (range_rises 0 n)
-
-pub rising_masks : (words : List ℕ) → IsStrictlySortedBy nat_cmp (masks_in words)
-unfolding masks_in
-rising_masks words = filter_rises (has_mask words) 256

@@ -60,16 +60,6 @@ empty_more (s ∷ sets) set none empty (suc p) m h = empty_more sets set (λ q. 
 
 -- ---- parts of a round
 
-pub part_begins : (S C : List (List ℕ) → Type 0) (a : List (List ℕ)) → C a → IsPart S C a a false
-part_begins S C a closed = record {
-  count = refl;
-  sound = λ s. s;
-  room = omega arith;
-  less = λ e. absurd (false≢true e);
-  same = λ _. refl;
-  closed = λ _. closed;
-}
-
 pub part_map : (S C D : List (List ℕ) → Type 0) (a b : List (List ℕ)) (changed : Bool) → IsPart S C a b changed → (C b → D b) → IsPart S D a b changed
 part_map S C D a b changed part weaken = record {
   count = part.count;

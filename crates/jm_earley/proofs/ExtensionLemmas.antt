@@ -1,5 +1,5 @@
 -- A word that begins with another passes an item of it: the trees are cut between the two.
-use Rattle.std.proofs.Common.{◌≡◌, ◌⊎◌, ◌↔◌, ℕ, ◌≤◌, List, [], ◌∷◌, ◌++◌, length, Contains, Some, take, drop, slice_get, refl, sym, ap, subst, ◌∙◌, inl, inr, arith, zero, suc, append_assoc, append-nil, length-append, take-append-drop}
+use Rattle.std.proofs.Common.{◌≡◌, ◌⊎◌, ℕ, ◌≤◌, List, [], ◌∷◌, ◌++◌, length, Contains, Some, take, drop, slice_get, refl, sym, ap, subst, ◌∙◌, inl, inr, arith, zero, suc, append_assoc, append-nil, length-append, take-append-drop}
 use Rattle.std.proofs.lemmas.Option.{slice_get-get_or}
 use Rattle.std.proofs.lemmas.List.{take_at, drop_at}
 use Rattle.jm_grammar.specs.declared.grammar.GrammarSymbol.{GrammarSymbol}
@@ -156,7 +156,3 @@ module _ (g : GrammarDefinition) where
 
   pub found : (word more : List ℕ) → IsWord g (word ++ more) → IsFound word more
   found word more tree = at_root tree refl word more refl
-
-  -- The extensions of a word: behind it come just the letters by which one of its items goes on.
-  pub extensions : (word more : List ℕ) → IsWord g (word ++ more) ↔ IsFound word more
-  extensions word more = (found word more, λ h. continued word more h.0 h.1)

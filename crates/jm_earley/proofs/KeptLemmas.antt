@@ -76,43 +76,6 @@ sorted_push ps p sorted behind i j a b lt at_i at_j = elim (slice_get-push_cases
 abbrev pub IsBetween : List Place → ℕ → ℕ → ℕ → Type 0
 IsBetween ps position low high = (number : ℕ) (p : Place) → slice_get ps number ≡ Some p → p.position ≡ position → (low ≤ number) × (number < high)
 
-module _ (ps : List Place) (sorted : IsSorted ps) (position low high middle : ℕ) (here : Place) (at : slice_get ps middle ≡ Some here) (between : IsBetween ps position low high) where
-  pub upper_half : here.position < position → IsBetween ps position (middle + 1) high
-  upper_half lt number p there is = elim (cases_lt middle number) [
-    | inl above ↦ (omega (arith, above), (between number p there is).1)
-    | inr below ↦ absurd (let le : number ≤ middle = below in omega (arith, lt, is, before number p there le))
-  ]
-    where
-      before : (number : ℕ) (p : Place) → slice_get ps number ≡ Some p → number ≤ middle → p.position ≤ here.position
-      before number p there le = elim (cases_lt number middle) [
-        | inl lt ↦ omega (arith, sorted number middle p here lt there at)
-        | inr ge ↦
-            let same : number ≡ middle = omega (arith, le, ge) in
-            let is : p ≡ here = same_Some p here (sym there ∙ ap (λ (k : ℕ). slice_get ps k) same ∙ at) in
-            omega (arith, ap (λ (q : Place). q.position) is)
-      ]
-
-  pub lower_half : position < here.position → IsBetween ps position low middle
-  lower_half lt number p there is = elim (cases_lt number middle) [
-    | inl below ↦ ((between number p there is).0, below)
-    | inr above ↦ absurd (omega (arith, lt, is, behind number p there above))
-  ]
-    where
-      behind : (number : ℕ) (p : Place) → slice_get ps number ≡ Some p → middle ≤ number → here.position ≤ p.position
-      behind number p there le = elim (cases_lt middle number) [
-        | inl lt ↦ omega (arith, sorted middle number here p lt at there)
-        | inr ge ↦
-            let same : number ≡ middle = omega (arith, le, ge) in
-            let is : p ≡ here = same_Some p here (sym there ∙ ap (λ (k : ℕ). slice_get ps k) same ∙ at) in
-            omega (arith, ap (λ (q : Place). q.position) is)
-      ]
-
-pub between_all : (ps : List Place) (position : ℕ) → IsBetween ps position 0 (length ps)
-between_all ps position number p there is = (omega arith, slice_get_within ps number p there)
-
-pub between_none : (ps : List Place) (position low high : ℕ) → high ≤ low → IsBetween ps position low high → (number : ℕ) → IsPlaceNumber ps position number → ⊥
-between_none ps position low high le between number (p, there, is) = let both = between number p there is in omega (arith, le, both.0, both.1)
-
 -- the last place is behind the others
 pub last_behind : (ps : List Place) → IsSorted ps → (last : Place) → slice_get ps (length ps - 1) ≡ Some last → (number : ℕ) (p : Place) → slice_get ps number ≡ Some p → p.position < last.position + 1
 last_behind ps sorted last end number p at =

@@ -103,19 +103,3 @@ module _ (g : GrammarDefinition) where
             let awaits : symbol_after g y ≡ Some (Nonterminal n) = subst (λ (k : ℕ). symbol_after g y ≡ Some (Nonterminal k)) same after in
             all y ((are x.origin from there n y).1 (inside, awaits)) awaits;
       }
-
-    -- an item that isn't finished completes nothing
-    pub nothing_to_complete : symbol_after g x ≡ None → finished_left g x ≡ None → (items : List Item) → IsWorked g kept place items x
-    nothing_to_complete end other items = record {
-      predicted = λ m after. absurd (none-some (Nonterminal m) (sym end ∙ after));
-      skipped = λ m after. absurd (none-some (Nonterminal m) (sym end ∙ after));
-      completed = λ m from also. absurd (none-some m (sym other ∙ also));
-    }
-
-    -- nor one that began at no place that is kept
-    pub none_to_complete : symbol_after g x ≡ None → place_at kept x.origin ≡ None → (items : List Item) → IsWorked g kept place items x
-    none_to_complete end other items = record {
-      predicted = λ m after. absurd (none-some (Nonterminal m) (sym end ∙ after));
-      skipped = λ m after. absurd (none-some (Nonterminal m) (sym end ∙ after));
-      completed = λ m from also at. absurd (none-some from (sym other ∙ at));
-    }

@@ -70,6 +70,15 @@ impl Charts {
         ensures words { IfOk result (λ c. (word : List ℕ) → IsWord c.grammar word ↔ IsWord grammar word) }
         ensures params { IfOk result (λ c. c.params ≡ map (λ e. e.mask) table.now.events) }
     {
+        Charts::of(alloc, &grammar, table)
+    }
+
+    /// The same of a grammar that is lent.
+    pub fn of(alloc: Global, grammar: &Grammar, table: &EventTable) -> Result<Charts, NoMemory>
+        requires { AreBelow grammar.now.productions (length table.now.events) }
+        ensures words { IfOk result (λ c. (word : List ℕ) → IsWord c.grammar word ↔ IsWord grammar.now word) }
+        ensures params { IfOk result (λ c. c.params ≡ map (λ e. e.mask) table.now.events) }
+    {
         let grammar = grammar.reduce()?;
         let params = masks(alloc, table)?;
         let nullable = grammar.productive(0);

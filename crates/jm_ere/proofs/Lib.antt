@@ -7,10 +7,10 @@ pub mod SignLemmas
 pub mod CompleteLemmas
 pub mod SoundLemmas
 pub mod FormulaLemmas
-pub mod EventLemmas
 pub mod ReadLemmas
 pub mod FormLemmas
 pub mod LiveLemmas
 pub mod CompileLemmas
 pub mod RefusalLemmas
 pub mod StackLemmas
+pub mod NotLemmas

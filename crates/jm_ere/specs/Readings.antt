@@ -1,18 +1,16 @@
 -- What a reader of a formula answers.
-use Rattle.std.specs.Prelude.{ℕ, ◌+◌, ◌-◌, ◌≡◌, Bool, true, false, ◌||◌, List, [], ◌∷◌, Option, Some, None, Result, Ok, Err, codes, nat_lt, if◌then◌else◌}
+use Rattle.std.specs.Prelude.{ℕ, ◌+◌, ◌-◌, ◌≡◌, Bool, true, false, ◌||◌, List, [], ◌∷◌, Option, Some, None, Result, Ok, codes, nat_lt, if◌then◌else◌}
 use Rattle.std.specs.Str.{bytes_eq}
-use Rattle.std.specs.Option.{ok_or}
 use Rattle.jm_model.specs.declared.fault.Counted.TheVariants.{Nesting, Nodes}
 use Rattle.jm_model.specs.declared.fault.SpecFault.{SpecFault}
-use Rattle.jm_model.specs.declared.fault.SpecFault.TheVariants.{TooMany, Syntax, ReservedName, UnknownName}
+use Rattle.jm_model.specs.declared.fault.SpecFault.TheVariants.{TooMany, Syntax}
 use Rattle.jm_model.specs.declared.fault.SpecError.{SpecError}
 use Rattle.jm_model.specs.declared.fault.SpecError.TheVariants.{Bad, NoMemory}
 use Rattle.jm_text.specs.declared.token.Token.{Token}
 use Rattle.jm_text.specs.Texts.{is_mark}
-use Rattle.jm_reading.specs.Tokens.{name_of}
-use Rattle.jm_reading.specs.Faults.{or_else, ◌>>>◌}
-use Rattle.jm_events.specs.Names.{number_of}
-use Rattle.jm_events.specs.Events.{EventDefinitions, EventDefinition, event_names}
+use Rattle.jm_reading.specs.Faults.{or_else, ◌>>>◌, fault_of}
+use Rattle.jm_reading.specs.Events.{reserved_event_fault, letter_said}
+use Rattle.jm_events.specs.Events.{EventDefinitions, event_names}
 use Rattle.jm_ere.specs.declared.reader.Atom.{Atom}
 use Rattle.jm_ere.specs.declared.reader.Atom.TheVariants.{Name, Epsilon, Empty}
 use Rattle.jm_ere.specs.declared.reader.Unary.{Unary}
@@ -36,13 +34,9 @@ is_too_deep bytes depth (t ∷ ts) = if nat_lt 64 (depth_after bytes depth t) th
 abbrev pub nodes_fault : ℕ → Option SpecFault
 nodes_fault count = if nat_lt 256 count then Some (TooMany Nodes) else None
 
--- no event is named by a word of the grammar
+-- the words of the grammar
 abbrev pub is_grammar_word : List ℕ → Bool
 is_grammar_word name = bytes_eq name (codes "epsilon") || bytes_eq name (codes "empty")
-
-abbrev pub event_name_fault : List EventDefinition → Option SpecFault
-event_name_fault [] = None
-event_name_fault (e ∷ es) = if is_grammar_word e.name then Some (ReservedName e.line) else event_name_fault es
 
 -- what an operator makes
 abbrev pub over : Unary → Expression → Expression
@@ -55,13 +49,9 @@ between Then r s = Product r s
 between Either r s = Union r s
 between Both r s = Intersection r s
 
--- the letter of an event's name
-abbrev pub letter_said : List ℕ → List (List ℕ) → Token → Result ℕ SpecFault
-letter_said bytes events token = ok_or (number_of events (name_of bytes token)) (UnknownName token.line)
-
 -- the expression that a formula says among these events, or its first name that isn't there
 abbrev pub atom_said : List ℕ → List (List ℕ) → Atom → Result Expression SpecFault
-atom_said bytes events (Name token) = letter_said bytes events token >>> λ letter. Ok (Symbol letter)
+atom_said bytes events (Name token) = letter_said bytes events token >>> λ letter. Ok (Symbol letter.0)
 atom_said bytes events Epsilon = Ok EmptyWord
 atom_said bytes events Empty = Ok NoWord
 
@@ -70,15 +60,11 @@ expression_said bytes events (Leaf atom) = atom_said bytes events atom
 expression_said bytes events (Over operator f) = expression_said bytes events f >>> λ r. Ok (over operator r)
 expression_said bytes events (Between operator f g) = expression_said bytes events f >>> λ r. expression_said bytes events g >>> λ s. Ok (between operator r s)
 
-abbrev pub fault_of : {X : Type 0} → Result X SpecFault → Option SpecFault
-fault_of (Ok x) = None
-fault_of (Err fault) = Some fault
-
 -- the fault of the first step that has one: too many nodes, reserved names of events, unknown names
 abbrev pub first_fault : List ℕ → EventDefinitions → Formula → Option SpecFault
 first_fault bytes table f =
     or_else (nodes_fault (nodes f))
-    (or_else (event_name_fault table.events)
+    (or_else (reserved_event_fault is_grammar_word table.events)
     (fault_of (expression_said bytes (event_names table) f)))
 
 -- no 65th parenthesis is open at once, and the tokens spell a formula without a fault, which says this expression

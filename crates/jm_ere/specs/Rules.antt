@@ -38,6 +38,10 @@ postfix (Leaf atom) = Push atom ∷ []
 postfix (Over operator f) = postfix f ++ Wrap operator ∷ []
 postfix (Between operator f g) = (postfix f ++ postfix g) ++ Join operator ∷ []
 
+-- they are a formula's
+abbrev pub IsWritten : List Step → Type 0
+IsWritten steps = (f : Formula) × (steps ≡ postfix f)
+
 -- nothing was read since the last parenthesis
 abbrev pub fresh : Frame
 fresh = record { has_either = false; has_both = false; has_then = false; nots = 0; ready = false }

@@ -1,14 +1,15 @@
 -- The value of a formula's nodes, operands first: each makes an expression of the topmost ones of a stack.
 use Rattle.std.specs.Prelude.{ℕ, List, [], ◌∷◌, length, Option, Result, Ok}
 use Rattle.jm_model.specs.declared.fault.SpecFault.{SpecFault}
-use Rattle.jm_reading.specs.Faults.{or_else, ◌>>>◌}
+use Rattle.jm_reading.specs.Faults.{or_else, ◌>>>◌, fault_of}
+use Rattle.jm_reading.specs.Events.{reserved_event_fault}
 use Rattle.jm_events.specs.Events.{EventDefinitions, event_names}
 use Rattle.jm_ere.specs.declared.reader.Unary.{Unary}
 use Rattle.jm_ere.specs.declared.reader.Binary.{Binary}
 use Rattle.jm_ere.specs.declared.reader.Step.{Step}
 use Rattle.jm_ere.specs.declared.reader.Step.TheVariants.{Push, Wrap, Join}
 use Rattle.jm_ere.specs.Expressions.{Expression}
-use Rattle.jm_ere.specs.Readings.{over, between, atom_said, nodes_fault, event_name_fault, fault_of}
+use Rattle.jm_ere.specs.Readings.{over, between, atom_said, nodes_fault, is_grammar_word}
 
 -- of the nodes of a formula none lacks its operands
 abbrev pub wrapped : Unary → List Expression → List Expression
@@ -32,5 +33,5 @@ with_steps bytes events stack (s ∷ ss) = with_step bytes events stack s >>> λ
 unfoldable pub steps_fault : List ℕ → EventDefinitions → List Step → Option SpecFault
 steps_fault bytes table steps =
     or_else (nodes_fault (length steps))
-    (or_else (event_name_fault table.events)
+    (or_else (reserved_event_fault is_grammar_word table.events)
     (fault_of (with_steps bytes (event_names table) [] steps)))

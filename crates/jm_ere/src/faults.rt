@@ -2,11 +2,11 @@
 ghost use Rattle.std.specs.Prelude.{◌≡◌, ◌≤◌, length};
 ghost use Rattle.jm_text.specs.Spans.{LiesWithin, LieWithin};
 ghost use Rattle.jm_reading.specs.Faults.{Checks};
-ghost use Rattle.jm_ere.specs.Readings.{depth_after, is_too_deep, nodes_fault, is_grammar_word, event_name_fault};
+ghost use Rattle.jm_ere.specs.Readings.{depth_after, is_too_deep, nodes_fault, is_grammar_word};
 
 use crate::reader::Step;
-use jm_events::EventTable;
-use jm_model::{Counted, Letter, SpecError, SpecFault};
+use jm_model::{Counted, SpecError, SpecFault};
+use jm_reading::GrammarWords;
 use jm_text::{Token, is_mark};
 
 /// How many parentheses may be open at once.
@@ -55,22 +55,13 @@ pub(crate) fn few_nodes(steps: &[Step]) -> Result<(), SpecError>
     Ok(())
 }
 
-fn is_grammar_word(name: &str) -> bool
-    ensures { result ≡ is_grammar_word name.now }
-{
-    name == "epsilon" || name == "empty"
-}
+/// The words that stand for something else than an event.
+pub(crate) struct Words;
 
-/// No event is named by a word of the grammar.
-pub(crate) fn event_names(table: &EventTable) -> Result<(), SpecError>
-    ensures { Checks result (event_name_fault table.now.events) }
-{
-    for letter in 0..table.letters() {
-        let letter = Letter(letter);
-        if is_grammar_word(table.event_name(letter)) {
-            let line = table.event_line(letter);
-            return Err(SpecError::Bad(SpecFault::ReservedName { line }));
-        }
+impl GrammarWords for Words {
+    ghost reserved = { is_grammar_word };
+
+    fn is_reserved(name: &str) -> bool {
+        name == "epsilon" || name == "empty"
     }
-    Ok(())
 }

@@ -1,5 +1,5 @@
 //! The reader of a formula. It goes over the tokens once, and writes operands before their operators.
-ghost use Rattle.std.specs.Prelude.{◌≡◌, [], ◌++◌, OnOk, IfOk, IfErr, MatchBool, None, Some};
+ghost use Rattle.std.specs.Prelude.{◌≡◌, ◌<◌, ◌-◌, ◌^◌, [], ◌++◌, OnOk, IfOk, IfErr, MatchBool, None, Some};
 ghost use Rattle.jm_text.specs.Spans.{LiesWithin, LieWithin};
 ghost use Rattle.jm_reading.specs.Answers.{Gives, IsSyntax};
 ghost use Rattle.jm_ere.specs.Rules.{sign_of, fresh, beginning, flag, complements, end_not, end_sequence, end_both, end_either, with_steps, juxtaposed, closed, before_operand, behind_operand, after_sign, after_all, finished, parsed, Takes};
@@ -95,7 +95,7 @@ pub struct Frame {
     pub has_both: bool,
     pub has_then: bool,
     /// So many `~`.
-    pub nots: u32,
+    pub nots: usize,
     /// Whether the last operand is there.
     pub ready: bool,
 }
@@ -232,6 +232,7 @@ impl Parser {
 
     /// A token where an operand is to come. It answers whether the token can stand here.
     fn before_operand(&mut self, sign: Sign) -> Result<bool, SpecError>
+        requires { self.old.frame.nots < 2 ^ 64 - 1 }
         ensures ok { IfOk result (λ goes. MatchBool goes (before_operand self.old sign ≡ Some self.new) (before_operand self.old sign ≡ None)) }
         ensures err { IfErr result (λ e. e ≡ SpecError.NoMemory) }
     {
@@ -247,10 +248,7 @@ impl Parser {
                 Ok(true)
             }
             Sign::Tilde => {
-                let Some(nots) = self.frame.nots.checked_add(1) else {
-                    return Err(SpecError::NoMemory);
-                };
-                self.frame.nots = nots;
+                self.frame.nots += 1;
                 Ok(true)
             }
             _ => Ok(false),
@@ -290,6 +288,7 @@ impl Parser {
 
     /// A token. It answers whether the token can stand here.
     fn follow(&mut self, sign: Sign) -> Result<bool, SpecError>
+        requires { self.old.frame.nots < 2 ^ 64 - 1 }
         ensures ok { IfOk result (λ goes. MatchBool goes (after_sign self.old sign ≡ Some self.new) (after_sign self.old sign ≡ None)) }
         ensures err { IfErr result (λ e. e ≡ SpecError.NoMemory) }
     {
@@ -302,7 +301,8 @@ impl Parser {
 
     /// A token, which has to be able to stand here.
     fn take(&mut self, bytes: &[u8], token: Token) -> Result<(), SpecError>
-        requires { LiesWithin bytes.now token }
+        requires token { LiesWithin bytes.now token }
+        requires nots { self.old.frame.nots < 2 ^ 64 - 1 }
         ensures { Takes result self.new (after_sign self.old (sign_of bytes.now token)) }
     {
         if self.follow(sign_of(bytes, token))? {
@@ -344,7 +344,7 @@ fn syntax(line: u32) -> SpecError
 }
 
 /// Writes so many `~`.
-fn push_nots(steps: &mut Items<Step>, count: u32) -> Result<(), SpecError>
+fn push_nots(steps: &mut Items<Step>, count: usize) -> Result<(), SpecError>
     ensures ok { OnOk result (steps.new ≡ steps.old ++ complements count) }
     ensures err { IfErr result (λ e. e ≡ SpecError.NoMemory) }
 {
@@ -356,7 +356,8 @@ fn push_nots(steps: &mut Items<Step>, count: u32) -> Result<(), SpecError>
 
 /// The tokens one after the other, each of which has to be able to stand where it does.
 fn take_all(parser: &mut Parser, bytes: &[u8], tokens: &[Token]) -> Result<(), SpecError>
-    requires { LieWithin bytes.now tokens.now }
+    requires tokens { LieWithin bytes.now tokens.now }
+    requires begins { parser.old ≡ beginning }
     ensures { Takes result parser.new (after_all bytes.now parser.old tokens.now) }
 {
     for token in tokens {

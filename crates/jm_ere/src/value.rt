@@ -1,34 +1,21 @@
 //! The expression of a formula's nodes.
 ghost use Rattle.std.specs.Prelude.{◌≡◌, [], ◌∷◌, List, OnOk, IfOk, IfErr, Ok};
-ghost use Rattle.jm_reading.specs.Faults.{Makes, Answers, Checks};
+ghost use Rattle.jm_reading.specs.Faults.{Makes, Answers, Checks, fault_of};
 ghost use Rattle.jm_events.specs.Events.{event_names};
 ghost use Rattle.jm_ere.specs.Expressions.{Expression};
-ghost use Rattle.jm_ere.specs.Readings.{over, between, letter_said, atom_said, fault_of};
+ghost use Rattle.jm_ere.specs.Readings.{over, between, atom_said};
+ghost use Rattle.jm_ere.specs.Rules.{IsWritten};
 ghost use Rattle.jm_ere.specs.Values.{wrapped, joined, with_step, with_steps, steps_fault};
 
-use crate::faults;
+use crate::faults::{Words, few_nodes};
 use crate::forms::boxed;
 use crate::reader::{Atom, Binary, Step, Unary};
 use crate::stack::Stack;
 use crate::tree::{Ere, Tree};
 use jm_events::EventTable;
-use jm_model::{Letter, SpecError, SpecFault};
-use jm_reading::name_of;
-use jm_text::Token;
+use jm_model::SpecError;
+use jm_reading::{event_names, letter_of};
 use std::alloc::Global;
-
-/// The letter of an event's name.
-fn letter_of(bytes: &[u8], table: &EventTable, token: Token) -> Result<u8, SpecError>
-    ensures { Answers result (letter_said bytes.now (event_names table.now) token) }
-{
-    match table.letter(name_of(bytes, token)) {
-        Some(letter) => Ok(letter.0),
-        None => {
-            let line = token.line;
-            Err(SpecError::Bad(SpecFault::UnknownName { line }))
-        }
-    }
-}
 
 fn atom_of(bytes: &[u8], table: &EventTable, atom: Atom) -> Result<Ere, SpecError>
     ensures { Answers result (atom_said bytes.now (event_names table.now) atom) }
@@ -36,7 +23,7 @@ fn atom_of(bytes: &[u8], table: &EventTable, atom: Atom) -> Result<Ere, SpecErro
     match atom {
         Atom::Name(token) => {
             let letter = letter_of(bytes, table, token)?;
-            Ok(Ere::new(Tree::Letter(Letter(letter))))
+            Ok(Ere::new(Tree::Letter(letter)))
         }
         Atom::Epsilon => Ok(Ere::new(Tree::Epsilon)),
         Atom::Empty => Ok(Ere::new(Tree::Empty)),
@@ -134,15 +121,16 @@ fn known_expression(
     steps: &[Step],
     table: &EventTable,
 ) -> Result<Ere, SpecError>
+    requires { IsWritten steps.now }
     ensures ok { IfOk result (λ e. (rest : List Expression) × (with_steps bytes.now (event_names table.now) [] steps.now ≡ Ok (e ∷ rest))) }
     ensures checked { Checks result (fault_of (with_steps bytes.now (event_names table.now) [] steps.now)) }
 {
     let mut stack = Stack::new(alloc);
     apply_all(alloc, bytes, table, &mut stack, steps)?;
-    let Some(ere) = stack.pop() else {
-        return Err(SpecError::NoMemory);
-    };
-    Ok(ere)
+    match stack.pop() {
+        Some(ere) => Ok(ere),
+        None => unreachable!(),
+    }
 }
 
 /// The expression of nodes that are a formula's, or the fault of the first step that has one.
@@ -153,10 +141,11 @@ pub(crate) fn expression_of(
     steps: &[Step],
     table: &EventTable,
 ) -> Result<Ere, SpecError>
+    requires { IsWritten steps.now }
     ensures ok { IfOk result (λ e. (rest : List Expression) × (with_steps bytes.now (event_names table.now) [] steps.now ≡ Ok (e ∷ rest))) }
     ensures checked { Checks result (steps_fault bytes.now table.now steps.now) }
 {
-    faults::few_nodes(steps)?;
-    faults::event_names(table)?;
+    few_nodes(steps)?;
+    event_names::<Words>(table)?;
     known_expression(alloc, bytes, steps, table)
 }

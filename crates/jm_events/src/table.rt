@@ -85,9 +85,7 @@ impl EventTable {
         if let Some(fault) = self.parameter_fault(name, line) {
             return Err(SpecError::Bad(fault));
         }
-        let Ok(number) = self.params.append(name) else {
-            return Err(SpecError::NoMemory);
-        };
+        let number = self.params.append(name)?;
         Ok(number as u8)
     }
 
@@ -192,13 +190,9 @@ impl EventTable {
             creation,
             line,
         };
-        let Ok(()) = self.rows.push(row) else {
-            return Err(SpecError::NoMemory);
-        };
-        let Ok(number) = self.events.append(name) else {
-            self.rows.pop();
-            return Err(SpecError::NoMemory);
-        };
+        self.rows.reserve(1)?;
+        let number = self.events.append(name)?;
+        self.rows.push_reserved(row);
         Ok(Letter(number as u8))
     }
 
@@ -308,10 +302,7 @@ impl EventTable {
     pub fn copy(&self) -> Result<EventTable, NoMemory>
         ensures { IfOk result (λ table. table ≡ self.now) }
     {
-        let rows = match self.rows.clone() {
-            Ok(rows) => rows,
-            Err(_) => return Err(NoMemory),
-        };
+        let rows = self.rows.clone()?;
         let params = self.params.copy()?;
         let events = self.events.copy()?;
         Ok(EventTable {

@@ -34,9 +34,6 @@ last_group groups members category state e =
     (λ h. rw at at h, λ h. rw at h)
 
 module _ (m : StateMachine) (nodes : List Target) where
-  pub no_groups : (before : Transitions) → before.groups ≡ [] → HasGroups m nodes 0 before before
-  no_groups before none = record { states = refl; letters = refl; next = refl; many = ap length none; each = λ category lt. absurd (omega arith) }
-
   pub group_more : (category : ℕ) (before t after : Transitions) (members places : List ℕ) → HasGroups m nodes category before t → after ≡ record t { groups = t.groups ++ members ∷ [] }
       → ((s : ℕ) → Contains members s ↔ Contains places s) → ((s : ℕ) → Contains places s ↔ IsSomeAnd (slice_get nodes s) (IsMember m category)) → HasGroups m nodes (category + 1) before after
   group_more category before t after members places so_far added same are = subst (λ (x : Transitions). HasGroups m nodes (category + 1) before x) (sym added) (record {

@@ -2,6 +2,6 @@ pub mod MachineLemmas
 pub mod CompileLemmas
 pub mod FaultLemmas
 pub mod GrammarLemmas
-pub mod EventLemmas
 pub mod MadeLemmas
 pub mod ReadLemmas
+pub mod WrittenLemmas

@@ -1,5 +1,5 @@
 -- The machine of a formula without a fault.
-use Rattle.std.proofs.Common.{ℕ, suc, ◌≡◌, ◌+◌, ◌<◌, ◌≤◌, Bool, true, false, cond, ◌||◌, List, [], ◌∷◌, ◌++◌, Option, Some, None, Result, Ok, Err, All, map, length, get_or, option_map, refl, sym, ap, subst, ◌∙◌, arith, append_assoc, append-nil, length-append, drop, drop-cons}
+use Rattle.std.proofs.Common.{ℕ, suc, ◌≡◌, ◌+◌, ◌<◌, ◌≤◌, Bool, true, false, cond, ◌||◌, List, [], ◌∷◌, ◌++◌, Option, Some, None, Ok, All, map, length, get_or, option_map, refl, sym, ap, subst, ◌∙◌, arith, append_assoc, append-nil, length-append, drop, drop-cons}
 use Rattle.std.specs.Prelude.{codes, count_by}
 use Rattle.std.specs.List.{list_any}
 use Rattle.std.specs.Option.{ok_or}
@@ -24,8 +24,9 @@ use Rattle.jm_fsm.specs.Machines.{StateDefinition, AliasDefinition, StateMachine
 use Rattle.jm_fsm.specs.Formulas.{is_state}
 use Rattle.jm_fsm.specs.Names.{is_among}
 use Rattle.jm_reading.specs.Tokens.{name_of}
-use Rattle.jm_reading.specs.Faults.{◌>>>◌}
-use Rattle.jm_fsm.specs.Faults.{is_alias, aliases_fault, is_reserved, part_name_fault, duplicate_state_fault, states_fault, state_names, target_named, target_said, letter_said, with_listed, with_transition, with_transitions, state_said, with_member, with_members, alias_said, with_part, with_parts}
+use Rattle.jm_reading.specs.Events.{letter_said}
+use Rattle.jm_reading.proofs.ReadLemmas.{then_ok}
+use Rattle.jm_fsm.specs.Faults.{is_alias, aliases_fault, is_reserved, part_name_fault, duplicate_state_fault, states_fault, state_names, target_named, target_said, with_listed, with_transition, with_transitions, state_said, with_member, with_members, alias_said, with_part, with_parts}
 
 -- ---- counts of names
 
@@ -196,10 +197,6 @@ ok_is_some : {X : Type 0} (o : Option X) (e : SpecFault) (x : X) → ok_or o e �
 ok_is_some None e x h = absurd (cc)
 ok_is_some (Some y) e x h = cc
 
-then_ok : {A B : Type 0} (r : Result A SpecFault) (f : A → Result B SpecFault) (b : B) → (r >>> f) ≡ Ok b → (a : A) × (r ≡ Ok a) × (f a ≡ Ok b)
-then_ok (Ok a) f b h = (a, refl, h)
-then_ok (Err e) f b h = absurd (cc)
-
 target_of_name : (b : Bool) (o : Option ℕ) (n : ℕ) (to : Target) → cond b (Some Fail) (option_map (λ k. State k) o) ≡ Some to → ((k : ℕ) → o ≡ Some k → k < n) → IsTarget n to
 target_of_name true o n to h k = let e : Fail ≡ to = cc in subst (λ (x : Target). IsTarget n x) e tt
 target_of_name false None n to h k = absurd (cc)
@@ -233,7 +230,7 @@ module _ (bytes : List ℕ) (events states : List (List ℕ)) where
       let e : with_listed s a.0 b.0 ≡ made = cc (b.2) in
       subst (λ (x : StateDefinition). IsState name x) e (record {
         named = is.named;
-        listed = All-push (λ (x : Transition). IsTarget (length states) x.target) s.transitions (record { letter = record { 0 = a.0 }; target = b.0 }) is.listed (target_is target b.0 b.1);
+        listed = All-push (λ (x : Transition). IsTarget (length states) x.target) s.transitions (record { letter = a.0; target = b.0 }) is.listed (target_is target b.0 b.1);
         fallen = is.fallen;
       })
   one_transition name s made (Fallback word target) h is =

@@ -1,47 +1,26 @@
 -- What a reader of a formula answers.
-use Rattle.std.proofs.Common.{ℕ, ◌≡◌, Bool, true, false, cond, List, [], ◌∷◌, Option, Some, None, Result, Ok, Err, IfOk, IfErr, subst}
+use Rattle.std.proofs.Common.{ℕ, ◌≡◌, Bool, true, false, List, [], ◌∷◌, Option, Some, None, Result, Ok, Err, IfOk, IfErr, subst}
 use Rattle.jm_model.specs.declared.fault.SpecError.{SpecError}
 use Rattle.jm_model.specs.declared.fault.SpecError.TheVariants.{Bad, NoMemory}
 use Rattle.jm_model.specs.declared.fault.SpecFault.{SpecFault}
-use Rattle.jm_model.specs.declared.fault.SpecFault.TheVariants.{Syntax, UnknownName}
-use Rattle.std.specs.Option.{ok_or}
+use Rattle.jm_model.specs.declared.fault.SpecFault.TheVariants.{Syntax}
 use Rattle.jm_text.specs.declared.token.Token.{Token}
 use Rattle.jm_events.specs.Names.{with_name}
-use Rattle.jm_events.specs.Events.{EventDefinitions, EventDefinition, event_names}
+use Rattle.jm_events.specs.Events.{EventDefinitions, event_names}
 use Rattle.jm_fsm.specs.declared.formula.TransitionText.{TransitionText}
 use Rattle.jm_fsm.specs.declared.formula.TransitionText.TheVariants.{On, Fallback}
 use Rattle.jm_fsm.specs.declared.formula.Part.{Part}
 use Rattle.jm_fsm.specs.declared.formula.Part.TheVariants.{Declaration, Alias}
 use Rattle.jm_fsm.specs.Machines.{StateDefinition, AliasDefinition, StateMachine}
 use Rattle.jm_reading.specs.Tokens.{name_of}
-use Rattle.jm_reading.specs.Faults.{or_else, ◌>>>◌}
-use Rattle.jm_fsm.specs.Faults.{name_token, event_name_fault, part_name_fault, duplicate_state_fault, duplicate_transition_fault, part_transitions_fault, transitions_fault, target_said, letter_said, with_transition, with_transitions, with_member, with_members, with_part, with_parts, state_names, machine_of, machine_fault, first_fault}
+use Rattle.jm_reading.specs.Events.{letter_said}
+use Rattle.jm_reading.proofs.ReadLemmas.{IsOther, FailsOther, other_or, other_if, other_event, other_then, other_name, other_of}
+use Rattle.jm_fsm.specs.Faults.{name_token, is_grammar_word, part_name_fault, duplicate_state_fault, duplicate_transition_fault, part_transitions_fault, transitions_fault, target_said, with_transition, with_transitions, with_member, with_members, with_part, with_parts, state_names, machine_of, first_fault}
 use Rattle.jm_fsm.specs.Rules.{formula_at}
 use Rattle.jm_reading.specs.Answers.{FailsAt}
 use Rattle.jm_reading.specs.Faults.{Checks, Refuses}
 use Rattle.jm_fsm.specs.Trees.{IsReadFrom, IsRefused}
 use Rattle.jm_fsm.proofs.GrammarLemmas.{formula_sound, formula_none}
-
--- no fault, or another than the grammar's
-abbrev IsOther : Option SpecFault → Type 0
-IsOther (Some (Syntax line)) = ⊥
-IsOther _ = Unit {0}
-
-abbrev FailsOther : {X : Type 0} → Result X SpecFault → Type 0
-FailsOther (Ok x) = Unit {0}
-FailsOther (Err fault) = IsOther (Some fault)
-
-other_or : (a b : Option SpecFault) → IsOther a → IsOther b → IsOther (or_else a b)
-other_or None b h k = k
-other_or (Some fault) b h k = h
-
-other_if : (b : Bool) (fault : SpecFault) (o : Option SpecFault) → IsOther (Some fault) → IsOther o → IsOther (cond b (Some fault) o)
-other_if true fault o h k = h
-other_if false fault o h k = k
-
-other_event : (es : List EventDefinition) → IsOther (event_name_fault es)
-other_event [] = tt
-other_event (e ∷ es) = other_if _ _ _ tt (other_event es)
 
 other_part : (bytes : List ℕ) (ps : List Part) → IsOther (part_name_fault bytes ps)
 other_part bytes [] = tt
@@ -64,14 +43,6 @@ other_transitions : (bytes : List ℕ) (ps : List Part) → IsOther (transitions
 other_transitions bytes [] = tt
 other_transitions bytes (p ∷ ps) = other_or _ _ (other_transitions_of bytes p) (other_transitions bytes ps)
 
-other_then : {A B : Type 0} (r : Result A SpecFault) (f : A → Result B SpecFault) → FailsOther r → ((a : A) → FailsOther (f a)) → FailsOther (r >>> f)
-other_then (Ok a) f h k = k a
-other_then (Err e) f h k = h
-
-other_name : {X : Type 0} (o : Option X) (line : ℕ) → FailsOther (ok_or o (UnknownName line))
-other_name None line = tt
-other_name (Some x) line = tt
-
 module _ (bytes : List ℕ) (events states : List (List ℕ)) where
   other_one : (s : StateDefinition) (t : TransitionText) → FailsOther (with_transition bytes events states s t)
   other_one s (On event target) = other_then (letter_said bytes events event) _ (other_name _ event.line) (λ letter. other_then (target_said bytes states target) _ (other_name _ target.line) (λ to. tt))
@@ -93,20 +64,16 @@ module _ (bytes : List ℕ) (events states : List (List ℕ)) where
   other_parts m [] = tt
   other_parts m (p ∷ ps) = other_then (with_part bytes events states m p) _ (other_in m p) (λ more. other_parts more ps)
 
-other_machine : (r : Result StateMachine SpecFault) → FailsOther r → IsOther (machine_fault r)
-other_machine (Ok m) h = tt
-other_machine (Err e) h = h
-
 other_fault : (bytes : List ℕ) (table : EventDefinitions) (parts : List Part) → IsOther (first_fault bytes table parts)
 unfolding first_fault machine_of
 other_fault bytes table parts =
     other_or _ _ (other_if _ _ None tt tt)
-    (other_or _ _ (other_event table.events)
+    (other_or _ _ (other_event is_grammar_word table.events)
     (other_or _ _ (other_part bytes parts)
     (other_or _ _ (other_state bytes [] parts)
     (other_or _ _ (other_transitions bytes parts)
     (other_or _ _ (other_if _ _ None tt tt)
-    (other_machine _ (other_parts bytes (event_names table) (state_names bytes parts) (record { states = []; aliases = [] }) parts)))))))
+    (other_of _ (other_parts bytes (event_names table) (state_names bytes parts) (record { states = []; aliases = [] }) parts)))))))
 
 never : (o : Option SpecFault) (line : ℕ) → IsOther o → o ≡ Some (Syntax line) → ⊥
 never o line h e = subst IsOther e h

@@ -1,15 +1,17 @@
 -- What is wrong with a formula, step by step, and the machine that it says.
-use Rattle.std.specs.Prelude.{ℕ, Bool, true, false, ◌||◌, List, [], ◌∷◌, ◌++◌, Option, Some, None, Result, Ok, Err, codes, nat_lt, count_by, option_map, if◌then◌else◌}
+use Rattle.std.specs.Prelude.{ℕ, Bool, true, false, ◌||◌, List, [], ◌∷◌, ◌++◌, Option, Some, None, Result, Ok, codes, nat_lt, count_by, option_map, if◌then◌else◌}
 use Rattle.std.specs.Str.{bytes_eq}
 use Rattle.std.specs.Option.{ok_or}
+use Rattle.jm_model.specs.declared.step.Letter.{Letter}
 use Rattle.jm_model.specs.declared.fault.Counted.TheVariants.{Aliases}
 use Rattle.jm_model.specs.declared.fault.SpecFault.{SpecFault}
 use Rattle.jm_model.specs.declared.fault.SpecFault.TheVariants.{TooMany, ReservedName, DuplicateState, DuplicateTransition, TooManyStates, UnknownName}
 use Rattle.jm_text.specs.declared.token.Token.{Token}
 use Rattle.jm_reading.specs.Tokens.{name_of}
-use Rattle.jm_reading.specs.Faults.{or_else, ◌>>>◌}
+use Rattle.jm_reading.specs.Faults.{or_else, ◌>>>◌, fault_of}
+use Rattle.jm_reading.specs.Events.{reserved_event_fault, letter_said}
 use Rattle.jm_events.specs.Names.{number_of, with_name}
-use Rattle.jm_events.specs.Events.{EventDefinitions, EventDefinition, event_names}
+use Rattle.jm_events.specs.Events.{EventDefinitions, event_names}
 use Rattle.jm_fsm.specs.declared.machine.Target.{Target}
 use Rattle.jm_fsm.specs.declared.machine.Target.TheVariants.{State, Fail}
 use Rattle.jm_fsm.specs.declared.formula.TransitionText.{TransitionText}
@@ -33,13 +35,9 @@ name_token (Alias name members) = name
 abbrev pub aliases_fault : List Part → Option SpecFault
 aliases_fault parts = if nat_lt 256 (count_by is_alias parts) then Some (TooMany Aliases) else None
 
--- no event is named by a word of the grammar
+-- the words of the grammar
 abbrev pub is_grammar_word : List ℕ → Bool
 is_grammar_word name = bytes_eq name (codes "alias") || bytes_eq name (codes "default")
-
-abbrev pub event_name_fault : List EventDefinition → Option SpecFault
-event_name_fault [] = None
-event_name_fault (e ∷ es) = if is_grammar_word e.name then Some (ReservedName e.line) else event_name_fault es
 
 -- no state or alias is named so, or `fail`
 abbrev pub is_reserved : List ℕ → Bool
@@ -87,17 +85,14 @@ state_names bytes (Alias name members ∷ ps) = state_names bytes ps
 abbrev pub target_named : List (List ℕ) → List ℕ → Option Target
 target_named states name = if bytes_eq name (codes "fail") then Some Fail else option_map (λ k. State k) (number_of states name)
 
--- where a name leads, and the letter of an event's name
+-- where a name leads
 abbrev pub target_said : List ℕ → List (List ℕ) → Token → Result Target SpecFault
 target_said bytes states token = ok_or (target_named states (name_of bytes token)) (UnknownName token.line)
 
-abbrev pub letter_said : List ℕ → List (List ℕ) → Token → Result ℕ SpecFault
-letter_said bytes events token = ok_or (number_of events (name_of bytes token)) (UnknownName token.line)
-
 -- The machine that a formula says, among these events and states: what it says is added one after the other, and the
 -- first name that isn't there is the fault.
-abbrev pub with_listed : StateDefinition → ℕ → Target → StateDefinition
-with_listed s letter target = record s { transitions = s.transitions ++ record { letter = record { 0 = letter }; target = target } ∷ [] }
+abbrev pub with_listed : StateDefinition → Letter → Target → StateDefinition
+with_listed s letter target = record s { transitions = s.transitions ++ record { letter = letter; target = target } ∷ [] }
 
 abbrev pub with_transition : List ℕ → List (List ℕ) → List (List ℕ) → StateDefinition → TransitionText → Result StateDefinition SpecFault
 with_transition bytes events states s (On event target) =
@@ -132,18 +127,14 @@ with_parts bytes events states m (p ∷ ps) = with_part bytes events states m p 
 unfoldable pub machine_of : List ℕ → EventDefinitions → List Part → Result StateMachine SpecFault
 machine_of bytes table parts = with_parts bytes (event_names table) (state_names bytes parts) (record { states = []; aliases = [] }) parts
 
-abbrev pub machine_fault : Result StateMachine SpecFault → Option SpecFault
-machine_fault (Ok m) = None
-machine_fault (Err fault) = Some fault
-
 -- the fault of the first step that has one: too many aliases, reserved names of events and then of states and aliases,
 -- duplicate states and aliases, duplicate transitions, too many states, unknown names
 unfoldable pub first_fault : List ℕ → EventDefinitions → List Part → Option SpecFault
 first_fault bytes table parts =
     or_else (aliases_fault parts)
-    (or_else (event_name_fault table.events)
+    (or_else (reserved_event_fault is_grammar_word table.events)
     (or_else (part_name_fault bytes parts)
     (or_else (duplicate_state_fault bytes [] parts)
     (or_else (transitions_fault bytes parts)
     (or_else (states_fault parts)
-    (machine_fault (machine_of bytes table parts)))))))
+    (fault_of (machine_of bytes table parts)))))))

@@ -3,16 +3,16 @@ ghost use Rattle.std.specs.Prelude.{◌≡◌, ◌≤◌, [], ◌∷◌, ◌++�
 ghost use Rattle.std.specs.List.{list_any};
 ghost use Rattle.jm_events.specs.Events.{event_names};
 ghost use Rattle.jm_fsm.specs.Formulas.{is_state};
-ghost use Rattle.jm_fsm.specs.Faults.{state_names, target_said, letter_said, with_transition, with_transitions, with_member, with_members, state_said, alias_said, with_part, with_parts, machine_of, aliases_fault, part_name_fault, duplicate_state_fault, states_fault, first_fault};
+ghost use Rattle.jm_fsm.specs.Faults.{state_names, target_said, with_transition, with_transitions, with_member, with_members, state_said, alias_said, with_part, with_parts, machine_of, aliases_fault, part_name_fault, duplicate_state_fault, states_fault, first_fault};
 ghost use Rattle.jm_fsm.specs.Machines.{AreDistinct};
 ghost use Rattle.jm_reading.specs.Faults.{Checks, Makes, Answers};
 
-use crate::faults;
+use crate::faults::{self, Words};
 use crate::formula::{Part, TransitionText};
 use crate::machine::{Alias, Draft, Fsm, State, Target, Transition};
 use jm_events::{EventTable, Names};
-use jm_model::{Letter, SpecError, SpecFault};
-use jm_reading::name_of;
+use jm_model::{SpecError, SpecFault};
+use jm_reading::{event_names, letter_of, name_of};
 use jm_text::Token;
 use std::alloc::Global;
 
@@ -27,19 +27,6 @@ fn target_of(bytes: &[u8], states: &Names, token: Token) -> Result<Target, SpecE
     }
     match states.find(name) {
         Some(number) => Ok(Target::State(number as u16)),
-        None => {
-            let line = token.line;
-            Err(SpecError::Bad(SpecFault::UnknownName { line }))
-        }
-    }
-}
-
-/// The letter of an event's name.
-fn letter_of(bytes: &[u8], table: &EventTable, token: Token) -> Result<u8, SpecError>
-    ensures { Answers result (letter_said bytes.now (event_names table.now) token) }
-{
-    match table.letter(name_of(bytes, token)) {
-        Some(letter) => Ok(letter.0),
         None => {
             let line = token.line;
             Err(SpecError::Bad(SpecFault::UnknownName { line }))
@@ -62,10 +49,7 @@ fn add_transition(
         TransitionText::On { event, target } => {
             let letter = letter_of(bytes, table, event)?;
             let target = target_of(bytes, states, target)?;
-            state.list(Transition {
-                letter: Letter(letter),
-                target,
-            })
+            state.list(Transition { letter, target })
         }
         TransitionText::Fallback { target, .. } => {
             let target = target_of(bytes, states, target)?;
@@ -253,7 +237,7 @@ pub fn machine_of(
     ensures checked { Checks result (first_fault bytes.now table.now parts.now) }
 {
     faults::few_aliases(parts)?;
-    faults::event_names(table)?;
+    event_names::<Words>(table)?;
     faults::part_names(bytes, parts)?;
     faults::duplicate_states(alloc, bytes, parts)?;
     faults::duplicate_transitions(alloc, bytes, parts)?;

@@ -1,16 +1,15 @@
 //! What is wrong with a formula, step by step.
 ghost use Rattle.std.specs.Prelude.{◌≡◌, [], ◌∷◌, ◌++◌, false, List, count_by, OnOk, IfOk, IfErr};
-ghost use Rattle.jm_events.specs.Names.{with_name};
 ghost use Rattle.jm_fsm.specs.Formulas.{is_state};
 ghost use Rattle.jm_fsm.specs.Names.{is_among};
-ghost use Rattle.jm_fsm.specs.Faults.{is_alias, name_token, aliases_fault, is_grammar_word, event_name_fault, is_reserved, part_name_fault, duplicate_state_fault, duplicate_transition_fault, part_transitions_fault, transitions_fault, states_fault};
+ghost use Rattle.jm_fsm.specs.Faults.{is_alias, name_token, aliases_fault, is_grammar_word, is_reserved, part_name_fault, duplicate_state_fault, duplicate_transition_fault, part_transitions_fault, transitions_fault, states_fault};
 ghost use Rattle.jm_reading.specs.Faults.{Checks, Refuses};
 ghost use Rattle.jm_fsm.specs.declared.formula.TransitionText.{TransitionText};
 
 use crate::formula::{Part, TransitionText};
-use jm_events::{EventTable, Names};
-use jm_model::{Counted, Letter, SpecError, SpecFault};
-use jm_reading::name_of;
+use jm_events::Names;
+use jm_model::{Counted, SpecError, SpecFault};
+use jm_reading::{GrammarWords, add_name, name_of};
 use jm_text::Token;
 use std::alloc::Global;
 
@@ -40,30 +39,21 @@ pub fn few_states(parts: &[Part]) -> Result<(), SpecError>
     Ok(())
 }
 
-fn is_grammar_word(name: &str) -> bool
-    ensures { result ≡ is_grammar_word name.now }
-{
-    name == "alias" || name == "default"
+/// The words that stand for something else than a name.
+pub struct Words;
+
+impl GrammarWords for Words {
+    ghost reserved = { is_grammar_word };
+
+    fn is_reserved(name: &str) -> bool {
+        name == "alias" || name == "default"
+    }
 }
 
 fn is_reserved(name: &str) -> bool
     ensures { result ≡ is_reserved name.now }
 {
-    name == "fail" || is_grammar_word(name)
-}
-
-/// No event is named by a word of the grammar.
-pub fn event_names(table: &EventTable) -> Result<(), SpecError>
-    ensures { Checks result (event_name_fault table.now.events) }
-{
-    for letter in 0..table.letters() {
-        let letter = Letter(letter);
-        if is_grammar_word(table.event_name(letter)) {
-            let line = table.event_line(letter);
-            return Err(SpecError::Bad(SpecFault::ReservedName { line }));
-        }
-    }
-    Ok(())
+    name == "fail" || Words::is_reserved(name)
 }
 
 /// No state or alias is named by a word of the grammar, or `fail`.
@@ -87,25 +77,13 @@ fn is_among(names: &Names, name: &str) -> bool
     names.find(name).is_some()
 }
 
-/// Adds a name to others, where there are fewer than 2^32 - 1.
-fn add(names: &mut Names, name: &str) -> Result<(), SpecError>
-    ensures ok { OnOk result (names.new ≡ with_name names.old name.now) }
-    ensures err { IfErr result (λ e. e ≡ SpecError.NoMemory) }
-{
-    if names.len() == u32::MAX {
-        return Err(SpecError::NoMemory);
-    }
-    names.add(name)?;
-    Ok(())
-}
-
-/// Adds a name that isn't among others, where there are fewer than 2^32 - 1.
+/// Adds a name that isn't among others.
 pub fn add_new(names: &mut Names, name: &str) -> Result<(), SpecError>
     requires { is_among names.old name.now ≡ false }
     ensures ok { OnOk result (names.new ≡ names.old ++ name.now ∷ []) }
     ensures err { IfErr result (λ e. e ≡ SpecError.NoMemory) }
 {
-    add(names, name)
+    add_name(names, name)
 }
 
 /// No state or alias has the name of an earlier one.
@@ -120,7 +98,7 @@ pub fn duplicate_states(alloc: Global, bytes: &[u8], parts: &[Part]) -> Result<(
             let line = token.line;
             return Err(SpecError::Bad(SpecFault::DuplicateState { line }));
         }
-        add(&mut names, name)?;
+        add_name(&mut names, name)?;
     }
     Ok(())
 }
@@ -159,7 +137,7 @@ fn new_transition(
                 let line = event.line;
                 return Err(SpecError::Bad(SpecFault::DuplicateTransition { line }));
             }
-            add(events, name)?;
+            add_name(events, name)?;
             Ok(fallen)
         }
         TransitionText::Fallback { word, .. } => {

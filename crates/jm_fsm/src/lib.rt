@@ -16,6 +16,6 @@ mod machine;
 mod reader;
 mod reading;
 
-pub use laws::one_reading;
+pub use laws::{one_reading, states_as_written};
 pub use machine::{Fsm, Target};
 pub use reading::read;

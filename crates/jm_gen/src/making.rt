@@ -26,10 +26,7 @@ pub fn workload(alloc: Global, n: u32) -> Result<Workload, GenError>
     if n == 0 || n > MAX_ROUNDS {
         return Err(GenError::OutOfRange);
     }
-    match files(alloc, n) {
-        Ok(files) => Ok(files),
-        Err(AllocError) => Err(GenError::NoMemory),
-    }
+    Ok(files(alloc, n)?)
 }
 
 /// The files.

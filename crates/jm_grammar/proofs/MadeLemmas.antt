@@ -1,5 +1,5 @@
 -- The grammar of a formula without a fault is within the limits, and its symbols are there.
-use Rattle.std.proofs.Common.{ℕ, ◌≡◌, ◌+◌, ◌<◌, ◌≤◌, Bool, true, false, not, cond, ◌||◌, List, [], ◌∷◌, ◌++◌, Option, Some, None, Result, Ok, Err, All, Contains, length, refl, sym, subst, arith, length-append}
+use Rattle.std.proofs.Common.{ℕ, ◌≡◌, ◌+◌, ◌<◌, ◌≤◌, Bool, true, false, not, cond, ◌||◌, List, [], ◌∷◌, ◌++◌, Option, Some, None, Ok, All, Contains, length, refl, sym, subst, arith, length-append}
 use Rattle.std.specs.List.{list_any}
 use Rattle.std.specs.Option.{ok_or}
 use Rattle.std.specs.Str.{bytes_eq}
@@ -12,6 +12,7 @@ use Rattle.jm_model.specs.declared.step.Letter.{Letter as LetterType}
 use Rattle.jm_text.specs.declared.token.Token.{Token}
 use Rattle.jm_reading.specs.Tokens.{name_of}
 use Rattle.jm_reading.specs.Faults.{◌>>>◌}
+use Rattle.jm_reading.proofs.ReadLemmas.{then_ok}
 use Rattle.jm_events.specs.Names.{number_of}
 use Rattle.jm_grammar.specs.declared.formula.Part.{Part}
 use Rattle.jm_grammar.specs.declared.grammar.GrammarSymbol.{GrammarSymbol}
@@ -33,10 +34,6 @@ either_false false b h = (refl, h)
 ok_is_some : {X : Type 0} (o : Option X) (e : SpecFault) (x : X) → ok_or o e ≡ Ok x → o ≡ Some x
 ok_is_some None e x h = absurd (cc)
 ok_is_some (Some y) e x h = cc
-
-pub then_ok : {A B : Type 0} (r : Result A SpecFault) (f : A → Result B SpecFault) (b : B) → (r >>> f) ≡ Ok b → (a : A) × (r ≡ Ok a) × (f a ≡ Ok b)
-then_ok (Ok a) f b h = (a, refl, h)
-then_ok (Err e) f b h = absurd (cc)
 
 none_all : {X : Type 0} (P : X → Type 0) → All P []
 none_all P = λ k d lt. absurd (omega arith)

@@ -5,9 +5,8 @@ use Rattle.std.specs.List.{list_any}
 use Rattle.jm_model.specs.declared.fault.SpecError.{SpecError}
 use Rattle.jm_model.specs.declared.fault.SpecError.TheVariants.{Bad, NoMemory}
 use Rattle.jm_model.specs.declared.fault.SpecFault.{SpecFault}
-use Rattle.jm_model.specs.declared.fault.SpecFault.TheVariants.{Syntax, UnknownName, TooMany}
+use Rattle.jm_model.specs.declared.fault.SpecFault.TheVariants.{Syntax, TooMany}
 use Rattle.jm_model.specs.declared.fault.Counted.TheVariants.{Nonterminals, Productions, Symbols}
-use Rattle.std.specs.Option.{ok_or}
 use Rattle.std.proofs.lemmas.List.{length-map}
 use Rattle.jm_model.specs.declared.step.Letter.{Letter as LetterType}
 use Rattle.jm_grammar.specs.declared.grammar.GrammarSymbol.TheVariants.{Letter}
@@ -16,37 +15,18 @@ use Rattle.jm_events.specs.Names.{number_of}
 use Rattle.jm_events.specs.Events.{EventDefinitions, EventDefinition, event_names}
 use Rattle.jm_reading.specs.Tokens.{name_of}
 use Rattle.jm_reading.specs.Answers.{FailsAt}
-use Rattle.jm_reading.specs.Faults.{or_else, ◌>>>◌, Checks, Refuses}
+use Rattle.jm_reading.specs.Faults.{or_else, Checks, Refuses}
+use Rattle.jm_reading.specs.Events.{reserved_event_fault}
+use Rattle.jm_reading.proofs.ReadLemmas.{then_ok, IsOther, FailsOther, other_or, other_if, other_event, other_then, other_name, other_of}
 use Rattle.jm_grammar.specs.declared.formula.Part.{Part}
 use Rattle.jm_grammar.specs.declared.grammar.GrammarSymbol.{GrammarSymbol}
 use Rattle.jm_grammar.specs.declared.grammar.Production.{Production}
 use Rattle.jm_grammar.specs.Grammars.{GrammarDefinition}
 use Rattle.jm_grammar.specs.Rules.{formula_at}
-use Rattle.jm_grammar.specs.Faults.{nonterminals, nonterminals_fault, production_count, productions_fault, has_long, symbols_fault, is_epsilon, event_name_fault, left_name_fault, clash_fault, nonterminal_said, letter_or, symbol_said, with_symbol, with_symbols, with_alternative, with_alternatives, with_part, with_parts, grammar_of, grammar_fault, first_fault}
+use Rattle.jm_grammar.specs.Faults.{nonterminals, nonterminals_fault, production_count, productions_fault, has_long, symbols_fault, is_epsilon, left_name_fault, clash_fault, nonterminal_said, letter_or, symbol_said, with_symbol, with_symbols, with_alternative, with_alternatives, with_part, with_parts, grammar_of, first_fault}
 use Rattle.jm_grammar.specs.Trees.{IsReadFrom, IsRefused}
 use Rattle.jm_grammar.proofs.GrammarLemmas.{formula_sound, formula_none, one_formula}
-use Rattle.jm_grammar.proofs.MadeLemmas.{then_ok, made_is, letter_there}
-
--- no fault, or another than the grammar's
-abbrev IsOther : Option SpecFault → Type 0
-IsOther (Some (Syntax line)) = ⊥
-IsOther _ = Unit {0}
-
-abbrev FailsOther : {X : Type 0} → Result X SpecFault → Type 0
-FailsOther (Ok x) = Unit {0}
-FailsOther (Err fault) = IsOther (Some fault)
-
-other_or : (a b : Option SpecFault) → IsOther a → IsOther b → IsOther (or_else a b)
-other_or None b h k = k
-other_or (Some fault) b h k = h
-
-other_if : (b : Bool) (fault : SpecFault) (o : Option SpecFault) → IsOther (Some fault) → IsOther o → IsOther (cond b (Some fault) o)
-other_if true fault o h k = h
-other_if false fault o h k = k
-
-other_event : (es : List EventDefinition) → IsOther (event_name_fault es)
-other_event [] = tt
-other_event (e ∷ es) = other_if _ _ _ tt (other_event es)
+use Rattle.jm_grammar.proofs.MadeLemmas.{made_is, letter_there}
 
 other_left : (bytes : List ℕ) (ps : List Part) → IsOther (left_name_fault bytes ps)
 other_left bytes [] = tt
@@ -55,14 +35,6 @@ other_left bytes (p ∷ ps) = other_if _ _ _ tt (other_left bytes ps)
 other_clash : (bytes : List ℕ) (events : List (List ℕ)) (ps : List Part) → IsOther (clash_fault bytes events ps)
 other_clash bytes events [] = tt
 other_clash bytes events (p ∷ ps) = other_if _ _ _ tt (other_clash bytes events ps)
-
-other_then : {A B : Type 0} (r : Result A SpecFault) (f : A → Result B SpecFault) → FailsOther r → ((a : A) → FailsOther (f a)) → FailsOther (r >>> f)
-other_then (Ok a) f h k = k a
-other_then (Err e) f h k = h
-
-other_name : {X : Type 0} (o : Option X) (line : ℕ) → FailsOther (ok_or o (UnknownName line))
-other_name None line = tt
-other_name (Some x) line = tt
 
 other_choice : {X : Type 0} (b : Bool) (r s : Result X SpecFault) → FailsOther r → FailsOther s → FailsOther (cond b r s)
 other_choice true r s h k = h
@@ -92,10 +64,6 @@ module _ (bytes : List ℕ) (events known : List (List ℕ)) where
   other_parts productions [] = tt
   other_parts productions (p ∷ ps) = other_then (with_part bytes events known productions p) _ (other_part productions p) (λ more. other_parts more ps)
 
-other_grammar : (r : Result GrammarDefinition SpecFault) → FailsOther r → IsOther (grammar_fault r)
-other_grammar (Ok g) h = tt
-other_grammar (Err e) h = h
-
 other_made : (bytes : List ℕ) (table : EventDefinitions) (parts : List Part) → FailsOther (grammar_of bytes table parts)
 unfolding grammar_of
 other_made bytes table parts =
@@ -105,10 +73,10 @@ other_made bytes table parts =
 other_fault : (bytes : List ℕ) (table : EventDefinitions) (parts : List Part) → IsOther (first_fault bytes table parts)
 unfolding first_fault
 other_fault bytes table parts =
-    let last = other_grammar (grammar_of bytes table parts) (other_made bytes table parts) in
+    let last = other_of (grammar_of bytes table parts) (other_made bytes table parts) in
     let clash = other_or (clash_fault bytes (event_names table) parts) _ (other_clash bytes (event_names table) parts) last in
     let left = other_or (left_name_fault bytes parts) _ (other_left bytes parts) clash in
-    let event = other_or (event_name_fault table.events) _ (other_event table.events) left in
+    let event = other_or (reserved_event_fault is_epsilon table.events) _ (other_event is_epsilon table.events) left in
     let long = other_or (symbols_fault bytes parts) _ (other_if (list_any (has_long bytes) parts) (TooMany Symbols) None tt tt) event in
     let many = other_or (productions_fault parts) _ (other_if (nat_lt 256 (production_count parts)) (TooMany Productions) None tt tt) long in
     other_or (nonterminals_fault bytes parts) _ (other_if (nat_lt 64 (length (nonterminals bytes parts))) (TooMany Nonterminals) None tt tt) many

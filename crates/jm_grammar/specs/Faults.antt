@@ -8,9 +8,10 @@ use Rattle.jm_model.specs.declared.fault.SpecFault.{SpecFault}
 use Rattle.jm_model.specs.declared.fault.SpecFault.TheVariants.{TooMany, ReservedName, NameClash, UnknownName}
 use Rattle.jm_text.specs.declared.token.Token.{Token}
 use Rattle.jm_reading.specs.Tokens.{name_of}
-use Rattle.jm_reading.specs.Faults.{or_else, ◌>>>◌}
+use Rattle.jm_reading.specs.Faults.{or_else, ◌>>>◌, fault_of}
+use Rattle.jm_reading.specs.Events.{reserved_event_fault}
 use Rattle.jm_events.specs.Names.{number_of, with_name}
-use Rattle.jm_events.specs.Events.{EventDefinitions, EventDefinition, event_names}
+use Rattle.jm_events.specs.Events.{EventDefinitions, event_names}
 use Rattle.jm_grammar.specs.declared.formula.Part.{Part}
 use Rattle.jm_grammar.specs.declared.grammar.GrammarSymbol.{GrammarSymbol}
 use Rattle.jm_grammar.specs.declared.grammar.GrammarSymbol.TheVariants.{Letter, Nonterminal}
@@ -48,11 +49,6 @@ has_long bytes part = list_any (is_long bytes) part.alternatives
 
 abbrev pub symbols_fault : List ℕ → List Part → Option SpecFault
 symbols_fault bytes parts = if list_any (has_long bytes) parts then Some (TooMany Symbols) else None
-
--- no event is named so
-abbrev pub event_name_fault : List EventDefinition → Option SpecFault
-event_name_fault [] = None
-event_name_fault (e ∷ es) = if is_epsilon e.name then Some (ReservedName e.line) else event_name_fault es
 
 -- and no nonterminal
 abbrev pub left_name_fault : List ℕ → List Part → Option SpecFault
@@ -112,10 +108,6 @@ unfoldable pub grammar_of : List ℕ → EventDefinitions → List Part → Resu
 grammar_of bytes table parts =
     with_parts bytes (event_names table) (nonterminals bytes parts) [] parts >>> λ productions. Ok (record { productions = productions; start = 0 })
 
-abbrev pub grammar_fault : Result GrammarDefinition SpecFault → Option SpecFault
-grammar_fault (Ok g) = None
-grammar_fault (Err fault) = Some fault
-
 -- the fault of the first step that has one: too many nonterminals, productions, symbols, reserved names of events and then
 -- of nonterminals, nonterminals named as events, unknown names
 unfoldable pub first_fault : List ℕ → EventDefinitions → List Part → Option SpecFault
@@ -123,7 +115,7 @@ first_fault bytes table parts =
     or_else (nonterminals_fault bytes parts)
     (or_else (productions_fault parts)
     (or_else (symbols_fault bytes parts)
-    (or_else (event_name_fault table.events)
+    (or_else (reserved_event_fault is_epsilon table.events)
     (or_else (left_name_fault bytes parts)
     (or_else (clash_fault bytes (event_names table) parts)
-    (grammar_fault (grammar_of bytes table parts)))))))
+    (fault_of (grammar_of bytes table parts)))))))

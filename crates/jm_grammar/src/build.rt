@@ -4,12 +4,12 @@ ghost use Rattle.jm_events.specs.Events.{event_names};
 ghost use Rattle.jm_reading.specs.Faults.{Checks, Makes, Answers};
 ghost use Rattle.jm_grammar.specs.Faults.{nonterminals, nonterminals_fault, productions_fault, symbols_fault, nonterminal_said, symbol_said, with_symbol, with_symbols, with_alternative, with_alternatives, with_part, with_parts, grammar_of, first_fault};
 
-use crate::faults;
+use crate::faults::{self, Words};
 use crate::formula::Part;
 use crate::grammar::{Grammar, GrammarSymbol, Production};
 use jm_events::{EventTable, Names};
 use jm_model::{SpecError, SpecFault};
-use jm_reading::{Items, name_of};
+use jm_reading::{Items, event_names, name_of};
 use jm_text::Token;
 use std::alloc::Global;
 
@@ -187,7 +187,7 @@ pub fn grammar_of(
     faults::few_nonterminals(bytes, parts, &known)?;
     faults::few_productions(parts)?;
     faults::few_symbols(bytes, parts)?;
-    faults::event_names(table)?;
+    event_names::<Words>(table)?;
     faults::left_names(bytes, parts)?;
     faults::clashes(bytes, table, parts)?;
     known_grammar(alloc, bytes, table, &known, parts)

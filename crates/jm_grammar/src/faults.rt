@@ -1,16 +1,15 @@
 //! What is wrong with a formula, step by step.
 ghost use Rattle.std.specs.Prelude.{◌≡◌, ◌<◌, ◌≤◌, not, ◌+◌, ◌-◌, ◌^◌, [], IfOk, IfErr, OnOk, length, nat_lt, sum_by};
 ghost use Rattle.std.specs.List.{list_any};
-ghost use Rattle.jm_events.specs.Names.{with_name};
 ghost use Rattle.jm_events.specs.Events.{event_names};
 ghost use Rattle.jm_reading.specs.Tokens.{name_of};
 ghost use Rattle.jm_reading.specs.Faults.{Checks};
-ghost use Rattle.jm_grammar.specs.Faults.{nonterminals, nonterminals_fault, productions_fault, is_epsilon, symbol_count, is_long, has_long, symbols_fault, event_name_fault, left_name_fault, is_among, clash_fault};
+ghost use Rattle.jm_grammar.specs.Faults.{nonterminals, nonterminals_fault, productions_fault, is_epsilon, symbol_count, is_long, has_long, symbols_fault, left_name_fault, is_among, clash_fault};
 
 use crate::formula::Part;
 use jm_events::{EventTable, Names};
-use jm_model::{Counted, Letter, SpecError, SpecFault};
-use jm_reading::name_of;
+use jm_model::{Counted, SpecError, SpecFault};
+use jm_reading::{GrammarWords, add_name, name_of};
 use jm_text::Token;
 use std::alloc::Global;
 
@@ -20,20 +19,6 @@ const MAX_PRODUCTIONS: usize = 256;
 
 const MAX_SYMBOLS: usize = 32;
 
-/// Adds a name to others, where there are fewer than 2^32 - 1.
-fn add(names: &mut Names, name: &str) -> Result<(), SpecError>
-    ensures ok { OnOk result (names.new ≡ with_name names.old name.now) }
-    ensures err { IfErr result (λ e. e ≡ SpecError.NoMemory) }
-{
-    if names.len() == u32::MAX {
-        return Err(SpecError::NoMemory);
-    }
-    match names.add(name) {
-        Ok(_) => Ok(()),
-        Err(_) => Err(SpecError::NoMemory),
-    }
-}
-
 /// The names of the left sides, in order of first mention.
 pub fn nonterminals(alloc: Global, bytes: &[u8], parts: &[Part]) -> Result<Names, SpecError>
     ensures ok { IfOk result (λ names. names ≡ nonterminals bytes.now parts.now) }
@@ -41,7 +26,7 @@ pub fn nonterminals(alloc: Global, bytes: &[u8], parts: &[Part]) -> Result<Names
 {
     let mut names = Names::new(alloc);
     for part in parts {
-        add(&mut names, name_of(bytes, part.left))?;
+        add_name(&mut names, name_of(bytes, part.left))?;
     }
     Ok(names)
 }
@@ -79,6 +64,17 @@ pub fn is_epsilon(name: &str) -> bool
     ensures { result ≡ is_epsilon name.now }
 {
     name == "epsilon"
+}
+
+/// The word that stands for something else than a symbol.
+pub struct Words;
+
+impl GrammarWords for Words {
+    ghost reserved = { is_epsilon };
+
+    fn is_reserved(name: &str) -> bool {
+        is_epsilon(name)
+    }
 }
 
 /// Whether a symbol is another.
@@ -123,21 +119,6 @@ pub fn few_symbols(bytes: &[u8], parts: &[Part]) -> Result<(), SpecError>
     if is_any_long(bytes, parts) {
         let what = Counted::Symbols;
         return Err(SpecError::Bad(SpecFault::TooMany { what }));
-    }
-    Ok(())
-}
-
-/// No event is named `epsilon`.
-pub fn event_names(table: &EventTable) -> Result<(), SpecError>
-    ensures checked { Checks result (event_name_fault table.now.events) }
-    ensures few { length table.now.events ≤ 32 }
-{
-    for letter in 0..table.letters() {
-        let letter = Letter(letter);
-        if is_epsilon(table.event_name(letter)) {
-            let line = table.event_line(letter);
-            return Err(SpecError::Bad(SpecFault::ReservedName { line }));
-        }
     }
     Ok(())
 }

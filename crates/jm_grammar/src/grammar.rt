@@ -95,7 +95,7 @@ impl Production {
     pub(crate) fn copy(&self, alloc: Global) -> Result<Production, NoMemory>
         ensures { IfOk result (λ p. p ≡ self.now) }
     {
-        let symbols = copy_of(alloc, self.symbols.as_slice())?;
+        let symbols = Items::from_slice(alloc, self.symbols.as_slice())?;
         Ok(Production {
             left: self.left,
             symbols,
@@ -123,17 +123,4 @@ fn are_small_symbols(symbols: &[GrammarSymbol]) -> bool
     ensures { IsTrue result ↔ All IsSmallSymbol symbols.now }
 {
     symbols.iter().all(|symbol| is_small_symbol(*symbol))
-}
-
-/// The same symbols.
-fn copy_of(alloc: Global, symbols: &[GrammarSymbol]) -> Result<Items<GrammarSymbol>, NoMemory>
-    ensures { IfOk result (λ copy. copy ≡ symbols.now) }
-{
-    let mut copy = Items::new(alloc);
-    for symbol in symbols {
-        let Ok(()) = copy.push(*symbol) else {
-            return Err(NoMemory);
-        };
-    }
-    Ok(copy)
 }

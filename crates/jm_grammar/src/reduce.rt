@@ -33,10 +33,7 @@ fn kept(alloc: Global, productions: &[Production], known: u64) -> Result<Vec<Pro
     let mut kept = Vec::new(alloc);
     for production in productions {
         if are_known(production.symbols.as_slice(), u32::MAX, known) {
-            let copy = production.copy(alloc)?;
-            let Ok(()) = kept.push(copy) else {
-                return Err(NoMemory);
-            };
+            kept.push(production.copy(alloc)?)?;
         }
     }
     Ok(kept)

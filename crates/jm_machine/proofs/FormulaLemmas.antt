@@ -1,8 +1,8 @@
 -- What runs a formula tells its categories.
-use Rattle.std.proofs.Common.{[], ◌∷◌, map, length-append, ◌≡◌, ℕ, zero, suc, ◌<◌, List, ◌++◌, length, Result, Ok, Err, refl, sym, subst, arith}
+use Rattle.std.proofs.Common.{[], ◌∷◌, map, length-append, ◌≡◌, ℕ, zero, suc, ◌<◌, List, ◌++◌, length, Result, Ok, Err, sym, subst, arith}
 use Rattle.std.specs.Prelude.{◌↔◌, All, Contains, IfOk, codes}
 use Rattle.std.proofs.lemmas.List.{length-map}
-use Rattle.std.proofs.lemmas.List.Elements.{All-weaker, All-contains, All-contains_itself}
+use Rattle.std.proofs.lemmas.List.Elements.{All-weaker, All-contains_itself}
 use Rattle.jm_model.specs.declared.step.Letter.{Letter as LetterType}
 use Rattle.jm_model.specs.declared.fault.SpecError.{SpecError}
 use Rattle.jm_text.specs.declared.token.Token.{Token}
@@ -20,15 +20,15 @@ use Rattle.jm_grammar.specs.declared.grammar.Production.{Production}
 use Rattle.jm_grammar.specs.declared.grammar.GrammarSymbol.{GrammarSymbol}
 use Rattle.jm_grammar.specs.declared.grammar.GrammarSymbol.TheVariants.{Letter, Nonterminal}
 use Rattle.jm_grammar.proofs.ReadLemmas as grammar_reading
-use Rattle.jm_earley.specs.Charts.{IsBelow, AreBelow}
+use Rattle.jm_earley.specs.Charts.{IsBelow}
 use Rattle.jm_spec.specs.declared.tree.Logic.{Logic}
 use Rattle.jm_spec.specs.declared.tree.Logic.TheVariants.{Fsm, Ere, Cfg, Ptltl}
 use Rattle.jm_machine.specs.declared.formula.Formula.{Formula}
 use Rattle.jm_machine.specs.declared.formula.Formula.TheVariants.{Machine, Regular, Temporal, Grammatical}
 use Rattle.jm_machine.specs.declared.engine.Engine.{Engine}
-use Rattle.jm_machine.specs.declared.engine.Engine.TheVariants.{States, Parses}
-use Rattle.jm_machine.specs.Formulas.{IsReadAs, CategoryHolds, ExpressionHolds, PastHolds, GrammarHolds}
-use Rattle.jm_machine.specs.Engines.{letters_of_engine, categories_of_engine, EngineHolds, HasLetters, IsParserOf, IsCompiled}
+use Rattle.jm_machine.specs.declared.engine.Engine.TheVariants.{States}
+use Rattle.jm_machine.specs.Formulas.{IsReadAs, CategoryHolds, ExpressionHolds, PastHolds}
+use Rattle.jm_machine.specs.Engines.{letters_of_engine, EngineHolds, HasLetters, IsCompiled}
 
 pub machine_count : (m : fsm.StateMachine) → length (fsm.category_names m) ≡ fsm.category_count m
 machine_count m =
@@ -71,32 +71,11 @@ compiled_by formula t (Ok e) compiled letters same = λ word below some category
     let h = compiled word w some category less in
     subst (λ (n : ℕ). EngineHolds e category word ↔ CategoryHolds formula n category word) (sym letters) (λ at. h.0 (s.0 at), λ holds. s.1 (h.1 holds))
 
-grammar_at : (g h : GrammarDefinition) (word : List ℕ) (category : ℕ) → ((w : List ℕ) → grammar.IsWord h w ↔ grammar.IsWord g w) → GrammarHolds h category word ↔ GrammarHolds g category word
-grammar_at g h word zero same = same word
-grammar_at g h word (suc zero) same = ((λ never more is. never more ((same (word ++ more)).1 is)), (λ never more is. never more ((same (word ++ more)).0 is)))
-grammar_at g h word (suc (suc category)) same = ((λ never. never), (λ never. never))
-
-pub grammar_compiled : (g : GrammarDefinition) (letters : ℕ) (engine : Engine) → IsParserOf g letters engine → IsCompiled (Grammatical g) engine
-grammar_compiled g letters (Parses c) h = λ word below some category less. grammar_at g c.grammar word category h.0
-grammar_compiled g letters (States t) h = absurd h
-
-pub parser_letters : (g : GrammarDefinition) (letters : ℕ) (engine : Engine) → IsParserOf g letters engine → letters_of_engine engine ≡ letters
-parser_letters g letters (Parses c) h = h.1
-parser_letters g letters (States t) h = absurd h
-
-pub parser_categories : (g : GrammarDefinition) (letters : ℕ) (engine : Engine) → IsParserOf g letters engine → categories_of_engine engine ≡ 2
-parser_categories g letters (Parses c) h = refl
-parser_categories g letters (States t) h = absurd h
-
 -- ---- the letters of a grammar
 
 -- what holds of each member
 all_of : {X : Type 0} (P : X → Type 0) (xs : List X) → ((x : X) → Contains xs x → P x) → All P xs
 all_of P xs each = All-weaker (Contains xs) P each xs (All-contains_itself xs)
-
--- productions that are some of these have no other letters
-pub below_kept : (ps qs : List Production) (letters : ℕ) → ((p : Production) → Contains qs p → Contains ps p) → AreBelow ps letters → AreBelow qs letters
-below_kept ps qs letters kept below = all_of (λ (p : Production). All (IsBelow letters) p.symbols) qs (λ p at. All-contains (λ (p : Production). All (IsBelow letters) p.symbols) ps p below (kept p at))
 
 module _ (bytes : List ℕ) (tokens : List Token) (table : EventDefinitions) where
   symbol_below : (g : GrammarDefinition) → grammar_trees.IsReadFrom bytes tokens table g → (p : Production) → Contains g.productions p → (s : GrammarSymbol) → Contains p.symbols s → IsBelow (length table.events) s

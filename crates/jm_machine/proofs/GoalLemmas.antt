@@ -80,13 +80,6 @@ filter_at p (y ∷ ys) x (suc k) pass lt e =
     by_case true h = (suc h.0, omega (arith, h.1), h.2)
     by_case false h = h
 
--- a number is in a range from 0 where it is below the length
-in_range : (n k : ℕ) → Contains (range_with_len 0 n) k → k < n
-in_range n k h =
-    let less : h.0 < n = subst (λ l. h.0 < l) (length-range_with_len 0 n) h.1 in
-    let at : get_or (range_with_len 0 n) h.0 k ≡ 0 + h.0 = get_or-range_with_len 0 n h.0 k less in
-    omega (arith, at, h.2)
-
 letter_in : (mask n k : ℕ) → k < n → IsBitSet mask k → Contains (letters_of mask n) k
 letter_in mask n k less set =
     filter_at (has_letter_bit mask) (range_with_len 0 n) k k ((bit_test mask k).1 set) (subst (λ l. k < l) (sym (length-range_with_len 0 n)) less)

@@ -19,8 +19,8 @@ use Rattle.jm_machine.specs.declared.engine.Engine.{Engine}
 use Rattle.jm_machine.specs.declared.engine.Engine.TheVariants.{States, Parses}
 use Rattle.jm_machine.specs.declared.outlook.Outlook.TheVariants.{Table, Grammar}
 use Rattle.jm_machine.specs.declared.run.Run.{Run}
-use Rattle.jm_machine.specs.declared.run.Run.TheVariants.{Barren, State}
-use Rattle.jm_machine.specs.Formulas.{category_names, is_grammar}
+use Rattle.jm_machine.specs.declared.run.Run.TheVariants.{State}
+use Rattle.jm_machine.specs.Formulas.{category_names}
 use Rattle.jm_machine.specs.Engines.{IsPlaceOf, EngineHolds}
 use Rattle.jm_machine.specs.Meanings.{RuleDefinition, rules_meaning, is_failing_grammar}
 use Rattle.jm_machine.specs.RuleSets.{CompiledRules, IsRuleSet, IsGoalOf, IsHandledBy, definition_of, may_begin}
@@ -179,13 +179,6 @@ module _ (masks : List ℕ) (formula : Formula) (handlers : List (List ℕ)) (go
         subst (λ (x : List ℕ). IsCutWord m (x ++ e ∷ []) 0) (sym empty) (first_cut t facts set known e (subst (λ (n : ℕ). IsBitSet n e) is bit))
     known_first_ends (Parses c) set known e bits is bit w empty = absurd known.told
 
-    -- a word that began otherwise than it may is cut
-    pub known_barren : (engine : Engine) → IsRuleSet (rules_with engine) → IsKnown d goal engine (Table facts) → (e : ℕ) (w : List ℕ) → IsRunOf (rules_with engine) Barren w → IsCutWord m (w ++ e ∷ []) 0
-    known_barren (States t) set known e w h =
-        (cut_words d (w ++ e ∷ []) 0 (not_failing t facts set known)).0
-        (λ can. h.1 ((created_later m w (e ∷ []) h.0).1 ((created_later m (w ++ e ∷ []) (can.next ∷ can.rest) (letter_there w e)).1 can.hit.1)))
-    known_barren (Parses c) set known e w h = absurd known.told
-
     pub known_family : (engine : Engine) → IsRuleSet (rules_with engine) → IsKnown d goal engine (Table facts) → (e : ℕ) (family : List ℕ) → e < length masks → ((mask : ℕ) → Contains family mask → mask < 256) → IsStrictlySortedBy nat_cmp family
         → ((t : Transitions) (g : GoalDefinition) (v : EventDefinitions) → AreNeedsOf t g v facts.needs → (mask : ℕ) → mask < 256 → Contains family mask ↔ IsInFamily t g v e mask) → IsFamily m e family
     known_family (States t) set known e family less bytes rising exact =
@@ -193,25 +186,7 @@ module _ (masks : List ℕ) (formula : Formula) (handlers : List (List ℕ)) (go
         family_is d t goal known.events set known.masks g.groups listed e family (subst (λ (n : ℕ). e < n) (sym set.letters) less) known.few bytes rising (exact t goal known.events told.needs)
     known_family (Parses c) set known e family less bytes rising exact = absurd known.told
 
-    pub known_families : (engine : Engine) → IsRuleSet (rules_with engine) → IsKnown d goal engine (Table facts) → (e : ℕ) → e < length masks → e < length facts.needs.families
-    known_families (States t) set known e less =
-        let told : AreFactsOf t goal known.events facts = known.told in
-        subst (λ (n : ℕ). e < n) (sym told.needs.letters) (subst (λ (n : ℕ). e < n) (sym set.letters) less)
-    known_families (Parses c) set known e less = absurd known.told
-
-    pub known_table : (engine : Engine) → IsKnown d goal engine (Table facts) → is_grammar formula ≡ false
-    known_table (States t) known = sym known.kind
-    known_table (Parses c) known = absurd known.told
-
-  -- a word that began otherwise than it may hits nothing
-  pub barren_quiet : (engine : Engine) (e : ℕ) (w : List ℕ) → IsRunOf (rules_with engine) Barren w → (k : ℕ) → IsHit m (w ++ e ∷ []) k → ⊥
-  barren_quiet engine e w h k hit = h.1 ((created_later m w (e ∷ []) h.0).1 hit.1)
-
   module _ (facts : ParseFacts) where
-    pub known_grammar : (engine : Engine) → IsKnown d goal engine (Grammar facts) → is_grammar formula ≡ true
-    known_grammar (Parses c) known = sym known.kind
-    known_grammar (States t) known = absurd known.told
-
     pub known_parse_cut : (c : ChartsDefinition) → IsRuleSet (rules_with (Parses c)) → IsKnown d goal (Parses c) (Grammar facts) → (run : Run) (dead : ℕ) (cut : Bool)
         → (facts.failing ≡ true → IsTrue cut ↔ ((e : ℕ) → charts.IsAvailable c.params dead e → ⊥))
         → (facts.failing ≡ false → (word : List ℕ) → IsParseOf c run word → IsTrue cut ↔ ((goal.groups ≢ []) × CanMatch c goal run word dead → ⊥))

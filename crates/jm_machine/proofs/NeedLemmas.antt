@@ -18,9 +18,6 @@ from_bits a d h = same_from_bits (bit_and a d) 0 (λ p. bit_at_and a d p ∙ h p
 pub none_apart : (d : ℕ) → bit_and 0 d ≡ 0
 none_apart d = from_bits 0 d (λ p. rw (bit_at-zero p) (omega arith))
 
-pub all_apart : (a : ℕ) → bit_and a 0 ≡ 0
-all_apart a = from_bits a 0 (λ p. rw (bit_at-zero p) (omega arith))
-
 both_apart : (a b d : ℕ) → bit_and a d ≡ 0 → bit_and b d ≡ 0 → bit_and (bit_or a b) d ≡ 0
 both_apart a b d x y =
     from_bits (bit_or a b) d (λ p.

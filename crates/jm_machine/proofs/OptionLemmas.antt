@@ -1,6 +1,6 @@
 -- Values that may be there.
-use Rattle.std.proofs.Common.{◌≡◌, ℕ, Bool, true, false, Option, Some, None, Result, Ok, Err, List, map, refl, sym, ◌∙◌, ap, subst}
-use Rattle.std.specs.Prelude.{IsSomeAnd, IfOk, ◌↔◌, is_some, option_map, slice_get}
+use Rattle.std.proofs.Common.{◌≡◌, ℕ, Bool, true, false, Option, Some, None, Result, Ok, List, map, refl, sym, ◌∙◌, ap, subst}
+use Rattle.std.specs.Prelude.{IsSomeAnd, ◌↔◌, is_some, option_map, slice_get}
 use Rattle.std.proofs.lemmas.Option.{slice_get-map}
 
 pub same_some : {X : Type 0} {x y : X} → Some x ≡ Some y → x ≡ y
@@ -25,10 +25,6 @@ same_bool false false f g = refl
 pub some_more : {X : Type 0} (P Q : X → Type 0) (o : Option X) → ((x : X) → o ≡ Some x → P x → Q x) → IsSomeAnd o P → IsSomeAnd o Q
 some_more P Q None f h = h
 some_more P Q (Some x) f h = f x refl h
-
-pub ok_more : {X E : Type 0} (P Q : X → Type 0) (r : Result X E) → ((x : X) → P x → Q x) → IfOk r P → IfOk r Q
-ok_more P Q (Ok x) f h = f x h
-ok_more P Q (Err e) f h = h
 
 -- a value that is there is one that was looked up
 option_same : {X : Type 0} (P : ℕ → Type 0) (f : X → Option ℕ) (a : Option ℕ) (b : Option X) → option_map {T = ℕ} {U = Option ℕ} Some a ≡ option_map f b → IsSomeAnd a P ↔ IsSomeAnd b (λ x. IsSomeAnd (f x) P)

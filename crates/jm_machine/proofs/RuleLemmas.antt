@@ -15,7 +15,7 @@ use Rattle.jm_machine.specs.Engines.{letters_of_engine, IsPlaceOf, IsChartPlace,
 use Rattle.jm_machine.specs.Formulas.{category_names, CategoryHolds}
 use Rattle.jm_machine.specs.Meanings.{IsNamedCategory, rules_meaning}
 use Rattle.jm_machine.specs.RuleSets.{CompiledRules, IsRuleSet, IsHandledBy}
-use Rattle.jm_machine.specs.Runs.{IsRunOf, IsBegun, IsBarren}
+use Rattle.jm_machine.specs.Runs.{IsRunOf, IsBegun}
 use Rattle.jm_machine.proofs.OptionLemmas.{some_more, looked_up}
 
 -- ---- groups and categories
@@ -55,24 +55,6 @@ created_later m (d ∷ w) u some = (λ h. h, λ h. h)
 
 pub begun_later : (r : CompiledRules) (w : List ℕ) (e : ℕ) → IsBegun r w → IsBegun r (w ++ e ∷ [])
 begun_later r w e h = (letter_there w e, (created_later (rules_meaning r.definition) w (e ∷ []) h.0).0 h.1)
-
-pub barren_later : (r : CompiledRules) (w : List ℕ) (e : ℕ) → IsBarren r w → IsBarren r (w ++ e ∷ [])
-barren_later r w e h = (letter_there w e, λ created. h.1 ((created_later (rules_meaning r.definition) w (e ∷ []) h.0).1 created))
-
--- a run whose place is that of a word that began so is one of the word
-pub place_run : (r : CompiledRules) (run : Run) (w : List ℕ) → IsBegun r w → IsPlaceOf r.engine run w → IsRunOf r run w
-place_run r Start w begun h = by_engine r.engine h
-  where
-    by_engine : (e : Engine) → IsPlaceOf e Start w → w ≡ []
-    by_engine (States t) k = absurd k
-    by_engine (Parses c) k = absurd k
-place_run r Barren w begun h = by_engine r.engine h
-  where
-    by_engine : (e : Engine) → IsPlaceOf e Barren w → IsBarren r w
-    by_engine (States t) k = absurd k
-    by_engine (Parses c) k = absurd k
-place_run r (State s) w begun h = (begun, h)
-place_run r (Parse c) w begun h = (begun, h)
 
 -- the chart of a word is the place of it
 pub chart_place : (c : ChartsDefinition) (chart : ChartDefinition) (run : Run) (w : List ℕ) → IsChartPlace chart run → All (λ letter. letter < length c.params) w → IsChartOf c w chart → IsPlaceOf (Parses c) run w

@@ -135,7 +135,5 @@ fn parses(alloc: Global, grammar: &Grammar, events: &EventTable) -> Result<Engin
     ensures params { IfOk result (HasParams (map (λ e. e.mask) events.now.events)) }
     ensures err { IfErr result (λ e. e ≡ SpecError.NoMemory) }
 {
-    let reduced = grammar.reduce()?;
-    let charts = Charts::new(alloc, reduced, events)?;
-    Ok(Engine::Parses(charts))
+    Ok(Engine::Parses(Charts::of(alloc, grammar, events)?))
 }

@@ -1,6 +1,8 @@
 ghost use Rattle.std.specs.Prelude.{ℕ, ◌≡◌, ◌<◌, ◌≤◌, List, Option, length, IfSome, IfOk};
 ghost use Rattle.jm_port.specs.Faults.{HasRisen};
 
+use std::alloc::AllocError;
+
 /// Why a file was not loaded.
 #[derive(Clone, Copy, Debug, PartialEq, Eq)]
 pub enum LoadFault {
@@ -10,6 +12,16 @@ pub enum LoadFault {
     TooLong,
     /// There was no memory for its bytes.
     NoMemory,
+}
+
+impl From<AllocError> for LoadFault {
+    ghost use Rattle.jm_port.specs.declared.folder.LoadFault.TheVariants.{NoMemory};
+
+    ghost from_gives = { λ _ error. error ≡ NoMemory };
+
+    fn from(_refused: AllocError) -> LoadFault {
+        LoadFault::NoMemory
+    }
 }
 
 /// Files by their names.

@@ -50,10 +50,7 @@ fn copy_within(alloc: Global, bytes: &[u8], limit: usize) -> Result<Vec<u8>, Loa
     if bytes.len() > limit {
         return Err(LoadFault::TooLong);
     }
-    match bytes.to_vec(alloc) {
-        Ok(copy) => Ok(copy),
-        Err(_) => Err(LoadFault::NoMemory),
-    }
+    Ok(bytes.to_vec(alloc)?)
 }
 
 /// Files in memory, some of whose loads fail, so that a caller's failures can be tried.

@@ -79,10 +79,8 @@ impl Sink for MemorySink {
             return Err(PutFault::Failed);
         }
         let n = piece.len().min(self.step);
-        match self.text.extend_from_slice(&piece[..n]) {
-            Ok(()) => Ok(n),
-            Err(_) => Err(PutFault::NoMemory),
-        }
+        self.text.extend_from_slice(&piece[..n])?;
+        Ok(n)
     }
 }
 
@@ -131,9 +129,7 @@ impl Sink for SureSink {
         ensures err { OnErr result (Some self.new ≡ Some self.old) }
         ensures failed { result ≢ Err PutFault.Failed }
     {
-        match self.text.extend_from_slice(piece) {
-            Ok(()) => Ok(piece.len()),
-            Err(_) => Err(PutFault::NoMemory),
-        }
+        self.text.extend_from_slice(piece)?;
+        Ok(piece.len())
     }
 }

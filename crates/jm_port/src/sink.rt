@@ -2,6 +2,8 @@ ghost use Rattle.std.specs.Prelude.{ℕ, ◌≡◌, ◌<◌, ◌≤◌, List, Op
 ghost use Rattle.jm_port.specs.Faults.{HasRisen};
 ghost use Rattle.jm_port.specs.Sinks.{appended, AppendsPrefix};
 
+use std::alloc::AllocError;
+
 /// Why text was not written.
 #[derive(Clone, Copy, Debug, PartialEq, Eq)]
 pub enum PutFault {
@@ -9,6 +11,16 @@ pub enum PutFault {
     Failed,
     /// There was no memory to keep it.
     NoMemory,
+}
+
+impl From<AllocError> for PutFault {
+    ghost use Rattle.jm_port.specs.declared.sink.PutFault.TheVariants.{NoMemory};
+
+    ghost from_gives = { λ _ error. error ≡ NoMemory };
+
+    fn from(_refused: AllocError) -> PutFault {
+        PutFault::NoMemory
+    }
 }
 
 /// A place that takes text, piece by piece.

@@ -1,4 +1,3 @@
-pub mod PlaceLemmas
 pub mod MeaningLemmas
 pub mod BitLemmas
 pub mod VectorLemmas

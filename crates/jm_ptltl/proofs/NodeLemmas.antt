@@ -47,10 +47,6 @@ pub length-closing : (starts : List ℕ) (count : ℕ) → length (closing start
 length-closing [] count = refl
 length-closing (s ∷ starts) count = length-append (closing starts count) (only (Infix Implies (count + length starts - s))) ∙ omega (arith, length-closing starts count)
 
-pub length-ends_of : (base : ℕ) (fs : List (Formula Token)) → length (ends_of base fs) ≡ length fs
-length-ends_of base [] = refl
-length-ends_of base (f ∷ fs) = omega (arith, length-ends_of (base + length (postfix f)) fs)
-
 -- formulas with `=>` between them: their nodes, and then those of `=>`
 pub postfix-grouped : (fs : List (Formula Token)) (f : Formula Token) (base count : ℕ) → count ≡ base + length (postfix_all fs) + length (postfix f)
     → postfix (grouped fs f) ≡ (postfix_all fs ++ postfix f) ++ closing (ends_of base fs) count

@@ -9,15 +9,14 @@ use Rattle.jm_reading.specs.Reading.{◌>>=◌}
 use Rattle.jm_reading.specs.Answers.{FailsAt, IsSyntax}
 use Rattle.jm_reading.proofs.LoopLemmas.{ItemsLeft, items_begin, items_more, items_end, items_fail, fails_too}
 use Rattle.jm_ptltl.specs.declared.node.Unary.{Unary}
-use Rattle.jm_ptltl.specs.declared.node.Binary.{Binary}
 use Rattle.jm_ptltl.specs.declared.node.Node.{Node}
 use Rattle.jm_ptltl.specs.declared.node.Node.TheVariants as node
 use Rattle.jm_ptltl.specs.declared.lexicon.Class.{Class}
 use Rattle.jm_ptltl.specs.declared.lexicon.Class.TheVariants.{Prefix, Infix, Constant, Name, Open, Close, Other}
-use Rattle.jm_ptltl.specs.Formulas.{Formula, event, constant, binary, postfix}
+use Rattle.jm_ptltl.specs.Formulas.{Formula, event, constant, postfix}
 use Rattle.jm_ptltl.specs.Lexicon.{class_of}
 use Rattle.jm_ptltl.specs.Answers.{AddsNodes, Adds, AddsBy}
-use Rattle.jm_ptltl.specs.Rules.{Read, Chain, class_at, is_prefix, begins, closed_by, closed_at, atom_by, atom_at, over, over_all, operand_by, operand_at, join_by, join_at, more_at, grouped, skip_at, imply_at, group, implied_at, part_at, inside_at, formula_from, at_end, formula_at, behind_all, closing, postfix_all, ends_of}
+use Rattle.jm_ptltl.specs.Rules.{Read, Chain, class_at, is_prefix, begins, closed_at, atom_by, atom_at, over, over_all, operand_by, operand_at, join_at, more_at, grouped, skip_at, imply_at, group, implied_at, part_at, inside_at, formula_from, at_end, formula_at, behind_all, closing, postfix_all, ends_of}
 use Rattle.jm_ptltl.proofs.NodeLemmas.{unary_all, postfix-unary_all, postfix-grouped, postfix_all-push, ends_of-push}
 
 -- ---- operators of one part
@@ -29,14 +28,6 @@ prefix_more bytes (t ∷ ts) op inner h = rw h refl
 pub over_all-push : (ops : List Unary) (op : Unary) (read : Option Read) → over_all (ops ++ op ∷ []) read ≡ over_all ops (over op read)
 over_all-push [] op read = refl
 over_all-push (o ∷ ops) op read = ap (λ r. over o r) (over_all-push ops op read)
-
-some_left : (bytes : List ℕ) (rest : List Token) → (class_at bytes rest ≡ Other → ⊥) → 0 < length rest
-some_left bytes [] h = absurd (h refl)
-some_left bytes (t ∷ ts) h = omega arith
-
-pub drop_fewer : (bytes : List ℕ) (rest : List Token) → (class_at bytes rest ≡ Other → ⊥) → length (drop 1 rest) < length rest
-drop_fewer bytes [] h = absurd (h refl)
-drop_fewer bytes (t ∷ ts) h = omega arith
 
 pub drop_within : (rest : List Token) → length (drop 1 rest) ≤ length rest
 drop_within [] = omega arith
@@ -124,66 +115,11 @@ closed_is : (bytes : List ℕ) (rest : List Token) (f : Formula Token) → class
 closed_is bytes [] f h = absurd (cc)
 closed_is bytes (t ∷ ts) f h = rw h refl
 
-open_class : (c : Class) (f : Formula Token) (ts : List Token) → (c ≡ Close → ⊥) → closed_by c f ts ≡ None
-open_class (Prefix op) f ts h = refl
-open_class (Infix op) f ts h = refl
-open_class (Constant b) f ts h = refl
-open_class Name f ts h = refl
-open_class Open f ts h = refl
-open_class Close f ts h = absurd (h refl)
-open_class Other f ts h = refl
-
-not_closed : (bytes : List ℕ) (rest : List Token) (f : Formula Token) → (class_at bytes rest ≡ Close → ⊥) → closed_at bytes f rest ≡ None
-not_closed bytes [] f h = refl
-not_closed bytes (t ∷ ts) f h = open_class (class_of bytes t) f ts h
-
 module _ (bytes : List ℕ) (inner : List Token → Option Read) (start rest : List Token) where
   pub inside_adds : (before after : List (Node Token)) → AddsNodes before after rest (part_at bytes inner 6 start) → class_at bytes rest ≡ Close → AddsNodes before after (drop 1 rest) (inside_at bytes inner start)
   inside_adds before after h close = (h.0, ap (λ r. r >>= λ x. closed_at bytes x.0 x.1) h.1 ∙ closed_is bytes rest h.0 close, h.2)
 
-  pub inside_open : (before after : List (Node Token)) → AddsNodes before after rest (part_at bytes inner 6 start) → (class_at bytes rest ≡ Close → ⊥) → inside_at bytes inner start ≡ None
-  inside_open before after h unclosed = ap (λ r. r >>= λ x. closed_at bytes x.0 x.1) h.1 ∙ not_closed bytes rest h.0 unclosed
-
-  pub inside_fails : (e : SpecError) → FailsAt e (part_at bytes inner 6 start) → FailsAt e (inside_at bytes inner start)
-  inside_fails e h = fails_too e _ _ h (λ none. ap (λ r. r >>= λ x. closed_at bytes x.0 x.1) none)
-
 -- ---- operators of a rank, to the left
-
-module _ (bytes : List ℕ) (part : List Token → Option Read) where
-  join_is : (f : Formula Token) (rest : List Token) (op : Binary) → class_at bytes rest ≡ Infix op → join_at bytes part f rest ≡ (part (drop 1 rest) >>= λ r. Some (binary op f r.0, r.1))
-  join_is f [] op h = absurd (cc)
-  join_is f (t ∷ ts) op h = rw h refl
-
-  pub join_adds : (f : Formula Token) (rest left : List Token) (op : Binary) (before nodes more after : List (Node Token)) (right : ℕ) → class_at bytes rest ≡ Infix op → nodes ≡ before ++ postfix f → AddsNodes nodes more left (part (drop 1 rest))
-      → right ≡ length more - length nodes → after ≡ more ++ node.Infix op right ∷ [] → AddsNodes before after left (join_at bytes part f rest)
-  join_adds f rest left op before nodes more after right h e adds size is =
-      let g = adds.0 in
-      let k : right ≡ length (postfix g) = size ∙ omega (arith, ap (λ l. length l) adds.2, length-append nodes (postfix g)) in (
-        binary op f g,
-        join_is f rest op h ∙ ap (λ r. r >>= λ x. Some (binary op f x.0, x.1)) adds.1,
-        is
-            ∙ ap (λ l. l ++ node.Infix op right ∷ []) adds.2
-            ∙ append_assoc nodes (postfix g) (node.Infix op right ∷ [])
-            ∙ ap (λ j. nodes ++ (postfix g ++ node.Infix op j ∷ [])) k
-            ∙ ap (λ l. l ++ (postfix g ++ node.Infix op (length (postfix g)) ∷ [])) e
-            ∙ append_assoc before (postfix f) (postfix g ++ node.Infix op (length (postfix g)) ∷ []),
-      )
-
-  pub join_fails : (f : Formula Token) (rest : List Token) (op : Binary) (e : SpecError) → class_at bytes rest ≡ Infix op → FailsAt e (part (drop 1 rest)) → FailsAt e (join_at bytes part f rest)
-  join_fails f rest op e h fails = fails_too e _ _ fails (λ none. join_is f rest op h ∙ ap (λ r. r >>= λ x. Some (binary op f x.0, x.1)) none)
-
-  other_infix : (c : Class) (f : Formula Token) (right : Option Read) → ((op : Binary) → c ≡ Infix op → ⊥) → join_by c f right ≡ None
-  other_infix (Prefix op) f right h = refl
-  other_infix (Infix op) f right h = absurd (h op refl)
-  other_infix (Constant b) f right h = refl
-  other_infix Name f right h = refl
-  other_infix Open f right h = refl
-  other_infix Close f right h = refl
-  other_infix Other f right h = refl
-
-  pub join_none : (f : Formula Token) (rest : List Token) → ((op : Binary) → class_at bytes rest ≡ Infix op → ⊥) → join_at bytes part f rest ≡ None
-  join_none f [] h = refl
-  join_none f (t ∷ ts) h = other_infix (class_of bytes t) f (part ts) h
 
 -- the formula so far, behind these nodes
 pub record JoinsLeft (bytes : List ℕ) (n k : ℕ) (start : List Token) (before : List (Node Token)) (rest : List Token) (nodes : List (Node Token)) : Type 0 where
@@ -219,9 +155,6 @@ module _ (bytes : List ℕ) (n k : ℕ) (start : List Token) (before : List (Nod
   pub joins_fail : (rest : List Token) (nodes : List (Node Token)) (e : SpecError) → eqb k 4 ≡ false → (s : JoinsLeft bytes n k start before rest nodes) → begins bytes (suc k) rest ≡ true → FailsAt e (join_at bytes (part_at bytes (formula_from bytes n) k) s.so_far rest)
       → FailsAt e (part_at bytes (formula_from bytes n) (suc k) start)
   joins_fail rest nodes e other s goes h = fails_too e _ _ h (λ none. whole_is s.first s.behind (eqb k 4) other s.read ∙ items_fail s.first s.behind s.so_far rest s.left goes none)
-
-  pub part_fails : (e : SpecError) → FailsAt e (part_at bytes (formula_from bytes n) k start) → FailsAt e (part_at bytes (formula_from bytes n) (suc k) start)
-  part_fails e h = fails_too e _ _ h (λ none. rw none refl)
 
 -- ---- `=>`, to the right
 
@@ -282,13 +215,6 @@ module _ (bytes : List ℕ) (n : ℕ) (start : List Token) (before : List (Node 
 pub gives_all : (bytes : List ℕ) (tokens rest : List Token) (nodes after : List (Node Token)) → nodes ≡ [] → length rest < 1 → AddsNodes nodes after rest (part_at bytes (formula_from bytes (length tokens)) 6 tokens) → (f : Formula Token) × (formula_at bytes tokens ≡ Some f) × (after ≡ postfix f)
 gives_all bytes tokens [] nodes after none end h = (h.0, ap (λ r. r >>= at_end) h.1, h.2 ∙ ap (λ l. l ++ postfix h.0) none)
 gives_all bytes tokens (t ∷ ts) nodes after none end h = absurd (omega (arith, end))
-
-pub some_behind : (bytes : List ℕ) (tokens rest : List Token) (nodes after : List (Node Token)) → 0 < length rest → AddsNodes nodes after rest (part_at bytes (formula_from bytes (length tokens)) 6 tokens) → formula_at bytes tokens ≡ None
-some_behind bytes tokens [] nodes after some h = absurd (omega (arith, some))
-some_behind bytes tokens (t ∷ ts) nodes after some h = ap (λ r. r >>= at_end) h.1
-
-pub all_fail : (bytes : List ℕ) (tokens : List Token) (e : SpecError) → FailsAt e (part_at bytes (formula_from bytes (length tokens)) 6 tokens) → FailsAt e (formula_at bytes tokens)
-all_fail bytes tokens e h = fails_too e _ _ h (λ none. ap (λ r. r >>= at_end) none)
 
 -- ---- calls
 

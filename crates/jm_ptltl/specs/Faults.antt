@@ -1,15 +1,13 @@
 -- What is wrong with a formula, step by step, and the formula over letters that it says.
-use Rattle.std.specs.Prelude.{ℕ, ◌<◌, ◌+◌, ◌-◌, List, [], ◌∷◌, ◌++◌, length, take, fold, Option, Some, None, Result, Ok, Err, nat_lt, option_map, if◌then◌else◌}
-use Rattle.std.specs.Option.{ok_or}
+use Rattle.std.specs.Prelude.{ℕ, ◌<◌, ◌+◌, ◌-◌, List, [], ◌∷◌, ◌++◌, length, take, fold, Option, Some, None, Result, Ok, nat_lt, if◌then◌else◌}
 use Rattle.jm_model.specs.declared.step.Letter.{Letter}
 use Rattle.jm_model.specs.declared.fault.Counted.TheVariants.{Subformulas}
 use Rattle.jm_model.specs.declared.fault.SpecFault.{SpecFault}
-use Rattle.jm_model.specs.declared.fault.SpecFault.TheVariants.{TooMany, ReservedName, UnknownName}
+use Rattle.jm_model.specs.declared.fault.SpecFault.TheVariants.{TooMany}
 use Rattle.jm_text.specs.declared.token.Token.{Token}
-use Rattle.jm_reading.specs.Tokens.{name_of}
-use Rattle.jm_reading.specs.Faults.{or_else, ◌>>>◌}
-use Rattle.jm_events.specs.Names.{number_of}
-use Rattle.jm_events.specs.Events.{EventDefinitions, EventDefinition, event_names}
+use Rattle.jm_reading.specs.Faults.{or_else, ◌>>>◌, fault_of}
+use Rattle.jm_reading.specs.Events.{reserved_event_fault, letter_said}
+use Rattle.jm_events.specs.Events.{EventDefinitions, event_names}
 use Rattle.jm_ptltl.specs.declared.node.Node.{Node}
 use Rattle.jm_ptltl.specs.declared.node.Node.TheVariants.{Event, Constant, Prefix, Infix}
 use Rattle.jm_ptltl.specs.declared.lexicon.Class.{Class}
@@ -35,15 +33,6 @@ IsTooDeep bytes tokens = (k : ℕ) × (64 < open_after bytes (take k tokens))
 abbrev pub subformulas_fault : Formula Token → Option SpecFault
 subformulas_fault f = if nat_lt 64 (length (subformulas f)) then Some (TooMany Subformulas) else None
 
--- no event is named by a word of the grammar
-abbrev pub event_name_fault : List EventDefinition → Option SpecFault
-event_name_fault [] = None
-event_name_fault (e ∷ es) = if is_grammar_word e.name then Some (ReservedName e.line) else event_name_fault es
-
--- the letter of an event's name
-abbrev pub letter_said : List ℕ → List (List ℕ) → Token → Result Letter SpecFault
-letter_said bytes events token = ok_or (option_map (λ k. record { 0 = k }) (number_of events (name_of bytes token))) (UnknownName token.line)
-
 -- the formula over letters that a formula says, or its first name that is no event's
 abbrev pub formula_said : List ℕ → List (List ℕ) → Formula Token → Result (Formula Letter) SpecFault
 formula_said bytes events (event t) = letter_said bytes events t >>> λ letter. Ok (event letter)
@@ -51,14 +40,10 @@ formula_said bytes events (constant b) = Ok (constant b)
 formula_said bytes events (unary op f) = formula_said bytes events f >>> λ part. Ok (unary op part)
 formula_said bytes events (binary op f g) = formula_said bytes events f >>> λ left. formula_said bytes events g >>> λ right. Ok (binary op left right)
 
-abbrev pub said_fault : {A : Type 0} → Result A SpecFault → Option SpecFault
-said_fault (Ok x) = None
-said_fault (Err fault) = Some fault
-
 -- the fault of the first step that has one: too many subformulas, reserved names of events, unknown names
 unfoldable pub first_fault : List ℕ → EventDefinitions → Formula Token → Option SpecFault
 first_fault bytes table f =
-    or_else (subformulas_fault f) (or_else (event_name_fault table.events) (said_fault (formula_said bytes (event_names table) f)))
+    or_else (subformulas_fault f) (or_else (reserved_event_fault is_grammar_word table.events) (fault_of (formula_said bytes (event_names table) f)))
 
 -- The same over a list of nodes: those that were said before, and one after the other.
 abbrev pub node_said : List ℕ → List (List ℕ) → Node Token → Result (Node Letter) SpecFault

@@ -3,32 +3,19 @@ ghost use Rattle.std.specs.Prelude.{◌≡◌, ◌≤◌, ◌∷◌, ◌++◌, [
 ghost use Rattle.jm_text.specs.declared.token.Token.{Token};
 ghost use Rattle.jm_events.specs.Events.{event_names};
 ghost use Rattle.jm_ptltl.specs.Formulas.{Formula, postfix};
-ghost use Rattle.jm_ptltl.specs.Faults.{letter_said, formula_said, node_said, with_nodes, first_fault};
+ghost use Rattle.jm_ptltl.specs.Faults.{formula_said, node_said, with_nodes, first_fault};
 ghost use Rattle.jm_reading.specs.Faults.{Answers, Checks};
 
-use crate::faults;
+use crate::faults::Words;
 use crate::node::Node;
 use crate::past::Past;
 use jm_events::EventTable;
 use jm_model::{Counted, Letter, SpecError, SpecFault};
-use jm_reading::{Items, name_of};
+use jm_reading::{Items, event_names, letter_of};
 use jm_text::Token;
 use std::alloc::Global;
 
 const MAX_SUBFORMULAS: usize = 64;
-
-/// The letter of an event's name.
-fn letter_of(bytes: &[u8], table: &EventTable, token: Token) -> Result<Letter, SpecError>
-    ensures { Answers result (letter_said bytes.now (event_names table.now) token) }
-{
-    match table.letter(name_of(bytes, token)) {
-        Some(letter) => Ok(letter),
-        None => {
-            let line = token.line;
-            Err(SpecError::Bad(SpecFault::UnknownName { line }))
-        }
-    }
-}
 
 /// The node over letters that a node says.
 fn node_of(bytes: &[u8], table: &EventTable, node: Node<Token>) -> Result<Node<Letter>, SpecError>
@@ -76,7 +63,7 @@ pub fn past_of(
         let what = Counted::Subformulas;
         return Err(SpecError::Bad(SpecFault::TooMany { what }));
     }
-    faults::event_names(table)?;
+    event_names::<Words>(table)?;
     let said = nodes_of(alloc, bytes, table, nodes)?;
     Ok(Past::new(said.into_vec()))
 }

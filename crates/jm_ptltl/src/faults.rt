@@ -2,12 +2,10 @@
 ghost use Rattle.std.specs.Prelude.{◌≡◌, ◌↔◌, ◌<◌, ◌≤◌, length, IsTrue};
 ghost use Rattle.jm_text.specs.Spans.{LieWithin};
 ghost use Rattle.jm_ptltl.specs.Lexicon.{is_grammar_word};
-ghost use Rattle.jm_ptltl.specs.Faults.{open_by, IsTooDeep, event_name_fault};
-ghost use Rattle.jm_reading.specs.Faults.{Checks};
+ghost use Rattle.jm_ptltl.specs.Faults.{open_by, IsTooDeep};
 
 use crate::lexicon::{Class, class_of};
-use jm_events::EventTable;
-use jm_model::{Letter, SpecError, SpecFault};
+use jm_reading::GrammarWords;
 use jm_text::Token;
 
 const MAX_NESTING: usize = 64;
@@ -39,28 +37,19 @@ pub fn is_too_deep(bytes: &[u8], tokens: &[Token]) -> bool
     false
 }
 
-fn is_grammar_word(name: &str) -> bool
-    ensures { result ≡ is_grammar_word name.now }
-{
-    name == "S"
-        || name == "not"
-        || name == "and"
-        || name == "or"
-        || name == "xor"
-        || name == "true"
-        || name == "false"
-}
+/// The words that stand for something else than an event.
+pub struct Words;
 
-/// No event is named by a word of the grammar.
-pub fn event_names(table: &EventTable) -> Result<(), SpecError>
-    ensures { Checks result (event_name_fault table.now.events) }
-{
-    for letter in 0..table.letters() {
-        let letter = Letter(letter);
-        if is_grammar_word(table.event_name(letter)) {
-            let line = table.event_line(letter);
-            return Err(SpecError::Bad(SpecFault::ReservedName { line }));
-        }
+impl GrammarWords for Words {
+    ghost reserved = { is_grammar_word };
+
+    fn is_reserved(name: &str) -> bool {
+        name == "S"
+            || name == "not"
+            || name == "and"
+            || name == "or"
+            || name == "xor"
+            || name == "true"
+            || name == "false"
     }
-    Ok(())
 }

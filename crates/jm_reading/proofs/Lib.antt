@@ -1,3 +1,5 @@
 pub mod TokenLemmas
 pub mod LoopLemmas
 pub mod GrammarLemmas
+pub mod EventLemmas
+pub mod ReadLemmas

@@ -15,6 +15,11 @@ abbrev pub ◌>>>◌ : {A B : Type 0} → Result A SpecFault → (A → Result B
 (Ok x) >>> f = f x
 (Err fault) >>> f = Err fault
 
+-- the fault in the place of a value, if there is one
+abbrev pub fault_of : {X : Type 0} → Result X SpecFault → Option SpecFault
+fault_of (Ok x) = None
+fault_of (Err fault) = Some fault
+
 -- a call refuses with the fault, if there is one, unless memory is short
 abbrev pub Refuses : Option SpecFault → SpecError → Type 0
 Refuses fault NoMemory = Unit {0}

@@ -2,3 +2,4 @@ pub mod Tokens
 pub mod Reading
 pub mod Answers
 pub mod Faults
+pub mod Events

@@ -1,7 +1,7 @@
 //! A list that contracts see as a list.
-ghost use Rattle.std.specs.Prelude.{◌≡◌, [], ◌∷◌, ◌++◌, OnOk, IfErr};
+ghost use Rattle.std.specs.Prelude.{◌≡◌, [], ◌∷◌, ◌++◌, OnOk, OnErr, IfOk, IfErr};
 
-use jm_model::SpecError;
+use jm_model::{NoMemory, SpecError};
 use std::alloc::Global;
 use std::marker::Model;
 
@@ -33,10 +33,9 @@ impl<T: Drop> Items<T> {
     pub fn push(&mut self, item: T) -> Result<(), SpecError>
         ensures ok { OnOk result (self.new ≡ self.old ++ item ∷ []) }
         ensures err { IfErr result (λ e. e ≡ SpecError.NoMemory) }
+        ensures unchanged { OnErr result (self.new ≡ self.old) }
     {
-        if self.items.push(item).is_err() {
-            return Err(SpecError::NoMemory);
-        }
+        self.items.push(item)?;
         Ok(())
     }
 
@@ -45,6 +44,17 @@ impl<T: Drop> Items<T> {
         ensures { result.now ≡ self.now }
     {
         self.items.as_slice()
+    }
+}
+
+impl<T: Copy> Items<T> {
+    /// These items.
+    pub fn from_slice(alloc: Global, items: &[T]) -> Result<Items<T>, NoMemory>
+        ensures { IfOk result (λ list. list ≡ items.now) }
+    {
+        Ok(Items {
+            items: Vec::from_slice(alloc, items)?,
+        })
     }
 }
 

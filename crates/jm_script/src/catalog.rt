@@ -50,13 +50,9 @@ impl Catalog {
             return Err(SpecError::Bad(SpecFault::DuplicateSpec));
         }
         let number = self.names.len() as u8;
-        let Ok(()) = self.tables.push(table) else {
-            return Err(SpecError::NoMemory);
-        };
-        let Ok(_) = self.names.add(name) else {
-            self.tables.pop();
-            return Err(SpecError::NoMemory);
-        };
+        self.tables.reserve(1)?;
+        self.names.add(name)?;
+        self.tables.push_reserved(table);
         Ok(number)
     }
 

@@ -358,11 +358,6 @@ no_such_word bytes t w h = ap (λ k. k && bytes_eq (text_of bytes t) w) h
 no_such_name : (bytes : List ℕ) (t : Token) → is_word_kind t.kind ≡ false → is_name bytes t ≡ false
 no_such_name bytes t h = ap (λ k. k && is_name_text (text_of bytes t)) h
 
-and_nothing : (x y z : Bool) → x || y && false ≡ false → x || y && false && z ≡ false
-and_nothing true y z h = h
-and_nothing false true z h = refl
-and_nothing false false z h = refl
-
 -- what begins no event and no property doesn't with what follows
 no_event_whole : (bytes : List ℕ) (run rest : List Token) → RunsToEnd bytes run → begins_event bytes run ≡ false → begins_event bytes (run ++ rest) ≡ false
 no_event_whole bytes [] rest r h = absurd (nothing_ends bytes [] r.ends)

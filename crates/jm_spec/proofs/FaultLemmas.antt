@@ -9,6 +9,7 @@ use Rattle.jm_model.specs.declared.fault.SpecFault.{SpecFault}
 use Rattle.jm_model.specs.declared.fault.SpecFault.TheVariants.{Syntax, DuplicateEvent, UnsupportedLogic}
 use Rattle.jm_text.specs.declared.token.Token.{Token}
 use Rattle.jm_events.specs.Events.{EventDefinitions, EventDefinition, event_named}
+use Rattle.jm_reading.specs.Faults.{or_else, ◌>>>◌, fault_of, Refuses}
 use Rattle.jm_spec.specs.declared.head.Modifier.{Modifier}
 use Rattle.jm_spec.specs.declared.head.Modifier.TheVariants.{FullBinding, NoEffect, Unsupported}
 use Rattle.jm_spec.specs.declared.events.Advice.{Advice}
@@ -18,8 +19,8 @@ use Rattle.jm_spec.specs.declared.property.Property.{Property}
 use Rattle.jm_spec.specs.declared.frame.Frame.{Frame}
 use Rattle.jm_spec.specs.declared.tree.Logic.{Logic}
 use Rattle.jm_spec.specs.Spelling.{Spells}
-use Rattle.jm_spec.specs.Faults.{modifier_fault, advice_or, advice_fault, property_fault, name_of, unless_known, logic_of, logic_fault, ◌>>>◌, unless, with_param, with_params, with_names, with_mention, with_advice, with_events, table_fault, or_else, frame_fault}
-use Rattle.jm_spec.specs.Trees.{Refuses, IsFaultOfTokens}
+use Rattle.jm_spec.specs.Faults.{modifier_fault, advice_or, advice_fault, property_fault, name_of, unless_known, logic_of, logic_fault, unless, with_param, with_params, with_names, with_mention, with_advice, with_events, frame_fault}
+use Rattle.jm_spec.specs.Trees.{IsFaultOfTokens}
 
 -- no fault, or another than the grammar's
 abbrev IsOther : Option SpecFault → Type 0
@@ -27,7 +28,7 @@ IsOther (Some (Syntax line)) = ⊥
 IsOther _ = Unit {0}
 
 abbrev MakesOther : Result EventDefinitions SpecFault → Type 0
-MakesOther r = IsOther (table_fault r)
+MakesOther r = IsOther (fault_of r)
 
 other_modifier : (ms : List Modifier) → IsOther (modifier_fault ms)
 other_modifier [] = tt

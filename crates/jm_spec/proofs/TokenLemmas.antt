@@ -65,9 +65,6 @@ no_mark bytes t m h = ap (λ k. k && bytes_eq (text_of bytes t) m) (no_mark_kind
 pub no_word : (bytes : List ℕ) (t : Token) (m w : List ℕ) → is_mark bytes t m ≡ true → is_word bytes t w ≡ false
 no_word bytes t m w h = ap (λ k. k && bytes_eq (text_of bytes t) w) (no_word_kind t.kind (and_left (is_mark_kind t.kind) _ h))
 
-pub no_name : (bytes : List ℕ) (t : Token) (m : List ℕ) → is_mark bytes t m ≡ true → is_name bytes t ≡ false
-no_name bytes t m h = rw (no_word_kind t.kind (and_left (is_mark_kind t.kind) _ h)) refl
-
 -- what tokens mean to the runs
 pub word_sign : (bytes : List ℕ) (t : Token) → is_word_kind t.kind ≡ true → sign_of bytes t ≡ Plain
 unfolding sign_of

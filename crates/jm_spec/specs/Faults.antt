@@ -6,6 +6,7 @@ use Rattle.jm_model.specs.declared.fault.SpecFault.TheVariants.{UnsupportedModif
 use Rattle.jm_text.specs.declared.token.Token.{Token}
 use Rattle.jm_text.specs.Spans.{text_of}
 use Rattle.jm_text.specs.Texts.{is_name}
+use Rattle.jm_reading.specs.Faults.{or_else, ◌>>>◌, fault_of}
 use Rattle.jm_events.specs.Names.{number_of}
 use Rattle.jm_events.specs.Events.{EventDefinitions, EventDefinition, parameter_fault, with_parameter, event_fault, with_event}
 use Rattle.jm_spec.specs.declared.head.Modifier.{Modifier}
@@ -69,12 +70,7 @@ abbrev pub logic_fault : List ℕ → List Property → Option SpecFault
 logic_fault bytes [] = None
 logic_fault bytes (p ∷ ps) = unless_known (logic_of bytes p.logic) (UnsupportedLogic p.logic.line)
 
--- a table, or the fault that comes first, and then more
-infixl 10 ◌>>>◌
-abbrev pub ◌>>>◌ : Result EventDefinitions SpecFault → (EventDefinitions → Result EventDefinitions SpecFault) → Result EventDefinitions SpecFault
-(Ok t) >>> f = f t
-(Err fault) >>> f = Err fault
-
+-- the table, unless there is a fault
 abbrev pub unless : Option SpecFault → EventDefinitions → Result EventDefinitions SpecFault
 unless None t = Ok t
 unless (Some fault) t = Err fault
@@ -123,14 +119,6 @@ with_events bytes t (e ∷ es) = with_advice bytes t e e.advice >>> λ more. wit
 abbrev pub table_of : List ℕ → List Token → List Mention → Result EventDefinitions SpecFault
 table_of bytes params events = with_params bytes (record { parameters = []; events = [] }) params >>> λ t. with_events bytes t events
 
-abbrev pub table_fault : Result EventDefinitions SpecFault → Option SpecFault
-table_fault (Ok t) = None
-table_fault (Err fault) = Some fault
-
-abbrev pub or_else : Option SpecFault → Option SpecFault → Option SpecFault
-or_else (Some fault) next = Some fault
-or_else None next = next
-
 -- the fault of the first step that has one: the modifiers, the advice, the number of properties, the logic, the
 -- parameters and the events
 unfoldable pub frame_fault : List ℕ → Frame → Option SpecFault
@@ -139,11 +127,4 @@ frame_fault bytes frame =
     (or_else (advice_fault frame.events)
     (or_else (property_fault frame.properties)
     (or_else (logic_fault bytes frame.properties)
-    (table_fault (table_of bytes frame.params frame.events)))))
-
--- the same of the steps up to the logic alone
-unfoldable pub head_fault : List ℕ → Frame → Option SpecFault
-head_fault bytes frame =
-    or_else (modifier_fault frame.modifiers)
-    (or_else (advice_fault frame.events)
-    (or_else (property_fault frame.properties) (logic_fault bytes frame.properties)))
+    (fault_of (table_of bytes frame.params frame.events)))))

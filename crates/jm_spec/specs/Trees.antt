@@ -1,17 +1,14 @@
 -- The tree of a frame, and what a reader of a specification answers.
-use Rattle.std.specs.Prelude.{ℕ, ◌≡◌, ◌<◌, ◌≤◌, Bool, true, false, List, [], ◌∷◌, Option, Some, None, Result, Ok, Err}
+use Rattle.std.specs.Prelude.{ℕ, ◌≡◌, ◌<◌, ◌≤◌, Bool, true, false, List, [], ◌∷◌, Some, None, Ok}
 use Rattle.std.specs.List.{list_any}
 use Rattle.jm_model.specs.declared.fault.SpecError.{SpecError}
 use Rattle.jm_model.specs.declared.fault.SpecError.TheVariants.{Bad, NoMemory}
-use Rattle.jm_model.specs.declared.fault.SpecFault.{SpecFault}
 use Rattle.jm_model.specs.declared.fault.SpecFault.TheVariants.{Syntax}
 use Rattle.jm_text.specs.declared.token.Token.{Token}
-use Rattle.jm_events.specs.Events.{EventDefinitions}
 use Rattle.jm_spec.specs.declared.head.Modifier.{Modifier}
 use Rattle.jm_spec.specs.declared.head.Modifier.TheVariants.{FullBinding}
 use Rattle.jm_spec.specs.declared.property.Property.{Property}
 use Rattle.jm_spec.specs.declared.frame.Frame.{Frame}
-use Rattle.jm_spec.specs.declared.tree.Logic.{Logic}
 use Rattle.jm_spec.specs.declared.tree.SpecTree.{SpecTree}
 use Rattle.jm_spec.specs.Spelling.{Spells}
 use Rattle.jm_spec.specs.Faults.{logic_of, table_of, frame_fault}
@@ -28,16 +25,6 @@ pub record TellsProperty (bytes : List ℕ) (p : Property) (tree : SpecTree) : T
   pub last : tree.last ≡ p.last
   pub handlers : tree.handlers.items ≡ p.handlers
 
--- the logic of the one property, and the line of its word
-abbrev pub HasLogic : List ℕ → List Property → Logic × ℕ → Type 0
-HasLogic bytes (p ∷ []) logic = (logic_of bytes p.logic ≡ Some logic.0) × (logic.1 ≡ p.logic.line)
-HasLogic bytes _ logic = ⊥
-
--- the word of the logic of the one property
-abbrev pub IsLogicWord : List Property → Token → Type 0
-IsLogicWord (p ∷ []) word = word ≡ p.logic
-IsLogicWord _ word = ⊥
-
 -- the tree has what the one property says
 abbrev pub TellsProperties : List ℕ → List Property → SpecTree → Type 0
 TellsProperties bytes (p ∷ []) tree = TellsProperty bytes p tree
@@ -49,22 +36,6 @@ pub record IsTreeOf (bytes : List ℕ) (frame : Frame) (tree : SpecTree) : Type 
   pub full_binding : tree.full_binding ≡ list_any is_full_binding frame.modifiers
   pub table : table_of bytes frame.params frame.events ≡ Ok tree.table
   pub property : TellsProperties bytes frame.properties tree
-
--- a call refuses with the fault, if there is one, unless memory is short
-abbrev pub Refuses : Option SpecFault → SpecError → Type 0
-Refuses fault NoMemory = Unit {0}
-Refuses fault (Bad f) = fault ≡ Some f
-
--- it answers where there is no fault
-abbrev pub Checks : {X : Type 0} → Result X SpecError → Option SpecFault → Type 0
-Checks (Ok x) fault = fault ≡ None
-Checks (Err e) fault = Refuses fault e
-
--- it makes this table, or refuses with its fault
-abbrev pub Makes : {X : Type 0} → Result X SpecError → EventDefinitions → Result EventDefinitions SpecFault → Type 0
-Makes (Ok x) new made = made ≡ Ok new
-Makes (Err NoMemory) new made = Unit {0}
-Makes (Err (Bad f)) new made = made ≡ Err f
 
 -- the tokens spell a frame without a fault, whose tree this is
 abbrev pub IsTreeOfTokens : List ℕ → List Token → SpecTree → Type 0

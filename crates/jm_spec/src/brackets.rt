@@ -134,9 +134,7 @@ impl Brackets {
     fn push(&mut self, kind: Bracket) -> Result<bool, NoMemory>
         ensures { IfOk result (λ matches. (matches ≡ true) × (self.new ≡ self.old ++ kind ∷ [])) }
     {
-        if self.stack.push(kind).is_err() {
-            return Err(NoMemory);
-        }
+        self.stack.push(kind)?;
         if !is_curly(kind) {
             self.holding += 1;
         }

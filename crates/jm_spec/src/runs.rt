@@ -40,14 +40,11 @@ pub fn member_length(
     let mut brackets = Brackets::new(alloc);
     for (i, token) in tokens.iter().enumerate() {
         let sign = without_angles(sign_of(bytes, *token));
-        match brackets.follow(sign) {
-            Err(_) => return Err(SpecError::NoMemory),
-            Ok(false) => return Err(SpecError::Bad(SpecFault::Syntax { line: token.line })),
-            Ok(true) => {
-                if brackets.is_empty() && may_end(sign) {
-                    return Ok(i + 1);
-                }
-            }
+        if !brackets.follow(sign)? {
+            return Err(SpecError::Bad(SpecFault::Syntax { line: token.line }));
+        }
+        if brackets.is_empty() && may_end(sign) {
+            return Ok(i + 1);
         }
     }
     Err(SpecError::Bad(SpecFault::Syntax { line: last_line }))
@@ -83,10 +80,8 @@ pub fn parameter_length(
             }
             return Err(SpecError::Bad(SpecFault::Syntax { line: token.line }));
         }
-        match brackets.follow(sign) {
-            Err(_) => return Err(SpecError::NoMemory),
-            Ok(false) => return Err(SpecError::Bad(SpecFault::Syntax { line: token.line })),
-            Ok(true) => {}
+        if !brackets.follow(sign)? {
+            return Err(SpecError::Bad(SpecFault::Syntax { line: token.line }));
         }
     }
     Err(SpecError::Bad(SpecFault::Syntax { line: last_line }))

@@ -1,8 +1,9 @@
 //! The tree of a specification, and what is wrong with a frame.
 ghost use Rattle.std.specs.Prelude.{ℕ, ◌≡◌, ◌<◌, ◌≤◌, ◌^◌, [], ◌∷◌, bit_or, length, option_map, IfOk, IfErr, None, Some};
 ghost use Rattle.std.specs.List.{list_any};
-ghost use Rattle.jm_spec.specs.Faults.{modifier_fault, advice_fault, property_fault, name_of, logic_named, logic_of, with_params, with_param, with_names, with_bit, number_said, with_events, with_advice, with_mention, table_of, table_fault, head_fault, frame_fault};
-ghost use Rattle.jm_spec.specs.Trees.{is_full_binding, Refuses, Checks, Makes, HasLogic, IsLogicWord, IsTreeOf};
+ghost use Rattle.jm_reading.specs.Faults.{fault_of, Refuses, Checks, Makes};
+ghost use Rattle.jm_spec.specs.Faults.{modifier_fault, advice_fault, property_fault, name_of, logic_named, logic_of, with_params, with_param, with_names, with_bit, number_said, with_events, with_advice, with_mention, table_of, frame_fault};
+ghost use Rattle.jm_spec.specs.Trees.{is_full_binding, IsTreeOf};
 
 use crate::events::{Advice, Mention};
 use crate::frame::Frame;
@@ -75,34 +76,6 @@ pub fn tree_of(alloc: Global, bytes: &[u8], frame: Frame) -> Result<SpecTree, Sp
         last,
         handlers: handlers.into_vec(),
     })
-}
-
-/// The logic of a frame and the line of its word, or what is wrong with the frame up to there, in the same steps.
-#[tactic(auto, unfolding(crate::specs::Faults::head_fault))]
-pub fn frame_logic(bytes: &[u8], frame: &Frame) -> Result<(Logic, u32), SpecError>
-    ensures ok { IfOk result (HasLogic bytes.now frame.now.properties) }
-    ensures checked { Checks result (head_fault bytes.now frame.now) }
-{
-    known_modifiers(frame.modifiers.as_slice())?;
-    known_advice(frame.events.as_slice())?;
-    let word = only_logic(frame.properties.as_slice())?;
-    let logic = known_logic(bytes, word)?;
-    Ok((logic, word.line))
-}
-
-/// The word of the logic of the one property.
-fn only_logic(properties: &[Property]) -> Result<Token, SpecError>
-    ensures only { IfOk result (IsLogicWord properties.now) }
-    ensures checked { Checks result (property_fault properties.now) }
-{
-    match properties {
-        [] => Err(SpecError::Bad(SpecFault::NoProperty)),
-        [property] => Ok(property.logic),
-        [_, second, ..] => {
-            let line = second.logic.line;
-            Err(SpecError::Bad(SpecFault::SecondProperty { line }))
-        }
-    }
 }
 
 fn known_modifiers(modifiers: &[Modifier]) -> Result<(), SpecError>
@@ -210,7 +183,7 @@ fn table_of(
     events: &[Mention],
 ) -> Result<EventTable, SpecError>
     ensures ok { IfOk result (λ table. table_of bytes.now params.now events.now ≡ Ok table) }
-    ensures err { IfErr result (Refuses (table_fault (table_of bytes.now params.now events.now))) }
+    ensures err { IfErr result (Refuses (fault_of (table_of bytes.now params.now events.now))) }
 {
     let mut table = EventTable::new(alloc);
     add_params(&mut table, bytes, params)?;

@@ -2,18 +2,10 @@ use Rattle.std.proofs.Common.{ℕ, zero, suc, All, ◌≡◌, ◌≢◌, ◌<◌
 use Rattle.std.proofs.lemmas.List.{length-map}
 use Rattle.std.proofs.lemmas.List.{map-set, get_or-set_same, get_or-set_other, get_or_default}
 use Rattle.std.proofs.lemmas.List.Elements.{All-head, All-tail, Contains-get_or, Contains-push, Contains-push_cases, Contains-append_left}
-use Rattle.std.proofs.lemmas.Option.{none-some}
 use Rattle.jm_table.proofs.PlaceLemmas.{slice_get-push_cases, place-Contains}
 use Rattle.jm_table.specs.Buckets.{bucket_of, IsIndex}
 
 module _ {D : Type 0} (key : D → ℕ) where
-  -- nothing is known yet
-  pub index_none : (buckets : List (List ℕ)) → ((q : ℕ) → bucket_of buckets q ≡ []) → IsIndex key [] buckets
-  index_none buckets empty = record {
-    each = λ k d h. absurd (none-some d h);
-    within = λ q k h. absurd (let none : Contains [] k = rw (empty q) at h in omega (arith, none.1));
-  }
-
   -- one more is known, and its number stands in the bucket of its key
   pub index_more : (found : List D) (buckets after : List (List ℕ)) (d : D) (number : ℕ) → number ≡ length found → IsIndex key found buckets
       → bucket_of after (key d) ≡ bucket_of buckets (key d) ++ number ∷ []

@@ -1,4 +1,5 @@
 pub mod PlaceLemmas
+pub mod FilterLemmas
 pub mod StateSetLemmas
 pub mod BucketLemmas
 pub mod ExplorationLemmas
@@ -8,3 +9,4 @@ pub mod ClassLemmas
 pub mod NumberLemmas
 pub mod SplitLemmas
 pub mod QuotientLemmas
+pub mod MemberLemmas

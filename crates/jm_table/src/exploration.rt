@@ -63,9 +63,7 @@ fn begin<G: Graph>(alloc: Global, graph: &G) -> Result<Work<G::Node>, SpecError>
     ensures fault { IfErr result (λ e. IfBad e (λ fault. (G.meaning graph.now).start ≡ Err fault)) }
 {
     let node = graph.start()?;
-    let Ok(known) = Known::new(alloc) else {
-        return Err(SpecError::NoMemory);
-    };
+    let known = Known::new(alloc)?;
     let mut work = Work {
         nodes: Vec::new(alloc),
         known,
@@ -117,9 +115,7 @@ fn follow<G: Graph>(
 {
     let node = graph.step(&work.nodes[state], letter)?;
     let target = number(graph, work, node)?;
-    let Ok(()) = work.next.push(target) else {
-        return Err(SpecError::NoMemory);
-    };
+    work.next.push(target)?;
     Ok(())
 }
 
@@ -169,11 +165,7 @@ fn append<G: Graph>(graph: &G, work: &mut Work<G::Node>, node: G::Node) -> Resul
     ensures next { work.new.next ≡ work.old.next }
 {
     let number = work.nodes.len() as u16;
-    let Ok(()) = work.known.add(graph.key(&node), number) else {
-        return Err(SpecError::NoMemory);
-    };
-    let Ok(()) = work.nodes.push(node) else {
-        return Err(SpecError::NoMemory);
-    };
+    work.known.add(graph.key(&node), number)?;
+    work.nodes.push(node)?;
     Ok(number)
 }

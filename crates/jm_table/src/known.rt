@@ -28,13 +28,9 @@ impl Known {
     pub(crate) fn new(alloc: Global) -> Result<Known, NoMemory>
         ensures { IfOk result (λ known. (key : ℕ) → bucket_of known key ≡ []) }
     {
-        let Ok(mut buckets) = Vec::with_capacity(alloc, BUCKETS as usize) else {
-            return Err(NoMemory);
-        };
+        let mut buckets = Vec::with_capacity(alloc, BUCKETS as usize)?;
         for _made in 0..BUCKETS {
-            let Ok(()) = buckets.push(Vec::new(alloc)) else {
-                return Err(NoMemory);
-            };
+            buckets.push(Vec::new(alloc))?;
         }
         Ok(Known { buckets })
     }
@@ -53,9 +49,7 @@ impl Known {
             ⊎ (bucket_of self.new q ≡ bucket_of self.old q ++ number ∷ [])) }
     {
         let bucket = &mut self.buckets[(key % BUCKETS) as usize];
-        let Ok(()) = bucket.push(number) else {
-            return Err(NoMemory);
-        };
+        bucket.push(number)?;
         Ok(())
     }
 }

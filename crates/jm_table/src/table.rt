@@ -129,9 +129,7 @@ impl Table {
         for state in states {
             members.insert(*state);
         }
-        let Ok(()) = self.groups.push(members) else {
-            return Err(NoMemory);
-        };
+        self.groups.push(members)?;
         Ok(group)
     }
 

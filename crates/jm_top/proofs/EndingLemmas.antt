@@ -14,10 +14,6 @@ appended-nil (Some text) = ap (λ t. Some t) (append-nil text)
 pub nothing_appended : (before after : Option (List ℕ)) (text : List ℕ) → after ≡ before → AppendsPrefix before after text
 nothing_appended before after text same = record { piece = []; is_prefix = (text, refl); written = same ∙ sym (appended-nil before) }
 
--- a text that was written whole
-whole_appended : (before after : Option (List ℕ)) (text : List ℕ) → after ≡ appended before text → AppendsPrefix before after text
-whole_appended before after text whole = record { piece = text; is_prefix = ([], append-nil text); written = whole }
-
 module _ (words : List (List ℕ)) (contents : List ℕ → Option (List ℕ)) where
   -- a text of the command was given to the sink
   pub writes_text : (status : Status) (before after : Option (List ℕ)) (text : List ℕ) → IsText words contents text → WritesText status before after text → Writes words contents status before after
@@ -38,16 +34,6 @@ module _ (words : List (List ℕ)) (contents : List ℕ → Option (List ℕ)) w
   writes_nothing (BadSpec f x) before h = refl
   writes_nothing (BadScript f x) before h = refl
   writes_nothing (ReadFailed f) before h = refl
-
-  -- want of memory in place of another ending
-  pub writes_then_no_memory : (status : Status) (before after : Option (List ℕ)) → Writes words contents status before after → Writes words contents NoMemory before after
-  writes_then_no_memory Done before after w = inr (record { text = w.text; is_text = w.is_text; part = whole_appended before after w.text w.whole })
-  writes_then_no_memory WriteFailed before after w = inr w
-  writes_then_no_memory NoMemory before after w = w
-  writes_then_no_memory Usage before after w = inl w
-  writes_then_no_memory (BadSpec f x) before after w = inl w
-  writes_then_no_memory (BadScript f x) before after w = inl w
-  writes_then_no_memory (ReadFailed f) before after w = inl w
 
 -- what is said of the status that was meant
 pub reports_weaker : (P Q : Status → Type 0) (status : Status) (before after : ℕ × Option (List ℕ)) → ((meant : Status) → P meant → Q meant) → Reports P status before after → Reports Q status before after

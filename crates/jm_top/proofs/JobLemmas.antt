@@ -1,5 +1,5 @@
 -- What the status of a command says of its job.
-use Rattle.std.proofs.Common.{◌≡◌, ℕ, zero, suc, ◌<◌, ◌≤◌, ◌⊎◌, inl, inr, Bool, List, [], ◌∷◌, length, Option, Some, None, Result, Ok, Err, IfOk, IfErr, refl, sym, subst, ◌∙◌, arith}
+use Rattle.std.proofs.Common.{◌≡◌, ℕ, zero, suc, ◌<◌, ◌≤◌, ◌⊎◌, inl, inr, Bool, List, [], ◌∷◌, length, Option, Some, None, Result, Ok, Err, IfErr, refl, sym, subst, ◌∙◌, arith}
 use Rattle.std.specs.Prelude.{IfSome}
 use Rattle.jm_port.specs.Faults.{HasRisen}
 use Rattle.jm_model.specs.declared.fault.SpecFault.TheVariants as spec
@@ -156,25 +156,13 @@ script_from contents specs files count names number source bytes given (BadSpec 
 script_from contents specs files count names number source bytes given (ReadFailed n) h = absurd h
 script_from contents specs files count names number source bytes given WriteFailed h = absurd h
 
--- such a status is no failed read
-pub spec_not_unread : (families : Bool) (before : List Specification) (number : ℕ) (bytes : List ℕ) (file : ℕ) → IsNoSpecIn families before number bytes (ReadFailed file) → ⊥
-spec_not_unread families before number bytes file h = h
-
 -- a count that rose later rose since before
 pub risen_before : {before middle after : ℕ} → before ≤ middle → HasRisen middle after → HasRisen before after
 risen_before {before} {middle} {after} le h = elim h [ inl more ↦ inl (omega (arith, le, more)) | inr last ↦ inr last ]
 
--- what holds of a value or of an error that a call answers
-pub for_ok : {V E : Type 0} (P Q : V → Type 0) (r : Result V E) → ((v : V) → P v → Q v) → IfOk r P → IfOk r Q
-for_ok P Q (Ok v) f h = f v h
-for_ok P Q (Err e) f h = tt
-
 pub for_err : {V E : Type 0} (P Q : E → Type 0) (r : Result V E) → ((e : E) → P e → Q e) → IfErr r P → IfErr r Q
 for_err P Q (Ok v) f h = tt
 for_err P Q (Err e) f h = f e h
-
-pub error_is : {V E : Type 0} (P : E → Type 0) (r : Result V E) (e : E) → r ≡ Err e → IfErr r P → P e
-error_is P r e is h = subst (λ q. IfErr q P) is h
 
 -- words that spell no command
 pub words_caused : (words : List (List ℕ)) (contents : List ℕ → Option (List ℕ)) (status : Status) → ((status ≡ Usage) × (command_of words ≡ None)) ⊎ (status ≡ NoMemory) → IsCaused words contents status

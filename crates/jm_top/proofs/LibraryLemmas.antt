@@ -109,10 +109,6 @@ pub all_ok : {V E : Type 0} (A B C D : Type 0) (r : Result V E) → (A → B →
 all_ok A B C D (Ok v) turn a b c = turn a b c
 all_ok A B C D (Err e) turn a b c = tt
 
-pub one_ok : {V E : Type 0} (A D : Type 0) (r : Result V E) → (A → D) → OnOk r A → OnOk r D
-one_ok A D (Ok v) turn a = turn a
-one_ok A D (Err e) turn a = tt
-
 -- ---- a turn of the loop, where the folder holds later what it held before
 
 module _ {S : Type 0} (make : List ℕ → Source) (g : S → List ℕ) (contents later : List ℕ → Option (List ℕ)) (same : (name : List ℕ) → later name ≡ contents name) (families : Bool) (xs : List S) (i : ℕ) (x : S) (lt : i < length xs) (here : x ≡ get_or xs i x) (name : List ℕ) (is : name ≡ g x) where

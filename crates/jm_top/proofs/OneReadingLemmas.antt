@@ -41,9 +41,6 @@ never_ok e = cc
 pub same_err : {X E : Type 0} {x y : E} → ◌≡◌ {A = Result X E} (Err x) (Err y) → x ≡ y
 same_err e = cc
 
-same_head : {X : Type 0} {x y : X} {xs ys : List X} → x ∷ xs ≡ y ∷ ys → x ≡ y
-same_head e = cc
-
 pub one_list : (bytes : List ℕ) (tokens other : List Token) → AreTokensOf bytes tokens → AreTokensOf bytes other → tokens ≡ other
 one_list bytes tokens other a b = same_ok (sym a.cut ∙ b.cut)
 

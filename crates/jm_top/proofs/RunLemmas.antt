@@ -77,9 +77,6 @@ module _ (library : Library) (scripts : Scripts) (catalogued : IsCatalogued libr
 
 -- ---- dispatchers
 
-pub no_watches : (objects seats : ℕ) → AreWatchesOf objects seats [] [] []
-no_watches objects seats = tt
-
 pub watches_more : (objects seats : ℕ) (ls : List Loaded) (watches : List (LockModel (Fixed CompiledRules))) (alls : List (List (SeatModel Entry (Fixed CompiledRules)))) (l : Loaded) (watch : LockModel (Fixed CompiledRules)) (all : List (SeatModel Entry (Fixed CompiledRules)))
     → AreWatchesOf objects seats ls watches alls → IsWatchOf objects seats l.rules watch all → AreWatchesOf objects seats (ls ++ l ∷ []) (watches ++ watch ∷ []) (alls ++ all ∷ [])
 watches_more objects seats [] [] [] l watch all h is = (is, tt)

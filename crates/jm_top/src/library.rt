@@ -52,9 +52,7 @@ impl Library {
     {
         let table = loaded.titles.table.copy()?;
         self.catalog.add(loaded.titles.name.as_str(), table)?;
-        let Ok(()) = self.specs.push(loaded) else {
-            return Err(SpecError::NoMemory);
-        };
+        self.specs.push(loaded)?;
         Ok(())
     }
 }

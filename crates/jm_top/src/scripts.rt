@@ -207,8 +207,6 @@ fn add(
         &mut scripts.objects,
         &mut scripts.count,
     )?;
-    let Ok(()) = scripts.list.push(script) else {
-        return Err(ScriptError::NoMemory);
-    };
+    scripts.list.push(script)?;
     Ok(())
 }

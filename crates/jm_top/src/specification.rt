@@ -114,9 +114,7 @@ fn names_of(alloc: Global, name: &str, handlers: &Names) -> Result<SpecNames, No
     ensures name { IfOk result (λ n. string_bytes n.name ≡ name.now) }
     ensures handlers { IfOk result (λ n. n.handlers ≡ handlers.now) }
 {
-    let Ok(owned) = String::from_str(alloc, name) else {
-        return Err(NoMemory);
-    };
+    let owned = String::from_str(alloc, name)?;
     let handlers = copy_of(alloc, handlers)?;
     Ok(SpecNames {
         name: owned,

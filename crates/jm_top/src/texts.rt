@@ -47,10 +47,7 @@ pub fn fault_text(alloc: Global, status: &Status) -> Result<Vec<u8>, NoMemory>
 fn bytes_of(alloc: Global, text: &str) -> Result<Vec<u8>, NoMemory>
     ensures { IfOk result (λ v. v.items ≡ text.now) }
 {
-    match Vec::from_slice(alloc, text.as_bytes()) {
-        Ok(bytes) => Ok(bytes),
-        Err(_) => Err(NoMemory),
-    }
+    Ok(Vec::from_slice(alloc, text.as_bytes())?)
 }
 
 /// The line on a file that couldn't be read.
@@ -58,10 +55,8 @@ fn unreadable(alloc: Global, file: u32) -> Result<Vec<u8>, NoMemory>
     ensures { IfOk result (λ v. v.items ≡ unreadable_line file) }
 {
     let number = u64::from(file) + 1;
-    match format!(in alloc; "jmop: file {number} cannot be read\n") {
-        Ok(text) => Ok(text.into_bytes()),
-        Err(_) => Err(NoMemory),
-    }
+    let text = format!(in alloc; "jmop: file {number} cannot be read\n")?;
+    Ok(text.into_bytes())
 }
 
 /// The line on a fault: what kind of file has it, its number from 0, the line in it and what the fault is called.
@@ -75,14 +70,11 @@ fn line_of(
     ensures { IfOk result (λ v. v.items ≡ fault_line kind.now number line words.now) }
 {
     let number = u64::from(number) + 1;
-    let made = match line {
-        Some(line) => format!(in alloc; "jmop: {kind} {number}, line {line}: {words}\n"),
-        None => format!(in alloc; "jmop: {kind} {number}: {words}\n"),
+    let text = match line {
+        Some(line) => format!(in alloc; "jmop: {kind} {number}, line {line}: {words}\n")?,
+        None => format!(in alloc; "jmop: {kind} {number}: {words}\n")?,
     };
-    match made {
-        Ok(text) => Ok(text.into_bytes()),
-        Err(_) => Err(NoMemory),
-    }
+    Ok(text.into_bytes())
 }
 
 fn counted_words(what: &Counted) -> &'static str

@@ -51,9 +51,7 @@ pub fn make_seats<V: Kept>(
     ensures len { IfOk result (λ all. vec_len all ≡ seats) }
     ensures seats { IfOk result (λ all. AreNewcomers (lock_over V.fixed_part table.now) all.items) }
 {
-    let Ok(mut all) = Vec::with_capacity(alloc, seats as usize) else {
-        return Err(NoMemory);
-    };
+    let mut all = Vec::with_capacity(alloc, seats as usize)?;
     for made in 0..seats - 1 {
         all.push_reserved(make_seat(table, &mut first));
     }

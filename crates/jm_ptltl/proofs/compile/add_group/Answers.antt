@@ -1,5 +1,5 @@
 use Rattle.jm_ptltl.specs.Vectors.{Says}
-use Rattle.jm_ptltl.proofs.PlaceLemmas.{members_within}
+use Rattle.jm_table.proofs.MemberLemmas.{members_within}
 use Rattle.std.proofs.Common.{ℕ, ◌↔◌, List, Contains, subst}
 use Rattle.jm_ptltl.proofs.compile.add_group.Goals as goal
 

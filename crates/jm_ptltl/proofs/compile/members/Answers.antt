@@ -2,7 +2,7 @@ use Rattle.std.proofs.Common.{ℕ, ◌+◌, List, sym, ap, subst, ◌∙◌}
 use Rattle.std.proofs.lemmas.Bool.{false≢true}
 use Rattle.std.proofs.lemmas.Option.{slice_get-get_or}
 use Rattle.jm_ptltl.specs.Vectors.{Says}
-use Rattle.jm_ptltl.proofs.PlaceLemmas.{ArePlaces, no_places, place_more, place_same, all_places}
+use Rattle.jm_table.proofs.MemberLemmas.{ArePlaces, no_places, place_more, place_same, all_places}
 use Rattle.jm_ptltl.proofs.compile.members.Goals as goal
 use Rattle.jm_ptltl.proofs.compile.members.Goals.{then-says+in_ok-push, else-says}
 

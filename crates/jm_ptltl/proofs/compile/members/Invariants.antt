@@ -1,5 +1,5 @@
 use Rattle.jm_ptltl.specs.Vectors.{Says}
-use Rattle.jm_ptltl.proofs.PlaceLemmas.{ArePlaces}
+use Rattle.jm_table.proofs.MemberLemmas.{ArePlaces}
 use Rattle.jm_ptltl.proofs.compile.members.Given as goal
 
 abbrev pub invariant-loop-state : goal.invariant-loop-state

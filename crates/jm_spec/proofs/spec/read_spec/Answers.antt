@@ -1,4 +1,4 @@
-use Rattle.std.proofs.Common.{◌≡◌, List, ℕ, Result, Ok, Err, IfOk, IfErr}
+use Rattle.std.proofs.Common.{List, ℕ, Result, Ok, Err, IfOk, IfErr}
 use Rattle.std.proofs.lemmas.Result.{err_from_is_err_and}
 use Rattle.jm_model.specs.declared.fault.SpecError.{SpecError}
 use Rattle.jm_model.specs.declared.fault.SpecError.TheVariants.{Bad, NoMemory}
@@ -8,7 +8,8 @@ use Rattle.jm_spec.specs.declared.frame.Frame.{Frame}
 use Rattle.jm_spec.specs.declared.tree.SpecTree.{SpecTree}
 use Rattle.jm_spec.specs.Faults.{frame_fault}
 use Rattle.jm_spec.specs.Spelling.{Spells}
-use Rattle.jm_spec.specs.Trees.{Checks, IsTreeOf, IsTreeOfTokens, IsFaultOfTokens, IsUnspelled}
+use Rattle.jm_reading.specs.Faults.{Checks}
+use Rattle.jm_spec.specs.Trees.{IsTreeOf, IsTreeOfTokens, IsFaultOfTokens, IsUnspelled}
 use Rattle.jm_spec.proofs.FaultLemmas.{refused_as}
 use Rattle.jm_spec.proofs.spec.read_spec.Goals as goal
 

@@ -11,5 +11,5 @@ returns-clause-target g c = λ d at.
       c.in_ok-target.target,
       ap (λ x. (g.G.Graph.meaning c.args.graph.now).step x c.args.letter.0) (sym same) ∙ c.in_ok-node.ensures,
       c.in_ok-target.ensures.here,
-      c.in-Ok.ensures.items ∙ ap (λ v. v.items ++ c.in_ok-target.target ∷ []) c.number.ensures.next,
+      c.in_ok-push.ensures.items ∙ ap (λ v. v.items ++ c.in_ok-target.target ∷ []) c.number.ensures.next,
     )

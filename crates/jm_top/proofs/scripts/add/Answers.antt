@@ -21,4 +21,4 @@ pub returns-clause-read : goal.returns-clause-read
 returns-clause-read c =
     let library = c.args.library.now in
     script_added (specs_in library) library.catalog c.requires.catalogued.catalog c.args.bytes.now c.requires.small c.args.scripts.now _ c.in_ok-script.script c.requires.counted c.in_ok-script.ensures.ok
-    c.in_ok-script.ensures.fitting c.in_ok-script.ensures.bounded.0 c.in_ok-script.ensures.bounded.1 c.in_ok-script.ensures.grown c.in-Ok.ensures.items
+    c.in_ok-script.ensures.fitting c.in_ok-script.ensures.bounded.0 c.in_ok-script.ensures.bounded.1 c.in_ok-script.ensures.grown c.in_ok-push.ensures.items

@@ -1,6 +1,6 @@
 use Rattle.std.proofs.Common.{ℕ, ◌↔◌, List, Contains, subst, ◌∙◌}
 use Rattle.jm_fsm.specs.Machines.{IsMember}
-use Rattle.jm_fsm.proofs.MachineLemmas.{members_within}
+use Rattle.jm_table.proofs.MemberLemmas.{members_within}
 use Rattle.jm_fsm.proofs.CompileLemmas.{group_more}
 use Rattle.jm_fsm.proofs.machine.Fsm.group.Goals as goal
 

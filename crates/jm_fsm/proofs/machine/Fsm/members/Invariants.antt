@@ -1,5 +1,5 @@
 use Rattle.jm_fsm.specs.Machines.{IsMember}
-use Rattle.jm_fsm.proofs.MachineLemmas.{ArePlaces}
+use Rattle.jm_table.proofs.MemberLemmas.{ArePlaces}
 use Rattle.jm_fsm.proofs.machine.Fsm.members.Given as goal
 
 abbrev pub invariant-loop-place : goal.invariant-loop-place

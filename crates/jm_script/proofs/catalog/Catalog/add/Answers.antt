@@ -9,19 +9,19 @@ returns-then-is_some-clause-accepted c =
     rw (← c.self.view_is, names-entries_of _ _ c.self.invariant.0)
     (λ none. absurd (is_there _ (ap is_some (sym c.find.ensures.value) ∙ sym c.is_some.ensures ∙ c.if-is_some.true) none))
 
-pub returns-in_default-clause-refused : goal.returns-in_default-clause-refused
-returns-in_default-clause-refused c =
+pub returns-in_err-reserve-clause-refused : goal.returns-in_err-reserve-clause-refused
+returns-in_err-reserve-clause-refused c =
     rw (← c.self.view_is, names-entries_of _ _ c.self.invariant.0)
     (λ some. absurd (is_not_there _ (ap is_some (sym c.find.ensures.value) ∙ sym c.is_some.ensures ∙ c.if-is_some.false) some))
 
-pub invariant_of-self-in-Ok-add : goal.invariant_of-self-in-Ok-add
-invariant_of-self-in-Ok-add c =
+pub invariant_of-self-2 : goal.invariant_of-self-2
+invariant_of-self-2 c =
     let none = not_some (number_of c.self.inside.names c.args.name.now) (ap is_some (sym c.find.ensures.value) ∙ sym c.is_some.ensures ∙ c.if-is_some.false) in
-    let pushed = c.in-Ok-add.ensures.ok ∙ with_name-new c.self.inside.names c.args.name.now none in
-    rw (pushed, c.in-Ok.ensures.items) (room_more _ _ _ _ c.self.invariant.0 (rw (← c.self.view_is) at c.requires))
+    let pushed = c.in_ok-add.ensures.ok ∙ with_name-new c.self.inside.names c.args.name.now none in
+    rw (pushed, c.push_reserved.ensures.items, c.reserve.ensures.items) (room_more _ _ _ _ c.self.invariant.0 (rw (← c.self.view_is) at c.requires))
 
-pub returns-in_default-add-clause-refused : goal.returns-in_default-add-clause-refused
-returns-in_default-add-clause-refused c =
+pub returns-in_err-add-clause-refused : goal.returns-in_err-add-clause-refused
+returns-in_err-add-clause-refused c =
     rw (← c.self.view_is, names-entries_of _ _ c.self.invariant.0)
     (λ some. absurd (is_not_there _ (ap is_some (sym c.find.ensures.value) ∙ sym c.is_some.ensures ∙ c.if-is_some.false) some))
 
@@ -36,5 +36,5 @@ returns-clause-number c = rw (← c.self.view_is, length-entries_of _ _ c.self.i
 pub returns-clause-ok : goal.returns-clause-ok
 returns-clause-ok c =
     let none = not_some (number_of c.self.inside.names c.args.name.now) (ap is_some (sym c.find.ensures.value) ∙ sym c.is_some.ensures ∙ c.if-is_some.false) in
-    let pushed = c.in-Ok-add.ensures.ok ∙ with_name-new c.self.inside.names c.args.name.now none in
-    rw (← c.self.view_is, pushed, c.in-Ok.ensures.items) (entries_of-push _ _ _ _ c.self.invariant.0)
+    let pushed = c.in_ok-add.ensures.ok ∙ with_name-new c.self.inside.names c.args.name.now none in
+    rw (← c.self.view_is, pushed, c.push_reserved.ensures.items, c.reserve.ensures.items) (entries_of-push _ _ _ _ c.self.invariant.0)

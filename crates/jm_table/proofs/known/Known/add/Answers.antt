@@ -12,7 +12,7 @@ returns-clause-here c =
     let old : get_or (map (λ b. b.items) buckets) at [] ≡ c.index_mut-bucket.result.now.items =
     get_or-map (λ b. b.items) buckets at c.index_mut-bucket.result.now [] lt ∙ ap (λ b. b.items) (sym c.index_mut-bucket.ensures.value) in
     rw (← c.self.view_is)
-    (written_here (λ b. b.items) buckets at c.push.new.self lt ∙ c.in-Ok.ensures.items ∙ ap (λ l. l ++ c.args.number ∷ []) (sym old))
+    (written_here (λ b. b.items) buckets at c.push.new.self lt ∙ c.in_ok-push.ensures.items ∙ ap (λ l. l ++ c.args.number ∷ []) (sym old))
 
 pub returns-clause-others : goal.returns-clause-others
 returns-clause-others c = λ q.
@@ -22,6 +22,6 @@ returns-clause-others c = λ q.
     let old : get_or (map (λ b. b.items) buckets) at [] ≡ c.index_mut-bucket.result.now.items =
     get_or-map (λ b. b.items) buckets at c.index_mut-bucket.result.now [] lt ∙ ap (λ b. b.items) (sym c.index_mut-bucket.ensures.value) in
     elim (cases_eq (q % 1024) at) [
-      | inl same ↦ inr (rw (← c.self.view_is, same) (written_here (λ b. b.items) buckets at c.push.new.self lt ∙ c.in-Ok.ensures.items ∙ ap (λ l. l ++ c.args.number ∷ []) (sym old)))
+      | inl same ↦ inr (rw (← c.self.view_is, same) (written_here (λ b. b.items) buckets at c.push.new.self lt ∙ c.in_ok-push.ensures.items ∙ ap (λ l. l ++ c.args.number ∷ []) (sym old)))
       | inr other ↦ inl (rw (← c.self.view_is) (written_elsewhere (λ b. b.items) buckets at c.push.new.self (q % 1024) other))
     ]

@@ -20,7 +20,7 @@ returns-clause-ok c =
     let t = c.self.inside in
     let members = c.loop-state.members in (
       members,
-      ap (λ (groups : List (List ℕ)). record { states = t.states; letters = t.letters; next = t.next.items; groups = groups }) c.in-Ok.ensures.items
+      ap (λ (groups : List (List ℕ)). record { states = t.states; letters = t.letters; next = t.next.items; groups = groups }) c.in_ok-push.ensures.items
           ∙ ap (λ (table : Transitions). record table { groups = table.groups ++ members ∷ [] }) c.self.view_is,
       λ s. subst (λ (l : List ℕ). Contains members s ↔ Contains l s) (take_all c.loop-state.state-index c.args.states.now c.loop-state-test.false) (c.loop-state.invariant s),
     )

@@ -8,7 +8,7 @@ use Rattle.jm_top.proofs.library.Library.add.Goals as goal
 
 pub returns-clause-catalogued : goal.returns-clause-catalogued
 returns-clause-catalogued c =
-    added c.args.self.now _ c.args.loaded c.requires.catalogued c.requires.whole c.in-Ok.ensures.items
+    added c.args.self.now _ c.args.loaded c.requires.catalogued c.requires.whole c.in_ok-push.ensures.items
     (c.in_ok-add.ensures.ok ∙ (λ i. c.args.self.now.catalog ++ record { name = c.as_str.ensures.value i; table = c.in_ok-table.ensures i } ∷ []))
 
 pub returns-clause-new_name : goal.returns-clause-new_name

@@ -3,7 +3,7 @@ use Rattle.std.proofs.lemmas.List.{length-map}
 use Rattle.jm_earley.specs.DeadSets.{AreDeadSets}
 use Rattle.jm_earley.specs.Charts.{AreBelow}
 use Rattle.jm_earley.proofs.SetLemmas.{still_below}
-use Rattle.jm_earley.proofs.chart.Charts.new.Goals as goal
+use Rattle.jm_earley.proofs.chart.Charts.of.Goals as goal
 
 pub invariant_of-result : goal.invariant_of-result
 invariant_of-result c =
@@ -11,7 +11,7 @@ invariant_of-result c =
       record {
         spell = c.in_ok-grammar.ensures.spell;
         letters = subst (λ (k : ℕ). AreBelow c.in_ok-grammar.grammar.productions k) (sym count)
-            (still_below c.args.grammar.productions c.in_ok-grammar.grammar.productions (length c.args.table.now.events) c.in_ok-grammar.ensures.kept c.requires);
+            (still_below c.args.grammar.now.productions c.in_ok-grammar.grammar.productions (length c.args.table.now.events) c.in_ok-grammar.ensures.kept c.requires);
         empty = c.productive-nullable.ensures;
       },
       subst (λ (params : List ℕ). AreDeadSets c.in_ok-grammar.grammar.productions params c.in_ok-dead.dead) c.as_slice.ensures.value c.in_ok-dead.ensures,

@@ -1,9 +1,0 @@
-use Rattle.std.proofs.Common.{sym, ◌∙◌, add-one}
-use Rattle.jm_ere.proofs.EventLemmas.{bad_event, good_event}
-use Rattle.jm_ere.proofs.faults.event_names.Goals as goal
-
-pub returns-then-is_grammar_word : goal.returns-then-is_grammar_word
-returns-then-is_grammar_word c = sym c.loop-letter.invariant ∙ bad_event c.args.table.now.events c.loop-letter.letter c.event_name.result.now c.event_line-line.result c.event_name.ensures c.event_line-line.ensures (sym c.if-is_grammar_word.ensures)
-
-pub loop-letter-preserved : goal.loop-letter-preserved
-loop-letter-preserved c = rw add-one (good_event c.args.table.now.events c.loop-letter.letter c.event_name.result.now c.event_name.ensures (sym c.if-is_grammar_word.ensures) ∙ c.loop-letter.invariant)

@@ -1,6 +1,0 @@
-use Rattle.std.proofs.Common.{◌≡◌, drop}
-use Rattle.jm_fsm.specs.Faults.{event_name_fault}
-use Rattle.jm_fsm.proofs.faults.event_names.Given as goal
-
-abbrev pub invariant-loop-letter : goal.invariant-loop-letter
-invariant-loop-letter l = event_name_fault (drop l.letter l.table.events) ≡ event_name_fault l.table.events
