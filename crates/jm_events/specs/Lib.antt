@@ -1,3 +1,5 @@
 pub mod Names
+pub mod Hashes
+pub mod Spans
 pub mod Events
 pub mod Rows

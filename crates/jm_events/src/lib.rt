@@ -2,6 +2,7 @@
 //! number is its place in the head; an event's number, its letter, is the place of its first mention.
 #![tactic(auto)]
 
+mod buckets;
 mod names;
 mod table;
 

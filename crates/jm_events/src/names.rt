@@ -1,35 +1,50 @@
-ghost use Rattle.std.specs.Prelude.{ℕ, ◌≡◌, ◌<◌, ◌-◌, ◌^◌, ◌↔◌, [], ◌∷◌, ◌++◌, length, Contains, Some, None, IsNone, IfSome, IfOk, OnOk, OnErr, slice_get};
+ghost use Rattle.std.specs.Prelude.{ℕ, ◌≡◌, ◌<◌, ◌-◌, ◌^◌, ◌↔◌, [], ◌∷◌, ◌++◌, length, Contains, Some, None, IsNone, IfSome, IfOk, OnOk, OnErr, slice_get, unwrap_or, IsUtf8};
 ghost use Rattle.std.specs.List.{IsDistinct};
 ghost use Rattle.std.specs.Str.{bytes_eq};
+ghost use Rattle.jm_events.specs.Hashes.{hash_of};
 ghost use Rattle.jm_events.specs.Names.{number_of, with_name};
 
-use indexmap::IndexSet;
+use crate::buckets::{Buckets, hash_of};
 use jm_model::NoMemory;
 use std::alloc::Global;
 use std::marker::Model;
+use std::str::from_utf8_unchecked;
+
+/// Where a name lies.
+#[derive(Clone, Copy)]
+struct Span {
+    start: usize,
+    end: usize,
+}
 
 /// Distinct texts in order of first mention. The number of a text is its place. Look-ups are by hash.
 pub struct Names {
-    set: IndexSet<String>,
+    /// The names, one behind the other.
+    bytes: Vec<u8>,
+    spans: Vec<Span>,
+    buckets: Buckets,
 }
 
 // Written out, so that a drop is one call wherever names are let go.
 impl Drop for Names {
     fn drop(self) {
-        let Names { set: _ } = self;
+        let Names {
+            bytes: _,
+            spans: _,
+            buckets: _,
+        } = self;
     }
 }
 
 impl Model for Names {
-    ghost use Rattle.std.specs.Prelude.{ℕ, List, map, string_bytes, length, ◌<◌, ◌^◌};
-    ghost use Rattle.std.specs.String.{string_eq};
-    ghost use Rattle.indexmap.specs.IndexSet.{IsUnique};
+    ghost use Rattle.std.specs.Prelude.{ℕ, List};
+    ghost use Rattle.jm_events.specs.Spans.{AreNames, names_at};
 
     ghost Value = { List (List ℕ) };
 
-    ghost view = { λ n. map string_bytes n.set.keys };
+    ghost view = { λ n. names_at n.bytes.items n.spans.items };
 
-    ghost invariant = { λ n. IsUnique string_eq n.set × (length n.set.keys < 2 ^ 32) };
+    ghost invariant = { λ n. AreNames n.bytes.items n.spans.items n.buckets.hashes };
 }
 
 impl Names {
@@ -38,7 +53,9 @@ impl Names {
         ensures { result ≡ [] }
     {
         Names {
-            set: IndexSet::new(alloc),
+            bytes: Vec::new(alloc),
+            spans: Vec::new(alloc),
+            buckets: Buckets::new(alloc),
         }
     }
 
@@ -49,9 +66,21 @@ impl Names {
         ensures number { IfOk result (λ number. slice_get self.new number ≡ Some name.now) }
         ensures err { OnErr result (self.new ≡ self.old) }
     {
-        match self.find(name) {
+        self.mention(name)
+    }
+
+    /// The same, by the names before it: the number that the name had, or that of the end.
+    pub fn mention(&mut self, name: &str) -> Result<u32, NoMemory>
+        requires { length self.old < 2 ^ 32 - 1 }
+        ensures ok { OnOk result (self.new ≡ with_name self.old name.now) }
+        ensures number { IfOk result (λ number. slice_get self.new number ≡ Some name.now) }
+        ensures place { IfOk result (λ number. number ≡ unwrap_or (number_of self.old name.now) (length self.old)) }
+        ensures err { OnErr result (self.new ≡ self.old) }
+    {
+        let hash = hash_of(name.as_bytes());
+        match self.find_hashed(name, hash) {
             Some(number) => Ok(number),
-            None => self.append(name),
+            None => self.append_hashed(name, hash),
         }
     }
 
@@ -63,13 +92,28 @@ impl Names {
         ensures number { IfOk result (λ number. number ≡ length self.old) }
         ensures err { OnErr result (self.new ≡ self.old) }
     {
-        let number = self.set.len() as u32;
-        let Ok(name) = String::from_str(*self.set.allocator(), name) else {
-            return Err(NoMemory);
+        self.append_hashed(name, hash_of(name.as_bytes()))
+    }
+
+    /// Adds a new name with its hash at the end.
+    fn append_hashed(&mut self, name: &str, hash: u32) -> Result<u32, NoMemory>
+        requires room { length self.old < 2 ^ 32 - 1 }
+        requires absent { number_of self.old name.now ≡ None }
+        requires hash { hash ≡ hash_of name.now }
+        ensures ok { OnOk result (self.new ≡ self.old ++ name.now ∷ []) }
+        ensures number { IfOk result (λ number. number ≡ length self.old) }
+        ensures err { OnErr result (self.new ≡ self.old) }
+    {
+        let number = self.spans.len() as u32;
+        self.bytes.reserve(name.len())?;
+        self.spans.reserve(1)?;
+        self.buckets.push(hash)?;
+        let start = self.bytes.len();
+        let Ok(()) = self.bytes.extend_from_slice(name.as_bytes()) else {
+            unreachable!()
         };
-        let Ok(_) = self.set.insert(name) else {
-            return Err(NoMemory);
-        };
+        let end = self.bytes.len();
+        self.spans.push_reserved(Span { start, end });
         Ok(number)
     }
 
@@ -81,10 +125,24 @@ impl Names {
         ensures within { IfSome result (λ number. number < length self.now) }
         ensures distinct { IsDistinct bytes_eq self.now }
     {
-        match self.set.get_index_of(name) {
-            Some(index) => Some(index as u32),
-            None => None,
+        self.find_hashed(name, hash_of(name.as_bytes()))
+    }
+
+    /// The number of a name with its hash, if it is there.
+    fn find_hashed(&self, name: &str, hash: u32) -> Option<u32>
+        requires { hash ≡ hash_of name.now }
+        ensures value { result ≡ number_of self.now name.now }
+        ensures distinct { IsDistinct bytes_eq self.now }
+    {
+        let mut at = self.buckets.newest(hash);
+        while at != 0 {
+            let number = at - 1;
+            if self.bytes_of(number) == name.as_bytes() {
+                return Some(number);
+            }
+            at = self.buckets.older(number);
         }
+        None
     }
 
     /// The name of a number.
@@ -92,7 +150,17 @@ impl Names {
         requires { number < length self.now }
         ensures { slice_get self.now number ≡ Some result.now }
     {
-        self.set.as_slice()[number as usize].as_str()
+        unsafe { from_utf8_unchecked(self.bytes_of(number)) }
+    }
+
+    /// The bytes of the name of a number.
+    fn bytes_of(&self, number: u32) -> &[u8]
+        requires { number < length self.now }
+        ensures value { slice_get self.now number ≡ Some result.now }
+        ensures text { IsUtf8 result.now }
+    {
+        let Span { start, end } = self.spans[number as usize];
+        &self.bytes[start..end]
     }
 
     /// How many names there are.
@@ -100,14 +168,14 @@ impl Names {
         ensures value { result ≡ length self.now }
         ensures distinct { IsDistinct bytes_eq self.now }
     {
-        self.set.len() as u32
+        self.spans.len() as u32
     }
 
     /// The same names.
     pub(crate) fn copy(&self) -> Result<Names, NoMemory>
         ensures { IfOk result (λ names. names ≡ self.now) }
     {
-        let mut copy = Names::new(*self.set.allocator());
+        let mut copy = Names::new(*self.bytes.allocator());
         for number in 0..self.len() {
             copy.append(self.name(number))?;
         }
