@@ -1,4 +1,4 @@
-ghost use Rattle.std.specs.Prelude.{ℕ, ◌≡◌, ◌<◌, ◌-◌, ◌^◌, ◌↔◌, [], ◌∷◌, ◌++◌, length, Contains, Some, None, IsNone, IfSome, IfOk, OnOk, OnErr, slice_get};
+ghost use Rattle.std.specs.Prelude.{ℕ, ◌≡◌, ◌<◌, ◌-◌, ◌^◌, ◌↔◌, [], ◌∷◌, ◌++◌, length, Contains, Some, None, IsNone, IfSome, IfOk, OnOk, OnErr, slice_get, unwrap_or};
 ghost use Rattle.std.specs.List.{IsDistinct};
 ghost use Rattle.std.specs.Str.{bytes_eq};
 ghost use Rattle.jm_events.specs.Names.{number_of, with_name};
@@ -42,11 +42,12 @@ impl Names {
         }
     }
 
-    /// The number of a name, which is added if it is new.
+    /// The number of a name, which is added at the end if it is new.
     pub fn add(&mut self, name: &str) -> Result<u32, NoMemory>
         requires { length self.old < 2 ^ 32 - 1 }
         ensures ok { OnOk result (self.new ≡ with_name self.old name.now) }
         ensures number { IfOk result (λ number. slice_get self.new number ≡ Some name.now) }
+        ensures place { IfOk result (λ number. number ≡ unwrap_or (number_of self.old name.now) (length self.old)) }
         ensures err { OnErr result (self.new ≡ self.old) }
     {
         match self.find(name) {

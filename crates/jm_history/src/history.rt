@@ -1,4 +1,5 @@
 ghost use Rattle.std.specs.Prelude.{◌≡◌, ◌%◌, ◌^◌, [], ◌∷◌, ◌++◌, length, map, reverse, IfOk, OnOk};
+ghost use Rattle.jm_history.specs.Chains.{rows_of};
 ghost use Rattle.jm_history.specs.Nodes.{answered};
 
 use crate::chain::Chain;
@@ -77,7 +78,7 @@ impl History {
     pub fn entries(&self, alloc: Global) -> Result<Vec<&Entry>, NoMemory>
         ensures { IfOk result (λ entries. map (λ entry. entry.now) entries.items ≡ self.now) }
     {
-        let mut entries = Vec::new(alloc);
+        let mut entries = Vec::with_capacity(alloc, self.count as usize)?;
         let mut rest = &self.newest;
         while let Chain::Link(entry, older) = rest {
             if entries.push(entry).is_err() {
@@ -87,7 +88,7 @@ impl History {
         }
         match rest {
             Chain::End => {}
-            Chain::Row(row) => add_backwards(row.as_slice(), &mut entries)?,
+            Chain::Rows(full, last) => add_rows(full.as_slice(), last.as_slice(), &mut entries)?,
             Chain::Link(_, _) => unreachable!(),
         }
         entries.reverse();
@@ -107,6 +108,24 @@ impl History {
         }
         Ok(entries)
     }
+}
+
+/// Adds the entries of rows that are full and of the last one, the newest first.
+fn add_rows<'a>(
+    full: &'a [Vec<Entry>],
+    last: &'a [Entry],
+    entries: &mut Vec<&'a Entry>,
+) -> Result<(), NoMemory>
+    ensures { OnOk result (map (λ entry. entry.now) entries.new.items
+        ≡ map (λ entry. entry.now) entries.old.items ++ reverse (rows_of full.now last.now)) }
+{
+    add_backwards(last, entries)?;
+    let mut i = full.len();
+    while i > 0 {
+        i -= 1;
+        add_backwards(full[i].as_slice(), entries)?;
+    }
+    Ok(())
 }
 
 /// Adds the entries of a row, the newest first.

@@ -72,7 +72,18 @@ mask-none p b h at some none = some (ap mask_of (next_place b p None h at) ∙ o
 pub written_pair : (lead pair page rest all : List ℕ) → page ++ (lead ++ pair ++ rest) ≡ all → page ++ lead ++ pair ++ rest ≡ all
 written_pair lead pair page rest all h = simp append_assoc (simp append_assoc at h)
 
--- nothing is to come behind the last place, if some pair was written
-pub at_end : (first : Bool) (l : Lexicon) (p : ℕ) (b : Binding) (page all : List ℕ) → length b ≤ p → (first ≡ true → mask_of (drop p b) ≢ 0) → page ++ rest_text first l p (drop p b) ≡ all → page ≡ all
-at_end true l p b page all h some so_far = absurd (some refl (ap mask_of (drop_all p b h)))
-at_end false l p b page all h some so_far = sym (append-nil page) ∙ ap (λ d. page ++ later_pairs_text l p d) (sym (drop_all p b h)) ∙ so_far
+-- no parameter past those that have names is bound
+past_names : (l : Lexicon) (p : ℕ) (b : Binding) → length l.parameters ≤ p → HasNamesFrom l p b → mask_of b ≡ 0
+past_names l p [] past names = refl
+past_names l p (None ∷ b) past names = omega (arith, past_names l (p + 1) b (omega (arith, past)) names)
+past_names l p (Some o ∷ b) past names = absurd (omega (arith, past, names.0))
+
+none_later : (l : Lexicon) (p : ℕ) (b : Binding) → length l.parameters ≤ p → HasNamesFrom l p b → later_pairs_text l p b ≡ []
+none_later l p [] past names = refl
+none_later l p (None ∷ b) past names = none_later l (p + 1) b (omega (arith, past)) names
+none_later l p (Some o ∷ b) past names = absurd (omega (arith, past, names.0))
+
+-- nothing is to come behind the last parameter, if some pair was written
+pub at_end : (first : Bool) (l : Lexicon) (p : ℕ) (b : Binding) (page all : List ℕ) → length l.parameters ≤ p → HasNamesFrom l p (drop p b) → (first ≡ true → mask_of (drop p b) ≢ 0) → page ++ rest_text first l p (drop p b) ≡ all → page ≡ all
+at_end true l p b page all past names some so_far = absurd (some refl (past_names l p (drop p b) past names))
+at_end false l p b page all past names some so_far = sym (append-nil page) ∙ ap (λ t. page ++ t) (sym (none_later l p (drop p b) past names)) ∙ so_far

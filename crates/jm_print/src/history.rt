@@ -15,6 +15,9 @@ use jm_model::{Binding, Firing, Firings, Letter, NoMemory, Outcome, Step};
 use std::alloc::Global;
 use std::marker::Model;
 
+/// More bytes than the text of most entries has. Room that no text takes is never touched.
+const ENTRY: usize = 64;
+
 /// The names that a history is printed with, and what the handlers print.
 #[derive(Drop)]
 struct Printer<'a> {
@@ -61,6 +64,7 @@ pub fn render_history(
     };
     let entries = history.entries(alloc)?;
     let mut page = Page::new(alloc);
+    page.make_room(entries.len().saturating_mul(ENTRY));
     page.text("spec ")?;
     page.text(name)?;
     page.byte(b'\n')?;
@@ -242,7 +246,7 @@ impl Printer<'_> {
             return page.byte(b'-');
         }
         let mut first = true;
-        for p in 0..8 {
+        for p in 0..self.table.params() {
             if let Some(object) = binding.get(p) {
                 self.pair(page, first, p, object)?;
                 first = false;

@@ -29,6 +29,13 @@ impl Page {
         }
     }
 
+    /// Makes room for so many bytes more, if there is memory.
+    pub(crate) fn make_room(&mut self, bytes: usize)
+        ensures { self.new ≡ self.old }
+    {
+        let _ = self.bytes.reserve(bytes);
+    }
+
     /// Writes a text.
     pub(crate) fn text(&mut self, text: &str) -> Result<(), NoMemory>
         ensures { OnOk result (self.new ≡ self.old ++ text.now) }

@@ -1,8 +1,7 @@
 -- Targets fit the specifications and the names that there are.
-use Rattle.std.proofs.Common.{◌≡◌, ℕ, suc, ◌<◌, ◌≤◌, Bool, true, false, cond, List, [], ◌∷◌, ◌++◌, map, filter, take, drop, length, get_or, refl, sym, ap, ◌∙◌, arith}
-use Rattle.std.specs.Prelude.{All, ◌==◌}
+use Rattle.std.proofs.Common.{◌≡◌, ℕ, suc, ◌<◌, ◌≤◌, Bool, true, false, cond, List, [], ◌∷◌, ◌++◌, map, filter, take, length, get_or, refl, sym, subst, arith}
+use Rattle.std.specs.Prelude.{All, ◌==◌, Result, Ok, Err, IfOk}
 use Rattle.std.proofs.lemmas.Bool.Decides.{nat_tests}
-use Rattle.std.proofs.lemmas.List.{drop_all}
 use Rattle.std.proofs.lemmas.List.Elements.{All-nil, All-cons, All-head, All-tail, All-weaker}
 use Rattle.jm_model.specs.Bindings.{objects_of}
 use Rattle.jm_events.specs.Names.{with_name}
@@ -76,13 +75,19 @@ projection_fits catalog names spec (l ∷ ls) h = by_case (is_for spec (spec_of 
     by_case true e rest = All-cons (λ (s : ℕ × Step). FitsSpecification catalog names spec s.1) (l.line, step_of l.target) (projection_of (script_of ls) spec) (step_fits catalog names spec l.target e (All-head (λ l. FitsTarget catalog names l.target) l ls h)) rest
     by_case false e rest = rest
 
-append_none : {A : Type 0} (xs : List A) → xs ++ [] ≡ xs
-append_none [] = refl
-append_none (x ∷ xs) = ap (λ rest. x ∷ rest) (append_none xs)
+-- also those of a front of it
+fit_front : (P : ℕ × Step → Type 0) (xs ys : List (ℕ × Step)) → All P (xs ++ ys) → All P xs
+fit_front P [] ys all = All-nil P
+fit_front P (x ∷ xs) ys all = All-cons P x xs (All-head P x (xs ++ ys) all) (fit_front P xs ys (All-tail P x (xs ++ ys) all))
 
--- also as they are listed: no line is left
-pub projected_fits : (catalog : List CatalogEntry) (names spec : ℕ) (ls : List ScriptLine) (steps : List (ℕ × Step)) (i : ℕ) → length ls ≤ i → steps ++ projection_of (script_of (drop i ls)) spec ≡ projection_of (script_of ls) spec → FitsCatalog catalog names ls → All (λ (s : ℕ × Step). FitsSpecification catalog names spec s.1) steps
-projected_fits catalog names spec ls steps i all e h =
-    let none : drop i ls ≡ [] = drop_all i ls all in
-    let whole : steps ≡ projection_of (script_of ls) spec = sym (append_none steps) ∙ (rw none at e) in
-    rw whole (projection_fits catalog names spec ls h)
+pub projected_fits : (catalog : List CatalogEntry) (names spec : ℕ) (ls : List ScriptLine) (steps rest : List (ℕ × Step)) → steps ++ rest ≡ projection_of (script_of ls) spec → FitsCatalog catalog names ls → All (λ (s : ℕ × Step). FitsSpecification catalog names spec s.1) steps
+projected_fits catalog names spec ls steps rest e h =
+    let P : ℕ × Step → Type 0 = λ s. FitsSpecification catalog names spec s.1 in
+    fit_front P steps rest (subst (All P) (sym e) (projection_fits catalog names spec ls h))
+
+-- also as a call gives them, if it does
+pub made_fits : {T E : Type 0} (items : T → List (ℕ × Step)) (catalog : List CatalogEntry) (names spec : ℕ) (ls lines : List ScriptLine) → ls ≡ lines → (r : Result T E) → IfOk r (λ steps. items steps ≡ projection_of (script_of ls) spec) → FitsCatalog catalog names lines
+    → IfOk r (λ steps. All (λ (s : ℕ × Step). FitsSpecification catalog names spec s.1) (items steps))
+made_fits items catalog names spec ls lines same (Ok steps) e h =
+    subst (All (λ (s : ℕ × Step). FitsSpecification catalog names spec s.1)) (sym e) (projection_fits catalog names spec ls (subst (FitsCatalog catalog names) (sym same) h))
+made_fits items catalog names spec ls lines same (Err x) e h = tt

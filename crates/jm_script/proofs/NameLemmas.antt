@@ -1,5 +1,5 @@
 -- Names in order of first mention.
-use Rattle.std.proofs.Common.{ℕ, zero, suc, ◌≡◌, ◌<◌, ◌+◌, Bool, true, false, cond, not, ltb, ◌||◌, List, [], ◌∷◌, ◌++◌, length, slice_get, position, Option, Some, None, option_map, is_some, IsSome, refl, sym, ap, ◌∙◌, arith}
+use Rattle.std.proofs.Common.{ℕ, zero, suc, ◌≡◌, ◌<◌, ◌+◌, Bool, true, false, cond, not, ltb, ◌||◌, List, [], ◌∷◌, ◌++◌, length, slice_get, position, Option, Some, None, option_map, is_some, IsSome, unwrap_or, refl, sym, ap, ◌∙◌, arith}
 use Rattle.std.specs.List.{list_any, position_or_len}
 use Rattle.std.specs.Str.{bytes_eq}
 use Rattle.std.proofs.lemmas.Bool.{false≢true}
@@ -111,3 +111,9 @@ is_not_there (Some k) e some = false≢true (sym e)
 pub not_some : (o : Option ℕ) → is_some o ≡ false → o ≡ None
 not_some None e = refl
 not_some (Some k) e = absurd (false≢true (sym e))
+
+-- and of one that is mentioned
+pub number-mentioned : (names new : List (List ℕ)) (name : List ℕ) (o : Option ℕ) → o ≡ number_of names name → (k : ℕ) → new ≡ with_name names name → slice_get new k ≡ Some name → k ≡ unwrap_or (number_of names name) (length names)
+    → k ≡ number_at_mention names name
+number-mentioned names new name None e k known at place = number-new names new name k (sym e) known at
+number-mentioned names new name (Some n) e k known at place = place ∙ ap (λ o. unwrap_or o (length names)) (sym e) ∙ number-known names name n (sym e)

@@ -1,6 +1,6 @@
 -- Mentions of objects, one after another.
 use Rattle.std.proofs.Common.{◌≡◌, ℕ, zero, suc, ◌<◌, ◌≤◌, ◌+◌, ◌-◌, Bool, true, false, ◌||◌, cond, List, [], ◌∷◌, ◌++◌, map, length, get_or, drop, take, Option, Some, None, is_some, Result, Ok, Err, OnOk, IfOk, IsTrue, slice_get, refl, sym, ap, ◌∙◌, append_assoc, arith, length-append}
-use Rattle.std.specs.Prelude.{nat_le}
+use Rattle.std.specs.Prelude.{nat_le, unwrap_or}
 use Rattle.std.proofs.lemmas.Bool.Decides.{nat_tests}
 use Rattle.jm_model.specs.declared.step.NoMemory.{NoMemory}
 use Rattle.std.specs.List.{list_all, list_any}
@@ -11,7 +11,7 @@ use Rattle.std.proofs.lemmas.List.Folds.{list_any-append}
 use Rattle.jm_events.specs.Names.{number_of, with_name}
 use Rattle.jm_script.specs.Objects.{mentioned, number_at_mention, numbers_of, IsExtension}
 use Rattle.jm_script.specs.Statements.{is_object}
-use Rattle.jm_script.proofs.NameLemmas.{list_any-number_of, number-new}
+use Rattle.jm_script.proofs.NameLemmas.{list_any-number_of, number-mentioned}
 use Rattle.jm_script.proofs.WordLemmas.{both_left, both_right}
 
 -- the texts of words
@@ -100,10 +100,11 @@ with_name-before names new name k e =
     let among : list_any (bytes_eq name) (names ++ new) ≡ true = list_any-append (bytes_eq name) names new ∙ ap (λ b. b || list_any (bytes_eq name) new) known in
     rw among refl
 
--- the number of a new name
-pub number_of_new : (r : Result ℕ NoMemory) (names new : List (List ℕ)) (name : List ℕ) → None ≡ number_of names name → OnOk r (new ≡ with_name names name) → IfOk r (λ n. slice_get new n ≡ Some name) → IfOk r (λ n. n ≡ number_at_mention names name)
-number_of_new (Ok n) names new name none known at = number-new names new name n (sym none) known at
-number_of_new (Err e) names new name none known at = tt
+-- the number of a name that is mentioned
+pub number_of_mentioned : (r : Result ℕ NoMemory) (names new : List (List ℕ)) (name : List ℕ) → OnOk r (new ≡ with_name names name) → IfOk r (λ n. slice_get new n ≡ Some name)
+    → IfOk r (λ n. n ≡ unwrap_or (number_of names name) (length names)) → IfOk r (λ n. n ≡ number_at_mention names name)
+number_of_mentioned (Ok n) names new name known at place = number-mentioned names new name (number_of names name) refl n known at place
+number_of_mentioned (Err e) names new name known at place = tt
 
 -- one mention more
 pub numbered_more : (taken : List ℕ) (names : List (List ℕ)) (word : List ℕ) (words : List (List ℕ)) (whole : List ℕ) (number : ℕ) → number ≡ number_at_mention names word → taken ++ numbers_of names (word ∷ words) ≡ whole → (taken ++ number ∷ []) ++ numbers_of (with_name names word) words ≡ whole

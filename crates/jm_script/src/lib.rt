@@ -18,4 +18,4 @@ mod words;
 pub use catalog::Catalog;
 pub use laws::one_reading;
 pub use reader::read_script;
-pub use script::{Script, ScriptLine, Target, project};
+pub use script::{Script, ScriptLine, Target, project, project_in_blocks};

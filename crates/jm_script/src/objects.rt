@@ -80,9 +80,5 @@ fn mention_one(object: &[u8], names: &mut Names) -> Result<u32, NoMemory>
     ensures number { IfOk result (λ number. number ≡ number_at_mention names.old object.now) }
     ensures err { OnErr result (names.new ≡ names.old) }
 {
-    let name = text(object);
-    match names.find(name) {
-        Some(number) => Ok(number),
-        None => names.add(name),
-    }
+    names.add(text(object))
 }

@@ -1,13 +1,16 @@
 //! A script that was read, and its projections.
 ghost use Rattle.std.specs.Prelude.{◌≡◌, ℕ, List, All, IfOk, Some, None, if◌then◌else◌};
 ghost use Rattle.jm_semantics.specs.Scripts.{projection_of, is_for};
-ghost use Rattle.jm_script.specs.Projections.{script_of, spec_of, step_of};
+ghost use Rattle.jm_script.specs.Projections.{script_of, spec_of, step_of, steps_in};
 ghost use Rattle.jm_script.specs.Catalogs.{CatalogEntry};
 ghost use Rattle.jm_script.specs.Fitting.{FitsCatalog, FitsSpecification};
 
 use jm_model::{Binding, Letter, NoMemory, Step};
 use std::alloc::Global;
 use std::marker::Model;
+
+/// How many steps a block has at most.
+const BLOCK: usize = 512;
 
 /// What a line does: an event of a specification or a disposal pass on one, or the death of an object, which is for all
 /// specifications.
@@ -87,8 +90,43 @@ pub fn project(alloc: Global, script: &Script, spec: u8) -> Result<Vec<(u32, Ste
     ensures value { IfOk result (λ steps. steps.items ≡ projection_of (script_of script.now) spec) }
     ensures fitting { (catalog : List CatalogEntry) (names : ℕ) → FitsCatalog catalog names script.now → IfOk result (λ steps. All (λ s. FitsSpecification catalog names spec s.1) steps.items) }
 {
-    let mut steps = Vec::new(alloc);
-    for line in script.lines() {
+    project_lines(alloc, script.lines(), spec)
+}
+
+/// The same in blocks of not many steps, which can be let go one by one.
+pub fn project_in_blocks(
+    alloc: Global,
+    script: &Script,
+    spec: u8,
+) -> Result<Vec<Vec<(u32, Step)>>, NoMemory>
+    ensures value { IfOk result (λ blocks. steps_in blocks.items ≡ projection_of (script_of script.now) spec) }
+    ensures fitting { (catalog : List CatalogEntry) (names : ℕ) → FitsCatalog catalog names script.now → IfOk result (λ blocks. All (λ s. FitsSpecification catalog names spec s.1) (steps_in blocks.items)) }
+{
+    let mut blocks = Vec::new(alloc);
+    let mut rest = script.lines();
+    while !rest.is_empty() {
+        let (front, behind) = rest.split_at(rest.len().min(BLOCK));
+        let block = project_lines(alloc, front, spec)?;
+        let Ok(()) = blocks.push(block) else {
+            return Err(NoMemory);
+        };
+        rest = behind;
+    }
+    Ok(blocks)
+}
+
+/// The steps of these lines that are for a specification.
+fn project_lines(
+    alloc: Global,
+    lines: &[ScriptLine],
+    spec: u8,
+) -> Result<Vec<(u32, Step)>, NoMemory>
+    ensures { IfOk result (λ steps. steps.items ≡ projection_of (script_of lines.now) spec) }
+{
+    let Ok(mut steps) = Vec::with_capacity(alloc, lines.len()) else {
+        return Err(NoMemory);
+    };
+    for line in lines {
         let Some(step) = line.target.step_for(spec) else {
             continue;
         };

@@ -1,9 +1,9 @@
-use Rattle.std.proofs.Common.{◌≡◌, ◌++◌, [], map, List, sym, ◌∙◌, ap, append-nil}
+use Rattle.std.proofs.Common.{◌≡◌, ◌++◌, map, sym, ◌∙◌, ap, append-nil}
 use Rattle.std.specs.Prelude.{reverse}
-use Rattle.jm_history.specs.Chains.{newest_first}
+use Rattle.jm_history.specs.Chains.{rows_of, newest_first}
 use Rattle.jm_history.proofs.ReverseLemmas.{map-reverse}
 use Rattle.jm_history.proofs.history.History.entries.Goals as goal
-use Rattle.jm_history.proofs.history.History.entries.Goals.{in-End, in-Row+in_ok-add_backwards-in-Row}
+use Rattle.jm_history.proofs.history.History.entries.Goals.{in-End, in-Rows+in_ok-add_rows-in-Rows}
 
 pub returns : goal.returns
 returns c =
@@ -12,9 +12,12 @@ returns c =
       | in-End w ↦
           ap (λ v. map (λ entry. entry.now) v.items) w.entries-is
           ∙ sym (append-nil lent) ∙ ap (λ older. lent ++ newest_first older) (sym w.in-End.is)
-      | in-Row+in_ok-add_backwards-in-Row w ↦
+      | in-Rows+in_ok-add_rows-in-Rows w ↦
           ap (λ v. map (λ entry. entry.now) v.items) w.entries-is
-          ∙ w.in_ok-add_backwards-in-Row.ensures ∙ ap (λ row. lent ++ reverse row) w.as_slice.ensures.value ∙ ap (λ older. lent ++ newest_first older) (sym w.in-Row.is)
+          ∙ w.in_ok-add_rows-in-Rows.ensures
+          ∙ ap (λ full. lent ++ reverse (rows_of full w.as_slice-in-Rows.result.now)) w.as_slice.ensures.value
+          ∙ ap (λ last. lent ++ reverse (rows_of w.in-Rows.full.items last)) w.as_slice-in-Rows.ensures.value
+          ∙ ap (λ older. lent ++ newest_first older) (sym w.in-Rows.is)
     ] in
     ap (map (λ entry. entry.now)) c.reverse.ensures.items
     ∙ map-reverse (λ entry. entry.now) c.match-rest-2.entries.items

@@ -1,6 +1,7 @@
 use Rattle.std.proofs.Common.{◌≡◌, ◌<◌, ◌++◌, ◌+◌, List, ℕ, false, length, drop, sym, ◌∙◌, ap, subst, arith}
 use Rattle.std.specs.Prelude.{OnOk, codes, if◌then◌else◌, []}
 use mathlib.Core.Bool.{true≢false}
+use Rattle.jm_print.specs.Lexicons.{Lexicon}
 use Rattle.jm_print.specs.Texts.{binding_text, pair_text}
 use Rattle.jm_print.proofs.PairLemmas.{rest_text, rest_text-none, rest_text-some, names-next, names-here, unbound_text, mask-none, written_pair, at_end}
 use Rattle.jm_print.proofs.history.Printer.binding.Goals as goal
@@ -15,7 +16,7 @@ returns-then-mask-eq0 c =
 pub pair-requires : goal.pair-requires
 pair-requires c =
     let b = c.args.binding.now in
-    names-here c.args.self.now c.loop-p.p c.in-Some.object b (omega (arith, c.mask.ensures.eight)) (sym c.get.ensures ∙ c.in-Some.is) c.loop-p.invariant.names
+    names-here c.args.self.now c.loop-p.p c.in-Some.object b (omega (arith, c.mask.ensures.eight, c.params-p-end.ensures.few)) (sym c.get.ensures ∙ c.in-Some.is) c.loop-p.invariant.names
 
 pub loop-p-preserved : goal.loop-p-preserved
 loop-p-preserved c =
@@ -23,7 +24,7 @@ loop-p-preserved c =
     let b = c.args.binding.now in
     let p = c.loop-p.p in
     let all = c.args.page.now ++ binding_text l b in
-    let within : p < length b = omega (arith, c.mask.ensures.eight) in
+    let within : p < length b = omega (arith, c.mask.ensures.eight, c.params-p-end.ensures.few) in
     let later = drop (p + 1) b in
     elim c.match-get.branch [
       | in-Some+in_ok-pair w ↦
@@ -50,5 +51,6 @@ loop-p-preserved c =
 
 pub returns : goal.returns
 returns c =
+    let many : length c.self.inside.table.now.parameters ≡ length c.args.self.now.parameters = ap (λ (l : Lexicon). length l.parameters) c.self.view_is in
     at_end c.loop-p.first c.args.self.now c.loop-p.p c.args.binding.now c.loop-p.page (c.args.page.now ++ binding_text c.args.self.now c.args.binding.now)
-    (omega (arith, c.mask.ensures.eight)) c.loop-p.invariant.some c.loop-p.invariant.so_far
+    (omega (arith, many, c.params-p-end.ensures.value, c.loop-p-test.false)) c.loop-p.invariant.names c.loop-p.invariant.some c.loop-p.invariant.so_far
