@@ -8,7 +8,7 @@ ghost use Rattle.jm_core.specs.Replays.{Replayed, ReplayedInPart};
 
 use crate::firing::perform;
 use crate::rest::Rest;
-use jm_history::{History, Node};
+use jm_history::{History, Node, Spare};
 use jm_model::{Binding, Monitor, NoMemory, Outcome, Step};
 use jm_objects::Objects;
 use jm_store::Store;
@@ -77,6 +77,17 @@ impl<M: Monitor> Prop<M> {
         ensures legal { IsLegal (M.meaning self.new.definition) self.new.entries }
         ensures fits { FitsHistory (M.meaning self.new.definition) self.new.entries self.new.stored self.new.marks }
     {
+        self.do_event(node, &mut Spare::none())
+    }
+
+    /// The same. The link that the entry doesn't take is spare then.
+    fn do_event(&mut self, node: Node, spare: &mut Spare) -> Outcome
+        requires { IsEventOf (M.meaning self.old.definition) self.old.objects node.step }
+        ensures added { IsExtended self.old self.new (answered node result ∷ []) }
+        ensures memory { KeepsMemoryUnlessFired result self.old self.new }
+        ensures legal { IsLegal (M.meaning self.new.definition) self.new.entries }
+        ensures fits { FitsHistory (M.meaning self.new.definition) self.new.entries self.new.stored self.new.marks }
+    {
         let Step::Event { letter, binding } = node.step() else {
             unreachable!()
         };
@@ -89,7 +100,7 @@ impl<M: Monitor> Prop<M> {
             *letter,
             binding,
         );
-        self.history.push(node, copy);
+        self.history.push_sparing(node, copy, spare);
         outcome
     }
 
@@ -139,11 +150,12 @@ impl<M: Monitor> Prop<M> {
         ensures fits { FitsHistory (M.meaning self.new.definition) self.new.entries self.new.stored self.new.marks }
     {
         let alloc = self.alloc;
+        let mut spare = Spare::none();
         for (line, step) in steps {
-            let Ok(node) = self.node(alloc, caller, *line, *step) else {
+            let Ok(node) = self.node(alloc, caller, *line, *step, &mut spare) else {
                 return Err(NoMemory);
             };
-            if let Outcome::NoMemory = self.step(node) {
+            if let Outcome::NoMemory = self.step(node, &mut spare) {
                 return Err(NoMemory);
             }
         }
@@ -151,22 +163,29 @@ impl<M: Monitor> Prop<M> {
     }
 
     /// A step that is not recorded yet, with the memory that its entry takes.
-    fn node(&mut self, alloc: Global, caller: u32, line: u32, step: Step) -> Result<Node, NoMemory>
+    fn node(
+        &mut self,
+        alloc: Global,
+        caller: u32,
+        line: u32,
+        step: Step,
+        spare: &mut Spare,
+    ) -> Result<Node, NoMemory>
         ensures same { self.new ≡ self.old }
         ensures node { IfOk result (λ node. node ≡ record { caller = caller; line = line; step = step }) }
     {
-        self.history.node(alloc, caller, line, step)
+        self.history.node(alloc, caller, line, step, spare)
     }
 
     /// Does a step, and records it with the outcome that it answers.
-    fn step(&mut self, node: Node) -> Outcome
+    fn step(&mut self, node: Node, spare: &mut Spare) -> Outcome
         requires { IsFitStep (M.meaning self.old.definition) self.old.objects node.step }
         ensures added { IsExtended self.old self.new (answered node result ∷ []) }
         ensures legal { IsLegal (M.meaning self.new.definition) self.new.entries }
         ensures fits { FitsHistory (M.meaning self.new.definition) self.new.entries self.new.stored self.new.marks }
     {
         match node.step() {
-            Step::Event { .. } => self.event(node),
+            Step::Event { .. } => self.do_event(node, spare),
             Step::Death { .. } => self.death(node),
             Step::Pass => self.pass(node),
         }

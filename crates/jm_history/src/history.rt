@@ -3,7 +3,7 @@ ghost use Rattle.jm_history.specs.Chains.{rows_of};
 ghost use Rattle.jm_history.specs.Nodes.{answered};
 
 use crate::chain::Chain;
-use crate::node::Node;
+use crate::node::{Node, Spare};
 use jm_model::{Entry, NoMemory, Outcome, Step};
 use std::alloc::Global;
 use std::marker::Model;
@@ -47,29 +47,40 @@ impl History {
     }
 
     /// A step of a caller, at a line of its script, as `Node::new` makes it. Where it can, it makes room for the entry in a
-    /// row of entries, which takes less memory than a link.
+    /// row of entries, which takes less memory than a link. The node has the link that is spare, if one is.
     pub fn node(
         &mut self,
         alloc: Global,
         caller: u32,
         line: u32,
         step: Step,
+        spare: &mut Spare,
     ) -> Result<Node, NoMemory>
         ensures same { self.new ≡ self.old }
         ensures node { IfOk result (λ node. node ≡ record { caller = caller; line = line; step = step }) }
     {
         self.newest.make_room(alloc);
-        Node::new(alloc, caller, line, step)
+        spare.node(alloc, caller, line, step)
     }
 
     /// Adds an entry at the end. It takes no memory: the node brings its own.
     pub fn push(&mut self, node: Node, outcome: Outcome)
         ensures { self.new ≡ self.old ++ answered node outcome ∷ [] }
     {
+        self.push_sparing(node, outcome, &mut Spare::none());
+    }
+
+    /// Adds an entry at the end, as `push` does, and keeps the node's link as a spare one where the entry goes into a row.
+    pub fn push_sparing(&mut self, node: Node, outcome: Outcome, spare: &mut Spare)
+        ensures { self.new ≡ self.old ++ answered node outcome ∷ [] }
+    {
         let (entry, mut link) = node.into_entry(outcome);
-        if let Some(entry) = self.newest.add(entry) {
-            *link = mem::replace(&mut self.newest, Chain::End);
-            self.newest = Chain::Link(entry, link);
+        match self.newest.add(entry) {
+            Some(entry) => {
+                *link = mem::replace(&mut self.newest, Chain::End);
+                self.newest = Chain::Link(entry, link);
+            }
+            None => spare.keep(link),
         }
         self.count = self.count.wrapping_add(1);
     }

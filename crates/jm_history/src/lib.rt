@@ -7,4 +7,4 @@ mod node;
 
 pub use history::History;
 pub use jm_model::Entry;
-pub use node::Node;
+pub use node::{Node, Spare};
