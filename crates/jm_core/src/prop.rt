@@ -16,7 +16,6 @@ use std::alloc::Global;
 use std::marker::Model;
 
 /// The core of one specification, over a number of objects.
-#[derive(Drop)]
 pub struct Prop<M: Monitor> {
     rules: M,
     objects: Objects,
@@ -24,6 +23,20 @@ pub struct Prop<M: Monitor> {
     rest: Rest,
     history: History,
     alloc: Global,
+}
+
+// Written out, so that a drop is one call wherever a core is let go.
+impl<M: Monitor> Drop for Prop<M> {
+    fn drop(self) {
+        let Prop {
+            rules: _,
+            objects: _,
+            store: _,
+            rest: _,
+            history: _,
+            alloc: _,
+        } = self;
+    }
 }
 
 impl<M: Monitor> Model for Prop<M> {

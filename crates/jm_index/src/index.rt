@@ -13,7 +13,6 @@ use std::marker::Model;
 
 /// Pairs of a binding and a slot, each binding once, in the order in which they were added. Contracts see them as a
 /// list, and beside it the objects that were dropped.
-#[derive(Drop)]
 pub struct Index {
     entries: Vec<Entry>,
     places: Places,
@@ -21,6 +20,19 @@ pub struct Index {
     dropped: Flags,
     /// How many entries are live.
     live: usize,
+}
+
+// Written out, so that a drop is one call wherever an index is let go.
+impl Drop for Index {
+    fn drop(self) {
+        let Index {
+            entries: _,
+            places: _,
+            trees: _,
+            dropped: _,
+            live: _,
+        } = self;
+    }
 }
 
 impl Model for Index {

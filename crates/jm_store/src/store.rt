@@ -22,7 +22,6 @@ use std::marker::Model;
 use std::mem;
 
 /// The stored monitors of one specification, and its marks.
-#[derive(Drop)]
 pub struct Store<M: Monitor> {
     monitors: Monitors<M::State>,
     index: Index,
@@ -37,6 +36,23 @@ pub struct Store<M: Monitor> {
     slots: Vec<usize>,
     moves: Vec<Move<M::State>>,
     placed: Vec<Move<M::State>>,
+}
+
+// Written out, so that a drop is one call wherever a store is let go.
+impl<M: Monitor> Drop for Store<M> {
+    fn drop(self) {
+        let Store {
+            monitors: _,
+            index: _,
+            marks: _,
+            domains: _,
+            ending: _,
+            is_open: _,
+            slots: _,
+            moves: _,
+            placed: _,
+        } = self;
+    }
 }
 
 impl<M: Monitor> Model for Store<M> {

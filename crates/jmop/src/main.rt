@@ -3,12 +3,14 @@
 
 ghost use Rattle.std.specs.Prelude.{◌≡◌, ◌≢◌};
 
-use jm_port::{HostFault, HostFolder, HostSink, put_all};
+use jm_port::{Folder, HostFault, HostFolder, HostSink, Sink, put_all};
 use jm_runner::FreeGate;
 use jm_top::{Status, fault_text, jmop};
 use std::alloc::Global;
 use std::io::ErrorKind;
 use std::process::ExitCode;
+use std::sync::Wait;
+use std::thread::Threads;
 use std::{env, io};
 
 fn main(rt: HostRuntime) -> ExitCode {
@@ -18,13 +20,23 @@ fn main(rt: HostRuntime) -> ExitCode {
         Ok(words) => {
             let mut files = HostFolder::new(rt);
             let mut out = HostSink::new(rt);
-            jmop(
-                &rt, alloc, &words, &mut files, &mut out, &mut err, &FreeGate,
-            )
+            carry_out(&rt, alloc, &words, &mut files, &mut out, &mut err)
         }
         Err(error) => refuse(alloc, status_of(error.kind()), &mut err),
     };
     ExitCode::from(status.code())
+}
+
+/// Does what the words say, over real files. It has no clause, so that what the top call promises ends here.
+fn carry_out<F: Folder, S: Sink, E: Sink>(
+    rt: &(impl Threads + Wait + Sync),
+    alloc: Global,
+    words: &[String],
+    files: &mut F,
+    out: &mut S,
+    err: &mut E,
+) -> Status {
+    jmop(rt, alloc, words, files, out, err, &FreeGate)
 }
 
 /// The words of the command line without the program's name.
