@@ -4,3 +4,4 @@ pub mod PartedLemmas
 pub mod GrammarLemmas
 pub mod MadeLemmas
 pub mod ReadLemmas
+pub mod WrittenLemmas

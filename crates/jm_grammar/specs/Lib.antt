@@ -5,3 +5,4 @@ pub mod Formulas
 pub mod Rules
 pub mod Faults
 pub mod Trees
+pub mod Written

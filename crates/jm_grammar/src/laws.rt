@@ -4,13 +4,15 @@ ghost use Rattle.jm_model.specs.declared.step.Letter.{Letter as LetterType};
 ghost use Rattle.jm_model.specs.declared.fault.SpecFault.{SpecFault};
 ghost use Rattle.jm_model.specs.declared.fault.SpecError.TheVariants.{Bad};
 ghost use Rattle.jm_text.specs.declared.token.Token.{Token};
-ghost use Rattle.jm_events.specs.Events.{EventDefinitions};
+ghost use Rattle.jm_events.specs.Events.{EventDefinitions, event_names};
 ghost use Rattle.jm_grammar.specs.declared.formula.Part.{Part};
 ghost use Rattle.jm_grammar.specs.declared.grammar.GrammarSymbol.TheVariants.{Letter};
 ghost use Rattle.jm_grammar.specs.declared.grammar.Production.{Production};
 ghost use Rattle.jm_grammar.specs.Grammars.{GrammarDefinition};
 ghost use Rattle.jm_grammar.specs.Formulas.{Spells};
+ghost use Rattle.jm_grammar.specs.Faults.{nonterminals};
 ghost use Rattle.jm_grammar.specs.Trees.{IsReadFrom, IsRefused};
+ghost use Rattle.jm_grammar.specs.Written.{AreAsWritten};
 
 /// One reading: no tokens spell two formulas, so none have two grammars, and none have both a grammar and a fault.
 pub fn one_reading()
@@ -25,4 +27,11 @@ pub fn one_reading()
 pub fn letters_are_events()
     ensures { (bytes : List ℕ) (tokens : List Token) (table : EventDefinitions) (g : GrammarDefinition) → IsReadFrom bytes tokens table g →
         (p : Production) → Contains g.productions p → (letter : LetterType) → Contains p.symbols (Letter letter) → letter.0 < length table.events }
+{}
+
+/// A grammar that was read is as it is written: its productions are the alternatives of the formula, in order, each with the
+/// letters and nonterminals that its names say.
+pub fn productions_as_written()
+    ensures { (bytes : List ℕ) (tokens : List Token) (table : EventDefinitions) (g : GrammarDefinition) → IsReadFrom bytes tokens table g →
+        (parts : List Part) × Spells bytes tokens parts × AreAsWritten bytes (event_names table) (nonterminals bytes parts) parts g.productions }
 {}

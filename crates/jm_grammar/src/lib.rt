@@ -18,5 +18,5 @@ mod reading;
 mod reduce;
 
 pub use grammar::{Grammar, GrammarSymbol, Production};
-pub use laws::{letters_are_events, one_reading};
+pub use laws::{letters_are_events, one_reading, productions_as_written};
 pub use reading::read;
