@@ -1,12 +1,14 @@
 -- The histories of scripts' steps, and their texts.
-use Rattle.std.proofs.Common.{◌≡◌, ◌≢◌, ℕ, zero, suc, ◌^◌, ◌<◌, ◌≤◌, true, List, [], ◌∷◌, ◌++◌, length, get_or, pow-suc, append-nil, refl, sym, ◌∙◌, ap, subst, arith}
+use Rattle.std.proofs.Common.{◌≡◌, ◌≢◌, ℕ, zero, suc, ◌^◌, ◌<◌, ◌≤◌, true, List, [], ◌∷◌, ◌++◌, length, get_or, pow-suc, append-nil, append_assoc, refl, sym, ◌∙◌, ap, subst, arith}
 use Rattle.std.specs.Prelude.{All, Contains, Option, Some, None, ◌==◌, map, filter, slice_get, unwrap_or, option_map, string_bytes, Result, Ok, Err, IfOk}
+use Rattle.std.specs.Global.{Vec}
 use Rattle.std.specs.Option.{option_map_or}
 use Rattle.std.specs.List.{AllByRecursion}
 use Rattle.std.proofs.lemmas.Option.{slice_get-map, none-some}
-use Rattle.std.proofs.lemmas.List.{length-map, length_push}
+use Rattle.std.proofs.lemmas.List.{length-map, length_push, map-append}
+use Rattle.std.proofs.lemmas.Grind.{flat_map-append}
 use Rattle.std.proofs.lemmas.Bool.Decides.{nat_tests}
-use Rattle.std.proofs.lemmas.List.Elements.{recursion_from_All, All-weaker, All-head, All-tail, All-contains, All-contains_itself}
+use Rattle.std.proofs.lemmas.List.Elements.{All-nil, All-cons, All-append, recursion_from_All, All-weaker, All-head, All-tail, All-contains, All-contains_itself}
 use Rattle.jm_model.specs.Bindings.{object_at, objects_of, mask_of}
 use Rattle.jm_model.specs.Meanings.{Meaning}
 use Rattle.jm_model.specs.declared.binding.Binding.{Binding}
@@ -19,14 +21,14 @@ use Rattle.jm_semantics.specs.Legality.{IsLegal}
 use Rattle.jm_semantics.proofs.ListLemmas.{Contains-filter, Contains-map}
 use Rattle.jm_core.specs.Steps.{IsFitStep}
 use Rattle.jm_core.specs.Cores.{Core}
-use Rattle.jm_core.specs.Replays.{AreEntriesOf, Replayed}
+use Rattle.jm_core.specs.Replays.{AreEntriesOf, Replayed, line_and_step}
 use Rattle.jm_events.specs.Events.{EventDefinition, EventDefinitions}
 use Rattle.jm_print.specs.Lexicons.{Lexicon, lexicon_of}
 use Rattle.jm_print.specs.Texts.{IsPrintable, history_text}
 use Rattle.jm_script.specs.Catalogs.{CatalogEntry, table_of}
 use Rattle.jm_script.specs.Events.{mask_at}
 use Rattle.jm_script.specs.Fitting.{FitsCatalog, FitsSpecification}
-use Rattle.jm_script.specs.Projections.{script_of}
+use Rattle.jm_script.specs.Projections.{script_of, steps_in}
 use Rattle.jm_script.specs.declared.script.ScriptLine.{ScriptLine}
 use Rattle.jm_machine.specs.Meanings.{RuleDefinition, rules_meaning}
 use Rattle.jm_top.specs.declared.specification.Titles.{Titles}
@@ -155,6 +157,53 @@ woven own h each done = record {
     list_of zero less =
         ap (λ ss. Some ss) (sym (ap (λ xs. map (λ (x : Entry). (x.line, x.step)) xs) (one_caller h (recursion_from_All (λ (x : Entry). x.caller ≡ 0) h each.by_caller)) ∙ each.in_order))
     list_of (suc k) less = absurd (omega (arith, less))
+
+-- no steps were replayed
+pub replayed_none : {D : Type 0} (caller : ℕ) (core : Core D) → Replayed caller [] core core
+replayed_none caller core = record {
+  added = [];
+  grown = record { definition = refl; objects = refl; entries = sym (append-nil core.entries) };
+  each = record { by_caller = All-nil (λ (x : Entry). x.caller ≡ caller); in_order = refl };
+  done = All-nil (λ (x : Entry). x.outcome ≢ NoMemory);
+}
+
+-- steps were replayed, and then others
+pub replayed_more : {D : Type 0} (caller : ℕ) (first more : List (ℕ × Step)) (before between after : Core D) → Replayed caller first before between → Replayed caller more between after → Replayed caller (first ++ more) before after
+replayed_more caller first more before between after p q = record {
+  added = p.added ++ q.added;
+  grown = record {
+    definition = q.grown.definition ∙ p.grown.definition;
+    objects = q.grown.objects ∙ p.grown.objects;
+    entries = q.grown.entries ∙ ap (λ es. es ++ q.added) p.grown.entries ∙ append_assoc before.entries p.added q.added;
+  };
+  each = record {
+    by_caller = All-append (λ (x : Entry). x.caller ≡ caller) p.added q.added p.each.by_caller q.each.by_caller;
+    in_order = map-append line_and_step p.added q.added ∙ ap (λ xs. xs ++ map line_and_step q.added) p.each.in_order ∙ ap (λ ys. first ++ ys) q.each.in_order;
+  };
+  done = All-append (λ (x : Entry). x.outcome ≢ NoMemory) p.added q.added p.done q.done;
+}
+
+-- what holds of all steps holds of those of a block
+pub steps_of_block : (P : ℕ × Step → Type 0) (blocks : List (Vec (ℕ × Step))) (k : ℕ) (block : Vec (ℕ × Step)) → slice_get blocks k ≡ Some block → All P (steps_in blocks) → All P block.items
+steps_of_block P [] k block at all = absurd (none-some block at)
+steps_of_block P (b ∷ blocks) zero block at all = subst (λ (v : Vec (ℕ × Step)). All P v.items) (same_some at) (front b.items (steps_in blocks) all)
+  where
+    front : (xs ys : List (ℕ × Step)) → All P (xs ++ ys) → All P xs
+    front [] ys all = All-nil P
+    front (x ∷ xs) ys all = All-cons P x xs (All-head P x (xs ++ ys) all) (front xs ys (All-tail P x (xs ++ ys) all))
+steps_of_block P (b ∷ blocks) (suc k) block at all = steps_of_block P blocks k block at (behind b.items (steps_in blocks) all)
+  where
+    behind : (xs ys : List (ℕ × Step)) → All P (xs ++ ys) → All P ys
+    behind [] ys all = all
+    behind (x ∷ xs) ys all = behind xs ys (All-tail P x (xs ++ ys) all)
+
+pub map_same : {A : Type 0} (xs : List A) → map (λ x. x) xs ≡ xs
+map_same [] = refl
+map_same (x ∷ xs) = ap (λ l. x ∷ l) (map_same xs)
+
+-- the steps with a block more
+pub steps_in-more : (blocks : List (Vec (ℕ × Step))) (block : Vec (ℕ × Step)) → steps_in (blocks ++ block ∷ []) ≡ steps_in blocks ++ block.items
+steps_in-more blocks block = flat_map-append (λ (b : Vec (ℕ × Step)). b.items) blocks (block ∷ []) ∙ ap (λ ys. steps_in blocks ++ ys) (append-nil block.items)
 
 -- what a core without history has after a replay of the steps
 pub replay_of : {D : Type 0} (mean : D → Meaning) (rules : D) (own : List (ℕ × Step)) (before after : Core D) (h : List Entry) → before.definition ≡ rules → before.entries ≡ [] → Replayed 0 own before after

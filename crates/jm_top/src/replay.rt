@@ -3,6 +3,7 @@ ghost use Rattle.std.specs.Prelude.{◌≡◌, ℕ, List, All, IfOk, length};
 ghost use Rattle.jm_machine.specs.Meanings.{rules_meaning};
 ghost use Rattle.jm_model.specs.declared.step.Entry.{Entry};
 ghost use Rattle.jm_core.specs.Steps.{IsFitStep};
+ghost use Rattle.jm_script.specs.Projections.{steps_in};
 ghost use Rattle.jm_print.specs.Texts.{IsPrintable};
 ghost use Rattle.jm_top.specs.Reading.{specs_in, IsCatalogued, AreCounted, title_lexicon};
 ghost use Rattle.jm_top.specs.Histories.{IsTextOfHistories};
@@ -15,11 +16,11 @@ use jm_core::Prop;
 use jm_events::Names;
 use jm_model::{Monitor, NoMemory, Step};
 use jm_print::render_history;
-use jm_script::project;
+use jm_script::project_in_blocks;
 use std::alloc::Global;
 
 /// The printed history of the one script, replayed over the one specification. The script is let go before the replay, and
-/// its steps before the printing.
+/// its steps as they are done.
 pub(crate) fn replay(alloc: Global, library: Library, scripts: Scripts) -> Result<Vec<u8>, NoMemory>
     requires one_spec { length library.specs.items ≡ 1 }
     requires one_script { length scripts.list.items ≡ 1 }
@@ -28,7 +29,7 @@ pub(crate) fn replay(alloc: Global, library: Library, scripts: Scripts) -> Resul
     ensures { IfOk result (λ text. IsTextOfHistories (specs_in library) scripts.list.items scripts.objects text.items) }
 {
     let Scripts { list, objects, .. } = scripts;
-    let own = project(alloc, &list[0], 0)?;
+    let own = project_in_blocks(alloc, &list[0], 0)?;
     drop(list);
     let mut specs = library.specs;
     let Some(loaded) = specs.pop() else {
@@ -41,13 +42,13 @@ pub(crate) fn replay(alloc: Global, library: Library, scripts: Scripts) -> Resul
 fn replay_own(
     alloc: Global,
     loaded: Loaded,
-    own: Vec<(u32, Step)>,
+    own: Vec<Vec<(u32, Step)>>,
     objects: &Names,
 ) -> Result<Vec<u8>, NoMemory>
-    requires steps { All (λ step. IsFitStep (rules_meaning loaded.rules.definition) (length objects.now) step.1) own.items }
-    requires printable { (h : List Entry) → IsReplayOf (rules_meaning loaded.rules.definition) own.items h
+    requires steps { All (λ step. IsFitStep (rules_meaning loaded.rules.definition) (length objects.now) step.1) (steps_in own.items) }
+    requires printable { (h : List Entry) → IsReplayOf (rules_meaning loaded.rules.definition) (steps_in own.items) h
         → All (IsPrintable (title_lexicon objects.now loaded.titles)) h }
-    ensures { IfOk result (λ text. IsPrintedReplay (rules_meaning loaded.rules.definition) own.items
+    ensures { IfOk result (λ text. IsPrintedReplay (rules_meaning loaded.rules.definition) (steps_in own.items)
         (title_lexicon objects.now loaded.titles) text.items) }
 {
     let Loaded { titles, rules } = loaded;
@@ -58,17 +59,17 @@ fn replay_own(
 fn history_of<M: Monitor>(
     alloc: Global,
     rules: M,
-    steps: Vec<(u32, Step)>,
+    blocks: Vec<Vec<(u32, Step)>>,
     titles: &Titles,
     objects: &Names,
 ) -> Result<Vec<u8>, NoMemory>
-    requires steps { All (λ step. IsFitStep (M.meaning (M.definition rules)) (length objects.now) step.1) steps.items }
-    requires printable { (h : List Entry) → IsReplayOf (M.meaning (M.definition rules)) steps.items h
+    requires steps { All (λ step. IsFitStep (M.meaning (M.definition rules)) (length objects.now) step.1) (steps_in blocks.items) }
+    requires printable { (h : List Entry) → IsReplayOf (M.meaning (M.definition rules)) (steps_in blocks.items) h
         → All (IsPrintable (title_lexicon objects.now titles.now)) h }
-    ensures { IfOk result (λ text. IsPrintedReplay (M.meaning (M.definition rules)) steps.items
+    ensures { IfOk result (λ text. IsPrintedReplay (M.meaning (M.definition rules)) (steps_in blocks.items)
         (title_lexicon objects.now titles.now) text.items) }
 {
-    let prop = replayed(alloc, rules, steps, objects.len())?;
+    let prop = replayed(alloc, rules, blocks, objects.len())?;
     render_history(
         alloc,
         titles.name.as_str(),
@@ -80,18 +81,19 @@ fn history_of<M: Monitor>(
     )
 }
 
-/// The core after these steps of one caller, which are let go.
+/// The core after these steps of one caller. Each block of them is let go once it is done.
 fn replayed<M: Monitor>(
     alloc: Global,
     rules: M,
-    steps: Vec<(u32, Step)>,
+    blocks: Vec<Vec<(u32, Step)>>,
     objects: u32,
 ) -> Result<Prop<M>, NoMemory>
-    requires { All (λ step. IsFitStep (M.meaning (M.definition rules)) objects step.1) steps.items }
-    ensures { IfOk result (λ prop. IsReplayOf (M.meaning (M.definition rules)) steps.items prop.entries) }
+    requires { All (λ step. IsFitStep (M.meaning (M.definition rules)) objects step.1) (steps_in blocks.items) }
+    ensures { IfOk result (λ prop. IsReplayOf (M.meaning (M.definition rules)) (steps_in blocks.items) prop.entries) }
 {
     let mut prop = Prop::new(alloc, rules, objects)?;
-    prop.replay(0, steps.as_slice())?;
-    let _history = prop.history();
+    for block in blocks {
+        prop.replay(0, block.as_slice())?;
+    }
     Ok(prop)
 }
