@@ -227,6 +227,22 @@ impl<M: Monitor> Prop<M> {
         &self.history
     }
 
+    /// The history alone: all else that the core has in memory is let go.
+    pub fn into_history(self) -> History
+        ensures value { result ≡ self.entries }
+        ensures legal { IsLegal (M.meaning self.definition) self.entries }
+    {
+        let Prop {
+            rules: _,
+            objects: _,
+            store: _,
+            rest: _,
+            history,
+            alloc: _,
+        } = self;
+        history
+    }
+
     /// The bindings that have a monitor, in the order of bindings.
     pub fn stored(&self) -> Result<Vec<Binding>, NoMemory>
         ensures value { IfOk result (λ list. AreInOrder self.now.stored list.items) }

@@ -20,7 +20,7 @@ use jm_script::project_in_blocks;
 use std::alloc::Global;
 
 /// The printed history of the one script, replayed over the one specification. The script is let go before the replay, and
-/// its steps as they are done.
+/// its steps as they are done, and of the core nothing but the history is left for the printing.
 pub(crate) fn replay(alloc: Global, library: Library, scripts: Scripts) -> Result<Vec<u8>, NoMemory>
     requires one_spec { length library.specs.items ≡ 1 }
     requires one_script { length scripts.list.items ≡ 1 }
@@ -70,10 +70,11 @@ fn history_of<M: Monitor>(
         (title_lexicon objects.now titles.now) text.items) }
 {
     let prop = replayed(alloc, rules, blocks, objects.len())?;
+    let history = prop.into_history();
     render_history(
         alloc,
         titles.name.as_str(),
-        prop.history(),
+        &history,
         &titles.table,
         &titles.handlers,
         titles.texts.as_slice(),

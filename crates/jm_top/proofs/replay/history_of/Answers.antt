@@ -8,13 +8,13 @@ use Rattle.jm_top.proofs.replay.history_of.Goals as goal
 pub render_history-requires : goal.render_history-requires
 render_history-requires g c =
     let m = g.M.Monitor.meaning (g.M.Monitor.definition c.args.rules) in
-    rw (c.as_str.ensures.value, c.as_slice.ensures.value) (c.requires.printable c.history.result.now
-    (subst (λ h. IsReplayOf m (steps_in c.args.blocks.items) h) (sym c.history.ensures.value) c.in_ok-prop.ensures))
+    rw (c.as_str.ensures.value, c.as_slice.ensures.value) (c.requires.printable c.into_history-history.result
+    (subst (λ h. IsReplayOf m (steps_in c.args.blocks.items) h) (sym c.into_history-history.ensures.value) c.in_ok-prop.ensures))
 
 pub returns : goal.returns
 returns g c =
     let m = g.M.Monitor.meaning (g.M.Monitor.definition c.args.rules) in
-    let valid = subst (λ h. IsReplayOf m (steps_in c.args.blocks.items) h) (sym c.history.ensures.value) c.in_ok-prop.ensures in
+    let valid = subst (λ h. IsReplayOf m (steps_in c.args.blocks.items) h) (sym c.into_history-history.ensures.value) c.in_ok-prop.ensures in
     let printed = rw (c.as_str.ensures.value, c.as_slice.ensures.value) at c.render_history.ensures in
     replay_printed (λ text. text.items) m (steps_in c.args.blocks.items)
-    (title_lexicon c.args.objects.now c.args.titles.now) c.history.result.now valid c.render_history.result printed
+    (title_lexicon c.args.objects.now c.args.titles.now) c.into_history-history.result valid c.render_history.result printed
