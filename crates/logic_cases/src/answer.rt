@@ -15,6 +15,7 @@ pub(crate) fn answer(alloc: Global, case: &Case) -> Result<String, AllocError> {
 /// The laws are proved: that they can be called is all that is to be seen.
 fn laws(alloc: Global) -> Result<String, AllocError> {
     jm_fsm::one_reading();
+    jm_fsm::states_as_written();
     jm_ptltl::one_reading();
     String::from_str(alloc, "called")
 }

@@ -35,6 +35,11 @@ fn answered(alloc: Global, case: &Case) -> Result<String, NoMemory> {
     }
 }
 
+/// The law on deaths is proved: that it can be called is all that is to be seen.
+fn law<M: Monitor>(rules: &M) {
+    jm_store::death_keeps_store(rules);
+}
+
 /// The answer of the verb `steps`, or of another that of runs of words `SEED STEPS COUNT`.
 fn told<M: Monitor>(
     alloc: Global,
@@ -42,6 +47,7 @@ fn told<M: Monitor>(
     rules: &M,
     objects: u32,
 ) -> Result<String, NoMemory> {
+    law(rules);
     let mut both = Both::new(alloc, rules, objects)?;
     let words = case.first.as_str();
     if case.verb.as_str() == "steps" {
