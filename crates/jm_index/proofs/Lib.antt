@@ -1,8 +1,5 @@
 pub mod ReadLemmas
 pub mod BindingLemmas
-pub mod KeyLemmas
-pub mod PlaceLemmas
-pub mod FormLemmas
 pub mod EntryLemmas
 pub mod FlagLemmas
 pub mod PostingLemmas

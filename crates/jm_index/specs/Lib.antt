@@ -1,7 +1,2 @@
 pub mod Index
-pub mod Entries
-pub mod Forms
 pub mod Layout
-pub mod Keys
-pub mod Places
-pub mod Postings

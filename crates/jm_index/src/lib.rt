@@ -9,13 +9,9 @@
 
 mod entry;
 mod flags;
-mod form;
 mod index;
-mod key;
 mod laws;
-mod places;
 mod posting;
-mod rows;
 mod trees;
 
 pub use index::Index;

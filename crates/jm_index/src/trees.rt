@@ -39,8 +39,9 @@ impl Tree {
         ensures same { (q : ℕ) → posting_of self.new q ≡ posting_of self.old q }
         ensures there { OnOk result (path < length self.new) }
     {
+        let alloc = *self.postings.allocator();
         while self.postings.len() <= path {
-            self.postings.push(Posting::new())?;
+            self.postings.push(Posting::new(alloc))?;
         }
         Ok(())
     }
@@ -53,9 +54,8 @@ impl Tree {
         ensures others { (q : ℕ) → (q ≡ path → ⊥) → posting_of self.new q ≡ posting_of self.old q }
     {
         self.cover(path)?;
-        let alloc = *self.postings.allocator();
         let posting = &mut self.postings[path];
-        posting.file(alloc, position)
+        posting.file(position)
     }
 
     /// The positions under a path.
@@ -86,7 +86,7 @@ impl Tree {
         ensures { (q : ℕ) → posting_of self.new q ≡ (if q == path then [] else posting_of self.old q) }
     {
         if path < self.postings.len() {
-            self.postings[path] = Posting::new();
+            self.postings[path] = Posting::new(*self.postings.allocator());
         }
     }
 }
