@@ -2,3 +2,4 @@ pub mod SetLemmas
 pub mod DeadLemmas
 pub mod CoverLemmas
 pub mod SweepLemmas
+pub mod WatchLemmas

@@ -3,9 +3,12 @@
 //! They stand in one hash set, whose keys tell by themselves which parameters they bind. Beside it stands a list of
 //! the sets of parameters that ever were those of a mark: at most one for each letter. So to ask something of all
 //! marks below a binding takes one look-up for each of these sets, and no walk over marks.
+//!
+//! In a row beside the set stands an object for each mark, one of those that it binds. A sweep goes over that row, and looks
+//! at a mark itself only where its object is dead.
 #![tactic(auto)]
 
-ghost use Rattle.std.specs.Prelude.{ℕ, ◌≡◌, ◌≢◌, ◌+◌, ◌<◌, ◌≤◌, ◌^◌, ◌↔◌, [], ◌∷◌, ◌++◌, filter, Contains, IsTrue, IfOk, OnOk, false, not, Some, length, map, slice_get, vec_len, vec_capacity, if◌then◌else◌};
+ghost use Rattle.std.specs.Prelude.{ℕ, ◌≡◌, ◌≢◌, ◌+◌, ◌<◌, ◌≤◌, ◌^◌, ◌↔◌, [], ◌∷◌, ◌++◌, filter, Contains, IsTrue, IfOk, OnOk, MatchOption, true, false, Some, length, map, slice_get, slice_index_or, vec_len, vec_capacity, if◌then◌else◌};
 ghost use Rattle.std.specs.List.{AllPairs, IsDistinct};
 ghost use Rattle.std.specs.List.Sorted.{IsPermutation};
 ghost use Rattle.indexmap.specs.IndexSet.{spare};
@@ -13,13 +16,17 @@ ghost use Rattle.jm_model.specs.Layout.{binding_eq};
 ghost use Rattle.jm_model.specs.declared.binding.Binding.{Binding as Bound};
 ghost use Rattle.jm_model.specs.Bindings.{object_at};
 ghost use Rattle.jm_marks.specs.Objects.{IsWithin};
-ghost use Rattle.jm_marks.specs.Marks.{dead_mask_of, is_at_dead, is_at_live, has_live, IsCovered, IsCoveredAt};
+ghost use Rattle.jm_marks.specs.Marks.{dead_mask_of, is_dead_object, is_at_dead, is_at_live, has_live, IsCovered, IsCoveredAt};
+ghost use Rattle.jm_marks.specs.Layout.{no_object, IsWatched, AreWatched};
 
 use indexmap::IndexSet;
 use jm_model::{Binding, NoMemory};
 use jm_objects::Objects;
 use std::alloc::Global;
 use std::marker::Model;
+
+/// No object has this number.
+const NO_OBJECT: u32 = u32::MAX;
 
 /// The parameters that are bound to dead objects: bit p stands for parameter p. An object that isn't in the table
 /// counts as alive.
@@ -65,17 +72,37 @@ fn dead_bit(objects: &Objects, binding: &Binding, p: u8) -> u8
     }
 }
 
-/// Whether some object that is bound is alive.
-fn has_live(objects: &Objects, binding: &Binding) -> bool
-    ensures { result ≡ has_live objects.now binding.now }
+/// An object that is bound and alive, if there is one.
+fn live_object(objects: &Objects, binding: &Binding) -> Option<u32>
+    ensures { MatchOption result (has_live objects.now binding.now ≡ false) (λ o. (has_live objects.now binding.now ≡ true) × IsWatched binding.now o) }
 {
     let _mask = binding.mask();
     for p in 0..8 {
         if is_live_at(objects, binding, p) {
-            return true;
+            return binding.get(p);
         }
     }
-    false
+    None
+}
+
+/// The first object that is bound, or else the number of no object.
+fn first_object(binding: &Binding) -> u32
+    ensures { IsWatched binding.now result }
+{
+    for p in 0..8 {
+        if let Some(object) = binding.get(p) {
+            return object;
+        }
+    }
+    NO_OBJECT
+}
+
+/// Whether there is an object of this number, and it is alive.
+fn is_alive(objects: &Objects, object: u32) -> bool
+    ensures there { IsTrue result → object < no_object }
+    ensures alive { IsTrue result → is_dead_object objects.now object ≡ false }
+{
+    object < objects.len() && !objects.is_dead(object)
 }
 
 /// Whether a parameter is bound to an object that is alive.
@@ -134,26 +161,37 @@ fn list_mask(masks: &mut Vec<u8>, mask: u8)
 
 /// Drops the bindings that bind no live object, the last ones first. The last binding takes the place of one that goes, so
 /// that no other is filed anew.
-fn drop_dead(bindings: &mut IndexSet<Binding>, objects: &Objects)
+fn drop_dead(bindings: &mut IndexSet<Binding>, watched: &mut Vec<u32>, objects: &Objects)
+    requires { AreWatched bindings.old.keys watched.old.items }
     ensures list { IsPermutation (filter (has_live objects.now) bindings.old.keys) bindings.new.keys }
     ensures distinct { IsDistinct binding_eq bindings.old.keys → IsDistinct binding_eq bindings.new.keys }
     ensures room { spare bindings.old ≤ spare bindings.new }
+    ensures watched { AreWatched bindings.new.keys watched.new.items }
+    ensures row { vec_len watched.new + vec_capacity watched.old ≤ vec_capacity watched.new + vec_len watched.old }
 {
-    let mut place = bindings.len();
+    let mut place = watched.len();
     while place > 0 {
         place -= 1;
-        if is_dead_at(bindings, objects, place) {
-            let _ = bindings.swap_remove_index(place);
+        if is_alive(objects, watched[place]) {
+            continue;
+        }
+        match live_object_at(bindings, objects, place) {
+            Some(object) => watched[place] = object,
+            None => {
+                let _ = bindings.swap_remove_index(place);
+                let _ = watched.swap_remove(place);
+            }
         }
     }
 }
 
-/// Whether the binding at a place binds no live object.
-fn is_dead_at(bindings: &IndexSet<Binding>, objects: &Objects, place: usize) -> bool
+/// An object that the binding at a place binds and that is alive, if there is one.
+fn live_object_at(bindings: &IndexSet<Binding>, objects: &Objects, place: usize) -> Option<u32>
     requires { place < length bindings.now.keys }
-    ensures { slice_get (map (has_live objects.now) bindings.now.keys) place ≡ Some (not result) }
+    ensures { MatchOption result (slice_get (map (has_live objects.now) bindings.now.keys) place ≡ Some false)
+        (λ o. (slice_get (map (has_live objects.now) bindings.now.keys) place ≡ Some true) × IsWatched (slice_index_or bindings.now.keys place []) o) }
 {
-    !has_live(objects, &bindings.as_slice()[place])
+    live_object(objects, &bindings.as_slice()[place])
 }
 
 /// Distinct bindings. Contracts see them as a list, and a number beside it, `spare`: so many calls of `add`
@@ -161,6 +199,8 @@ fn is_dead_at(bindings: &IndexSet<Binding>, objects: &Objects, place: usize) -> 
 #[derive(Drop)]
 pub struct Marks {
     bindings: IndexSet<Binding>,
+    /// For each binding, by its place, an object that it binds; for the empty one the number of no object.
+    watched: Vec<u32>,
     masks: Vec<u8>,
     /// All objects of marks are below it.
     limit: u64,
@@ -173,11 +213,11 @@ impl Model for Marks {
 
     ghost use Rattle.std.specs.Prelude.{min, ◌-◌, vec_capacity, vec_len};
     ghost use Rattle.indexmap.specs.IndexSet.{spare};
-    ghost use Rattle.jm_marks.specs.Layout.{AreMarks};
+    ghost use Rattle.jm_marks.specs.Layout.{AreMarks, AreWatched};
 
-    ghost view = { λ m. record { list = m.bindings.keys; spare = min (spare m.bindings) (vec_capacity m.masks - vec_len m.masks) } };
+    ghost view = { λ m. record { list = m.bindings.keys; spare = min (spare m.bindings) (min (vec_capacity m.masks - vec_len m.masks) (vec_capacity m.watched - vec_len m.watched)) } };
 
-    ghost invariant = { λ m. AreMarks m.bindings.keys m.masks.items m.limit };
+    ghost invariant = { λ m. AreMarks m.bindings.keys m.masks.items m.limit × AreWatched m.bindings.keys m.watched.items };
 }
 
 impl Marks {
@@ -187,18 +227,20 @@ impl Marks {
     {
         Marks {
             bindings: IndexSet::new(alloc),
+            watched: Vec::new(alloc),
             masks: Vec::new(alloc),
             limit: 0,
         }
     }
 
-    /// Makes room for one `add`: a place for a binding and one for a set of parameters. Where there is room already it
-    /// costs nothing; where there is none, both places are made for many.
+    /// Makes room for one `add`: a place for a binding and its object, and one for a set of parameters. Where there is room
+    /// already it costs nothing; where there is none, the places are made for many.
     pub fn reserve(&mut self) -> Result<(), NoMemory>
         ensures list { self.new.list ≡ self.old.list }
         ensures room { OnOk result (1 ≤ self.new.spare) }
     {
         self.masks.reserve(1)?;
+        self.watched.reserve(1)?;
         self.bindings.reserve(1)?;
         Ok(())
     }
@@ -213,7 +255,8 @@ impl Marks {
         list_mask(&mut self.masks, binding.mask());
         self.limit = raised(self.limit, &binding);
         match self.bindings.insert(binding) {
-            Ok(_) => {}
+            Ok(true) => self.watched.push_reserved(first_object(&binding)),
+            Ok(false) => {}
             Err(_) => unreachable!(),
         }
     }
@@ -261,7 +304,7 @@ impl Marks {
         ensures list { IsPermutation (filter (has_live objects.now) self.old.list) self.new.list }
         ensures spare { self.old.spare ≤ self.new.spare }
     {
-        drop_dead(&mut self.bindings, objects);
+        drop_dead(&mut self.bindings, &mut self.watched, objects);
     }
 
     /// The marks, in order.
