@@ -5,8 +5,10 @@
 //! marks below a binding takes one look-up for each of these sets, and no walk over marks.
 //!
 //! In a row beside the set stands an object for each mark, one of those that it binds. A sweep goes over that row, and looks
-//! at a mark itself only where its object is dead.
+//! at a mark itself only where its object is dead. Most bindings that are asked for are found by a hint, without a hash.
 #![tactic(auto)]
+
+mod hints;
 
 ghost use Rattle.std.specs.Prelude.{ℕ, ◌≡◌, ◌≢◌, ◌+◌, ◌<◌, ◌≤◌, ◌^◌, ◌↔◌, [], ◌∷◌, ◌++◌, filter, Contains, IsTrue, IfOk, OnOk, MatchOption, true, false, Some, length, map, slice_get, slice_index_or, vec_len, vec_capacity, if◌then◌else◌};
 ghost use Rattle.std.specs.List.{AllPairs, IsDistinct};
@@ -19,6 +21,7 @@ ghost use Rattle.jm_marks.specs.Objects.{IsWithin};
 ghost use Rattle.jm_marks.specs.Marks.{dead_mask_of, is_dead_object, is_at_dead, is_at_live, has_live, IsCovered, IsCoveredAt};
 ghost use Rattle.jm_marks.specs.Layout.{no_object, IsWatched, AreWatched};
 
+use crate::hints::Hints;
 use indexmap::IndexSet;
 use jm_model::{Binding, NoMemory};
 use jm_objects::Objects;
@@ -161,7 +164,12 @@ fn list_mask(masks: &mut Vec<u8>, mask: u8)
 
 /// Drops the bindings that bind no live object, the last ones first. The last binding takes the place of one that goes, so
 /// that no other is filed anew.
-fn drop_dead(bindings: &mut IndexSet<Binding>, watched: &mut Vec<u32>, objects: &Objects)
+fn drop_dead(
+    bindings: &mut IndexSet<Binding>,
+    watched: &mut Vec<u32>,
+    hints: &mut Hints,
+    objects: &Objects,
+)
     requires { AreWatched bindings.old.keys watched.old.items }
     ensures list { IsPermutation (filter (has_live objects.now) bindings.old.keys) bindings.new.keys }
     ensures distinct { IsDistinct binding_eq bindings.old.keys → IsDistinct binding_eq bindings.new.keys }
@@ -180,9 +188,44 @@ fn drop_dead(bindings: &mut IndexSet<Binding>, watched: &mut Vec<u32>, objects: 
             None => {
                 let _ = bindings.swap_remove_index(place);
                 let _ = watched.swap_remove(place);
+                note_place(hints, bindings, place);
             }
         }
     }
+}
+
+/// Notes the place of the binding that stands there, if one does.
+fn note_place(hints: &mut Hints, bindings: &IndexSet<Binding>, place: usize) {
+    if let Some(binding) = bindings.as_slice().get(place) {
+        hints.note(binding, place);
+    }
+}
+
+/// Whether a binding stands where the hint says.
+fn is_hinted(hints: &Hints, bindings: &IndexSet<Binding>, binding: &Binding) -> bool
+    ensures { IsTrue result → Contains bindings.now.keys binding.now }
+{
+    match hints.place_of(binding) {
+        Some(place) => stands_at(bindings, place, binding),
+        None => false,
+    }
+}
+
+/// Whether a binding stands at a place.
+fn stands_at(bindings: &IndexSet<Binding>, place: usize, binding: &Binding) -> bool
+    ensures { IsTrue result → Contains bindings.now.keys binding.now }
+{
+    match bindings.as_slice().get(place) {
+        Some(there) => is_same(there, binding),
+        None => false,
+    }
+}
+
+/// Whether two bindings are one.
+fn is_same(one: &Binding, other: &Binding) -> bool
+    ensures { IsTrue result → one.now ≡ other.now }
+{
+    *one == *other
 }
 
 /// An object that the binding at a place binds and that is alive, if there is one.
@@ -204,6 +247,7 @@ pub struct Marks {
     masks: Vec<u8>,
     /// All objects of marks are below it.
     limit: u64,
+    hints: Hints,
 }
 
 impl Model for Marks {
@@ -230,6 +274,7 @@ impl Marks {
             watched: Vec::new(alloc),
             masks: Vec::new(alloc),
             limit: 0,
+            hints: Hints::new(alloc),
         }
     }
 
@@ -242,6 +287,7 @@ impl Marks {
         self.masks.reserve(1)?;
         self.watched.reserve(1)?;
         self.bindings.reserve(1)?;
+        self.hints.cover(self.limit);
         Ok(())
     }
 
@@ -254,17 +300,25 @@ impl Marks {
     {
         list_mask(&mut self.masks, binding.mask());
         self.limit = raised(self.limit, &binding);
+        let place = self.bindings.len();
         match self.bindings.insert(binding) {
-            Ok(true) => self.watched.push_reserved(first_object(&binding)),
+            Ok(true) => {
+                self.watched.push_reserved(first_object(&binding));
+                self.hints.note(&binding, place);
+            }
             Ok(false) => {}
             Err(_) => unreachable!(),
         }
     }
 
-    /// Whether a binding is a mark. One with an object beyond those of all marks is none, which takes no look-up.
+    /// Whether a binding is a mark. It is looked up where the hint doesn't lead to it and no object of it is beyond those of
+    /// all marks.
     pub fn contains(&self, binding: &Binding) -> bool
         ensures { IsTrue result ↔ Contains self.now.list binding.now }
     {
+        if is_hinted(&self.hints, &self.bindings, binding) {
+            return true;
+        }
         if is_beyond(self.limit, binding) {
             return false;
         }
@@ -304,7 +358,12 @@ impl Marks {
         ensures list { IsPermutation (filter (has_live objects.now) self.old.list) self.new.list }
         ensures spare { self.old.spare ≤ self.new.spare }
     {
-        drop_dead(&mut self.bindings, &mut self.watched, objects);
+        drop_dead(
+            &mut self.bindings,
+            &mut self.watched,
+            &mut self.hints,
+            objects,
+        );
     }
 
     /// The marks, in order.
