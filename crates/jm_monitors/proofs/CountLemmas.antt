@@ -23,7 +23,7 @@ cut-by_flags m h dead t flags cut = subst (IsCutWord m (slice_of (trace_of h) t)
 pub pass_counts_stored-lem : (m : Meaning) {S : Type 0} (Stands : S → List ℕ → Type 0) → PassCountsStored m Stands
 pass_counts_stored-lem m Stands h dead stored after marks left flags store is =
     let passed = pass_keeps_store-lem m Stands (trace_of h) dead stored after marks left store is in
-    let ranked = ranking_of after is.distinct in
+    let ranked = ranking_of after is.thinned.distinct in
     record {
       kept = ranked.0;
       increasing = ranked.1.increasing;

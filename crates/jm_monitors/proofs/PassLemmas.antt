@@ -69,7 +69,7 @@ module _ (m : Meaning) {S : Type 0} (Stands : S → List ℕ → Type 0) (trace 
   kept-or_cut : (t : Binding) → IsInstance trace t → HasInstance after t ⊎ IsCutWord m (slice_of trace t) (dead_mask_of dead t)
   kept-or_cut t i =
       elim (has_or_not stored t) [
-        | inl found ↦ elim (is.dropped found.0 found.1) [
+        | inl found ↦ elim (is.thinned.dropped found.0 found.1) [
           | inl there ↦ inl (found.0, there, found.2)
           | inr cut ↦ inr (subst (λ u. IsCutWord m (slice_of trace u) (dead_mask_of dead u)) found.2
               (cut (slice_of trace found.0.instance) (store.each found.0 found.1).1))
@@ -82,8 +82,8 @@ module _ (m : Meaning) {S : Type 0} (Stands : S → List ℕ → Type 0) (trace 
 
   pass-store : IsStoreOf m Stands trace dead after left
   pass-store = record {
-    distinct = is.distinct;
-    each = λ s h. store.each s (is.kept s h).0;
+    distinct = is.thinned.distinct;
+    each = λ s h. store.each s (is.thinned.among s h);
     cut = pass-cut;
     seen = λ b h. store.seen b ((is.left_marks b).0 h).0;
     marked = λ b seen live. (is.left_marks b).1 (store.marked b seen live, live);
@@ -93,10 +93,9 @@ module _ (m : Meaning) {S : Type 0} (Stands : S → List ℕ → Type 0) (trace 
   kept-alive : (t : Binding) → HasInstance after t → IsInstance trace t × (IsCutWord m (slice_of trace t) (dead_mask_of dead t) → ⊥)
   kept-alive t found =
       let s = found.0 in
-      let kept = is.kept s found.1 in
-      let right = store.each s kept.0 in
+      let right = store.each s (is.thinned.among s found.1) in
       subst (λ u. IsInstance trace u × (IsCutWord m (slice_of trace u) (dead_mask_of dead u) → ⊥)) found.2
-      (right.0, kept.1 (slice_of trace s.instance) right.1)
+      (right.0, is.alive s found.1 (slice_of trace s.instance) right.1)
 
   alive-kept : (t : Binding) → IsInstance trace t × (IsCutWord m (slice_of trace t) (dead_mask_of dead t) → ⊥) → HasInstance after t
   alive-kept t alive = elim (kept-or_cut t alive.0) [ inl found ↦ found | inr cut ↦ absurd (alive.1 cut) ]

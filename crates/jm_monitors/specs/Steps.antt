@@ -106,12 +106,25 @@ pub record IsLiveEvent (m : Meaning) (dead : List Bool) (letter : ℕ) (b : Bind
 abbrev pub NoneCutAbove : Meaning → {S : Type 0} → (S → List ℕ → Type 0) → Binding → List Bool → List (Stored S) → Type 0
 NoneCutAbove m {S} Stands b dead stored = (s : Stored S) → Contains stored s → is_below b s.instance ≡ true → IsAliveState m Stands s.state (dead_mask_of dead s.instance)
 
+-- Some of the stored monitors were dropped, each of which is cut, and nothing was added.
+pub record IsThinned (m : Meaning) {S : Type 0} (Stands : S → List ℕ → Type 0) (dead : List Bool) (stored after : List (Stored S)) : Type 0 where
+  pub distinct : AllPairs (λ r s. r.instance ≢ s.instance) after
+  pub among : (s : Stored S) → Contains after s → Contains stored s
+  pub dropped : (s : Stored S) → Contains stored s → Contains after s ⊎ IsCutState m Stands s.state (dead_mask_of dead s.instance)
+
+-- none of the monitors is cut by these dead objects, given by their flags
+abbrev pub AreSpared : Meaning → {S : Type 0} → (S → List ℕ → Type 0) → List Bool → List (Stored S) → Type 0
+AreSpared m {S} Stands dead stored = (s : Stored S) → Contains stored s → IsAliveState m Stands s.state (dead_mask_of dead s.instance)
+
+-- of the marks those with a live object
+abbrev pub AreLiveMarks : List Bool → List Binding → List Binding → Type 0
+AreLiveMarks dead marks left = (b : Binding) → Contains left b ↔ (Contains marks b × (has_live dead b ≡ true))
+
 -- After a pass: of the stored monitors those that aren't cut, and of the marks those with a live object.
 pub record IsAfterPass (m : Meaning) {S : Type 0} (Stands : S → List ℕ → Type 0) (dead : List Bool) (stored after : List (Stored S)) (marks left : List Binding) : Type 0 where
-  pub distinct : AllPairs (λ r s. r.instance ≢ s.instance) after
-  pub kept : (s : Stored S) → Contains after s → Contains stored s × IsAliveState m Stands s.state (dead_mask_of dead s.instance)
-  pub dropped : (s : Stored S) → Contains stored s → Contains after s ⊎ IsCutState m Stands s.state (dead_mask_of dead s.instance)
-  pub left_marks : (b : Binding) → Contains left b ↔ (Contains marks b × (has_live dead b ≡ true))
+  pub thinned : IsThinned m Stands dead stored after
+  pub alive : AreSpared m Stands dead after
+  pub left_marks : AreLiveMarks dead marks left
 
 -- the flags after the death of o
 abbrev pub after_death : List Bool → ℕ → List Bool

@@ -1,5 +1,5 @@
 -- What a pass leaves.
-use Rattle.std.proofs.Common.{◌≡◌, ℕ, zero, suc, ◌<◌, ◌≤◌, ◌⊎◌, inl, inr, Bool, List, [], ◌∷◌, length, sym, ap, ◌∙◌, subst, arith}
+use Rattle.std.proofs.Common.{◌≡◌, ℕ, ◌≤◌, ◌⊎◌, inl, inr, Bool, List, length, sym, ap, ◌∙◌, subst, arith}
 use Rattle.std.specs.Prelude.{Option, Some, None, filter}
 use Rattle.std.proofs.lemmas.List.{length-map}
 use Rattle.std.proofs.lemmas.Option.{none-some}
@@ -11,7 +11,7 @@ use Rattle.jm_semantics.proofs.ListLemmas.{Contains-filter, Contains-from_filter
 use Rattle.jm_marks.specs.Marks.{dead_mask_of, has_live}
 use Rattle.jm_index.specs.Index.{Pair}
 use Rattle.jm_monitors.specs.declared.stored.Stored.{Stored}
-use Rattle.jm_monitors.specs.Steps.{IsAfterPass, IsCutState, IsAliveState}
+use Rattle.jm_monitors.specs.Steps.{IsThinned, AreSpared, AreLiveMarks, IsCutState, IsAliveState}
 use Rattle.jm_store.specs.declared.monitors.Slot.{Slot}
 use Rattle.jm_store.specs.Slots.{monitor_in, monitors_of, monitor_at, stored_in}
 use Rattle.jm_store.specs.Moves.{IsSwept}
@@ -34,11 +34,6 @@ module _ {S : Type 0} where
   pub all_slots : (slots : List (Slot S)) (n : ℕ) → length slots ≤ n → length (monitors_of slots) ≤ n
   all_slots slots n le = omega (arith, le, length-map slots monitor_in)
 
-  within_length : (monitors : List (Option (Stored S))) (k : ℕ) (s : Stored S) → monitor_at monitors k ≡ Some s → k < length monitors
-  within_length [] k s at = cc
-  within_length (x ∷ monitors) zero s at = omega arith
-  within_length (x ∷ monitors) (suc k) s at = let lt = within_length monitors k s at in omega (arith, lt)
-
 module _ (m : Meaning) {S : Type 0} (Stands : S → List ℕ → Type 0) (dead : List Bool) where
   stays : (x y : Option (Stored S)) (s : Stored S) → IsSwept m Stands dead x y → y ≡ Some s → (x ≡ Some s) × IsAliveState m Stands s.state (dead_mask_of dead s.instance)
   stays None y s swept is = absurd (none-some s (sym swept ∙ is))
@@ -52,22 +47,38 @@ module _ (m : Meaning) {S : Type 0} (Stands : S → List ℕ → Type 0) (dead :
   goes (Some r) None s swept is = let same : r ≡ s = cc in inr (subst (λ (v : Stored S). IsCutState m Stands v.state (dead_mask_of dead v.instance)) same swept)
   goes (Some r) (Some t) s swept is = let same : r ≡ s = cc in inl (ap (λ (v : Stored S). Some v) (swept.0 ∙ same))
 
-  pub after_pass : (old new : List (Option (Stored S))) (n : ℕ) (marks left : List Binding) → length old ≤ n → length new ≡ length old
-      → ((k : ℕ) → k < n → IsSwept m Stands dead (monitor_at old k) (monitor_at new k)) → AreSingle new → IsPermutation (filter (has_live dead) marks) left
-      → IsAfterPass m Stands dead (stored_in old) (stored_in new) marks left
-  after_pass old new n marks left all size swept single kept = record {
+  -- the marks with a live object, in an order of their own
+  pub live_marks : (marks left : List Binding) → IsPermutation (filter (has_live dead) marks) left → AreLiveMarks dead marks left
+  live_marks marks left kept b = (
+    (λ there. Contains-from_filter (has_live dead) marks b (Contains-permutation left (filter (has_live dead) marks) b (IsPermutation-sym (filter (has_live dead) marks) left kept) there)),
+    (λ both. Contains-permutation (filter (has_live dead) marks) left b kept (Contains-filter (has_live dead) marks b both.0 both.1)),
+  )
+
+  -- a slot's monitor is as before, or was swept
+  abbrev pub IsThinnedAt : Option (Stored S) → Option (Stored S) → Type 0
+  IsThinnedAt x y = (y ≡ x) ⊎ IsSwept m Stands dead x y
+
+  was : (x y : Option (Stored S)) (s : Stored S) → IsThinnedAt x y → y ≡ Some s → x ≡ Some s
+  was x y s (inl same) is = sym same ∙ is
+  was x y s (inr swept) is = (stays x y s swept is).0
+
+  is_cut : (x y : Option (Stored S)) (s : Stored S) → IsThinnedAt x y → x ≡ Some s → (y ≡ Some s) ⊎ IsCutState m Stands s.state (dead_mask_of dead s.instance)
+  is_cut x y s (inl same) is = inl (same ∙ is)
+  is_cut x y s (inr swept) is = goes x y s swept is
+
+  pub thinned : (old new : List (Option (Stored S))) → ((k : ℕ) → IsThinnedAt (monitor_at old k) (monitor_at new k)) → AreSingle new → IsThinned m Stands dead (stored_in old) (stored_in new)
+  thinned old new each single = record {
     distinct = single_stored new single;
-    kept = λ s there.
+    among = λ s there.
         let (k, at) = place_of new s there in
-        let lt = within_length new k s at in
-        let is = stays (monitor_at old k) (monitor_at new k) s (swept k (omega (arith, lt, size, all))) at in
-        (stored_at old k s is.0, is.1);
+        stored_at old k s (was (monitor_at old k) (monitor_at new k) s (each k) at);
     dropped = λ s there.
         let (k, at) = place_of old s there in
-        let lt = within_length old k s at in
-        elim (goes (monitor_at old k) (monitor_at new k) s (swept k (omega (arith, lt, all))) at) [ inl is ↦ inl (stored_at new k s is) | inr cut ↦ inr cut ];
-    left_marks = λ b. (
-      (λ there. Contains-from_filter (has_live dead) marks b (Contains-permutation left (filter (has_live dead) marks) b (IsPermutation-sym (filter (has_live dead) marks) left kept) there)),
-      (λ both. Contains-permutation (filter (has_live dead) marks) left b kept (Contains-filter (has_live dead) marks b both.0 both.1)),
-    );
+        elim (is_cut (monitor_at old k) (monitor_at new k) s (each k) at) [ inl is ↦ inl (stored_at new k s is) | inr cut ↦ inr cut ];
   }
+
+  -- where all slots were swept, no monitor that is left is cut
+  pub alive : (old new : List (Option (Stored S))) → ((k : ℕ) → IsSwept m Stands dead (monitor_at old k) (monitor_at new k)) → AreSpared m Stands dead (stored_in new)
+  alive old new swept s there =
+      let (k, at) = place_of new s there in
+      (stays (monitor_at old k) (monitor_at new k) s (swept k) at).1

@@ -18,7 +18,7 @@ use Rattle.jm_marks.specs.Marks.{dead_mask_of}
 use Rattle.jm_index.specs.Index.{Pair, AreBelow, IsFitting, flag_of}
 use Rattle.jm_monitors.specs.declared.stored.Stored.{Stored}
 use Rattle.jm_monitors.specs.Stores.{HasInstance, IsStoreOf}
-use Rattle.jm_monitors.specs.Steps.{IsBase, IsOverAfter, AreReached, IsReport, IsLiveEvent, AreMarksAfter, NoneCutAbove, IsCutState, IsAliveState}
+use Rattle.jm_monitors.specs.Steps.{IsBase, IsOverAfter, AreReached, IsReport, IsLiveEvent, AreMarksAfter, NoneCutAbove, IsCutState, IsAliveState, AreSpared}
 use Rattle.jm_monitors.proofs.BaseLemmas.{base_is_one-lem, made_is_new-lem}
 use Rattle.jm_monitors.proofs.ReachLemmas.{report_is_answer-lem}
 use Rattle.jm_monitors.proofs.EventLemmas.{event_keeps_store-lem}
@@ -26,7 +26,7 @@ use Rattle.jm_store.specs.declared.moves.Move.{Move}
 use Rattle.jm_store.specs.declared.moves.Plan.{Plan}
 use Rattle.jm_store.specs.Slots.{monitor_at, stored_in}
 use Rattle.jm_store.specs.Moves.{IsOutcomeAt, AreMovesOf, AreApart, reached_by, after_moves, AreEnding, EndsFewer, asks_by}
-use Rattle.jm_store.specs.Contents.{Contents, stored_of, AreSpared, IsFit, IsStoreAfter, IsPlacedFrom, AreDistinct, ArePlacedOf, ArePaired, IsPlanFor, IsPlanOf, with_ending}
+use Rattle.jm_store.specs.Contents.{Contents, stored_of, IsFit, IsStoreAfter, IsPlacedFrom, AreDistinct, ArePlacedOf, ArePaired, IsPlanFor, IsPlanOf, with_ending}
 use Rattle.jm_store.proofs.SlotLemmas.{stored_at, place_of}
 use Rattle.jm_store.proofs.GivenLemmas.{given_pairs, pairs_map, pairs_weaker, Contains-from_map}
 use Rattle.jm_store.proofs.HousingLemmas.{same_one}

@@ -1,5 +1,5 @@
 -- Slots and the monitors in them.
-use Rattle.std.proofs.Common.{◌≡◌, ℕ, zero, suc, ◌+◌, ◌<◌, List, [], ◌∷◌, ◌++◌, length, take, get_or, refl, sym, ap, ◌∙◌, subst, arith, append-nil}
+use Rattle.std.proofs.Common.{◌≡◌, ℕ, zero, suc, ◌+◌, ◌-◌, ◌<◌, ◌≤◌, List, [], ◌∷◌, ◌++◌, length, take, get_or, refl, sym, ap, ◌∙◌, subst, arith, append-nil}
 use Rattle.std.specs.Prelude.{Option, Some, None, Contains, slice_set}
 use Rattle.std.specs.List.{cons_option}
 use Rattle.std.specs.Option.{option_to_list}
@@ -8,7 +8,7 @@ use Rattle.jm_index.proofs.ReadLemmas.{Contains-none, Contains-cons}
 use Rattle.jm_monitors.specs.declared.stored.Stored.{Stored}
 use Rattle.jm_store.specs.declared.monitors.Slot.{Slot}
 use Rattle.jm_store.specs.declared.monitors.Slot.TheVariants.{Free, Planned, Taken}
-use Rattle.jm_store.specs.Slots.{monitor_in, IsUsed, slot_at, monitors_of, monitor_at, stored_in}
+use Rattle.jm_store.specs.Slots.{monitor_in, count_in, IsUsed, slot_at, monitors_of, monitor_at, stored_in}
 
 module _ {S : Type 0} where
   -- the monitor of a slot's number is that in the slot
@@ -28,6 +28,46 @@ module _ {S : Type 0} where
   stored_in-planned slots k x none was =
       ap stored_in (map-set monitor_in slots k x ∙ ap (λ (o : Option (Stored S)). slice_set (monitors_of slots) k o) none)
       ∙ stored_in-set (monitors_of slots) k (monitor_at-slot slots k ∙ was)
+
+  count_head : (x : Slot S) (rest : List (Stored S)) → length (cons_option (monitor_in x) rest) ≡ count_in x + length rest
+  count_head (Free next) rest = omega arith
+  count_head Planned rest = omega arith
+  count_head (Taken s) rest = omega arith
+
+  count_small : (x : Slot S) → count_in x ≤ 1
+  count_small (Free next) = omega arith
+  count_small Planned = omega arith
+  count_small (Taken s) = omega arith
+
+  -- how many monitors there are after a slot gets another content
+  pub count_set : (slots : List (Slot S)) (k : ℕ) (x : Slot S) → k < length slots
+      → length (stored_in (monitors_of (slice_set slots k x))) + count_in (slot_at slots k) ≡ length (stored_in (monitors_of slots)) + count_in x
+  count_set [] k x low = absurd (omega (arith, low))
+  count_set (y ∷ slots) zero x low = omega (arith, count_head x (stored_in (monitors_of slots)), count_head y (stored_in (monitors_of slots)))
+  count_set (y ∷ slots) (suc k) x low =
+      let ih = count_set slots k x (omega (arith, low)) in
+      omega (arith, ih, count_head y (stored_in (monitors_of slots)), count_head y (stored_in (monitors_of (slice_set slots k x))))
+
+  -- there are at most as many as slots, and at least as many as are in one slot
+  pub count_few : (slots : List (Slot S)) → length (stored_in (monitors_of slots)) ≤ length slots
+  count_few [] = omega arith
+  count_few (y ∷ slots) = let ih = count_few slots in omega (arith, ih, count_head y (stored_in (monitors_of slots)), count_small y)
+
+  pub count_there : (slots : List (Slot S)) (k : ℕ) → count_in (slot_at slots k) ≤ length (stored_in (monitors_of slots))
+  count_there [] k = omega arith
+  count_there (y ∷ slots) zero = omega (arith, count_head y (stored_in (monitors_of slots)))
+  count_there (y ∷ slots) (suc k) = let ih = count_there slots k in omega (arith, ih, count_head y (stored_in (monitors_of slots)))
+
+  -- fewer than slots, where one has none
+  pub count_less : (slots : List (Slot S)) (k : ℕ) → k < length slots → length (stored_in (monitors_of slots)) + 1 ≤ length slots + count_in (slot_at slots k)
+  count_less [] k low = absurd (omega (arith, low))
+  count_less (y ∷ slots) zero low = omega (arith, count_few slots, count_head y (stored_in (monitors_of slots)))
+  count_less (y ∷ slots) (suc k) low = let ih = count_less slots k (omega (arith, low)) in omega (arith, ih, count_head y (stored_in (monitors_of slots)), count_small y)
+
+  -- what a count becomes that was right
+  pub count_after : (slots : List (Slot S)) (k : ℕ) (x : Slot S) (taken n : ℕ) → k < length slots → n ≡ count_in (slot_at slots k) → taken ≡ length (stored_in (monitors_of slots))
+      → taken - n + count_in x ≡ length (stored_in (monitors_of (slice_set slots k x)))
+  count_after slots k x taken n low here is = let all = count_set slots k x low in let there = count_there slots k in omega (arith, all, there, here, is)
 
   pub stored_in-more : (slots : List (Slot S)) (x : Slot S) → stored_in (monitors_of (slots ++ x ∷ [])) ≡ stored_in (monitors_of slots) ++ option_to_list (monitor_in x)
   stored_in-more [] x = one (monitor_in x)

@@ -15,12 +15,12 @@ use Rattle.jm_marks.proofs.DeadLemmas.{dead_mask-none}
 use Rattle.jm_index.proofs.ReadLemmas.{Contains-none}
 use Rattle.jm_index.specs.Index.{PairList, flag_of, IsFitting, HasDied, AreListed}
 use Rattle.jm_monitors.specs.declared.stored.Stored.{Stored}
-use Rattle.jm_monitors.specs.Steps.{IsCutState, IsAliveState}
+use Rattle.jm_monitors.specs.Steps.{IsCutState, IsAliveState, AreSpared}
 use Rattle.jm_monitors.proofs.DeathLemmas.{cut_by_own_death-lem, object-placed}
 use Rattle.jm_store.specs.declared.moves.Move.{Move}
 use Rattle.jm_store.specs.Slots.{monitor_at, stored_in}
 use Rattle.jm_store.specs.Moves.{after_moves, IsSwept, LieWithin}
-use Rattle.jm_store.specs.Contents.{Contents, AreSpared, IsCutDown}
+use Rattle.jm_store.specs.Contents.{Contents, IsCutDown}
 use Rattle.jm_store.proofs.SlotLemmas.{stored_at, place_of}
 use Rattle.jm_store.proofs.AfterLemmas.{slot_is, moved_other, moved_here, length-after}
 

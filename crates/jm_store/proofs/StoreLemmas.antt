@@ -9,13 +9,13 @@ use Rattle.jm_index.specs.Index.{flag_of}
 use Rattle.jm_index.proofs.IndexLemmas.{IsFitting-death}
 use Rattle.jm_monitors.specs.declared.stored.Stored.{Stored}
 use Rattle.jm_monitors.specs.Stores.{IsStoreOf}
-use Rattle.jm_monitors.specs.Steps.{IsAtStart, AreMarksAfter, NoneCutAbove, IsAfterPass, after_death}
+use Rattle.jm_monitors.specs.Steps.{IsAtStart, AreMarksAfter, NoneCutAbove, IsThinned, AreSpared, AreLiveMarks, after_death}
 use Rattle.jm_monitors.proofs.StartLemmas.{start_is_store-lem}
 use Rattle.jm_monitors.proofs.PassLemmas.{death_keeps_store-lem, pass_keeps_store-lem}
 use Rattle.jm_store.specs.declared.moves.Plan.{Plan}
 use Rattle.jm_store.specs.Slots.{stored_in}
 use Rattle.jm_store.specs.Moves.{AreEnding, EndsFewer}
-use Rattle.jm_store.specs.Contents.{Contents, stored_of, monitors_after, AreSpared, IsFit, IsStoreAfter, IsPlanOf}
+use Rattle.jm_store.specs.Contents.{Contents, stored_of, monitors_after, IsFit, IsStoreAfter, IsPlanOf}
 use Rattle.jm_store.proofs.EndingLemmas.{ending_fewer}
 use Rattle.jm_store.proofs.SparedLemmas.{spared_fewer, alive_fewer}
 
@@ -57,13 +57,16 @@ module _ (m : Meaning) {S : Type 0} (Stands : S → List ℕ → Type 0) where
   }
 
   -- after a pass that dropped dead objects alone
-  pub store_after_pass : (trace : List ParametricEvent) (dead : List Bool) (old new : Contents S) → IsAfterPass m Stands dead (stored_of old) (stored_of new) old.marks new.marks → new.ending ≡ old.ending
+  pub store_after_pass : (trace : List ParametricEvent) (dead : List Bool) (old new : Contents S) → IsThinned m Stands dead (stored_of old) (stored_of new)
+      → (AreSpared m Stands old.index.dropped (stored_of old) → AreSpared m Stands dead (stored_of new)) → AreLiveMarks dead old.marks new.marks → new.ending ≡ old.ending
       → ((o : ℕ) → flag_of new.index.dropped o ≡ true → flag_of dead o ≡ true) → IsStoreAfter m Stands trace dead old → IsStoreAfter m Stands trace dead new
-  store_after_pass trace dead old new pass ending dropped holds = record {
-    monitors = (pass_keeps_store-lem m Stands trace dead (stored_of old) (stored_of new) old.marks new.marks holds.monitors pass).0;
-    ended = subst (λ (l : List ℕ). AreEnding m Stands l (stored_of new)) (sym ending) (λ s there. holds.ended s (pass.kept s there).0);
-    spared = λ s there. alive_fewer m Stands dead new.index.dropped s.state s.instance dropped (pass.kept s there).1;
-  }
+  store_after_pass trace dead old new thinned alive marks ending dropped holds =
+      let left = alive holds.spared in
+      record {
+        monitors = (pass_keeps_store-lem m Stands trace dead (stored_of old) (stored_of new) old.marks new.marks holds.monitors (record { thinned = thinned; alive = left; left_marks = marks })).0;
+        ended = subst (λ (l : List ℕ). AreEnding m Stands l (stored_of new)) (sym ending) (λ s there. holds.ended s (thinned.among s there));
+        spared = λ s there. alive_fewer m Stands dead new.index.dropped s.state s.instance dropped (left s there);
+      }
 
 -- a store that fits a table of objects fits it after a death
 pub fit_after_death : {S : Type 0} (store : Contents S) (dead : List Bool) (o : ℕ) → IsFit store dead → IsFit store (after_death dead o)

@@ -5,11 +5,10 @@ use Rattle.jm_model.specs.Meanings.{Meaning}
 use Rattle.jm_model.specs.declared.binding.Binding.{Binding}
 use Rattle.jm_semantics.specs.Traces.{ParametricEvent}
 use Rattle.jm_semantics.specs.Answers.{IsAnswer}
-use Rattle.jm_marks.specs.Marks.{dead_mask_of}
 use Rattle.jm_index.specs.Index.{Pair, PairList, IsFitting, AreBelow}
 use Rattle.jm_monitors.specs.declared.stored.Stored.{Stored}
 use Rattle.jm_monitors.specs.Stores.{IsStoreOf, HasInstance}
-use Rattle.jm_monitors.specs.Steps.{AreMarksAfter, NoneCutAbove, IsAliveState}
+use Rattle.jm_monitors.specs.Steps.{AreMarksAfter, NoneCutAbove, AreSpared}
 use Rattle.jm_store.specs.declared.moves.Move.{Move}
 use Rattle.jm_store.specs.declared.moves.Plan.{Plan}
 use Rattle.jm_store.specs.Slots.{monitor_at, stored_in}
@@ -32,10 +31,6 @@ stored_of store = stored_in store.monitors
 -- the store with other letters
 abbrev pub with_ending : {S : Type 0} → Contents S → List ℕ → Contents S
 with_ending store ending = record { monitors = store.monitors; marks = store.marks; is_open = store.is_open; index = store.index; ending = ending }
-
--- none of the monitors is cut by the death of these objects, given by their flags
-abbrev pub AreSpared : Meaning → {S : Type 0} → (S → List ℕ → Type 0) → List Bool → List (Stored S) → Type 0
-AreSpared m {S} Stands dead stored = (s : Stored S) → Contains stored s → IsAliveState m Stands s.state (dead_mask_of dead s.instance)
 
 -- The store fits a table of objects, given by its flags of dead objects: the objects of its bindings and marks stand in
 -- the table, and its index fits it.

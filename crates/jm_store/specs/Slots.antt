@@ -10,6 +10,17 @@ monitor_in (Free next) = None
 monitor_in Planned = None
 monitor_in (Taken s) = Some s
 
+-- how many monitors are in a slot
+abbrev pub count_in : {S : Type 0} → Slot S → ℕ
+count_in (Free next) = 0
+count_in Planned = 0
+count_in (Taken s) = 1
+
+-- what contracts see of the container: its slots, and the number of a free one, if there is one
+pub record SlotList (S : Type 0) : Type 0 where
+  pub slots : List (Slot S)
+  pub free : ℕ
+
 -- a slot is taken or planned
 abbrev pub IsUsed : {S : Type 0} → Slot S → Type 0
 IsUsed (Free next) = ⊥

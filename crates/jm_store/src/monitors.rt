@@ -1,9 +1,9 @@
 //! The container of the monitors.
-ghost use Rattle.std.specs.Prelude.{◌≡◌, ℕ, ◌+◌, ◌↔◌, [], true, false, List, map, length, slice_set, IfOk, OnErr, MatchOption, IsTrue, Some, None};
+ghost use Rattle.std.specs.Prelude.{◌≡◌, ℕ, ◌+◌, ◌↔◌, [], ◌∷◌, ◌<◌, true, false, List, map, length, slice_set, IfOk, OnErr, MatchOption, IsTrue, Some, None};
 ghost use Rattle.jm_monitors.specs.declared.stored.Stored.{Stored as Kept};
 ghost use Rattle.jm_monitors.specs.Steps.{IsCutState, IsAliveState};
 ghost use Rattle.jm_marks.specs.Marks.{dead_mask_of};
-ghost use Rattle.jm_store.specs.Slots.{monitors_of, monitor_at, stored_in, slot_at, IsReserved};
+ghost use Rattle.jm_store.specs.Slots.{monitors_of, monitor_at, stored_in, slot_at, count_in, IsReserved};
 ghost use Rattle.jm_store.specs.declared.monitors.Slot.TheVariants.{Free, Planned, Taken};
 
 use jm_marks::dead_mask;
@@ -11,6 +11,7 @@ use jm_model::{Binding, Monitor, NoMemory, Steps};
 use jm_monitors::Stored;
 use jm_objects::Objects;
 use std::alloc::Global;
+use std::marker::Model;
 use std::sync::ledger::Ledger;
 
 /// A place for a monitor.
@@ -24,29 +25,63 @@ pub(crate) enum Slot<S> {
     Taken(Stored<S>),
 }
 
-/// Monitors by slot.
+/// Monitors by slot. Contracts see the slots, and the number of a free one.
 #[derive(Drop)]
 pub(crate) struct Monitors<S> {
-    pub(crate) slots: Vec<Slot<S>>,
+    slots: Vec<Slot<S>>,
     /// The number of a free slot, if there is one.
-    pub(crate) free: usize,
+    free: usize,
+    /// How many monitors there are.
+    taken: usize,
+}
+
+impl<S> Model for Monitors<S> {
+    ghost use Rattle.std.specs.Prelude.{◌≡◌, length};
+    ghost use Rattle.jm_store.specs.Slots.{SlotList, monitors_of, stored_in};
+
+    ghost Value = { SlotList S };
+
+    ghost view = { λ m. record { slots = m.slots.items; free = m.free } };
+
+    ghost invariant = { λ m. m.taken ≡ length (stored_in (monitors_of m.slots.items)) };
 }
 
 impl<S: Drop> Monitors<S> {
     /// No slot.
     pub(crate) fn new(alloc: Global) -> Monitors<S>
-        ensures { result.slots.items ≡ [] }
+        ensures { result.slots ≡ [] }
     {
         Monitors {
             slots: Vec::new(alloc),
             free: 0,
+            taken: 0,
         }
+    }
+
+    /// One slot, with a monitor.
+    pub(crate) fn with_first(alloc: Global, monitor: Stored<S>) -> Result<Monitors<S>, NoMemory>
+        ensures { IfOk result (λ monitors. monitors.slots ≡ Taken monitor ∷ []) }
+    {
+        let mut slots = Vec::new(alloc);
+        slots.push(Slot::Taken(monitor))?;
+        Ok(Monitors {
+            slots,
+            free: 1,
+            taken: 1,
+        })
+    }
+
+    /// How many slots there are.
+    pub(crate) fn count_slots(&self) -> usize
+        ensures { result ≡ length self.now.slots }
+    {
+        self.slots.len()
     }
 
     /// The monitor of a slot, which is one step.
     pub(crate) fn lend<L: Ledger>(&self, slot: usize, steps: &mut Steps<L>) -> Option<&Stored<S>>
-        ensures value { MatchOption result (monitor_at (monitors_of self.now.slots.items) slot ≡ None)
-            (λ s. monitor_at (monitors_of self.now.slots.items) slot ≡ Some s.now) }
+        ensures value { MatchOption result (monitor_at (monitors_of self.now.slots) slot ≡ None)
+            (λ s. monitor_at (monitors_of self.now.slots) slot ≡ Some s.now) }
         ensures steps { MatchOption result (steps.new ≡ steps.old) (λ s. steps.new ≡ steps.old + 1) }
     {
         let monitor = self.peek(slot)?;
@@ -55,8 +90,8 @@ impl<S: Drop> Monitors<S> {
     }
 
     fn peek(&self, slot: usize) -> Option<&Stored<S>>
-        ensures { MatchOption result (monitor_at (monitors_of self.now.slots.items) slot ≡ None)
-            (λ s. monitor_at (monitors_of self.now.slots.items) slot ≡ Some s.now) }
+        ensures { MatchOption result (monitor_at (monitors_of self.now.slots) slot ≡ None)
+            (λ s. monitor_at (monitors_of self.now.slots) slot ≡ Some s.now) }
     {
         match self.slots.get(slot) {
             Some(Slot::Taken(monitor)) => Some(monitor),
@@ -66,9 +101,9 @@ impl<S: Drop> Monitors<S> {
 
     /// Makes a free slot planned, or adds a planned one.
     pub(crate) fn reserve(&mut self) -> Result<usize, NoMemory>
-        ensures reserved { IfOk result (λ k. IsReserved self.old.slots.items self.new.slots.items k) }
-        ensures stored { stored_in (monitors_of self.new.slots.items) ≡ stored_in (monitors_of self.old.slots.items) }
-        ensures same { OnErr result (self.new.slots.items ≡ self.old.slots.items) }
+        ensures reserved { IfOk result (λ k. IsReserved self.old.slots self.new.slots k) }
+        ensures stored { stored_in (monitors_of self.new.slots) ≡ stored_in (monitors_of self.old.slots) }
+        ensures same { OnErr result (self.new.slots ≡ self.old.slots) }
     {
         let slot = self.free;
         match self.slots.get(slot) {
@@ -83,9 +118,9 @@ impl<S: Drop> Monitors<S> {
 
     /// Adds a planned slot.
     fn grow(&mut self) -> Result<usize, NoMemory>
-        ensures reserved { IfOk result (λ k. IsReserved self.old.slots.items self.new.slots.items k) }
-        ensures stored { stored_in (monitors_of self.new.slots.items) ≡ stored_in (monitors_of self.old.slots.items) }
-        ensures same { OnErr result (self.new.slots.items ≡ self.old.slots.items) }
+        ensures reserved { IfOk result (λ k. IsReserved self.old.slots self.new.slots k) }
+        ensures stored { stored_in (monitors_of self.new.slots) ≡ stored_in (monitors_of self.old.slots) }
+        ensures same { OnErr result (self.new.slots ≡ self.old.slots) }
     {
         let slot = self.slots.len();
         self.slots.push(Slot::Planned)?;
@@ -94,7 +129,7 @@ impl<S: Drop> Monitors<S> {
 
     /// Whether a slot is planned.
     pub(crate) fn is_planned(&self, slot: usize) -> bool
-        ensures { IsTrue result ↔ (slot_at self.now.slots.items slot ≡ Planned) }
+        ensures { IsTrue result ↔ (slot_at self.now.slots slot ≡ Planned) }
     {
         match self.slots.get(slot) {
             Some(Slot::Planned) => true,
@@ -104,9 +139,10 @@ impl<S: Drop> Monitors<S> {
 
     /// Frees a slot.
     pub(crate) fn release(&mut self, slot: usize)
-        ensures { self.new.slots.items ≡ slice_set self.old.slots.items slot (Free self.old.free) }
+        ensures { self.new.slots ≡ slice_set self.old.slots slot (Free self.old.free) }
     {
         if slot < self.slots.len() {
+            self.taken -= count_at(&self.slots, slot);
             self.slots[slot] = Slot::Free(self.free);
             self.free = slot;
         }
@@ -114,9 +150,10 @@ impl<S: Drop> Monitors<S> {
 
     /// Puts a monitor into a slot.
     pub(crate) fn put(&mut self, slot: usize, monitor: Stored<S>)
-        ensures { self.new.slots.items ≡ slice_set self.old.slots.items slot (Taken monitor) }
+        ensures { self.new.slots ≡ slice_set self.old.slots slot (Taken monitor) }
     {
         if slot < self.slots.len() {
+            self.taken = self.taken - count_at(&self.slots, slot) + 1;
             self.slots[slot] = Slot::Taken(monitor);
         }
     }
@@ -128,9 +165,9 @@ impl<S: Drop> Monitors<S> {
         objects: &Objects,
         slot: usize,
     ) -> Option<Binding>
-        ensures cut { MatchOption result (MatchOption (monitor_at (monitors_of self.now.slots.items) slot) (Unit {0}) (λ s.
+        ensures cut { MatchOption result (MatchOption (monitor_at (monitors_of self.now.slots) slot) (Unit {0}) (λ s.
             IsAliveState (M.meaning (M.definition rules.now)) (M.StandsFor rules.now) s.state (dead_mask_of objects.now s.instance)))
-            (λ t. (s : Kept S) × (monitor_at (monitors_of self.now.slots.items) slot ≡ Some s) × (s.instance ≡ t)
+            (λ t. (s : Kept S) × (monitor_at (monitors_of self.now.slots) slot ≡ Some s) × (s.instance ≡ t)
             × IsCutState (M.meaning (M.definition rules.now)) (M.StandsFor rules.now) s.state (dead_mask_of objects.now t)) }
     {
         let monitor = self.peek(slot)?;
@@ -143,20 +180,14 @@ impl<S: Drop> Monitors<S> {
 
     /// How many monitors there are.
     pub(crate) fn len(&self) -> u64
-        ensures { result ≡ length (stored_in (monitors_of self.now.slots.items)) }
+        ensures { result ≡ length (stored_in (monitors_of self.now.slots)) }
     {
-        let mut count = 0;
-        for slot in &self.slots {
-            if let Slot::Taken(_) = slot {
-                count += 1;
-            }
-        }
-        count
+        self.taken as u64
     }
 
     /// The instances of the monitors, in the order of their slots.
     pub(crate) fn instances(&self) -> Result<Vec<Binding>, NoMemory>
-        ensures { IfOk result (λ list. list.items ≡ map (λ s. s.instance) (stored_in (monitors_of self.now.slots.items))) }
+        ensures { IfOk result (λ list. list.items ≡ map (λ s. s.instance) (stored_in (monitors_of self.now.slots))) }
     {
         let mut list = Vec::new(*self.slots.allocator());
         for slot in &self.slots {
@@ -165,6 +196,17 @@ impl<S: Drop> Monitors<S> {
             }
         }
         Ok(list)
+    }
+}
+
+/// How many monitors a slot has, which is none or one.
+fn count_at<S>(slots: &[Slot<S>], slot: usize) -> usize
+    requires { slot < length slots.now }
+    ensures { result ≡ count_in (slot_at slots.now slot) }
+{
+    match &slots[slot] {
+        Slot::Taken(_) => 1,
+        _ => 0,
     }
 }
 

@@ -11,7 +11,7 @@ mod dispose;
 mod place;
 mod reach;
 
-use crate::monitors::{Monitors, Slot};
+use crate::monitors::Monitors;
 use crate::moves::Move;
 use jm_index::Index;
 use jm_marks::Marks;
@@ -63,14 +63,14 @@ impl<M: Monitor> Model for Store<M> {
     ghost Value = { Contents M.State };
 
     ghost view = { λ s. record {
-      monitors = monitors_of s.monitors.slots.items;
+      monitors = monitors_of s.monitors.slots;
       marks = s.marks.list;
       is_open = s.is_open;
       index = s.index;
       ending = s.ending;
     } };
 
-    ghost invariant = { λ s. IsKept s.monitors.slots.items s.index.list s.domains.items s.is_open s.marks.spare };
+    ghost invariant = { λ s. IsKept s.monitors.slots s.index.list s.domains.items s.is_open s.marks.spare };
 }
 
 impl<M: Monitor> Store<M> {
@@ -126,12 +126,11 @@ impl<M: Monitor> Store<M> {
         index.add(monitor.instance, 0)?;
         let mut domains = Vec::new(alloc);
         domains.push(monitor.instance.mask())?;
-        let mut slots = Vec::new(alloc);
-        slots.push(Slot::Taken(monitor))?;
+        let monitors = Monitors::with_first(alloc, monitor)?;
         let mut ending = [u32::MAX; 256];
         ending[0] = 0;
         Ok(Store {
-            monitors: Monitors { slots, free: 1 },
+            monitors,
             index,
             marks: Marks::new(alloc),
             domains,

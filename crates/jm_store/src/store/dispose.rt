@@ -2,10 +2,10 @@
 ghost use Rattle.std.specs.Prelude.{◌≡◌, ℕ, List, Bool, false, Contains, Some, length};
 ghost use Rattle.jm_semantics.specs.Traces.{ParametricEvent};
 ghost use Rattle.jm_index.specs.Index.{IsKey, flag_of, IsFitting, without};
-ghost use Rattle.jm_monitors.specs.Steps.{IsAfterPass};
+ghost use Rattle.jm_monitors.specs.Steps.{IsThinned, AreSpared, AreLiveMarks};
 ghost use Rattle.jm_store.specs.Slots.{monitor_at};
 ghost use Rattle.jm_store.specs.Moves.{IsSwept};
-ghost use Rattle.jm_store.specs.Contents.{stored_of, IsFit, IsStoreAfter, AreSpared, IsCutDown};
+ghost use Rattle.jm_store.specs.Contents.{stored_of, IsFit, IsStoreAfter, IsCutDown};
 
 use super::Store;
 use jm_model::{Monitor, NoMemory};
@@ -17,10 +17,11 @@ impl<M: Monitor> Store<M> {
     pub fn dispose(&mut self, rules: &M, objects: &Objects) -> u64
         requires closed { self.old.is_open ≡ false }
         requires fits { IsFit self.old objects.now }
-        ensures pass { (trace : List ParametricEvent)
-            → IsStoreAfter (M.meaning (M.definition rules.now)) (M.StandsFor rules.now) trace objects.now self.old
-            → IsAfterPass (M.meaning (M.definition rules.now)) (M.StandsFor rules.now) objects.now (stored_of self.old) (stored_of self.new)
-            self.old.marks self.new.marks }
+        ensures thinned { IsThinned (M.meaning (M.definition rules.now)) (M.StandsFor rules.now) objects.now (stored_of self.old) (stored_of self.new) }
+        ensures alive { AreSpared (M.meaning (M.definition rules.now)) (M.StandsFor rules.now) self.old.index.dropped (stored_of self.old)
+            → AreSpared (M.meaning (M.definition rules.now)) (M.StandsFor rules.now) objects.now (stored_of self.new) }
+        ensures marks { AreLiveMarks objects.now self.old.marks self.new.marks }
+        ensures ending { self.new.ending ≡ self.old.ending }
         ensures keeps { (trace : List ParametricEvent)
             → IsStoreAfter (M.meaning (M.definition rules.now)) (M.StandsFor rules.now) trace objects.now self.old
             → IsStoreAfter (M.meaning (M.definition rules.now)) (M.StandsFor rules.now) trace objects.now self.new }
@@ -73,7 +74,7 @@ impl<M: Monitor> Store<M> {
         ensures all { (k : ℕ) → IsSwept (M.meaning (M.definition rules.now)) (M.StandsFor rules.now) objects.now
             (monitor_at self.old.monitors k) (monitor_at self.new.monitors k) }
     {
-        for slot in 0..self.monitors.slots.len() {
+        for slot in 0..self.monitors.count_slots() {
             self.drop_cut(rules, objects, slot);
         }
     }

@@ -24,6 +24,17 @@ const MANY: usize = 64;
 
 const FEW: usize = 4;
 
+/// Makes the room that a pass has for slots, where there are so many.
+fn make_room(slots: &mut Vec<usize>, count: usize) -> Result<(), NoMemory>
+    ensures { slots.new.items ≡ slots.old.items }
+{
+    let room = count / FEW + MANY;
+    if slots.capacity() < room {
+        slots.reserve(room)?;
+    }
+    Ok(())
+}
+
 impl<M: Monitor> Store<M> {
     /// Works out an event, and makes all growths. The contents are as before. Only monitors that are compatible with the
     /// binding are read, each once.
@@ -41,6 +52,7 @@ impl<M: Monitor> Store<M> {
         requires there { AreBelow (length objects.now) binding.now }
         ensures stored { stored_of self.new ≡ stored_of self.old }
         ensures marks { self.new.marks ≡ self.old.marks }
+        ensures fewer { EndsFewer self.old.ending self.new.ending }
         ensures fits { IsFit self.new objects.now }
         ensures closed { OnErr result (self.new.is_open ≡ false) }
         ensures opened { OnOk result (self.new.is_open ≡ true) }
@@ -79,6 +91,7 @@ impl<M: Monitor> Store<M> {
         requires none { moves.items ≡ [] }
         ensures stored { stored_of self.new ≡ stored_of self.old }
         ensures marks { self.new.marks ≡ self.old.marks }
+        ensures fewer { EndsFewer self.old.ending self.new.ending }
         ensures fits { IsFit self.new objects.now }
         ensures closed { OnErr result (self.new.is_open ≡ false) }
         ensures opened { OnOk result (self.new.is_open ≡ true) }
@@ -93,7 +106,7 @@ impl<M: Monitor> Store<M> {
         ensures steps { steps.new ≤ steps.old + count_by (λ s. is_compatible s.instance binding.now) (stored_of self.old) }
     {
         slots.clear();
-        slots.reserve(self.monitors.slots.len() / FEW + MANY)?;
+        make_room(slots, self.monitors.count_slots())?;
         let known = self.marks.contains(binding);
         let event = Event {
             rules,

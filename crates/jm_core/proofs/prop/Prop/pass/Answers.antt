@@ -14,7 +14,7 @@ invariant_of-self g c =
     let done = c.dispose-kept.ensures in
     let small : c.dispose-kept.result < 2 ^ 64 = c.dispose-kept.type_inv in
     let core = subst (λ (l : List Entry). IsCore m Stands l c.self.inside.objects c.dispose-kept.new.self) (sym c.push.ensures)
-    (core_after_pass m Stands c.self.inside.history c.self.inside.objects c.self.inside.store c.dispose-kept.new.self c.args.node c.dispose-kept.result c.self.invariant.0 c.requires (done.pass (trace_of c.self.inside.history) c.self.invariant.0.holds) small done.left done.closed done.fits (done.keeps (trace_of c.self.inside.history) c.self.invariant.0.holds)) in
+    (core_after_pass m Stands c.self.inside.history c.self.inside.objects c.self.inside.store c.dispose-kept.new.self c.args.node c.dispose-kept.result c.self.invariant.0 c.requires (record { thinned = done.thinned; alive = done.alive c.self.invariant.0.holds.spared; left_marks = done.marks }) small done.left done.closed done.fits (done.keeps (trace_of c.self.inside.history) c.self.invariant.0.holds)) in
     (core, rest_none m Stands c.self.inside.objects c.dispose-kept.new.self c.forget.new.self c.forget.ensures)
 
 pub returns-clause-legal : goal.returns-clause-legal

@@ -41,6 +41,9 @@ returns-clause-marks g c =
     let same = rw (← c.self.view_is) at c.loop-step.invariant.marks in
     rw (← same) c.add_mark.ensures
 
+pub returns-clause-ending : goal.returns-clause-ending
+returns-clause-ending g c = rw (← c.self.view_is) at c.loop-step.invariant.ending
+
 pub returns-clause-fits : goal.returns-clause-fits
 returns-clause-fits g c =
     let fits = rw (← c.self.view_is) at c.loop-step.invariant.fits in
@@ -58,7 +61,6 @@ returns-clause-works g c =
     let none : length c.loop-step.moves.items ≡ 0 = grind (arith, common_steps) in
     let after = rw (← c.self.view_is) at c.loop-step.invariant.monitors in
     let monitors = sym (after_none c.loop-step.moves.items _ none) ∙ after in
-    let ending = rw (← c.self.view_is) at c.loop-step.invariant.ending in
     let dropped = rw (← c.self.view_is) at c.loop-step.invariant.dropped in
     λ rules trace dead letter plan.
-    store_after_plan (g.M.Monitor.meaning (g.M.Monitor.definition rules)) (g.M.Monitor.StandsFor rules) trace dead letter c.args.self.now _ c.args.plan plan monitors (returns-clause-marks g c) ending dropped
+    store_after_plan (g.M.Monitor.meaning (g.M.Monitor.definition rules)) (g.M.Monitor.StandsFor rules) trace dead letter c.args.self.now _ c.args.plan plan monitors (returns-clause-marks g c) (returns-clause-ending g c) dropped

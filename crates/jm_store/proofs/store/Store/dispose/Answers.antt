@@ -1,4 +1,4 @@
-use Rattle.std.proofs.Common.{◌≤◌, List, filter, length, subst, arith}
+use Rattle.std.proofs.Common.{List, filter, subst}
 use Rattle.std.specs.Prelude.{Contains}
 use Rattle.std.specs.List.Sorted.{IsPermutation}
 use Rattle.std.proofs.lemmas.List.Sorted.{Contains-permutation, IsPermutation-sym}
@@ -6,7 +6,7 @@ use Rattle.jm_model.specs.declared.binding.Binding.{Binding}
 use Rattle.jm_semantics.proofs.ListLemmas.{Contains-from_filter}
 use Rattle.jm_marks.specs.Marks.{has_live}
 use Rattle.jm_store.specs.Slots.{monitors_of}
-use Rattle.jm_store.proofs.PassLemmas.{kept_swept, single_housed, after_pass}
+use Rattle.jm_store.proofs.PassLemmas.{kept_swept, single_housed, thinned, alive, live_marks}
 use Rattle.jm_store.proofs.FitLemmas.{housed_fits}
 use Rattle.jm_store.proofs.StoreLemmas.{store_after_pass}
 use Rattle.jm_store.proofs.store.Store.dispose.Goals as goal
@@ -14,18 +14,30 @@ use Rattle.jm_store.proofs.store.Store.dispose.Goals as goal
 pub invariant_of-self : goal.invariant_of-self
 invariant_of-self g c = kept_swept _ _ _ _ _ _ _ c.self.invariant c.drop_dead.ensures.list c.sweep.ensures.spare
 
-pub returns-clause-pass : goal.returns-clause-pass
-returns-clause-pass g c =
+pub returns-clause-thinned : goal.returns-clause-thinned
+returns-clause-thinned g c =
+    let m = g.M.Monitor.meaning (g.M.Monitor.definition c.args.rules.now) in
+    let Stands = g.M.Monitor.StandsFor c.args.rules.now in
+    let down = rw (← c.self.view_is) at c.drop_all_cut.ensures.down in
+    thinned m Stands c.args.objects.now c.args.self.now.monitors (monitors_of c.self.inside.monitors.slots) down.each (single_housed _ _ c.self.invariant.housed)
+
+pub returns-clause-alive : goal.returns-clause-alive
+returns-clause-alive g c =
+    let m = g.M.Monitor.meaning (g.M.Monitor.definition c.args.rules.now) in
+    let Stands = g.M.Monitor.StandsFor c.args.rules.now in
+    let all = rw (← c.self.view_is) at c.drop_all_cut.ensures.all in
+    λ spared. alive m Stands c.args.objects.now c.args.self.now.monitors (monitors_of c.self.inside.monitors.slots) (all spared)
+
+pub returns-clause-marks : goal.returns-clause-marks
+returns-clause-marks g c =
     let m = g.M.Monitor.meaning (g.M.Monitor.definition c.args.rules.now) in
     let Stands = g.M.Monitor.StandsFor c.args.rules.now in
     let dead = c.args.objects.now in
-    let all = rw (← c.self.view_is) at c.drop_all_cut.ensures.all in
     let down = rw (← c.self.view_is) at c.drop_all_cut.ensures.down in
-    let size : length c.args.self.now.monitors ≤ length c.args.self.now.monitors = omega arith in
-    λ trace holds.
-    after_pass m Stands dead c.args.self.now.monitors (monitors_of c.self.inside.monitors.slots.items) (length c.args.self.now.monitors) _ _ size down.size (λ k low. all holds.spared k)
-    (single_housed _ _ c.self.invariant.housed)
-    (subst (λ (l : List Binding). IsPermutation (filter (has_live dead) l) c.sweep.new.self.list) down.marks c.sweep.ensures.list)
+    live_marks m Stands dead _ _ (subst (λ (l : List Binding). IsPermutation (filter (has_live dead) l) c.sweep.new.self.list) down.marks c.sweep.ensures.list)
+
+pub returns-clause-ending : goal.returns-clause-ending
+returns-clause-ending g c = (rw (← c.self.view_is) at c.drop_all_cut.ensures.down).ending
 
 pub returns-clause-fits : goal.returns-clause-fits
 returns-clause-fits g c =
@@ -40,5 +52,5 @@ pub returns-clause-keeps : goal.returns-clause-keeps
 returns-clause-keeps g c =
     let m = g.M.Monitor.meaning (g.M.Monitor.definition c.args.rules.now) in
     let Stands = g.M.Monitor.StandsFor c.args.rules.now in
-    let ending = (rw (← c.self.view_is) at c.drop_all_cut.ensures.down).ending in
-    λ trace holds. store_after_pass m Stands trace c.args.objects.now c.args.self.now _ (returns-clause-pass g c trace holds) ending c.drop_dead.ensures.fits.reached holds
+    λ trace holds.
+    store_after_pass m Stands trace c.args.objects.now c.args.self.now _ (returns-clause-thinned g c) (returns-clause-alive g c) (returns-clause-marks g c) (returns-clause-ending g c) c.drop_dead.ensures.fits.reached holds

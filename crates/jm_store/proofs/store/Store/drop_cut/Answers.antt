@@ -7,10 +7,10 @@ invariant_of-self g c =
     rw (c.release.ensures, c.remove.ensures.list, ← cut.2) (kept_dropped _ _ _ _ _ c.args.slot _ cut.0 c.self.invariant cut.1)
 
 pub returns-in-Some-clause-monitors : goal.returns-in-Some-clause-monitors
-returns-in-Some-clause-monitors g c = rw (← c.self.view_is, c.release.ensures) (λ k other. freed_other c.self.inside.monitors.slots.items c.args.slot k _ other)
+returns-in-Some-clause-monitors g c = rw (← c.self.view_is, c.release.ensures) (λ k other. freed_other c.self.inside.monitors.slots c.args.slot k _ other)
 
 pub returns-in-Some-clause-here : goal.returns-in-Some-clause-here
 returns-in-Some-clause-here g c =
     let cut = c.in-Some.ensures.cut in
-    let gone = freed_here c.self.inside.monitors.slots.items c.args.slot c.self.inside.monitors.free cut.0 cut.1 in
+    let gone = freed_here c.self.inside.monitors.slots c.args.slot c.self.inside.monitors.free cut.0 cut.1 in
     rw (← c.self.view_is, c.release.ensures, cut.1, gone, cut.2) cut.3

@@ -35,7 +35,7 @@ pub returns-clause-all : goal.returns-clause-all
 returns-clause-all g c =
     let m = g.M.Monitor.meaning (g.M.Monitor.definition c.args.rules.now) in
     let Stands = g.M.Monitor.StandsFor c.args.rules.now in
-    let end : length c.self.inside.monitors.slots.items ≤ c.loop-slot.slot = grind (arith, common_steps) in
-    let same : length c.args.self.now.monitors ≡ length (monitors_of c.self.inside.monitors.slots.items) = ap (λ v. length v.monitors) (sym c.self.view_is) in
-    let size : length c.args.self.now.monitors ≤ c.loop-slot.slot = omega (arith, same, all_slots c.self.inside.monitors.slots.items c.loop-slot.slot end) in
+    let end : length c.self.inside.monitors.slots ≤ c.loop-slot.slot = grind (arith, common_steps) in
+    let same : length c.args.self.now.monitors ≡ length (monitors_of c.self.inside.monitors.slots) = ap (λ v. length v.monitors) (sym c.self.view_is) in
+    let size : length c.args.self.now.monitors ≤ c.loop-slot.slot = omega (arith, same, all_slots c.self.inside.monitors.slots c.loop-slot.slot end) in
     swept_below m Stands c.args.objects.now _ _ c.loop-slot.slot c.loop-slot.invariant.down size c.loop-slot.invariant.all

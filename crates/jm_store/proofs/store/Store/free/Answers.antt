@@ -18,12 +18,12 @@ invariant_of-self g c =
 pub returns-then-is_planned-clause-stored : goal.returns-then-is_planned-clause-stored
 returns-then-is_planned-clause-stored g c =
     let planned = ap monitor_in (c.is_planned.ensures.0 c.if-is_planned.true) in
-    rw (← c.self.view_is, c.release.ensures) (stored_in-planned c.self.inside.monitors.slots.items c.args.slot _ refl planned)
+    rw (← c.self.view_is, c.release.ensures) (stored_in-planned c.self.inside.monitors.slots c.args.slot _ refl planned)
 
 pub returns-then-is_planned-clause-monitors : goal.returns-then-is_planned-clause-monitors
 returns-then-is_planned-clause-monitors g c =
     let planned = ap monitor_in (c.is_planned.ensures.0 c.if-is_planned.true) in
-    rw (← c.self.view_is, c.release.ensures) (emptied_monitors c.self.inside.monitors.slots.items c.args.slot _ planned)
+    rw (← c.self.view_is, c.release.ensures) (emptied_monitors c.self.inside.monitors.slots c.args.slot _ planned)
 
 pub returns-then-is_planned-clause-within : goal.returns-then-is_planned-clause-within
 returns-then-is_planned-clause-within g c =

@@ -38,7 +38,7 @@ returns-in-Ok-clause-placed g c =
 
 pub returns-in-Err-clause-stored : goal.returns-in-Err-clause-stored
 returns-in-Err-clause-stored g c =
-    rw (← c.self.view_is, c.release.ensures) (released_stored c.self.inside.monitors.slots.items c.reserve.new.self.slots.items c.in_ok-slot.slot _ c.in_ok-slot.ensures.reserved.here c.in_ok-slot.ensures.stored)
+    rw (← c.self.view_is, c.release.ensures) (released_stored c.self.inside.monitors.slots c.reserve.new.self.slots c.in_ok-slot.slot _ c.in_ok-slot.ensures.reserved.here c.in_ok-slot.ensures.stored)
 
 pub returns-in-Err-clause-monitors : goal.returns-in-Err-clause-monitors
 returns-in-Err-clause-monitors g c = rw (← c.self.view_is, c.release.ensures) (released_monitors _ _ c.in_ok-slot.slot _ c.in_ok-slot.ensures.reserved)

@@ -55,6 +55,12 @@ returns-in_err-moves-2-clause-keeps g c =
     store_same m Stands trace c.args.objects.now c.args.self.now c.open_plan.new.self opened.stored opened.marks fewer
     (opened_fewer c.args.self.now.index c.open_plan.new.self.index c.args.objects.now c.arrange.new.moves.items c.requires.fits.index within opened.fits)
 
+pub returns-in_err-moves-2-clause-fewer : goal.returns-in_err-moves-2-clause-fewer
+returns-in_err-moves-2-clause-fewer g c = rw c.in_err-moves-2.ensures.ending (fewer-refl _)
+
+pub returns-clause-fewer : goal.returns-clause-fewer
+returns-clause-fewer g c = rw c.in_ok-moves-2.ensures.ending at c.end_fewer.ensures.fewer
+
 pub returns-clause-stored : goal.returns-clause-stored
 returns-clause-stored g c = rw c.end_fewer.ensures.same c.in_ok-moves-2.ensures.stored
 
@@ -93,7 +99,7 @@ returns-clause-keeps g c =
     let within = λ (move : Move g.row.M-State.Denot) (there : Contains c.arrange.new.moves.items move).
     moves_within m Stands _ _ _ _ _ _ _ c.in_ok-moves.ensures.moves (length c.args.objects.now) c.requires.fits.instances c.requires.there move
     (Contains-permutation _ _ move (IsPermutation-sym _ _ c.arrange.ensures.same) there) in
-    let fewer : EndsFewer c.args.self.now.ending c.end_fewer.new.self.ending = rw opened.ending at c.end_fewer.ensures.fewer in
+    let fewer = returns-clause-fewer g c in
     λ trace.
     rw c.end_fewer.ensures.same
     (store_same m Stands trace c.args.objects.now c.args.self.now (with_ending c.open_plan.new.self c.end_fewer.new.self.ending) opened.stored opened.marks fewer

@@ -10,7 +10,7 @@ use Rattle.jm_store.proofs.store.Store.with_first.Goals as goal
 
 pub invariant_of-result : goal.invariant_of-result
 invariant_of-result g c =
-    rw (c.in_ok-push-2.ensures.items, c.new-slots.ensures.items, c.in_ok-add.ensures.added, c.new-index.ensures.list, c.in_ok-push.ensures.items, c.new-domains.ensures.items)
+    rw (c.in_ok-monitors.ensures, c.in_ok-add.ensures.added, c.new-index.ensures.list, c.in_ok-push.ensures.items, c.new-domains.ensures.items)
     (kept_first c.args.monitor c.mask.result c.new.result.spare (sym c.mask.ensures.value))
 
 pub returns-clause-fits : goal.returns-clause-fits
@@ -18,7 +18,7 @@ returns-clause-fits g c =
     let kept = kept_first c.args.monitor c.mask.result c.new.result.spare (sym c.mask.ensures.value) in
     λ dead.
     let below : AreBelow (length dead) c.args.monitor.instance = subst (λ (b : Binding). AreBelow (length dead) b) (sym c.requires) (below_empty (length dead)) in
-    housed_fits _ _ _ c.add.new.self _ dead (rw (c.in_ok-push-2.ensures.items, c.new-slots.ensures.items, c.in_ok-add.ensures.added, c.new-index.ensures.list) kept.housed)
+    housed_fits _ _ _ c.add.new.self _ dead (rw (c.in_ok-monitors.ensures, c.in_ok-add.ensures.added, c.new-index.ensures.list) kept.housed)
     (c.in_ok-add.ensures.fits dead (c.new-index.ensures.fits dead) below) (λ b there. absurd (Contains-none b (rw c.new.ensures at there)))
 
 pub returns-clause-none_ending : goal.returns-clause-none_ending
