@@ -22,4 +22,4 @@ IsSound catalog known = IsEventOf catalog known.word.now known.count known.event
 
 -- and so does each that there is
 abbrev pub AreSound : List CatalogEntry → List (Option Known) → Type 0
-AreSound catalog places = All (λ place. IfSome place (IsSound catalog)) places
+AreSound catalog slots = All (λ slot. IfSome slot (IsSound catalog)) slots

@@ -75,8 +75,16 @@ impl Catalog {
         }
     }
 
+    /// The name of a specification.
+    pub fn name(&self, spec: u8) -> &str
+        requires { spec < length self.now }
+        ensures { option_map (λ e. e.name) (slice_get self.now spec) ≡ Some result.now }
+    {
+        self.names.name(spec as u32)
+    }
+
     /// The parameters and events of a specification.
-    pub(crate) fn table(&self, spec: u8) -> &EventTable
+    pub fn table(&self, spec: u8) -> &EventTable
         requires { spec < length self.now }
         ensures { option_map (λ e. e.table) (slice_get self.now spec) ≡ Some result.now }
     {

@@ -16,39 +16,39 @@ pub struct Known<'a> {
     pub event: NamedEvent,
 }
 
-/// Known words, each in the place that its bytes give. A new word takes the place of one that stands there.
+/// Known words, each in the slot that its bytes give. A new word takes the slot of one that stands there.
 #[derive(Clone, Copy)]
 pub struct KnownWords<'a> {
-    places: [Option<Known<'a>>; 64],
+    slots: [Option<Known<'a>>; 64],
 }
 
 impl<'a> KnownWords<'a> {
     /// No word.
     pub fn new() -> KnownWords<'a>
-        ensures { (catalog : List CatalogEntry) → AreSound catalog result.places }
+        ensures { (catalog : List CatalogEntry) → AreSound catalog result.slots }
     {
-        KnownWords { places: [None; 64] }
+        KnownWords { slots: [None; 64] }
     }
 
     /// The event of a word with so many objects, if it is known.
     pub fn find(&self, word: &[u8], count: usize) -> Option<NamedEvent>
-        ensures { (catalog : List CatalogEntry) → AreSound catalog self.now.places →
+        ensures { (catalog : List CatalogEntry) → AreSound catalog self.now.slots →
             IfSome result (IsEventOf catalog word.now count) }
     {
-        known_event(&self.places[place_of(word)], word, count)
+        known_event(&self.slots[slot_of(word)], word, count)
     }
 
     /// Keeps a word.
     pub fn keep(&mut self, known: Known<'a>)
-        ensures { (catalog : List CatalogEntry) → AreSound catalog self.old.places → IsSound catalog known.entry →
-            AreSound catalog self.new.places }
+        ensures { (catalog : List CatalogEntry) → AreSound catalog self.old.slots → IsSound catalog known.entry →
+            AreSound catalog self.new.slots }
     {
-        self.places[place_of(known.word)] = Some(known);
+        self.slots[slot_of(known.word)] = Some(known);
     }
 }
 
-/// The place of a word, by its last bytes: the words of a specification begin with the same.
-fn place_of(word: &[u8]) -> usize
+/// The slot of a word, by its last bytes: the words of a specification begin with the same.
+fn slot_of(word: &[u8]) -> usize
     ensures { result < 64 }
 {
     match word {

@@ -10,7 +10,7 @@ ghost use Rattle.jm_script.specs.Known.{AreSound};
 use crate::catalog::Catalog;
 use crate::known::KnownWords;
 use crate::script::Target;
-use crate::statement::{Place, death_line, event_line, pass_line};
+use crate::statement::{Position, death_line, event_line, pass_line};
 use crate::words::is_word;
 use jm_events::Names;
 use jm_model::ScriptError;
@@ -20,21 +20,21 @@ use std::alloc::Global;
 pub fn read_line<'a>(
     alloc: Global,
     catalog: &Catalog,
-    place: Place,
+    position: Position,
     words: &[&'a [u8]],
     names: &mut Names,
     known: &mut KnownWords<'a>,
 ) -> Result<Option<Target>, ScriptError>
     requires few { length names.old ≤ 65536 }
-    requires known { AreSound catalog.now known.old.places }
-    ensures known { AreSound catalog.now known.new.places }
+    requires known { AreSound catalog.now known.old.slots }
+    ensures known { AreSound catalog.now known.new.slots }
     ensures fits { IfOk result (λ target. IfSome target (FitsTarget catalog.now (length names.new))) }
     ensures read { (line : List ℕ) → map (λ w. w.now) words.now ≡ words_of line →
-        IsReadAs (line_meaning catalog.now place.count place.line line names.old) names.old result names.new }
+        IsReadAs (line_meaning catalog.now position.count position.line line names.old) names.old result names.new }
 {
     match words {
         [] => Ok(None),
-        [word, rest @ ..] => words_line(alloc, catalog, place, word, rest, names, known),
+        [word, rest @ ..] => words_line(alloc, catalog, position, word, rest, names, known),
     }
 }
 
@@ -42,23 +42,23 @@ pub fn read_line<'a>(
 fn words_line<'a>(
     alloc: Global,
     catalog: &Catalog,
-    place: Place,
+    position: Position,
     word: &'a [u8],
     rest: &[&[u8]],
     names: &mut Names,
     known: &mut KnownWords<'a>,
 ) -> Result<Option<Target>, ScriptError>
     requires few { length names.old ≤ 65536 }
-    requires known { AreSound catalog.now known.old.places }
-    ensures known { AreSound catalog.now known.new.places }
+    requires known { AreSound catalog.now known.old.slots }
+    ensures known { AreSound catalog.now known.new.slots }
     ensures fits { IfOk result (λ target. IfSome target (FitsTarget catalog.now (length names.new))) }
-    ensures read { IsReadAs (statement_meaning catalog.now place.count place.line names.old (statement_of word.now (map (λ w. w.now) rest.now))) names.old result names.new }
+    ensures read { IsReadAs (statement_meaning catalog.now position.count position.line names.old (statement_of word.now (map (λ w. w.now) rest.now))) names.old result names.new }
 {
     if is_word(word, b"death") {
-        death_line(alloc, place, rest, names)
+        death_line(alloc, position, rest, names)
     } else if is_word(word, b"pass") {
-        pass_line(catalog, place, rest)
+        pass_line(catalog, position, rest)
     } else {
-        event_line(alloc, catalog, place, word, rest, names, known)
+        event_line(alloc, catalog, position, word, rest, names, known)
     }
 }

@@ -8,7 +8,7 @@ use crate::catalog::Catalog;
 use crate::known::KnownWords;
 use crate::line::read_line;
 use crate::script::{Script, ScriptLine};
-use crate::statement::Place;
+use crate::statement::Position;
 use crate::words::{behind_line, first_words};
 use jm_events::Names;
 use jm_model::ScriptError;
@@ -51,7 +51,7 @@ pub fn read_script(
     let mut rest = Some(bytes);
     while let Some(text) = rest {
         number += 1;
-        let place = Place {
+        let position = Position {
             line: number,
             count: *count + lines.len() as u32,
         };
@@ -59,10 +59,10 @@ pub fn read_script(
             return Err(ScriptError::NoMemory);
         };
         rest = behind_line(text, end);
-        let target = match read_line(alloc, catalog, place, &words, objects, &mut known) {
+        let target = match read_line(alloc, catalog, position, &words, objects, &mut known) {
             Ok(target) => target,
             Err(error) => {
-                *count = count_left(error, place.count, *count);
+                *count = count_left(error, position.count, *count);
                 return Err(error);
             }
         };

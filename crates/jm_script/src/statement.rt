@@ -15,7 +15,7 @@ use crate::event::{NamedEvent, named_event};
 use crate::known::{Known, KnownWords};
 use crate::objects::{are_objects, have_room, mention};
 use crate::script::Target;
-use crate::words::{is_name, place_of, text};
+use crate::words::{is_name, position_of, text};
 use jm_events::Names;
 use jm_model::{Binding, ScriptError, ScriptFault};
 use std::alloc::Global;
@@ -24,12 +24,12 @@ const MOST_STEPS: u32 = 200_000;
 
 /// Where a line stands: its number, and how many steps stand before it in all scripts.
 #[derive(Clone, Copy)]
-pub struct Place {
+pub struct Position {
     pub line: u32,
     pub count: u32,
 }
 
-impl Place {
+impl Position {
     /// Whether one step more would be too many.
     fn is_full(self) -> bool
         ensures { result ≡ nat_le 200000 self.count }
@@ -54,23 +54,23 @@ impl Place {
 pub fn event_line<'a>(
     alloc: Global,
     catalog: &Catalog,
-    place: Place,
+    position: Position,
     word: &'a [u8],
     objects: &[&[u8]],
     names: &mut Names,
     known: &mut KnownWords<'a>,
 ) -> Result<Option<Target>, ScriptError>
     requires few { length names.old ≤ 65536 }
-    requires known { AreSound catalog.now known.old.places }
-    ensures known { AreSound catalog.now known.new.places }
+    requires known { AreSound catalog.now known.old.slots }
+    ensures known { AreSound catalog.now known.new.slots }
     ensures fits { IfOk result (λ target. IfSome target (FitsTarget catalog.now (length names.new))) }
-    ensures read { IsReadAs (statement_meaning catalog.now place.count place.line names.old (event_statement word.now (map (λ w. w.now) objects.now))) names.old result names.new }
+    ensures read { IsReadAs (statement_meaning catalog.now position.count position.line names.old (event_statement word.now (map (λ w. w.now) objects.now))) names.old result names.new }
 {
-    let event = match event_of(catalog, place, word, objects, known) {
+    let event = match event_of(catalog, position, word, objects, known) {
         Ok(event) => event,
         Err(error) => return Err(error),
     };
-    let numbers = match numbers(alloc, place, objects, names) {
+    let numbers = match numbers(alloc, position, objects, names) {
         Ok(numbers) => numbers,
         Err(error) => return Err(error),
     };
@@ -85,24 +85,24 @@ pub fn event_line<'a>(
 /// The event of a line, if it has one more step; it is looked up where the word isn't known.
 fn event_of<'a>(
     catalog: &Catalog,
-    place: Place,
+    position: Position,
     word: &'a [u8],
     objects: &[&[u8]],
     known: &mut KnownWords<'a>,
 ) -> Result<NamedEvent, ScriptError>
-    requires { AreSound catalog.now known.old.places }
-    ensures known { AreSound catalog.now known.new.places }
+    requires { AreSound catalog.now known.old.slots }
+    ensures known { AreSound catalog.now known.new.slots }
     ensures ok { IfOk result (IsEventOf catalog.now word.now (length objects.now)) }
     ensures objects { OnOk result (IsTrue (list_all is_object (map (λ w. w.now) objects.now))) }
-    ensures room { OnOk result (place.count < 200000) }
-    ensures err { (names : List (List ℕ)) → IfErr result (λ error. IsStoppedBy (statement_meaning catalog.now place.count place.line names (event_statement word.now (map (λ w. w.now) objects.now))) names error names) }
+    ensures room { OnOk result (position.count < 200000) }
+    ensures err { (names : List (List ℕ)) → IfErr result (λ error. IsStoppedBy (statement_meaning catalog.now position.count position.line names (event_statement word.now (map (λ w. w.now) objects.now))) names error names) }
 {
     if let Some(event) = known.find(word, objects.len()) {
-        if are_objects(objects) && !place.is_full() {
+        if are_objects(objects) && !position.is_full() {
             return Ok(event);
         }
     }
-    let event = new_event(catalog, place, word, objects)?;
+    let event = new_event(catalog, position, word, objects)?;
     known.keep(Known {
         word,
         count: objects.len(),
@@ -114,39 +114,39 @@ fn event_of<'a>(
 /// The same by a look-up.
 fn new_event(
     catalog: &Catalog,
-    place: Place,
+    position: Position,
     word: &[u8],
     objects: &[&[u8]],
 ) -> Result<NamedEvent, ScriptError>
     ensures ok { IfOk result (IsEventOf catalog.now word.now (length objects.now)) }
     ensures objects { OnOk result (IsTrue (list_all is_object (map (λ w. w.now) objects.now))) }
-    ensures room { OnOk result (place.count < 200000) }
-    ensures err { (names : List (List ℕ)) → IfErr result (λ error. IsStoppedBy (statement_meaning catalog.now place.count place.line names (event_statement word.now (map (λ w. w.now) objects.now))) names error names) }
+    ensures room { OnOk result (position.count < 200000) }
+    ensures err { (names : List (List ℕ)) → IfErr result (λ error. IsStoppedBy (statement_meaning catalog.now position.count position.line names (event_statement word.now (map (λ w. w.now) objects.now))) names error names) }
 {
-    let dot = place_of(word, b'.');
+    let dot = position_of(word, b'.');
     let spec = &word[..dot];
     let event = behind(word, dot);
     if !is_event_line(spec, event, objects) {
-        return Err(place.bad_line());
+        return Err(position.bad_line());
     }
-    if place.is_full() {
-        return Err(place.too_many_lines());
+    if position.is_full() {
+        return Err(position.too_many_lines());
     }
-    match named_event(catalog, place.line, spec, event, objects.len()) {
+    match named_event(catalog, position.line, spec, event, objects.len()) {
         Ok(event) => Ok(event),
         Err(fault) => Err(ScriptError::Bad(fault)),
     }
 }
 
 /// What stands behind a place of a word, if anything does.
-fn behind(word: &[u8], place: usize) -> &[u8]
-    requires { place ≤ length word.now }
-    ensures { result.now ≡ drop (place + 1) word.now }
+fn behind(word: &[u8], position: usize) -> &[u8]
+    requires { position ≤ length word.now }
+    ensures { result.now ≡ drop (position + 1) word.now }
 {
-    if place == word.len() {
+    if position == word.len() {
         return &[];
     }
-    &word[place + 1..]
+    &word[position + 1..]
 }
 
 fn is_event_line(spec: &[u8], event: &[u8], objects: &[&[u8]]) -> bool
@@ -158,7 +158,7 @@ fn is_event_line(spec: &[u8], event: &[u8], objects: &[&[u8]]) -> bool
 /// The numbers of the objects that a line mentions.
 fn numbers(
     alloc: Global,
-    place: Place,
+    position: Position,
     objects: &[&[u8]],
     names: &mut Names,
 ) -> Result<[u32; 8], ScriptError>
@@ -168,13 +168,13 @@ fn numbers(
     ensures room { OnOk result (length (mentioned names.old (map (λ w. w.now) objects.now)) ≤ 65536) }
     ensures ok { OnOk result (names.new ≡ mentioned names.old (map (λ w. w.now) objects.now)) }
     ensures numbers { IfOk result (λ numbers. take (length objects.now) numbers ≡ numbers_of names.old (map (λ w. w.now) objects.now)) }
-    ensures err { (target_of : List ℕ → Target) → IfErr result (λ error. IsStoppedBy (mentioning place.line names.old (map (λ w. w.now) objects.now) target_of) names.old error names.new) }
+    ensures err { (target_of : List ℕ → Target) → IfErr result (λ error. IsStoppedBy (mentioning position.line names.old (map (λ w. w.now) objects.now) target_of) names.old error names.new) }
 {
     let Ok(room) = have_room(alloc, objects, names) else {
         return Err(ScriptError::NoMemory);
     };
     if !room {
-        let line = place.line;
+        let line = position.line;
         return Err(ScriptError::Bad(ScriptFault::TooManyObjects { line }));
     }
     match mention(objects, names) {
@@ -186,21 +186,21 @@ fn numbers(
 /// A line `death OBJECT`, by the words behind the first.
 pub fn death_line(
     alloc: Global,
-    place: Place,
+    position: Position,
     words: &[&[u8]],
     names: &mut Names,
 ) -> Result<Option<Target>, ScriptError>
     requires { length names.old ≤ 65536 }
     ensures fits { (catalog : List CatalogEntry) → IfOk result (λ target. IfSome target (FitsTarget catalog (length names.new))) }
-    ensures read { (catalog : List CatalogEntry) → IsReadAs (statement_meaning catalog place.count place.line names.old (death_statement (map (λ w. w.now) words.now))) names.old result names.new }
+    ensures read { (catalog : List CatalogEntry) → IsReadAs (statement_meaning catalog position.count position.line names.old (death_statement (map (λ w. w.now) words.now))) names.old result names.new }
 {
     if !is_one_object(words) {
-        return Err(place.bad_line());
+        return Err(position.bad_line());
     }
-    if place.is_full() {
-        return Err(place.too_many_lines());
+    if position.is_full() {
+        return Err(position.too_many_lines());
     }
-    let numbers = match numbers(alloc, place, words, names) {
+    let numbers = match numbers(alloc, position, words, names) {
         Ok(numbers) => numbers,
         Err(error) => return Err(error),
     };
@@ -216,25 +216,25 @@ fn is_one_object(words: &[&[u8]]) -> bool
 /// A line `pass SPEC`, by the words behind the first.
 pub fn pass_line(
     catalog: &Catalog,
-    place: Place,
+    position: Position,
     words: &[&[u8]],
 ) -> Result<Option<Target>, ScriptError>
     ensures fits { (names : ℕ) → IfOk result (λ target. IfSome target (FitsTarget catalog.now names)) }
-    ensures read { (names : List (List ℕ)) → IsReadAs (statement_meaning catalog.now place.count place.line names (pass_statement (map (λ w. w.now) words.now))) names result names }
+    ensures read { (names : List (List ℕ)) → IsReadAs (statement_meaning catalog.now position.count position.line names (pass_statement (map (λ w. w.now) words.now))) names result names }
 {
     let [spec] = words else {
-        return Err(place.bad_line());
+        return Err(position.bad_line());
     };
     if !is_name(spec) {
-        return Err(place.bad_line());
+        return Err(position.bad_line());
     }
-    if place.is_full() {
-        return Err(place.too_many_lines());
+    if position.is_full() {
+        return Err(position.too_many_lines());
     }
     match catalog.find(text(spec)) {
         Some(spec) => Ok(Some(Target::Pass { spec })),
         None => {
-            let line = place.line;
+            let line = position.line;
             Err(ScriptError::Bad(ScriptFault::UnknownSpec { line }))
         }
     }

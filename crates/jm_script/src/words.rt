@@ -53,7 +53,7 @@ fn marked_words<'a>(text: &'a [u8], words: &mut Vec<&'a [u8]>) -> Result<usize, 
     ensures words { OnOk result (map (λ w. w.now) words.new.items ≡ words_of (first_line text.now)) }
     ensures line { IfOk result (λ end. end ≡ position_or_len is_line_feed text.now) }
 {
-    let end = place_of(text, b'\n');
+    let end = position_of(text, b'\n');
     read_words(&text[..end], words)?;
     Ok(end)
 }
@@ -153,7 +153,7 @@ fn content(line: &[u8]) -> &[u8]
     ensures { result.now ≡ content_of line.now }
 {
     let line = without_carriage_return(line);
-    &line[..place_of(line, b'#')]
+    &line[..position_of(line, b'#')]
 }
 
 /// Without a carriage return at the end.
@@ -167,7 +167,7 @@ fn without_carriage_return(line: &[u8]) -> &[u8]
 }
 
 /// Where a byte first stands, or the text ends.
-pub fn place_of(text: &[u8], byte: u8) -> usize
+pub fn position_of(text: &[u8], byte: u8) -> usize
     ensures value { result ≡ position_or_len (λ b. b == byte) text.now }
     ensures fits { result ≤ length text.now }
 {

@@ -8,3 +8,4 @@ pub mod ScriptSteps
 pub mod HistorySteps
 pub mod JobTold
 pub mod FaultLemmas
+pub mod TokenLemmas

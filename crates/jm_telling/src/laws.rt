@@ -1,4 +1,5 @@
-//! What holds of the histories of all accepted commands, and of the first faults of all files.
+//! What holds of the histories of all accepted commands, of the first faults of all files, and of the tokens of all
+//! specifications.
 ghost use Rattle.std.specs.Prelude.{◌≡◌, ℕ, List, Option, map};
 ghost use Rattle.jm_model.specs.declared.fault.ScriptFault.{ScriptFault};
 ghost use Rattle.jm_model.specs.declared.fault.SpecFault.{SpecFault};
@@ -12,6 +13,7 @@ ghost use Rattle.jm_top.specs.Histories.{AreHistoriesFrom, lexicon};
 ghost use Rattle.jm_top.specs.Jobs.{IsJob, Accepted};
 ghost use Rattle.jm_telling.specs.Counts.{HaveFewFirings};
 ghost use Rattle.jm_telling.specs.FirstFaults.{IsSameFault};
+ghost use Rattle.jm_telling.specs.TokenLaws.{TokensTile, WordsAreMaximal, MarksAreLongest};
 
 /// The names of an accepted command are fit to be printed: in each of its specifications the parameters, the events
 /// and the handlers each have names of their own, and so have the objects; and none of these holds a line feed, a space,
@@ -54,4 +56,22 @@ pub fn one_script_fault()
 pub fn one_spec_fault()
     ensures { (bytes : List ℕ) (fault other : SpecFault)
         → IsSpecFault bytes fault → IsSpecFault bytes other → IsSameFault fault other }
+{}
+
+/// The tokens of a specification and what is dropped between them tile its bytes: in order, without overlap, and from the
+/// first byte to the last. What is dropped is white space, comments up to the end of their line, and comments up to the
+/// first `*/`.
+pub fn tokens_tile()
+    ensures { TokensTile }
+{}
+
+/// A word is made of bytes of words, and neither the byte before it nor the one behind it continues it.
+pub fn words_are_maximal()
+    ensures { WordsAreMaximal }
+{}
+
+/// A mark is one of several characters or a single byte, and no mark of several characters that stands in its place is
+/// longer.
+pub fn marks_are_longest()
+    ensures { MarksAreLongest }
 {}

@@ -6,10 +6,16 @@ use jm_model::{Binding, ScriptError, SpecError, Step};
 use jm_script::{Catalog, Script, Target, project, read_script};
 use std::alloc::{AllocError, Global};
 
-/// How many specifications the catalog has.
+/// How many specifications the catalog has, and the name of each with the number of its events.
 pub(crate) fn catalog(alloc: Global, case: &Case) -> Result<String, SpecError> {
     let catalog = catalog_of(alloc, case.first.as_str())?;
-    Ok(format!(in alloc; "{}", catalog.len())?)
+    let mut out = format!(in alloc; "{}", catalog.len())?;
+    for spec in 0..catalog.len() {
+        let events = catalog.table(spec).letters();
+        let one = format!(in alloc; " {} {events}", catalog.name(spec))?;
+        out.push_str(one.as_str())?;
+    }
+    Ok(out)
 }
 
 /// The steps of each script, or its fault, and how many names and steps there are then; then all names. A `|` stands

@@ -10,7 +10,7 @@ use Rattle.jm_script.proofs.statement.death_line.Goals as goal
 pub returns-in-Err-clause-read : goal.returns-in-Err-clause-read
 returns-in-Err-clause-read c = λ catalog.
     stopped _ _ _ _ _
-    (death_steps catalog c.args.place.count c.args.place.line c.args.names.now (texts c.args.words.now) (length c.args.words.now) (sym (length-texts c.args.words.now)) (sym c.is_one_object.ensures ∙ c.if-not-is_one_object.false) (sym c.is_full.ensures ∙ c.if-is_full.false))
+    (death_steps catalog c.args.position.count c.args.position.line c.args.names.now (texts c.args.words.now) (length c.args.words.now) (sym (length-texts c.args.words.now)) (sym c.is_one_object.ensures ∙ c.if-not-is_one_object.false) (sym c.is_full.ensures ∙ c.if-is_full.false))
     (c.in-Err.ensures.err (λ numbers. target.Death (slice_index numbers 0)))
 
 pub returns-clause-fits : goal.returns-clause-fits

@@ -11,7 +11,7 @@ use Rattle.jm_script.proofs.statement.event_line.Goals as goal
 pub returns-in-Err-numbers-clause-read : goal.returns-in-Err-numbers-clause-read
 returns-in-Err-numbers-clause-read c =
     stopped _ _ _ _ _
-    (known_steps c.args.catalog.now c.args.place.count c.args.place.line c.args.names.now c.args.word.now (texts c.args.objects.now) (length c.args.objects.now) c.in-Ok.event (sym (length-texts c.args.objects.now)) c.in-Ok.ensures.ok c.in-Ok.ensures.objects c.in-Ok.ensures.room)
+    (known_steps c.args.catalog.now c.args.position.count c.args.position.line c.args.names.now c.args.word.now (texts c.args.objects.now) (length c.args.objects.now) c.in-Ok.event (sym (length-texts c.args.objects.now)) c.in-Ok.ensures.ok c.in-Ok.ensures.objects c.in-Ok.ensures.room)
     (c.in-Err-numbers.ensures.err (λ numbers. target.Event c.in-Ok.event.spec c.in-Ok.event.letter (spread 8 c.in-Ok.event.mask numbers)))
 
 pub returns-clause-fits : goal.returns-clause-fits
@@ -23,8 +23,8 @@ returns-clause-fits c = record {
 
 pub returns-clause-read : goal.returns-clause-read
 returns-clause-read c =
-    mentions _ c.args.place.line c.args.names.now (texts c.args.objects.now) _ (λ numbers. target.Event c.in-Ok.event.spec c.in-Ok.event.letter (spread 8 c.in-Ok.event.mask numbers)) _
-    (known_steps c.args.catalog.now c.args.place.count c.args.place.line c.args.names.now c.args.word.now (texts c.args.objects.now) (length c.args.objects.now) c.in-Ok.event (sym (length-texts c.args.objects.now)) c.in-Ok.ensures.ok c.in-Ok.ensures.objects c.in-Ok.ensures.room)
+    mentions _ c.args.position.line c.args.names.now (texts c.args.objects.now) _ (λ numbers. target.Event c.in-Ok.event.spec c.in-Ok.event.letter (spread 8 c.in-Ok.event.mask numbers)) _
+    (known_steps c.args.catalog.now c.args.position.count c.args.position.line c.args.names.now c.args.word.now (texts c.args.objects.now) (length c.args.objects.now) c.in-Ok.event (sym (length-texts c.args.objects.now)) c.in-Ok.ensures.ok c.in-Ok.ensures.objects c.in-Ok.ensures.room)
     c.in-Ok-numbers.ensures.room
     c.in-Ok-numbers.ensures.ok
     (ap (target.Event c.in-Ok.event.spec c.in-Ok.event.letter) (spread_is _ _ _ c.of-binding.ensures.eight c.of-binding.ensures.mask (c.of-binding.ensures.objects ∙ c.in-Ok-numbers.ensures.numbers)))

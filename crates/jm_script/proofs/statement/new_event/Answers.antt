@@ -12,9 +12,9 @@ named_event-requires-clause-event_text c = name_utf8 _ (both_right _ _ (both_lef
 
 pub returns-in-Ok-clause-ok : goal.returns-in-Ok-clause-ok
 returns-in-Ok-clause-ok c =
-    looked_up c.args.catalog.now c.args.place.line c.args.word.now _ _ (texts c.args.objects.now) _ c.in-Ok.event
-    (ap (λ n. take n c.args.word.now) c.place_of-dot.ensures.value)
-    (c.behind-event.ensures ∙ ap (λ n. drop (n + 1) c.args.word.now) c.place_of-dot.ensures.value)
+    looked_up c.args.catalog.now c.args.position.line c.args.word.now _ _ (texts c.args.objects.now) _ c.in-Ok.event
+    (ap (λ n. take n c.args.word.now) c.position_of-dot.ensures.value)
+    (c.behind-event.ensures ∙ ap (λ n. drop (n + 1) c.args.word.now) c.position_of-dot.ensures.value)
     (sym c.is_event_line.ensures ∙ c.if-not-is_event_line.false)
     c.in-Ok.ensures.value
     c.in-Ok.ensures.there
