@@ -4,7 +4,7 @@ use Rattle.std.specs.Prelude.{◌≢◌, AllPairs, filter, Contains, slice_set, 
 use Rattle.std.proofs.Math.ListN.{length-set}
 use Rattle.std.proofs.lemmas.Bool.{cases_lt, cases_eq, cases_Bool, eq-eqb, ne_eqb, both_ways, not-true, false_from_ne_true}
 use Rattle.std.proofs.lemmas.Option.{none-some, same_Some, slice_get-get_or}
-use Rattle.std.proofs.lemmas.List.{set_past, length_push, get_or_push, get_or-set_same, get_or-set_other, set_at}
+use Rattle.std.proofs.lemmas.List.{set_past, length_push, get_or-set_same, get_or-set_other, set_at}
 use Rattle.std.proofs.lemmas.List.Elements.{Contains-push_cases}
 use Rattle.jm_model.specs.Bindings.{mask_of}
 use Rattle.jm_model.specs.Layout.{binding_eq}
@@ -281,6 +281,15 @@ IsIndexed-place entries place after trees d i same =
       empty = i.empty;
     }
 
+-- a binding without a position still has none
+pub IsIndexed-absent : (entries : List Entry) (place after : Bound → Option ℕ) (trees : Trees) (d : List Bool) (b : Bound) → IsIndexed entries place trees d → place b ≡ None
+    → ((q : Bound) → after q ≡ cond (binding_eq b q) None (place q)) → IsIndexed entries after trees d
+IsIndexed-absent entries place after trees d b i none updated = IsIndexed-place entries place after trees d i (λ q. by q (cases_Bool (binding_eq b q)))
+  where
+    by : (q : Bound) → (binding_eq b q ≡ true) ⊎ (binding_eq b q ≡ false) → after q ≡ place q
+    by q (inl same) = rw same at (updated q) ∙ sym (ap place (sym ((binding_eq-Decides b q).0 same)) ∙ none)
+    by q (inr other) = rw other at (updated q)
+
 -- an entry that isn't live stands at the end, and its position in some postings
 pub staged : (entries new : List Entry) (place : Bound → Option ℕ) (a b : Trees) (d e f : List Bool) (k : ℕ) (hole : Entry) → IsIndexed entries place a d
     → ((o : ℕ) → flag_of e o ≡ flag_of d o) → length d ≤ length e → f ≡ e → AreFiled f k a b → hole.live ≡ false → k ≡ length entries → new ≡ entries ++ hole ∷ []
@@ -290,35 +299,32 @@ staged entries new place a b d e f k hole i same longer is filed dead at more =
     let filed_by : AreFiled e k a b = subst (λ (v : List Bool). AreFiled v k a b) is filed in
     rw more (IsIndexed-filed (entries ++ hole ∷ []) place a b e k (IsIndexed-hole entries place a e hole (IsIndexed-covered entries place a d e i same longer) dead) filed_by within)
 
-pub held : (entries new : List Entry) (k : ℕ) (e hole : Entry) → new ≡ entries ++ hole ∷ [] → k ≡ length entries → e ≡ get_or new k e → e ≡ hole
-held entries new k e hole more at is = is ∙ rw more (get_or_push entries hole e k (sym at))
-
 -- .. and then comes to live
-pub added : (entries new : List Entry) (place after : Bound → Option ℕ) (a c : Trees) (d e f : List Bool) (k : ℕ) (b : Bound) (slot : ℕ) → IsIndexed entries place a d
+pub added : (entries new : List Entry) (place after : Bound → Option ℕ) (a c : Trees) (d e f : List Bool) (k : ℕ) (b : Bound) (slot : ℕ) (hole : Entry) → IsIndexed entries place a d → hole.live ≡ false
     → ((o : ℕ) → flag_of e o ≡ flag_of d o) → length d ≤ length e → f ≡ e → AreFiled f k a c
     → ((path : ℕ) → IsPath f b path → Contains (posting_at c (mask_of b) path) k) → AreBelow (length e) b → k ≡ length entries
-    → new ≡ entries ++ record { binding = b; slot = slot; live = false } ∷ [] → ((q : Bound) → after q ≡ cond (binding_eq b q) (Some k) (place q))
+    → new ≡ entries ++ hole ∷ [] → ((q : Bound) → after q ≡ cond (binding_eq b q) (Some k) (place q))
     → ((pair : Pair) → Contains (live_pairs entries) pair → pair.binding ≡ b → ⊥) → IsIndexed (slice_set new k (record { binding = b; slot = slot; live = true })) after c e
-added entries new place after a c d e f k b slot i same longer is filed there below at more updated absent =
+added entries new place after a c d e f k b slot hole i dead same longer is filed there below at more updated absent =
     IsIndexed-live new place after c e k (record { binding = b; slot = slot; live = true })
-    (staged entries new place a c d e f k (record { binding = b; slot = slot; live = false }) i same longer is filed refl at more) within none refl updated
+    (staged entries new place a c d e f k hole i same longer is filed dead at more) within none refl updated
     (λ j pair here. absent pair (Contains-live entries j pair (old j pair here))) (subst (λ (v : List Bool). (path : ℕ) → IsPath v b path → Contains (posting_at c (mask_of b) path) k) is there)
     below
   where
     within : k < length new
-    within = rw (more, length_push entries (record { binding = b; slot = slot; live = false })) (omega (arith, at))
+    within = rw (more, length_push entries hole) (omega (arith, at))
 
     none : pair_at new k ≡ None
-    none = rw (more, at) (pair_at-hole entries (record { binding = b; slot = slot; live = false }) (length entries) refl ∙ pair_at_past entries)
+    none = rw (more, at) (pair_at-hole entries hole (length entries) dead ∙ pair_at_past entries)
 
     old : (j : ℕ) (pair : Pair) → pair_at new j ≡ Some pair → pair_at entries j ≡ Some pair
     old j pair here =
-        sym (pair_at-hole entries (record { binding = b; slot = slot; live = false }) j refl) ∙ subst (λ (v : List Entry). pair_at v j ≡ Some pair) more here
+        sym (pair_at-hole entries hole j dead) ∙ subst (λ (v : List Entry). pair_at v j ≡ Some pair) more here
 
-pub list_added : (entries new : List Entry) (k : ℕ) (b : Bound) (slot : ℕ) → k ≡ length entries → new ≡ entries ++ record { binding = b; slot = slot; live = false } ∷ []
+pub list_added : (entries new : List Entry) (k : ℕ) (b : Bound) (slot : ℕ) (hole : Entry) → k ≡ length entries → new ≡ entries ++ hole ∷ []
     → live_pairs (slice_set new k (record { binding = b; slot = slot; live = true })) ≡ live_pairs entries ++ record { binding = b; slot = slot } ∷ []
-list_added entries new k b slot at more =
-    rw (more, set_at entries (record { binding = b; slot = slot; live = false }) [] (record { binding = b; slot = slot; live = true }) k (sym at))
+list_added entries new k b slot hole at more =
+    rw (more, set_at entries hole [] (record { binding = b; slot = slot; live = true }) k (sym at))
     (live_pairs-push entries (record { binding = b; slot = slot; live = true }) refl)
 
 -- no pair before a live entry has its binding
@@ -347,10 +353,6 @@ IsFitting-added (Ok u) old before new dead b slot list flags ok err same fits be
     (λ o. same o ∙ flags o)
 IsFitting-added (Err u) old before new dead b slot list flags ok err same fits below =
     IsFitting-by old new dead fits (λ pair there. inl (subst (λ (v : List Pair). Contains v pair) (err ∙ list) there)) (λ o. same o ∙ flags o)
-
-pub on_err : {T E : Type 0} (r : Result T E) (P : Type 0) → P → OnErr r P
-on_err (Ok x) P h = tt
-on_err (Err e) P h = h
 
 -- no two pairs have one binding
 pub list_distinct : (entries : List Entry) (place : Bound → Option ℕ) (trees : Trees) (d : List Bool) → IsIndexed entries place trees d
@@ -385,6 +387,17 @@ IsFitting-death index dead o fits =
     dies x (inl is) (inl h) was = rw is (get_or-set_same dead o true false h)
     dies x (inl is) (inr past) was = rw (set_past dead o true past) was
     dies x (inr apart) h was = get_or-set_other dead o x true false apart ∙ was
+
+-- a binding that has no pair has no position
+pub no_position : (entries : List Entry) (place : Bound → Option ℕ) (trees : Trees) (d : List Bool) (b : Bound) → IsIndexed entries place trees d
+    → ((pair : Pair) → Contains (live_pairs entries) pair → pair.binding ≡ b → ⊥) → place b ≡ None
+no_position entries place trees d b i absent = by (place b) refl
+  where
+    by : (v : Option ℕ) → place b ≡ v → place b ≡ None
+    by None is = is
+    by (Some k) is =
+        let (slot, at) = i.found b k is in
+        absurd (absent (record { binding = b; slot = slot }) (Contains-live entries k (record { binding = b; slot = slot }) at) refl)
 
 -- a binding with a position has a pair, and one without has none
 pub list_found : (entries : List Entry) (place : Bound → Option ℕ) (trees : Trees) (d : List Bool) (b : Bound) (k : ℕ) → IsIndexed entries place trees d → place b ≡ Some k

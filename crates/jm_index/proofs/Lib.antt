@@ -1,5 +1,8 @@
 pub mod ReadLemmas
 pub mod BindingLemmas
+pub mod KeyLemmas
+pub mod PlaceLemmas
+pub mod FormLemmas
 pub mod EntryLemmas
 pub mod FlagLemmas
 pub mod PostingLemmas

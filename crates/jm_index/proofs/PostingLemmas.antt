@@ -1,9 +1,9 @@
 -- Postings that rise, and what is left of one that was thinned out.
 use Rattle.std.proofs.Common.{◌≡◌, ℕ, zero, suc, ◌-◌, ◌<◌, ◌≤◌, Bool, true, false, cond, List, [], ◌∷◌, ◌++◌, Some, length, refl, sym, ap, ◌∙◌, subst, arith, ◌⊎◌, inl, inr}
 use Rattle.std.specs.Prelude.{Contains, slice_get, filter}
-use Rattle.std.specs.List.Retain.{RetainsInTurn}
 use Rattle.std.proofs.lemmas.Bool.{cases_eq}
 use Rattle.jm_index.specs.Layout.{Rises}
+use Rattle.jm_index.specs.Postings.{IsThinned}
 use Rattle.jm_index.proofs.ReadLemmas.{Contains-none, Contains-tail, Contains-cons, Contains-of_filter, Rises-lower}
 
 -- a number above all goes to the end
@@ -66,16 +66,6 @@ Contains-in_filter test (y ∷ ps) x pass there = at (Contains-in_filter test ps
         rw passes (0, (omega arith), same)
     at ih (inr apart) = kept (test y) (ih (Contains-tail y x ps there apart))
 
--- what `retain` leaves, where the closure asks the test of each element and changes nothing
-pub retained : {S X : Type 0} (R : S → X → Bool → S → X → Type 0) (test : X → Bool) (s : S) (says : (x : X) (b : Bool) (t : S) (y : X) → R s x b t y → (b ≡ test x) × (t ≡ s) × (y ≡ x))
-    → (xs ys : List X) → RetainsInTurn R s xs ys → ys ≡ filter test xs
-retained R test s says [] ys h = h
-retained {S} {X} R test s says (x ∷ xs) ys (b, t, y, call, zs, rest, is) =
-    let told = says x b t y call in
-    let same : RetainsInTurn R s xs zs = subst (λ (u : S). RetainsInTurn R u xs zs) told.1 rest in
-    let ih : zs ≡ filter test xs = retained R test s says xs zs same in
-    is ∙ rw (told.0, told.2, ih)
-
 -- a posting in which a number was filed at the end, by what it stands for
 pub rising_pushed : (items value list : List ℕ) (k : ℕ) → items ≡ value → list ≡ items → Rises 0 items → ((x : ℕ) → Contains value x → x ≤ k)
     → (slice_get list (length list - 1) ≡ Some k → ⊥) → Rises 0 (items ++ k ∷ [])
@@ -91,3 +81,20 @@ thinned_within test items value new is kept x there =
 pub thinned_live : (test : ℕ → Bool) (items value new : List ℕ) → items ≡ value → new ≡ filter test items → (x : ℕ) → test x ≡ true → Contains value x → Contains new x
 thinned_live test items value new is kept x pass there =
     subst (λ (v : List ℕ). Contains v x) (sym kept) (Contains-in_filter test items x pass (subst (λ (v : List ℕ). Contains v x) (sym is) there))
+
+-- what is left of a posting that was thinned out
+pub IsThinned-rises : (test : ℕ → Bool) (old new : List ℕ) → IsThinned test old new → Rises 0 old → Rises 0 new
+IsThinned-rises test old new (inl same) r = rw same r
+IsThinned-rises test old new (inr kept) r = rw kept (Rises-filter test 0 old r)
+
+pub IsThinned-within : (test : ℕ → Bool) (items value new : List ℕ) → items ≡ value → IsThinned test items new → (x : ℕ) → Contains new x → Contains value x
+IsThinned-within test items value new is (inl same) x there = subst (λ (v : List ℕ). Contains v x) (same ∙ is) there
+IsThinned-within test items value new is (inr kept) x there = thinned_within test items value new is kept x there
+
+pub IsThinned-live : (test : ℕ → Bool) (items value new : List ℕ) → items ≡ value → IsThinned test items new → (x : ℕ) → test x ≡ true → Contains value x → Contains new x
+IsThinned-live test items value new is (inl same) x pass there = subst (λ (v : List ℕ). Contains v x) (sym (same ∙ is)) there
+IsThinned-live test items value new is (inr kept) x pass there = thinned_live test items value new is kept x pass there
+
+-- one position that fails the test
+pub IsThinned-one : (test : ℕ → Bool) (k : ℕ) → test k ≡ false → IsThinned test (k ∷ []) []
+IsThinned-one test k fails = inr (rw fails refl)

@@ -1,2 +1,7 @@
 pub mod Index
+pub mod Entries
+pub mod Forms
 pub mod Layout
+pub mod Keys
+pub mod Places
+pub mod Postings

@@ -1,26 +1,76 @@
 //! The entries of an index.
-ghost use Rattle.std.specs.Prelude.{◌≡◌, ◌++◌, ℕ, Some, Contains, OnOk};
+ghost use Rattle.std.specs.Prelude.{◌≡◌, ◌++◌, ℕ, true, false, Some, Contains, OnOk, IfOk};
 ghost use Rattle.std.specs.List.{filter_map};
 ghost use Rattle.jm_index.specs.Index.{Pair};
 ghost use Rattle.jm_index.specs.Layout.{is_live_at, pair_at, slot_of, slot_at};
 
+use crate::form::{Form, binding_in, form_of, is_kept, slot_in};
 use jm_model::{Binding, NoMemory};
+use std::alloc::Global;
+use std::marker::Model;
 
 /// A binding and its slot. One that is no longer live counts for nothing.
 #[derive(Drop)]
 pub(crate) struct Entry {
-    pub(crate) binding: Binding,
-    pub(crate) slot: usize,
-    pub(crate) live: bool,
+    form: Form,
+}
+
+impl Model for Entry {
+    ghost use Rattle.jm_index.specs.Entries.{Kept};
+
+    ghost Value = { Kept };
+
+    ghost use Rattle.jm_index.specs.Forms.{kept_of, IsForm};
+
+    ghost view = { λ e. kept_of e.form };
+
+    ghost invariant = { λ e. IsForm e.form };
 }
 
 impl Entry {
+    /// A live entry.
+    pub(crate) fn new(alloc: Global, binding: &Binding, slot: usize) -> Result<Entry, NoMemory>
+        ensures { IfOk result (λ entry. entry ≡ record { binding = binding.now; slot = slot; live = true }) }
+    {
+        let form = form_of(alloc, binding, slot)?;
+        Ok(Entry { form })
+    }
+
+    /// An entry that isn't live.
+    pub(crate) fn gone() -> Entry
+        ensures { result.live ≡ false }
+    {
+        Entry { form: Form::Gone }
+    }
+
+    pub(crate) fn is_live(&self) -> bool
+        ensures { result ≡ self.now.live }
+    {
+        is_kept(&self.form)
+    }
+
+    pub(crate) fn number(&self) -> usize
+        ensures { result ≡ self.now.slot }
+    {
+        slot_in(&self.form)
+    }
+
+    pub(crate) fn binding(&self) -> Binding
+        ensures { result ≡ self.now.binding }
+    {
+        binding_in(&self.form)
+    }
+
     /// The slot, if the entry is live, binds exactly the parameters of `domain` and agrees with `binding`.
     fn slot(&self, domain: u8, binding: &Binding) -> Option<usize>
         ensures { result ≡ slot_of domain binding.now self.now }
     {
-        if self.live && self.binding.mask() == domain && self.binding.compatible(binding) {
-            Some(self.slot)
+        if !self.is_live() {
+            return None;
+        }
+        let own = self.binding();
+        if own.mask() == domain && own.compatible(binding) {
+            Some(self.number())
         } else {
             None
         }
@@ -32,7 +82,7 @@ pub(crate) fn is_live_at(entries: &[Entry], position: usize) -> bool
     ensures { result ≡ is_live_at entries.now position }
 {
     match entries.get(position) {
-        Some(entry) => entry.live,
+        Some(entry) => entry.is_live(),
         None => false,
     }
 }
@@ -87,12 +137,12 @@ fn add_live_slot(entries: &[Entry], position: usize, slots: &mut Vec<usize>) -> 
     ensures here { OnOk result ((pair : Pair) → pair_at entries.now position ≡ Some pair → Contains slots.new.items pair.slot) }
 {
     if let Some(entry) = entries.get(position)
-        && entry.live
+        && entry.is_live()
     {
         if slots.len() >= slots.capacity() {
             return Err(NoMemory);
         }
-        slots.push_reserved(entry.slot);
+        slots.push_reserved(entry.number());
     }
     Ok(())
 }

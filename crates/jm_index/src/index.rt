@@ -4,20 +4,22 @@ ghost use Rattle.jm_index.specs.Index.{Pair, flag_of, IsKey, AreBelow, IsFitting
 
 use crate::entry::{Entry, add_live_slots, add_slots_at};
 use crate::flags::Flags;
+use crate::places::Places;
 use crate::trees::Trees;
 use jm_model::{Binding, NoMemory};
 use jm_objects::Objects;
 use std::alloc::Global;
-use std::collections::HashMap;
 use std::marker::Model;
 
 /// Pairs of a binding and a slot, each binding once, in the order in which they were added. Contracts see them as a
 /// list, and beside it the objects that were dropped.
 pub struct Index {
     entries: Vec<Entry>,
-    places: HashMap<Binding, usize>,
+    places: Places,
     trees: Trees,
     dropped: Flags,
+    /// How many entries are live.
+    live: usize,
 }
 
 // Written out, so that a drop is one call wherever an index is let go.
@@ -28,6 +30,7 @@ impl Drop for Index {
             places: _,
             trees: _,
             dropped: _,
+            live: _,
         } = self;
     }
 }
@@ -37,13 +40,12 @@ impl Model for Index {
 
     ghost Value = { PairList };
 
-    ghost use Rattle.std.specs.HashMap.{get};
-    ghost use Rattle.jm_model.specs.Layout.{binding_eq};
     ghost use Rattle.jm_index.specs.Layout.{live_pairs, IsIndexed};
+    ghost use Rattle.jm_index.specs.Places.{place_of};
 
     ghost view = { λ i. record { list = live_pairs i.entries.items; dropped = i.dropped } };
 
-    ghost invariant = { λ i. IsIndexed i.entries.items (get binding_eq i.places) i.trees i.dropped };
+    ghost invariant = { λ i. IsIndexed i.entries.items (place_of i.places) i.trees i.dropped };
 }
 
 impl Index {
@@ -54,9 +56,10 @@ impl Index {
     {
         Index {
             entries: Vec::new(alloc),
-            places: HashMap::new(alloc),
+            places: Places::new(alloc),
             trees: Trees::new(alloc),
             dropped: Flags::new(alloc),
+            live: 0,
         }
     }
 
@@ -92,7 +95,7 @@ impl Index {
     /// enough to pay for these.
     fn is_sparse(&self) -> bool {
         self.entries.len() == self.entries.capacity()
-            && self.places.len() < self.entries.len() / 2
+            && self.live < self.entries.len() / 2
             && self.entries.len() / 16 >= self.dropped.words()
     }
 
@@ -103,8 +106,8 @@ impl Index {
     {
         let mut index = self.emptied()?;
         for entry in &self.entries {
-            if entry.live {
-                index.append(entry.binding, entry.slot)?;
+            if entry.is_live() {
+                index.append(entry.binding(), entry.number())?;
             }
         }
         Ok(index)
@@ -119,9 +122,10 @@ impl Index {
         let dropped = self.dropped.copy()?;
         Ok(Index {
             entries: Vec::new(alloc),
-            places: HashMap::new(alloc),
+            places: Places::new(alloc),
             trees: Trees::new(alloc),
             dropped,
+            live: 0,
         })
     }
 
@@ -132,16 +136,14 @@ impl Index {
         ensures same { OnErr result (self.new.list ≡ self.old.list) }
         ensures dropped { (o : ℕ) → flag_of self.new.dropped o ≡ flag_of self.old.dropped o }
     {
+        let entry = Entry::new(*self.entries.allocator(), &binding, slot)?;
         self.dropped.cover(&binding)?;
         let position = self.entries.len();
-        self.entries.push(Entry {
-            binding,
-            slot,
-            live: false,
-        })?;
+        self.entries.push(Entry::gone())?;
         self.trees.file_all(&self.dropped, &binding, position)?;
-        self.places.insert(binding, position)?;
-        self.entries[position].live = true;
+        self.places.insert(&binding, position)?;
+        self.entries[position] = entry;
+        self.live = self.live.saturating_add(1);
         Ok(())
     }
 
@@ -153,8 +155,9 @@ impl Index {
         ensures fits { (dead : List Bool) → IsFitting self.old dead → IsFitting self.new dead }
     {
         if let Some(position) = self.places.remove(binding) {
-            self.entries[position].live = false;
+            self.entries[position] = Entry::gone();
             self.trees.thin_all(self.entries.as_slice(), binding);
+            self.live = self.live.saturating_sub(1);
         }
     }
 
@@ -237,7 +240,7 @@ impl Index {
                 self.entries.as_slice(),
                 domain,
                 binding,
-                &[*position],
+                &[position],
                 slots,
             ),
             None => Ok(()),

@@ -9,9 +9,14 @@
 
 mod entry;
 mod flags;
+mod form;
+mod growth;
 mod index;
+mod key;
 mod laws;
+mod places;
 mod posting;
+mod rows;
 mod trees;
 
 pub use index::Index;

@@ -6,6 +6,7 @@ ghost use Rattle.jm_index.specs.Layout.{Rises, IsFiled, is_live_at, posting_of, 
 
 use crate::entry::Entry;
 use crate::flags::Flags;
+use crate::growth::grow;
 use crate::posting::Posting;
 use jm_model::{Binding, NoMemory};
 use std::alloc::Global;
@@ -39,9 +40,9 @@ impl Tree {
         ensures same { (q : ℕ) → posting_of self.new q ≡ posting_of self.old q }
         ensures there { OnOk result (path < length self.new) }
     {
-        let alloc = *self.postings.allocator();
         while self.postings.len() <= path {
-            self.postings.push(Posting::new(alloc))?;
+            grow(&mut self.postings)?;
+            self.postings.push(Posting::new())?;
         }
         Ok(())
     }
@@ -54,8 +55,9 @@ impl Tree {
         ensures others { (q : ℕ) → (q ≡ path → ⊥) → posting_of self.new q ≡ posting_of self.old q }
     {
         self.cover(path)?;
+        let alloc = *self.postings.allocator();
         let posting = &mut self.postings[path];
-        posting.file(position)
+        posting.file(alloc, position)
     }
 
     /// The positions under a path.
@@ -86,7 +88,7 @@ impl Tree {
         ensures { (q : ℕ) → posting_of self.new q ≡ (if q == path then [] else posting_of self.old q) }
     {
         if path < self.postings.len() {
-            self.postings[path] = Posting::new(*self.postings.allocator());
+            self.postings[path] = Posting::new();
         }
     }
 }

@@ -1,12 +1,11 @@
-use Rattle.std.proofs.Common.{◌≡◌, List, Option, ℕ, false, length, refl, sym, ap, subst, arith}
+use Rattle.std.proofs.Common.{◌≡◌, length, refl, sym, subst, arith}
 use Rattle.std.specs.Prelude.{Contains}
-use Rattle.std.specs.Map.{lookup}
 use Rattle.std.proofs.lemmas.Grind.{common_steps}
-use Rattle.jm_model.specs.Layout.{binding_eq}
 use Rattle.jm_index.specs.Index.{Pair, PairList}
 use Rattle.jm_index.specs.Layout.{live_pairs}
 use Rattle.jm_index.proofs.EntryLemmas.{live_pairs-hole}
-use Rattle.jm_index.proofs.IndexLemmas.{IsIndexed-covered, IsIndexed-place, staged, held, added, list_added, on_err}
+use Rattle.jm_index.proofs.IndexLemmas.{IsIndexed-covered, IsIndexed-place, staged, added, list_added, no_position}
+use Rattle.jm_index.proofs.PlaceLemmas.{on_err}
 use Rattle.jm_index.proofs.index.Index.append.Goals as goal
 
 pub invariant_of-self : goal.invariant_of-self
@@ -24,23 +23,28 @@ file_all-requires c =
 pub invariant_of-self-in_err-file_all : goal.invariant_of-self-in_err-file_all
 invariant_of-self-in_err-file_all c =
     let at : c.len-position.result ≡ length c.self.inside.entries.items = grind (arith, common_steps) in
-    staged _ _ _ _ _ _ _ _ _ _ c.self.invariant c.in_ok-cover.ensures.same c.in_ok-cover.ensures.longer refl c.in_err-file_all.ensures.filed refl at c.in_ok-push.ensures.items
+    staged _ _ _ _ _ _ _ _ _ _ c.self.invariant c.in_ok-cover.ensures.same c.in_ok-cover.ensures.longer refl c.in_err-file_all.ensures.filed c.gone.ensures at c.in_ok-push.ensures.items
 
 pub returns-in_err-file_all-clause-same : goal.returns-in_err-file_all-clause-same
 returns-in_err-file_all-clause-same c =
-    let is : live_pairs c.push.new.self.items ≡ c.args.self.now.list = rw (c.in_ok-push.ensures.items, ← c.self.view_is) (live_pairs-hole c.self.inside.entries.items (record { binding = c.args.binding; slot = c.args.slot; live = false }) refl) in
+    let is : live_pairs c.push.new.self.items ≡ c.args.self.now.list = rw (c.in_ok-push.ensures.items, ← c.self.view_is) (live_pairs-hole c.self.inside.entries.items c.gone.result c.gone.ensures) in
     on_err _ _ is
+
+pub insert-requires : goal.insert-requires
+insert-requires c =
+    no_position _ _ _ _ _ c.self.invariant
+    (subst (λ (v : PairList). (pair : Pair) → Contains v.list pair → pair.binding ≡ c.args.binding → ⊥) (sym c.self.view_is) c.requires)
 
 pub invariant_of-self-in_err-insert : goal.invariant_of-self-in_err-insert
 invariant_of-self-in_err-insert c =
     let at : c.len-position.result ≡ length c.self.inside.entries.items = grind (arith, common_steps) in
     IsIndexed-place _ _ _ _ _
-    (staged _ _ _ _ _ _ _ _ _ _ c.self.invariant c.in_ok-cover.ensures.same c.in_ok-cover.ensures.longer refl c.in_ok-file_all.ensures.filed refl at c.in_ok-push.ensures.items)
-    (λ q. ap (λ (es : List (List (Option ℕ) × ℕ)). lookup (binding_eq q) es) c.in_err-insert.ensures.err)
+    (staged _ _ _ _ _ _ _ _ _ _ c.self.invariant c.in_ok-cover.ensures.same c.in_ok-cover.ensures.longer refl c.in_ok-file_all.ensures.filed c.gone.ensures at c.in_ok-push.ensures.items)
+    c.in_err-insert.ensures.err
 
 pub returns-in_err-insert-clause-same : goal.returns-in_err-insert-clause-same
 returns-in_err-insert-clause-same c =
-    let is : live_pairs c.push.new.self.items ≡ c.args.self.now.list = rw (c.in_ok-push.ensures.items, ← c.self.view_is) (live_pairs-hole c.self.inside.entries.items (record { binding = c.args.binding; slot = c.args.slot; live = false }) refl) in
+    let is : live_pairs c.push.new.self.items ≡ c.args.self.now.list = rw (c.in_ok-push.ensures.items, ← c.self.view_is) (live_pairs-hole c.self.inside.entries.items c.gone.result c.gone.ensures) in
     on_err _ _ is
 
 pub invariant_of-self-2 : goal.invariant_of-self-2
@@ -49,11 +53,11 @@ invariant_of-self-2 c =
     let absent : (pair : Pair) → Contains (live_pairs c.self.inside.entries.items) pair → pair.binding ≡ c.args.binding → ⊥ =
     subst (λ (v : PairList). (pair : Pair) → Contains v.list pair → pair.binding ≡ c.args.binding → ⊥) (sym c.self.view_is) c.requires
     in
-    rw (held _ _ _ _ _ c.in_ok-push.ensures.items at c.index_mut.ensures.value)
-    (added _ _ _ _ _ _ _ _ _ _ _ _ c.self.invariant c.in_ok-cover.ensures.same c.in_ok-cover.ensures.longer refl c.in_ok-file_all.ensures.filed c.in_ok-file_all.ensures.there
-    c.in_ok-cover.ensures.there at c.in_ok-push.ensures.items c.in_ok-insert.ensures.updates.0 absent)
+    rw c.in_ok-entry.ensures
+    (added _ _ _ _ _ _ _ _ _ _ _ _ _ c.self.invariant c.gone.ensures c.in_ok-cover.ensures.same c.in_ok-cover.ensures.longer refl c.in_ok-file_all.ensures.filed c.in_ok-file_all.ensures.there
+    c.in_ok-cover.ensures.there at c.in_ok-push.ensures.items c.in_ok-insert.ensures.ok absent)
 
 pub returns-clause-added : goal.returns-clause-added
 returns-clause-added c =
     let at : c.len-position.result ≡ length c.self.inside.entries.items = grind (arith, common_steps) in
-    rw (held _ _ _ _ _ c.in_ok-push.ensures.items at c.index_mut.ensures.value, ← c.self.view_is) (list_added _ _ _ _ _ at c.in_ok-push.ensures.items)
+    rw (c.in_ok-entry.ensures, ← c.self.view_is) (list_added _ _ _ _ _ _ at c.in_ok-push.ensures.items)

@@ -3,7 +3,7 @@ use Rattle.std.specs.Prelude.{Contains}
 use Rattle.std.proofs.lemmas.Grind.{common_steps}
 use Rattle.jm_index.specs.Index.{Pair}
 use Rattle.jm_index.proofs.EntryLemmas.{pair_at_within}
-use Rattle.jm_index.proofs.IndexLemmas.{IsIndexed-removed, list_removed, list_absent, IsFitting-without, without_absent}
+use Rattle.jm_index.proofs.IndexLemmas.{IsIndexed-removed, IsIndexed-absent, list_removed, list_absent, IsFitting-without, without_absent}
 use Rattle.jm_index.proofs.index.Index.remove.Goals as goal
 
 pub index_mut-requires : goal.index_mut-requires
@@ -14,16 +14,19 @@ index_mut-requires c =
 
 pub invariant_of-self : goal.invariant_of-self
 invariant_of-self c =
-    IsIndexed-removed _ _ _ _ _ _ _ _ _ c.self.invariant (sym c.in-Some.ensures.value) refl c.in-Some.ensures.updates.0 (rw c.as_slice.ensures.value at c.thin_all.ensures)
+    IsIndexed-removed _ _ _ _ _ _ _ _ _ c.self.invariant (sym c.in-Some.ensures.value) c.gone.ensures c.in-Some.ensures.updated (rw c.as_slice.ensures.value at c.thin_all.ensures)
+
+pub invariant_of-self-in_default : goal.invariant_of-self-in_default
+invariant_of-self-in_default c = IsIndexed-absent _ _ _ _ _ _ c.self.invariant (sym c.in_default.ensures.value) c.in_default.ensures.updated
 
 pub returns-in-Some-clause-list : goal.returns-in-Some-clause-list
 returns-in-Some-clause-list c =
-    rw (← c.self.view_is) (list_removed _ _ _ _ _ _ _ c.self.invariant (sym c.in-Some.ensures.value) refl)
+    rw (← c.self.view_is) (list_removed _ _ _ _ _ _ _ c.self.invariant (sym c.in-Some.ensures.value) c.gone.ensures)
 
 pub returns-in-Some-clause-fits : goal.returns-in-Some-clause-fits
 returns-in-Some-clause-fits c =
     rw (← c.self.view_is)
-    (λ dead fits. IsFitting-without c.args.binding.now _ _ dead (list_removed _ _ _ _ _ _ _ c.self.invariant (sym c.in-Some.ensures.value) refl) refl fits)
+    (λ dead fits. IsFitting-without c.args.binding.now _ _ dead (list_removed _ _ _ _ _ _ _ c.self.invariant (sym c.in-Some.ensures.value) c.gone.ensures) refl fits)
 
 pub returns-in_default-clause-list : goal.returns-in_default-clause-list
 returns-in_default-clause-list c =
@@ -32,7 +35,7 @@ returns-in_default-clause-list c =
 pub returns-in-Some-clause-absent : goal.returns-in-Some-clause-absent
 returns-in-Some-clause-absent c =
     λ pair there. without_absent c.args.binding.now _ pair
-    (subst (λ (v : List Pair). Contains v pair) (list_removed _ _ _ _ _ _ _ c.self.invariant (sym c.in-Some.ensures.value) refl) there)
+    (subst (λ (v : List Pair). Contains v pair) (list_removed _ _ _ _ _ _ _ c.self.invariant (sym c.in-Some.ensures.value) c.gone.ensures) there)
 
 pub returns-in_default-clause-absent : goal.returns-in_default-clause-absent
 returns-in_default-clause-absent c =
