@@ -12,3 +12,4 @@ pub mod ScriptLemmas
 pub mod RunLemmas
 pub mod TextLemmas
 pub mod CommandLemmas
+pub mod CrossingLemmas

@@ -1,5 +1,8 @@
 use Rattle.std.proofs.Common.{◌≡◌, length, arith}
 use Rattle.std.specs.Prelude.{vec_len}
+use Rattle.std.proofs.Crossing.{crosses}
+use denote.Param.Send.{sendable}
+use Rattle.jm_top.proofs.CrossingLemmas.{rules_cross}
 use Rattle.jm_top.proofs.RunLemmas.{watches_many, runs_from, ready_at}
 use Rattle.jm_top.proofs.run.run_all.Goals as goal
 
@@ -19,3 +22,6 @@ returns g c =
     let many : length c.in_ok-props.props.items ≡ length c.in_ok-made.made.watches.items = omega (arith, c.in_ok-props.ensures.count, c.in_ok-props.props.ok.0, c.in_ok-made.made.watches.ok.0) in
     runs_from (λ r. r.watch) (λ r. r.seats.items) c.len.result c.len-seats.result c.args.library.specs.items c.args.scripts.now.list.items c.in_ok-made.made.titles.items c.in_ok-props.props.items c.in_ok-made.made.watches.items c.in_ok-made.ensures.titles many c.in_ok-made.ensures.watches
     (rw c.as_slice.ensures.value at c.in_ok-props.ensures.runs)
+
+pub run_scripts-requires-send-M : goal.run_scripts-requires-send-M
+run_scripts-requires-send-M g c κs within = search (rules_cross, crosses, sendable) depth 100 fits 20000
