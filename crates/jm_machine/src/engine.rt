@@ -64,6 +64,7 @@ impl Engine {
 }
 
 /// The handlers whose category holds of the words of a run: bit k stands for handler k.
+#[inline(never)]
 pub(crate) fn handlers_at(goal: &Goal, engine: &Engine, run: &Run) -> u16
     requires { All (λ group. group < categories_of_engine engine.now) goal.now.groups }
     ensures { (word : List ℕ) → IsPlaceOf engine.now run.now word → (k : ℕ) →
@@ -79,6 +80,7 @@ pub(crate) fn handlers_at(goal: &Goal, engine: &Engine, run: &Run) -> u16
 }
 
 /// The run of a chart.
+#[inline(never)]
 pub(crate) fn run_of(alloc: Global, chart: Chart) -> Result<Run, NoMemory>
     ensures { IfOk result (IsChartPlace chart) }
 {

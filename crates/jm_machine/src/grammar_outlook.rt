@@ -55,6 +55,7 @@ impl GrammarOutlook {
     }
 
     /// The run of the word of one letter.
+    #[inline(never)]
     pub(crate) fn first(
         &self,
         alloc: Global,
@@ -71,6 +72,7 @@ impl GrammarOutlook {
 
     /// Whether an instance with this run can never fire again. Where `fail` is handled that is so only where no letter is without
     /// a dead parameter. The masks are the parameters of the letters.
+    #[inline(never)]
     pub(crate) fn is_cut(
         &self,
         charts: &Charts,

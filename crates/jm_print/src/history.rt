@@ -15,8 +15,8 @@ use jm_model::{Binding, Firing, Firings, Letter, NoMemory, Outcome, Step};
 use std::alloc::Global;
 use std::marker::Model;
 
-/// More bytes than the text of most entries has. Room that no text takes is never touched.
-const ENTRY: usize = 64;
+/// So many entries tell about how long the text of all of them is.
+const SAMPLES: usize = 256;
 
 /// The names that a history is printed with, and what the handlers print.
 #[derive(Drop)]
@@ -64,7 +64,7 @@ pub fn render_history(
     };
     let entries = history.entries(alloc)?;
     let mut page = Page::new(alloc);
-    page.make_room(entries.len().saturating_mul(ENTRY));
+    page.make_room(printer.estimate(&entries)?);
     page.text("spec ")?;
     page.text(name)?;
     page.byte(b'\n')?;
@@ -76,6 +76,22 @@ pub fn render_history(
 }
 
 impl Printer<'_> {
+    /// About how many bytes the text of these entries has, and seldom fewer: some of them tell, which lie evenly among all.
+    fn estimate(&self, entries: &[&Entry]) -> Result<usize, NoMemory>
+        requires { All (IsPrintable self.now) (map (λ entry. entry.now) entries.now) }
+    {
+        let stride = entries.len() / SAMPLES + 1;
+        let mut sample = Page::new(self.alloc);
+        for k in 0..SAMPLES {
+            let place = k.saturating_mul(stride);
+            if place < entries.len() {
+                self.entry(&mut sample, entries[place])?;
+            }
+        }
+        let bytes = sample.len().saturating_mul(stride);
+        Ok(bytes.saturating_add(bytes / 16))
+    }
+
     /// The entries.
     fn entries(&self, page: &mut Page, entries: &[&Entry]) -> Result<(), NoMemory>
         requires { All (IsPrintable self.now) (map (λ entry. entry.now) entries.now) }

@@ -1,5 +1,5 @@
 //! A text that grows.
-ghost use Rattle.std.specs.Prelude.{◌≡◌, ◌++◌, [], ◌∷◌, decimal, OnOk};
+ghost use Rattle.std.specs.Prelude.{◌≡◌, ◌++◌, [], ◌∷◌, decimal, length, OnOk};
 
 use itoa::Buffer;
 use jm_model::NoMemory;
@@ -34,6 +34,13 @@ impl Page {
         ensures { self.new ≡ self.old }
     {
         let _ = self.bytes.reserve(bytes);
+    }
+
+    /// How many bytes were written.
+    pub(crate) fn len(&self) -> usize
+        ensures { result ≡ length self.now }
+    {
+        self.bytes.len()
     }
 
     /// Writes a text.
