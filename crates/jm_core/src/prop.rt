@@ -126,16 +126,28 @@ impl<M: Monitor> Prop<M> {
         ensures legal { IsLegal (M.meaning self.new.definition) self.new.entries }
         ensures fits { FitsHistory (M.meaning self.new.definition) self.new.entries self.new.stored self.new.marks }
     {
+        self.do_death(node, &mut Spare::none())
+    }
+
+    /// The same. The link that the entry doesn't take is spare then.
+    fn do_death(&mut self, node: Node, spare: &mut Spare) -> Outcome
+        requires { IsDeathOf self.old.objects node.step }
+        ensures added { IsExtended self.old self.new (answered node result ∷ []) }
+        ensures memory { KeepsMemory self.old self.new }
+        ensures legal { IsLegal (M.meaning self.new.definition) self.new.entries }
+        ensures fits { FitsHistory (M.meaning self.new.definition) self.new.entries self.new.stored self.new.marks }
+    {
         let Step::Death { object } = node.step() else {
             unreachable!()
         };
         let object = *object;
         if self.objects.kill(object) {
             self.rest.forget();
-            self.history.push(node, Outcome::Done);
+            self.history.push_sparing(node, Outcome::Done, spare);
             Outcome::Done
         } else {
-            self.history.push(node, Outcome::Refused(object));
+            self.history
+                .push_sparing(node, Outcome::Refused(object), spare);
             Outcome::Refused(object)
         }
     }
@@ -148,9 +160,19 @@ impl<M: Monitor> Prop<M> {
         ensures legal { IsLegal (M.meaning self.new.definition) self.new.entries }
         ensures fits { FitsHistory (M.meaning self.new.definition) self.new.entries self.new.stored self.new.marks }
     {
+        self.do_pass(node, &mut Spare::none())
+    }
+
+    /// The same. The link that the entry doesn't take is spare then.
+    fn do_pass(&mut self, node: Node, spare: &mut Spare) -> Outcome
+        requires { node.step ≡ Pass }
+        ensures added { IsExtended self.old self.new (answered node result ∷ []) }
+        ensures legal { IsLegal (M.meaning self.new.definition) self.new.entries }
+        ensures fits { FitsHistory (M.meaning self.new.definition) self.new.entries self.new.stored self.new.marks }
+    {
         let kept = self.store.dispose(&self.rules, &self.objects);
         self.rest.forget();
-        self.history.push(node, Outcome::Kept(kept));
+        self.history.push_sparing(node, Outcome::Kept(kept), spare);
         Outcome::Kept(kept)
     }
 
@@ -199,8 +221,8 @@ impl<M: Monitor> Prop<M> {
     {
         match node.step() {
             Step::Event { .. } => self.do_event(node, spare),
-            Step::Death { .. } => self.death(node),
-            Step::Pass => self.pass(node),
+            Step::Death { .. } => self.do_death(node, spare),
+            Step::Pass => self.do_pass(node, spare),
         }
     }
 
