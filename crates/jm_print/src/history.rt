@@ -81,14 +81,16 @@ impl Printer<'_> {
         requires { All (IsPrintable self.now) (map (λ entry. entry.now) entries.now) }
     {
         let stride = entries.len() / SAMPLES + 1;
-        let mut sample = Page::new(self.alloc);
+        let mut sample = Vec::new(self.alloc);
         for k in 0..SAMPLES {
             let place = k.saturating_mul(stride);
             if place < entries.len() {
-                self.entry(&mut sample, entries[place])?;
+                sample.push(entries[place])?;
             }
         }
-        let bytes = sample.len().saturating_mul(stride);
+        let mut page = Page::new(self.alloc);
+        self.entries(&mut page, sample.as_slice())?;
+        let bytes = page.len().saturating_mul(stride);
         Ok(bytes.saturating_add(bytes / 16))
     }
 
