@@ -3,3 +3,4 @@ pub mod DeadLemmas
 pub mod CoverLemmas
 pub mod SweepLemmas
 pub mod WatchLemmas
+pub mod FlagLemmas

@@ -1,5 +1,5 @@
 -- What a sweep leaves, as it goes from the last place to the first.
-use Rattle.std.proofs.Common.{◌≡◌, ℕ, suc, ◌+◌, ◌-◌, ◌≤◌, Bool, true, false, List, [], ◌∷◌, ◌++◌, Option, Some, length, take, get_or, map, filter, refl, sym, ap, ◌∙◌, subst, arith, length-append, append_assoc, append-nil}
+use Rattle.std.proofs.Common.{◌≡◌, ℕ, zero, suc, ◌+◌, ◌-◌, ◌<◌, ◌≤◌, Bool, true, false, List, [], ◌∷◌, ◌++◌, Option, Some, length, take, get_or, map, filter, refl, sym, ap, ◌∙◌, subst, arith, length-append, append_assoc, append-nil}
 use Rattle.std.specs.Prelude.{slice_get, IfSome}
 use Rattle.std.specs.List.{swap_remove}
 use Rattle.std.specs.List.Sorted.{IsPermutation}
@@ -151,3 +151,11 @@ module _ {X : Type 0} where
   -- the places in front are there
   pub swept_within : (test : X → Bool) (old new : List X) (place : ℕ) → IsSweptTo test old new place → place ≤ length new
   swept_within test old new place s = rw s.new_is (omega (arith, length-append s.front s.after, s.place_is))
+
+  -- what passes the test at all places of a stretch stays
+  pub swept_jump : (test : X → Bool) (old new : List X) (place n : ℕ) → IsSweptTo test old new place → n ≤ place
+      → ((k : ℕ) → place - n ≤ k → k < place → slice_get (map test new) k ≡ Some true) → IsSweptTo test old new (place - n)
+  swept_jump test old new place zero s within all = let same : place ≡ place - 0 = omega arith in subst (λ (i : ℕ). IsSweptTo test old new i) same s
+  swept_jump test old new place (suc n) s within all =
+      let sooner = swept_jump test old new place n s (omega (arith, within)) (λ k from below. all k (omega (arith, from)) below) in
+      swept_keep test old new (place - n) (place - suc n) sooner (omega (arith, within)) (all (place - suc n) (omega arith) (omega (arith, within)))

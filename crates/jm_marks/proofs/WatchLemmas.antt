@@ -1,7 +1,7 @@
 -- The row of objects, one for each mark.
 use Rattle.std.proofs.Common.{◌≡◌, ℕ, zero, suc, ◌+◌, ◌-◌, ◌<◌, inl, inr, Bool, true, false, cond, not, ◌||◌, List, [], ◌∷◌, ◌++◌, Option, Some, length, map, get_or, refl, sym, ap, ◌∙◌, subst, arith, length-append}
 use Rattle.std.proofs.Math.ListN.{set}
-use Rattle.std.specs.Prelude.{None, slice_get, MatchOption, IfSome}
+use Rattle.std.specs.Prelude.{None, slice_get, MatchOption, IfSome, nat_lt, ◌&&◌}
 use Rattle.std.specs.List.{swap_remove, list_any}
 use Rattle.indexmap.specs.IndexSet.{insert_key}
 use Rattle.std.proofs.lemmas.Bool.{cases_eq, cases_lt, false≢true}
@@ -9,7 +9,8 @@ use Rattle.std.proofs.lemmas.List.{length-set, get_or-set_same, get_or-set_other
 use Rattle.jm_model.specs.Layout.{binding_eq}
 use Rattle.jm_model.specs.Bindings.{object_at}
 use Rattle.jm_marks.specs.Marks.{is_dead_object, is_at_live, has_live}
-use Rattle.jm_marks.specs.Layout.{no_object, IsWatched, AreWatched}
+use Rattle.jm_marks.specs.Layout.{IsBound, IsBoundBy, IsWatched, AreWatched}
+use Rattle.jm_marks.specs.Watch.{spot_of, IsAlive}
 
 -- a binding that binds a live object has one
 pub has_live-bound : (flags : List Bool) (b : List (Option ℕ)) (p o : ℕ) → object_at b p ≡ Some o → is_dead_object flags o ≡ false → has_live flags b ≡ true
@@ -27,12 +28,12 @@ has_live-bound flags (Some q ∷ b) (suc p) o at live = rw (has_live-bound flags
 
 -- what is found alive is bound
 pub live_watched : (flags : List Bool) (b : List (Option ℕ)) (p : ℕ) → is_at_live flags (object_at b p) ≡ true → has_live flags b ≡ true
-    → MatchOption (object_at b p) (has_live flags b ≡ false) (λ o. (has_live flags b ≡ true) × IsWatched b o)
+    → MatchOption (object_at b p) (has_live flags b ≡ false) (λ o. (has_live flags b ≡ true) × IsBound b o)
 live_watched flags b p live some = at (object_at b p) refl live
   where
-    at : (x : Option ℕ) → object_at b p ≡ x → is_at_live flags x ≡ true → MatchOption x (has_live flags b ≡ false) (λ o. (has_live flags b ≡ true) × IsWatched b o)
+    at : (x : Option ℕ) → object_at b p ≡ x → is_at_live flags x ≡ true → MatchOption x (has_live flags b ≡ false) (λ o. (has_live flags b ≡ true) × IsBound b o)
     at None is live' = absurd (false≢true live')
-    at (Some o) is live' = (some, inr (p, is))
+    at (Some o) is live' = (some, (p, is))
 
 -- what stands at a place passes the test as it does by itself
 mapped : {X : Type 0} (test : X → Bool) (xs : List X) (k : ℕ) (d : X) → k < length xs → slice_get (map test xs) k ≡ Some (test (get_or xs k d))
@@ -44,14 +45,30 @@ pub live_at : (flags : List Bool) (bindings : List (List (Option ℕ))) (k : ℕ
     → slice_get (map (has_live flags) bindings) k ≡ Some v
 live_at flags bindings k v low is = mapped (has_live flags) bindings k [] low ∙ ap (λ (x : Bool). Some x) is
 
--- a mark whose object is alive has a live object
-pub alive_at : (flags : List Bool) (bindings : List (List (Option ℕ))) (watched : List ℕ) (k w : ℕ) → AreWatched bindings watched → k < length bindings → get_or watched k 0 ≡ w
-    → w < no_object → is_dead_object flags w ≡ false → slice_get (map (has_live flags) bindings) k ≡ Some true
-alive_at flags bindings watched k w are low is within live = live_at flags bindings k true low (at (subst (IsWatched (get_or bindings k [])) is (are.each k low)))
+-- a mark whose spot is that of a live object has a live object
+pub alive_at : (dead : List Bool) (bindings : List (List (Option ℕ))) (spots : List ℕ) (k : ℕ) → AreWatched bindings spots → k < length bindings
+    → IsAlive dead (get_or spots k 0) → slice_get (map (has_live dead) bindings) k ≡ Some true
+alive_at dead bindings spots k are low alive = live_at dead bindings k true low (at (are.each k low) alive)
   where
-    at : IsWatched (get_or bindings k []) w → has_live flags (get_or bindings k []) ≡ true
-    at (inl past) = absurd (omega (arith, past, within))
-    at (inr (p, bound)) = has_live-bound flags (get_or bindings k []) p w bound live
+    at : IsWatched (get_or bindings k []) (get_or spots k 0) → IsAlive dead (get_or spots k 0) → has_live dead (get_or bindings k []) ≡ true
+    at (inl none) (some, live) = absurd (omega (arith, none, some))
+    at (inr (o, is, (p, bound))) (some, live) =
+        let same : get_or spots k 0 - 1 ≡ o = omega (arith, is) in
+        has_live-bound dead (get_or bindings k []) p o bound (rw same at live)
+
+-- an object that is bound may be watched by its spot
+pub spot_watched : (b : List (Option ℕ)) (room : ℕ) (x : Option ℕ) → IsBoundBy b x → IsWatched b (spot_of room x)
+spot_watched b room None bound = inl refl
+spot_watched b room (Some o) bound = at (nat_lt (o + 1) room && nat_lt o 4294967295)
+  where
+    at : (v : Bool) → IsWatched b (cond v (o + 1) 0)
+    at true = inr (o, refl, bound o refl)
+    at false = inl refl
+
+pub bound_by : (b : List (Option ℕ)) (o : ℕ) → IsBound b o → IsBoundBy b (Some o)
+bound_by b o bound q is =
+    let same : o ≡ q = cc in
+    rw (← same) bound
 
 -- ---- how the row follows the set
 pub watched_push : (bindings : List (List (Option ℕ))) (watched : List ℕ) (b : List (Option ℕ)) (w : ℕ) → AreWatched bindings watched → IsWatched b w → AreWatched (bindings ++ b ∷ []) (watched ++ w ∷ [])
@@ -86,7 +103,7 @@ watched_set bindings watched i w are within is = record {
 }
 
 -- what stands at a place after a removal: the last where the place is that of what went, and else what stood there
-removed_length : {X : Type 0} (xs : List X) (i : ℕ) (d : X) → length (swap_remove xs i d) ≡ length xs - 1
+pub removed_length : {X : Type 0} (xs : List X) (i : ℕ) (d : X) → length (swap_remove xs i d) ≡ length xs - 1
 removed_length xs i d =
     let size = length-set xs i (get_or xs (length xs - 1) d) in
     length-take-le (length xs - 1) (set xs i (get_or xs (length xs - 1) d)) (omega (arith, size))

@@ -1,3 +1,4 @@
 pub mod Marks
 pub mod Objects
 pub mod Layout
+pub mod Watch

@@ -9,6 +9,7 @@
 #![tactic(auto)]
 
 mod hints;
+mod watch;
 
 ghost use Rattle.std.specs.Prelude.{ℕ, ◌≡◌, ◌≢◌, ◌+◌, ◌<◌, ◌≤◌, ◌^◌, ◌↔◌, [], ◌∷◌, ◌++◌, filter, Contains, IsTrue, IfOk, OnOk, MatchOption, true, false, Some, length, map, slice_get, slice_index_or, vec_len, vec_capacity, if◌then◌else◌};
 ghost use Rattle.std.specs.List.{AllPairs, IsDistinct};
@@ -19,17 +20,15 @@ ghost use Rattle.jm_model.specs.declared.binding.Binding.{Binding as Bound};
 ghost use Rattle.jm_model.specs.Bindings.{object_at};
 ghost use Rattle.jm_marks.specs.Objects.{IsWithin};
 ghost use Rattle.jm_marks.specs.Marks.{dead_mask_of, is_dead_object, is_at_dead, is_at_live, has_live, IsCovered, IsCoveredAt};
-ghost use Rattle.jm_marks.specs.Layout.{no_object, IsWatched, AreWatched};
+ghost use Rattle.jm_marks.specs.Layout.{IsBound, IsBoundBy, AreWatched};
 
 use crate::hints::Hints;
+use crate::watch::{GROUP, Watch};
 use indexmap::IndexSet;
 use jm_model::{Binding, NoMemory};
 use jm_objects::Objects;
 use std::alloc::Global;
 use std::marker::Model;
-
-/// No object has this number.
-const NO_OBJECT: u32 = u32::MAX;
 
 /// The parameters that are bound to dead objects: bit p stands for parameter p. An object that isn't in the table
 /// counts as alive.
@@ -77,7 +76,7 @@ fn dead_bit(objects: &Objects, binding: &Binding, p: u8) -> u8
 
 /// An object that is bound and alive, if there is one.
 fn live_object(objects: &Objects, binding: &Binding) -> Option<u32>
-    ensures { MatchOption result (has_live objects.now binding.now ≡ false) (λ o. (has_live objects.now binding.now ≡ true) × IsWatched binding.now o) }
+    ensures { MatchOption result (has_live objects.now binding.now ≡ false) (λ o. (has_live objects.now binding.now ≡ true) × IsBound binding.now o) }
 {
     let _mask = binding.mask();
     for p in 0..8 {
@@ -88,24 +87,16 @@ fn live_object(objects: &Objects, binding: &Binding) -> Option<u32>
     None
 }
 
-/// The first object that is bound, or else the number of no object.
-fn first_object(binding: &Binding) -> u32
-    ensures { IsWatched binding.now result }
+/// The first object that is bound, if there is one.
+fn first_object(binding: &Binding) -> Option<u32>
+    ensures { IsBoundBy binding.now result }
 {
     for p in 0..8 {
         if let Some(object) = binding.get(p) {
-            return object;
+            return Some(object);
         }
     }
-    NO_OBJECT
-}
-
-/// Whether there is an object of this number, and it is alive.
-fn is_alive(objects: &Objects, object: u32) -> bool
-    ensures there { IsTrue result → object < no_object }
-    ensures alive { IsTrue result → is_dead_object objects.now object ≡ false }
-{
-    object < objects.len() && !objects.is_dead(object)
+    None
 }
 
 /// Whether a parameter is bound to an object that is alive.
@@ -166,28 +157,33 @@ fn list_mask(masks: &mut Vec<u8>, mask: u8)
 /// that no other is filed anew.
 fn drop_dead(
     bindings: &mut IndexSet<Binding>,
-    watched: &mut Vec<u32>,
+    watch: &mut Watch,
     hints: &mut Hints,
     objects: &Objects,
 )
-    requires { AreWatched bindings.old.keys watched.old.items }
+    requires { AreWatched bindings.old.keys watch.old.spots }
     ensures list { IsPermutation (filter (has_live objects.now) bindings.old.keys) bindings.new.keys }
     ensures distinct { IsDistinct binding_eq bindings.old.keys → IsDistinct binding_eq bindings.new.keys }
     ensures room { spare bindings.old ≤ spare bindings.new }
-    ensures watched { AreWatched bindings.new.keys watched.new.items }
-    ensures row { vec_len watched.new + vec_capacity watched.old ≤ vec_capacity watched.new + vec_len watched.old }
+    ensures watched { AreWatched bindings.new.keys watch.new.spots }
+    ensures row { watch.old.spare ≤ watch.new.spare }
 {
-    let mut place = watched.len();
+    let is_fresh = watch.refresh(objects);
+    let mut place = watch.len();
     while place > 0 {
+        if is_fresh && place % GROUP == 0 && watch.are_quiet(place - GROUP) {
+            place -= GROUP;
+            continue;
+        }
         place -= 1;
-        if is_alive(objects, watched[place]) {
+        if watch.is_alive(objects, place) {
             continue;
         }
         match live_object_at(bindings, objects, place) {
-            Some(object) => watched[place] = object,
+            Some(object) => watch.put(place, object),
             None => {
                 let _ = bindings.swap_remove_index(place);
-                let _ = watched.swap_remove(place);
+                watch.remove(place);
                 note_place(hints, bindings, place);
             }
         }
@@ -232,7 +228,7 @@ fn is_same(one: &Binding, other: &Binding) -> bool
 fn live_object_at(bindings: &IndexSet<Binding>, objects: &Objects, place: usize) -> Option<u32>
     requires { place < length bindings.now.keys }
     ensures { MatchOption result (slice_get (map (has_live objects.now) bindings.now.keys) place ≡ Some false)
-        (λ o. (slice_get (map (has_live objects.now) bindings.now.keys) place ≡ Some true) × IsWatched (slice_index_or bindings.now.keys place []) o) }
+        (λ o. (slice_get (map (has_live objects.now) bindings.now.keys) place ≡ Some true) × IsBound (slice_index_or bindings.now.keys place []) o) }
 {
     live_object(objects, &bindings.as_slice()[place])
 }
@@ -242,8 +238,7 @@ fn live_object_at(bindings: &IndexSet<Binding>, objects: &Objects, place: usize)
 #[derive(Drop)]
 pub struct Marks {
     bindings: IndexSet<Binding>,
-    /// For each binding, by its place, an object that it binds; for the empty one the number of no object.
-    watched: Vec<u32>,
+    watch: Watch,
     masks: Vec<u8>,
     /// All objects of marks are below it.
     limit: u64,
@@ -259,9 +254,9 @@ impl Model for Marks {
     ghost use Rattle.indexmap.specs.IndexSet.{spare};
     ghost use Rattle.jm_marks.specs.Layout.{AreMarks, AreWatched};
 
-    ghost view = { λ m. record { list = m.bindings.keys; spare = min (spare m.bindings) (min (vec_capacity m.masks - vec_len m.masks) (vec_capacity m.watched - vec_len m.watched)) } };
+    ghost view = { λ m. record { list = m.bindings.keys; spare = min (spare m.bindings) (min (vec_capacity m.masks - vec_len m.masks) m.watch.spare) } };
 
-    ghost invariant = { λ m. AreMarks m.bindings.keys m.masks.items m.limit × AreWatched m.bindings.keys m.watched.items };
+    ghost invariant = { λ m. AreMarks m.bindings.keys m.masks.items m.limit × AreWatched m.bindings.keys m.watch.spots };
 }
 
 impl Marks {
@@ -271,7 +266,7 @@ impl Marks {
     {
         Marks {
             bindings: IndexSet::new(alloc),
-            watched: Vec::new(alloc),
+            watch: Watch::new(alloc),
             masks: Vec::new(alloc),
             limit: 0,
             hints: Hints::new(alloc),
@@ -285,7 +280,7 @@ impl Marks {
         ensures room { OnOk result (1 ≤ self.new.spare) }
     {
         self.masks.reserve(1)?;
-        self.watched.reserve(1)?;
+        self.watch.reserve(self.limit)?;
         self.bindings.reserve(1)?;
         self.hints.cover(self.limit);
         Ok(())
@@ -303,7 +298,7 @@ impl Marks {
         let place = self.bindings.len();
         match self.bindings.insert(binding) {
             Ok(true) => {
-                self.watched.push_reserved(first_object(&binding));
+                self.watch.push(first_object(&binding));
                 self.hints.note(&binding, place);
             }
             Ok(false) => {}
@@ -360,7 +355,7 @@ impl Marks {
     {
         drop_dead(
             &mut self.bindings,
-            &mut self.watched,
+            &mut self.watch,
             &mut self.hints,
             objects,
         );

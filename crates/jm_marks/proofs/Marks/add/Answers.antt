@@ -1,13 +1,13 @@
 use Rattle.std.proofs.Common.{sym, ◌∙◌}
 use Rattle.jm_marks.proofs.SetLemmas.{AreMarks-add, added-unknown}
-use Rattle.jm_marks.proofs.WatchLemmas.{watched_added, watched_known}
+use Rattle.jm_marks.proofs.WatchLemmas.{spot_watched, watched_added, watched_known}
 use Rattle.jm_marks.proofs.Marks.add.Goals as goal
 
 pub invariant_of-self : goal.invariant_of-self
 invariant_of-self c =
     let done = c.in-Ok-true.ensures in (
       AreMarks-add _ _ _ _ _ _ _ _ c.self.invariant.0 c.raised-self-inside.ensures.more c.raised-self-inside.ensures.within c.list_mask.ensures.kept c.list_mask.ensures.there c.mask.ensures.value done.keys done.unique,
-      rw c.push_reserved.ensures.items (watched_added _ _ _ _ _ c.self.invariant.1 c.first_object.ensures done.keys (sym c.in-Ok-true.field-0-test ∙ done.added)),
+      rw c.push.ensures.spots (watched_added _ _ _ _ _ c.self.invariant.1 (spot_watched _ _ _ c.first_object.ensures) done.keys (sym c.in-Ok-true.field-0-test ∙ done.added)),
     )
 
 pub invariant_of-self-else-insert : goal.invariant_of-self-else-insert
