@@ -1,8 +1,11 @@
 //! A text that grows.
 ghost use Rattle.std.specs.Prelude.{◌≡◌, ◌++◌, [], ◌∷◌, decimal, OnOk};
+ghost use Rattle.jm_handler.specs.Renderings.{AreNamed, occasion, handler_text};
 
 use itoa::Buffer;
-use jm_model::NoMemory;
+use jm_events::Names;
+use jm_handler::Handler;
+use jm_model::{Binding, NoMemory};
 use std::alloc::Global;
 use std::marker::Model;
 
@@ -66,6 +69,21 @@ impl Page {
         }
         let mut buffer = Buffer::new();
         self.text(buffer.format(number))
+    }
+
+    /// Writes what a handler prints for an instance, at an event on this line of this caller.
+    pub(crate) fn handler(
+        &mut self,
+        handler: &Handler,
+        instance: &Binding,
+        objects: &Names,
+        caller: u32,
+        line: u32,
+    ) -> Result<(), NoMemory>
+        requires { AreNamed objects.now instance.now }
+        ensures { OnOk result (self.new ≡ self.old ++ handler_text (occasion instance.now objects.now caller line) handler.now) }
+    {
+        handler.render_onto(&mut self.bytes, instance, objects, caller, line)
     }
 
     pub(crate) fn into_bytes(self) -> Vec<u8>
