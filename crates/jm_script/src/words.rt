@@ -196,7 +196,7 @@ fn is_blank(b: u8) -> bool
 pub fn is_word(word: &[u8], text: &[u8]) -> bool
     ensures { result ≡ bytes_eq word.now text.now }
 {
-    word == text
+    word.len() == text.len() && word == text
 }
 
 /// Whether the word may name a specification or an event: ASCII letters, digits, `_` and `$`, the first no digit.
@@ -237,9 +237,12 @@ fn is_name_byte(b: u8) -> bool
 fn is_object_byte(b: u8) -> bool
     ensures { result ≡ is_object_byte b }
 {
+    if b.is_ascii_alphabetic() {
+        return true;
+    }
     match b {
         b'_' | b'$' | b'.' | b'@' | b'-' => true,
-        _ => b.is_ascii_alphanumeric(),
+        _ => b.is_ascii_digit(),
     }
 }
 
