@@ -260,8 +260,8 @@ impl Printer<'_> {
         if !first {
             page.byte(b',')?;
         }
-        page.text(self.table.param_name(p))?;
+        page.word(self.table.param_name(p))?;
         page.byte(b'=')?;
-        page.text(self.objects.name(object))
+        page.word(self.objects.name(object))
     }
 }

@@ -60,13 +60,33 @@ impl Page {
         Ok(self.bytes.push(byte)?)
     }
 
+    /// Writes a text that is often very short.
+    pub(crate) fn word(&mut self, word: &str) -> Result<(), NoMemory>
+        ensures { OnOk result (self.new ≡ self.old ++ word.now) }
+    {
+        match word.as_bytes() {
+            [a] => self.byte(*a),
+            [a, b] => self.bytes(&[*a, *b]),
+            [a, b, c] => self.bytes(&[*a, *b, *c]),
+            all => self.bytes(all),
+        }
+    }
+
     /// Writes a number, without leading zeros.
+    #[inline(always)]
     pub(crate) fn number(&mut self, number: u64) -> Result<(), NoMemory>
         ensures { OnOk result (self.new ≡ self.old ++ decimal number) }
     {
         if number < 10 {
             return self.byte(b'0' + number as u8);
         }
+        self.long_number(number)
+    }
+
+    #[inline(never)]
+    fn long_number(&mut self, number: u64) -> Result<(), NoMemory>
+        ensures { OnOk result (self.new ≡ self.old ++ decimal number) }
+    {
         let mut buffer = Buffer::new();
         self.text(buffer.format(number))
     }

@@ -196,7 +196,15 @@ fn is_blank(b: u8) -> bool
 pub fn is_word(word: &[u8], text: &[u8]) -> bool
     ensures { result ≡ bytes_eq word.now text.now }
 {
-    word.len() == text.len() && word == text
+    word.len() == text.len() && are_same(word, text)
+}
+
+// Out of line, since most words have another length.
+#[inline(never)]
+fn are_same(word: &[u8], text: &[u8]) -> bool
+    ensures { result ≡ bytes_eq word.now text.now }
+{
+    word == text
 }
 
 /// Whether the word may name a specification or an event: ASCII letters, digits, `_` and `$`, the first no digit.
