@@ -1,3 +1,4 @@
+pub mod BreakLemmas
 pub mod RenderLemmas
 pub mod TermLemmas
 pub mod StatementLemmas

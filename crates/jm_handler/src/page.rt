@@ -1,81 +1,58 @@
 //! Lines that are marked as a handler's.
-ghost use Rattle.std.specs.Prelude.{◌≡◌, ◌++◌, [], codes, decimal, OnOk};
+ghost use Rattle.std.specs.Prelude.{◌≡◌, ◌++◌, codes, decimal, OnOk};
 ghost use Rattle.jm_handler.specs.Broken.{broken, broken_byte};
 
 use itoa::Buffer;
 use jm_model::NoMemory;
-use std::alloc::Global;
-use std::marker::Model;
 
-/// The bytes that were written so far.
-#[derive(Drop)]
-pub(crate) struct Page {
-    bytes: Vec<u8>,
+/// Begins a line.
+pub(crate) fn begin(page: &mut Vec<u8>) -> Result<(), NoMemory>
+    ensures { OnOk result (page.new.items ≡ page.old.items ++ codes "  > ") }
+{
+    Ok(page.extend_from_slice(b"  > ")?)
 }
 
-impl Model for Page {
-    ghost use Rattle.std.specs.Prelude.{List, ℕ};
-
-    ghost Value = { List ℕ };
-
-    ghost view = { λ p. p.bytes.items };
+/// Ends a line.
+pub(crate) fn end(page: &mut Vec<u8>) -> Result<(), NoMemory>
+    ensures { OnOk result (page.new.items ≡ page.old.items ++ codes "\n") }
+{
+    Ok(page.push(b'\n')?)
 }
 
-impl Page {
-    pub(crate) fn new(alloc: Global) -> Page
-        ensures { result ≡ [] }
-    {
-        Page {
-            bytes: Vec::new(alloc),
-        }
+/// Goes on with a text. At each of its line breaks the line ends, and another begins.
+pub(crate) fn text(page: &mut Vec<u8>, text: &[u8]) -> Result<(), NoMemory>
+    ensures { OnOk result (page.new.items ≡ page.old.items ++ broken text.now) }
+{
+    if text.contains(&b'\n') {
+        return bytes(page, text);
     }
+    Ok(page.extend_from_slice(text)?)
+}
 
-    /// Begins a line.
-    pub(crate) fn begin(&mut self) -> Result<(), NoMemory>
-        ensures { OnOk result (self.new ≡ self.old ++ codes "  > ") }
-    {
-        Ok(self.bytes.extend_from_slice(b"  > ")?)
+/// The same byte by byte.
+fn bytes(page: &mut Vec<u8>, text: &[u8]) -> Result<(), NoMemory>
+    ensures { OnOk result (page.new.items ≡ page.old.items ++ broken text.now) }
+{
+    for byte in text {
+        self::byte(page, *byte)?;
     }
+    Ok(())
+}
 
-    /// Ends a line.
-    pub(crate) fn end(&mut self) -> Result<(), NoMemory>
-        ensures { OnOk result (self.new ≡ self.old ++ codes "\n") }
-    {
-        Ok(self.bytes.push(b'\n')?)
+fn byte(page: &mut Vec<u8>, byte: u8) -> Result<(), NoMemory>
+    ensures { OnOk result (page.new.items ≡ page.old.items ++ broken_byte byte) }
+{
+    if byte == b'\n' {
+        Ok(page.extend_from_slice(b"\n  > ")?)
+    } else {
+        Ok(page.push(byte)?)
     }
+}
 
-    /// Goes on with a text. At each of its line breaks the line ends, and another begins.
-    pub(crate) fn text(&mut self, text: &[u8]) -> Result<(), NoMemory>
-        ensures { OnOk result (self.new ≡ self.old ++ broken text.now) }
-    {
-        for byte in text {
-            self.byte(*byte)?;
-        }
-        Ok(())
-    }
-
-    fn byte(&mut self, byte: u8) -> Result<(), NoMemory>
-        ensures { OnOk result (self.new ≡ self.old ++ broken_byte byte) }
-    {
-        if byte == b'\n' {
-            Ok(self.bytes.extend_from_slice(b"\n  > ")?)
-        } else {
-            Ok(self.bytes.push(byte)?)
-        }
-    }
-
-    /// Goes on with a number, without leading zeros.
-    pub(crate) fn number(&mut self, number: u32) -> Result<(), NoMemory>
-        ensures { OnOk result (self.new ≡ self.old ++ broken (decimal number)) }
-    {
-        let mut buffer = Buffer::new();
-        self.text(buffer.format(number).as_bytes())
-    }
-
-    pub(crate) fn into_bytes(self) -> Vec<u8>
-        ensures { result.items ≡ self }
-    {
-        let Page { bytes } = self;
-        bytes
-    }
+/// Goes on with a number, without leading zeros.
+pub(crate) fn number(page: &mut Vec<u8>, number: u32) -> Result<(), NoMemory>
+    ensures { OnOk result (page.new.items ≡ page.old.items ++ broken (decimal number)) }
+{
+    let mut buffer = Buffer::new();
+    Ok(page.extend_from_slice(buffer.format(number).as_bytes())?)
 }

@@ -1,5 +1,5 @@
 //! What a handler prints when it runs.
-ghost use Rattle.std.specs.Prelude.{◌≡◌, ◌++◌, IfOk, OnOk};
+ghost use Rattle.std.specs.Prelude.{◌≡◌, ◌++◌, [], IfOk, OnOk, OnErr};
 ghost use Rattle.std.specs.List.{flat_map};
 ghost use Rattle.jm_model.specs.Bindings.{object_at};
 ghost use Rattle.jm_handler.specs.Broken.{broken};
@@ -7,7 +7,7 @@ ghost use Rattle.jm_handler.specs.Renderings.{AreNamed, occasion, object_text, t
 ghost use Rattle.jm_handler.specs.Renderings.{statement_text, marked_lines, handler_text};
 
 use crate::handler::{Handler, Statement};
-use crate::page::Page;
+use crate::page::{begin, end, number, text};
 use crate::term::Term;
 use jm_events::Names;
 use jm_model::{Binding, NoMemory};
@@ -47,23 +47,46 @@ impl Handler {
         ensures { IfOk result (λ text.
             text.items ≡ handler_text (occasion instance.now objects.now caller line) self.now) }
     {
+        let mut text = Vec::new(alloc);
+        self.render_onto(&mut text, instance, objects, caller, line)?;
+        Ok(text)
+    }
+
+    /// Adds the same text at the end of a page, which is empty after an error.
+    pub fn render_onto(
+        &self,
+        page: &mut Vec<u8>,
+        instance: &Binding,
+        objects: &Names,
+        caller: u32,
+        line: u32,
+    ) -> Result<(), NoMemory>
+        requires { AreNamed objects.now instance.now }
+        ensures ok { OnOk result (page.new.items ≡ page.old.items
+            ++ handler_text (occasion instance.now objects.now caller line) self.now) }
+        ensures err { OnErr result (page.new.items ≡ []) }
+    {
         let occasion = Occasion {
             instance,
             objects,
             caller,
             line,
         };
-        let mut page = Page::new(alloc);
-        occasion.statements(&mut page, self.statements())?;
-        Ok(page.into_bytes())
+        match occasion.statements(page, self.statements()) {
+            Ok(()) => Ok(()),
+            Err(error) => {
+                page.clear();
+                Err(error)
+            }
+        }
     }
 }
 
 impl Occasion<'_> {
     /// The statements.
-    fn statements(&self, page: &mut Page, statements: &[Statement]) -> Result<(), NoMemory>
+    fn statements(&self, page: &mut Vec<u8>, statements: &[Statement]) -> Result<(), NoMemory>
         requires { AreNamed self.now.objects self.now.instance }
-        ensures { OnOk result (page.new ≡ page.old ++ handler_text self.now statements.now) }
+        ensures { OnOk result (page.new.items ≡ page.old.items ++ handler_text self.now statements.now) }
     {
         for statement in statements {
             self.statement(page, statement)?;
@@ -72,19 +95,19 @@ impl Occasion<'_> {
     }
 
     /// The lines of a statement.
-    fn statement(&self, page: &mut Page, statement: &Statement) -> Result<(), NoMemory>
+    fn statement(&self, page: &mut Vec<u8>, statement: &Statement) -> Result<(), NoMemory>
         requires { AreNamed self.now.objects self.now.instance }
-        ensures { OnOk result (page.new ≡ page.old ++ marked_lines (statement_text self.now statement.now)) }
+        ensures { OnOk result (page.new.items ≡ page.old.items ++ marked_lines (statement_text self.now statement.now)) }
     {
-        page.begin()?;
+        begin(page)?;
         self.terms(page, statement.terms())?;
-        page.end()
+        end(page)
     }
 
     /// The terms of a statement.
-    fn terms(&self, page: &mut Page, terms: &[Term]) -> Result<(), NoMemory>
+    fn terms(&self, page: &mut Vec<u8>, terms: &[Term]) -> Result<(), NoMemory>
         requires { AreNamed self.now.objects self.now.instance }
-        ensures { OnOk result (page.new ≡ page.old ++ broken (statement_text self.now terms.now)) }
+        ensures { OnOk result (page.new.items ≡ page.old.items ++ broken (statement_text self.now terms.now)) }
     {
         for term in terms {
             self.term(page, term)?;
@@ -93,24 +116,24 @@ impl Occasion<'_> {
     }
 
     /// A term.
-    fn term(&self, page: &mut Page, term: &Term) -> Result<(), NoMemory>
+    fn term(&self, page: &mut Vec<u8>, term: &Term) -> Result<(), NoMemory>
         requires { AreNamed self.now.objects self.now.instance }
-        ensures { OnOk result (page.new ≡ page.old ++ broken (term_text self.now term.now)) }
+        ensures { OnOk result (page.new.items ≡ page.old.items ++ broken (term_text self.now term.now)) }
     {
         match term {
-            Term::Literal(text) => page.text(text.as_slice()),
-            Term::Parameter(p) => page.text(self.object(*p)),
+            Term::Literal(literal) => text(page, literal.as_slice()),
+            Term::Parameter(p) => text(page, self.object(*p)),
             Term::Place => self.place(page),
         }
     }
 
     /// The caller's number and the line.
-    fn place(&self, page: &mut Page) -> Result<(), NoMemory>
-        ensures { OnOk result (page.new ≡ page.old ++ broken (term_text self.now Term.Place)) }
+    fn place(&self, page: &mut Vec<u8>) -> Result<(), NoMemory>
+        ensures { OnOk result (page.new.items ≡ page.old.items ++ broken (term_text self.now Term.Place)) }
     {
-        page.number(self.caller)?;
-        page.text(b":")?;
-        page.number(self.line)
+        number(page, self.caller)?;
+        text(page, b":")?;
+        number(page, self.line)
     }
 
     /// The name of the object that a parameter is bound to.

@@ -21,7 +21,6 @@ const SAMPLES: usize = 256;
 /// The names that a history is printed with, and what the handlers print.
 #[derive(Drop)]
 struct Printer<'a> {
-    alloc: Global,
     specification: &'a str,
     table: &'a EventTable,
     categories: &'a Names,
@@ -55,7 +54,6 @@ pub fn render_history(
         text.items ≡ history_text (lexicon_of name.now table.now categories.now objects.now handlers.now) history.now) }
 {
     let printer = Printer {
-        alloc,
         specification: name,
         table,
         categories,
@@ -223,14 +221,13 @@ impl Printer<'_> {
             ++ handler_text (occasion firing.now.instance self.now.objects entry.now.caller entry.now.line)
             handler.now) }
     {
-        let text = handler.render(
-            self.alloc,
+        page.handler(
+            handler,
             &firing.instance,
             self.objects,
             entry.caller,
             entry.line,
-        )?;
-        page.bytes(text.as_slice())
+        )
     }
 
     /// The line of a handler that ran.
@@ -281,8 +278,8 @@ impl Printer<'_> {
         if !first {
             page.byte(b',')?;
         }
-        page.text(self.table.param_name(p))?;
+        page.word(self.table.param_name(p))?;
         page.byte(b'=')?;
-        page.text(self.objects.name(object))
+        page.word(self.objects.name(object))
     }
 }

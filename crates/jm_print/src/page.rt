@@ -1,8 +1,11 @@
 //! A text that grows.
 ghost use Rattle.std.specs.Prelude.{◌≡◌, ◌++◌, [], ◌∷◌, decimal, length, OnOk};
+ghost use Rattle.jm_handler.specs.Renderings.{AreNamed, occasion, handler_text};
 
 use itoa::Buffer;
-use jm_model::NoMemory;
+use jm_events::Names;
+use jm_handler::Handler;
+use jm_model::{Binding, NoMemory};
 use std::alloc::Global;
 use std::marker::Model;
 
@@ -64,15 +67,50 @@ impl Page {
         Ok(self.bytes.push(byte)?)
     }
 
+    /// Writes a text that is often very short.
+    pub(crate) fn word(&mut self, word: &str) -> Result<(), NoMemory>
+        ensures { OnOk result (self.new ≡ self.old ++ word.now) }
+    {
+        match word.as_bytes() {
+            [a] => self.byte(*a),
+            [a, b] => self.bytes(&[*a, *b]),
+            [a, b, c] => self.bytes(&[*a, *b, *c]),
+            all => self.bytes(all),
+        }
+    }
+
     /// Writes a number, without leading zeros.
+    #[inline(always)]
     pub(crate) fn number(&mut self, number: u64) -> Result<(), NoMemory>
         ensures { OnOk result (self.new ≡ self.old ++ decimal number) }
     {
         if number < 10 {
             return self.byte(b'0' + number as u8);
         }
+        self.long_number(number)
+    }
+
+    #[inline(never)]
+    fn long_number(&mut self, number: u64) -> Result<(), NoMemory>
+        ensures { OnOk result (self.new ≡ self.old ++ decimal number) }
+    {
         let mut buffer = Buffer::new();
         self.text(buffer.format(number))
+    }
+
+    /// Writes what a handler prints for an instance, at an event on this line of this caller.
+    pub(crate) fn handler(
+        &mut self,
+        handler: &Handler,
+        instance: &Binding,
+        objects: &Names,
+        caller: u32,
+        line: u32,
+    ) -> Result<(), NoMemory>
+        requires { AreNamed objects.now instance.now }
+        ensures { OnOk result (self.new ≡ self.old ++ handler_text (occasion instance.now objects.now caller line) handler.now) }
+    {
+        handler.render_onto(&mut self.bytes, instance, objects, caller, line)
     }
 
     pub(crate) fn into_bytes(self) -> Vec<u8>

@@ -1,3 +1,4 @@
+pub mod SameLemmas
 pub mod CatalogLemmas
 pub mod NameLemmas
 pub mod WordLemmas

@@ -135,3 +135,9 @@ texts_split [] d le = absurd (omega arith)
 texts_split (x ∷ words) d le =
     let rest : take (suc (length words) - 1) words ≡ words = take_all (suc (length words) - 1) words (omega arith) in
     ap (λ ws. x.now ∷ texts ws) rest
+
+pub le_given : (a b : ℕ) (v : Bool) → v ≡ nat_le a b → v ≡ true → a ≤ b
+le_given a b v is true_is = le_from (sym is ∙ true_is)
+  where
+    le_from : nat_le a b ≡ true → a ≤ b
+    le_from e = grind (arith, nat_tests)

@@ -1,5 +1,6 @@
 //! The event words that were looked up, which often come again.
-ghost use Rattle.std.specs.Prelude.{◌<◌, List, IfSome};
+ghost use Rattle.std.specs.Prelude.{◌≡◌, ◌<◌, ◌≤◌, ◌+◌, List, length, take, drop, IfSome, IsTrue};
+ghost use Rattle.std.specs.Int.{w64, to_le_bytes};
 ghost use Rattle.jm_script.specs.Catalogs.{CatalogEntry};
 ghost use Rattle.jm_script.specs.Known.{IsEventOf, IsSound, AreSound};
 
@@ -67,7 +68,39 @@ fn known_event(known: &Option<Known<'_>>, word: &[u8], count: usize) -> Option<N
         IfSome result (IsEventOf catalog word.now count) }
 {
     match known {
-        Some(known) if known.count == count && known.word == word => Some(known.event),
+        Some(known) if known.count == count && are_same(known.word, word) => Some(known.event),
         _ => None,
+    }
+}
+
+/// Whether two words are the same.
+fn are_same(a: &[u8], b: &[u8]) -> bool
+    ensures { IsTrue result → a.now ≡ b.now }
+{
+    let end = a.len();
+    if b.len() != end {
+        return false;
+    }
+    if end < 8 {
+        return a == b;
+    }
+    let mut at = 0;
+    while at + 8 < end {
+        if eight(a, at) != eight(b, at) {
+            return false;
+        }
+        at += 8;
+    }
+    eight(a, end - 8) == eight(b, end - 8)
+}
+
+/// Eight bytes as one number.
+fn eight(text: &[u8], at: usize) -> u64
+    requires { at + 8 ≤ length text.now }
+    ensures { to_le_bytes w64 result ≡ take 8 (drop at text.now) }
+{
+    match &text[at..] {
+        [a, b, c, d, e, f, g, h, ..] => u64::from_le_bytes([*a, *b, *c, *d, *e, *f, *g, *h]),
+        _ => unreachable!(),
     }
 }

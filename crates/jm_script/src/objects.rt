@@ -1,5 +1,5 @@
 //! The objects of a line.
-ghost use Rattle.std.specs.Prelude.{◌≡◌, ◌<◌, ◌≤◌, nat_le, ◌++◌, ◌-◌, ◌^◌, length, map, take, IfOk, OnOk, OnErr, IsTrue};
+ghost use Rattle.std.specs.Prelude.{◌≡◌, ◌<◌, ◌≤◌, nat_le, ◌++◌, ◌+◌, ◌-◌, ◌^◌, length, map, take, IfOk, IfSome, OnOk, OnErr, IsSome, IsTrue};
 ghost use Rattle.std.specs.List.{list_all};
 ghost use Rattle.jm_events.specs.Names.{with_name};
 ghost use Rattle.jm_script.specs.Statements.{is_object};
@@ -24,6 +24,28 @@ pub fn are_objects(words: &[&[u8]]) -> bool
     true
 }
 
+/// The numbers of the objects, at most eight, if all of them are known.
+pub fn known_numbers(objects: &[&[u8]], names: &Names) -> Option<[u32; 8]>
+    requires objects { IsTrue (list_all is_object (map (λ w. w.now) objects.now)) }
+    requires few { length objects.now ≤ 8 }
+    ensures names { IsSome result → mentioned names.now (map (λ w. w.now) objects.now) ≡ names.now }
+    ensures numbers { IfSome result (λ numbers. take (length objects.now) numbers ≡ numbers_of names.now (map (λ w. w.now) objects.now)) }
+{
+    let mut numbers = [0; 8];
+    for (i, object) in objects.iter().enumerate() {
+        numbers[i] = names.find(text(object))?;
+    }
+    Some(numbers)
+}
+
+/// Whether there are not too many objects even if all of these are new.
+pub fn are_few(objects: &[&[u8]], names: &Names) -> bool
+    requires { length objects.now ≤ 8 }
+    ensures { result ≡ nat_le (length names.now + length objects.now) 65536 }
+{
+    names.len() as usize + objects.len() <= MOST_OBJECTS
+}
+
 /// Whether there are not too many objects once these are mentioned.
 pub fn have_room(alloc: Global, objects: &[&[u8]], names: &Names) -> Result<bool, NoMemory>
     requires objects { IsTrue (list_all is_object (map (λ w. w.now) objects.now)) }
@@ -31,12 +53,11 @@ pub fn have_room(alloc: Global, objects: &[&[u8]], names: &Names) -> Result<bool
     requires room { length names.now ≤ 65536 }
     ensures { IfOk result (λ b. b ≡ nat_le (length (mentioned names.now (map (λ w. w.now) objects.now))) 65536) }
 {
-    let known = names.len() as usize;
-    if known + objects.len() <= MOST_OBJECTS {
+    if are_few(objects, names) {
         return Ok(true);
     }
     let new = new_names(alloc, objects, names)?;
-    Ok(known + new.len() as usize <= MOST_OBJECTS)
+    Ok(names.len() as usize + new.len() as usize <= MOST_OBJECTS)
 }
 
 /// The names of the objects that are new.

@@ -13,7 +13,7 @@ ghost use Rattle.jm_script.specs.Known.{IsEventOf, AreSound};
 use crate::catalog::Catalog;
 use crate::event::{NamedEvent, named_event};
 use crate::known::{Known, KnownWords};
-use crate::objects::{are_objects, have_room, mention};
+use crate::objects::{are_few, are_objects, have_room, known_numbers, mention};
 use crate::script::Target;
 use crate::words::{is_name, position_of, text};
 use jm_events::Names;
@@ -170,6 +170,11 @@ fn numbers(
     ensures numbers { IfOk result (λ numbers. take (length objects.now) numbers ≡ numbers_of names.old (map (λ w. w.now) objects.now)) }
     ensures err { (target_of : List ℕ → Target) → IfErr result (λ error. IsStoppedBy (mentioning position.line names.old (map (λ w. w.now) objects.now) target_of) names.old error names.new) }
 {
+    if !are_few(objects, names) {
+        if let Some(numbers) = known_numbers(objects, names) {
+            return Ok(numbers);
+        }
+    }
     let Ok(room) = have_room(alloc, objects, names) else {
         return Err(ScriptError::NoMemory);
     };

@@ -196,6 +196,14 @@ fn is_blank(b: u8) -> bool
 pub fn is_word(word: &[u8], text: &[u8]) -> bool
     ensures { result ≡ bytes_eq word.now text.now }
 {
+    word.len() == text.len() && are_same(word, text)
+}
+
+// Out of line, since most words have another length.
+#[inline(never)]
+fn are_same(word: &[u8], text: &[u8]) -> bool
+    ensures { result ≡ bytes_eq word.now text.now }
+{
     word == text
 }
 
@@ -237,9 +245,12 @@ fn is_name_byte(b: u8) -> bool
 fn is_object_byte(b: u8) -> bool
     ensures { result ≡ is_object_byte b }
 {
+    if b.is_ascii_alphabetic() {
+        return true;
+    }
     match b {
         b'_' | b'$' | b'.' | b'@' | b'-' => true,
-        _ => b.is_ascii_alphanumeric(),
+        _ => b.is_ascii_digit(),
     }
 }
 
