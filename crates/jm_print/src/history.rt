@@ -62,7 +62,7 @@ pub fn render_history(
     };
     let entries = history.entries(alloc)?;
     let mut page = Page::new(alloc);
-    page.make_room(printer.estimate(&entries)?);
+    page.make_room(printer.estimate(alloc, &entries)?);
     page.text("spec ")?;
     page.text(name)?;
     page.byte(b'\n')?;
@@ -75,18 +75,18 @@ pub fn render_history(
 
 impl Printer<'_> {
     /// About how many bytes the text of these entries has, and seldom fewer: some of them tell, which lie evenly among all.
-    fn estimate(&self, entries: &[&Entry]) -> Result<usize, NoMemory>
+    fn estimate(&self, alloc: Global, entries: &[&Entry]) -> Result<usize, NoMemory>
         requires { All (IsPrintable self.now) (map (λ entry. entry.now) entries.now) }
     {
         let stride = entries.len() / SAMPLES + 1;
-        let mut sample = Vec::new(self.alloc);
+        let mut sample = Vec::new(alloc);
         for k in 0..SAMPLES {
             let place = k.saturating_mul(stride);
             if place < entries.len() {
                 sample.push(entries[place])?;
             }
         }
-        let mut page = Page::new(self.alloc);
+        let mut page = Page::new(alloc);
         self.entries(&mut page, sample.as_slice())?;
         let bytes = page.len().saturating_mul(stride);
         Ok(bytes.saturating_add(bytes / 16))

@@ -9,23 +9,23 @@ use Rattle.jm_print.proofs.history.Printer.estimate.Goals.{then-place-entries+in
 
 pub loop-k-preserved : goal.loop-k-preserved
 loop-k-preserved c = elim c.if-place-entries.branch [
-  then-place-entries+in_ok-push w ↦
-    (let l = c.args.self.now in
-    let lent = c.args.entries.now in
-    let before = c.loop-k.sample.items in
-    let i = c.saturating_mul-place.result in
-    let item = w.index-entries-place.result in
-    let within : i < length (map (λ entry. entry.now) lent) = simp length-map w.if-place-entries.true in
-    let fits : IsPrintable l item.now =
-    subst (λ (x : Entry). IsPrintable l x)
-    (get_or-map (λ entry. entry.now) lent i item ∙ ap (λ entry. entry.now) (sym w.index-entries-place.is))
-    (c.requires i item.now within) in
-    let more : map (λ (e : Bor Entry). e.now) c.if-place-entries.sample.items ≡ map (λ (e : Bor Entry). e.now) before ++ item.now ∷ [] =
-    ap (λ v. map (λ (e : Bor Entry). e.now) v.items) w.sample-is
-    ∙ ap (λ v. map (λ (e : Bor Entry). e.now) v) w.in_ok-push.ensures.items
-    ∙ map-append (λ (e : Bor Entry). e.now) before (item ∷ []) in
-    subst (λ (v : List Entry). All (IsPrintable l) v) (sym more)
-    (All-push (IsPrintable l) (map (λ (e : Bor Entry). e.now) before) item.now c.loop-k.invariant fits))
+  | then-place-entries+in_ok-push w ↦
+      (let l = c.args.self.now in
+      let lent = c.args.entries.now in
+      let before = c.loop-k.sample.items in
+      let i = c.saturating_mul-place.result in
+      let item = w.index-entries-place.result in
+      let within : i < length (map (λ entry. entry.now) lent) = simp length-map w.if-place-entries.true in
+      let fits : IsPrintable l item.now =
+      subst (λ (x : Entry). IsPrintable l x)
+      (get_or-map (λ entry. entry.now) lent i item ∙ ap (λ entry. entry.now) (sym w.index-entries-place.is))
+      (c.requires i item.now within) in
+      let more : map (λ (e : Bor Entry). e.now) c.if-place-entries.sample.items ≡ map (λ (e : Bor Entry). e.now) before ++ item.now ∷ [] =
+      ap (λ v. map (λ (e : Bor Entry). e.now) v.items) w.sample-is
+      ∙ ap (λ v. map (λ (e : Bor Entry). e.now) v) w.in_ok-push.ensures.items
+      ∙ map-append (λ (e : Bor Entry). e.now) before (item ∷ []) in
+      subst (λ (v : List Entry). All (IsPrintable l) v) (sym more)
+      (All-push (IsPrintable l) (map (λ (e : Bor Entry). e.now) before) item.now c.loop-k.invariant fits))
   | else-place-entries w ↦
-    subst (λ (v : List (Bor Entry)). All (IsPrintable c.args.self.now) (map (λ (e : Bor Entry). e.now) v)) (ap (λ v. v.items) (sym w.sample-is)) c.loop-k.invariant
-  ]
+      subst (λ (v : List (Bor Entry)). All (IsPrintable c.args.self.now) (map (λ (e : Bor Entry). e.now) v)) (ap (λ v. v.items) (sym w.sample-is)) c.loop-k.invariant
+]
