@@ -1,4 +1,5 @@
 ghost use Rattle.std.specs.Prelude.{◌≡◌, ◌%◌, ◌^◌, [], ◌∷◌, ◌++◌, length, map, reverse, IfOk, OnOk};
+ghost use Rattle.std.specs.List.{flat_map};
 ghost use Rattle.jm_history.specs.Chains.{rows_of};
 ghost use Rattle.jm_history.specs.Nodes.{answered};
 
@@ -7,7 +8,7 @@ use crate::node::{Node, Spare};
 use jm_model::{Entry, NoMemory, Outcome, Step};
 use std::alloc::Global;
 use std::marker::Model;
-use std::mem;
+use std::{mem, slice};
 
 /// A list of entries, the oldest first.
 #[derive(Drop)]
@@ -106,6 +107,20 @@ impl History {
         Ok(entries)
     }
 
+    /// The entries in pieces, the oldest first, lent and not copied: a piece for each row, or for each entry where they don't
+    /// stand in rows.
+    pub fn pieces(&self, alloc: Global) -> Result<Vec<&[Entry]>, NoMemory>
+        ensures { IfOk result (λ pieces. flat_map (λ piece. piece.now) pieces.items ≡ self.now) }
+    {
+        match &self.newest {
+            Chain::Rows(full, last) => row_pieces(alloc, full.as_slice(), last.as_slice()),
+            _ => {
+                let entries = self.entries(alloc)?;
+                entry_pieces(alloc, entries.as_slice())
+            }
+        }
+    }
+
     /// A copy of the entries, the oldest first.
     pub fn to_list(&self, alloc: Global) -> Result<Vec<Entry>, NoMemory>
         ensures { IfOk result (λ entries. entries.items ≡ self.now) }
@@ -119,6 +134,33 @@ impl History {
         }
         Ok(entries)
     }
+}
+
+/// The rows that are full, and the last one, as pieces.
+fn row_pieces<'a>(
+    alloc: Global,
+    full: &'a [Vec<Entry>],
+    last: &'a [Entry],
+) -> Result<Vec<&'a [Entry]>, NoMemory>
+    ensures { IfOk result (λ pieces. flat_map (λ piece. piece.now) pieces.items ≡ rows_of full.now last.now) }
+{
+    let mut pieces = Vec::new(alloc);
+    for row in full {
+        pieces.push(row.as_slice())?;
+    }
+    pieces.push(last)?;
+    Ok(pieces)
+}
+
+/// A piece for each entry.
+fn entry_pieces<'a>(alloc: Global, entries: &[&'a Entry]) -> Result<Vec<&'a [Entry]>, NoMemory>
+    ensures { IfOk result (λ pieces. flat_map (λ piece. piece.now) pieces.items ≡ map (λ entry. entry.now) entries.now) }
+{
+    let mut pieces = Vec::new(alloc);
+    for entry in entries {
+        pieces.push(slice::from_ref(*entry))?;
+    }
+    Ok(pieces)
 }
 
 /// Adds the entries of rows that are full and of the last one, the newest first.

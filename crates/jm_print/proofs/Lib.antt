@@ -7,3 +7,4 @@ pub mod MarkedLines
 pub mod TextsTold
 pub mod RunLemmas
 pub mod ListLemmas
+pub mod PieceLemmas

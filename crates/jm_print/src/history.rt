@@ -15,8 +15,10 @@ use jm_model::{Binding, Firing, Firings, Letter, NoMemory, Outcome, Step};
 use std::alloc::Global;
 use std::marker::Model;
 
-/// So many entries tell about how long the text of all of them is.
-const SAMPLES: usize = 256;
+/// So many pieces tell about how long the text of all of them is, by so many of their first entries.
+const SAMPLES: usize = 64;
+
+const FIRST: usize = 16;
 
 /// The names that a history is printed with, and what the handlers print.
 #[derive(Drop)]
@@ -60,43 +62,64 @@ pub fn render_history(
         handlers,
         objects,
     };
-    let entries = history.entries(alloc)?;
+    let pieces = history.pieces(alloc)?;
     let mut page = Page::new(alloc);
-    page.make_room(printer.estimate(alloc, &entries)?);
+    page.make_room(printer.estimate(alloc, &pieces)?);
     page.text("spec ")?;
     page.text(name)?;
     page.byte(b'\n')?;
-    printer.entries(&mut page, &entries)?;
+    let count = printer.pieces(&mut page, &pieces)?;
     page.text("end ")?;
-    page.number(entries.len() as u64)?;
+    page.number(count)?;
     page.byte(b'\n')?;
     Ok(page.into_bytes())
 }
 
 impl Printer<'_> {
-    /// About how many bytes the text of these entries has, and seldom fewer: some of them tell, which lie evenly among all.
-    fn estimate(&self, alloc: Global, entries: &[&Entry]) -> Result<usize, NoMemory>
-        requires { All (IsPrintable self.now) (map (λ entry. entry.now) entries.now) }
+    /// About how many bytes the text of these pieces has, and seldom fewer: the first entries of some of them tell, which lie
+    /// evenly among all.
+    fn estimate(&self, alloc: Global, pieces: &[&[Entry]]) -> Result<usize, NoMemory>
+        requires { All (λ piece. All (IsPrintable self.now) piece.now) pieces.now }
     {
-        let stride = entries.len() / SAMPLES + 1;
-        let mut sample = Vec::new(alloc);
-        for k in 0..SAMPLES {
-            let place = k.saturating_mul(stride);
-            if place < entries.len() {
-                sample.push(entries[place])?;
+        let stride = pieces.len() / SAMPLES + 1;
+        let mut page = Page::new(alloc);
+        let mut told = 1usize;
+        let mut entries = 1usize;
+        for (place, piece) in pieces.iter().enumerate() {
+            entries = entries.saturating_add(piece.len());
+            if place % stride == 0 {
+                let first = &piece[..piece.len().min(FIRST)];
+                self.entries(&mut page, first)?;
+                told = told.saturating_add(first.len());
             }
         }
-        let mut page = Page::new(alloc);
-        self.entries(&mut page, sample.as_slice())?;
-        let bytes = page.len().saturating_mul(stride);
+        let bytes = page
+            .len()
+            .saturating_mul((entries / told).saturating_add(1));
         Ok(bytes.saturating_add(bytes / 16))
     }
 
+    /// The entries of pieces. It answers how many there are.
+    fn pieces(&self, page: &mut Page, pieces: &[&[Entry]]) -> Result<u64, NoMemory>
+        requires { All (λ piece. All (IsPrintable self.now) piece.now) pieces.now }
+        ensures text { OnOk result (page.new ≡ page.old
+            ++ flat_map (full_entry_text self.now) (flat_map (λ piece. piece.now) pieces.now)) }
+        ensures count { IfOk result (λ count. count ≡ length (flat_map (λ piece. piece.now) pieces.now)) }
+    {
+        let mut count = 0u64;
+        for piece in pieces {
+            self.entries(page, piece)?;
+            // An entry takes a byte and more, so there are no more of them than bytes.
+            let _bytes = page.len();
+            count += piece.len() as u64;
+        }
+        Ok(count)
+    }
+
     /// The entries.
-    fn entries(&self, page: &mut Page, entries: &[&Entry]) -> Result<(), NoMemory>
-        requires { All (IsPrintable self.now) (map (λ entry. entry.now) entries.now) }
-        ensures { OnOk result (page.new ≡ page.old
-            ++ flat_map (full_entry_text self.now) (map (λ entry. entry.now) entries.now)) }
+    fn entries(&self, page: &mut Page, entries: &[Entry]) -> Result<(), NoMemory>
+        requires { All (IsPrintable self.now) entries.now }
+        ensures { OnOk result (page.new ≡ page.old ++ flat_map (full_entry_text self.now) entries.now) }
     {
         for entry in entries {
             self.entry(page, entry)?;

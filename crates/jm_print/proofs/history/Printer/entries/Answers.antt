@@ -1,17 +1,10 @@
-use Rattle.std.proofs.Common.{◌<◌, ap, sym, ◌∙◌, subst, length, map}
-use Rattle.std.proofs.Math.ListN.{get_or-map}
-use Rattle.std.proofs.lemmas.List.{length-map}
+use Rattle.std.proofs.Common.{sym, subst}
 use Rattle.jm_model.specs.declared.step.Entry.{Entry}
 use Rattle.jm_print.specs.Texts.{IsPrintable}
 use Rattle.jm_print.proofs.history.Printer.entries.Goals as goal
 
 pub entry-requires : goal.entry-requires
 entry-requires c =
-    let l = c.args.self.now in
-    let lent = c.args.entries.now in
-    let i = c.loop-entry.entry-index in
     let item = c.entry-item.result in
-    let within : i < length (map (λ entry. entry.now) lent) = simp length-map c.loop-entry-test.true in
-    subst (λ (x : Entry). IsPrintable l x)
-    (get_or-map (λ entry. entry.now) lent i item ∙ ap (λ entry. entry.now) (sym c.entry-item.is))
-    (c.requires i item.now within)
+    subst (λ (x : Entry). IsPrintable c.args.self.now x) (sym c.entry-item.is)
+    (c.requires c.loop-entry.entry-index item c.loop-entry-test.true)
