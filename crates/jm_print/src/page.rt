@@ -68,6 +68,7 @@ impl Page {
     }
 
     /// Writes a text that is often very short.
+    #[inline(always)]
     pub(crate) fn word(&mut self, word: &str) -> Result<(), NoMemory>
         ensures { OnOk result (self.new ≡ self.old ++ word.now) }
     {

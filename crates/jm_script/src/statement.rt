@@ -156,6 +156,7 @@ fn is_event_line(spec: &[u8], event: &[u8], objects: &[&[u8]]) -> bool
 }
 
 /// The numbers of the objects that a line mentions.
+#[inline(always)]
 fn numbers(
     alloc: Global,
     position: Position,
