@@ -1,7 +1,7 @@
 -- The row of objects, one for each mark.
 use Rattle.std.proofs.Common.{◌≡◌, ℕ, zero, suc, ◌+◌, ◌-◌, ◌<◌, inl, inr, Bool, true, false, cond, not, ◌||◌, List, [], ◌∷◌, ◌++◌, Option, Some, length, map, get_or, refl, sym, ap, ◌∙◌, subst, arith, length-append}
 use Rattle.std.proofs.Math.ListN.{set}
-use Rattle.std.specs.Prelude.{None, slice_get, MatchOption, IfSome, nat_lt, ◌&&◌}
+use Rattle.std.specs.Prelude.{None, slice_get, MatchOption, IfSome, nat_lt}
 use Rattle.std.specs.List.{swap_remove, list_any}
 use Rattle.indexmap.specs.IndexSet.{insert_key}
 use Rattle.std.proofs.lemmas.Bool.{cases_eq, cases_lt, false≢true}
@@ -59,7 +59,7 @@ alive_at dead bindings spots k are low alive = live_at dead bindings k true low 
 -- an object that is bound may be watched by its spot
 pub spot_watched : (b : List (Option ℕ)) (room : ℕ) (x : Option ℕ) → IsBoundBy b x → IsWatched b (spot_of room x)
 spot_watched b room None bound = inl refl
-spot_watched b room (Some o) bound = at (nat_lt (o + 1) room && nat_lt o 4294967295)
+spot_watched b room (Some o) bound = at (nat_lt o room)
   where
     at : (v : Bool) → IsWatched b (cond v (o + 1) 0)
     at true = inr (o, refl, bound o refl)

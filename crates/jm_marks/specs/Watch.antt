@@ -1,19 +1,21 @@
 -- How the flags lie in memory by which a sweep passes marks over. An object's spot is one more than its number, and spot 0
 -- is that of none.
-use Rattle.std.specs.Prelude.{◌≡◌, ℕ, ◌+◌, ◌-◌, ◌*◌, ◌/◌, ◌%◌, ◌<◌, ◌≤◌, List, Bool, false, Option, Some, None, length, ◌&&◌, ◌⊎◌, nat_lt, if◌then◌else◌, slice_index, slice_index_or}
+use Rattle.std.specs.Prelude.{◌≡◌, ℕ, ◌+◌, ◌-◌, ◌*◌, ◌/◌, ◌%◌, ◌<◌, ◌≤◌, List, Bool, false, Option, Some, None, length, ◌⊎◌, nat_lt, if◌then◌else◌, slice_index, slice_index_or}
 use Rattle.std.specs.Int.{bit_at}
 use Rattle.jm_marks.specs.Marks.{is_dead_object}
 
--- what contracts see of a watch: a spot for each mark, a flag for each spot, and how many marks can be added with no memory
+-- what contracts see of a watch: a spot for each mark, a flag for each spot, a number that
+-- objects with a flag are below, and how many marks can be added with no memory
 pub record Watching : Type 0 where
   pub spots : List ℕ
   pub flags : List ℕ
+  pub room : ℕ
   pub spare : ℕ
 
--- the spot of an object, where there are flags for so many spots
+-- the spot of an object that is below a number, and else 0
 abbrev pub spot_of : ℕ → Option ℕ → ℕ
 spot_of room None = 0
-spot_of room (Some o) = if nat_lt (o + 1) room && nat_lt o 4294967295 then o + 1 else 0
+spot_of room (Some o) = if nat_lt o room then o + 1 else 0
 
 -- the flag of the spot is 0
 abbrev pub IsQuiet : List ℕ → ℕ → Type 0

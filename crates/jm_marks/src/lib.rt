@@ -4,8 +4,9 @@
 //! the sets of parameters that ever were those of a mark: at most one for each letter. So to ask something of all
 //! marks below a binding takes one look-up for each of these sets, and no walk over marks.
 //!
-//! In a row beside the set stands an object for each mark, one of those that it binds. A sweep goes over that row, and looks
-//! at a mark itself only where its object is dead. Most bindings that are asked for are found by a hint, without a hash.
+//! Beside the set it is kept which object watches which mark, one of those that the mark binds. A sweep passes many
+//! marks over at once where their objects are alive, and looks at a mark itself only where its object is dead. Most
+//! bindings that are asked for are found by a hint, without a hash.
 #![tactic(auto)]
 
 mod hints;
@@ -91,12 +92,11 @@ fn live_object(objects: &Objects, binding: &Binding) -> Option<u32>
 fn first_object(binding: &Binding) -> Option<u32>
     ensures { IsBoundBy binding.now result }
 {
-    for p in 0..8 {
-        if let Some(object) = binding.get(p) {
-            return Some(object);
-        }
+    let mask = binding.mask();
+    if mask == 0 {
+        return None;
     }
-    None
+    binding.get(mask.trailing_zeros() as u8)
 }
 
 /// Whether a parameter is bound to an object that is alive.

@@ -1,8 +1,7 @@
-//! Which marks a sweep has to look at. For each mark stands an object that it binds, and for each object a flag that tells
-//! where it may be dead, so that many marks whose objects are alive are passed over at once.
-ghost use Rattle.std.specs.Prelude.{ℕ, ◌≡◌, ◌+◌, ◌/◌, ◌%◌, ◌*◌, ◌-◌, ◌<◌, ◌≤◌, [], ◌∷◌, ◌++◌, IsTrue, OnOk, false, length, slice_index, slice_set, vec_len, vec_capacity};
+//! Which marks a sweep has to look at. A mark is watched by an object that it binds, and each object has a flag that is
+//! 0 only while it is alive, so that many marks whose objects are alive are passed over at once.
+ghost use Rattle.std.specs.Prelude.{ℕ, ◌≡◌, ◌+◌, ◌/◌, ◌%◌, ◌*◌, ◌-◌, ◌<◌, ◌≤◌, [], ◌∷◌, ◌++◌, IsTrue, OnOk, Some, false, length, slice_index, slice_set, vec_len, vec_capacity};
 ghost use Rattle.std.specs.Int.{bit_at};
-ghost use Rattle.std.specs.Prelude.{Some};
 ghost use Rattle.std.specs.List.{swap_remove};
 ghost use Rattle.jm_marks.specs.Marks.{is_dead_object};
 ghost use Rattle.jm_marks.specs.Watch.{spot_of, IsQuiet, IsAlive, IsSetBy, AreFresh, AreFlags};
@@ -29,19 +28,21 @@ pub(crate) struct Watch {
     spots: Vec<u32>,
     /// By spots: 0 where the object was alive at the last refresh, and else 1.
     flags: Vec<u8>,
+    /// The objects below it have flags.
+    room: u32,
     /// The words of objects that the flags were set by.
     words: Vec<u64>,
 }
 
 impl Model for Watch {
-    ghost use Rattle.std.specs.Prelude.{◌-◌, vec_capacity, vec_len};
+    ghost use Rattle.std.specs.Prelude.{◌-◌, ◌≤◌, length, vec_capacity, vec_len};
     ghost use Rattle.jm_marks.specs.Watch.{Watching, AreFlags, AreSpots};
 
     ghost Value = { Watching };
 
-    ghost view = { λ w. record { spots = w.spots.items; flags = w.flags.items; spare = vec_capacity w.spots - vec_len w.spots } };
+    ghost view = { λ w. record { spots = w.spots.items; flags = w.flags.items; room = w.room; spare = vec_capacity w.spots - vec_len w.spots } };
 
-    ghost invariant = { λ w. AreFlags w.flags.items w.words.items × AreSpots w.spots.items w.flags.items };
+    ghost invariant = { λ w. AreFlags w.flags.items w.words.items × AreSpots w.spots.items w.flags.items × w.room ≤ length w.flags.items - 1 };
 }
 
 impl Watch {
@@ -52,6 +53,7 @@ impl Watch {
         Watch {
             spots: Vec::new(alloc),
             flags: Vec::new(alloc),
+            room: 0,
             words: Vec::new(alloc),
         }
     }
@@ -72,9 +74,11 @@ impl Watch {
         ensures spots { self.new.spots ≡ self.old.spots }
         ensures spare { self.new.spare ≡ self.old.spare }
     {
-        if limit >= self.flags.len() as u64 && limit < MOST {
-            let count = (limit as usize + AHEAD) * 3 / 2 / WORD;
-            extend(&mut self.flags, &mut self.words, count);
+        if limit > self.room as u64 {
+            let count = (limit.min(MOST) as usize + AHEAD) * 3 / 2 / WORD;
+            if extend(&mut self.flags, &mut self.words, count) {
+                self.room = (count * WORD) as u32;
+            }
         }
     }
 
@@ -88,21 +92,21 @@ impl Watch {
     /// Adds a mark that binds an object, or none.
     pub(crate) fn push(&mut self, object: Option<u32>)
         requires { 1 ≤ self.old.spare }
-        ensures spots { self.new.spots ≡ self.old.spots ++ spot_of (length self.old.flags) object ∷ [] }
+        ensures spots { self.new.spots ≡ self.old.spots ++ spot_of self.old.room object ∷ [] }
         ensures spare { self.old.spare ≤ self.new.spare + 1 }
     {
-        let spot = spot(object, self.flags.len());
+        let spot = spot(object, self.room);
         self.spots.push_reserved(spot);
     }
 
     /// Has a mark watched by another object.
     pub(crate) fn put(&mut self, place: usize, object: u32)
         requires { place < length self.old.spots }
-        ensures spots { self.new.spots ≡ slice_set self.old.spots place (spot_of (length self.old.flags) (Some object)) }
+        ensures spots { self.new.spots ≡ slice_set self.old.spots place (spot_of self.old.room (Some object)) }
         ensures flags { self.new.flags ≡ self.old.flags }
         ensures spare { self.new.spare ≡ self.old.spare }
     {
-        let spot = spot(Some(object), self.flags.len());
+        let spot = spot(Some(object), self.room);
         self.spots[place] = spot;
     }
 
@@ -134,8 +138,8 @@ impl Watch {
         requires { place < length self.now.spots }
         ensures { IsTrue result → IsAlive objects.now (slice_index self.now.spots place) }
     {
-        let spot = self.spots[place];
-        spot > 0 && spot <= objects.len() && !objects.is_dead(spot - 1)
+        let object = self.spots[place].wrapping_sub(1);
+        object < objects.len() && !objects.is_dead(object)
     }
 
     /// Whether all marks of a group from a place on have spots, of objects that were alive at the last refresh.
@@ -154,27 +158,33 @@ impl Watch {
     }
 }
 
-/// The spot of an object where there are flags for so many spots.
-fn spot(object: Option<u32>, room: usize) -> u32
+/// The spot of an object that is below a limit, and else 0.
+fn spot(object: Option<u32>, room: u32) -> u32
     ensures { result ≡ spot_of room object }
 {
     match object {
-        Some(object) if (object as usize) + 1 < room && object < u32::MAX => object + 1,
+        Some(object) if object < room => object + 1,
         _ => 0,
     }
 }
 
-/// Makes the flags those of so many words at least, if there is memory: the new ones are 1.
-fn extend(flags: &mut Vec<u8>, words: &mut Vec<u64>, count: usize)
-    requires few { count < 1000000000000 }
+/// Makes the flags those of so many words at least, if there is memory, and answers whether they are: the new ones are 1.
+fn extend(flags: &mut Vec<u8>, words: &mut Vec<u64>, count: usize) -> bool
+    requires few { count < 1000000000 }
     requires flags { AreFlags flags.old.items words.old.items }
     ensures flags { AreFlags flags.new.items words.new.items }
     ensures more { length flags.old.items ≤ length flags.new.items }
+    ensures room { IsTrue result → 64 * count < length flags.new.items }
 {
     let size = count * WORD + 1;
-    if size > flags.len() && flags.resize(size, 1).is_ok() {
+    if size <= flags.len() {
+        return true;
+    }
+    let is_longer = flags.resize(size, 1).is_ok();
+    if is_longer {
         let _ = words.resize(count, u64::MAX);
     }
+    is_longer
 }
 
 /// Sets the flags as the objects are.
