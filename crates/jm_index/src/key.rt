@@ -24,6 +24,7 @@ pub(crate) enum Key {
 ghost use Rattle.jm_index.specs.Keys.{key_of};
 
 /// The key of a binding.
+#[inline(always)]
 pub(crate) fn key_of(binding: &Binding) -> Key
     ensures value { result ≡ key_of binding.now }
     ensures eight { length binding.now ≡ 8 }
