@@ -1,16 +1,16 @@
 -- What is asked for stands at the positions that are read.
-use Rattle.std.proofs.Common.{◌≡◌, ℕ, Bool, true, false, List, [], ◌∷◌, Option, Some, None, sym, ap, ◌∙◌, subst, arith, inl, inr}
+use Rattle.std.proofs.Common.{◌≡◌, ℕ, zero, suc, ◌<◌, length, get_or, refl, Bool, true, false, List, [], ◌∷◌, Option, Some, None, sym, ap, ◌∙◌, subst, arith, inl, inr}
 use Rattle.std.specs.Prelude.{Contains, slice_get}
 use Rattle.std.specs.List.{filter_map}
-use Rattle.std.proofs.lemmas.Bool.{both_ways, false_from_ne_true}
-use Rattle.std.proofs.lemmas.Option.{none-some, same_Some}
+use Rattle.std.proofs.lemmas.Bool.{both_ways, eq-eqb, false_from_ne_true}
+use Rattle.std.proofs.lemmas.Option.{cond_some, none-some, same_Some}
 use Rattle.jm_model.specs.Bindings.{mask_of, object_at, restriction, is_compatible}
 use Rattle.jm_index.specs.declared.entry.Entry.{Entry}
-use Rattle.jm_index.specs.Index.{PairList, flag_of, IsFitting, AreLive, asked_slots}
-use Rattle.jm_index.specs.Layout.{Rises, slot_of, slot_at, live_pairs, posting_at, IsPath, IsPathBelow, IsIndexed}
+use Rattle.jm_index.specs.Index.{Pair, PairList, flag_of, IsFitting, AreLive, asked_slots}
+use Rattle.jm_index.specs.Layout.{Rises, pair_of, pair_at, slot_of, slot_at, live_pairs, posting_at, IsPath, IsPathBelow, IsIndexed}
 use Rattle.jm_index.proofs.ReadLemmas.{read_all}
-use Rattle.jm_index.proofs.BindingLemmas.{shared, object_at-restriction, exact}
-use Rattle.jm_index.proofs.EntryLemmas.{asked_slots-live, slot_of_some, pair_at-entry}
+use Rattle.jm_index.proofs.BindingLemmas.{shared, object_at-restriction, exact, restriction-agrees}
+use Rattle.jm_index.proofs.EntryLemmas.{asked_slots-live, slot_of_some, pair_at-entry, pair_at_within}
 
 -- the binding of an entry that is asked for is what b gives to the domain, where b binds it all
 same_binding : (domain : ℕ) (b common : List (Option ℕ)) (e : Entry) (v : ℕ) → common ≡ restriction b domain → mask_of common ≡ domain → slot_of domain b e ≡ Some v → common ≡ e.binding
@@ -19,7 +19,7 @@ same_binding domain b common e v is all gives =
     let mask : mask_of (restriction b (mask_of e.binding)) ≡ mask_of e.binding = rw (facts.1, ← is) all in
     is ∙ ap (λ (n : ℕ). restriction b n) (sym facts.1) ∙ exact e.binding b facts.2 mask
 
-pub exact_slots : (entries : List Entry) (place : List (Option ℕ) → Option ℕ) (trees : List (List (List ℕ))) (d : List Bool) (domain : ℕ) (b common : List (Option ℕ)) (k : ℕ)
+exact_slots : (entries : List Entry) (place : List (Option ℕ) → Option ℕ) (trees : List (List (List ℕ))) (d : List Bool) (domain : ℕ) (b common : List (Option ℕ)) (k : ℕ)
     → IsIndexed entries place trees d → common ≡ restriction b domain → mask_of common ≡ domain → place common ≡ Some k
     → filter_map (slot_at entries domain b) (k ∷ []) ≡ asked_slots domain b (live_pairs entries)
 exact_slots entries place trees d domain b common k i is all there =
@@ -31,6 +31,35 @@ exact_slots entries place trees d domain b common k i is all there =
         let placed : place e.binding ≡ Some j = i.placed j _ (pair_at-entry entries j e at (slot_of_some domain b e v gives).0) in
         let here : place e.binding ≡ Some k = subst (λ (w : List (Option ℕ)). place w ≡ Some k) same there in
         (0, (omega arith), same_Some k j (sym here ∙ placed))
+
+-- the entry that a look-up gives
+there_entry : (e : Entry) (common b : List (Option ℕ)) (domain slot : ℕ) → pair_of e ≡ Some (record { binding = common; slot = slot }) → mask_of common ≡ domain → is_compatible common b ≡ true
+    → (e.slot ≡ slot) × (slot_of domain b e ≡ Some slot)
+there_entry e common b domain slot is mask agrees =
+    let parts = cond_some _ _ _ is in
+    let binding : e.binding ≡ common = ap (λ (pair : Pair). pair.binding) parts.1 in
+    let number : e.slot ≡ slot = ap (λ (pair : Pair). pair.slot) parts.1 in
+    (number, rw (parts.0, binding, eq-eqb (mask_of common) domain mask, agrees) (ap (λ (n : ℕ). Some n) number))
+
+slot_there : (es : List Entry) (k : ℕ) (e : Entry) (common b : List (Option ℕ)) (domain slot : ℕ) → pair_at es k ≡ Some (record { binding = common; slot = slot }) → e ≡ get_or es k e
+    → mask_of common ≡ domain → is_compatible common b ≡ true → (e.slot ≡ slot) × (slot_at es domain b k ≡ Some slot)
+slot_there [] k e common b domain slot is at mask agrees = cc
+slot_there (x ∷ es) zero e common b domain slot is at mask agrees = rw at (there_entry x common b domain slot is mask agrees)
+slot_there (x ∷ es) (suc k) e common b domain slot is at mask agrees = slot_there es k e common b domain slot is at mask agrees
+
+pub place_within : (entries : List Entry) (place : List (Option ℕ) → Option ℕ) (trees : List (List (List ℕ))) (d : List Bool) (common : List (Option ℕ)) (k : ℕ)
+    → IsIndexed entries place trees d → place common ≡ Some k → k < length entries
+place_within entries place trees d common k i there = let (slot, at) = i.found common k there in pair_at_within entries k _ at
+
+pub exact_slot : (entries : List Entry) (place : List (Option ℕ) → Option ℕ) (trees : List (List (List ℕ))) (d : List Bool) (domain : ℕ) (b common : List (Option ℕ)) (k : ℕ) (e : Entry)
+    → IsIndexed entries place trees d → common ≡ restriction b domain → mask_of common ≡ domain → place common ≡ Some k → e ≡ get_or entries k e
+    → e.slot ∷ [] ≡ asked_slots domain b (live_pairs entries)
+exact_slot entries place trees d domain b common k e i is all there at =
+    let (slot, pair) = i.found common k there in
+    let agrees : is_compatible common b ≡ true = rw is (restriction-agrees b domain) in
+    let gives = slot_there entries k e common b domain slot pair at all agrees in
+    let one : filter_map (slot_at entries domain b) (k ∷ []) ≡ e.slot ∷ [] = rw (gives.1, gives.0) refl in
+    sym one ∙ exact_slots entries place trees d domain b common k i is all there
 
 pub no_slots : (entries : List Entry) (place : List (Option ℕ) → Option ℕ) (trees : List (List (List ℕ))) (d : List Bool) (domain : ℕ) (b common : List (Option ℕ))
     → IsIndexed entries place trees d → common ≡ restriction b domain → mask_of common ≡ domain → place common ≡ None

@@ -89,3 +89,14 @@ pub restriction-whole : (b : List (Option ℕ)) → restriction b (mask_of b) �
 restriction-whole [] = refl
 restriction-whole (None ∷ b) = rw ((even (mask_of b)).0, (even (mask_of b)).1) (ap (λ (v : List (Option ℕ)). None ∷ v) (restriction-whole b))
 restriction-whole (Some x ∷ b) = rw ((odd (mask_of b)).0, (odd (mask_of b)).1) (ap (λ (v : List (Option ℕ)). Some x ∷ v) (restriction-whole b))
+
+-- what a binding gives to a set of parameters agrees with it
+agrees_first : (x : Option ℕ) (bit : Bool) (a b : List (Option ℕ)) → is_compatible a b ≡ true → is_compatible (cond bit x None ∷ a) (x ∷ b) ≡ true
+agrees_first None true a b rest = rest
+agrees_first None false a b rest = rest
+agrees_first (Some o) true a b rest = rw (eq-eqb o o refl) rest
+agrees_first (Some o) false a b rest = rest
+
+pub restriction-agrees : (b : List (Option ℕ)) (mask : ℕ) → is_compatible (restriction b mask) b ≡ true
+restriction-agrees [] mask = refl
+restriction-agrees (x ∷ b) mask = agrees_first x (mask % 2 == 1) (restriction b (mask / 2)) b (restriction-agrees b (mask / 2))

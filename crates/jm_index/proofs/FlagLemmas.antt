@@ -1,12 +1,12 @@
 -- The flags of an index, 64 to a word.
-use Rattle.std.proofs.Common.{◌≡◌, ℕ, ◌*◌, ◌/◌, ◌%◌, ◌-◌, ◌^◌, ◌<◌, ◌≤◌, Bool, true, false, List, [], ◌∷◌, ◌++◌, length, get_or, refl, sym, ◌∙◌, ap, arith, eqb, ◌⊎◌, inl, inr, Some}
-use Rattle.std.specs.Prelude.{bit_or, slice_set, slice_get}
-use Rattle.std.specs.Int.{bit_at}
+use Rattle.std.proofs.Common.{◌≡◌, ℕ, ◌*◌, ◌/◌, ◌%◌, ◌-◌, ◌+◌, ◌^◌, min, ◌<◌, ◌≤◌, Bool, true, false, List, [], ◌∷◌, ◌++◌, length, get_or, refl, sym, ◌∙◌, ap, arith, eqb, ◌⊎◌, inl, inr, Some}
+use Rattle.std.specs.Prelude.{bit_and, bit_or, slice_set, slice_get}
+use Rattle.std.specs.Int.{w64, bit_at, bit_not}
 use Rattle.std.proofs.Math.ListN.{set, length-set}
 use Rattle.std.proofs.lemmas.List.{same_lists, length_push, get_or_append_left, get_or-append_right, get_or_past}
-use Rattle.std.proofs.lemmas.Bool.{cases_lt, eqb-true, eq-eqb}
+use Rattle.std.proofs.lemmas.Bool.{cases_eq, cases_lt, eqb-true, eq-eqb}
 use Rattle.std.proofs.lemmas.Option.{slice_get-get_or, same_Some}
-use Rattle.std.proofs.lemmas.Nat.Bits.{bit_at-zero, bit_at_or, bit_at-lt}
+use Rattle.std.proofs.lemmas.Nat.Bits.{bit_at-zero, bit_at_and, bit_at_or, bit_at_not, bit_at-lt, same_from_bits}
 use Rattle.std.proofs.lemmas.Grind.{get_or_default_zero}
 use Rattle.jm_objects.specs.Flags.{flag_at, flags_of}
 use Rattle.jm_objects.proofs.FlagLemmas.{length-flags_of, get_or-flags_of, flags_of-kill}
@@ -58,6 +58,46 @@ pub bit_kept : (a b i : ℕ) → bit_or a b ≡ b → bit_at a i ≡ 1 → bit_a
 bit_kept a b i e one =
     let both : bit_at b i ≡ bit_at (bit_or a b) i = ap (λ (w : ℕ). bit_at w i) (sym e) in
     omega (arith, both, bit_at_or a b i, one, bit_at-lt b i)
+
+-- a bit that is set in one of two words is set in the other, where that lacks none of them
+bit_known : (dead known j : ℕ) → known < 2 ^ 64 → bit_and dead (2 ^ 64 - 1 - known) ≡ 0 → j < 64 → bit_at dead j ≡ 1 → bit_at known j ≡ 1
+bit_known dead known j fits none low one =
+    let zero : bit_at (bit_and dead (bit_not w64 known)) j ≡ 0 = rw none (bit_at-zero j) in
+    omega (arith, zero, bit_at_and dead (bit_not w64 known) j, bit_at_not w64 known j fits low, bit_at-lt known j, one)
+
+or_none : (a b : ℕ) → bit_or a b ≡ 0 → (a ≡ 0) × (b ≡ 0)
+or_none a b none = (same_from_bits a 0 (λ i. omega (arith, bit i, bit_at_or a b i, bit_at-zero i)), same_from_bits b 0 (λ i. omega (arith, bit i, bit_at_or a b i, bit_at-zero i)))
+  where
+    bit : (i : ℕ) → bit_at (bit_or a b) i ≡ 0
+    bit i = rw none (bit_at-zero i)
+
+-- of the words from one to another, the bits of the dead are set in those that are known
+abbrev pub AreKnown : List ℕ → List ℕ → ℕ → ℕ → Type 0
+AreKnown dead known first end = (i j : ℕ) → first ≤ i → i < end → j < 64 → bit_at (get_or dead i 0) j ≡ 1 → bit_at (get_or known i 0) j ≡ 1
+
+pub known_more : (dead known : List ℕ) (first n news : ℕ) → get_or known n 0 < 2 ^ 64 → (news ≡ 0 → AreKnown dead known first n)
+    → bit_or news (bit_and (get_or dead n 0) (2 ^ 64 - 1 - get_or known n 0)) ≡ 0 → AreKnown dead known first (n + 1)
+known_more dead known first n news fits before none i j low high bit one =
+    let parts = or_none _ _ none in
+    elim (cases_eq i n) [
+      | inl is ↦ rw is (bit_known _ _ j fits parts.1 bit (rw is at one))
+      | inr apart ↦ before parts.0 i j low (omega (arith, high, apart)) bit one
+    ]
+
+pub known_block : (words read marks : List ℕ) (v dead : List Bool) (block end o : ℕ) → all_flags words ≡ v → read ≡ words → length dead ≤ 64 * length marks
+    → ((k : ℕ) → k < length dead → slice_get dead k ≡ Some (eqb (bit_at (get_or marks (k / 64) 0) (k % 64)) 1)) → end ≡ min (min (length read) (length marks)) (64 * block + 64)
+    → AreKnown marks read (64 * block) end → o / 4096 ≡ block → flag_of dead o ≡ true → o < length v → flag_of v o ≡ true
+known_block words read marks v dead block end o e same room flags is known at gone within =
+    let low : o < length (all_flags words) = rw e within in
+    let here : o < length dead = below (cases_lt o (length dead)) in
+    let bit : eqb (bit_at (get_or marks (o / 64) 0) (o % 64)) 1 ≡ true = sym (same_Some _ _ (sym (slice_get-get_or dead o false here) ∙ flags o here)) ∙ gone in
+    let inside : o / 64 < end = omega (arith, low, length-all_flags words, ap length same, here, room, is, at) in
+    let one : bit_at (get_or read (o / 64) 0) (o % 64) ≡ 1 = known (o / 64) (o % 64) (omega (arith, at)) inside (omega arith) (eqb-true _ 1 bit) in
+    rw (← e) (flag_is_bit words o ∙ eq-eqb _ 1 (rw same at one))
+  where
+    below : (o < length dead) ⊎ (length dead ≤ o) → o < length dead
+    below (inl h) = h
+    below (inr h) = let none : flag_of dead o ≡ false = get_or_past dead o false h in cc
 
 -- so the flags of a word are set where its bits are those of dead objects
 pub dead_kept : (words : List ℕ) (dead : List Bool) (word known i o : ℕ) → ((k : ℕ) → k < length dead → k / 64 ≡ i → slice_get dead k ≡ Some (eqb (bit_at word (k % 64)) 1))

@@ -1,5 +1,5 @@
 -- What lies in memory fits together after each step of a call.
-use Rattle.std.proofs.Common.{◌≡◌, ℕ, zero, suc, ◌+◌, ◌<◌, ◌≤◌, ◌==◌, ◌/◌, Bool, true, false, cond, not, List, [], ◌∷◌, ◌++◌, Option, Some, None, length, get_or, refl, sym, ap, ◌∙◌, subst, arith, ◌⊎◌, inl, inr}
+use Rattle.std.proofs.Common.{◌≡◌, ℕ, zero, suc, ◌+◌, ◌<◌, ◌≤◌, ◌==◌, Bool, true, false, cond, not, List, [], ◌∷◌, ◌++◌, Option, Some, None, length, get_or, refl, sym, ap, ◌∙◌, subst, arith, ◌⊎◌, inl, inr}
 use Rattle.std.specs.Prelude.{◌≢◌, AllPairs, filter, Contains, slice_set, take, Result, Ok, Err, OnOk, OnErr}
 use Rattle.std.proofs.Math.ListN.{length-set}
 use Rattle.std.proofs.lemmas.Bool.{cases_lt, cases_eq, cases_Bool, eq-eqb, ne_eqb, both_ways, not-true, false_from_ne_true}
@@ -418,14 +418,15 @@ live_key index dead pair o fits there binds lives =
     (pair, there, binds, false_from_ne_true (flag_of index.dropped o) (λ gone. both_ways (flag_of dead o) lives (fits.reached o gone)))
 
 -- no dead object below a number of words is a key
-abbrev pub NoneDeadBelow : ℕ → List Bool → PairList → Type 0
-NoneDeadBelow n dead index = (o : ℕ) → o / 64 < n → flag_of dead o ≡ true → IsKey index o → ⊥
+abbrev pub NoneDead : (ℕ → Type 0) → List Bool → PairList → Type 0
+NoneDead IsSuch dead index = (o : ℕ) → IsSuch o → flag_of dead o ≡ true → IsKey index o → ⊥
 
-pub none_more : (n : ℕ) (dead : List Bool) (index : PairList) → NoneDeadBelow n dead index → ((o : ℕ) → o / 64 ≡ n → flag_of dead o ≡ true → IsKey index o → ⊥) → NoneDeadBelow (n + 1) dead index
-none_more n dead index before here o low gone key = elim (cases_lt (o / 64) n) [ inl h ↦ before o h gone key | inr h ↦ here o (omega (arith, h, low)) gone key ]
+pub none_more : (part : ℕ → ℕ) (n : ℕ) (dead : List Bool) (index : PairList) → NoneDead (λ o. part o < n) dead index → NoneDead (λ o. part o ≡ n) dead index → NoneDead (λ o. part o < n + 1) dead index
+none_more part n dead index before here o low gone key = elim (cases_lt (part o) n) [ inl h ↦ before o h gone key | inr h ↦ here o (omega (arith, h, low)) gone key ]
 
 -- fewer keys
-pub none_fewer : (n : ℕ) (dead : List Bool) (old new : PairList) → new.list ≡ old.list → ((o : ℕ) → flag_of old.dropped o ≡ true → flag_of new.dropped o ≡ true) → NoneDeadBelow n dead old → NoneDeadBelow n dead new
-none_fewer n dead old new same kept none o low gone key =
-    none o low gone
+pub none_fewer : (IsSuch : ℕ → Type 0) (dead : List Bool) (old new : PairList) → new.list ≡ old.list → ((o : ℕ) → flag_of old.dropped o ≡ true → flag_of new.dropped o ≡ true)
+    → NoneDead IsSuch dead old → NoneDead IsSuch dead new
+none_fewer IsSuch dead old new same kept none o such gone key =
+    none o such gone
     (key.0, subst (λ (v : List Pair). Contains v key.0) same key.1, key.2, false_from_ne_true (flag_of old.dropped o) (λ was. both_ways (flag_of new.dropped o) key.3 (kept o was)))

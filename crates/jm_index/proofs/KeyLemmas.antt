@@ -1,7 +1,9 @@
 -- A binding's objects, parameter by parameter, and what its key tells of it.
-use Rattle.std.proofs.Common.{◌≡◌, ℕ, zero, suc, ◌+◌, ◌*◌, ◌/◌, ◌<◌, ◌≤◌, List, [], ◌∷◌, Option, Some, None, length, drop, refl, sym, ap, arith}
-use Rattle.std.specs.Prelude.{count_ones}
-use Rattle.std.specs.Int.Count.{ones, ones_step}
+use Rattle.std.proofs.Common.{◌≡◌, ℕ, zero, suc, ◌+◌, ◌-◌, ◌*◌, ◌/◌, ◌%◌, ◌^◌, ◌<◌, ◌≤◌, inl, inr, List, [], ◌∷◌, Option, Some, None, length, drop, refl, sym, ap, ◌∙◌, arith}
+use Rattle.std.specs.Int.{w32, bit_at, trailing_zeros}
+use Rattle.std.proofs.lemmas.Bool.{cases_lt}
+use Rattle.std.proofs.lemmas.Nat.{shr-shr, shr_le}
+use Rattle.std.proofs.lemmas.Nat.Bits.{bit_at_lowest, bit_at-suc, bit_at-zero, bit_at_above, bit_at-trailing_zeros}
 use Rattle.jm_model.specs.Bindings.{object_at, objects_of, mask_of}
 use Rattle.jm_index.specs.declared.key.Key.TheVariants.{Empty, One, Two, More}
 use Rattle.jm_index.specs.Keys.{key_by}
@@ -38,47 +40,87 @@ objects_from-end [] (suc p) h = refl
 objects_from-end (x ∷ b) zero h = absurd (omega arith)
 objects_from-end (x ∷ b) (suc p) h = objects_from-end b p (omega arith)
 
-count_ones-zero : count_ones 0 ≡ 0
-unfolding ones
-count_ones-zero = refl
-
--- there are as many objects as parameters
-pub length-objects_of : (b : List (Option ℕ)) → length (objects_of b) ≡ count_ones (mask_of b)
-length-objects_of [] = sym count_ones-zero
-length-objects_of (None ∷ b) =
-    let ih = length-objects_of b in
+-- bit p of the set tells whether parameter p is bound
+unbound_bit : (b : List (Option ℕ)) (p : ℕ) → bit_at (mask_of b) p ≡ 0 → object_at b p ≡ None
+unbound_bit [] p e = refl
+unbound_bit (None ∷ b) zero e = refl
+unbound_bit (Some o ∷ b) zero e = absurd (omega (arith, bit_at_lowest (1 + 2 * mask_of b), e))
+unbound_bit (None ∷ b) (suc p) e =
     let half : 2 * mask_of b / 2 ≡ mask_of b = omega arith in
-    let step = rw half at (ones_step (2 * mask_of b)) in
-    omega (arith, ih, step)
-length-objects_of (Some o ∷ b) =
-    let ih = length-objects_of b in
+    unbound_bit b p (rw half at (sym (bit_at-suc (2 * mask_of b) p) ∙ e))
+unbound_bit (Some o ∷ b) (suc p) e =
     let half : (1 + 2 * mask_of b) / 2 ≡ mask_of b = omega arith in
-    let step = rw half at (ones_step (1 + 2 * mask_of b)) in
-    omega (arith, ih, step)
+    unbound_bit b p (rw half at (sym (bit_at-suc (1 + 2 * mask_of b) p) ∙ e))
+
+bound_bit : (b : List (Option ℕ)) (p : ℕ) → bit_at (mask_of b) p ≡ 1 → object_at b p ≡ None → ⊥
+bound_bit [] p e none = omega (arith, bit_at-zero p, e)
+bound_bit (None ∷ b) zero e none = omega (arith, bit_at_lowest (2 * mask_of b), e)
+bound_bit (Some o ∷ b) zero e none = cc
+bound_bit (None ∷ b) (suc p) e none =
+    let half : 2 * mask_of b / 2 ≡ mask_of b = omega arith in
+    bound_bit b p (rw half at (sym (bit_at-suc (2 * mask_of b) p) ∙ e)) none
+bound_bit (Some o ∷ b) (suc p) e none =
+    let half : (1 + 2 * mask_of b) / 2 ≡ mask_of b = omega arith in
+    bound_bit b p (rw half at (sym (bit_at-suc (1 + 2 * mask_of b) p) ∙ e)) none
+
+rest_bit : (b : List (Option ℕ)) (from i p : ℕ) → from + i ≡ p → bit_at (mask_of b / 2 ^ from) i ≡ bit_at (mask_of b) p
+rest_bit b from i p e = ap (λ (n : ℕ). n % 2) (shr-shr (mask_of b) from i) ∙ ap (λ (q : ℕ). bit_at (mask_of b) q) e
+
+-- where no bit is set from a parameter on, none is bound ..
+pub none_from : (b : List (Option ℕ)) (from mask : ℕ) → mask ≡ mask_of b → mask / 2 ^ from ≡ 0 → (p : ℕ) → from ≤ p → object_at b p ≡ None
+none_from b from mask is none p low =
+    let bit : bit_at (mask_of b / 2 ^ from) (p - from) ≡ 0 = rw (← is, none) (bit_at-zero (p - from)) in
+    unbound_bit b p (sym (rest_bit b from (p - from) p (omega arith)) ∙ bit)
+
+-- .. and else the first is that of the lowest bit
+pub record IsFirst (b : List (Option ℕ)) (from p : ℕ) : Type 0 where
+  pub bound : object_at b p ≡ None → ⊥
+  pub within : p < 8
+  pub between : (q : ℕ) → from ≤ q → q < p → object_at b q ≡ None
+
+first_set : (b : List (Option ℕ)) (from : ℕ) → mask_of b < 256 → (mask_of b / 2 ^ from ≡ 0 → ⊥) → IsFirst b from (from + trailing_zeros w32 (mask_of b / 2 ^ from))
+first_set b from fits some =
+    let n = trailing_zeros w32 (mask_of b / 2 ^ from) in
+    let small : mask_of b / 2 ^ from < 2 ^ 32 = omega (arith, shr_le (mask_of b) from, fits) in
+    let lowest = bit_at-trailing_zeros w32 (mask_of b / 2 ^ from) (omega (arith, some)) small in
+    let bit : bit_at (mask_of b) (from + n) ≡ 1 = sym (rest_bit b from n (from + n) refl) ∙ lowest.1 in
+    record {
+      bound = bound_bit b (from + n) bit;
+      within = elim (cases_lt (from + n) 8) [ inl h ↦ h | inr h ↦ absurd (omega (arith, bit, bit_at_above (mask_of b) 8 (from + n) fits h)) ];
+      between = λ q low high. unbound_bit b q (sym (rest_bit b from (q - from) q (omega (arith, low))) ∙ lowest.2 (q - from) (omega (arith, low, high)));
+    }
+
+pub first_from : (b : List (Option ℕ)) (from mask : ℕ) → mask ≡ mask_of b → mask < 256 → (mask / 2 ^ from ≡ 0 → ⊥) → IsFirst b from (from + trailing_zeros w32 (mask / 2 ^ from))
+first_from b from mask is fits some =
+    rw is (first_set b from (omega (arith, is, fits)) (λ none. some (rw is none)))
+
+-- what is passed over binds nothing
+skipped : (b : List (Option ℕ)) (from n : ℕ) → ((q : ℕ) → from ≤ q → q < from + n → object_at b q ≡ None) → objects_of (drop from b) ≡ objects_of (drop (from + n) b)
+skipped b from zero none =
+    let e : from ≡ from + 0 = omega arith in
+    ap (λ (m : ℕ). objects_of (drop m b)) e
+skipped b from (suc n) none =
+    let e : from + 1 + n ≡ from + suc n = omega arith in
+    objects_from-none b from (none from (omega arith) (omega arith)) ∙ skipped b (from + 1) n (λ q low high. none q (omega (arith, low)) (omega (arith, high)))
+    ∙ ap (λ (m : ℕ). objects_of (drop m b)) e
+
+pub objects_first : (b : List (Option ℕ)) (from p o : ℕ) → from ≤ p → object_at b p ≡ Some o → ((q : ℕ) → from ≤ q → q < p → object_at b q ≡ None) → objects_of (drop from b) ≡ o ∷ objects_of (drop (p + 1) b)
+objects_first b from p o low at between =
+    let e : from + (p - from) ≡ p = omega arith in
+    skipped b from (p - from) (λ q above below. between q above (omega (arith, low, below))) ∙ ap (λ (m : ℕ). objects_of (drop m b)) e ∙ objects_from-some b p o at
+
+pub objects_rest : (b : List (Option ℕ)) (from : ℕ) → ((q : ℕ) → from ≤ q → object_at b q ≡ None) → objects_of (drop from b) ≡ []
+objects_rest b from none = skipped b from (length b) (λ q above below. none q above) ∙ objects_from-end b (from + length b) (omega arith)
 
 -- keys by the number of objects
-pub key-none : (mask : ℕ) (os : List ℕ) → length os ≡ 0 → Empty ≡ key_by mask os
-key-none mask [] h = refl
-key-none mask (o ∷ os) h = absurd (omega arith)
+pub key-none : (mask : ℕ) (os : List ℕ) → os ≡ [] → Empty ≡ key_by mask os
+key-none mask os none = rw none refl
 
-pub key-one : (mask o : ℕ) (os rest : List ℕ) → length os ≡ 1 → os ≡ o ∷ rest → One mask o ≡ key_by mask os
-key-one mask o os [] h is = rw is refl
-key-one mask o os (q ∷ rest) h is = absurd (omega (arith, ap length is))
+pub key-one : (mask o : ℕ) (os rest : List ℕ) → os ≡ o ∷ rest → rest ≡ [] → One mask o ≡ key_by mask os
+key-one mask o os rest is none = rw (is, none) refl
 
-pub key-more : (mask : ℕ) (os : List ℕ) → 2 < length os → More ≡ key_by mask os
-key-more mask [] h = absurd (omega arith)
-key-more mask (o ∷ []) h = absurd (omega arith)
-key-more mask (o ∷ q ∷ []) h = absurd (omega arith)
-key-more mask (o ∷ q ∷ r ∷ os) h = refl
+pub key-two : (mask o q : ℕ) (os mid rest : List ℕ) → os ≡ o ∷ mid → mid ≡ q ∷ rest → rest ≡ [] → Two (record { mask = mask; first = o; second = q }) ≡ key_by mask os
+key-two mask o q os mid rest is then none = rw (is, then, none) refl
 
-pub unbound : (o : Option ℕ) → ((x : ℕ) → o ≡ Some x → ⊥) → o ≡ None
-unbound None none = refl
-unbound (Some x) none = absurd (none x refl)
-
--- a list with an object in front
-pub cons_length : (os rest : List ℕ) (o : ℕ) → os ≡ o ∷ rest → length os ≡ suc (length rest)
-cons_length os rest o is = ap length is
-
-pub key-two : (mask o q : ℕ) (os mid rest : List ℕ) → length os ≡ 2 → os ≡ o ∷ mid → mid ≡ q ∷ rest → Two (record { mask = mask; first = o; second = q }) ≡ key_by mask os
-key-two mask o q os mid [] h is then = rw (is, then) refl
-key-two mask o q os mid (r ∷ rest) h is then = absurd (omega (arith, ap length is, ap length then))
+pub key-more : (mask o q r : ℕ) (os mid rest last : List ℕ) → os ≡ o ∷ mid → mid ≡ q ∷ rest → rest ≡ r ∷ last → More ≡ key_by mask os
+key-more mask o q r os mid rest last is then more = rw (is, then, more) refl

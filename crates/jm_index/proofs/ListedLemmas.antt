@@ -1,5 +1,5 @@
 -- The slots of the pairs that bind some objects, as they are listed one after another.
-use Rattle.std.proofs.Common.{◌≡◌, ℕ, zero, suc, ◌+◌, ◌/◌, ◌<◌, ◌≤◌, ◌⊎◌, inl, inr, Bool, true, false, List, [], ◌∷◌, Option, Some, length, take, get_or, refl, sym, ap, subst, arith}
+use Rattle.std.proofs.Common.{◌≡◌, ℕ, zero, suc, ◌+◌, ◌<◌, ◌≤◌, ◌⊎◌, inl, inr, Bool, true, false, List, [], ◌∷◌, Option, Some, length, take, get_or, refl, sym, ap, subst, arith}
 use Rattle.std.specs.Prelude.{Contains}
 use Rattle.std.proofs.lemmas.Bool.{cases_lt, false≢true}
 use Rattle.std.proofs.lemmas.List.{take_more, get_or_past}
@@ -55,11 +55,11 @@ listed_more index dead first object old new before kept here pair o there binds 
       | inr past ↦ here pair o there binds (omega (arith, past, high)) died
     ]
 
-pub listed_words : (index : PairList) (dead : List Bool) (n : ℕ) (old new : List ℕ) → AreListed index (λ o. (o / 64 < n) × HasDied index dead o) old
-    → ((k : ℕ) → Contains old k → Contains new k) → AreListed index (λ o. (o / 64 ≡ n) × HasDied index dead o) new
-    → AreListed index (λ o. (o / 64 < n + 1) × HasDied index dead o) new
-listed_words index dead n old new before kept here pair o there binds (high, died) =
-    elim (cases_lt (o / 64) n) [
-      | inl below ↦ kept pair.slot (before pair o there binds (below, died))
-      | inr past ↦ here pair o there binds (omega (arith, past, high), died)
-    ]
+pub listed_either : (index : PairList) (P Q R : ℕ → Type 0) (old new : List ℕ) → AreListed index P old → ((k : ℕ) → Contains old k → Contains new k) → AreListed index Q new
+    → ((o : ℕ) → R o → P o ⊎ Q o) → AreListed index R new
+listed_either index P Q R old new before kept here split pair o there binds such =
+    elim (split o such) [ inl was ↦ kept pair.slot (before pair o there binds was) | inr is ↦ here pair o there binds is ]
+
+-- the numbers below n + 1
+pub below_or_last : (k n : ℕ) → k < n + 1 → (k < n) ⊎ (k ≡ n)
+below_or_last k n h = elim (cases_lt k n) [ inl below ↦ inl below | inr past ↦ inr (omega (arith, past, h)) ]

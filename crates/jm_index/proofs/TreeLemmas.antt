@@ -1,8 +1,9 @@
 -- Trees as lists of lists, and what changes of them.
-use Rattle.std.proofs.Common.{◌≡◌, ℕ, zero, suc, ◌+◌, ◌<◌, ◌≤◌, ◌==◌, Bool, true, false, cond, List, [], ◌∷◌, ◌++◌, Option, Some, length, get_or, refl, sym, ap, ◌∙◌, subst, arith, ◌⊎◌, inl, inr}
+use Rattle.std.proofs.Common.{◌≡◌, ℕ, zero, suc, ◌+◌, ◌<◌, ◌≤◌, ◌==◌, Bool, true, false, cond, List, [], ◌∷◌, ◌++◌, Option, Some, None, length, get_or, refl, sym, ap, ◌∙◌, subst, arith, ◌⊎◌, inl, inr}
 use Rattle.std.specs.Prelude.{Contains, slice_set}
 use Rattle.std.proofs.lemmas.Bool.{cases_eq, cases_lt}
 use Rattle.std.proofs.lemmas.List.{get_or-set_same, get_or-set_other, get_or_default, get_or_past}
+use Rattle.std.proofs.lemmas.Option.{none-some, same_Some}
 use Rattle.jm_model.specs.Bindings.{object_at}
 use Rattle.jm_index.specs.declared.entry.Entry.{Entry}
 use Rattle.jm_index.specs.Index.{flag_of}
@@ -150,11 +151,18 @@ pub tree_read : (items value : List (List (List ℕ))) (old : List ℕ) (now : L
 tree_read items value old now mask path is h at same =
     ap (λ (t : List (List ℕ)). posting_of t path) (read_place items value mask now [] is (subst (λ (v : List (List (List ℕ))). mask < length v) (sym is) h) at) ∙ same
 
--- what holds for the parameters below p, and for p, holds for those below p + 1
-pub each_step : (b : List (Option ℕ)) (d : List Bool) (p : ℕ) (F G : ℕ → Type 0) → ((q o : ℕ) → q < p → object_at b q ≡ Some o → flag_of d o ≡ false → F o) → ((o : ℕ) → F o → G o)
-    → ((o : ℕ) → object_at b p ≡ Some o → flag_of d o ≡ false → G o) → (q o : ℕ) → q < p + 1 → object_at b q ≡ Some o → flag_of d o ≡ false → G o
-each_step b d p F G old keep here q o h at live =
-    elim (cases_eq q p) [
-      | inl is ↦ here o (subst (λ (n : ℕ). object_at b n ≡ Some o) is at) live
-      | inr apart ↦ keep o (old q o (omega (arith, h, apart)) at live)
+-- what holds for the parameters below one, and for the next that is bound, holds for those up to that
+pub each_step : (b : List (Option ℕ)) (d : List Bool) (from p v : ℕ) (F G : ℕ → Type 0) → ((q o : ℕ) → q < from → object_at b q ≡ Some o → flag_of d o ≡ false → F o) → ((o : ℕ) → F o → G o)
+    → ((q : ℕ) → from ≤ q → q < p → object_at b q ≡ None) → object_at b p ≡ Some v → (flag_of d v ≡ false → G v)
+    → (q o : ℕ) → q < p + 1 → object_at b q ≡ Some o → flag_of d o ≡ false → G o
+each_step b d from p v F G old keep between bound here q o h at live =
+    elim (cases_lt q from) [
+      | inl below ↦ keep o (old q o below at live)
+      | inr above ↦
+          elim (cases_eq q p) [
+            | inl is ↦
+                let same : v ≡ o = same_Some _ _ (sym bound ∙ subst (λ (n : ℕ). object_at b n ≡ Some o) is at) in
+                subst G same (here (subst (λ (n : ℕ). flag_of d n ≡ false) (sym same) live))
+            | inr apart ↦ absurd (none-some o (sym (between q above (omega (arith, h, apart))) ∙ at))
+          ]
     ]

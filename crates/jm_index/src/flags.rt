@@ -2,6 +2,7 @@
 ghost use Rattle.std.specs.Prelude.{◌≡◌, ℕ, ◌≤◌, ◌<◌, ◌*◌, ◌/◌, OnOk, IfOk, IsTrue, true, false, [], length, slice_set};
 ghost use Rattle.jm_index.specs.Index.{flag_of, AreBelow};
 
+use crate::key::bound_from;
 use jm_model::{Binding, NoMemory};
 use jm_objects::Objects;
 use std::alloc::Global;
@@ -79,11 +80,10 @@ impl Flags {
         ensures longer { length self.old ≤ length self.new }
         ensures there { OnOk result (AreBelow (length self.new) binding.now) }
     {
-        let _mask = binding.mask();
-        for p in 0..8 {
-            if let Some(object) = binding.get(p) {
-                self.cover_object(object)?;
-            }
+        let mut from = 0;
+        while let Some(bound) = bound_from(binding, from) {
+            self.cover_object(bound.object)?;
+            from = bound.p + 1;
         }
         Ok(())
     }
@@ -119,5 +119,21 @@ impl Flags {
             Some(known) => dead | *known == *known,
             None => true,
         }
+    }
+
+    /// The same of the objects of a block of 64 words.
+    pub(crate) fn has_dead_of_block(&self, objects: &Objects, block: u32) -> bool
+        requires { 4096 * block < length objects.now }
+        ensures { IsTrue result → (o : ℕ) → o / 4096 ≡ block → flag_of objects.now o ≡ true → o < length self.now → flag_of self.now o ≡ true }
+    {
+        let known = self.words.as_slice();
+        let dead = objects.words();
+        let first = 64 * block as usize;
+        let end = known.len().min(dead.len()).min(first + 64);
+        let mut news = 0;
+        for index in first..end {
+            news |= dead[index] & !known[index];
+        }
+        news == 0
     }
 }

@@ -1,8 +1,8 @@
 //! An entry as it lies in memory.
-ghost use Rattle.std.specs.Prelude.{◌≡◌, ◌<◌, ◌≤◌, true, Some, IfOk, IfSome};
-ghost use Rattle.jm_model.specs.Bindings.{object_at};
+ghost use Rattle.std.specs.Prelude.{◌≡◌, true, IfOk, IfSome};
 ghost use Rattle.jm_index.specs.Forms.{binding_in, slot_in, is_kept, IsForm};
 
+use crate::key::bound_from;
 use jm_model::{Binding, NoMemory};
 use std::alloc::Global;
 
@@ -49,51 +49,14 @@ fn short_form(binding: &Binding, slot: u32) -> Option<Form>
     ensures kept { IfSome result (λ form. is_kept form ≡ true) }
     ensures sound { IfSome result IsForm }
 {
-    let count = binding.mask().count_ones();
-    if count == 1
-        && let Some(one) = bound_from(binding, 0)
-    {
-        return Some(Form::One(one.p, one.object, slot));
-    }
-    if count == 2
-        && let Some(form) = two_of(binding, slot)
-        && binding_in(&form) == *binding
-    {
-        return Some(form);
-    }
-    None
-}
-
-/// A form of the first two parameters that are bound.
-fn two_of(binding: &Binding, slot: u32) -> Option<Form>
-    ensures slot { IfSome result (λ form. slot_in form ≡ slot) }
-    ensures kept { IfSome result (λ form. is_kept form ≡ true) }
-    ensures sound { IfSome result IsForm }
-{
     let one = bound_from(binding, 0)?;
-    let other = bound_from(binding, one.p + 1)?;
-    Some(Form::Two(one.p, other.p, one.object, other.object, slot))
-}
-
-/// A parameter and its object.
-#[derive(Clone, Copy)]
-struct Bound {
-    p: u8,
-    object: u32,
-}
-
-/// The first parameter from one on that is bound.
-fn bound_from(binding: &Binding, from: u8) -> Option<Bound>
-    ensures within { IfSome result (λ bound. bound.p < 8) }
-    ensures behind { IfSome result (λ bound. from ≤ bound.p) }
-    ensures object { IfSome result (λ bound. object_at binding.now bound.p ≡ Some bound.object) }
-{
-    for p in from..8 {
-        if let Some(object) = binding.get(p) {
-            return Some(Bound { p, object });
-        }
+    let Some(other) = bound_from(binding, one.p + 1) else {
+        return Some(Form::One(one.p, one.object, slot));
+    };
+    match bound_from(binding, other.p + 1) {
+        Some(_) => None,
+        None => Some(Form::Two(one.p, other.p, one.object, other.object, slot)),
     }
-    None
 }
 
 /// The binding that a form keeps.

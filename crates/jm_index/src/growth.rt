@@ -1,16 +1,22 @@
 //! Room in lists that may get long.
-ghost use Rattle.std.specs.Prelude.{◌≡◌};
+ghost use Rattle.std.specs.Prelude.{◌≡◌, ◌+◌, ◌≤◌, OnOk, vec_len};
+ghost use Rattle.std.specs.Vec.{vec_capacity};
 
 use jm_model::NoMemory;
 
-/// Where a long list is full, makes room for a sixteenth more, so that little of its memory lies unused. A short one doubles
-/// its room by itself.
-pub(crate) fn grow<T>(list: &mut Vec<T>) -> Result<(), NoMemory>
-    ensures { list.new.items ≡ list.old.items }
+/// Makes room for so many more elements. A short list doubles its room, and a long one takes a quarter more, so that
+/// little of its memory lies unused.
+pub(crate) fn grow<T>(list: &mut Vec<T>, more: usize) -> Result<(), NoMemory>
+    ensures same { list.new.items ≡ list.old.items }
+    ensures room { OnOk result (vec_len list.new + more ≤ vec_capacity list.new) }
 {
     let len = list.len();
-    if len >= 1024 && len == list.capacity() {
-        list.reserve_exact(len / 16)?;
+    if list.capacity() - len < more {
+        if len < 16384 {
+            list.reserve(more)?;
+        } else {
+            list.reserve_exact(more.max(len / 4))?;
+        }
     }
     Ok(())
 }

@@ -236,13 +236,10 @@ impl Index {
         ensures distinct { AllPairs (λ a b. a.binding ≢ b.binding) self.now.list }
     {
         match self.places.get(common) {
-            Some(position) => add_slots_at(
-                self.entries.as_slice(),
-                domain,
-                binding,
-                &[position],
-                slots,
-            ),
+            Some(position) => {
+                slots.push(self.entries[position].number())?;
+                Ok(())
+            }
             None => Ok(()),
         }
     }
@@ -256,7 +253,29 @@ impl Index {
     ) -> Result<(), NoMemory>
         ensures { OnOk result (AreListed self.now (HasDied self.now objects.now) slots.new.items) }
     {
-        for index in 0..objects.len().div_ceil(64) {
+        for block in 0..objects.len().div_ceil(4096) {
+            if !self.has_dropped_block(objects, block) {
+                self.add_slots_of_dead_in(objects, block, slots)?;
+            }
+        }
+        Ok(())
+    }
+
+    /// The same for the objects of a block of 64 words.
+    fn add_slots_of_dead_in(
+        &self,
+        objects: &Objects,
+        block: u32,
+        slots: &mut Vec<usize>,
+    ) -> Result<(), NoMemory>
+        requires { 4096 * block < length objects.now }
+        ensures kept { OnOk result ((k : ℕ) → Contains slots.old.items k → Contains slots.new.items k) }
+        ensures all { OnOk result
+            (AreListed self.now (λ o. (o / 4096 ≡ block) × HasDied self.now objects.now o) slots.new.items) }
+    {
+        let len = objects.len().div_ceil(64);
+        let first = 64 * block;
+        for index in first..len.min(first.saturating_add(64)) {
             if !self.has_dropped(objects, index) {
                 self.add_slots_of_dead_at(objects, index, slots)?;
             }
@@ -321,7 +340,25 @@ impl Index {
         ensures keys { (o : ℕ) → IsKey self.new o → flag_of objects.now o ≡ false }
         ensures fits { IsFitting self.new objects.now }
     {
-        for index in 0..objects.len().div_ceil(64) {
+        for block in 0..objects.len().div_ceil(4096) {
+            if !self.has_dropped_block(objects, block) {
+                self.drop_dead_in(objects, block);
+            }
+        }
+    }
+
+    /// The same for the objects of a block of 64 words.
+    fn drop_dead_in(&mut self, objects: &Objects, block: u32)
+        requires { 4096 * block < length objects.now }
+        ensures list { self.new.list ≡ self.old.list }
+        ensures gone { (o : ℕ) → o / 4096 ≡ block → flag_of objects.now o ≡ true → IsKey self.new o → ⊥ }
+        ensures kept { (o : ℕ) → flag_of self.old.dropped o ≡ true → flag_of self.new.dropped o ≡ true }
+        ensures only { (o : ℕ) → flag_of self.new.dropped o ≡ true
+            → (flag_of self.old.dropped o ≡ true) ⊎ (flag_of objects.now o ≡ true) }
+    {
+        let len = objects.len().div_ceil(64);
+        let first = 64 * block;
+        for index in first..len.min(first.saturating_add(64)) {
             if !self.has_dropped(objects, index) {
                 self.drop_dead_at(objects, index);
             }
@@ -334,6 +371,14 @@ impl Index {
         ensures { IsTrue result → (o : ℕ) → o / 64 ≡ index → flag_of objects.now o ≡ true → IsKey self.now o → ⊥ }
     {
         self.dropped.has_dead(objects, index)
+    }
+
+    /// The same of the objects of a block of 64 words.
+    fn has_dropped_block(&self, objects: &Objects, block: u32) -> bool
+        requires { 4096 * block < length objects.now }
+        ensures { IsTrue result → (o : ℕ) → o / 4096 ≡ block → flag_of objects.now o ≡ true → IsKey self.now o → ⊥ }
+    {
+        self.dropped.has_dead_of_block(objects, block)
     }
 
     /// The same for the 64 objects of a word of the table.

@@ -1,6 +1,6 @@
 //! What an exact look-up goes by: the objects of a binding, where it binds no more than two.
-ghost use Rattle.std.specs.Prelude.{◌≡◌, ◌<◌, ◌≤◌, ◌+◌, ◌∷◌, drop, length};
-ghost use Rattle.jm_model.specs.Bindings.{objects_of};
+ghost use Rattle.std.specs.Prelude.{◌≡◌, ℕ, ◌<◌, ◌≤◌, Some, None, IfSome, IfNone, length};
+ghost use Rattle.jm_model.specs.Bindings.{object_at};
 
 use jm_model::Binding;
 
@@ -24,48 +24,51 @@ pub(crate) enum Key {
 ghost use Rattle.jm_index.specs.Keys.{key_of};
 
 /// The key of a binding.
+#[inline(always)]
 pub(crate) fn key_of(binding: &Binding) -> Key
     ensures value { result ≡ key_of binding.now }
     ensures eight { length binding.now ≡ 8 }
 {
     let mask = binding.mask();
-    let count = mask.count_ones();
-    if count == 0 {
+    let Some(first) = bound_from(binding, 0) else {
         return Key::Empty;
-    }
-    if count > 2 {
-        return Key::More;
-    }
-    let first = next_bound(binding, 0);
-    if count == 1 {
+    };
+    let Some(second) = bound_from(binding, first.p + 1) else {
         return Key::One(mask, first.object);
+    };
+    match bound_from(binding, second.p + 1) {
+        Some(_) => Key::More,
+        None => Key::Two(Couple {
+            mask,
+            first: first.object,
+            second: second.object,
+        }),
     }
-    let second = next_bound(binding, first.p + 1);
-    Key::Two(Couple {
-        mask,
-        first: first.object,
-        second: second.object,
-    })
 }
 
 /// A parameter and its object.
 #[derive(Clone, Copy)]
-struct Bound {
-    p: u8,
-    object: u32,
+pub(crate) struct Bound {
+    pub(crate) p: u8,
+    pub(crate) object: u32,
 }
 
 /// The first parameter from one on that is bound.
-fn next_bound(binding: &Binding, from: u8) -> Bound
-    requires { 0 < length (objects_of (drop from binding.now)) }
-    ensures first { objects_of (drop from binding.now) ≡ result.object ∷ objects_of (drop (result.p + 1) binding.now) }
-    ensures within { result.p < 8 }
+#[inline]
+pub(crate) fn bound_from(binding: &Binding, from: u8) -> Option<Bound>
+    requires { from ≤ 8 }
+    ensures within { IfSome result (λ bound. bound.p < 8) }
+    ensures behind { IfSome result (λ bound. from ≤ bound.p) }
+    ensures object { IfSome result (λ bound. object_at binding.now bound.p ≡ Some bound.object) }
+    ensures between { IfSome result (λ bound. (p : ℕ) → from ≤ p → p < bound.p → object_at binding.now p ≡ None) }
+    ensures none { IfNone result ((p : ℕ) → from ≤ p → object_at binding.now p ≡ None) }
+    ensures eight { length binding.now ≡ 8 }
 {
-    let _mask = binding.mask();
-    for p in from..8 {
-        if let Some(object) = binding.get(p) {
-            return Bound { p, object };
-        }
+    let rest = u32::from(binding.mask()) >> from;
+    if rest == 0 {
+        return None;
     }
-    unreachable!()
+    let p = from + rest.trailing_zeros() as u8;
+    let object = binding.get(p)?;
+    Some(Bound { p, object })
 }

@@ -47,6 +47,7 @@ impl Places {
     }
 
     /// The position under a key.
+    #[inline(always)]
     fn at(&self, key: Key) -> Option<u32>
         ensures { result ≡ at_key self.now key }
     {

@@ -99,8 +99,8 @@ fn push(kind: &mut Kind, alloc: Global, position: usize) -> Result<(), NoMemory>
         Kind::Nothing => *kind = Kind::One(position),
         Kind::One(first) => *kind = Kind::Many(run_of(alloc, *first, position)?),
         Kind::Many(run) => {
-            grow(&mut run.positions)?;
-            run.positions.push(position)?;
+            grow(&mut run.positions, 1)?;
+            run.positions.push_reserved(position);
         }
     }
     Ok(())

@@ -44,9 +44,13 @@ impl Row {
         ensures same { (o : ℕ) → slice_index self.new o ≡ slice_index self.old o }
         ensures there { OnOk result (object < length self.new) }
     {
-        while self.marks.len() <= object as usize {
-            grow(&mut self.marks)?;
-            self.marks.push(0)?;
+        let len = self.marks.len();
+        let object = object as usize;
+        if len <= object {
+            grow(&mut self.marks, object - len + 1)?;
+            for _ in len..=object {
+                self.marks.push_reserved(0);
+            }
         }
         Ok(())
     }

@@ -1,5 +1,5 @@
 //! The trees of an index: postings, by the set of bound parameters and by path.
-ghost use Rattle.std.specs.Prelude.{◌≡◌, ℕ, ◌≤◌, ◌<◌, ◌+◌, ◌==◌, [], Contains, OnOk, length, true, false, ◌⊎◌, if◌then◌else◌};
+ghost use Rattle.std.specs.Prelude.{◌≡◌, ℕ, ◌≤◌, ◌<◌, ◌+◌, ◌^◌, ◌==◌, [], Contains, OnOk, length, true, false, ◌⊎◌, if◌then◌else◌};
 ghost use Rattle.jm_model.specs.Bindings.{mask_of};
 ghost use Rattle.jm_index.specs.Index.{flag_of};
 ghost use Rattle.jm_index.specs.Layout.{Rises, IsFiled, is_live_at, posting_of, posting_at, IsPath, IsPathBelow, AllFiled, AreFiled, AreThinned};
@@ -7,6 +7,7 @@ ghost use Rattle.jm_index.specs.Layout.{Rises, IsFiled, is_live_at, posting_of, 
 use crate::entry::Entry;
 use crate::flags::Flags;
 use crate::growth::grow;
+use crate::key::bound_from;
 use crate::posting::Posting;
 use jm_model::{Binding, NoMemory};
 use std::alloc::Global;
@@ -37,19 +38,24 @@ impl Tree {
 
     /// Makes a path, where there is none.
     fn cover(&mut self, path: usize) -> Result<(), NoMemory>
+        requires { path ≤ 2 ^ 32 }
         ensures same { (q : ℕ) → posting_of self.new q ≡ posting_of self.old q }
         ensures there { OnOk result (path < length self.new) }
     {
-        while self.postings.len() <= path {
-            grow(&mut self.postings)?;
-            self.postings.push(Posting::new())?;
+        let len = self.postings.len();
+        if len <= path {
+            grow(&mut self.postings, path - len + 1)?;
+            for _ in len..=path {
+                self.postings.push_reserved(Posting::new());
+            }
         }
         Ok(())
     }
 
     /// Files a position under a path.
     fn file(&mut self, path: usize, position: usize) -> Result<(), NoMemory>
-        requires { (x : ℕ) → Contains (posting_of self.old path) x → x ≤ position }
+        requires last { (x : ℕ) → Contains (posting_of self.old path) x → x ≤ position }
+        requires short { path ≤ 2 ^ 32 }
         ensures filed { IsFiled position (posting_of self.old path) (posting_of self.new path) }
         ensures there { OnOk result (Contains (posting_of self.new path) position) }
         ensures others { (q : ℕ) → (q ≡ path → ⊥) → posting_of self.new q ≡ posting_of self.old q }
@@ -130,7 +136,8 @@ impl Trees {
 
     /// Files a position under a path of a tree.
     fn file(&mut self, mask: u8, path: usize, position: usize) -> Result<(), NoMemory>
-        requires { (x : ℕ) → Contains (posting_at self.old mask path) x → x ≤ position }
+        requires last { (x : ℕ) → Contains (posting_at self.old mask path) x → x ≤ position }
+        requires short { path ≤ 2 ^ 32 }
         ensures filed { IsFiled position (posting_at self.old mask path) (posting_at self.new mask path) }
         ensures there { OnOk result (Contains (posting_at self.new mask path) position) }
         ensures others { (q : ℕ) → (q ≡ path → ⊥) → posting_at self.new mask q ≡ posting_at self.old mask q }
@@ -174,10 +181,10 @@ impl Trees {
     {
         let mask = binding.mask();
         self.file(mask, 0, position)?;
-        for p in 0..8 {
-            if let Some(object) = binding.get(p) {
-                self.file_object(dropped, mask, object, position)?;
-            }
+        let mut from = 0;
+        while let Some(bound) = bound_from(binding, from) {
+            self.file_object(dropped, mask, bound.object, position)?;
+            from = bound.p + 1;
         }
         Ok(())
     }
@@ -198,10 +205,10 @@ impl Trees {
     {
         let mask = binding.mask();
         self.thin(mask, 0, entries);
-        for p in 0..8 {
-            if let Some(object) = binding.get(p) {
-                self.thin(mask, object as usize + 1, entries);
-            }
+        let mut from = 0;
+        while let Some(bound) = bound_from(binding, from) {
+            self.thin(mask, bound.object as usize + 1, entries);
+            from = bound.p + 1;
         }
     }
 
@@ -246,10 +253,10 @@ impl Trees {
         ensures { IsPathBelow binding.now result }
     {
         let mut best = 0;
-        for p in 0..8 {
-            if let Some(object) = binding.get(p) {
-                best = self.shorter(mask, best, object as usize + 1);
-            }
+        let mut from = 0;
+        while let Some(bound) = bound_from(binding, from) {
+            best = self.shorter(mask, best, bound.object as usize + 1);
+            from = bound.p + 1;
         }
         best
     }

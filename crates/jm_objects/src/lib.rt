@@ -2,7 +2,7 @@
 #![tactic(auto)]
 
 ghost use Rattle.std.specs.Int.{bit_at};
-ghost use Rattle.std.specs.Prelude.{ℕ, ◌≡◌, ◌<◌, ◌*◌, ◌/◌, ◌%◌, ◌^◌, ◌==◌, Bool, not, true, false, Some, IfOk, length, replicate, slice_get, slice_set};
+ghost use Rattle.std.specs.Prelude.{ℕ, ◌≡◌, ◌<◌, ◌≤◌, ◌*◌, ◌/◌, ◌%◌, ◌^◌, ◌==◌, Bool, not, true, false, Some, IfOk, length, replicate, slice_get, slice_index, slice_set};
 
 use std::alloc::{AllocError, Global};
 use std::marker::Model;
@@ -55,6 +55,14 @@ impl Objects {
         ensures { (k : ℕ) → k < length self.now → k / 64 ≡ index → slice_get self.now k ≡ Some (bit_at result (k % 64) == 1) }
     {
         self.words[index as usize]
+    }
+
+    /// The flags of all objects, 64 in a word: bit k % 64 of word k / 64 is that of object k.
+    pub fn words(&self) -> &[u64]
+        ensures room { length self.now ≤ 64 * length result.now }
+        ensures flags { (k : ℕ) → k < length self.now → slice_get self.now k ≡ Some (bit_at (slice_index result.now (k / 64)) (k % 64) == 1) }
+    {
+        self.words.as_slice()
     }
 
     /// Lets an object die, and answers whether it was alive.

@@ -1,12 +1,15 @@
-use Rattle.std.proofs.Common.{sym, ap, ◌∙◌}
-use Rattle.std.specs.Prelude.{count_ones}
-use Rattle.jm_model.proofs.EqLemmas.{binding_eq-Decides}
-use Rattle.jm_index.proofs.FormLemmas.{bound_alone}
+use Rattle.jm_index.proofs.KeyLemmas.{objects_first, objects_rest}
+use Rattle.jm_index.proofs.FormLemmas.{bound_alone, bound_both}
 use Rattle.jm_index.proofs.form.short_form.Goals as goal
 
-pub returns-clause-same : goal.returns-clause-same
-returns-clause-same c =
-    bound_alone _ _ _ c.mask-count.ensures.eight c.in-Some.ensures.object (ap count_ones (sym c.mask-count.ensures.value) ∙ c.if-count-eq1.true)
+pub returns-in_default-clause-same : goal.returns-in_default-clause-same
+returns-in_default-clause-same c =
+    let one = c.in_ok-one.ensures in
+    bound_alone _ _ _ _ one.eight one.object (objects_first _ 0 _ _ one.behind one.object one.between) (objects_rest _ _ c.in_default.ensures.none)
 
-pub returns-2-clause-same : goal.returns-2-clause-same
-returns-2-clause-same c = sym c.binding_in.ensures ∙ (binding_eq-Decides _ _).0 (sym c.eq.ensures ∙ c.if-eq.true)
+pub returns-in-None-clause-same : goal.returns-in-None-clause-same
+returns-in-None-clause-same c =
+    let one = c.in_ok-one.ensures in
+    let two = c.in-Some.ensures in
+    bound_both _ _ _ _ _ _ _ one.eight two.behind one.object two.object (objects_first _ 0 _ _ one.behind one.object one.between)
+    (objects_first _ _ _ _ two.behind two.object two.between) (objects_rest _ _ c.in-None.ensures.none)

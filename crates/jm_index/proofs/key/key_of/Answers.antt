@@ -1,35 +1,25 @@
-use Rattle.std.proofs.Common.{◌≡◌, length, ap, arith}
-use Rattle.jm_model.specs.Bindings.{objects_of}
-use Rattle.jm_index.proofs.KeyLemmas.{length-objects_of, key-none, key-one, key-two, key-more}
+use Rattle.jm_index.proofs.KeyLemmas.{objects_first, objects_rest, key-none, key-one, key-two, key-more}
 use Rattle.jm_index.proofs.key.key_of.Goals as goal
 
-pub returns-then-count-eq0-clause-value : goal.returns-then-count-eq0-clause-value
-returns-then-count-eq0-clause-value c =
-    let count = rw (← c.mask-mask.ensures.value) at (length-objects_of c.args.binding.now) in
-    key-none _ _ (omega (arith, count))
+pub returns-in_default-clause-value : goal.returns-in_default-clause-value
+returns-in_default-clause-value c = key-none _ _ (objects_rest _ 0 c.in_default.ensures.none)
 
-pub returns-then-count-gt2-clause-value : goal.returns-then-count-gt2-clause-value
-returns-then-count-gt2-clause-value c =
-    let count = rw (← c.mask-mask.ensures.value) at (length-objects_of c.args.binding.now) in
-    key-more _ _ (omega (arith, count))
+pub returns-in_default-bound_from-clause-value : goal.returns-in_default-bound_from-clause-value
+returns-in_default-bound_from-clause-value c =
+    let one = c.in-Some.ensures in
+    rw c.mask-mask.ensures.value (key-one _ _ _ _ (objects_first _ 0 _ _ one.behind one.object one.between) (objects_rest _ _ c.in_default-bound_from.ensures.none))
 
-pub next_bound-first-requires : goal.next_bound-first-requires
-next_bound-first-requires c =
-    let count = rw (← c.mask-mask.ensures.value) at (length-objects_of c.args.binding.now) in
-    omega (arith, count)
+pub returns-in-Some-bound_from-2-clause-value : goal.returns-in-Some-bound_from-2-clause-value
+returns-in-Some-bound_from-2-clause-value c =
+    let one = c.in-Some.ensures in
+    let two = c.in-Some-bound_from.ensures in
+    let more = c.in-Some-bound_from-2.ensures in
+    key-more _ _ _ _ _ _ _ _ (objects_first _ 0 _ _ one.behind one.object one.between) (objects_first _ _ _ _ two.behind two.object two.between)
+    (objects_first _ _ _ _ more.behind more.object more.between)
 
-pub returns-then-count-eq1-clause-value : goal.returns-then-count-eq1-clause-value
-returns-then-count-eq1-clause-value c =
-    let count = rw (← c.mask-mask.ensures.value) at (length-objects_of c.args.binding.now) in
-    rw c.mask-mask.ensures.value (key-one _ _ _ _ (omega (arith, count)) c.next_bound-first.ensures.first)
-
-pub next_bound-second-requires : goal.next_bound-second-requires
-next_bound-second-requires c =
-    let count = rw (← c.mask-mask.ensures.value) at (length-objects_of c.args.binding.now) in
-    omega (arith, count, ap length c.next_bound-first.ensures.first)
-
-pub returns-clause-value : goal.returns-clause-value
-returns-clause-value c =
-    let count = rw (← c.mask-mask.ensures.value) at (length-objects_of c.args.binding.now) in
-    let two : length (objects_of c.args.binding.now) ≡ 2 = omega (arith, count, ap length c.next_bound-first.ensures.first, ap length c.next_bound-second.ensures.first) in
-    rw c.mask-mask.ensures.value (key-two _ _ _ _ _ _ two c.next_bound-first.ensures.first c.next_bound-second.ensures.first)
+pub returns-in-None-clause-value : goal.returns-in-None-clause-value
+returns-in-None-clause-value c =
+    let one = c.in-Some.ensures in
+    let two = c.in-Some-bound_from.ensures in
+    rw c.mask-mask.ensures.value
+    (key-two _ _ _ _ _ _ (objects_first _ 0 _ _ one.behind one.object one.between) (objects_first _ _ _ _ two.behind two.object two.between) (objects_rest _ _ c.in-None.ensures.none))

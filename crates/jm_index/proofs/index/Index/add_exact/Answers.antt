@@ -1,26 +1,29 @@
-use Rattle.std.proofs.Common.{◌≡◌, ◌∷◌, [], sym}
-use Rattle.std.specs.List.{filter_map}
-use Rattle.jm_index.specs.Index.{asked_slots}
-use Rattle.jm_index.specs.Layout.{slot_at}
-use Rattle.jm_index.proofs.AskLemmas.{exact_slots, no_slots}
+use Rattle.std.proofs.Common.{◌<◌, length, sym, arith}
+use Rattle.std.proofs.lemmas.Grind.{common_steps}
+use Rattle.jm_index.proofs.AskLemmas.{place_within, exact_slot, no_slots}
 use Rattle.jm_index.proofs.IndexLemmas.{list_distinct}
 use Rattle.jm_index.proofs.index.Index.add_exact.Goals as goal
 
-pub returns-in-Some-clause-slots : goal.returns-in-Some-clause-slots
-returns-in-Some-clause-slots c =
-    let is : filter_map (slot_at c.as_slice.result.now c.args.domain c.args.binding.now) (c.in-Some.position ∷ []) ≡ asked_slots c.args.domain c.args.binding.now c.args.self.now.list =
-    rw (c.as_slice.ensures.value, ← c.self.view_is) (exact_slots _ _ _ _ _ _ _ _ c.self.invariant c.requires.common c.requires.all (sym c.in-Some.ensures))
-    in
-    let added = rw c.requires.none at c.add_slots_at.ensures in
-    rw (← is) added
+pub index-requires : goal.index-requires
+index-requires c =
+    let there : c.in-Some.position < length c.self.inside.entries.items = place_within _ _ _ _ _ _ c.self.invariant (sym c.in-Some.ensures) in
+    grind (arith, common_steps)
+
+pub returns-in_ok-push-in-Some-clause-slots : goal.returns-in_ok-push-in-Some-clause-slots
+returns-in_ok-push-in-Some-clause-slots c =
+    rw (← c.self.view_is, c.in_ok-push-in-Some.ensures.items, c.requires.none, c.number.ensures)
+    (exact_slot _ _ _ _ _ _ _ _ _ c.self.invariant c.requires.common c.requires.all (sym c.in-Some.ensures) c.index.ensures)
+
+pub returns-in_err-push-in-Some-clause-distinct : goal.returns-in_err-push-in-Some-clause-distinct
+returns-in_err-push-in-Some-clause-distinct c = rw (← c.self.view_is) (list_distinct _ _ _ _ c.self.invariant)
+
+pub returns-in_ok-push-in-Some-clause-distinct : goal.returns-in_ok-push-in-Some-clause-distinct
+returns-in_ok-push-in-Some-clause-distinct c = rw (← c.self.view_is) (list_distinct _ _ _ _ c.self.invariant)
 
 pub returns-in-None-clause-slots : goal.returns-in-None-clause-slots
 returns-in-None-clause-slots c =
     rw (← c.self.view_is, c.requires.none)
     (no_slots _ _ _ _ _ _ _ c.self.invariant c.requires.common c.requires.all (sym c.in-None.ensures))
-
-pub returns-in-Some-clause-distinct : goal.returns-in-Some-clause-distinct
-returns-in-Some-clause-distinct c = rw (← c.self.view_is) (list_distinct _ _ _ _ c.self.invariant)
 
 pub returns-in-None-clause-distinct : goal.returns-in-None-clause-distinct
 returns-in-None-clause-distinct c = rw (← c.self.view_is) (list_distinct _ _ _ _ c.self.invariant)

@@ -1,21 +1,27 @@
-use Rattle.std.proofs.Common.{arith}
-use Rattle.jm_index.proofs.ListedLemmas.{listed_words, flag_within}
-use Rattle.jm_index.proofs.index.Index.add_slots_of_dead.Goals.{then-not-has_dropped+in_ok-add_slots_of_dead_at, else-not-has_dropped}
+use Rattle.std.proofs.Common.{◌≡◌, ℕ, ◌/◌, ◌<◌, inl, inr, arith}
+use Rattle.jm_index.specs.Index.{HasDied}
+use Rattle.jm_index.proofs.ListedLemmas.{listed_either, below_or_last, flag_within}
+use Rattle.jm_index.proofs.index.Index.add_slots_of_dead.Goals.{then-not-has_dropped_block+in_ok-add_slots_of_dead_in, else-not-has_dropped_block}
 use Rattle.jm_index.proofs.index.Index.add_slots_of_dead.Goals as goal
 
-pub loop-index-preserved : goal.loop-index-preserved
-loop-index-preserved c =
-    elim c.if-not-has_dropped.branch [
-      | then-not-has_dropped+in_ok-add_slots_of_dead_at w ↦
-          let added = w.in_ok-add_slots_of_dead_at.ensures in
-          rw w.slots-is (listed_words _ _ _ _ _ c.loop-index.invariant added.kept added.all)
-      | else-not-has_dropped w ↦
+pub loop-block-preserved : goal.loop-block-preserved
+loop-block-preserved c =
+    let HasNew : ℕ → Type 0 = λ o. HasDied c.args.self.now c.args.objects.now o in
+    elim c.if-not-has_dropped_block.branch [
+      | then-not-has_dropped_block+in_ok-add_slots_of_dead_in w ↦
+          let added = w.in_ok-add_slots_of_dead_in.ensures in
           rw w.slots-is
-          (listed_words _ _ _ _ _ c.loop-index.invariant (λ k there. there)
-          (λ pair o there binds (at, died). absurd (c.has_dropped.ensures w.if-not-has_dropped.false o at died.0 (pair, there, binds, died.1))))
+          (listed_either c.args.self.now (λ o. (o / 4096 < c.loop-block.block) × HasNew o) (λ o. (o / 4096 ≡ c.loop-block.block) × HasNew o) _ _ _ c.loop-block.invariant added.kept added.all
+          (λ o (low, died). elim (below_or_last _ _ low) [ inl below ↦ inl (below, died) | inr last ↦ inr (last, died) ]))
+      | else-not-has_dropped_block w ↦
+          rw w.slots-is
+          (λ pair o there binds (low, died). elim (below_or_last _ _ low) [
+            | inl below ↦ c.loop-block.invariant pair o there binds (below, died)
+            | inr last ↦ absurd (c.has_dropped_block.ensures w.if-not-has_dropped_block.false o last died.0 (pair, there, binds, died.1))
+          ])
     ]
 
 pub returns : goal.returns
 returns c = λ pair o there binds died.
     let within = flag_within c.args.objects.now o died.0 in
-    c.loop-index.invariant pair o there binds (omega (arith, within, c.len.ensures, c.div_ceil-index-end.ensures), died)
+    c.loop-block.invariant pair o there binds (omega (arith, within, c.len.ensures, c.div_ceil-block-end.ensures, c.loop-block-test.false), died)

@@ -9,7 +9,7 @@ file-requires c =
     let is : c.index_mut-posting.result.now ≡ posting_of c.args.self.now c.args.path =
     posting_read _ _ _ _ _ c.self.view_is c.in_ok-cover.ensures.there c.index_mut-posting.ensures.value (c.in_ok-cover.ensures.same c.args.path)
     in
-    λ x there. c.requires x (subst (λ (v : List ℕ). Contains v x) is there)
+    λ x there. c.requires.last x (subst (λ (v : List ℕ). Contains v x) is there)
 
 pub returns-clause-filed : goal.returns-clause-filed
 returns-clause-filed c =

@@ -9,7 +9,7 @@ file-requires c =
     let is : posting_of c.index_mut-tree.result.now c.args.path ≡ posting_at c.args.self.now c.args.mask c.args.path =
     tree_read _ _ _ _ _ _ c.self.view_is c.in_ok-cover.ensures.there c.index_mut-tree.ensures.value (c.in_ok-cover.ensures.same c.args.mask c.args.path)
     in
-    λ x there. c.requires x (subst (λ (v : List ℕ). Contains v x) is there)
+    record { last = λ x there. c.requires.last x (subst (λ (v : List ℕ). Contains v x) is there); short = c.requires.short }
 
 pub returns-clause-filed : goal.returns-clause-filed
 returns-clause-filed c =
