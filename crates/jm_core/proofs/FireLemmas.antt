@@ -1,7 +1,7 @@
 -- A store after an event that was planned and committed.
 use Rattle.std.proofs.Common.{◌≡◌, ℕ, ◌⊎◌, inl, inr, Bool, true, false, List, [], ◌∷◌, ◌++◌, refl, sym, ◌∙◌, ap, subst}
-use Rattle.std.specs.Prelude.{Option, Contains, IsTrue}
-use Rattle.std.proofs.lemmas.Bool.{both_ways}
+use Rattle.std.specs.Prelude.{Option, Contains, IsTrue, not}
+use Rattle.std.proofs.lemmas.Bool.{both_ways, false≢true, not-true}
 use Rattle.jm_model.specs.Bindings.{is_below}
 use Rattle.jm_monitors.proofs.RestLemmas.{rest_keeps_store, rest_answer}
 use Rattle.jm_store.specs.declared.moves.Move.{Move}
@@ -115,3 +115,19 @@ rest_untouched m {S} Stands dead before after rest stored marks rested known =
 
 pub rest_none : (m : Meaning) {S : Type 0} (Stands : S → List ℕ → Type 0) (dead : List Bool) (store : Contents S) (rest : Rest) → rest.is_known ≡ false → IsRested m Stands dead store rest
 rest_none m Stands dead store rest none known = absurd (both_ways rest.is_known none known)
+
+-- after an event that was done at once, of which it is known whether its monitor stays
+pub rest_after_done : (m : Meaning) {S : Type 0} (Stands : S → List ℕ → Type 0) (dead : List Bool) (letter : ℕ) (b : Binding) (before after : Contents S) (old new : Rest) (stays : Bool) → after.marks ≡ before.marks
+    → (stays ≡ false → (s : Stored S) → Contains (stored_of after) s → Contains (stored_of before) s) → IsRested m Stands dead before old
+    → (new.is_known ≡ true → ((false ≡ true) × (new.letter.0 ≡ letter) × (new.binding ≡ b)) ⊎ ((not stays ≡ true) × (new ≡ old))) → IsRested m Stands dead after new
+rest_after_done m {S} Stands dead letter b before after old new stays marks kept rested followed known =
+    elim (followed known) [
+      | inl now ↦ absurd (false≢true now.0)
+      | inr drop ↦
+          let was : AreResting m Stands dead old.letter.0 old.binding (stored_of before) before.marks = rested (sym (ap (λ (r : Rest). r.is_known) drop.1) ∙ known) in
+          subst (λ (r : Rest). AreResting m Stands dead r.letter.0 r.binding (stored_of after) after.marks) (sym drop.1)
+          (record {
+            marked = subst (λ (l : List Binding). Contains l old.binding) (sym marks) was.marked;
+            each = λ s there below. was.each s (kept (not-true stays drop.0) s there) below;
+          })
+    ]

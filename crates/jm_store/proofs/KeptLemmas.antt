@@ -1,7 +1,7 @@
 -- What lies in memory still fits together after a move.
-use Rattle.std.proofs.Common.{◌≡◌, ◌≢◌, ℕ, Bool, true, false, List, [], ◌∷◌, ◌++◌, refl, sym, ap, ◌∙◌, arith}
+use Rattle.std.proofs.Common.{◌≡◌, ◌≢◌, ℕ, Bool, true, false, List, [], ◌∷◌, ◌++◌, refl, sym, ap, ◌∙◌, arith, inl, inr}
 use Rattle.std.specs.Prelude.{Some, None, Contains, slice_set, AllPairs}
-use Rattle.std.proofs.lemmas.Bool.{both_ways, false≢true}
+use Rattle.std.proofs.lemmas.Bool.{both_ways, false≢true, cases_eq}
 use Rattle.std.proofs.lemmas.Option.{none-some}
 use Rattle.jm_model.specs.Bindings.{mask_of}
 use Rattle.jm_index.proofs.ReadLemmas.{Contains-none}
@@ -104,6 +104,29 @@ module _ {S : Type 0} where
             let before = from_without s.instance pairs pair within in
             let (r, is) = h.settled no pair before in
             (r, freed_other slots k pair.slot n (λ same. without_absent s.instance pairs pair within (to pair before same)) ∙ is);
+        room = h.room;
+      }
+
+  -- a monitor's slot gets another of its instance
+  pub kept_changed : (slots : List (Slot S)) (pairs : List Pair) (domains : List ℕ) (open' : Bool) (spare k : ℕ) (s : Stored S) (state : S) → IsKept slots pairs domains open' spare
+      → monitor_at (monitors_of slots) k ≡ Some s → IsKept (slice_set slots k (Taken (record { instance = s.instance; state = state }))) pairs domains open' spare
+  kept_changed slots pairs domains open' spare k s state h at =
+      let new : Stored S = record { instance = s.instance; state = state } in
+      record {
+        housed = housed_put slots pairs k new h.housed (h.housed.paired k s at);
+        domains = h.domains;
+        settled = λ no pair within. elim (cases_eq pair.slot k) [
+          | inl same ↦ (
+            new,
+            monitor_at-slot (slice_set slots k (Taken new)) pair.slot ∙ ap (λ (n : ℕ). monitor_in (slot_at (slice_set slots k (Taken new)) n)) same
+                ∙ ap monitor_in (slot_at-set_same slots k (Taken new) (used_within slots k (monitor_used slots k s at))),
+          )
+          | inr other ↦ let (r, is) = h.settled no pair within in (
+            r,
+            monitor_at-slot (slice_set slots k (Taken new)) pair.slot ∙ ap monitor_in (slot_at-set_other slots k pair.slot (Taken new) other)
+                ∙ sym (monitor_at-slot slots pair.slot) ∙ is,
+          )
+        ];
         room = h.room;
       }
 

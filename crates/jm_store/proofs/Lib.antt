@@ -20,3 +20,4 @@ pub mod EndingLemmas
 pub mod RestLemmas
 pub mod SparedLemmas
 pub mod StoreLemmas
+mod AdvanceLemmas

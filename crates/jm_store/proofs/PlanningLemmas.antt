@@ -309,7 +309,7 @@ module _ (m : Meaning) {S : Type 0} (Stands : S → List ℕ → Type 0) (letter
       (rw stored at after) added
 
   -- the letters that end the monitors before the event and the moved ones end those after it
-  ended_after : (ending : List ℕ) → EndsFewer old.ending ending → AreEnding m Stands old.ending (stored_of old) → AreEnding m Stands ending (reached_by placed) → AreEnding m Stands ending (stored_in (after_moves placed new.monitors))
+  pub ended_after : (ending : List ℕ) → EndsFewer old.ending ending → AreEnding m Stands old.ending (stored_of old) → AreEnding m Stands ending (reached_by placed) → AreEnding m Stands ending (stored_in (after_moves placed new.monitors))
   ended_after ending fewer before moved s there =
       elim ((after_event m Stands b dead new.monitors placed slotted single_new).each s there) [
         | inl one ↦ moved s one.0

@@ -1,24 +1,28 @@
 -- The slots that an event reads.
-use Rattle.std.proofs.Common.{◌≡◌, ◌≢◌, ℕ, zero, suc, ◌+◌, ◌<◌, ◌≤◌, ◌==◌, ◌⊎◌, inl, inr, Bool, true, false, cond, ◌&&◌, ◌||◌, not, List, [], ◌∷◌, ◌++◌, length, take, get_or, refl, sym, ap, ◌∙◌, subst, append_assoc, append-nil, arith}
-use Rattle.std.specs.Prelude.{Option, Some, None, Contains, AllPairs, filter, count_by, slice_set, bit_and}
+use Rattle.std.proofs.Common.{◌≡◌, ◌≢◌, ℕ, zero, suc, ◌+◌, ◌*◌, ◌/◌, ◌<◌, ◌≤◌, ◌==◌, ◌⊎◌, inl, inr, Bool, true, false, cond, ◌&&◌, ◌||◌, not, List, [], ◌∷◌, ◌++◌, length, take, get_or, refl, sym, ap, ◌∙◌, subst, append_assoc, append-nil, arith}
+use Rattle.std.specs.Prelude.{Option, Some, None, Contains, AllPairs, filter, count_by, slice_set, bit_and, MatchOption}
+use Rattle.std.specs.Int.{bit_at}
+use Rattle.std.specs.Option.{is_some, option_to_list}
 use Rattle.std.specs.List.{cons_option}
-use Rattle.std.proofs.lemmas.Bool.{and_parts, and_from, eqb-true, eq-eqb, cases_Bool}
+use Rattle.std.proofs.lemmas.Bool.{and_parts, and_from, eqb-true, eq-eqb, cases_Bool, false≢true}
 use Rattle.std.proofs.lemmas.List.{take_more, length-append, get_or-set_other}
 use Rattle.std.proofs.lemmas.List.Elements.{Contains-append_left, Contains-append_right, Contains-append_cases}
 use Rattle.std.proofs.lemmas.List.Kept.{AllPairs-filter}
 use Rattle.std.proofs.lemmas.List.Sums.{sum_by-cons}
-use Rattle.std.proofs.lemmas.Nat.Bits.{bit_at_and, same_from_bits}
+use Rattle.std.proofs.lemmas.Nat.Bits.{bit_at_and, same_from_bits, bit_at_lowest, bit_at-suc}
 use Rattle.jm_model.specs.Bindings.{is_below, is_compatible, mask_of}
 use Rattle.jm_model.specs.declared.binding.Binding.{Binding}
 use Rattle.jm_semantics.proofs.ListLemmas.{Contains-cons_cases, Contains-head, Contains-filter, Contains-from_filter, Contains-map}
-use Rattle.jm_semantics.proofs.MaskLemmas.{mask_where-mono}
-use Rattle.jm_index.specs.Index.{Pair, asked, asked_slots}
+use Rattle.jm_semantics.proofs.MaskLemmas.{mask_where-mono, IsWithin}
+use Rattle.jm_index.specs.Index.{Pair, PairList, asked, asked_slots}
 use Rattle.jm_index.proofs.ReadLemmas.{Contains-none, Contains-cons}
 use Rattle.jm_monitors.specs.declared.stored.Stored.{Stored}
 use Rattle.jm_store.specs.declared.monitors.Slot.{Slot}
 use Rattle.jm_store.specs.Slots.{monitors_of, monitor_at, stored_in}
-use Rattle.jm_store.specs.Moves.{asks_by, ends_all, visited, AreVisited, IsCompatibleAt}
+use Rattle.jm_store.specs.Moves.{asks_by, ends_all, has_all, visited, AreVisited, IsCompatibleAt}
+use Rattle.jm_store.specs.Contents.{IsOnlyAbove}
 use Rattle.jm_store.specs.Housing.{IsHoused, IsSettled, AreDomains}
+use Rattle.jm_store.proofs.FitLemmas.{are_paired}
 use Rattle.jm_store.proofs.HousingLemmas.{same_one, pair_by_slot}
 use Rattle.jm_store.proofs.GivenLemmas.{Contains-from_map, pairs_head, pairs_tail, pairs_none, pairs_append, pairs_map}
 
@@ -60,21 +64,22 @@ asked_by b pairs d k there =
     record { pair = pair; among = among; slot = is; domain = eqb-true (mask_of pair.binding) d parts.0; compatible = parts.1 }
 
 -- .. and its set of parameters is one of those asked
-record IsVisitedBy (b : Binding) (pairs : List Pair) (ds : List ℕ) (k : ℕ) : Type 0 where
+record IsVisitedBy (asks : ℕ → Bool) (b : Binding) (pairs : List Pair) (ds : List ℕ) (k : ℕ) : Type 0 where
   domain : ℕ
+  ask : asks domain ≡ true
   listed : Contains ds domain
   asked_for : IsAskedBy b pairs domain k
 
-visited_by : (asks : ℕ → Bool) (b : Binding) (pairs : List Pair) (ds : List ℕ) (k : ℕ) → Contains (visited asks b pairs ds) k → IsVisitedBy b pairs ds k
+visited_by : (asks : ℕ → Bool) (b : Binding) (pairs : List Pair) (ds : List ℕ) (k : ℕ) → Contains (visited asks b pairs ds) k → IsVisitedBy asks b pairs ds k
 visited_by asks b pairs [] k there = absurd (Contains-none k there)
 visited_by asks b pairs (d ∷ ds) k there =
     elim (Contains-append_cases (cond (asks d) (asked_slots d b pairs) []) (visited asks b pairs ds) k there) [
-      | inl here ↦ record { domain = d; listed = Contains-head d ds; asked_for = at (asks d) here }
-      | inr later ↦ let v = visited_by asks b pairs ds k later in record { domain = v.domain; listed = Contains-cons d v.domain ds v.listed; asked_for = v.asked_for }
+      | inl here ↦ let asked_for = at (asks d) here in record { domain = d; ask = asked_for.0; listed = Contains-head d ds; asked_for = asked_for.1 }
+      | inr later ↦ let v = visited_by asks b pairs ds k later in record { domain = v.domain; ask = v.ask; listed = Contains-cons d v.domain ds v.listed; asked_for = v.asked_for }
     ]
   where
-    at : (t : Bool) → Contains (cond t (asked_slots d b pairs) []) k → IsAskedBy b pairs d k
-    at true h = asked_by b pairs d k h
+    at : (t : Bool) → Contains (cond t (asked_slots d b pairs) []) k → (t ≡ true) × IsAskedBy b pairs d k
+    at true h = (refl, asked_by b pairs d k h)
     at false h = absurd (Contains-none k h)
 
 -- a pair's slot is read, where its set of parameters is asked
@@ -186,7 +191,7 @@ module _ {S : Type 0} where
       behind None ih = ih
       behind (Some r) ih = omega (arith, ih, count_cons p r (stored_in monitors), count_cons p r (stored_in (slice_set monitors k None)))
 
-  slots_counted : (monitors : List (Option (Stored S))) (p : Stored S → Bool) (slots : List ℕ) → AllPairs (λ j k. j ≢ k) slots
+  pub slots_counted : (monitors : List (Option (Stored S))) (p : Stored S → Bool) (slots : List ℕ) → AllPairs (λ j k. j ≢ k) slots
       → ((k : ℕ) → Contains slots k → (s : Stored S) × (monitor_at monitors k ≡ Some s) × (p s ≡ true)) → length slots ≤ count_by p (stored_in monitors)
   slots_counted monitors p [] apart each = omega arith
   slots_counted monitors p (k ∷ slots) apart each =
@@ -209,3 +214,66 @@ module _ {S : Type 0} where
   compatible_at slots pairs b d h settled k there =
       let (s, at, is) = compatible_there slots pairs b d k h settled there in
       subst (IsCompatibleAt b) (sym at) is
+
+-- ---- the only slot above a binding
+tail_within : (c d m n x y : ℕ) → c < 2 → d < 2 → x ≡ c + 2 * m → y ≡ d + 2 * n → IsWithin x y → IsWithin m n
+tail_within c d m n x y low less left right h p =
+    let first : bit_at x (suc p) ≡ bit_at m p = bit_at-suc x p ∙ ap (λ z. bit_at z p) (ap (λ z. z / 2) left ∙ half c m low) in
+    let second : bit_at y (suc p) ≡ bit_at n p = bit_at-suc y p ∙ ap (λ z. bit_at z p) (ap (λ z. z / 2) right ∙ half d n less) in
+    rw (first, second) at (h (suc p))
+  where
+    half : (e q : ℕ) → e < 2 → (e + 2 * q) / 2 ≡ q
+    half e q l = omega arith
+
+unbound_mask : (n : ℕ) → 2 * n ≡ 0 + 2 * n
+unbound_mask n = omega arith
+
+no_head : (m n : ℕ) → IsWithin (1 + 2 * m) (2 * n) → ⊥
+no_head m n h = omega (arith, h 0, bit_at_lowest (1 + 2 * m), bit_at_lowest (2 * n))
+
+-- a binding lies below a compatible one that binds all its parameters
+below_within : (b t : Binding) → is_compatible t b ≡ true → IsWithin (mask_of b) (mask_of t) → is_below b t ≡ true
+below_within [] [] c h = refl
+below_within [] (y ∷ t) c h = absurd (false≢true c)
+below_within (x ∷ b) [] c h = absurd (false≢true c)
+below_within (None ∷ b) (None ∷ t) c h = below_within b t c (tail_within 0 0 (mask_of b) (mask_of t) (mask_of (None ∷ b)) (mask_of (None ∷ t)) (omega arith) (omega arith) (unbound_mask (mask_of b)) (unbound_mask (mask_of t)) h)
+below_within (None ∷ b) (Some q ∷ t) c h = below_within b t c (tail_within 0 1 (mask_of b) (mask_of t) (mask_of (None ∷ b)) (mask_of (Some q ∷ t)) (omega arith) (omega arith) (unbound_mask (mask_of b)) refl h)
+below_within (Some o ∷ b) (None ∷ t) c h = absurd (no_head (mask_of b) (mask_of t) h)
+below_within (Some o ∷ b) (Some q ∷ t) c h =
+    let cs = and_parts (q == o) (is_compatible t b) c in
+    and_from (o == q) (is_below b t) (eq-eqb o q (sym (eqb-true q o cs.0))) (below_within b t cs.1 (tail_within 1 1 (mask_of b) (mask_of t) (mask_of (Some o ∷ b)) (mask_of (Some q ∷ t)) (omega arith) (omega arith) refl refl h))
+
+all_within : (b : Binding) (d : ℕ) → has_all b d ≡ true → IsWithin (mask_of b) d
+all_within b d h p = omega (arith, bit_at_and (mask_of b) d p, ap (λ n. bit_at n p) (eqb-true (bit_and (mask_of b) d) (mask_of b) h))
+
+pub only_above : {S : Type 0} (b : Binding) (slots : List (Slot S)) (marks : List Binding) (open' : Bool) (index : PairList) (ending ds : List ℕ) (k : ℕ) → IsHoused slots index.list → IsSettled slots index.list
+    → AreDomains ds index.list → visited (has_all b) b index.list ds ≡ k ∷ []
+    → IsOnlyAbove b (record { monitors = monitors_of slots; marks = marks; is_open = open'; index = index; ending = ending }) k
+only_above {S} b slots marks open' index ending ds k h settled domains one =
+    record {
+      visit = subst (λ (l : List ℕ). AreVisited (has_all b) b (monitors_of slots) l) one (are_visited (has_all b) b slots index.list ds h settled domains);
+      above = λ s at.
+          let v = visited_by (has_all b) b index.list ds k (subst (λ (l : List ℕ). Contains l k) (sym one) (Contains-head k [])) in
+          let by = v.asked_for in
+          let (r, here, is) = settled_monitor slots index.list h settled by.pair by.among in
+          let there : Some r ≡ Some s = sym here ∙ ap (monitor_at (monitors_of slots)) by.slot ∙ at in
+          let same : r ≡ s = cc in
+          let within : IsWithin (mask_of b) (mask_of by.pair.binding) = subst (IsWithin (mask_of b)) (sym by.domain) (all_within b v.domain v.ask) in
+          subst (λ (t : Binding). is_below b t ≡ true) (sym is ∙ ap (λ (x : Stored S). x.instance) same) (below_within b by.pair.binding by.compatible within);
+      paired = are_paired slots marks open' index ending h;
+      filled = λ pair there. settled_monitor slots index.list h settled pair there;
+    }
+
+pub only_or_none : (o : Option ℕ) (P : ℕ → Type 0) (l : List ℕ) → l ≡ option_to_list o → ((k : ℕ) → l ≡ k ∷ [] → P k) → MatchOption o (Unit {0}) P
+only_or_none None P l e f = tt
+only_or_none (Some k) P l e f = f k e
+
+pub popped : (xs ys : List ℕ) (n : ℕ) (o : Option ℕ) → xs ≡ ys ++ option_to_list o → ys ≡ take n xs → n ≡ 0 → xs ≡ option_to_list o
+popped xs ys n o e rest none = e ∙ ap (λ (l : List ℕ). l ++ option_to_list o) (rest ∙ ap (λ (k : ℕ). take k xs) none)
+
+pub was_none : (o : Option ℕ) → is_some o ≡ false → o ≡ None
+was_none None e = refl
+was_none (Some k) e = absurd (false≢true (sym e))
+
+pub not_all : (b : Binding) (d : ℕ) → (bit_and (mask_of b) d ≡ mask_of b → ⊥) → has_all b d ≡ false
+not_all b d h = elim (cases_Bool (has_all b d)) [ inl yes' ↦ absurd (h (eqb-true (bit_and (mask_of b) d) (mask_of b) yes')) | inr off ↦ off ]

@@ -1,18 +1,19 @@
 -- What contracts see of a store, and what a plan is for it.
-use Rattle.std.specs.Prelude.{ℕ, ◌≡◌, ◌<◌, Bool, true, false, List, [], ◌∷◌, ◌++◌, Option, Some, None, Contains, IsTrue, length, ◌⊎◌, ◌≢◌, AllPairs}
+use Rattle.std.specs.Prelude.{ℕ, ◌≡◌, ◌<◌, Bool, true, false, List, [], ◌∷◌, ◌++◌, Option, Some, None, Contains, IsTrue, length, ◌⊎◌, ◌≢◌, AllPairs, cond, slice_set}
 use Rattle.jm_model.specs.Bindings.{is_below}
 use Rattle.jm_model.specs.Meanings.{Meaning}
 use Rattle.jm_model.specs.declared.binding.Binding.{Binding}
+use Rattle.jm_model.specs.declared.firings.Firing.{Firing}
 use Rattle.jm_semantics.specs.Traces.{ParametricEvent}
 use Rattle.jm_semantics.specs.Answers.{IsAnswer}
 use Rattle.jm_index.specs.Index.{Pair, PairList, IsFitting, AreBelow}
 use Rattle.jm_monitors.specs.declared.stored.Stored.{Stored}
 use Rattle.jm_monitors.specs.Stores.{IsStoreOf, HasInstance}
-use Rattle.jm_monitors.specs.Steps.{AreMarksAfter, NoneCutAbove, AreSpared}
+use Rattle.jm_monitors.specs.Steps.{AreMarksAfter, NoneCutAbove, AreSpared, IsReport}
 use Rattle.jm_store.specs.declared.moves.Move.{Move}
 use Rattle.jm_store.specs.declared.moves.Plan.{Plan}
 use Rattle.jm_store.specs.Slots.{monitor_at, stored_in}
-use Rattle.jm_store.specs.Moves.{after_moves, AreApart, AreEnding, IsSwept}
+use Rattle.jm_store.specs.Moves.{after_moves, AreApart, IsEnding, AreEnding, EndsFewer, IsNext, IsSwept, AreVisited, has_all}
 
 -- The monitors by slot, the marks, whether a plan is open, and the index, which has a pair for each monitor. What the
 -- store is to have where a plan is open isn't among the monitors. Last, for each set of parameters letters that end the monitors
@@ -148,3 +149,29 @@ pub record ArePaired {S : Type 0} (store : Contents S) : Type 0 where
   pub paired : (k : ℕ) (s : Stored S) → monitor_at store.monitors k ≡ Some s → Contains store.index.list (record { binding = s.instance; slot = k })
   pub bindings : AllPairs (λ a b. a.binding ≢ b.binding) store.index.list
   pub within : (pair : Pair) → Contains store.index.list pair → pair.slot < length store.monitors
+
+-- The event with this letter and binding was done: this is its answer, and the contents are a store of the trace with the
+-- event, in which no monitor above its binding is cut.
+pub record IsEventDone (m : Meaning) {S : Type 0} (Stands : S → List ℕ → Type 0) (trace : List ParametricEvent) (dead : List Bool) (letter : ℕ) (b : Binding) (after : Contents S) (firings : List Firing) : Type 0 where
+  pub answer : IsAnswer m trace (record { letter = letter; binding = b }) firings
+  pub store : IsStoreAfter m Stands (trace ++ record { letter = letter; binding = b } ∷ []) dead after
+  pub none_cut : NoneCutAbove m Stands b dead (stored_of after)
+
+-- The monitor of slot k was moved by the letter: it has the next state, or it is gone where that is cut. The answer is its
+-- report, and nothing else changed but letters that were kept.
+pub record IsSlotAdvanced (m : Meaning) {S : Type 0} (Stands : S → List ℕ → Type 0) (letter : ℕ) (dead : List Bool) (k : ℕ) (base : Stored S) (before after : Contents S) (stays : Bool) (firings : List Firing) : Type 0 where
+  pub state : S
+  pub next : IsNext m Stands letter dead base.instance base.state state stays
+  pub report : IsReport m Stands (record { instance = base.instance; state = state } ∷ []) firings
+  pub monitors : after.monitors ≡ slice_set before.monitors k (cond stays (Some (record { instance = base.instance; state = state })) None)
+  pub marks : after.marks ≡ before.marks
+  pub fewer : EndsFewer before.ending after.ending
+  pub ended : IsEnding m Stands after.ending (record { instance = base.instance; state = state })
+  pub dropped : after.index.dropped ≡ before.index.dropped
+
+-- Slot k has the only monitor above b, of all those to which the index leads; it leads to each monitor.
+pub record IsOnlyAbove {S : Type 0} (b : Binding) (store : Contents S) (k : ℕ) : Type 0 where
+  pub visit : AreVisited (has_all b) b store.monitors (k ∷ [])
+  pub above : (s : Stored S) → monitor_at store.monitors k ≡ Some s → is_below b s.instance ≡ true
+  pub paired : ArePaired store
+  pub filled : (pair : Pair) → Contains store.index.list pair → IsFilled store pair

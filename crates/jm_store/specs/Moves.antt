@@ -62,6 +62,10 @@ AreGiven {X} {Y} R (x ∷ xs) ys = (o : Option Y) × R x o × ((rest : List Y) �
 abbrev pub is_asked : Bool → Bool → Binding → ℕ → Bool
 is_asked known ends b domain = (bit_and (mask_of b) domain == mask_of b) || (not known && not ends)
 
+-- whether a set of parameters has all those of a binding
+abbrev pub has_all : Binding → ℕ → Bool
+has_all b domain = bit_and (mask_of b) domain == mask_of b
+
 -- whether a letter is among those kept for a set of parameters
 abbrev pub ends_all : List ℕ → ℕ → ℕ → Bool
 ends_all ending letter domain = bit_at (slice_index_or ending domain 0) letter == 1

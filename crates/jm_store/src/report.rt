@@ -1,5 +1,5 @@
 //! The answer of an event.
-ghost use Rattle.std.specs.Prelude.{◌≡◌, ◌++◌, ℕ, List, IfOk, OnOk, map};
+ghost use Rattle.std.specs.Prelude.{◌≡◌, ◌++◌, ℕ, List, [], ◌∷◌, IfOk, OnOk, map};
 ghost use Rattle.std.specs.List.Sorted.{IsStrictlySortedBy, IsPermutation, IsSortedBy};
 ghost use Rattle.std.specs.Ordering.{is_lt};
 ghost use Rattle.jm_model.specs.Bindings.{binding_cmp};
@@ -49,6 +49,25 @@ pub(crate) fn report<M: Monitor>(
                 rules.hits(&step.monitor.state),
             )?;
         }
+    }
+    Ok(firings)
+}
+
+/// The handlers that the state of one monitor hits, in their order; none where its instance doesn't bind what a
+/// reported instance has to bind.
+pub(crate) fn report_one<M: Monitor>(
+    alloc: Global,
+    rules: &M,
+    instance: &Binding,
+    state: &M::State,
+) -> Result<Firings, NoMemory>
+    ensures { IfOk result (λ firings. IsReport (M.meaning (M.definition rules.now)) (M.StandsFor rules.now)
+        (record { instance = instance.now; state = state.now } ∷ []) firings) }
+{
+    let mut firings = Firings::new(alloc);
+    let must_bind = rules.must_bind();
+    if must_bind & instance.mask() == must_bind {
+        report_hits(&mut firings, instance, rules.hits(state))?;
     }
     Ok(firings)
 }

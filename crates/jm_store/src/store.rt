@@ -6,6 +6,7 @@ ghost use Rattle.jm_monitors.specs.Steps.{IsAtStart};
 ghost use Rattle.jm_store.specs.Moves.{ends_all};
 ghost use Rattle.jm_store.specs.Contents.{Contents, stored_of, IsFit, IsStoreAfter};
 
+mod advance;
 mod commit;
 mod dispose;
 mod place;
@@ -13,6 +14,7 @@ mod reach;
 
 use crate::monitors::Monitors;
 use crate::moves::Move;
+pub use advance::Done;
 use jm_index::Index;
 use jm_marks::Marks;
 use jm_model::{Binding, Monitor, NoMemory};

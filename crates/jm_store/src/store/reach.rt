@@ -66,9 +66,46 @@ impl<M: Monitor> Store<M> {
             → IsPlanOf (M.meaning (M.definition rules.now)) (M.StandsFor rules.now) trace objects.now letter.0 self.new plan) }
         ensures steps { steps.new ≤ steps.old + count_by (λ s. is_compatible s.instance binding.now) (stored_of self.old) }
     {
+        let known = self.marks.contains(binding);
+        self.plan_as(rules, objects, letter, binding, known, steps)
+    }
+
+    /// The same, where it is known whether the binding is a mark.
+    pub fn plan_as<L: Ledger>(
+        &mut self,
+        rules: &M,
+        objects: &Objects,
+        letter: Letter,
+        binding: &Binding,
+        known: bool,
+        steps: &mut Steps<L>,
+    ) -> Result<Plan<M::State>, NoMemory>
+        requires closed { self.old.is_open ≡ false }
+        requires fits { IsFit self.old objects.now }
+        requires event { IsLiveEvent (M.meaning (M.definition rules.now)) objects.now letter.0 binding.now }
+        requires there { AreBelow (length objects.now) binding.now }
+        requires known { IsTrue known ↔ Contains self.old.marks binding.now }
+        ensures stored { stored_of self.new ≡ stored_of self.old }
+        ensures marks { self.new.marks ≡ self.old.marks }
+        ensures fewer { EndsFewer self.old.ending self.new.ending }
+        ensures fits { IsFit self.new objects.now }
+        ensures closed { OnErr result (self.new.is_open ≡ false) }
+        ensures opened { OnOk result (self.new.is_open ≡ true) }
+        ensures binding { IfOk result (λ plan. plan.binding ≡ binding.now) }
+        ensures plan { IfOk result (λ plan. IsPlanFor self.new plan) }
+        ensures keeps { (trace : List ParametricEvent)
+            → IsStoreAfter (M.meaning (M.definition rules.now)) (M.StandsFor rules.now) trace objects.now self.old
+            → IsStoreAfter (M.meaning (M.definition rules.now)) (M.StandsFor rules.now) trace objects.now self.new }
+        ensures works { IfOk result (λ plan. (trace : List ParametricEvent)
+            → IsStoreAfter (M.meaning (M.definition rules.now)) (M.StandsFor rules.now) trace objects.now self.old
+            → IsPlanOf (M.meaning (M.definition rules.now)) (M.StandsFor rules.now) trace objects.now letter.0 self.new plan) }
+        ensures steps { steps.new ≤ steps.old + count_by (λ s. is_compatible s.instance binding.now) (stored_of self.old) }
+    {
         let moves = self.take_moves();
         let mut slots = self.take_slots();
-        let plan = self.plan_in(rules, objects, letter, binding, steps, &mut slots, moves);
+        let plan = self.plan_in(
+            rules, objects, letter, binding, known, steps, &mut slots, moves,
+        );
         self.give_slots(slots);
         plan
     }
@@ -80,6 +117,7 @@ impl<M: Monitor> Store<M> {
         objects: &Objects,
         letter: Letter,
         binding: &Binding,
+        known: bool,
         steps: &mut Steps<L>,
         slots: &mut Vec<usize>,
         moves: Vec<Move<M::State>>,
@@ -88,6 +126,7 @@ impl<M: Monitor> Store<M> {
         requires fits { IsFit self.old objects.now }
         requires event { IsLiveEvent (M.meaning (M.definition rules.now)) objects.now letter.0 binding.now }
         requires there { AreBelow (length objects.now) binding.now }
+        requires known { IsTrue known ↔ Contains self.old.marks binding.now }
         requires none { moves.items ≡ [] }
         ensures stored { stored_of self.new ≡ stored_of self.old }
         ensures marks { self.new.marks ≡ self.old.marks }
@@ -107,7 +146,6 @@ impl<M: Monitor> Store<M> {
     {
         slots.clear();
         make_room(slots, self.monitors.count_slots())?;
-        let known = self.marks.contains(binding);
         let event = Event {
             rules,
             objects,

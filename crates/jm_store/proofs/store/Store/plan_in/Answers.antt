@@ -17,6 +17,9 @@ use Rattle.jm_store.proofs.store.Store.plan_in.Goals as goal
 pub reach-requires-clause-live : goal.reach-requires-clause-live
 reach-requires-clause-live g c = λ o binds. c.requires.event.live o (object-among _ binds.0 o binds.1)
 
+pub reach-requires-clause-known : goal.reach-requires-clause-known
+reach-requires-clause-known g c = rw (← c.self.view_is) at c.requires.known
+
 pub open_plan-requires-clause-apart : goal.open_plan-requires-clause-apart
 open_plan-requires-clause-apart g c =
     let m = g.M.Monitor.meaning (g.M.Monitor.definition c.args.rules.now) in
@@ -73,9 +76,8 @@ returns-clause-opened g c = rw c.end_fewer.ensures.same c.in_ok-moves-2.ensures.
 pub returns-clause-plan : goal.returns-clause-plan
 returns-clause-plan g c =
     let placed = c.in_ok-moves-2.ensures.placed in
-    let marks : c.self.inside.marks.list ≡ c.args.self.now.marks = ap (λ v. v.marks) c.self.view_is in
-    let known : IsTrue c.contains-known.result → Contains c.open_plan.new.self.marks c.args.binding.now = λ e.
-    subst (λ (l : List Binding). Contains l c.args.binding.now) (marks ∙ sym c.in_ok-moves-2.ensures.marks) (c.contains-known.ensures.0 e) in
+    let known : IsTrue c.args.known → Contains c.open_plan.new.self.marks c.args.binding.now = λ e.
+    subst (λ (l : List Binding). Contains l c.args.binding.now) (sym c.in_ok-moves-2.ensures.marks) (c.requires.known.0 e) in
     rw c.end_fewer.ensures.same
     (plan_for_ending c.open_plan.new.self _ _ (record { twice = c.in_ok-copy.ensures; known = known; apart = placed.apart; placed = placed.leads; filled = placed.filled }))
 
@@ -110,10 +112,9 @@ returns-clause-works g c =
     let m = g.M.Monitor.meaning (g.M.Monitor.definition c.args.rules.now) in
     let Stands = g.M.Monitor.StandsFor c.args.rules.now in
     let opened = c.in_ok-moves-2.ensures in
-    let asks = asks_by c.contains-known.result c.args.self.now.ending c.args.letter.0 c.args.binding.now in
+    let asks = asks_by c.args.known c.args.self.now.ending c.args.letter.0 c.args.binding.now in
     let marks : c.self.inside.marks.list ≡ c.args.self.now.marks = ap (λ v. v.marks) c.self.view_is in
-    let known : IsTrue c.contains-known.result → Contains c.args.self.now.marks c.args.binding.now = λ e.
-    subst (λ (l : List Binding). Contains l c.args.binding.now) marks (c.contains-known.ensures.0 e) in
+    let known : IsTrue c.args.known → Contains c.args.self.now.marks c.args.binding.now = c.requires.known.0 in
     let all = subst (λ (l : List Binding). AreMovesOf m Stands c.args.letter.0 c.args.binding.now c.args.objects.now l asks c.args.self.now.monitors c.in_ok-moves.moves.items) marks
     c.in_ok-moves.ensures.moves in
     let report = rw c.deref.ensures.value at c.in_ok-answer.ensures in
@@ -121,7 +122,7 @@ returns-clause-works g c =
     let moved = rw c.deref-2.ensures.value at c.end_fewer.ensures.ended in
     let fit = returns-clause-fits g c in
     λ trace holds.
-    let may = may_reach m Stands c.args.letter.0 c.args.binding.now c.args.objects.now c.args.self.now.marks c.contains-known.result c.args.self.now.ending (stored_of c.args.self.now) known holds.ended in
+    let may = may_reach m Stands c.args.letter.0 c.args.binding.now c.args.objects.now c.args.self.now.marks c.args.known c.args.self.now.ending (stored_of c.args.self.now) known holds.ended in
     let opened_holds = returns-clause-keeps g c trace holds in
     let distinct = sorted_distinct m Stands c.args.letter.0 c.args.binding.now c.args.objects.now asks c.args.self.now c.open_plan.new.self c.in_ok-moves.moves.items c.arrange.new.moves.items _
     all may c.arrange.ensures.same opened.placed opened.housed opened.monitors opened.stored opened.marks trace holds.monitors c.requires.event in

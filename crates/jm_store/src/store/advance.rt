@@ -1,0 +1,150 @@
+//! Events that reach one monitor alone and make none: they are done at once, without a plan.
+ghost use Rattle.std.specs.Prelude.{◌≡◌, ℕ, ◌+◌, ◌<◌, ◌≤◌, ◌↔◌, List, Bool, false, Contains, IsTrue, MatchOption, Some, length, count_by};
+ghost use Rattle.jm_model.specs.Bindings.{is_compatible};
+ghost use Rattle.jm_semantics.specs.Traces.{ParametricEvent};
+ghost use Rattle.jm_index.specs.Index.{AreLive, IsFitting};
+ghost use Rattle.jm_monitors.specs.declared.stored.Stored.{Stored as Kept};
+ghost use Rattle.jm_monitors.specs.Steps.{IsLiveEvent};
+ghost use Rattle.jm_store.specs.Slots.{monitor_at};
+ghost use Rattle.jm_store.specs.Contents.{stored_of, IsFit, IsStoreAfter, IsEventDone, IsSlotAdvanced, IsOnlyAbove};
+
+use super::Store;
+use crate::ending::end_fewer;
+use crate::report::report_one;
+use jm_marks::dead_mask;
+use jm_model::{Binding, Firings, Letter, Monitor, Steps};
+use jm_monitors::Stored;
+use jm_objects::Objects;
+use std::sync::ledger::Ledger;
+
+/// An event that was done: its answer, twice.
+#[derive(Drop)]
+pub struct Done {
+    /// Whether the monitor that it reached is still stored.
+    pub stays: bool,
+    pub answer: Firings,
+    pub copy: Firings,
+}
+
+impl<M: Monitor> Store<M> {
+    /// Whether a binding is a mark.
+    pub fn is_mark(&self, binding: &Binding) -> bool
+        ensures { IsTrue result ↔ Contains self.now.marks binding.now }
+    {
+        self.marks.contains(binding)
+    }
+
+    /// Does an event whose binding is a mark, if it reaches one monitor alone and memory isn't wanting. Where it doesn't
+    /// do it, all is as before. Only monitors that are compatible with the binding are read.
+    pub fn advance_one<L: Ledger>(
+        &mut self,
+        rules: &M,
+        objects: &Objects,
+        letter: Letter,
+        binding: &Binding,
+        steps: &mut Steps<L>,
+    ) -> Option<Done>
+        requires closed { self.old.is_open ≡ false }
+        requires fits { IsFit self.old objects.now }
+        requires event { IsLiveEvent (M.meaning (M.definition rules.now)) objects.now letter.0 binding.now }
+        requires known { Contains self.old.marks binding.now }
+        ensures same { MatchOption result (self.new ≡ self.old) (λ done. Unit {0}) }
+        ensures marks { self.new.marks ≡ self.old.marks }
+        ensures fits { IsFit self.new objects.now }
+        ensures closed { self.new.is_open ≡ false }
+        ensures twice { MatchOption result (Unit {0}) (λ done. done.copy ≡ done.answer) }
+        ensures dropped { MatchOption result (Unit {0}) (λ done. done.stays ≡ false
+            → (s : Kept M.State) → Contains (stored_of self.new) s → Contains (stored_of self.old) s) }
+        ensures works { MatchOption result (Unit {0}) (λ done. (trace : List ParametricEvent)
+            → IsStoreAfter (M.meaning (M.definition rules.now)) (M.StandsFor rules.now) trace objects.now self.old
+            → IsEventDone (M.meaning (M.definition rules.now)) (M.StandsFor rules.now) trace objects.now letter.0 binding.now self.new done.answer) }
+        ensures steps { steps.new ≤ steps.old + count_by (λ s. is_compatible s.instance binding.now) (stored_of self.old) }
+    {
+        let mut slots = self.take_slots();
+        let only = self.only_slot_above(objects, binding, &mut slots);
+        self.give_slots(slots);
+        let slot = only?;
+        self.advance_in(rules, objects, letter, slot, steps)
+    }
+
+    /// The slot of the only monitor above a binding, if there is one such and memory isn't wanting.
+    fn only_slot_above(
+        &self,
+        objects: &Objects,
+        binding: &Binding,
+        slots: &mut Vec<usize>,
+    ) -> Option<usize>
+        requires closed { self.now.is_open ≡ false }
+        requires fits { IsFitting self.now.index objects.now }
+        requires live { AreLive objects.now binding.now }
+        ensures { MatchOption result (Unit {0}) (λ slot. IsOnlyAbove binding.now self.now slot) }
+    {
+        let mask = binding.mask();
+        let mut only = None;
+        for domain in &self.domains {
+            if mask & *domain == mask {
+                let Ok(()) = self.index.compatible_into(objects, *domain, binding, slots) else {
+                    return None;
+                };
+                if slots.len() > 1 {
+                    return None;
+                }
+                let found = slots.pop();
+                if only.is_none() {
+                    only = found;
+                } else if found.is_some() {
+                    return None;
+                }
+            }
+        }
+        only
+    }
+
+    /// Moves the monitor of a slot, if there is one and memory isn't wanting.
+    fn advance_in<L: Ledger>(
+        &mut self,
+        rules: &M,
+        objects: &Objects,
+        letter: Letter,
+        slot: usize,
+        steps: &mut Steps<L>,
+    ) -> Option<Done>
+        requires closed { self.old.is_open ≡ false }
+        requires letter { letter.0 < (M.meaning (M.definition rules.now)).letters }
+        ensures same { MatchOption result (self.new ≡ self.old) (λ done. Unit {0}) }
+        ensures marks { self.new.marks ≡ self.old.marks }
+        ensures fits { (dead : List Bool) → IsFit self.old dead → IsFit self.new dead }
+        ensures closed { self.new.is_open ≡ false }
+        ensures twice { MatchOption result (Unit {0}) (λ done. done.copy ≡ done.answer) }
+        ensures done { MatchOption result (Unit {0}) (λ done. (base : Kept M.State)
+            → monitor_at self.old.monitors slot ≡ Some base
+            → IsSlotAdvanced (M.meaning (M.definition rules.now)) (M.StandsFor rules.now) letter.0 objects.now slot base
+            self.old self.new done.stays done.answer) }
+        ensures steps { steps.new ≤ steps.old + 1 }
+    {
+        let base = self.monitors.lend(slot, steps)?;
+        let Ok(state) = rules.next(&base.state, letter) else {
+            return None;
+        };
+        let Ok(answer) = report_one(*self.domains.allocator(), rules, &base.instance, &state) else {
+            return None;
+        };
+        let Ok(copy) = answer.copy() else {
+            return None;
+        };
+        let stays = !rules.cut(&state, dead_mask(objects, &base.instance));
+        end_fewer(&mut self.ending, base.instance.mask(), rules.ending(&state));
+        let instance = base.instance;
+        if stays {
+            self.monitors.put(slot, Stored { instance, state });
+        } else {
+            self.index.remove(&instance);
+            self.monitors.release(slot);
+        }
+        Some(Done {
+            stays,
+            answer,
+            copy,
+        })
+    }
+}
