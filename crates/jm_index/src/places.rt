@@ -37,6 +37,7 @@ impl Places {
     }
 
     /// The position of a binding.
+    #[inline(always)]
     pub(crate) fn get(&self, binding: &Binding) -> Option<usize>
         ensures { result ≡ place_of self.now binding.now }
     {
@@ -60,6 +61,7 @@ impl Places {
     }
 
     /// The position among all others.
+    #[inline(never)]
     fn other(&self, binding: &Binding) -> Option<usize>
         ensures { result ≡ get binding_eq self.now.others binding.now }
     {

@@ -135,6 +135,7 @@ impl Trees {
     }
 
     /// Files a position under a path of a tree.
+    #[inline(always)]
     fn file(&mut self, mask: u8, path: usize, position: usize) -> Result<(), NoMemory>
         requires last { (x : ℕ) → Contains (posting_at self.old mask path) x → x ≤ position }
         requires short { path ≤ 2 ^ 32 }
