@@ -77,3 +77,18 @@ dead_mask-before flags b p bit dead is was low within =
     let next : p - 1 + 1 ≡ p = omega arith in
     let at : dead_mask_of flags (drop (p - 1) b) ≡ cond (is_at_dead flags (object_at b (p - 1))) 1 0 + 2 * dead_mask_of flags (drop p b) = rw next at here in
     rw (is, was) (at ∙ add_comm _ _)
+
+-- an object is bound only at a parameter that the mask has room for
+pub bound_below : (b : List (Option ℕ)) (room q o : ℕ) → mask_of b < 2 ^ room → object_at b q ≡ Some o → q < room
+bound_below [] room q o fits at = cc
+bound_below (None ∷ b) zero zero o fits at = cc
+bound_below (None ∷ b) zero (suc q) o fits at = absurd (omega (arith, bound_below b zero q o (omega (arith, fits)) at))
+bound_below (Some x ∷ b) zero q o fits at = absurd (omega (arith, fits))
+bound_below (None ∷ b) (suc room) zero o fits at = omega arith
+bound_below (None ∷ b) (suc room) (suc q) o fits at =
+    let wide = rw (pow-suc 2 room) at fits in
+    omega (arith, bound_below b room q o (omega (arith, wide)) at)
+bound_below (Some x ∷ b) (suc room) zero o fits at = omega arith
+bound_below (Some x ∷ b) (suc room) (suc q) o fits at =
+    let wide = rw (pow-suc 2 room) at fits in
+    omega (arith, bound_below b room q o (omega (arith, wide)) at)

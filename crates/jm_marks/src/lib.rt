@@ -131,9 +131,8 @@ fn raised(limit: u64, binding: &Binding) -> u64
     ensures more { limit ≤ result }
     ensures within { IsWithin result binding.now }
 {
-    let _mask = binding.mask();
     let mut limit = limit;
-    for p in 0..8 {
+    for p in 0..room_for(binding.mask()) {
         if let Some(object) = binding.get(p) {
             limit = limit.max(object as u64 + 1);
         }
