@@ -72,6 +72,7 @@ impl History {
     }
 
     /// Adds an entry at the end, as `push` does, and keeps the node's link as a spare one where the entry goes into a row.
+    #[inline(always)]
     pub fn push_sparing(&mut self, node: Node, outcome: Outcome, spare: &mut Spare)
         ensures { self.new ≡ self.old ++ answered node outcome ∷ [] }
     {

@@ -98,6 +98,7 @@ fn slot_at(entries: &[Entry], domain: u8, binding: &Binding, position: usize) ->
 }
 
 /// Adds the slots of the entries at these positions that are asked for.
+#[inline(always)]
 pub(crate) fn add_slots_at(
     entries: &[Entry],
     domain: u8,

@@ -78,6 +78,7 @@ impl<M: Monitor> Event<'_, M> {
     }
 
     /// The state of an instance, moved on from a base, and whether the instance isn't cut then.
+    #[inline(always)]
     fn advance(&self, instance: &Binding, base: &M::State) -> Result<(M::State, bool), NoMemory>
         requires { self.now.letter.0 < (M.meaning (M.definition self.now.rules.now)).letters }
         ensures { IfOk result (λ next. IsNext (M.meaning (M.definition self.now.rules.now)) (M.StandsFor self.now.rules.now)
