@@ -152,3 +152,25 @@ pub dead_missed : (words read : List ℕ) (v : List Bool) (i o : ℕ) → all_fl
 dead_missed words read v i o e same past at within =
     let low : o < length (all_flags words) = rw e within in
     omega (arith, ap length same, past, low, length-all_flags words)
+
+-- ---- the bits of dead objects whose flags are unset
+pub news_all : (dead : List Bool) (word i o : ℕ) → ((k : ℕ) → k < length dead → k / 64 ≡ i → slice_get dead k ≡ Some (eqb (bit_at word (k % 64)) 1))
+    → o / 64 ≡ i → flag_of dead o ≡ true → bit_at word (o % 64) ≡ 1
+news_all dead word i o flags at gone =
+    let here : o < length dead = below (cases_lt o (length dead)) in
+    eqb-true _ 1 (sym (same_Some _ _ (sym (slice_get-get_or dead o false here) ∙ flags o here at)) ∙ gone)
+  where
+    below : (o < length dead) ⊎ (length dead ≤ o) → o < length dead
+    below (inl h) = h
+    below (inr h) = let none : flag_of dead o ≡ false = get_or_past dead o false h in cc
+
+pub news_bit : (words read : List ℕ) (v dead : List Bool) (word known i o : ℕ) → all_flags words ≡ v → read ≡ words
+    → ((k : ℕ) → k < length dead → k / 64 ≡ i → slice_get dead k ≡ Some (eqb (bit_at word (k % 64)) 1))
+    → i < length read → known ≡ get_or read i known → known < 2 ^ 64 → o / 64 ≡ i → flag_of dead o ≡ true → flag_of v o ≡ false
+    → bit_at (bit_and word (2 ^ 64 - 1 - known)) (o % 64) ≡ 1
+news_bit words read v dead word known i o e same flags below is fits at gone kept =
+    let one : bit_at word (o % 64) ≡ 1 = news_all dead word i o flags at gone in
+    let here : known ≡ get_or words i 0 = rw same at (is ∙ get_or_default_zero read i known below) in
+    let unset : eqb (bit_at known (o % 64)) 1 ≡ false = rw (here, ← at) (sym (flag_is_bit words o) ∙ rw e kept) in
+    let zero : bit_at known (o % 64) ≡ 1 → ⊥ = λ set'. let both : eqb (bit_at known (o % 64)) 1 ≡ true = eq-eqb _ 1 set' in cc in
+    omega (arith, one, zero, bit_at-lt known (o % 64), bit_at_and word (bit_not w64 known) (o % 64), bit_at_not w64 known (o % 64) fits (omega arith))

@@ -10,3 +10,4 @@ pub mod TreeLemmas
 pub mod IndexLemmas
 pub mod AskLemmas
 pub mod ListedLemmas
+pub mod KeyKeptLemmas

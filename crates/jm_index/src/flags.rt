@@ -1,6 +1,7 @@
 //! Flags of objects. One that has none is unset.
-ghost use Rattle.std.specs.Prelude.{◌≡◌, ℕ, ◌≤◌, ◌<◌, ◌*◌, ◌/◌, OnOk, IfOk, IsTrue, true, false, [], length, slice_set};
+ghost use Rattle.std.specs.Prelude.{◌≡◌, ℕ, ◌≤◌, ◌<◌, ◌*◌, ◌/◌, ◌%◌, OnOk, IfOk, IsTrue, true, false, [], length, slice_set};
 ghost use Rattle.jm_index.specs.Index.{flag_of, AreBelow};
+ghost use Rattle.std.specs.Int.{bit_at};
 
 use crate::key::bound_from;
 use jm_model::{Binding, NoMemory};
@@ -62,6 +63,21 @@ impl Flags {
             Some(word) => (*word >> (object % 64)) % 2 == 1,
             None => false,
         }
+    }
+
+    /// The dead ones among 64 objects, those of a word of the table, as bits, without those whose flags are set.
+    pub(crate) fn news(&self, objects: &Objects, index: u32) -> u64
+        requires { 64 * index < length objects.now }
+        ensures { (o : ℕ) → o / 64 ≡ index → flag_of objects.now o ≡ true → flag_of self.now o ≡ false
+            → bit_at result (o % 64) ≡ 1 }
+    {
+        let word = objects.word(index);
+        let known = self.words.as_slice();
+        let place = index as usize;
+        if place < known.len() {
+            return word & !known[place];
+        }
+        word
     }
 
     /// Sets an object's flag.

@@ -295,12 +295,12 @@ impl Index {
         ensures all { OnOk result
             (AreListed self.now (λ o. (o / 64 ≡ index) × HasDied self.now objects.now o) slots.new.items) }
     {
-        let len = objects.len();
-        let first = 64 * index;
-        for object in first..len.min(first.saturating_add(64)) {
-            if objects.is_dead(object) && !self.dropped.is_set(object) {
-                self.add_slots_of(object, slots)?;
-            }
+        let _len = objects.len();
+        let mut left = self.dropped.news(objects, index);
+        while left > 0 {
+            let bit = left.trailing_zeros();
+            self.add_slots_of(64 * index + bit, slots)?;
+            left &= !(1 << bit);
         }
         Ok(())
     }
@@ -330,6 +330,19 @@ impl Index {
         if self.dropped.has(object) && !self.dropped.is_set(object) {
             self.dropped.set(object);
             self.trees.clear(object);
+        }
+    }
+
+    /// Drops an object, where it is dead and has a flag.
+    fn let_go_dead(&mut self, objects: &Objects, object: u32)
+        ensures list { self.new.list ≡ self.old.list }
+        ensures gone { flag_of objects.now object ≡ true → IsKey self.new object → ⊥ }
+        ensures kept { (o : ℕ) → flag_of self.old.dropped o ≡ true → flag_of self.new.dropped o ≡ true }
+        ensures only { (o : ℕ) → flag_of self.new.dropped o ≡ true
+            → (flag_of self.old.dropped o ≡ true) ⊎ (flag_of objects.now o ≡ true) }
+    {
+        if object < objects.len() && objects.is_dead(object) {
+            self.let_go(object);
         }
     }
 
@@ -390,12 +403,12 @@ impl Index {
         ensures only { (o : ℕ) → flag_of self.new.dropped o ≡ true
             → (flag_of self.old.dropped o ≡ true) ⊎ (flag_of objects.now o ≡ true) }
     {
-        let len = objects.len();
-        let first = 64 * index;
-        for object in first..len.min(first.saturating_add(64)) {
-            if objects.is_dead(object) {
-                self.let_go(object);
-            }
+        let _len = objects.len();
+        let mut left = self.dropped.news(objects, index);
+        while left > 0 {
+            let bit = left.trailing_zeros();
+            self.let_go_dead(objects, 64 * index + bit);
+            left &= !(1 << bit);
         }
     }
 }

@@ -3,11 +3,11 @@ use Rattle.std.proofs.Common.{◌≡◌, ℕ, zero, suc, ◌+◌, ◌-◌, ◌*�
 use Rattle.std.proofs.Math.ListN.{set, length-set}
 use Rattle.std.specs.Prelude.{slice_get, bit_and, bit_or, bit_xor}
 use Rattle.std.specs.List.{swap_remove}
-use Rattle.std.specs.Int.{w64, bit_at, bit_not, trailing_zeros}
+use Rattle.std.specs.Int.{w64, bit_at, bit_not}
 use Rattle.std.proofs.lemmas.Bool.{cases_eq, cases_lt}
 use Rattle.std.proofs.lemmas.List.{get_or_past, get_or-set_same, get_or-set_other, get_or-take}
-use Rattle.std.proofs.lemmas.Nat.{le_or_l, le_or_r, and_le_l}
-use Rattle.std.proofs.lemmas.Nat.Bits.{bit_at_xor, bit_at-lt, bit_at-zero, bit_at_clear_same, bit_at_clear_other, bit_at-trailing_zeros}
+use Rattle.std.proofs.lemmas.Nat.{le_or_l, le_or_r}
+use Rattle.std.proofs.lemmas.Nat.Bits.{bit_at_xor, bit_at-lt, bit_at-zero, bit_at_clear_other}
 use Rattle.std.proofs.lemmas.Option.{same_Some, slice_get-get_or}
 use Rattle.jm_marks.specs.Marks.{is_dead_object}
 use Rattle.jm_marks.specs.Watch.{IsQuiet, IsSetBy, AreFresh, AreFlags, AreSpots}
@@ -173,19 +173,6 @@ all_set flags first word changed left t there within all k low is = elim (cases_
     | inl still ↦ inl (bit_at_clear_other w64 left t within k low other ∙ still)
     | inr done ↦ inr (set_apart flags first t (bit_at word t) k other ∙ done)
   ]
-]
-
-pub first_left : (left : ℕ) → 0 < left → left < 2 ^ 64 → (trailing_zeros w64 left < 64) × (bit_at left (trailing_zeros w64 left) ≡ 1)
-first_left left some fits =
-    let (low, one, before) = bit_at-trailing_zeros w64 left some fits in (low, one)
-
-pub fewer_left : (left t : ℕ) → t < 64 → bit_at left t ≡ 1 → bit_and left (bit_not w64 (1 * 2 ^ t % 2 ^ 64)) < left
-fewer_left left t within one = elim (cases_lt (bit_and left (bit_not w64 (1 * 2 ^ t % 2 ^ 64))) left) [
-  | inl less ↦ less
-  | inr more ↦
-      let same : bit_and left (bit_not w64 (1 * 2 ^ t % 2 ^ 64)) ≡ left = omega (arith, more, and_le_l left (bit_not w64 (1 * 2 ^ t % 2 ^ 64))) in
-      let cleared : bit_at left t ≡ 0 = ap (λ (w : ℕ). bit_at w t) (sym same) ∙ bit_at_clear_same w64 left t within in
-      absurd (omega (arith, one, cleared))
 ]
 
 -- where all bits that changed are set none is left

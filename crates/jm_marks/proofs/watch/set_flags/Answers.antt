@@ -1,7 +1,8 @@
 use Rattle.std.proofs.Common.{◌≡◌, ◌+◌, ◌<◌, length, ◌∙◌, arith}
 use Rattle.std.proofs.Math.ListN.{length-set}
 use Rattle.std.specs.Int.{w64, trailing_zeros}
-use Rattle.jm_marks.proofs.FlagLemmas.{elsewhere, bits_set, all_set, first_left, fewer_left, none_left}
+use Rattle.jm_objects.proofs.WordLemmas.{first_left, fewer_left}
+use Rattle.jm_marks.proofs.FlagLemmas.{elsewhere, bits_set, all_set, none_left}
 use Rattle.jm_marks.proofs.watch.set_flags.Goals as goal
 
 pub loop-left-smaller : goal.loop-left-smaller

@@ -1,4 +1,3 @@
-use Rattle.std.proofs.Common.{arith}
 use Rattle.jm_objects.proofs.FlagLemmas.{length-flags_of, slice_get-flags_of, below_len}
 use Rattle.jm_objects.proofs.Objects.words.Goals as goal
 

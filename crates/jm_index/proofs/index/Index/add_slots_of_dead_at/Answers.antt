@@ -1,40 +1,40 @@
-use Rattle.std.proofs.Common.{◌≡◌, true, false, sym, ap, ◌∙◌, arith}
-use Rattle.std.proofs.lemmas.Bool.{both_ways}
-use Rattle.std.proofs.lemmas.Option.{get_or_from_slice_get}
-use Rattle.jm_index.specs.Index.{PairList, flag_of}
-use Rattle.jm_index.proofs.ListedLemmas.{listed_more, flag_within}
-use Rattle.jm_index.proofs.index.Index.add_slots_of_dead_at.Goals.{then-is_dead+then-not-is_set+in_ok-add_slots_of, else-is_dead, else-is_dead-via-then-is_dead+else-not-is_set, else-is_dead-via-else-is_dead}
+use Rattle.std.proofs.Common.{ℕ, ◌≡◌, ◌<◌, ◌*◌, ◌+◌, ◌%◌, ◌^◌, ap, ◌∙◌, inl, inr, rules, arith}
+use Rattle.std.specs.Int.{w64, bit_at, trailing_zeros}
+use Rattle.std.proofs.lemmas.Nat.Bits.{bit_at-zero}
+use Rattle.jm_objects.proofs.WordLemmas.{first_left, fewer_left, unset_left}
 use Rattle.jm_index.proofs.index.Index.add_slots_of_dead_at.Goals as goal
 
-pub loop-object-preserved : goal.loop-object-preserved
-loop-object-preserved c =
-    let inv = c.loop-object.invariant in
-    elim c.if-is_dead.branch [
-      | then-is_dead+then-not-is_set+in_ok-add_slots_of w ↦
-          let added = w.in_ok-add_slots_of.ensures in
-          rw w.slots-is
-          (record {
-            kept = λ k there. added.kept k (inv.kept k there);
-            all = listed_more _ _ _ _ _ _ inv.all added.kept (λ pair o there binds is died. added.all pair o there binds (is, died.1));
-          })
-      | else-is_dead w ↦
-          rw w.slots-is
-          (record {
-            kept = inv.kept;
-            all = listed_more _ _ _ _ _ _ inv.all (λ k there. there) (λ pair o there binds is died. absurd (elim w.else-is_dead.branch [
-              | else-is_dead-via-then-is_dead+else-not-is_set w' ↦
-                  let same : flag_of c.self.inside.dropped o ≡ flag_of c.args.self.now.dropped o = ap (λ (v : PairList). flag_of v.dropped o) c.self.view_is in
-                  let gone : flag_of c.self.inside.dropped o ≡ true = rw is (sym w'.is_set.ensures ∙ w'.if-not-is_set.false) in
-                  both_ways _ died.1 (sym same ∙ gone)
-              | else-is_dead-via-else-is_dead w' ↦
-                  let flag : flag_of c.args.objects.now c.loop-object.object ≡ c.is_dead.result = get_or_from_slice_get c.args.objects.now c.loop-object.object c.is_dead.result false c.is_dead.ensures in
-                  let lives : flag_of c.args.objects.now o ≡ false = rw is (flag ∙ w'.if-is_dead.false) in
-                  both_ways _ lives died.0
-            ]));
-          })
-    ]
+pub overflow_mul-index : goal.overflow_mul-index
+overflow_mul-index c =
+    let few : 64 * c.args.index < 2 ^ 32 = omega (arith, c.requires, c.len-len.ensures, c.len-len.type_inv) in
+    search (rules, few)
+
+pub overflow_add-index : goal.overflow_add-index
+overflow_add-index c =
+    let (low, one) = first_left c.loop-left.left c.loop-left-test.true (omega (arith, c.loop-left.auto.left-fits)) in
+    let few : 64 * c.args.index + trailing_zeros w64 c.loop-left.left < 2 ^ 32 = omega (arith, c.requires, c.len-len.ensures, c.len-len.type_inv, low) in
+    search (rules, few)
+
+pub loop-left-smaller : goal.loop-left-smaller
+loop-left-smaller c =
+    let (low, one) = first_left c.loop-left.left c.loop-left-test.true (omega (arith, c.loop-left.auto.left-fits)) in
+    fewer_left _ _ low one
+
+pub loop-left-preserved : goal.loop-left-preserved
+loop-left-preserved c =
+    let inv = c.loop-left.invariant in
+    let added = c.in_ok-add_slots_of.ensures in
+    let t = trailing_zeros w64 c.loop-left.left in
+    let (low, one) = first_left c.loop-left.left c.loop-left-test.true (omega (arith, c.loop-left.auto.left-fits)) in
+    record {
+      kept = λ k there. added.kept k (inv.kept k there);
+      all = λ pair o there binds (at, unset, died). elim (unset_left c.loop-left.left t (o % 64) low (omega arith) unset) [
+        | inl before ↦ added.kept pair.slot (inv.all pair o there binds (at, before, died))
+        | inr is ↦ let same : o ≡ 64 * c.args.index + t = omega (arith, at, is) in added.all pair o there binds (same, died.1)
+      ];
+    }
 
 pub returns-clause-all : goal.returns-clause-all
 returns-clause-all c = λ pair o there binds (at, died).
-    let within = flag_within c.args.objects.now o died.0 in
-    c.loop-object.invariant.all pair o there binds (omega (arith, at), omega (arith, at, within, c.min-object-end.ensures, c.saturating_add.ensures, c.len-len.ensures), died)
+    let none : c.loop-left.left ≡ 0 = omega (arith, c.loop-left-test.false) in
+    c.loop-left.invariant.all pair o there binds (at, ap (λ (w : ℕ). bit_at w (o % 64)) none ∙ bit_at-zero (o % 64), died)
