@@ -91,7 +91,7 @@ impl Page {
         self.long_number(number)
     }
 
-    #[inline(never)]
+    #[inline(always)]
     fn long_number(&mut self, number: u64) -> Result<(), NoMemory>
         ensures { OnOk result (self.new ≡ self.old ++ decimal number) }
     {
