@@ -1,5 +1,5 @@
 -- An event that reaches one monitor alone and makes none.
-use Rattle.std.proofs.Common.{◌≡◌, ℕ, ◌+◌, ◌≤◌, ◌⊎◌, inl, inr, Bool, true, false, cond, List, [], ◌∷◌, ◌++◌, length, refl, sym, ap, ◌∙◌, subst, arith}
+use Rattle.std.proofs.Common.{◌≡◌, ℕ, ◌+◌, ◌≤◌, ◌⊎◌, inl, inr, Bool, true, false, cond, List, [], ◌∷◌, refl, sym, ap, ◌∙◌, subst, arith}
 use Rattle.std.specs.Prelude.{Option, Some, None, Contains, MatchOption, count_by}
 use Rattle.std.specs.List.Sorted.{IsPermutation}
 use Rattle.std.proofs.lemmas.Bool.{eq-eqb, cases_eq}
@@ -11,16 +11,15 @@ use Rattle.jm_model.specs.declared.binding.Binding.{Binding}
 use Rattle.jm_model.specs.declared.firings.Firing.{Firing}
 use Rattle.jm_semantics.specs.Traces.{ParametricEvent}
 use Rattle.jm_semantics.proofs.ListLemmas.{Contains-cons_cases, Contains-head}
-use Rattle.jm_index.specs.Index.{Pair, flag_of}
+use Rattle.jm_index.specs.Index.{flag_of}
 use Rattle.jm_index.proofs.ReadLemmas.{Contains-none}
 use Rattle.jm_marks.specs.Marks.{dead_mask_of}
 use Rattle.jm_monitors.specs.declared.stored.Stored.{Stored}
-use Rattle.jm_monitors.specs.Stores.{IsStoreOf}
 use Rattle.jm_monitors.specs.Steps.{IsBase, IsOverAfter, IsLiveEvent, AreMarksAfter}
 use Rattle.jm_store.specs.declared.moves.Move.{Move}
-use Rattle.jm_store.specs.Slots.{monitor_at, stored_in}
+use Rattle.jm_store.specs.Slots.{monitor_at}
 use Rattle.jm_store.specs.Moves.{AreMovesOf, IsOutcomeAt, AreEnding, reached_by, after_moves, has_all, ends_all}
-use Rattle.jm_store.specs.Contents.{Contents, stored_of, IsStoreAfter, ArePlacedOf, IsEventDone, IsSlotAdvanced, IsOnlyAbove}
+use Rattle.jm_store.specs.Contents.{Contents, stored_of, IsStoreAfter, ArePlacedOf, IsEventDone, IsSlotAdvanced, IsOnlyAbove, IsNoneAbove}
 use Rattle.jm_store.proofs.SlotLemmas.{stored_at, place_of}
 use Rattle.jm_store.proofs.EventLemmas.{advanced_next, moved_above}
 use Rattle.jm_store.proofs.MoveLemmas.{join_above, compatible_above}
@@ -28,6 +27,7 @@ use Rattle.jm_store.proofs.AfterLemmas.{moved_other, moved_here}
 use Rattle.jm_store.proofs.VisitLemmas.{mask_within, slots_counted}
 use Rattle.jm_store.proofs.SparedLemmas.{spared_after}
 use Rattle.jm_store.proofs.PlacingLemmas.{placed_already}
+use Rattle.jm_store.proofs.ReportLemmas.{report_none}
 use Rattle.jm_store.proofs.PlanningLemmas.{apart_moves, leads_moves, carried_out, ended_after, answer_sorted, stay_alive}
 
 pub option_map : {X : Type 0} (o : Option X) (U : Type 0) (P Q : X → Type 0) → ((x : X) → P x → Q x) → MatchOption o U P → MatchOption o U Q
@@ -117,3 +117,35 @@ module _ (m : Meaning) {S : Type 0} (Stands : S → List ℕ → Type 0) (letter
     where
       same_slot : {j : ℕ} → Some k ≡ Some j → k ≡ j
       same_slot e = cc
+
+-- An event that reaches no monitor and makes none: all is as before.
+module _ (m : Meaning) {S : Type 0} (Stands : S → List ℕ → Type 0) (letter : ℕ) (b : Binding) (dead : List Bool) (store : Contents S) (none : IsNoneAbove b store) (known : Contains store.marks b) where
+  no_moves : AreMovesOf m Stands letter b dead store.marks (has_all b) store.monitors []
+  no_moves = record { slots = []; visit = none.visit; given = refl }
+
+  may_none : (s : Stored S) → Contains (stored_of store) s → IsBase b store.marks s
+      → (has_all b (mask_of s.instance) ≡ true) ⊎ ((is_below b s.instance ≡ false) × IsOverAfter m Stands letter s.state (dead_mask_of dead (join s.instance b)))
+  may_none s there is = elim is.1 [ inl above ↦ inl (eq-eqb _ (mask_of b) (mask_within b s.instance above)) | inr fresh ↦ absurd (fresh.0 known) ]
+
+  none_placed : ArePlacedOf store store [] [] []
+  none_placed = placed_already store [] (apart_moves m Stands letter b dead store.marks (has_all b) store.monitors [] no_moves)
+      (leads_moves m Stands letter b dead store.marks (has_all b) store.monitors [] no_moves store.index.list none.paired.paired) none.filled (λ x there. absurd (Contains-none x there))
+
+  still_marked : AreMarksAfter b store.marks store.marks
+  still_marked t = ((λ there. inl there), (λ there. elim there [ inl before ↦ before | inr is ↦ subst (λ (x : Binding). Contains store.marks x) (sym is) known ]))
+
+  none_ended : AreEnding m Stands store.ending (reached_by {S = S} [])
+  none_ended s there = absurd (Contains-none s there)
+
+  pub none_done : (trace : List ParametricEvent) → IsLiveEvent m dead letter b → ((o : ℕ) → flag_of store.index.dropped o ≡ true → flag_of dead o ≡ true) → IsStoreAfter m Stands trace dead store
+      → IsEventDone m Stands trace dead letter b store []
+  none_done trace live within holds =
+      let order : IsPermutation {X = Move S} [] [] = IsPermutation-refl [] in
+      let after = carried_out m Stands letter b dead (has_all b) store store [] [] [] no_moves may_none order none_placed none.paired (λ j. refl) refl refl trace holds.monitors live store.marks still_marked in
+      let end = ended_after m Stands letter b dead (has_all b) store store [] [] [] no_moves may_none order none_placed none.paired (λ j. refl) refl refl trace holds.monitors live store.ending (λ e d ends. ends) holds.ended none_ended in
+      let spared = spared_after m Stands store.index.dropped dead [] store.monitors within holds.spared (stay_alive m Stands letter b dead store.marks (has_all b) store.monitors store store [] [] [] no_moves order none_placed) in
+      record {
+        answer = answer_sorted m Stands letter b dead (has_all b) store store [] [] [] no_moves may_none order none_placed none.paired (λ j. refl) refl refl trace holds.monitors live [] (report_none m Stands []);
+        store = record { monitors = after.0; ended = end; spared = spared };
+        none_cut = after.1;
+      }

@@ -1,6 +1,6 @@
 -- The slots that an event reads.
 use Rattle.std.proofs.Common.{◌≡◌, ◌≢◌, ℕ, zero, suc, ◌+◌, ◌*◌, ◌/◌, ◌<◌, ◌≤◌, ◌==◌, ◌⊎◌, inl, inr, Bool, true, false, cond, ◌&&◌, ◌||◌, not, List, [], ◌∷◌, ◌++◌, length, take, get_or, refl, sym, ap, ◌∙◌, subst, append_assoc, append-nil, arith}
-use Rattle.std.specs.Prelude.{Option, Some, None, Contains, AllPairs, filter, count_by, slice_set, bit_and, MatchOption}
+use Rattle.std.specs.Prelude.{Option, Some, None, Contains, AllPairs, filter, count_by, slice_set, bit_and}
 use Rattle.std.specs.Int.{bit_at}
 use Rattle.std.specs.Option.{is_some, option_to_list}
 use Rattle.std.specs.List.{cons_option}
@@ -20,7 +20,7 @@ use Rattle.jm_monitors.specs.declared.stored.Stored.{Stored}
 use Rattle.jm_store.specs.declared.monitors.Slot.{Slot}
 use Rattle.jm_store.specs.Slots.{monitors_of, monitor_at, stored_in}
 use Rattle.jm_store.specs.Moves.{asks_by, ends_all, has_all, visited, AreVisited, IsCompatibleAt}
-use Rattle.jm_store.specs.Contents.{IsOnlyAbove}
+use Rattle.jm_store.specs.Contents.{Contents, IsOnlyAbove, IsNoneAbove, IsAbove}
 use Rattle.jm_store.specs.Housing.{IsHoused, IsSettled, AreDomains}
 use Rattle.jm_store.proofs.FitLemmas.{are_paired}
 use Rattle.jm_store.proofs.HousingLemmas.{same_one, pair_by_slot}
@@ -264,9 +264,20 @@ only_above {S} b slots marks open' index ending ds k h settled domains one =
       filled = λ pair there. settled_monitor slots index.list h settled pair there;
     }
 
-pub only_or_none : (o : Option ℕ) (P : ℕ → Type 0) (l : List ℕ) → l ≡ option_to_list o → ((k : ℕ) → l ≡ k ∷ [] → P k) → MatchOption o (Unit {0}) P
-only_or_none None P l e f = tt
-only_or_none (Some k) P l e f = f k e
+pub none_above : {S : Type 0} (b : Binding) (slots : List (Slot S)) (marks : List Binding) (open' : Bool) (index : PairList) (ending ds : List ℕ) → IsHoused slots index.list → IsSettled slots index.list
+    → AreDomains ds index.list → visited (has_all b) b index.list ds ≡ []
+    → IsNoneAbove b (record { monitors = monitors_of slots; marks = marks; is_open = open'; index = index; ending = ending })
+none_above {S} b slots marks open' index ending ds h settled domains none =
+    record {
+      visit = subst (λ (l : List ℕ). AreVisited (has_all b) b (monitors_of slots) l) none (are_visited (has_all b) b slots index.list ds h settled domains);
+      paired = are_paired slots marks open' index ending h;
+      filled = λ pair there. settled_monitor slots index.list h settled pair there;
+    }
+
+pub above_by : {S : Type 0} (b : Binding) (store : Contents S) (o : Option ℕ) (l : List ℕ) → l ≡ option_to_list o → (l ≡ [] → IsNoneAbove b store) → ((k : ℕ) → l ≡ k ∷ [] → IsOnlyAbove b store k)
+    → IsAbove b store o
+above_by b store None l e none one = none e
+above_by b store (Some k) l e none one = one k e
 
 pub popped : (xs ys : List ℕ) (n : ℕ) (o : Option ℕ) → xs ≡ ys ++ option_to_list o → ys ≡ take n xs → n ≡ 0 → xs ≡ option_to_list o
 popped xs ys n o e rest none = e ∙ ap (λ (l : List ℕ). l ++ option_to_list o) (rest ∙ ap (λ (k : ℕ). take k xs) none)

@@ -175,3 +175,14 @@ pub record IsOnlyAbove {S : Type 0} (b : Binding) (store : Contents S) (k : ℕ)
   pub above : (s : Stored S) → monitor_at store.monitors k ≡ Some s → is_below b s.instance ≡ true
   pub paired : ArePaired store
   pub filled : (pair : Pair) → Contains store.index.list pair → IsFilled store pair
+
+-- No monitor lies above b, of all those to which the index leads; it leads to each monitor.
+pub record IsNoneAbove {S : Type 0} (b : Binding) (store : Contents S) : Type 0 where
+  pub visit : AreVisited (has_all b) b store.monitors []
+  pub paired : ArePaired store
+  pub filled : (pair : Pair) → Contains store.index.list pair → IsFilled store pair
+
+-- what lies above b: the monitor of a slot, or none
+abbrev pub IsAbove : {S : Type 0} → Binding → Contents S → Option ℕ → Type 0
+IsAbove b store None = IsNoneAbove b store
+IsAbove b store (Some k) = IsOnlyAbove b store k

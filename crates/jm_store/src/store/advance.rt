@@ -1,12 +1,12 @@
-//! Events that reach one monitor alone and make none: they are done at once, without a plan.
-ghost use Rattle.std.specs.Prelude.{◌≡◌, ℕ, ◌+◌, ◌<◌, ◌≤◌, ◌↔◌, List, Bool, false, Contains, IsTrue, MatchOption, Some, length, count_by};
+//! Events that reach one monitor alone, or none, and make none: they are done at once, without a plan.
+ghost use Rattle.std.specs.Prelude.{◌≡◌, ℕ, ◌+◌, ◌<◌, ◌≤◌, ◌↔◌, List, Bool, false, Contains, IsTrue, MatchOption, IfSome, Some, [], length, count_by};
 ghost use Rattle.jm_model.specs.Bindings.{is_compatible};
 ghost use Rattle.jm_semantics.specs.Traces.{ParametricEvent};
 ghost use Rattle.jm_index.specs.Index.{AreLive, IsFitting};
 ghost use Rattle.jm_monitors.specs.declared.stored.Stored.{Stored as Kept};
 ghost use Rattle.jm_monitors.specs.Steps.{IsLiveEvent};
 ghost use Rattle.jm_store.specs.Slots.{monitor_at};
-ghost use Rattle.jm_store.specs.Contents.{stored_of, IsFit, IsStoreAfter, IsEventDone, IsSlotAdvanced, IsOnlyAbove};
+ghost use Rattle.jm_store.specs.Contents.{stored_of, IsFit, IsStoreAfter, IsEventDone, IsSlotAdvanced, IsAbove};
 
 use super::Store;
 use crate::ending::end_fewer;
@@ -15,6 +15,7 @@ use jm_marks::dead_mask;
 use jm_model::{Binding, Firings, Letter, Monitor, Steps};
 use jm_monitors::Stored;
 use jm_objects::Objects;
+use std::alloc::Global;
 use std::sync::ledger::Ledger;
 
 /// An event that was done: its answer, twice.
@@ -26,6 +27,21 @@ pub struct Done {
     pub copy: Firings,
 }
 
+impl Done {
+    /// What an event comes to that reaches no monitor: no handler runs.
+    fn nothing(alloc: Global) -> Done
+        ensures stays { result.stays ≡ false }
+        ensures answer { result.answer ≡ [] }
+        ensures copy { result.copy ≡ [] }
+    {
+        Done {
+            stays: false,
+            answer: Firings::new(alloc),
+            copy: Firings::new(alloc),
+        }
+    }
+}
+
 impl<M: Monitor> Store<M> {
     /// Whether a binding is a mark.
     pub fn is_mark(&self, binding: &Binding) -> bool
@@ -34,7 +50,7 @@ impl<M: Monitor> Store<M> {
         self.marks.contains(binding)
     }
 
-    /// Does an event whose binding is a mark, if it reaches one monitor alone and memory isn't wanting. Where it doesn't
+    /// Does an event whose binding is a mark, if it reaches no monitor or one alone and memory isn't wanting. Where it doesn't
     /// do it, all is as before. Only monitors that are compatible with the binding are read.
     pub fn advance_one<L: Ledger>(
         &mut self,
@@ -61,23 +77,26 @@ impl<M: Monitor> Store<M> {
         ensures steps { steps.new ≤ steps.old + count_by (λ s. is_compatible s.instance binding.now) (stored_of self.old) }
     {
         let mut slots = self.take_slots();
-        let only = self.only_slot_above(objects, binding, &mut slots);
+        let above = self.only_slot_above(objects, binding, &mut slots);
         self.give_slots(slots);
-        let slot = only?;
-        self.advance_in(rules, objects, letter, slot, steps)
+        match above? {
+            Some(slot) => self.advance_in(rules, objects, letter, slot, steps),
+            None => Some(Done::nothing(*self.domains.allocator())),
+        }
     }
 
-    /// The slot of the only monitor above a binding, if there is one such and memory isn't wanting.
+    /// The slot of the only monitor above a binding, or that there is none. Where several are, or memory is wanting, it
+    /// can't be told.
     fn only_slot_above(
         &self,
         objects: &Objects,
         binding: &Binding,
         slots: &mut Vec<usize>,
-    ) -> Option<usize>
+    ) -> Option<Option<usize>>
         requires closed { self.now.is_open ≡ false }
         requires fits { IsFitting self.now.index objects.now }
         requires live { AreLive objects.now binding.now }
-        ensures { MatchOption result (Unit {0}) (λ slot. IsOnlyAbove binding.now self.now slot) }
+        ensures { IfSome result (IsAbove binding.now self.now) }
     {
         let mask = binding.mask();
         let mut only = None;
@@ -97,7 +116,7 @@ impl<M: Monitor> Store<M> {
                 }
             }
         }
-        only
+        Some(only)
     }
 
     /// Moves the monitor of a slot, if there is one and memory isn't wanting.

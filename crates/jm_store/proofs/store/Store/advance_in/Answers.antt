@@ -1,11 +1,11 @@
-use Rattle.std.proofs.Common.{◌≡◌, ℕ, true, false, List, refl, sym, ap, ◌∙◌, subst}
+use Rattle.std.proofs.Common.{◌≡◌, ℕ, List, refl, sym, ◌∙◌, subst}
 use Rattle.std.specs.Prelude.{Some, not, slice_set}
 use Rattle.jm_store.specs.declared.monitors.Slot.TheVariants.{Free}
 use Rattle.std.proofs.lemmas.Bool.{not-true, not-false, both_ways}
 use Rattle.std.proofs.lemmas.List.{map-set}
 use Rattle.jm_model.specs.Meanings.{IsCutWord}
 use Rattle.jm_monitors.specs.declared.stored.Stored.{Stored}
-use Rattle.jm_store.specs.Slots.{monitor_in, monitor_at, monitors_of}
+use Rattle.jm_store.specs.Slots.{monitor_in}
 use Rattle.jm_store.specs.Moves.{IsNext}
 use Rattle.jm_index.specs.Index.{Pair}
 use Rattle.jm_store.specs.Housing.{IsHoused}

@@ -1,12 +1,11 @@
-use Rattle.std.proofs.Common.{◌≡◌, ℕ, ◌+◌, ◌-◌, ◌++◌, List, [], true, false, take, length, get_or, sym, ap, ◌∙◌, append-nil, arith}
-use Rattle.std.specs.Option.{option_to_list, is_some}
-use Rattle.std.proofs.lemmas.Bool.{eq-eqb, cases_Bool}
+use Rattle.std.proofs.Common.{◌≡◌, ℕ, ◌++◌, List, [], true, false, take, get_or, sym, ap, ◌∙◌, append-nil, arith}
+use Rattle.std.specs.Option.{option_to_list}
+use Rattle.std.proofs.lemmas.Bool.{eq-eqb}
 use Rattle.std.proofs.lemmas.List.{take_all}
 use Rattle.jm_index.specs.Index.{asked_slots}
 use Rattle.jm_model.specs.Bindings.{mask_of}
 use Rattle.jm_store.specs.Moves.{visited, has_all}
-use Rattle.jm_store.specs.Contents.{IsOnlyAbove}
-use Rattle.jm_store.proofs.VisitLemmas.{visited_taken, only_above, only_or_none, popped, was_none, not_all}
+use Rattle.jm_store.proofs.VisitLemmas.{visited_taken, only_above, none_above, above_by, popped, was_none, not_all}
 use Rattle.jm_store.proofs.store.Store.only_slot_above.Goals as goal
 use Rattle.jm_store.proofs.store.Store.only_slot_above.Goals.{then-mask-domain+in-Ok+else-len-gt1+then-is_none, then-mask-domain+in-Ok+else-len-gt1+else-is_none+else-is_some, else-mask-domain}
 
@@ -42,5 +41,6 @@ returns g c =
     let pairs = c.self.inside.index.list in
     let whole = ap (visited (has_all b) b pairs) (sym (take_all c.loop-domain.domain-index ds c.loop-domain-test.false)) ∙ c.loop-domain.invariant in
     rw (← c.self.view_is)
-    (only_or_none c.loop-domain.only _ (visited (has_all b) b pairs ds) whole
+    (above_by b _ c.loop-domain.only (visited (has_all b) b pairs ds) whole
+    (λ none. none_above b _ _ _ c.self.inside.index _ ds c.self.invariant.housed (c.self.invariant.settled closed) (rw (← items) at c.self.invariant.domains) none)
     (λ k one. only_above b _ _ _ c.self.inside.index _ ds k c.self.invariant.housed (c.self.invariant.settled closed) (rw (← items) at c.self.invariant.domains) one))

@@ -1,4 +1,4 @@
-use Rattle.std.proofs.Common.{◌≡◌, List, refl, sym, ap, ◌∙◌, subst, length}
+use Rattle.std.proofs.Common.{◌≡◌, List, refl, sym, ap, subst, length}
 use Rattle.std.specs.Prelude.{Contains, IsTrue}
 use Rattle.jm_model.specs.declared.binding.Binding.{Binding}
 use Rattle.std.proofs.lemmas.List.Sorted.{Contains-permutation, IsPermutation-sym}
