@@ -96,7 +96,7 @@ fn answer<M: Monitor>(
     fire(rules, objects, store, rest, letter, binding, known)
 }
 
-/// Does an event at once whose binding is a mark, if it reaches one monitor alone, with a counter made of a ledger of
+/// Does an event at once whose binding is a mark, if it reaches one monitor or none, with a counter made of a ledger of
 /// one part.
 fn counted_advance<M: Monitor, L: Ledger>(
     rules: &M,
