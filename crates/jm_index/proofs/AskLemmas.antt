@@ -7,6 +7,7 @@ use Rattle.std.proofs.lemmas.Option.{cond_some, none-some, same_Some}
 use Rattle.jm_model.specs.Bindings.{mask_of, object_at, restriction, is_compatible}
 use Rattle.jm_index.specs.declared.entry.Entry.{Entry}
 use Rattle.jm_index.specs.Index.{Pair, PairList, flag_of, IsFitting, AreLive, asked_slots}
+use Rattle.jm_index.specs.Postings.{Paths}
 use Rattle.jm_index.specs.Layout.{Rises, pair_of, pair_at, slot_of, slot_at, live_pairs, posting_at, IsPath, IsPathBelow, IsIndexed}
 use Rattle.jm_index.proofs.ReadLemmas.{read_all}
 use Rattle.jm_index.proofs.BindingLemmas.{shared, object_at-restriction, exact, restriction-agrees}
@@ -19,7 +20,7 @@ same_binding domain b common e v is all gives =
     let mask : mask_of (restriction b (mask_of e.binding)) ≡ mask_of e.binding = rw (facts.1, ← is) all in
     is ∙ ap (λ (n : ℕ). restriction b n) (sym facts.1) ∙ exact e.binding b facts.2 mask
 
-exact_slots : (entries : List Entry) (place : List (Option ℕ) → Option ℕ) (trees : List (List (List ℕ))) (d : List Bool) (domain : ℕ) (b common : List (Option ℕ)) (k : ℕ)
+exact_slots : (entries : List Entry) (place : List (Option ℕ) → Option ℕ) (trees : List Paths) (d : List Bool) (domain : ℕ) (b common : List (Option ℕ)) (k : ℕ)
     → IsIndexed entries place trees d → common ≡ restriction b domain → mask_of common ≡ domain → place common ≡ Some k
     → filter_map (slot_at entries domain b) (k ∷ []) ≡ asked_slots domain b (live_pairs entries)
 exact_slots entries place trees d domain b common k i is all there =
@@ -47,11 +48,11 @@ slot_there [] k e common b domain slot is at mask agrees = cc
 slot_there (x ∷ es) zero e common b domain slot is at mask agrees = rw at (there_entry x common b domain slot is mask agrees)
 slot_there (x ∷ es) (suc k) e common b domain slot is at mask agrees = slot_there es k e common b domain slot is at mask agrees
 
-pub place_within : (entries : List Entry) (place : List (Option ℕ) → Option ℕ) (trees : List (List (List ℕ))) (d : List Bool) (common : List (Option ℕ)) (k : ℕ)
+pub place_within : (entries : List Entry) (place : List (Option ℕ) → Option ℕ) (trees : List Paths) (d : List Bool) (common : List (Option ℕ)) (k : ℕ)
     → IsIndexed entries place trees d → place common ≡ Some k → k < length entries
 place_within entries place trees d common k i there = let (slot, at) = i.found common k there in pair_at_within entries k _ at
 
-pub exact_slot : (entries : List Entry) (place : List (Option ℕ) → Option ℕ) (trees : List (List (List ℕ))) (d : List Bool) (domain : ℕ) (b common : List (Option ℕ)) (k : ℕ) (e : Entry)
+pub exact_slot : (entries : List Entry) (place : List (Option ℕ) → Option ℕ) (trees : List Paths) (d : List Bool) (domain : ℕ) (b common : List (Option ℕ)) (k : ℕ) (e : Entry)
     → IsIndexed entries place trees d → common ≡ restriction b domain → mask_of common ≡ domain → place common ≡ Some k → e ≡ get_or entries k e
     → e.slot ∷ [] ≡ asked_slots domain b (live_pairs entries)
 exact_slot entries place trees d domain b common k e i is all there at =
@@ -61,7 +62,7 @@ exact_slot entries place trees d domain b common k e i is all there at =
     let one : filter_map (slot_at entries domain b) (k ∷ []) ≡ e.slot ∷ [] = rw (gives.1, gives.0) refl in
     sym one ∙ exact_slots entries place trees d domain b common k i is all there
 
-pub no_slots : (entries : List Entry) (place : List (Option ℕ) → Option ℕ) (trees : List (List (List ℕ))) (d : List Bool) (domain : ℕ) (b common : List (Option ℕ))
+pub no_slots : (entries : List Entry) (place : List (Option ℕ) → Option ℕ) (trees : List Paths) (d : List Bool) (domain : ℕ) (b common : List (Option ℕ))
     → IsIndexed entries place trees d → common ≡ restriction b domain → mask_of common ≡ domain → place common ≡ None
     → [] ≡ asked_slots domain b (live_pairs entries)
 no_slots entries place trees d domain b common i is all there =
@@ -75,7 +76,7 @@ no_slots entries place trees d domain b common i is all there =
         absurd (none-some j (sym here ∙ placed))
 
 -- .. and else the positions of a path that is common
-pub path_slots : (entries : List Entry) (place : List (Option ℕ) → Option ℕ) (trees : List (List (List ℕ))) (index : PairList) (dead : List Bool) (domain : ℕ) (b common : List (Option ℕ)) (path : ℕ)
+pub path_slots : (entries : List Entry) (place : List (Option ℕ) → Option ℕ) (trees : List Paths) (index : PairList) (dead : List Bool) (domain : ℕ) (b common : List (Option ℕ)) (path : ℕ)
     → IsIndexed entries place trees index.dropped → IsFitting index dead → AreLive dead b → common ≡ restriction b domain → IsPathBelow common path → Rises 0 (posting_at trees domain path)
     → filter_map (slot_at entries domain b) (posting_at trees domain path) ≡ asked_slots domain b (live_pairs entries)
 path_slots entries place trees index dead domain b common path i fits live is below rising =

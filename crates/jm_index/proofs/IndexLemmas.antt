@@ -11,6 +11,7 @@ use Rattle.jm_model.specs.Layout.{binding_eq}
 use Rattle.jm_model.proofs.EqLemmas.{binding_eq-Decides}
 use Rattle.jm_index.specs.declared.entry.Entry.{Entry}
 use Rattle.jm_index.specs.Index.{Pair, PairList, Binds, is_same, without, flag_of, IsKey, AreBelow, IsFitting}
+use Rattle.jm_index.specs.Postings.{Paths}
 use Rattle.jm_index.specs.Layout.{pair_of, live_pairs, pair_at, posting_at, IsPath, AreFiled, AreThinned, IsIndexed}
 use Rattle.jm_index.proofs.ReadLemmas.{Contains-none, Contains-of_filter}
 use Rattle.jm_index.proofs.BindingLemmas.{is_same-same}
@@ -20,7 +21,7 @@ abbrev Bound : Type 0
 Bound = List (Option ℕ)
 
 abbrev Trees : Type 0
-Trees = List (List (List ℕ))
+Trees = List Paths
 
 nothing : {X : Type 0} (xs : List X) → ((x : X) → Contains xs x → ⊥) → xs ≡ []
 nothing [] none = refl

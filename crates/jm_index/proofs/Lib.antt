@@ -7,6 +7,7 @@ pub mod EntryLemmas
 pub mod FlagLemmas
 pub mod PostingLemmas
 pub mod TreeLemmas
+pub mod PathLemmas
 pub mod IndexLemmas
 pub mod AskLemmas
 pub mod ListedLemmas

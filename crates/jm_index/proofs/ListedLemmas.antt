@@ -7,6 +7,7 @@ use Rattle.std.proofs.lemmas.List.Elements.{Contains-push_cases}
 use Rattle.jm_model.specs.Bindings.{mask_of}
 use Rattle.jm_index.specs.declared.entry.Entry.{Entry}
 use Rattle.jm_index.specs.Index.{Pair, PairList, flag_of, Binds, HasDied, AreListed}
+use Rattle.jm_index.specs.Postings.{Paths, no_paths}
 use Rattle.jm_index.specs.Layout.{pair_at, live_pairs, posting_of, posting_at, IsIndexed}
 use Rattle.jm_index.proofs.ReadLemmas.{Contains-none}
 use Rattle.jm_index.proofs.EntryLemmas.{position_of}
@@ -28,7 +29,7 @@ flag_within (x ∷ flags) zero h = omega arith
 flag_within (x ∷ flags) (suc o) h = let rest = flag_within flags o h in omega (arith, rest)
 
 -- each pair that binds an object which wasn't dropped stands in a tree under it
-pub listed_all : (entries items : List Entry) (place : List (Option ℕ) → Option ℕ) (trees : List (List (List ℕ))) (d : List Bool) (n o : ℕ) (slots : List ℕ) → IsIndexed entries place trees d
+pub listed_all : (entries items : List Entry) (place : List (Option ℕ) → Option ℕ) (trees : List Paths) (d : List Bool) (n o : ℕ) (slots : List ℕ) → IsIndexed entries place trees d
     → length trees ≤ n → items ≡ entries
     → ((m k : ℕ) (pair : Pair) → m < n → Contains (posting_at trees m (o + 1)) k → pair_at items k ≡ Some pair → Contains slots pair.slot)
     → AreListed (record { list = live_pairs entries; dropped = d }) (λ q. (q ≡ o) × (flag_of d q ≡ false)) slots
@@ -41,7 +42,7 @@ listed_all entries items place trees d n o slots i end same all pair q there bin
     within m k filed =
         elim (cases_lt m n) [
           | inl low ↦ low
-          | inr past ↦ absurd (Contains-none k (subst (λ (t : List (List ℕ)). Contains (posting_of t (o + 1)) k) (get_or_past trees m [] (omega (arith, past, end))) filed))
+          | inr past ↦ absurd (Contains-none k (subst (λ (t : Paths). Contains (posting_of t (o + 1)) k) (get_or_past trees m no_paths (omega (arith, past, end))) filed))
         ]
 
 -- ---- one object or one word more

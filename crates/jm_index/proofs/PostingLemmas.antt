@@ -2,7 +2,8 @@
 use Rattle.std.proofs.Common.{◌≡◌, ℕ, zero, suc, ◌-◌, ◌<◌, ◌≤◌, Bool, true, false, cond, List, [], ◌∷◌, ◌++◌, Some, length, refl, sym, ap, ◌∙◌, subst, arith, ◌⊎◌, inl, inr}
 use Rattle.std.specs.Prelude.{Contains, slice_get, filter}
 use Rattle.std.proofs.lemmas.Bool.{cases_eq}
-use Rattle.jm_index.specs.Layout.{Rises}
+use Rattle.std.proofs.lemmas.List.Elements.{Contains-append_left, Contains-push_cases}
+use Rattle.jm_index.specs.Layout.{Rises, IsFiled}
 use Rattle.jm_index.specs.Postings.{IsThinned}
 use Rattle.jm_index.proofs.ReadLemmas.{Contains-none, Contains-tail, Contains-cons, Contains-of_filter, Rises-lower}
 
@@ -98,3 +99,12 @@ IsThinned-live test items value new is (inr kept) x pass there = thinned_live te
 -- one position that fails the test
 pub IsThinned-one : (test : ℕ → Bool) (k : ℕ) → test k ≡ false → IsThinned test (k ∷ []) []
 IsThinned-one test k fails = inr (rw fails refl)
+
+-- a number more, at the end
+pub filed_last : (k : ℕ) (items value new : List ℕ) → items ≡ value → new ≡ items ++ k ∷ [] → IsFiled k value new
+filed_last k items value new is pushed =
+    let filed : IsFiled k items (items ++ k ∷ []) = ((λ x there. Contains-append_left items (k ∷ []) x there), last) in
+    rw (← is, pushed) filed
+  where
+    last : (x : ℕ) → Contains (items ++ k ∷ []) x → Contains items x ⊎ (x ≡ k)
+    last x there = elim (Contains-push_cases items k x there) [ inl was ↦ inl was | inr same ↦ inr (sym same) ]

@@ -1,4 +1,4 @@
--- Trees as lists of lists, and what changes of them.
+-- Trees, and what changes of them.
 use Rattle.std.proofs.Common.{◌≡◌, ℕ, zero, suc, ◌+◌, ◌<◌, ◌≤◌, ◌==◌, Bool, true, false, cond, List, [], ◌∷◌, ◌++◌, Option, Some, None, length, get_or, refl, sym, ap, ◌∙◌, subst, arith, ◌⊎◌, inl, inr}
 use Rattle.std.specs.Prelude.{Contains, slice_set}
 use Rattle.std.proofs.lemmas.Bool.{cases_eq, cases_lt}
@@ -7,6 +7,7 @@ use Rattle.std.proofs.lemmas.Option.{none-some, same_Some}
 use Rattle.jm_model.specs.Bindings.{object_at}
 use Rattle.jm_index.specs.declared.entry.Entry.{Entry}
 use Rattle.jm_index.specs.Index.{flag_of}
+use Rattle.jm_index.specs.Postings.{Paths, no_paths}
 use Rattle.jm_index.specs.Layout.{posting_of, posting_at, is_live_at, IsFiled, IsPath, IsPathBelow, AllFiled, AreFiled, AreThinned}
 
 -- one more of what stands past the end
@@ -35,37 +36,33 @@ set_kept_value {X} R items value k q now new d is h at step same =
     let here : R (get_or items k d) new = subst (λ (v : X). R v new) (read_place items items k now d refl h at) step in
     subst (λ (v : List X). R (get_or v q d) (get_or (slice_set items k new) q d)) is (set_kept R items k q new d h here same)
 
--- a position is filed in a posting of a tree
-pub filed_place : (k path : ℕ) (items : List (List ℕ)) (old now new : List ℕ) → path < length items → now ≡ old → IsFiled k now new → IsFiled k old (posting_of (slice_set items path new) path)
-filed_place k path items old now new h is filed = rw (get_or-set_same items path new [] h, ← is) filed
-
--- .. and in a tree
-pub filed_tree : (k mask path : ℕ) (items : List (List (List ℕ))) (old : List ℕ) (now new : List (List ℕ)) → mask < length items → posting_of now path ≡ old
+-- a position is filed in a tree
+pub filed_tree : (k mask path : ℕ) (items : List Paths) (old : List ℕ) (now new : Paths) → mask < length items → posting_of now path ≡ old
     → IsFiled k (posting_of now path) (posting_of new path) → IsFiled k old (posting_at (slice_set items mask new) mask path)
-filed_tree k mask path items old now new h is filed = rw (get_or-set_same items mask new [] h, ← is) filed
+filed_tree k mask path items old now new h is filed = rw (get_or-set_same items mask new no_paths h, ← is) filed
 
-pub AreThinned-refl : (entries : List Entry) (trees : List (List (List ℕ))) → AreThinned entries trees trees
+pub AreThinned-refl : (entries : List Entry) (trees : List Paths) → AreThinned entries trees trees
 AreThinned-refl entries trees = record { within = λ m q x h. h; live = λ m q x l h. h }
 
-pub AreThinned-trans : (entries : List Entry) (a b c : List (List (List ℕ))) → AreThinned entries a b → AreThinned entries b c → AreThinned entries a c
+pub AreThinned-trans : (entries : List Entry) (a b c : List Paths) → AreThinned entries a b → AreThinned entries b c → AreThinned entries a c
 AreThinned-trans entries a b c h k =
     record { within = λ m q x t. h.within m q x (k.within m q x t); live = λ m q x l t. k.live m q x l (h.live m q x l t) }
 
-pub AreThinned-set : (entries : List Entry) (items value : List (List (List ℕ))) (mask : ℕ) (now new : List (List ℕ)) → items ≡ value → mask < length items → now ≡ get_or items mask now
+pub AreThinned-set : (entries : List Entry) (items value : List Paths) (mask : ℕ) (now new : Paths) → items ≡ value → mask < length items → now ≡ get_or items mask now
     → ((q x : ℕ) → Contains (posting_of new q) x → Contains (posting_of now q) x)
     → ((q x : ℕ) → is_live_at entries x ≡ true → Contains (posting_of now q) x → Contains (posting_of new q) x) → AreThinned entries value (slice_set items mask new)
 AreThinned-set entries items value mask now new is h at within live =
     record {
       within =
-          λ m. set_kept_value (λ (a b : List (List ℕ)). (q x : ℕ) → Contains (posting_of b q) x → Contains (posting_of a q) x) items value mask m now new [] is h at within (λ t q x there. there);
+          λ m. set_kept_value (λ (a b : Paths). (q x : ℕ) → Contains (posting_of b q) x → Contains (posting_of a q) x) items value mask m now new no_paths is h at within (λ t q x there. there);
       live =
-          λ m. set_kept_value (λ (a b : List (List ℕ)). (q x : ℕ) → is_live_at entries x ≡ true → Contains (posting_of a q) x → Contains (posting_of b q) x) items value mask m now new [] is h at live (λ t q x l there. there);
+          λ m. set_kept_value (λ (a b : Paths). (q x : ℕ) → is_live_at entries x ≡ true → Contains (posting_of a q) x → Contains (posting_of b q) x) items value mask m now new no_paths is h at live (λ t q x l there. there);
     }
 
-pub AreFiled-refl : (dropped : List Bool) (k : ℕ) (trees : List (List (List ℕ))) → AreFiled dropped k trees trees
+pub AreFiled-refl : (dropped : List Bool) (k : ℕ) (trees : List Paths) → AreFiled dropped k trees trees
 AreFiled-refl dropped k trees = record { kept = λ m q x h. h; only = λ m q x h. inl h; gone = λ m o h. refl }
 
-pub AreFiled-trans : (dropped : List Bool) (k : ℕ) (a b c : List (List (List ℕ))) → AreFiled dropped k a b → AreFiled dropped k b c → AreFiled dropped k a c
+pub AreFiled-trans : (dropped : List Bool) (k : ℕ) (a b c : List Paths) → AreFiled dropped k a b → AreFiled dropped k b c → AreFiled dropped k a c
 AreFiled-trans dropped k a b c h i =
     record {
       kept = λ m q x t. i.kept m q x (h.kept m q x t);
@@ -73,11 +70,11 @@ AreFiled-trans dropped k a b c h i =
       gone = λ m o d. i.gone m o d ∙ h.gone m o d;
     }
 
-pub AllFiled-filed : (dropped : List Bool) (k : ℕ) (a b : List (List (List ℕ))) → AllFiled (λ x. x ≤ k) a → AreFiled dropped k a b → AllFiled (λ x. x ≤ k) b
+pub AllFiled-filed : (dropped : List Bool) (k : ℕ) (a b : List Paths) → AllFiled (λ x. x ≤ k) a → AreFiled dropped k a b → AllFiled (λ x. x ≤ k) b
 AllFiled-filed dropped k a b top h m q x there = elim (h.only m q x there) [ inl u ↦ top m q x u | inr e ↦ omega (arith, e) ]
 
 -- one posting is filed in, and it isn't that of an object that was dropped
-pub AreFiled-one : (dropped : List Bool) (k mask path : ℕ) (a b : List (List (List ℕ))) → IsFiled k (posting_at a mask path) (posting_at b mask path)
+pub AreFiled-one : (dropped : List Bool) (k mask path : ℕ) (a b : List Paths) → IsFiled k (posting_at a mask path) (posting_at b mask path)
     → ((q : ℕ) → (q ≡ path → ⊥) → posting_at b mask q ≡ posting_at a mask q) → ((m q : ℕ) → (m ≡ mask → ⊥) → posting_at b m q ≡ posting_at a m q)
     → ((o : ℕ) → flag_of dropped o ≡ true → o + 1 ≡ path → ⊥) → AreFiled dropped k a b
 AreFiled-one dropped k mask path a b filed others trees apart = record { kept = kept; only = only; gone = gone }
@@ -117,39 +114,36 @@ shorter_path b p o one r below at (inl is) = subst (λ (v : ℕ). IsPathBelow b 
 shorter_path b p o one r below at (inr is) = inr (o, p, at, is)
 
 -- each path of b is filed under, once each of its objects is
-pub all_paths : (dropped : List Bool) (b : List (Option ℕ)) (tree : List (List ℕ)) (k : ℕ) → Contains (posting_of tree 0) k
+pub all_paths : (dropped : List Bool) (b : List (Option ℕ)) (tree : Paths) (k : ℕ) → Contains (posting_of tree 0) k
     → ((p o : ℕ) → object_at b p ≡ Some o → flag_of dropped o ≡ false → Contains (posting_of tree (o + 1)) k)
     → (path : ℕ) → IsPath dropped b path → Contains (posting_of tree path) k
 all_paths dropped b tree k whole each path (inl is) = subst (λ (v : ℕ). Contains (posting_of tree v) k) (sym is) whole
 all_paths dropped b tree k whole each path (inr (o, (p, at), live, is)) = subst (λ (v : ℕ). Contains (posting_of tree v) k) (sym is) (each p o at live)
 
 -- the trees up to m are cleared
-pub record AreCleared (path m : ℕ) (old new : List (List (List ℕ))) : Type 0 where
+pub record AreCleared (path m : ℕ) (old new : List Paths) : Type 0 where
   pub same_length : length new ≡ length old
   pub done : (n q : ℕ) → n < m → posting_at new n q ≡ cond (q == path) [] (posting_at old n q)
   pub rest : (n q : ℕ) → m ≤ n → posting_at new n q ≡ posting_at old n q
 
-pub cleared_all : (path m : ℕ) (old new : List (List (List ℕ))) → AreCleared path m old new → length new ≤ m → (n q : ℕ) → posting_at new n q ≡ cond (q == path) [] (posting_at old n q)
+pub cleared_all : (path m : ℕ) (old new : List Paths) → AreCleared path m old new → length new ≤ m → (n q : ℕ) → posting_at new n q ≡ cond (q == path) [] (posting_at old n q)
 cleared_all path m old new cleared end n q = elim (cases_lt n m) [ inl h ↦ cleared.done n q h | inr h ↦ past h ]
   where
-    empty : (v : Bool) → [] ≡ cond v [] (posting_of [] q)
+    empty : (v : Bool) → [] ≡ cond v [] (posting_of no_paths q)
     empty true = refl
     empty false = refl
 
     past : m ≤ n → posting_at new n q ≡ cond (q == path) [] (posting_at old n q)
     past h =
-        let no_new : get_or new n [] ≡ [] = get_or_past new n [] (omega arith) in
-        let no_old : get_or old n [] ≡ [] = get_or_past old n [] (omega (arith, cleared.same_length)) in
+        let no_new : get_or new n no_paths ≡ no_paths = get_or_past new n no_paths (omega arith) in
+        let no_old : get_or old n no_paths ≡ no_paths = get_or_past old n no_paths (omega (arith, cleared.same_length)) in
         rw (no_new, no_old) (empty (q == path))
 
--- what stands in the posting of a path, by the place where it was read
-pub posting_read : (items value : List (List ℕ)) (old now : List ℕ) (path : ℕ) → items ≡ value → path < length value → now ≡ get_or items path now → posting_of value path ≡ old → now ≡ old
-posting_read items value old now path is h at same = read_place items value path now [] is (subst (λ (v : List (List ℕ)). path < length v) (sym is) h) at ∙ same
-
-pub tree_read : (items value : List (List (List ℕ))) (old : List ℕ) (now : List (List ℕ)) (mask path : ℕ) → items ≡ value → mask < length value → now ≡ get_or items mask now
+-- what a path leads to in a tree, by the place where the tree was read
+pub tree_read : (items value : List Paths) (old : List ℕ) (now : Paths) (mask path : ℕ) → items ≡ value → mask < length value → now ≡ get_or items mask now
     → posting_at value mask path ≡ old → posting_of now path ≡ old
 tree_read items value old now mask path is h at same =
-    ap (λ (t : List (List ℕ)). posting_of t path) (read_place items value mask now [] is (subst (λ (v : List (List (List ℕ))). mask < length v) (sym is) h) at) ∙ same
+    ap (λ (t : Paths). posting_of t path) (read_place items value mask now no_paths is (subst (λ (v : List Paths). mask < length v) (sym is) h) at) ∙ same
 
 -- what holds for the parameters below one, and for the next that is bound, holds for those up to that
 pub each_step : (b : List (Option ℕ)) (d : List Bool) (from p v : ℕ) (F G : ℕ → Type 0) → ((q o : ℕ) → q < from → object_at b q ≡ Some o → flag_of d o ≡ false → F o) → ((o : ℕ) → F o → G o)

@@ -1,6 +1,6 @@
 -- How an index lies in memory: entries in the order in which they were added, some no longer live; for each binding
--- the position of its entry; and trees, by the set of bound parameters, whose postings are lists of positions. Path 0
--- of a tree has all its entries, and path o + 1 those that bind object o.
+-- the position of its entry; and trees, by the set of bound parameters, whose paths lead to positions. Path 0
+-- of a tree leads to all its entries, and path o + 1 to those that bind object o.
 use Rattle.std.specs.Prelude.{◌≡◌, ℕ, ◌+◌, ◌<◌, ◌≤◌, ◌==◌, Bool, true, false, cond, ◌&&◌, ◌⊎◌, List, [], ◌∷◌, Option, Some, None, Contains, length, slice_get, slice_index_or, option_and_then}
 use Rattle.std.specs.List.{filter_map}
 use Rattle.std.proofs.Common.{suc}
@@ -8,6 +8,7 @@ use Rattle.jm_model.specs.declared.binding.Binding.{Binding}
 use Rattle.jm_model.specs.Bindings.{object_at, is_compatible, mask_of}
 use Rattle.jm_index.specs.declared.entry.Entry.{Entry}
 use Rattle.jm_index.specs.Index.{Pair, Binds, flag_of, AreBelow}
+use Rattle.jm_index.specs.Postings.{Paths, no_paths, one_of, many_of, together}
 
 -- the pair of an entry, if the entry is live
 abbrev pub pair_of : Entry → Option Pair
@@ -46,13 +47,17 @@ Rises low (x ∷ xs) = (low ≤ x) × Rises (suc x) xs
 abbrev pub IsFiled : ℕ → List ℕ → List ℕ → Type 0
 IsFiled k old new = ((x : ℕ) → Contains old x → Contains new x) × ((x : ℕ) → Contains new x → Contains old x ⊎ (x ≡ k))
 
--- the posting of a path
-abbrev pub posting_of : List (List ℕ) → ℕ → List ℕ
-posting_of tree path = slice_index_or tree path []
+-- the positions that a path leads to
+abbrev pub posting_of : Paths → ℕ → List ℕ
+posting_of tree path = together (one_of tree path) (many_of tree path)
 
--- the posting of a path in the tree of a set of parameters
-abbrev pub posting_at : List (List (List ℕ)) → ℕ → ℕ → List ℕ
-posting_at trees mask path = posting_of (slice_index_or trees mask []) path
+-- the tree of a set of parameters
+abbrev pub tree_at : List Paths → ℕ → Paths
+tree_at trees mask = slice_index_or trees mask no_paths
+
+-- the positions that a path leads to in the tree of a set of parameters
+abbrev pub posting_at : List Paths → ℕ → ℕ → List ℕ
+posting_at trees mask path = posting_of (tree_at trees mask) path
 
 -- a path of the tree that leads to b, where only objects that weren't dropped have paths
 abbrev pub IsPath : List Bool → Binding → ℕ → Type 0
@@ -63,23 +68,23 @@ abbrev pub IsPathBelow : Binding → ℕ → Type 0
 IsPathBelow b path = (path ≡ 0) ⊎ ((o : ℕ) × (p : ℕ) × (object_at b p ≡ Some o) × (path ≡ o + 1))
 
 -- every position that stands in a posting passes the test
-abbrev pub AllFiled : (ℕ → Type 0) → List (List (List ℕ)) → Type 0
+abbrev pub AllFiled : (ℕ → Type 0) → List Paths → Type 0
 AllFiled P trees = (mask path k : ℕ) → Contains (posting_at trees mask path) k → P k
 
 -- nothing is filed but under what was filed before, beside the position k; nothing is lost
-pub record AreFiled (dropped : List Bool) (k : ℕ) (old new : List (List (List ℕ))) : Type 0 where
+pub record AreFiled (dropped : List Bool) (k : ℕ) (old new : List Paths) : Type 0 where
   pub kept : (mask path x : ℕ) → Contains (posting_at old mask path) x → Contains (posting_at new mask path) x
   pub only : (mask path x : ℕ) → Contains (posting_at new mask path) x → Contains (posting_at old mask path) x ⊎ (x ≡ k)
   pub gone : (mask o : ℕ) → flag_of dropped o ≡ true → posting_at new mask (o + 1) ≡ posting_at old mask (o + 1)
 
 -- nothing is added, and no position of a live entry is lost
-pub record AreThinned (entries : List Entry) (old new : List (List (List ℕ))) : Type 0 where
+pub record AreThinned (entries : List Entry) (old new : List Paths) : Type 0 where
   pub within : (mask path x : ℕ) → Contains (posting_at new mask path) x → Contains (posting_at old mask path) x
   pub live : (mask path x : ℕ) → is_live_at entries x ≡ true → Contains (posting_at old mask path) x
       → Contains (posting_at new mask path) x
 
 -- what lies in memory fits together
-pub record IsIndexed (entries : List Entry) (place : Binding → Option ℕ) (trees : List (List (List ℕ)))
+pub record IsIndexed (entries : List Entry) (place : Binding → Option ℕ) (trees : List Paths)
     (dropped : List Bool) : Type 0 where
   -- each pair's binding has its position, and each position is that of its binding's pair
   pub placed : (k : ℕ) (pair : Pair) → pair_at entries k ≡ Some pair → place pair.binding ≡ Some k

@@ -2,7 +2,7 @@ ghost use Rattle.std.specs.Prelude.{◌≡◌, ◌≢◌, ℕ, ◌<◌, ◌*◌,
 ghost use Rattle.jm_model.specs.Bindings.{mask_of, restriction};
 ghost use Rattle.jm_index.specs.Index.{Pair, flag_of, IsKey, AreBelow, IsFitting, AreLive, HasDied, AreListed, without, asked_slots};
 
-use crate::entry::{Entry, add_live_slots, add_slots_at};
+use crate::entry::Entry;
 use crate::flags::Flags;
 use crate::places::Places;
 use crate::trees::Trees;
@@ -217,8 +217,8 @@ impl Index {
             return self.add_exact(domain, binding, &common, slots);
         }
         let path = self.trees.shortest(domain, &common);
-        let positions = self.trees.positions(domain, path);
-        add_slots_at(self.entries.as_slice(), domain, binding, positions, slots)
+        self.trees
+            .add_slots(self.entries.as_slice(), domain, binding, path, slots)
     }
 
     /// The same where `binding` binds all parameters of `domain`, to what `common` does. No slot is there before.
@@ -313,8 +313,8 @@ impl Index {
     {
         let entries = self.entries.as_slice();
         for tree in 0..self.trees.len() {
-            let positions = self.trees.positions_in(tree, object as usize + 1);
-            add_live_slots(entries, positions, slots)?;
+            self.trees
+                .add_live_slots(entries, tree, object as usize + 1, slots)?;
         }
         Ok(())
     }

@@ -17,6 +17,7 @@ mod laws;
 mod places;
 mod posting;
 mod rows;
+mod tree;
 mod trees;
 
 pub use index::Index;

@@ -1,150 +1,110 @@
 //! A posting: positions of entries that share an object.
-ghost use Rattle.std.specs.Prelude.{◌≡◌, ℕ, ◌≤◌, ◌-◌, [], ◌∷◌, ◌++◌, true, false, Some, Contains, OnOk, OnErr, IfOk, length, slice_get};
+ghost use Rattle.std.specs.Prelude.{◌≡◌, ℕ, ◌≤◌, ◌-◌, [], ◌∷◌, ◌++◌, true, false, Some, Contains, OnOk, OnErr, length, slice_get};
 ghost use Rattle.jm_index.specs.Layout.{Rises, IsFiled, is_live_at};
-ghost use Rattle.jm_index.specs.Postings.{positions_in, IsThinned};
+ghost use Rattle.jm_index.specs.Postings.{IsThinned};
 
 use crate::entry::{Entry, is_live_at};
 use crate::growth::grow;
 use jm_model::NoMemory;
-use std::alloc::Global;
 use std::marker::Model;
-use std::slice;
 
-/// Positions in rising order. Most objects have one, which takes no memory of its own.
+/// The positions of a path, in rising order, and the path whose they are.
 #[derive(Drop)]
 pub(crate) struct Posting {
-    kind: Kind,
-}
-
-#[derive(Drop)]
-pub(crate) enum Kind {
-    Nothing,
-    One(usize),
-    Many(Box<Run>),
-}
-
-/// A list of positions. `stale` counts those whose entries were removed since they were last thinned out.
-#[derive(Drop)]
-pub(crate) struct Run {
-    pub(crate) positions: Vec<usize>,
-    pub(crate) stale: usize,
+    owner: usize,
+    positions: Vec<usize>,
+    /// How many positions have lost their entries since these were last thinned out.
+    stale: u32,
+    /// Of a posting that was emptied: the one that was emptied before it.
+    next: u32,
 }
 
 impl Model for Posting {
-    ghost use Rattle.std.specs.Prelude.{List, ℕ};
+    ghost use Rattle.jm_index.specs.Postings.{Owned};
     ghost use Rattle.jm_index.specs.Layout.{Rises};
-    ghost use Rattle.jm_index.specs.Postings.{positions_in};
 
-    ghost Value = { List ℕ };
+    ghost Value = { Owned };
 
-    ghost view = { λ p. positions_in p.kind };
+    ghost view = { λ p. record { owner = p.owner; positions = p.positions.items } };
 
-    ghost invariant = { λ p. Rises 0 (positions_in p.kind) };
+    ghost invariant = { λ p. Rises 0 p.positions.items };
 }
 
 impl Posting {
-    pub(crate) fn new() -> Posting
-        ensures { result ≡ [] }
+    /// The posting of a path.
+    pub(crate) fn new(owner: usize, positions: Vec<usize>) -> Posting
+        requires { Rises 0 positions.items }
+        ensures { result ≡ record { owner = owner; positions = positions.items } }
     {
         Posting {
-            kind: Kind::Nothing,
+            owner,
+            positions,
+            stale: 0,
+            next: 0,
         }
+    }
+
+    pub(crate) fn owner(&self) -> usize
+        ensures { result ≡ self.now.owner }
+    {
+        self.owner
+    }
+
+    /// Of a posting that was emptied: the one that was emptied before it.
+    pub(crate) fn next(&self) -> u32 {
+        self.next
     }
 
     pub(crate) fn positions(&self) -> &[usize]
-        ensures value { result.now ≡ self.now }
-        ensures rising { Rises 0 self.now }
+        ensures value { result.now ≡ self.now.positions }
+        ensures rising { Rises 0 self.now.positions }
     {
-        as_slice(&self.kind)
+        self.positions.as_slice()
     }
 
     /// Files a position that is above all others, or is the last.
-    pub(crate) fn file(&mut self, alloc: Global, position: usize) -> Result<(), NoMemory>
-        requires { (x : ℕ) → Contains self.old x → x ≤ position }
-        ensures filed { IsFiled position self.old self.new }
-        ensures there { OnOk result (Contains self.new position) }
+    pub(crate) fn file(&mut self, position: usize) -> Result<(), NoMemory>
+        requires { (x : ℕ) → Contains self.old.positions x → x ≤ position }
+        ensures filed { IsFiled position self.old.positions self.new.positions }
+        ensures there { OnOk result (Contains self.new.positions position) }
+        ensures owner { self.new.owner ≡ self.old.owner }
     {
-        if is_last(as_slice(&self.kind), position) {
+        if is_last(self.positions.as_slice(), position) {
             return Ok(());
         }
-        push(&mut self.kind, alloc, position)?;
+        grow(&mut self.positions, 1)?;
+        self.positions.push_reserved(position);
         Ok(())
     }
 
-    /// Thins out positions, one of whose entries isn't live any more.
+    /// Counts a position whose entry isn't live any more. Once these are more than half, they go.
     pub(crate) fn thin(&mut self, entries: &[Entry])
-        ensures within { (x : ℕ) → Contains self.new x → Contains self.old x }
-        ensures live { (x : ℕ) → is_live_at entries.now x ≡ true → Contains self.old x → Contains self.new x }
+        ensures within { (x : ℕ) → Contains self.new.positions x → Contains self.old.positions x }
+        ensures live { (x : ℕ) → is_live_at entries.now x ≡ true → Contains self.old.positions x → Contains self.new.positions x }
+        ensures owner { self.new.owner ≡ self.old.owner }
     {
-        thin(&mut self.kind, entries);
-    }
-}
-
-fn as_slice(kind: &Kind) -> &[usize]
-    ensures { result.now ≡ positions_in kind.now }
-{
-    match kind {
-        Kind::Nothing => &[],
-        Kind::One(position) => slice::from_ref(position),
-        Kind::Many(run) => run.positions.as_slice(),
-    }
-}
-
-/// Adds a position at the end.
-fn push(kind: &mut Kind, alloc: Global, position: usize) -> Result<(), NoMemory>
-    ensures ok { OnOk result (positions_in kind.new ≡ positions_in kind.old ++ position ∷ []) }
-    ensures err { OnErr result (positions_in kind.new ≡ positions_in kind.old) }
-{
-    match kind {
-        Kind::Nothing => *kind = Kind::One(position),
-        Kind::One(first) => *kind = Kind::Many(run_of(alloc, *first, position)?),
-        Kind::Many(run) => {
-            grow(&mut run.positions, 1)?;
-            run.positions.push_reserved(position);
+        self.stale = self.stale.saturating_add(1);
+        if self.stale as usize > self.positions.len() / 2 {
+            retain_live(&mut self.positions, entries);
+            self.stale = 0;
         }
     }
-    Ok(())
-}
 
-/// A list of two positions.
-fn run_of(alloc: Global, first: usize, second: usize) -> Result<Box<Run>, NoMemory>
-    ensures { IfOk result (λ run. run.value.positions.items ≡ first ∷ second ∷ []) }
-{
-    let mut positions = Vec::new(alloc);
-    positions.push(first)?;
-    positions.push(second)?;
-    let run = Run {
-        positions,
-        stale: 0,
-    };
-    Ok(Box::new(alloc, run)?)
-}
-
-/// Drops a position whose entry isn't live, where it is the only one; in a list such positions are counted.
-fn thin(kind: &mut Kind, entries: &[Entry])
-    ensures { IsThinned (is_live_at entries.now) (positions_in kind.old) (positions_in kind.new) }
-{
-    match kind {
-        Kind::Nothing => {}
-        Kind::One(position) => {
-            if !is_live_at(entries, *position) {
-                *kind = Kind::Nothing;
-            }
-        }
-        Kind::Many(run) => thin_run(run, entries),
+    /// Lets go of the positions.
+    pub(crate) fn empty(&mut self, next: u32)
+        ensures { self.new.positions ≡ [] }
+    {
+        self.positions = Vec::new(*self.positions.allocator());
+        self.stale = 0;
+        self.next = next;
     }
 }
 
-/// Counts a position whose entry isn't live any more. Once these are more than half, they go.
-fn thin_run(run: &mut Run, entries: &[Entry])
-    ensures { IsThinned (is_live_at entries.now) run.old.positions.items run.new.positions.items }
+/// Keeps the positions whose entries are live.
+fn retain_live(positions: &mut Vec<usize>, entries: &[Entry])
+    ensures { IsThinned (is_live_at entries.now) positions.old.items positions.new.items }
 {
-    run.stale = run.stale.saturating_add(1);
-    if run.stale > run.positions.len() / 2 {
-        run.positions
-            .retain(|position| is_live_at(entries, *position));
-        run.stale = 0;
-    }
+    positions.retain(|position| is_live_at(entries, *position));
 }
 
 /// Whether a number is the last of a list.

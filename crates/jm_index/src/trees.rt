@@ -1,103 +1,18 @@
-//! The trees of an index: postings, by the set of bound parameters and by path.
-ghost use Rattle.std.specs.Prelude.{◌≡◌, ℕ, ◌≤◌, ◌<◌, ◌+◌, ◌^◌, ◌==◌, [], Contains, OnOk, length, true, false, ◌⊎◌, if◌then◌else◌};
+//! The trees of an index, by the set of bound parameters.
+ghost use Rattle.std.specs.Prelude.{◌≡◌, ℕ, ◌≤◌, ◌<◌, ◌+◌, ◌++◌, ◌^◌, ◌==◌, [], Some, Contains, OnOk, length, false, ◌⊎◌, if◌then◌else◌};
 ghost use Rattle.jm_model.specs.Bindings.{mask_of};
-ghost use Rattle.jm_index.specs.Index.{flag_of};
-ghost use Rattle.jm_index.specs.Layout.{Rises, IsFiled, is_live_at, posting_of, posting_at, IsPath, IsPathBelow, AllFiled, AreFiled, AreThinned};
+ghost use Rattle.std.specs.List.{filter_map};
+ghost use Rattle.jm_index.specs.Index.{Pair, flag_of};
+ghost use Rattle.jm_index.specs.Layout.{Rises, IsFiled, pair_at, slot_at, posting_at, IsPath, IsPathBelow, AllFiled, AreFiled, AreThinned};
 
-use crate::entry::Entry;
+use crate::entry::{Entry, add_live_slots, add_slots_at};
 use crate::flags::Flags;
-use crate::growth::grow;
 use crate::key::bound_from;
-use crate::posting::Posting;
+use crate::tree::Tree;
 use jm_model::{Binding, NoMemory};
 use std::alloc::Global;
 use std::marker::Model;
-
-/// Postings by path. A path beyond the last has an empty one.
-#[derive(Drop)]
-pub(crate) struct Tree {
-    postings: Vec<Posting>,
-}
-
-impl Model for Tree {
-    ghost use Rattle.std.specs.Prelude.{List, ℕ};
-
-    ghost Value = { List (List ℕ) };
-
-    ghost view = { λ t. t.postings.items };
-}
-
-impl Tree {
-    fn new(alloc: Global) -> Tree
-        ensures { result ≡ [] }
-    {
-        Tree {
-            postings: Vec::new(alloc),
-        }
-    }
-
-    /// Makes a path, where there is none.
-    fn cover(&mut self, path: usize) -> Result<(), NoMemory>
-        requires { path ≤ 2 ^ 32 }
-        ensures same { (q : ℕ) → posting_of self.new q ≡ posting_of self.old q }
-        ensures there { OnOk result (path < length self.new) }
-    {
-        let len = self.postings.len();
-        if len <= path {
-            grow(&mut self.postings, path - len + 1)?;
-            for _ in len..=path {
-                self.postings.push_reserved(Posting::new());
-            }
-        }
-        Ok(())
-    }
-
-    /// Files a position under a path.
-    fn file(&mut self, path: usize, position: usize) -> Result<(), NoMemory>
-        requires last { (x : ℕ) → Contains (posting_of self.old path) x → x ≤ position }
-        requires short { path ≤ 2 ^ 32 }
-        ensures filed { IsFiled position (posting_of self.old path) (posting_of self.new path) }
-        ensures there { OnOk result (Contains (posting_of self.new path) position) }
-        ensures others { (q : ℕ) → (q ≡ path → ⊥) → posting_of self.new q ≡ posting_of self.old q }
-    {
-        self.cover(path)?;
-        let alloc = *self.postings.allocator();
-        let posting = &mut self.postings[path];
-        posting.file(alloc, position)
-    }
-
-    /// The positions under a path.
-    fn positions(&self, path: usize) -> &[usize]
-        ensures value { result.now ≡ posting_of self.now path }
-        ensures rising { Rises 0 result.now }
-    {
-        match self.postings.get(path) {
-            Some(posting) => posting.positions(),
-            None => &[],
-        }
-    }
-
-    /// Thins out a path from which a position's entry was removed.
-    fn thin(&mut self, path: usize, entries: &[Entry])
-        ensures within { (q x : ℕ) → Contains (posting_of self.new q) x → Contains (posting_of self.old q) x }
-        ensures live { (q x : ℕ) → is_live_at entries.now x ≡ true → Contains (posting_of self.old q) x
-            → Contains (posting_of self.new q) x }
-    {
-        if path < self.postings.len() {
-            let posting = &mut self.postings[path];
-            posting.thin(entries);
-        }
-    }
-
-    /// Drops what stands under a path.
-    fn clear(&mut self, path: usize)
-        ensures { (q : ℕ) → posting_of self.new q ≡ (if q == path then [] else posting_of self.old q) }
-    {
-        if path < self.postings.len() {
-            self.postings[path] = Posting::new();
-        }
-    }
-}
+use std::slice;
 
 /// Trees by the set of bound parameters. A set beyond the last has an empty one.
 #[derive(Drop)]
@@ -106,9 +21,10 @@ pub(crate) struct Trees {
 }
 
 impl Model for Trees {
-    ghost use Rattle.std.specs.Prelude.{List, ℕ};
+    ghost use Rattle.std.specs.Prelude.{List};
+    ghost use Rattle.jm_index.specs.Postings.{Paths};
 
-    ghost Value = { List (List (List ℕ)) };
+    ghost Value = { List Paths };
 
     ghost view = { λ t. t.trees.items };
 }
@@ -223,14 +139,6 @@ impl Trees {
         }
     }
 
-    /// The positions under a path of a tree.
-    pub(crate) fn positions(&self, mask: u8, path: usize) -> &[usize]
-        ensures value { result.now ≡ posting_at self.now mask path }
-        ensures rising { Rises 0 result.now }
-    {
-        self.positions_in(mask as usize, path)
-    }
-
     /// How many sets of parameters may have a tree.
     pub(crate) fn len(&self) -> usize
         ensures { result ≡ length self.now }
@@ -238,14 +146,48 @@ impl Trees {
         self.trees.len()
     }
 
-    /// The positions under a path of the tree of a set's number.
-    pub(crate) fn positions_in(&self, tree: usize, path: usize) -> &[usize]
-        ensures value { result.now ≡ posting_at self.now tree path }
-        ensures rising { Rises 0 result.now }
+    /// Adds the slots of the entries that are asked for among those to which a path leads.
+    #[inline(always)]
+    pub(crate) fn add_slots(
+        &self,
+        entries: &[Entry],
+        domain: u8,
+        binding: &Binding,
+        path: usize,
+        slots: &mut Vec<usize>,
+    ) -> Result<(), NoMemory>
+        ensures slots { OnOk result (slots.new.items
+            ≡ slots.old.items ++ filter_map (slot_at entries.now domain binding.now) (posting_at self.now domain path)) }
+        ensures rising { Rises 0 (posting_at self.now domain path) }
     {
-        match self.trees.get(tree) {
-            Some(tree) => tree.positions(path),
-            None => &[],
+        let Some(tree) = self.trees.get(domain as usize) else {
+            return Ok(());
+        };
+        match tree.one(path) {
+            Some(position) => add_slots_at(entries, domain, binding, slice::from_ref(&position), slots),
+            None => add_slots_at(entries, domain, binding, tree.many(path), slots),
+        }
+    }
+
+    /// Adds the slots of the live entries to which a path leads, in the tree of a set's number. It takes no memory: where
+    /// there is no room for one, it ends.
+    pub(crate) fn add_live_slots(
+        &self,
+        entries: &[Entry],
+        tree: usize,
+        path: usize,
+        slots: &mut Vec<usize>,
+    ) -> Result<(), NoMemory>
+        ensures kept { OnOk result ((k : ℕ) → Contains slots.old.items k → Contains slots.new.items k) }
+        ensures all { OnOk result ((k : ℕ) (pair : Pair) → Contains (posting_at self.now tree path) k
+            → pair_at entries.now k ≡ Some pair → Contains slots.new.items pair.slot) }
+    {
+        let Some(tree) = self.trees.get(tree) else {
+            return Ok(());
+        };
+        match tree.one(path) {
+            Some(position) => add_live_slots(entries, slice::from_ref(&position), slots),
+            None => add_live_slots(entries, tree.many(path), slots),
         }
     }
 
@@ -262,14 +204,13 @@ impl Trees {
         best
     }
 
-    /// The one of two paths that has fewer positions.
+    /// The one of two paths that leads to fewer positions.
     fn shorter(&self, mask: u8, one: usize, other: usize) -> usize
         ensures { (result ≡ one) ⊎ (result ≡ other) }
     {
-        if self.positions(mask, other).len() < self.positions(mask, one).len() {
-            other
-        } else {
-            one
+        match self.trees.get(mask as usize) {
+            Some(tree) if tree.count(other) < tree.count(one) => other,
+            _ => one,
         }
     }
 }

@@ -15,7 +15,7 @@ loop-tree-preserved c =
         | inl below ↦ added.kept pair.slot (inv.all m k pair below there at)
         | inr past ↦
             let same : m ≡ c.loop-tree.tree = omega (arith, past, low) in
-            added.all k pair (rw c.positions_in-positions.ensures.value (subst (λ (n : ℕ). Contains (posting_at c.self.inside.trees n (c.args.object + 1)) k) same there)) at
+            added.all k pair (subst (λ (n : ℕ). Contains (posting_at c.self.inside.trees n (c.args.object + 1)) k) same there) at
       ];
     }
 

@@ -11,12 +11,12 @@ use Rattle.jm_index.proofs.index.Index.compatible_into.Goals as goal
 pub returns-clause-slots : goal.returns-clause-slots
 returns-clause-slots c =
     let fits : IsFitting (record { list = live_pairs c.self.inside.entries.items; dropped = c.self.inside.dropped }) c.args.objects.now = rw c.self.view_is c.requires.fits in
-    let rising : Rises 0 (posting_at c.self.inside.trees c.args.domain c.shortest-path.result) = rw (← c.positions-positions.ensures.value) c.positions-positions.ensures.rising in
-    let is : filter_map (slot_at c.as_slice.result.now c.args.domain c.args.binding.now) c.positions-positions.result.now ≡ asked_slots c.args.domain c.args.binding.now c.args.self.now.list =
-    rw (c.as_slice.ensures.value, c.positions-positions.ensures.value, ← c.self.view_is)
+    let rising : Rises 0 (posting_at c.self.inside.trees c.args.domain c.shortest-path.result) = c.add_slots.ensures.rising in
+    let is : filter_map (slot_at c.as_slice.result.now c.args.domain c.args.binding.now) (posting_at c.self.inside.trees c.args.domain c.shortest-path.result) ≡ asked_slots c.args.domain c.args.binding.now c.args.self.now.list =
+    rw (c.as_slice.ensures.value, ← c.self.view_is)
     (path_slots _ _ _ (record { list = live_pairs c.self.inside.entries.items; dropped = c.self.inside.dropped }) _ _ _ _ _ c.self.invariant fits c.requires.live c.restrict-common.ensures c.shortest-path.ensures rising)
     in
-    let added = rw c.clear.ensures.items at c.add_slots_at.ensures in
+    let added = rw c.clear.ensures.items at c.add_slots.ensures.slots in
     rw (← is) added
 
 pub returns-clause-distinct : goal.returns-clause-distinct
