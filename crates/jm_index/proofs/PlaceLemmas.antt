@@ -13,7 +13,7 @@ use Rattle.jm_index.specs.declared.key.Couple.{Couple}
 use Rattle.jm_index.specs.declared.key.Key.{Key}
 use Rattle.jm_index.specs.declared.key.Key.TheVariants.{Empty, One, Two, More}
 use Rattle.jm_index.specs.declared.places.Places.{Places}
-use Rattle.jm_index.specs.Keys.{key_by, key_of, couple_eq, mark_at, position_in}
+use Rattle.jm_index.specs.Keys.{key_by, key_of, couple_eq, tag_at, position_in}
 use Rattle.jm_index.specs.Places.{at_key, place_of, IsPut, IsSameAt, IsSame, IsUpdated}
 
 abbrev Bound : Type 0
@@ -176,8 +176,8 @@ no_place : (s : Places) → ((key : Key) → at_key s key ≡ None) → ((q : Bo
 unfolding place_of
 no_place s none among b = rw (none (key_of b), among b) (elim (length b == 8) as (λ v. ◌≡◌ {A = Option ℕ} (cond v None None) None) [ true ↦ refl | false ↦ refl ])
 
-no_mark : (m o : ℕ) → mark_at [] m o ≡ 0
-no_mark m o = ap (λ (row : List ℕ). get_or row o 0) (get_or_past {X = List ℕ} [] m [] (omega arith)) ∙ get_or_past {X = ℕ} [] o 0 (omega arith)
+no_tag : (m o : ℕ) → tag_at [] m o ≡ 0
+no_tag m o = ap (λ (row : List ℕ). get_or row o 0) (get_or_past {X = List ℕ} [] m [] (omega arith)) ∙ get_or_past {X = ℕ} [] o 0 (omega arith)
 
 -- where nothing was put
 pub bare : (s : Places) → s.empty ≡ None → s.rows ≡ [] → s.couples.entries ≡ [] → s.others.entries ≡ [] → (b : Bound) → place_of s b ≡ None
@@ -185,7 +185,7 @@ bare s empty rows couples others = no_place s none (λ q. ap (λ (es : List (Bou
   where
     none : (key : Key) → at_key s key ≡ None
     none Empty = empty
-    none (One m o) = ap (λ (rs : List (List ℕ)). position_in (mark_at rs m o)) rows ∙ ap position_in (no_mark m o)
+    none (One m o) = ap (λ (rs : List (List ℕ)). position_in (tag_at rs m o)) rows ∙ ap position_in (no_tag m o)
     none (Two c) = ap (λ (es : List (Couple × ℕ)). lookup (couple_eq c) es) couples
     none More = refl
 

@@ -22,8 +22,8 @@ abbrev pub couple_eq : Couple → Couple → Bool
 couple_eq a b = nat_eq a.mask b.mask && (nat_eq a.first b.first && nat_eq a.second b.second)
 
 -- what the rows have of an object at a set of one parameter
-abbrev pub mark_at : List (List ℕ) → ℕ → ℕ → ℕ
-mark_at rows mask o = slice_index (slice_index_or rows mask []) o
+abbrev pub tag_at : List (List ℕ) → ℕ → ℕ → ℕ
+tag_at rows mask o = slice_index (slice_index_or rows mask []) o
 
 -- the position that this stands for: one less, and none for 0
 abbrev pub position_in : ℕ → Option ℕ

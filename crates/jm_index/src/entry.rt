@@ -9,6 +9,10 @@ use jm_model::{Binding, NoMemory};
 use std::alloc::Global;
 use std::marker::Model;
 
+/// A list that was lent has no room for one more.
+#[derive(Clone, Copy)]
+pub struct NoRoom;
+
 /// A binding and its slot. One that is no longer live counts for nothing.
 #[derive(Drop)]
 pub(crate) struct Entry {
@@ -116,12 +120,12 @@ pub(crate) fn add_slots_at(
     Ok(())
 }
 
-/// Adds the slots of the live entries at these positions. It takes no memory: where there is no room for one, it ends.
+/// Adds the slots of the live entries at these positions, and takes no memory. Where there is no room for one, it ends.
 pub(crate) fn add_live_slots(
     entries: &[Entry],
     positions: &[usize],
     slots: &mut Vec<usize>,
-) -> Result<(), NoMemory>
+) -> Result<(), NoRoom>
     ensures kept { OnOk result ((k : ℕ) → Contains slots.old.items k → Contains slots.new.items k) }
     ensures all { OnOk result ((k : ℕ) (pair : Pair) → Contains positions.now k → pair_at entries.now k ≡ Some pair
         → Contains slots.new.items pair.slot) }
@@ -133,7 +137,7 @@ pub(crate) fn add_live_slots(
 }
 
 /// Adds the slot of the entry at a position, if it is live.
-fn add_live_slot(entries: &[Entry], position: usize, slots: &mut Vec<usize>) -> Result<(), NoMemory>
+fn add_live_slot(entries: &[Entry], position: usize, slots: &mut Vec<usize>) -> Result<(), NoRoom>
     ensures kept { OnOk result ((k : ℕ) → Contains slots.old.items k → Contains slots.new.items k) }
     ensures here { OnOk result ((pair : Pair) → pair_at entries.now position ≡ Some pair → Contains slots.new.items pair.slot) }
 {
@@ -141,7 +145,7 @@ fn add_live_slot(entries: &[Entry], position: usize, slots: &mut Vec<usize>) -> 
         && entry.is_live()
     {
         if slots.len() >= slots.capacity() {
-            return Err(NoMemory);
+            return Err(NoRoom);
         }
         slots.push_reserved(entry.number());
     }

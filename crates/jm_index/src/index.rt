@@ -2,7 +2,7 @@ ghost use Rattle.std.specs.Prelude.{◌≡◌, ◌≢◌, ℕ, ◌<◌, ◌*◌,
 ghost use Rattle.jm_model.specs.Bindings.{mask_of, restriction};
 ghost use Rattle.jm_index.specs.Index.{Pair, flag_of, IsKey, AreBelow, IsFitting, AreLive, HasDied, AreListed, without, asked_slots};
 
-use crate::entry::Entry;
+use crate::entry::{Entry, NoRoom};
 use crate::flags::Flags;
 use crate::places::Places;
 use crate::trees::Trees;
@@ -245,12 +245,8 @@ impl Index {
     }
 
     /// Adds the slots of the pairs that bind an object which died since the dead were dropped last, once for each such
-    /// object. It takes no memory: where there is no room for a slot, it ends.
-    pub fn add_slots_of_dead(
-        &self,
-        objects: &Objects,
-        slots: &mut Vec<usize>,
-    ) -> Result<(), NoMemory>
+    /// object, and takes no memory. Where there is no room for a slot, it ends.
+    pub fn add_slots_of_dead(&self, objects: &Objects, slots: &mut Vec<usize>) -> Result<(), NoRoom>
         ensures { OnOk result (AreListed self.now (HasDied self.now objects.now) slots.new.items) }
     {
         for block in 0..objects.len().div_ceil(4096) {
@@ -267,7 +263,7 @@ impl Index {
         objects: &Objects,
         block: u32,
         slots: &mut Vec<usize>,
-    ) -> Result<(), NoMemory>
+    ) -> Result<(), NoRoom>
         requires { 4096 * block < length objects.now }
         ensures kept { OnOk result ((k : ℕ) → Contains slots.old.items k → Contains slots.new.items k) }
         ensures all { OnOk result
@@ -289,7 +285,7 @@ impl Index {
         objects: &Objects,
         index: u32,
         slots: &mut Vec<usize>,
-    ) -> Result<(), NoMemory>
+    ) -> Result<(), NoRoom>
         requires { 64 * index < length objects.now }
         ensures kept { OnOk result ((k : ℕ) → Contains slots.old.items k → Contains slots.new.items k) }
         ensures all { OnOk result
@@ -306,7 +302,7 @@ impl Index {
     }
 
     /// Adds the slots of the pairs that bind an object, if it wasn't dropped.
-    fn add_slots_of(&self, object: u32, slots: &mut Vec<usize>) -> Result<(), NoMemory>
+    fn add_slots_of(&self, object: u32, slots: &mut Vec<usize>) -> Result<(), NoRoom>
         ensures kept { OnOk result ((k : ℕ) → Contains slots.old.items k → Contains slots.new.items k) }
         ensures all { OnOk result
             (AreListed self.now (λ o. (o ≡ object) × (flag_of self.now.dropped o ≡ false)) slots.new.items) }

@@ -20,5 +20,6 @@ mod rows;
 mod tree;
 mod trees;
 
+pub use entry::NoRoom;
 pub use index::Index;
 pub use laws::{fits_after_death, live_objects_are_keys};

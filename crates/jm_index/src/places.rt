@@ -151,9 +151,9 @@ impl Places {
     }
 }
 
-/// The position that a mark stands for.
-fn position_of(mark: u32) -> Option<u32>
-    ensures { result ≡ position_in mark }
+/// The position that a tag stands for.
+fn position_of(tag: u32) -> Option<u32>
+    ensures { result ≡ position_in tag }
 {
-    mark.checked_sub(1)
+    tag.checked_sub(1)
 }

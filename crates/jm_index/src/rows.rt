@@ -1,16 +1,16 @@
-//! Rows of marks, by a set of one parameter and by object: 0 where there is none.
+//! Rows of tags, by a set of one parameter and by object. A tag is one more than a position, or 0 where there is none.
 ghost use Rattle.std.specs.Prelude.{◌≡◌, ℕ, ◌<◌, [], length, OnOk, OnErr, slice_index, slice_index_or, slice_set};
-ghost use Rattle.jm_index.specs.Keys.{mark_at};
+ghost use Rattle.jm_index.specs.Keys.{tag_at};
 
 use crate::growth::grow;
 use jm_model::NoMemory;
 use std::alloc::Global;
 use std::marker::Model;
 
-/// The marks of a set of one parameter. An object beyond the last has none.
+/// The tags of a set of one parameter. An object beyond the last has none.
 #[derive(Drop)]
 pub(crate) struct Row {
-    marks: Vec<u32>,
+    tags: Vec<u32>,
 }
 
 impl Model for Row {
@@ -18,7 +18,7 @@ impl Model for Row {
 
     ghost Value = { List ℕ };
 
-    ghost view = { λ r. r.marks.items };
+    ghost view = { λ r. r.tags.items };
 }
 
 impl Row {
@@ -26,15 +26,15 @@ impl Row {
         ensures { result ≡ [] }
     {
         Row {
-            marks: Vec::new(alloc),
+            tags: Vec::new(alloc),
         }
     }
 
     fn get(&self, object: u32) -> u32
         ensures { result ≡ slice_index self.now object }
     {
-        match self.marks.get(object as usize) {
-            Some(mark) => *mark,
+        match self.tags.get(object as usize) {
+            Some(tag) => *tag,
             None => 0,
         }
     }
@@ -44,23 +44,23 @@ impl Row {
         ensures same { (o : ℕ) → slice_index self.new o ≡ slice_index self.old o }
         ensures there { OnOk result (object < length self.new) }
     {
-        let len = self.marks.len();
+        let len = self.tags.len();
         let object = object as usize;
         if len <= object {
-            grow(&mut self.marks, object - len + 1)?;
+            grow(&mut self.tags, object - len + 1)?;
             for _ in len..=object {
-                self.marks.push_reserved(0);
+                self.tags.push_reserved(0);
             }
         }
         Ok(())
     }
 
-    /// Sets the mark of an object, where it has a place.
-    fn set(&mut self, object: u32, mark: u32)
-        ensures { self.new ≡ slice_set self.old object mark }
+    /// Sets the tag of an object, where it has a place.
+    fn set(&mut self, object: u32, tag: u32)
+        ensures { self.new ≡ slice_set self.old object tag }
     {
-        if (object as usize) < self.marks.len() {
-            self.marks[object as usize] = mark;
+        if (object as usize) < self.tags.len() {
+            self.tags[object as usize] = tag;
         }
     }
 }
@@ -88,9 +88,9 @@ impl Rows {
         }
     }
 
-    /// The mark of an object.
+    /// The tag of an object.
     pub(crate) fn get(&self, mask: u8, object: u32) -> u32
-        ensures { result ≡ mark_at self.now mask object }
+        ensures { result ≡ tag_at self.now mask object }
     {
         match self.rows.get(mask as usize) {
             Some(row) => row.get(object),
@@ -100,7 +100,7 @@ impl Rows {
 
     /// Makes a row, where there is none.
     fn cover(&mut self, mask: u8) -> Result<(), NoMemory>
-        ensures same { (m o : ℕ) → mark_at self.new m o ≡ mark_at self.old m o }
+        ensures same { (m o : ℕ) → tag_at self.new m o ≡ tag_at self.old m o }
         ensures there { OnOk result (mask < length self.new) }
     {
         let alloc = *self.rows.allocator();
@@ -112,7 +112,7 @@ impl Rows {
 
     /// Makes a place for an object in a row, where there is none.
     fn cover_object(&mut self, mask: u8, object: u32) -> Result<(), NoMemory>
-        ensures same { (m o : ℕ) → mark_at self.new m o ≡ mark_at self.old m o }
+        ensures same { (m o : ℕ) → tag_at self.new m o ≡ tag_at self.old m o }
         ensures row { OnOk result (mask < length self.new) }
         ensures there { OnOk result (object < length (slice_index_or self.new mask [])) }
     {
@@ -121,22 +121,22 @@ impl Rows {
         row.cover(object)
     }
 
-    /// Sets the mark of an object.
-    pub(crate) fn set(&mut self, mask: u8, object: u32, mark: u32) -> Result<(), NoMemory>
-        ensures here { OnOk result (mark_at self.new mask object ≡ mark) }
-        ensures elsewhere { (m o : ℕ) → (m ≡ mask → o ≡ object → ⊥) → mark_at self.new m o ≡ mark_at self.old m o }
-        ensures err { OnErr result ((m o : ℕ) → mark_at self.new m o ≡ mark_at self.old m o) }
+    /// Sets the tag of an object.
+    pub(crate) fn set(&mut self, mask: u8, object: u32, tag: u32) -> Result<(), NoMemory>
+        ensures here { OnOk result (tag_at self.new mask object ≡ tag) }
+        ensures elsewhere { (m o : ℕ) → (m ≡ mask → o ≡ object → ⊥) → tag_at self.new m o ≡ tag_at self.old m o }
+        ensures err { OnErr result ((m o : ℕ) → tag_at self.new m o ≡ tag_at self.old m o) }
     {
         self.cover_object(mask, object)?;
         let row = &mut self.rows[mask as usize];
-        row.set(object, mark);
+        row.set(object, tag);
         Ok(())
     }
 
-    /// Takes the mark of an object out.
+    /// Takes the tag of an object out.
     pub(crate) fn clear(&mut self, mask: u8, object: u32)
-        ensures here { mark_at self.new mask object ≡ 0 }
-        ensures elsewhere { (m o : ℕ) → (m ≡ mask → o ≡ object → ⊥) → mark_at self.new m o ≡ mark_at self.old m o }
+        ensures here { tag_at self.new mask object ≡ 0 }
+        ensures elsewhere { (m o : ℕ) → (m ≡ mask → o ≡ object → ⊥) → tag_at self.new m o ≡ tag_at self.old m o }
     {
         if (mask as usize) < self.rows.len() {
             let row = &mut self.rows[mask as usize];

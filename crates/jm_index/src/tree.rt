@@ -70,9 +70,18 @@ impl Tree {
 
     /// How many positions a path leads to.
     pub(crate) fn count(&self, path: usize) -> usize {
-        match self.one(path) {
-            Some(_) => 1,
-            None => self.many(path).len(),
+        match self.leaves.get(path) {
+            Some(Leaf::One(_)) => 1,
+            Some(Leaf::Many(number)) => self.length(*number),
+            _ => 0,
+        }
+    }
+
+    /// How many positions a posting has.
+    fn length(&self, number: u32) -> usize {
+        match self.postings.get(number as usize) {
+            Some(posting) => posting.positions().len(),
+            None => 0,
         }
     }
 
@@ -157,12 +166,7 @@ impl Tree {
     }
 
     /// Files a position under a path that leads to one alone.
-    fn file_second(
-        &mut self,
-        path: usize,
-        first: usize,
-        position: usize,
-    ) -> Result<(), NoMemory>
+    fn file_second(&mut self, path: usize, first: usize, position: usize) -> Result<(), NoMemory>
         requires within { path < length self.old.leaves }
         requires one { posting_of self.old path ≡ first ∷ [] }
         requires last { first ≤ position }
@@ -178,12 +182,7 @@ impl Tree {
     }
 
     /// Files a position in the posting that a path owns.
-    fn file_further(
-        &mut self,
-        path: usize,
-        number: u32,
-        position: usize,
-    ) -> Result<(), NoMemory>
+    fn file_further(&mut self, path: usize, number: u32, position: usize) -> Result<(), NoMemory>
         requires owned { IsOwned self.old path number }
         requires last { (x : ℕ) → Contains (posting_of self.old path) x → x ≤ position }
         ensures filed { IsFiled position (posting_of self.old path) (posting_of self.new path) }

@@ -5,7 +5,7 @@ ghost use Rattle.std.specs.List.{filter_map};
 ghost use Rattle.jm_index.specs.Index.{Pair, flag_of};
 ghost use Rattle.jm_index.specs.Layout.{Rises, IsFiled, pair_at, slot_at, posting_at, IsPath, IsPathBelow, AllFiled, AreFiled, AreThinned};
 
-use crate::entry::{Entry, add_live_slots, add_slots_at};
+use crate::entry::{Entry, NoRoom, add_live_slots, add_slots_at};
 use crate::flags::Flags;
 use crate::key::bound_from;
 use crate::tree::Tree;
@@ -164,20 +164,26 @@ impl Trees {
             return Ok(());
         };
         match tree.one(path) {
-            Some(position) => add_slots_at(entries, domain, binding, slice::from_ref(&position), slots),
+            Some(position) => add_slots_at(
+                entries,
+                domain,
+                binding,
+                slice::from_ref(&position),
+                slots,
+            ),
             None => add_slots_at(entries, domain, binding, tree.many(path), slots),
         }
     }
 
-    /// Adds the slots of the live entries to which a path leads, in the tree of a set's number. It takes no memory: where
-    /// there is no room for one, it ends.
+    /// Adds the slots of the live entries to which a path leads, in the tree of a set's number, and takes no
+    /// memory. Where there is no room for one, it ends.
     pub(crate) fn add_live_slots(
         &self,
         entries: &[Entry],
         tree: usize,
         path: usize,
         slots: &mut Vec<usize>,
-    ) -> Result<(), NoMemory>
+    ) -> Result<(), NoRoom>
         ensures kept { OnOk result ((k : ℕ) → Contains slots.old.items k → Contains slots.new.items k) }
         ensures all { OnOk result ((k : ℕ) (pair : Pair) → Contains (posting_at self.now tree path) k
             → pair_at entries.now k ≡ Some pair → Contains slots.new.items pair.slot) }

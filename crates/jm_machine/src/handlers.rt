@@ -32,15 +32,15 @@ pub(crate) fn handled(
     ensures known { IfOk result (AreCategories categories.now) }
     ensures checked { Checks result (handlers_fault bytes.now tokens.now categories.now handlers.now) }
 {
-    few(handlers)?;
+    check_count(handlers)?;
     let names = distinct(alloc, bytes, handlers)?;
-    known(bytes, categories, handlers)?;
+    check_categories(bytes, categories, handlers)?;
     without_reset(bytes, tokens, handlers)?;
     Ok(names)
 }
 
 /// At most 16 handlers.
-fn few(handlers: &[HandlerText]) -> Result<(), SpecError>
+fn check_count(handlers: &[HandlerText]) -> Result<(), SpecError>
     ensures checked { Checks result (count_fault handlers.now) }
     ensures few { IfOk result (λ _. length handlers.now ≤ 16) }
 {
@@ -70,7 +70,11 @@ fn distinct(alloc: Global, bytes: &[u8], handlers: &[HandlerText]) -> Result<Nam
 }
 
 /// The first handler for no category of the property.
-fn known(bytes: &[u8], categories: &Names, handlers: &[HandlerText]) -> Result<(), SpecError>
+fn check_categories(
+    bytes: &[u8],
+    categories: &Names,
+    handlers: &[HandlerText],
+) -> Result<(), SpecError>
     ensures { Checks result (category_fault bytes.now categories.now handlers.now) }
 {
     for handler in handlers {

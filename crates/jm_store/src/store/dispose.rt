@@ -8,7 +8,8 @@ ghost use Rattle.jm_store.specs.Moves.{IsSwept};
 ghost use Rattle.jm_store.specs.Contents.{stored_of, IsFit, IsStoreAfter, IsCutDown};
 
 use super::Store;
-use jm_model::{Monitor, NoMemory};
+use jm_index::NoRoom;
+use jm_model::Monitor;
 use jm_objects::Objects;
 
 impl<M: Monitor> Store<M> {
@@ -49,7 +50,7 @@ impl<M: Monitor> Store<M> {
         slots.clear();
         match self.index.add_slots_of_dead(objects, &mut slots) {
             Ok(()) => self.drop_cut_in(rules, objects, slots.as_slice()),
-            Err(NoMemory) => self.drop_cut_everywhere(rules, objects),
+            Err(NoRoom) => self.drop_cut_everywhere(rules, objects),
         }
         self.give_slots(slots);
     }

@@ -4,7 +4,7 @@ use Rattle.jm_index.proofs.rows.Row.cover.Given as goal
 
 abbrev pub invariant-loop : goal.invariant-loop
 invariant-loop l = record {
-  same : (o : ℕ) → slice_index l.self-inside.marks.items o ≡ slice_index l.initial.self-inside.marks.items o;
-  long : vec_len l.self-inside.marks ≡ l.counter;
-  room : l.object < vec_capacity l.self-inside.marks;
+  same : (o : ℕ) → slice_index l.self-inside.tags.items o ≡ slice_index l.initial.self-inside.tags.items o;
+  long : vec_len l.self-inside.tags ≡ l.counter;
+  room : l.object < vec_capacity l.self-inside.tags;
 }

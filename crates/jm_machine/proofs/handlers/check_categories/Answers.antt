@@ -1,6 +1,6 @@
 use Rattle.std.proofs.Common.{sym, ◌∙◌}
 use Rattle.jm_machine.proofs.HandlerLemmas.{unknown_here, known_here}
-use Rattle.jm_machine.proofs.handlers.known.Goals as goal
+use Rattle.jm_machine.proofs.handlers.check_categories.Goals as goal
 
 pub returns-then-is_none : goal.returns-then-is_none
 returns-then-is_none c =
