@@ -9,6 +9,7 @@ use Rattle.jm_text.specs.declared.token.Token.{Token}
 use Rattle.jm_reading.specs.Answers.{FailsAt}
 use Rattle.jm_reading.specs.Faults.{or_else, ◌>>>◌, fault_of, Refuses, Checks}
 use Rattle.jm_reading.specs.Events.{reserved_event_fault, letter_said}
+use Rattle.jm_reading.specs.Nesting.{is_too_deep}
 use Rattle.jm_reading.proofs.ReadLemmas.{then_then, then_same, IsOther, FailsOther, other_or, other_if, other_event, other_then, other_name, other_of}
 use Rattle.jm_events.specs.Events.{EventDefinitions, event_names}
 use Rattle.jm_ere.specs.declared.reader.Atom.{Atom}
@@ -19,7 +20,7 @@ use Rattle.jm_ere.specs.Expressions.{Expression}
 use Rattle.jm_ere.specs.Formulas.{Formula, Leaf, Over, Between, nodes}
 use Rattle.jm_ere.specs.Spelling.{Spells}
 use Rattle.jm_ere.specs.Rules.{postfix, IsWritten, parsed}
-use Rattle.jm_ere.specs.Readings.{is_too_deep, nodes_fault, is_grammar_word, atom_said, over, between, expression_said, first_fault, IsReadFrom, IsRefused}
+use Rattle.jm_ere.specs.Readings.{nodes_fault, is_grammar_word, atom_said, over, between, expression_said, first_fault, IsReadFrom, IsRefused}
 use Rattle.jm_ere.specs.Values.{with_steps, steps_fault}
 use Rattle.jm_ere.proofs.CompleteLemmas.{spelled_is_parsed}
 use Rattle.jm_ere.proofs.SoundLemmas.{parsed_is_spelled}
