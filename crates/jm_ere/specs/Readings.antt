@@ -18,7 +18,7 @@ use Rattle.jm_ere.specs.declared.reader.Unary.TheVariants.{Not, Any, Many}
 use Rattle.jm_ere.specs.declared.reader.Binary.{Binary}
 use Rattle.jm_ere.specs.declared.reader.Binary.TheVariants.{Then, Either, Both}
 use Rattle.jm_ere.specs.Expressions.{Expression, Symbol, EmptyWord, NoWord, Complement, Star, Plus, Product, Union, Intersection}
-use Rattle.jm_ere.specs.Formulas.{Formula, Leaf, Over, Between, nodes}
+use Rattle.jm_ere.specs.Formulas.{Formula, Leaf, Over, Between, node_count}
 use Rattle.jm_ere.specs.Spelling.{Spells}
 
 -- there are at most 256 nodes
@@ -54,7 +54,7 @@ expression_said bytes events (Between operator f g) = expression_said bytes even
 -- the fault of the first step that has one: too many nodes, reserved names of events, unknown names
 abbrev pub first_fault : List ℕ → EventDefinitions → Formula → Option SpecFault
 first_fault bytes table f =
-    or_else (nodes_fault (nodes f))
+    or_else (nodes_fault (node_count f))
     (or_else (reserved_event_fault is_grammar_word table.events)
     (fault_of (expression_said bytes (event_names table) f)))
 

@@ -3,17 +3,17 @@ ghost use Rattle.std.specs.Prelude.{◌≡◌, length};
 ghost use Rattle.jm_reading.specs.Faults.{Checks};
 ghost use Rattle.jm_ere.specs.Readings.{nodes_fault, is_grammar_word};
 
-use crate::reader::Step;
+use crate::reader::Node;
 use jm_model::{Counted, SpecError, SpecFault};
 use jm_reading::GrammarWords;
 
 const MAX_NODES: usize = 256;
 
 /// There are at most 256 nodes.
-pub(crate) fn few_nodes(steps: &[Step]) -> Result<(), SpecError>
-    ensures { Checks result (nodes_fault (length steps.now)) }
+pub(crate) fn few_nodes(nodes: &[Node]) -> Result<(), SpecError>
+    ensures { Checks result (nodes_fault (length nodes.now)) }
 {
-    if steps.len() > MAX_NODES {
+    if nodes.len() > MAX_NODES {
         let what = Counted::Nodes;
         return Err(SpecError::Bad(SpecFault::TooMany { what }));
     }

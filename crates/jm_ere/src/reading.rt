@@ -32,6 +32,6 @@ pub fn read(
     ensures err { IfErr result (IsRefused bytes.now tokens.now table.now) }
 {
     few_nested(bytes, tokens)?;
-    let steps = parse(alloc, bytes, tokens, line)?;
-    expression_of(alloc, bytes, steps.as_slice(), table)
+    let nodes = parse(alloc, bytes, tokens, line)?;
+    expression_of(alloc, bytes, nodes.as_slice(), table)
 }

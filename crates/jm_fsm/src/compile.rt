@@ -1,7 +1,7 @@
 ghost use Rattle.std.specs.Prelude.{◌≡◌, ◌<◌, ◌≤◌, [], IfOk, IfErr, OnOk, length};
 ghost use Rattle.jm_fsm.specs.Machines.{HasGroups, HasStates, IsCompiled, category_count};
 
-use crate::machine::{Fsm, Target};
+use crate::machine::{Destination, Fsm};
 use jm_events::EventTable;
 use jm_model::SpecError;
 use jm_table::{Table, build, places};
@@ -28,7 +28,7 @@ impl Fsm {
         &self,
         alloc: Global,
         categories: usize,
-        nodes: &[Target],
+        nodes: &[Destination],
         table: &mut Table,
     ) -> Result<(), SpecError>
         requires categories { categories ≡ category_count self.now }
