@@ -7,11 +7,11 @@ use Rattle.jm_grammar.specs.declared.grammar.GrammarSymbol.{GrammarSymbol}
 use Rattle.jm_grammar.specs.declared.grammar.GrammarSymbol.TheVariants.{Letter, Nonterminal}
 use Rattle.jm_grammar.specs.declared.grammar.Production.{Production}
 use Rattle.jm_grammar.specs.Grammars.{GrammarDefinition}
-use Rattle.jm_grammar.specs.Derivations.{Trees, no_tree, leaf, IsWord, IsIn}
+use Rattle.jm_grammar.specs.Derivations.{Trees, no_tree, leaf, IsWord, IsHopeless, IsIn}
 use Rattle.jm_grammar.proofs.RoundLemmas.{trees_append}
 use Rattle.jm_earley.specs.declared.item.Item.{Item}
 use Rattle.jm_earley.specs.Items.{IsAwaited, at_start, inside, IsItem, IsItemSet}
-use Rattle.jm_earley.specs.Futures.{IsRest, at_end, within, IsHopeless}
+use Rattle.jm_earley.specs.Futures.{IsRest, at_end, within}
 use Rattle.jm_earley.specs.Places.{AllSpell}
 use Rattle.jm_earley.proofs.ExtensionLemmas.{item_production, continued, found}
 use Rattle.jm_earley.proofs.SpellLemmas.{Contains-head}

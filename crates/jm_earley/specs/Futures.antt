@@ -48,7 +48,3 @@ IsAlive g letters word = (more : List ℕ) × All (IsBitSet letters) more × IsW
 -- the nonterminal spells some word of one or more of these letters
 abbrev pub DerivesLetters : List Production → ℕ → ℕ → Type 0
 DerivesLetters productions letters n = (word : List ℕ) × All (IsBitSet letters) word × Derives productions n word × (word ≢ [])
-
--- no word that begins with the word, itself included, is one of the grammar
-abbrev pub IsHopeless : GrammarDefinition → List ℕ → Type 0
-IsHopeless g word = (more : List ℕ) → IsWord g (word ++ more) → ⊥

@@ -1,11 +1,13 @@
-use Rattle.std.proofs.Common.{ℕ, zero, suc, ◌≡◌, ◌<◌, ◌↔◌, Bool, true, false, inl, inr, ◌⊎◌, List, [], ◌∷◌, ◌++◌, Option, Some, None, IsSomeAnd, Result, Ok, Err, All, Contains, map, length, slice_get, get_or, refl, sym, ap, subst, ◌∙◌, arith, OnOk}
+use Rattle.std.proofs.Common.{ℕ, zero, suc, ◌≡◌, ◌<◌, ◌↔◌, Bool, true, false, inl, inr, ◌⊎◌, List, [], ◌∷◌, ◌++◌, Option, Some, None, IsSomeAnd, Result, Ok, All, Contains, map, length, slice_get, refl, sym, ap, subst, ◌∙◌, arith}
 use Rattle.std.proofs.lemmas.List.{length-map}
 use Rattle.std.proofs.lemmas.Option.{slice_get_within}
-use Rattle.std.proofs.lemmas.List.Elements.{All-append, All-nil, Contains-get_or}
+use Rattle.std.proofs.lemmas.List.Elements.{All-append, All-nil}
 use Rattle.std.proofs.lemmas.List.Sums.{fold-append}
 use Rattle.jm_model.specs.declared.fault.SpecFault.{SpecFault}
 use Rattle.jm_table.specs.Graphs.{reached_by}
+use Rattle.jm_table.specs.Members.{ArePlaces}
 use Rattle.jm_table.specs.Tables.{Transitions, IsWord, Follows, next_of, state_from, state_after_of}
+use Rattle.jm_table.proofs.MemberLemmas.{members_are}
 use Rattle.jm_ere.specs.Expressions.{Expression}
 use Rattle.jm_ere.specs.Languages.{InLanguage, IsFailed}
 use Rattle.jm_ere.specs.NormalForms.{is_nullable, forms_of}
@@ -114,11 +116,17 @@ module _ (t : Transitions) (forms : List Expression) (live : List Bool) (sound :
 list_group : (groups : List (List ℕ)) (members : List ℕ) (state : ℕ) (P : Type 0) (k : ℕ) → slice_get groups k ≡ Some members → (Contains members state ↔ P) → IsSomeAnd (slice_get groups k) (λ states. Contains states state) ↔ P
 list_group groups members state P k at same = (λ h. same.0 (rw at at h), λ p. rw at (same.1 p))
 
-members_below : (places : List ℕ) (states : ℕ) → ((place : ℕ) → Contains places place → place < states) → All (λ state. state < states) places
-members_below places states below k d lt = below (get_or places k d) (Contains-get_or places k d lt)
+some_is : (o : Option Bool) (value : Bool) → IsSomeAnd o (λ b. b ≡ value) ↔ (o ≡ Some value)
+some_is None value = (λ h. absurd h, λ h. absurd cc)
+some_is (Some b) value = (λ h. ap (λ x. Some x) h, λ h. cc)
 
-pub flags_below : (flags : List Bool) (value : Bool) (places : List ℕ) (states : ℕ) → length flags ≡ states → ((place : ℕ) → Contains places place ↔ (slice_get flags place ≡ Some value)) → All (λ state. state < states) places
-flags_below flags value places states many are = members_below places states (λ place h. omega (arith, many, slice_get_within flags place value ((are place).0 h)))
+-- the places that were found are those at which the flag has this value
+pub flagged : (Answers : Bool → Bool → Type 0) (flags : List Bool) (value : Bool) (places : List ℕ) → ((b : Bool) → Answers b true → b ≡ value) → ((b : Bool) → Answers b false → b ≡ value → ⊥)
+    → ArePlaces Answers flags (length flags) places → (place : ℕ) → Contains places place ↔ (slice_get flags place ≡ Some value)
+flagged Answers flags value places holds fails are place =
+    let members = members_are Answers flags (λ b. b ≡ value) places holds fails are place in
+    let is = some_is (slice_get flags place) value in
+    (λ h. is.0 (members.0 h), λ h. members.1 (is.1 h))
 
 map_flag : (forms : List Expression) (state : ℕ) → (slice_get (map is_nullable forms) state ≡ Some true) ↔ IsMatching forms state
 map_flag [] state = (λ h. let e : ◌≡◌ {A = Option Bool} None (Some true) = h in cc, λ h. absurd h)
@@ -156,10 +164,6 @@ has_groups forms before one after flags live first second matched failed states 
         λ h. (is_second state).1 ((failing state).1 ((dead_are before forms live sound closed state lt).1 h)),
       );
     }
-
-pub on_ok : {X E : Type 0} (r : Result X E) (P Q : Type 0) → OnOk r P → (P → Q) → OnOk r Q
-on_ok (Ok x) P Q h f = f h
-on_ok (Err e) P Q h f = h
 
 pub map_same : {X : Type 0} (xs : List X) → map (λ x. x) xs ≡ xs
 map_same [] = refl

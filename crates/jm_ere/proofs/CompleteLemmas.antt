@@ -6,11 +6,11 @@ use Rattle.jm_ere.specs.declared.reader.Atom.{Atom}
 use Rattle.jm_ere.specs.declared.reader.Atom.TheVariants.{Name, Epsilon, Empty}
 use Rattle.jm_ere.specs.declared.reader.Unary.TheVariants.{Not, Any, Many}
 use Rattle.jm_ere.specs.declared.reader.Binary.TheVariants.{Then, Either, Both}
-use Rattle.jm_ere.specs.declared.reader.Step.{Step}
-use Rattle.jm_ere.specs.declared.reader.Step.TheVariants.{Push, Wrap, Join}
+use Rattle.jm_ere.specs.declared.reader.Node.{Node}
+use Rattle.jm_ere.specs.declared.reader.Node.TheVariants.{Push, Wrap, Join}
 use Rattle.jm_ere.specs.declared.reader.Sign.{Sign}
 use Rattle.jm_ere.specs.declared.reader.Sign.TheVariants.{Operand, Opening, Closing, Tilde, Asterisk, PlusSign, Bar, Ampersand, Other}
-use Rattle.jm_ere.specs.declared.reader.Frame.{Frame}
+use Rattle.jm_ere.specs.declared.reader.Pending.{Pending}
 use Rattle.jm_ere.specs.declared.reader.Parser.{Parser}
 use Rattle.jm_ere.specs.Formulas.{Formula, Leaf, Over, Between}
 use Rattle.jm_ere.specs.Spelling.{Rule, AltRule, AndRule, SeqRule, NotRule, RepRule, AtomRule, SpellsBy, name, epsilon, empty, inside, one_atom, any, many, one_rep, complement, one_not, sequence, one_seq, both, one_and, either, Spells}
@@ -18,10 +18,10 @@ use Rattle.jm_ere.specs.Rules.{sign_of, postfix, flag, complements, juxtaposed, 
 use Rattle.jm_ere.proofs.SignLemmas.{epsilon_sign, empty_sign, name_sign, opening_sign, closing_sign, tilde_sign, star_sign, plus_sign, bar_sign, ampersand_sign}
 
 -- a reader's state by its parts
-abbrev pub at : List Step → Bool → Bool → Bool → ℕ → Bool → List Frame → Parser
-at steps e b t n ready outer = record {
-  steps = steps;
-  frame = record { has_either = e; has_both = b; has_then = t; nots = n; ready = ready };
+abbrev pub at : List Node → Bool → Bool → Bool → ℕ → Bool → List Pending → Parser
+at nodes e b t n ready outer = record {
+  nodes = nodes;
+  pending = record { has_either = e; has_both = b; has_then = t; nots = n; ready = ready };
   outer = outer;
 }
 
@@ -83,7 +83,7 @@ module _ (bytes : List ℕ) where
   begins _ _ _ (either front mark behind f g d h k) = begins_longer front (mark ∷ behind) (begins _ front f d)
 
   -- where such tokens follow an operand, they are read as behind a juxtaposition
-  starts_next : (os : List Step) (e b t : Bool) (n : ℕ) (outer : List Frame) (s : Sign) → Starts s → after_sign (at os e b t n true outer) s ≡ after_sign (juxtaposed (at os e b t n true outer)) s
+  starts_next : (os : List Node) (e b t : Bool) (n : ℕ) (outer : List Pending) (s : Sign) → Starts s → after_sign (at os e b t n true outer) s ≡ after_sign (juxtaposed (at os e b t n true outer)) s
   starts_next os e b t n outer (Operand atom) h = refl
   starts_next os e b t n outer Opening h = refl
   starts_next os e b t n outer Tilde h = refl
@@ -94,7 +94,7 @@ module _ (bytes : List ℕ) where
   starts_next os e b t n outer Ampersand h = absurd h
   starts_next os e b t n outer Other h = absurd h
 
-  next_operand : (os : List Step) (e b t : Bool) (n : ℕ) (outer : List Frame) (tokens : List Token) → Begins tokens → after_all bytes (at os e b t n true outer) tokens ≡ after_all bytes (juxtaposed (at os e b t n true outer)) tokens
+  next_operand : (os : List Node) (e b t : Bool) (n : ℕ) (outer : List Pending) (tokens : List Token) → Begins tokens → after_all bytes (at os e b t n true outer) tokens ≡ after_all bytes (juxtaposed (at os e b t n true outer)) tokens
   next_operand os e b t n outer tokens h =
       let p = at os e b t n true outer in
       let one : after_sign p (sign_of bytes h.token) ≡ after_sign (juxtaposed p) (sign_of bytes h.token) = ap (λ (x : Sign). after_sign p x) h.means ∙ starts_next os e b t n outer h.sign h.starts ∙ sym (ap (λ (x : Sign). after_sign (juxtaposed p) x) h.means) in
@@ -104,23 +104,23 @@ module _ (bytes : List ℕ) where
 
 pub complements_turn : (n : ℕ) → complements n ++ Wrap Not ∷ [] ≡ Wrap Not ∷ complements n
 complements_turn zero = refl
-complements_turn (suc n) = ap (λ (l : List Step). l ++ Wrap Not ∷ []) (complements_turn n)
+complements_turn (suc n) = ap (λ (l : List Node). l ++ Wrap Not ∷ []) (complements_turn n)
 
 -- `~` and then what follows
-turned : (os here : List Step) (n : ℕ) → (os ++ here) ++ (complements n ++ Wrap Not ∷ []) ≡ (os ++ (here ++ Wrap Not ∷ [])) ++ complements n
+turned : (os here : List Node) (n : ℕ) → (os ++ here) ++ (complements n ++ Wrap Not ∷ []) ≡ (os ++ (here ++ Wrap Not ∷ [])) ++ complements n
 turned os here n =
-    ap (λ (l : List Step). (os ++ here) ++ l) (complements_turn n)
+    ap (λ (l : List Node). (os ++ here) ++ l) (complements_turn n)
     ∙ sym (append_assoc (os ++ here) (Wrap Not ∷ []) (complements n))
-    ∙ ap (λ (l : List Step). l ++ complements n) (append_assoc os here (Wrap Not ∷ []))
+    ∙ ap (λ (l : List Node). l ++ complements n) (append_assoc os here (Wrap Not ∷ []))
 
-joins : (os first front second behind last more : List Step) → first ≡ os ++ front → second ++ more ≡ first ++ behind → second ++ (more ++ last) ≡ os ++ ((front ++ behind) ++ last)
+joins : (os first front second behind last more : List Node) → first ≡ os ++ front → second ++ more ≡ first ++ behind → second ++ (more ++ last) ≡ os ++ ((front ++ behind) ++ last)
 joins os first front second behind last more h k =
     sym (append_assoc second more last)
-    ∙ ap (λ (l : List Step). l ++ last) (k ∙ ap (λ (l : List Step). l ++ behind) h ∙ append_assoc os front behind)
+    ∙ ap (λ (l : List Node). l ++ last) (k ∙ ap (λ (l : List Node). l ++ behind) h ∙ append_assoc os front behind)
     ∙ append_assoc os (front ++ behind) last
 
-no_more : (os here there : List Step) → os ++ here ≡ there → os ++ (here ++ []) ≡ there
-no_more os here there h = ap (λ (l : List Step). os ++ l) (append-nil here) ∙ h
+no_more : (os here there : List Node) → os ++ here ≡ there → os ++ (here ++ []) ≡ there
+no_more os here there h = ap (λ (l : List Node). os ++ l) (append-nil here) ∙ h
 
 -- ---- what each rule spells, is read
 
@@ -128,23 +128,23 @@ module _ (bytes : List ℕ) where
   -- an operand is there
   abbrev ReadsOperand : List Token → Formula → Type 0
   ReadsOperand tokens f =
-      (os : List Step) (e b t : Bool) (n : ℕ) (outer : List Frame) → after_all bytes (at os e b t n false outer) tokens ≡ Some (at (os ++ postfix f) e b t n true outer)
+      (os : List Node) (e b t : Bool) (n : ℕ) (outer : List Pending) → after_all bytes (at os e b t n false outer) tokens ≡ Some (at (os ++ postfix f) e b t n true outer)
 
   abbrev ReadsNot : List Token → Formula → Type 0
   ReadsNot tokens f =
-      (os : List Step) (e b t : Bool) (n : ℕ) (outer : List Frame) → (m : ℕ) × (out : List Step) × (after_all bytes (at os e b t n false outer) tokens ≡ Some (at out e b t m true outer)) × (out ++ complements m ≡ (os ++ postfix f) ++ complements n)
+      (os : List Node) (e b t : Bool) (n : ℕ) (outer : List Pending) → (m : ℕ) × (out : List Node) × (after_all bytes (at os e b t n false outer) tokens ≡ Some (at out e b t m true outer)) × (out ++ complements m ≡ (os ++ postfix f) ++ complements n)
 
   abbrev ReadsSeq : List Token → Formula → Type 0
   ReadsSeq tokens f =
-      (os : List Step) (e b : Bool) (outer : List Frame) → (t : Bool) × (m : ℕ) × (out : List Step) × (after_all bytes (at os e b false 0 false outer) tokens ≡ Some (at out e b t m true outer)) × (out ++ (complements m ++ flag t Then) ≡ os ++ postfix f)
+      (os : List Node) (e b : Bool) (outer : List Pending) → (t : Bool) × (m : ℕ) × (out : List Node) × (after_all bytes (at os e b false 0 false outer) tokens ≡ Some (at out e b t m true outer)) × (out ++ (complements m ++ flag t Then) ≡ os ++ postfix f)
 
   abbrev ReadsAnd : List Token → Formula → Type 0
   ReadsAnd tokens f =
-      (os : List Step) (e : Bool) (outer : List Frame) → (b t : Bool) × (m : ℕ) × (out : List Step) × (after_all bytes (at os e false false 0 false outer) tokens ≡ Some (at out e b t m true outer)) × (out ++ ((complements m ++ flag t Then) ++ flag b Both) ≡ os ++ postfix f)
+      (os : List Node) (e : Bool) (outer : List Pending) → (b t : Bool) × (m : ℕ) × (out : List Node) × (after_all bytes (at os e false false 0 false outer) tokens ≡ Some (at out e b t m true outer)) × (out ++ ((complements m ++ flag t Then) ++ flag b Both) ≡ os ++ postfix f)
 
   abbrev ReadsAlt : List Token → Formula → Type 0
   ReadsAlt tokens f =
-      (os : List Step) (outer : List Frame) → (e b t : Bool) × (m : ℕ) × (out : List Step) × (after_all bytes (at os false false false 0 false outer) tokens ≡ Some (at out e b t m true outer)) × (out ++ (((complements m ++ flag t Then) ++ flag b Both) ++ flag e Either) ≡ os ++ postfix f)
+      (os : List Node) (outer : List Pending) → (e b t : Bool) × (m : ℕ) × (out : List Node) × (after_all bytes (at os false false false 0 false outer) tokens ≡ Some (at out e b t m true outer)) × (out ++ (((complements m ++ flag t Then) ++ flag b Both) ++ flag e Either) ≡ os ++ postfix f)
 
   abbrev ReadsBy : Rule → List Token → Formula → Type 0
   ReadsBy AtomRule = ReadsOperand
@@ -159,21 +159,21 @@ module _ (bytes : List ℕ) where
 
   inside_read : (opening : Token) (tokens : List Token) (closing : Token) (f : Formula) → sign_of bytes opening ≡ Opening → ReadsAlt tokens f → sign_of bytes closing ≡ Closing → ReadsOperand (opening ∷ tokens ++ closing ∷ []) f
   inside_read opening tokens closing f h reads k = λ os e b t n outer.
-      let held : Frame = record { has_either = e; has_both = b; has_then = t; nots = n; ready = false } in
+      let held : Pending = record { has_either = e; has_both = b; has_then = t; nots = n; ready = false } in
       let alt = reads os (held ∷ outer) in
       let last : Parser = at alt.4 alt.0 alt.1 alt.2 alt.3 true (held ∷ outer) in
-      let end : List Step = alt.4 ++ (((complements alt.3 ++ flag alt.2 Then) ++ flag alt.1 Both) ++ flag alt.0 Either) in
+      let end : List Node = alt.4 ++ (((complements alt.3 ++ flag alt.2 Then) ++ flag alt.1 Both) ++ flag alt.0 Either) in
       follow bytes (at os e b t n false outer) (at os false false false 0 false (held ∷ outer)) opening (tokens ++ closing ∷ []) Opening h refl
       ∙ went bytes tokens (closing ∷ []) (at os false false false 0 false (held ∷ outer)) last alt.5
       ∙ follow bytes last (at end e b t n true outer) closing [] Closing k refl
-      ∙ ap (λ (l : List Step). Some (at l e b t n true outer)) alt.6
+      ∙ ap (λ (l : List Node). Some (at l e b t n true outer)) alt.6
 
-  suffix_read : (tokens : List Token) (mark : Token) (f g : Formula) (s : Sign) (step : Step) → ReadsOperand tokens f → sign_of bytes mark ≡ s → postfix g ≡ postfix f ++ step ∷ []
-      → ((os : List Step) (e b t : Bool) (n : ℕ) (outer : List Frame) → after_sign (at os e b t n true outer) s ≡ Some (at (os ++ step ∷ []) e b t n true outer)) → ReadsOperand (tokens ++ mark ∷ []) g
-  suffix_read tokens mark f g s step reads h is moves = λ os e b t n outer.
+  suffix_read : (tokens : List Token) (mark : Token) (f g : Formula) (s : Sign) (node : Node) → ReadsOperand tokens f → sign_of bytes mark ≡ s → postfix g ≡ postfix f ++ node ∷ []
+      → ((os : List Node) (e b t : Bool) (n : ℕ) (outer : List Pending) → after_sign (at os e b t n true outer) s ≡ Some (at (os ++ node ∷ []) e b t n true outer)) → ReadsOperand (tokens ++ mark ∷ []) g
+  suffix_read tokens mark f g s node reads h is moves = λ os e b t n outer.
       went bytes tokens (mark ∷ []) (at os e b t n false outer) (at (os ++ postfix f) e b t n true outer) (reads os e b t n outer)
-      ∙ follow bytes (at (os ++ postfix f) e b t n true outer) (at ((os ++ postfix f) ++ step ∷ []) e b t n true outer) mark [] s h (moves (os ++ postfix f) e b t n outer)
-      ∙ ap (λ (l : List Step). Some (at l e b t n true outer)) (append_assoc os (postfix f) (step ∷ []) ∙ ap (λ (l : List Step). os ++ l) (sym is))
+      ∙ follow bytes (at (os ++ postfix f) e b t n true outer) (at ((os ++ postfix f) ++ node ∷ []) e b t n true outer) mark [] s h (moves (os ++ postfix f) e b t n outer)
+      ∙ ap (λ (l : List Node). Some (at l e b t n true outer)) (append_assoc os (postfix f) (node ∷ []) ∙ ap (λ (l : List Node). os ++ l) (sym is))
 
   tilde_read : (tilde : Token) (tokens : List Token) (f : Formula) → sign_of bytes tilde ≡ Tilde → ReadsNot tokens f → ReadsNot (tilde ∷ tokens) (Over Not f)
   tilde_read tilde tokens f h reads = λ os e b t n outer.
@@ -187,7 +187,7 @@ module _ (bytes : List ℕ) where
   sequence_read : (front behind : List Token) (f g : Formula) → ReadsSeq front f → Begins bytes behind → ReadsNot behind g → ReadsSeq (front ++ behind) (Between Then f g)
   sequence_read front behind f g reads begin more = λ os e b outer.
       let first = reads os e b outer in
-      let here : List Step = first.2 ++ (complements first.1 ++ flag first.0 Then) in
+      let here : List Node = first.2 ++ (complements first.1 ++ flag first.0 Then) in
       let second = more here e b true 0 outer in (
         true,
         second.0,
@@ -201,7 +201,7 @@ module _ (bytes : List ℕ) where
   both_read : (front : List Token) (mark : Token) (behind : List Token) (f g : Formula) → ReadsAnd front f → sign_of bytes mark ≡ Ampersand → ReadsSeq behind g → ReadsAnd (front ++ mark ∷ behind) (Between Both f g)
   both_read front mark behind f g reads h more = λ os e outer.
       let first = reads os e outer in
-      let here : List Step = first.3 ++ ((complements first.2 ++ flag first.1 Then) ++ flag first.0 Both) in
+      let here : List Node = first.3 ++ ((complements first.2 ++ flag first.1 Then) ++ flag first.0 Both) in
       let second = more here e true outer in (
         true,
         second.0,
@@ -216,7 +216,7 @@ module _ (bytes : List ℕ) where
   either_read : (front : List Token) (mark : Token) (behind : List Token) (f g : Formula) → ReadsAlt front f → sign_of bytes mark ≡ Bar → ReadsAnd behind g → ReadsAlt (front ++ mark ∷ behind) (Between Either f g)
   either_read front mark behind f g reads h more = λ os outer.
       let first = reads os outer in
-      let here : List Step = first.4 ++ (((complements first.3 ++ flag first.2 Then) ++ flag first.1 Both) ++ flag first.0 Either) in
+      let here : List Node = first.4 ++ (((complements first.3 ++ flag first.2 Then) ++ flag first.1 Both) ++ flag first.0 Either) in
       let second = more here true outer in (
         true,
         second.0,
@@ -269,4 +269,4 @@ module _ (bytes : List ℕ) where
   unfolding parsed
   spelled_is_parsed tokens f h =
       let alt = read_by AltRule tokens f h [] [] in
-      ap (option_and_then (λ (p : Parser). finished p.outer p.frame.ready p)) alt.5 ∙ ap (λ (l : List Step). Some l) alt.6
+      ap (option_and_then (λ (p : Parser). finished p.outer p.pending.ready p)) alt.5 ∙ ap (λ (l : List Node). Some l) alt.6

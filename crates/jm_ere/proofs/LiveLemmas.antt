@@ -1,65 +1,8 @@
-use Rattle.std.proofs.Common.{ℕ, ◌≡◌, ◌<◌, ◌≤◌, ◌+◌, ◌↔◌, inl, inr, ◌⊎◌, suc, zero, Bool, true, false, List, [], ◌∷◌, ◌++◌, Option, Some, Contains, length, slice_get, slice_set, get_or, refl, sym, ap, subst, ◌∙◌, arith}
-use mathlib.Core.Bool.{beq}
-use Rattle.std.proofs.lemmas.Bool.{cases_lt}
-use Rattle.std.proofs.lemmas.Option.{slice_get_within, slice_get-get_or}
-use Rattle.std.proofs.lemmas.List.Elements.{All-append, All-push, All-nil, Contains-push, Contains-push_cases, Contains-append_left}
+use Rattle.std.proofs.Common.{ℕ, ◌≡◌, ◌<◌, ◌+◌, inl, inr, ◌⊎◌, suc, zero, Bool, true, false, List, [], ◌∷◌, Some, length, slice_get, slice_set, refl, sym, ap, subst, ◌∙◌, arith}
+use Rattle.std.proofs.lemmas.List.Elements.{All-append, All-push, All-nil}
 use Rattle.jm_table.specs.Tables.{Transitions, IsWord, next_of}
 use Rattle.jm_ere.specs.Expressions.{Expression}
 use Rattle.jm_ere.specs.Groups.{AreLive, LeadsToMatch, LeadsToLive}
-
--- ---- places of flags
-
--- the places so far at which the flag has the value
-abbrev pub ArePlaces : List Bool → Bool → ℕ → List ℕ → Type 0
-ArePlaces flags value i places = (place : ℕ) → Contains places place ↔ ((place < i) × (slice_get flags place ≡ Some value))
-
-pub no_places : (flags : List Bool) (value : Bool) → ArePlaces flags value 0 []
-no_places flags value place = (λ h. absurd (omega (arith, h.1)), λ h. absurd (omega (arith, h.0)))
-
-pub place_more : (flags : List Bool) (value : Bool) (i : ℕ) (places : List ℕ) → slice_get flags i ≡ Some value → ArePlaces flags value i places → ArePlaces flags value (i + 1) (places ++ i ∷ [])
-place_more flags value i places at so_far place = (
-  λ h. elim (Contains-push_cases places i place h) [
-    | inl old ↦ (omega (arith, ((so_far place).0 old).0), ((so_far place).0 old).1)
-    | inr e ↦ (omega (arith, e), subst (λ k. slice_get flags k ≡ Some value) e at)
-  ],
-  λ h. elim (cases_lt place i) [
-    | inl old ↦ Contains-append_left places (i ∷ []) place ((so_far place).1 (old, h.1))
-    | inr last ↦ let e : i ≡ place = omega (arith, h.0, last) in subst (λ k. Contains (places ++ i ∷ []) k) e (Contains-push places i)
-  ],
-)
-
-pub place_same : (flags : List Bool) (value : Bool) (i : ℕ) (places : List ℕ) → (slice_get flags i ≡ Some value → ⊥) → ArePlaces flags value i places → ArePlaces flags value (i + 1) places
-place_same flags value i places fails so_far place = (
-  λ h. (omega (arith, ((so_far place).0 h).0), ((so_far place).0 h).1),
-  λ h. elim (cases_lt place i) [
-    | inl old ↦ (so_far place).1 (old, h.1)
-    | inr last ↦ let e : place ≡ i = omega (arith, h.0, last) in absurd (fails (subst (λ k. slice_get flags k ≡ Some value) e h.1))
-  ],
-)
-
-pub all_places : (flags : List Bool) (value : Bool) (i : ℕ) (places : List ℕ) → length flags ≤ i → ArePlaces flags value i places → (place : ℕ) → Contains places place ↔ (slice_get flags place ≡ Some value)
-all_places flags value i places all h place =
-    (λ c. ((h place).0 c).1, λ s. (h place).1 (omega (arith, all, slice_get_within flags place value s), s))
-
-flags_equal : (a b : Bool) → beq a b ≡ true → a ≡ b
-flags_equal true true e = refl
-flags_equal false false e = refl
-flags_equal true false e = cc
-flags_equal false true e = cc
-
-flags_differ : (a b : Bool) → beq a b ≡ false → ◌≡◌ {A = Option Bool} (Some a) (Some b) → ⊥
-flags_differ true true e = cc
-flags_differ false false e = cc
-flags_differ true false e = λ h. cc
-flags_differ false true e = λ h. cc
-
-pub flag_is : (flags : List Bool) (value : Bool) (i : ℕ) → i < length flags → beq (get_or flags i false) value ≡ true → slice_get flags i ≡ Some value
-flag_is flags value i lt e = slice_get-get_or flags i false lt ∙ ap (λ b. Some b) (flags_equal (get_or flags i false) value e)
-
-pub flag_is_not : (flags : List Bool) (value : Bool) (i : ℕ) → i < length flags → beq (get_or flags i false) value ≡ false → slice_get flags i ≡ Some value → ⊥
-flag_is_not flags value i lt e h = flags_differ (get_or flags i false) value e (sym (slice_get-get_or flags i false lt) ∙ h)
-
--- ---- the flags of live states
 
 -- how many flags aren't set
 abbrev pub dead_count : List Bool → ℕ

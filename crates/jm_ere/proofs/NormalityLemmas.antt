@@ -1,12 +1,12 @@
-use Rattle.std.proofs.Common.{ℕ, ◌≡◌, ◌==◌, ◌||◌, nat_le, Bool, true, false, inl, inr, ◌⊎◌, List, [], ◌∷◌, Result, Ok, Err, refl, sym, ap, subst, ◌∙◌, if◌then◌else◌, fold}
+use Rattle.std.proofs.Common.{ℕ, ◌≡◌, ◌==◌, ◌||◌, nat_le, Bool, true, false, List, [], ◌∷◌, Ok, Err, refl, ap, subst, ◌∙◌, if◌then◌else◌, fold}
 use Rattle.std.specs.Ordering.{ordering_reverse}
 use Rattle.std.specs.declared.cmp.Ordering.{Ordering}
 use Rattle.std.specs.declared.cmp.Ordering.TheVariants.{Less, Equal, Greater}
 use Rattle.jm_model.specs.declared.fault.SpecFault.{SpecFault}
 use Rattle.jm_table.specs.Graphs.{step_from, reached_by}
 use Rattle.jm_ere.specs.Expressions.{Expression, Symbol, EmptyWord, NoWord, Complement, Star, Plus, Product, Union, Intersection}
-use Rattle.jm_ere.specs.NormalForms.{order, by_order, is_nothing, is_everything, is_epsilon, is_product, is_union, is_intersection, complement_of, star_of, before, product_of, put_union, join_union, union_of, put_intersection, join_intersection, intersection_of, size_of, Formed, fitting, part, ◌>>=◌, normal_run, normal_form, is_nullable, derivative_run, derivative, forms_of}
-use Rattle.jm_ere.specs.Normality.{is_complement, is_star, IsProper, IsFactor, first_of_union, first_of_intersection, IsNormal}
+use Rattle.jm_ere.specs.NormalForms.{order, by_order, is_nothing, is_everything, is_epsilon, is_product, is_union, is_intersection, complement_of, star_of, before, product_of, put_union, join_union, union_of, put_intersection, join_intersection, intersection_of, size_of, Formed, fitting, part, ◌>>=◌, normal_run, normal_form, is_nullable, derivative_run, forms_of}
+use Rattle.jm_ere.specs.Normality.{IsProper, IsFactor, first_of_union, first_of_intersection, IsNormal}
 use Rattle.jm_ere.proofs.OrderLaws.{order_total}
 
 -- ---- operators of one part

@@ -2,23 +2,23 @@
 use Rattle.std.proofs.Common.{ℕ, suc, ◌≡◌, ◌≤◌, Bool, true, false, cond, List, [], ◌∷◌, Option, Some, IfSome, subst, arith}
 use Rattle.jm_ere.specs.declared.reader.Sign.{Sign}
 use Rattle.jm_ere.specs.declared.reader.Sign.TheVariants.{Operand, Opening, Closing, Tilde, Asterisk, PlusSign, Bar, Ampersand, Other}
-use Rattle.jm_ere.specs.declared.reader.Frame.{Frame}
+use Rattle.jm_ere.specs.declared.reader.Pending.{Pending}
 use Rattle.jm_ere.specs.declared.reader.Parser.{Parser}
 use Rattle.jm_ere.specs.Rules.{juxtaposed, closed, before_operand, behind_operand, after_sign}
 
 -- of no parenthesis that is open more than n wait
-abbrev pub EachFew : ℕ → List Frame → Type 0
+abbrev pub EachFew : ℕ → List Pending → Type 0
 EachFew n [] = Unit {0}
 EachFew n (f ∷ fs) = (f.nots ≤ n) × EachFew n fs
 
 abbrev pub FewNots : ℕ → Parser → Type 0
-FewNots n p = (p.frame.nots ≤ n) × EachFew n p.outer
+FewNots n p = (p.pending.nots ≤ n) × EachFew n p.outer
 
-each_more : (n : ℕ) (fs : List Frame) → EachFew n fs → EachFew (suc n) fs
+each_more : (n : ℕ) (fs : List Pending) → EachFew n fs → EachFew (suc n) fs
 each_more n [] h = tt
 each_more n (f ∷ fs) h = (omega (arith, h.0), each_more n fs h.1)
 
-few_closed : (n : ℕ) (fs : List Frame) (p : Parser) → EachFew n fs → IfSome (closed fs p) (FewNots (suc n))
+few_closed : (n : ℕ) (fs : List Pending) (p : Parser) → EachFew n fs → IfSome (closed fs p) (FewNots (suc n))
 few_closed n [] p h = tt
 few_closed n (f ∷ fs) p h = (omega (arith, h.0), each_more n fs h.1)
 
@@ -45,4 +45,4 @@ few_by n p sign false h = few_before n p sign h
 
 -- one token more, one `~` more at most
 pub few_after : (n : ℕ) (p next : Parser) (sign : Sign) → FewNots n p → after_sign p sign ≡ Some next → FewNots (suc n) next
-few_after n p next sign h is = subst (λ (o : Option Parser). IfSome o (FewNots (suc n))) is (few_by n p sign p.frame.ready h)
+few_after n p next sign h is = subst (λ (o : Option Parser). IfSome o (FewNots (suc n))) is (few_by n p sign p.pending.ready h)

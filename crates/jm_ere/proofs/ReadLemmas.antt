@@ -9,18 +9,19 @@ use Rattle.jm_text.specs.declared.token.Token.{Token}
 use Rattle.jm_reading.specs.Answers.{FailsAt}
 use Rattle.jm_reading.specs.Faults.{or_else, ◌>>>◌, fault_of, Refuses, Checks}
 use Rattle.jm_reading.specs.Events.{reserved_event_fault, letter_said}
+use Rattle.jm_reading.specs.Nesting.{is_too_deep}
 use Rattle.jm_reading.proofs.ReadLemmas.{then_then, then_same, IsOther, FailsOther, other_or, other_if, other_event, other_then, other_name, other_of}
 use Rattle.jm_events.specs.Events.{EventDefinitions, event_names}
 use Rattle.jm_ere.specs.declared.reader.Atom.{Atom}
 use Rattle.jm_ere.specs.declared.reader.Atom.TheVariants.{Name, Epsilon, Empty}
-use Rattle.jm_ere.specs.declared.reader.Step.{Step}
-use Rattle.jm_ere.specs.declared.reader.Step.TheVariants.{Wrap, Join}
+use Rattle.jm_ere.specs.declared.reader.Node.{Node}
+use Rattle.jm_ere.specs.declared.reader.Node.TheVariants.{Wrap, Join}
 use Rattle.jm_ere.specs.Expressions.{Expression}
-use Rattle.jm_ere.specs.Formulas.{Formula, Leaf, Over, Between, nodes}
+use Rattle.jm_ere.specs.Formulas.{Formula, Leaf, Over, Between, node_count}
 use Rattle.jm_ere.specs.Spelling.{Spells}
 use Rattle.jm_ere.specs.Rules.{postfix, IsWritten, parsed}
-use Rattle.jm_ere.specs.Readings.{is_too_deep, nodes_fault, is_grammar_word, atom_said, over, between, expression_said, first_fault, IsReadFrom, IsRefused}
-use Rattle.jm_ere.specs.Values.{with_steps, steps_fault}
+use Rattle.jm_ere.specs.Readings.{nodes_fault, is_grammar_word, atom_said, over, between, expression_said, first_fault, IsReadFrom, IsRefused}
+use Rattle.jm_ere.specs.Values.{with_nodes, fault_of_nodes}
 use Rattle.jm_ere.proofs.CompleteLemmas.{spelled_is_parsed}
 use Rattle.jm_ere.proofs.SoundLemmas.{parsed_is_spelled}
 use Rattle.jm_ere.proofs.FormulaLemmas.{nodes_counted}
@@ -28,21 +29,21 @@ use Rattle.jm_ere.proofs.FormulaLemmas.{nodes_counted}
 -- ---- the value of a formula's nodes is what the formula says
 
 module _ (bytes : List ℕ) (events : List (List ℕ)) where
-  values : (f : Formula) (stack : List Expression) (rest : List Step) → with_steps bytes events stack (postfix f ++ rest) ≡ expression_said bytes events f >>> (λ r. with_steps bytes events (r ∷ stack) rest)
-  values (Leaf atom) stack rest = then_then (atom_said bytes events atom) (λ r. Ok (r ∷ stack)) (λ more. with_steps bytes events more rest)
+  values : (f : Formula) (stack : List Expression) (rest : List Node) → with_nodes bytes events stack (postfix f ++ rest) ≡ expression_said bytes events f >>> (λ r. with_nodes bytes events (r ∷ stack) rest)
+  values (Leaf atom) stack rest = then_then (atom_said bytes events atom) (λ r. Ok (r ∷ stack)) (λ more. with_nodes bytes events more rest)
   values (Over operator f) stack rest =
-      ap (with_steps bytes events stack) (append_assoc (postfix f) (Wrap operator ∷ []) rest)
+      ap (with_nodes bytes events stack) (append_assoc (postfix f) (Wrap operator ∷ []) rest)
       ∙ values f stack (Wrap operator ∷ rest)
-      ∙ sym (then_then (expression_said bytes events f) (λ r. Ok (over operator r)) (λ r. with_steps bytes events (r ∷ stack) rest))
+      ∙ sym (then_then (expression_said bytes events f) (λ r. Ok (over operator r)) (λ r. with_nodes bytes events (r ∷ stack) rest))
   values (Between operator f g) stack rest =
-      ap (with_steps bytes events stack) (append_assoc (postfix f ++ postfix g) (Join operator ∷ []) rest ∙ append_assoc (postfix f) (postfix g) (Join operator ∷ rest))
+      ap (with_nodes bytes events stack) (append_assoc (postfix f ++ postfix g) (Join operator ∷ []) rest ∙ append_assoc (postfix f) (postfix g) (Join operator ∷ rest))
       ∙ values f stack (postfix g ++ Join operator ∷ rest)
-      ∙ then_same (expression_said bytes events f) (λ r. with_steps bytes events (r ∷ stack) (postfix g ++ Join operator ∷ rest)) (λ r. (expression_said bytes events g >>> (λ s. Ok (between operator r s))) >>> (λ t. with_steps bytes events (t ∷ stack) rest))
-      (λ r is. values g (r ∷ stack) (Join operator ∷ rest) ∙ sym (then_then (expression_said bytes events g) (λ s. Ok (between operator r s)) (λ t. with_steps bytes events (t ∷ stack) rest)))
-      ∙ sym (then_then (expression_said bytes events f) (λ r. expression_said bytes events g >>> (λ s. Ok (between operator r s))) (λ r. with_steps bytes events (r ∷ stack) rest))
+      ∙ then_same (expression_said bytes events f) (λ r. with_nodes bytes events (r ∷ stack) (postfix g ++ Join operator ∷ rest)) (λ r. (expression_said bytes events g >>> (λ s. Ok (between operator r s))) >>> (λ t. with_nodes bytes events (t ∷ stack) rest))
+      (λ r is. values g (r ∷ stack) (Join operator ∷ rest) ∙ sym (then_then (expression_said bytes events g) (λ s. Ok (between operator r s)) (λ t. with_nodes bytes events (t ∷ stack) rest)))
+      ∙ sym (then_then (expression_said bytes events f) (λ r. expression_said bytes events g >>> (λ s. Ok (between operator r s))) (λ r. with_nodes bytes events (r ∷ stack) rest))
 
-  value_is : (f : Formula) → with_steps bytes events [] (postfix f) ≡ expression_said bytes events f >>> (λ r. Ok (r ∷ []))
-  value_is f = ap (with_steps bytes events []) (sym (append-nil (postfix f))) ∙ values f [] []
+  value_is : (f : Formula) → with_nodes bytes events [] (postfix f) ≡ expression_said bytes events f >>> (λ r. Ok (r ∷ []))
+  value_is f = ap (with_nodes bytes events []) (sym (append-nil (postfix f))) ∙ values f [] []
 
   said_first : (said : Result Expression SpecFault) (e : Expression) (rest : List Expression) → said >>> (λ r. Ok (r ∷ [])) ≡ Ok (e ∷ rest) → said ≡ Ok e
   said_first (Ok r) e rest h = cc
@@ -52,7 +53,7 @@ module _ (bytes : List ℕ) (events : List (List ℕ)) where
   same_fault (Ok r) = refl
   same_fault (Err fault) = refl
 
-  value_said : (f : Formula) (e : Expression) (rest : List Expression) → with_steps bytes events [] (postfix f) ≡ Ok (e ∷ rest) → expression_said bytes events f ≡ Ok e
+  value_said : (f : Formula) (e : Expression) (rest : List Expression) → with_nodes bytes events [] (postfix f) ≡ Ok (e ∷ rest) → expression_said bytes events f ≡ Ok e
   value_said f e rest h = said_first (expression_said bytes events f) e rest (sym (value_is f) ∙ h)
 
 never_none : (said : Result Expression SpecFault) → said >>> (λ r. Ok (r ∷ [])) ≡ Ok [] → ⊥
@@ -60,17 +61,17 @@ never_none (Ok r) h = absurd (cc)
 never_none (Err fault) h = absurd (cc)
 
 -- the nodes of a formula leave an expression
-pub never_empty : (bytes : List ℕ) (events : List (List ℕ)) (steps : List Step) → IsWritten steps → with_steps bytes events [] steps ≡ Ok [] → ⊥
-never_empty bytes events steps written h =
+pub never_empty : (bytes : List ℕ) (events : List (List ℕ)) (nodes : List Node) → IsWritten nodes → with_nodes bytes events [] nodes ≡ Ok [] → ⊥
+never_empty bytes events nodes written h =
     let f : Formula = written.0 in
-    never_none (expression_said bytes events f) (sym (value_is bytes events f) ∙ ap (with_steps bytes events []) (sym written.1) ∙ h)
+    never_none (expression_said bytes events f) (sym (value_is bytes events f) ∙ ap (with_nodes bytes events []) (sym written.1) ∙ h)
 
-faults_are : (bytes : List ℕ) (table : EventDefinitions) (f : Formula) → steps_fault bytes table (postfix f) ≡ first_fault bytes table f
-unfolding steps_fault
+faults_are : (bytes : List ℕ) (table : EventDefinitions) (f : Formula) → fault_of_nodes bytes table (postfix f) ≡ first_fault bytes table f
+unfolding fault_of_nodes
 faults_are bytes table f =
-    let values_too : fault_of (with_steps bytes (event_names table) [] (postfix f)) ≡ fault_of (expression_said bytes (event_names table) f) = ap fault_of (value_is bytes (event_names table) f) ∙ same_fault bytes (event_names table) (expression_said bytes (event_names table) f) in
-    ap (λ n. or_else (nodes_fault n) (or_else (reserved_event_fault is_grammar_word table.events) (fault_of (with_steps bytes (event_names table) [] (postfix f))))) (nodes_counted f)
-    ∙ ap (λ o. or_else (nodes_fault (nodes f)) (or_else (reserved_event_fault is_grammar_word table.events) o)) values_too
+    let values_too : fault_of (with_nodes bytes (event_names table) [] (postfix f)) ≡ fault_of (expression_said bytes (event_names table) f) = ap fault_of (value_is bytes (event_names table) f) ∙ same_fault bytes (event_names table) (expression_said bytes (event_names table) f) in
+    ap (λ n. or_else (nodes_fault n) (or_else (reserved_event_fault is_grammar_word table.events) (fault_of (with_nodes bytes (event_names table) [] (postfix f))))) (nodes_counted f)
+    ∙ ap (λ o. or_else (nodes_fault (node_count f)) (or_else (reserved_event_fault is_grammar_word table.events) o)) values_too
 
 -- ---- a formula's fault is neither of the grammar nor of parentheses
 
@@ -99,23 +100,23 @@ module _ (bytes : List ℕ) (tokens : List Token) (table : EventDefinitions) (sh
   refused_as f spelled (Bad (TooMany Nesting)) other h = absurd (subst IsOther h other)
   refused_as f spelled (Bad _) other h = (shallow, (f, spelled, h))
 
-  module _ (steps : List Step) (read : parsed bytes tokens ≡ Some steps) where
-    pub read_written : IsWritten steps
-    read_written = let formula = parsed_is_spelled bytes tokens steps read in (formula.0, formula.2)
+  module _ (nodes : List Node) (read : parsed bytes tokens ≡ Some nodes) where
+    pub read_written : IsWritten nodes
+    read_written = let formula = parsed_is_spelled bytes tokens nodes read in (formula.0, formula.2)
 
-    pub read_ok : (r : Result Expression SpecError) → IfOk r (λ e. (rest : List Expression) × (with_steps bytes (event_names table) [] steps ≡ Ok (e ∷ rest))) → Checks r (steps_fault bytes table steps) → IfOk r (IsReadFrom bytes tokens table)
+    pub read_ok : (r : Result Expression SpecError) → IfOk r (λ e. (rest : List Expression) × (with_nodes bytes (event_names table) [] nodes ≡ Ok (e ∷ rest))) → Checks r (fault_of_nodes bytes table nodes) → IfOk r (IsReadFrom bytes tokens table)
     read_ok (Ok e) made h =
-        let formula = parsed_is_spelled bytes tokens steps read in
+        let formula = parsed_is_spelled bytes tokens nodes read in
         let f : Formula = formula.0 in
-        (shallow, (f, formula.1, sym (ap (steps_fault bytes table) formula.2 ∙ faults_are bytes table f) ∙ h, value_said bytes (event_names table) f e made.0 (sym (ap (with_steps bytes (event_names table) []) formula.2) ∙ made.1)))
+        (shallow, (f, formula.1, sym (ap (fault_of_nodes bytes table) formula.2 ∙ faults_are bytes table f) ∙ h, value_said bytes (event_names table) f e made.0 (sym (ap (with_nodes bytes (event_names table) []) formula.2) ∙ made.1)))
     read_ok (Err e) made h = tt
 
-    pub read_err : (r : Result Expression SpecError) → Checks r (steps_fault bytes table steps) → IfErr r (IsRefused bytes tokens table)
+    pub read_err : (r : Result Expression SpecError) → Checks r (fault_of_nodes bytes table nodes) → IfErr r (IsRefused bytes tokens table)
     read_err (Ok e) h = tt
     read_err (Err e) h =
-        let formula = parsed_is_spelled bytes tokens steps read in
+        let formula = parsed_is_spelled bytes tokens nodes read in
         let f : Formula = formula.0 in
-        refused_as f formula.1 e (other_fault bytes table f) (subst (λ (o : Option SpecFault). Refuses o e) (ap (steps_fault bytes table) formula.2 ∙ faults_are bytes table f) h)
+        refused_as f formula.1 e (other_fault bytes table f) (subst (λ (o : Option SpecFault). Refuses o e) (ap (fault_of_nodes bytes table) formula.2 ∙ faults_are bytes table f) h)
 
   never_both : {X : Type 0} (o : Option X) (x : X) → o ≡ None → o ≡ Some x → ⊥
   never_both o x h k = cc

@@ -11,7 +11,7 @@ pub data Formula : Type 0 where
   Between : (operator : Binary) (f g : Formula) → Formula
 
 -- its atoms and its operators, where juxtaposition is one too
-abbrev pub nodes : Formula → ℕ
-nodes (Leaf atom) = 1
-nodes (Over operator f) = nodes f + 1
-nodes (Between operator f g) = nodes f + nodes g + 1
+abbrev pub node_count : Formula → ℕ
+node_count (Leaf atom) = 1
+node_count (Over operator f) = node_count f + 1
+node_count (Between operator f g) = node_count f + node_count g + 1

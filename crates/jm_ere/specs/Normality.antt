@@ -1,5 +1,5 @@
 -- What normal forms look like: no rule is left to apply.
-use Rattle.std.specs.Prelude.{ℕ, ◌≡◌, Bool, true, false}
+use Rattle.std.specs.Prelude.{◌≡◌, Bool, true, false}
 use Rattle.std.specs.declared.cmp.Ordering.TheVariants.{Less}
 use Rattle.jm_ere.specs.Expressions.{Expression, Symbol, EmptyWord, NoWord, Complement, Star, Plus, Product, Union, Intersection}
 use Rattle.jm_ere.specs.NormalForms.{order, is_nothing, is_everything, is_epsilon, is_product, is_union, is_intersection}

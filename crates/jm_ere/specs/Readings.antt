@@ -1,5 +1,5 @@
 -- What a reader of a formula answers.
-use Rattle.std.specs.Prelude.{ℕ, ◌+◌, ◌-◌, ◌≡◌, Bool, true, false, ◌||◌, List, [], ◌∷◌, Option, Some, None, Result, Ok, codes, nat_lt, if◌then◌else◌}
+use Rattle.std.specs.Prelude.{ℕ, ◌≡◌, Bool, true, false, ◌||◌, List, Option, Some, None, Result, Ok, codes, nat_lt, if◌then◌else◌}
 use Rattle.std.specs.Str.{bytes_eq}
 use Rattle.jm_model.specs.declared.fault.Counted.TheVariants.{Nesting, Nodes}
 use Rattle.jm_model.specs.declared.fault.SpecFault.{SpecFault}
@@ -7,9 +7,9 @@ use Rattle.jm_model.specs.declared.fault.SpecFault.TheVariants.{TooMany, Syntax}
 use Rattle.jm_model.specs.declared.fault.SpecError.{SpecError}
 use Rattle.jm_model.specs.declared.fault.SpecError.TheVariants.{Bad, NoMemory}
 use Rattle.jm_text.specs.declared.token.Token.{Token}
-use Rattle.jm_text.specs.Texts.{is_mark}
 use Rattle.jm_reading.specs.Faults.{or_else, ◌>>>◌, fault_of}
 use Rattle.jm_reading.specs.Events.{reserved_event_fault, letter_said}
+use Rattle.jm_reading.specs.Nesting.{is_too_deep}
 use Rattle.jm_events.specs.Events.{EventDefinitions, event_names}
 use Rattle.jm_ere.specs.declared.reader.Atom.{Atom}
 use Rattle.jm_ere.specs.declared.reader.Atom.TheVariants.{Name, Epsilon, Empty}
@@ -18,17 +18,8 @@ use Rattle.jm_ere.specs.declared.reader.Unary.TheVariants.{Not, Any, Many}
 use Rattle.jm_ere.specs.declared.reader.Binary.{Binary}
 use Rattle.jm_ere.specs.declared.reader.Binary.TheVariants.{Then, Either, Both}
 use Rattle.jm_ere.specs.Expressions.{Expression, Symbol, EmptyWord, NoWord, Complement, Star, Plus, Product, Union, Intersection}
-use Rattle.jm_ere.specs.Formulas.{Formula, Leaf, Over, Between, nodes}
+use Rattle.jm_ere.specs.Formulas.{Formula, Leaf, Over, Between, node_count}
 use Rattle.jm_ere.specs.Spelling.{Spells}
-
--- how many parentheses are open behind a token; one that closes nothing counts for nothing
-abbrev pub depth_after : List ℕ → ℕ → Token → ℕ
-depth_after bytes depth t = if is_mark bytes t (codes "(") then depth + 1 else if is_mark bytes t (codes ")") then depth - 1 else depth
-
--- a 65th parenthesis is open at once, where so many are open before the tokens
-abbrev pub is_too_deep : List ℕ → ℕ → List Token → Bool
-is_too_deep bytes depth [] = false
-is_too_deep bytes depth (t ∷ ts) = if nat_lt 64 (depth_after bytes depth t) then true else is_too_deep bytes (depth_after bytes depth t) ts
 
 -- there are at most 256 nodes
 abbrev pub nodes_fault : ℕ → Option SpecFault
@@ -63,7 +54,7 @@ expression_said bytes events (Between operator f g) = expression_said bytes even
 -- the fault of the first step that has one: too many nodes, reserved names of events, unknown names
 abbrev pub first_fault : List ℕ → EventDefinitions → Formula → Option SpecFault
 first_fault bytes table f =
-    or_else (nodes_fault (nodes f))
+    or_else (nodes_fault (node_count f))
     (or_else (reserved_event_fault is_grammar_word table.events)
     (fault_of (expression_said bytes (event_names table) f)))
 

@@ -1,4 +1,4 @@
-ghost use Rattle.std.specs.Prelude.{ℕ, ◌≡◌, ◌<◌, ◌≤◌, ◌⊎◌, ◌↔◌, All, Contains, List, [], ◌∷◌, ◌++◌, Err, length, IfOk, IfErr, OnOk, IsOkUnless};
+ghost use Rattle.std.specs.Prelude.{◌≡◌, ◌≤◌, ◌⊎◌, List, [], Err, length, IfOk, IfErr, OnOk, IsOkUnless};
 ghost use Rattle.jm_model.specs.declared.fault.SpecFault.{SpecFault};
 ghost use Rattle.jm_table.specs.Explorations.{IfBad};
 ghost use Rattle.jm_ere.specs.Expressions.{Expression};
@@ -8,11 +8,11 @@ ghost use Rattle.jm_ere.specs.Refusals.{FindsForms, FindsFault, IsCause};
 
 use crate::forms::copy;
 use crate::graph::Forms;
-use crate::live::{matching, places, spread};
+use crate::live::{matching, spread};
 use crate::tree::Ere;
 use jm_events::{EventTable, Names};
 use jm_model::{NoMemory, SpecError};
-use jm_table::{Table, build};
+use jm_table::{Table, build, places};
 use std::alloc::Global;
 
 impl Ere {
@@ -61,21 +61,10 @@ fn add_groups(alloc: Global, forms: &[Ere], table: &mut Table) -> Result<(), Spe
     ensures fault { IfErr result (λ e. e ≡ SpecError.NoMemory) }
 {
     let mut live = matching(alloc, forms)?;
-    let matched = places(alloc, live.as_slice(), true)?;
+    let matched = places(alloc, live.as_slice(), |flag| *flag)?;
     spread(table, &mut live);
-    let failed = places(alloc, live.as_slice(), false)?;
-    add_group(table, matched.as_slice())?;
-    add_group(table, failed.as_slice())
-}
-
-fn add_group(table: &mut Table, states: &[u16]) -> Result<(), SpecError>
-    requires states { All (λ state. state < table.old.states) states.now }
-    requires room { length table.old.groups < 65535 }
-    ensures group { OnOk result ((members : List ℕ)
-        × (table.new ≡ record table.old { groups = table.old.groups ++ members ∷ [] })
-        × ((state : ℕ) → Contains members state ↔ Contains states.now state)) }
-    ensures fault { IfErr result (λ e. e ≡ SpecError.NoMemory) }
-{
-    table.add_group(states)?;
+    let failed = places(alloc, live.as_slice(), |flag| !*flag)?;
+    table.add_group(matched.as_slice())?;
+    table.add_group(failed.as_slice())?;
     Ok(())
 }

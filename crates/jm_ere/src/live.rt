@@ -1,5 +1,5 @@
 //! The states of a table from which a matching state can be reached.
-ghost use Rattle.std.specs.Prelude.{ℕ, ◌≡◌, ◌<◌, ◌≤◌, Bool, true, false, IsTrue, Some, IfSome, IfNone, IfOk, IfErr, Contains, ◌↔◌, map, length, vec_len, slice_get, List};
+ghost use Rattle.std.specs.Prelude.{◌≡◌, ◌<◌, true, false, Some, IfSome, IfNone, IfOk, IfErr, map, length, vec_len, slice_get, List};
 ghost use Rattle.jm_ere.specs.Expressions.{Expression};
 ghost use Rattle.jm_ere.specs.NormalForms.{is_nullable};
 ghost use Rattle.jm_ere.specs.Groups.{AreLive, LeadsToLive, LeadsToDead, IsClosed};
@@ -64,20 +64,4 @@ pub(crate) fn spread(table: &Table, live: &mut Vec<bool>)
     while let Some(state) = next_live(table, live.as_slice()) {
         live[state as usize] = true;
     }
-}
-
-/// The places of a list at which a flag has this value.
-#[tactic(auto, using(crate::proofs::LiveLemmas::no_places, crate::proofs::LiveLemmas::place_more, crate::proofs::LiveLemmas::place_same, crate::proofs::LiveLemmas::all_places))]
-pub(crate) fn places(alloc: Global, flags: &[bool], value: bool) -> Result<Vec<u16>, SpecError>
-    requires few { length flags.now ≤ 1024 }
-    ensures places { IfOk result (λ v. (place : ℕ) → Contains v.items place ↔ (slice_get flags.now place ≡ Some value)) }
-    ensures fault { IfErr result (λ e. e ≡ SpecError.NoMemory) }
-{
-    let mut places = Vec::new(alloc);
-    for (place, flag) in flags.iter().enumerate() {
-        if *flag == value {
-            places.push(place as u16)?;
-        }
-    }
-    Ok(places)
 }

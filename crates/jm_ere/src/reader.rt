@@ -2,7 +2,7 @@
 ghost use Rattle.std.specs.Prelude.{◌≡◌, ◌<◌, ◌-◌, ◌^◌, [], ◌++◌, OnOk, IfOk, IfErr, MatchBool, None, Some};
 ghost use Rattle.jm_text.specs.Spans.{LiesWithin, LieWithin};
 ghost use Rattle.jm_reading.specs.Answers.{Gives, IsSyntax};
-ghost use Rattle.jm_ere.specs.Rules.{sign_of, fresh, beginning, flag, complements, end_not, end_sequence, end_both, end_either, with_steps, juxtaposed, closed, before_operand, behind_operand, after_sign, after_all, finished, parsed, Takes};
+ghost use Rattle.jm_ere.specs.Rules.{sign_of, fresh, beginning, flag, complements, end_not, end_sequence, end_both, end_either, with_nodes, juxtaposed, closed, before_operand, behind_operand, after_sign, after_all, finished, parsed, Takes};
 
 use crate::stack::Stack;
 use jm_model::{SpecError, SpecFault};
@@ -36,7 +36,7 @@ pub enum Binary {
 
 /// A node of a formula. An operator stands behind its operands.
 #[derive(Clone, Copy)]
-pub enum Step {
+pub enum Node {
     Push(Atom),
     Wrap(Unary),
     Join(Binary),
@@ -89,7 +89,7 @@ fn sign_of(bytes: &[u8], token: Token) -> Sign
 
 /// What was read since the innermost parenthesis that is open: the operators that wait for their last operand.
 #[derive(Clone, Copy)]
-pub struct Frame {
+pub struct Pending {
     /// A `|`, a `&`, a juxtaposition.
     pub has_either: bool,
     pub has_both: bool,
@@ -100,12 +100,12 @@ pub struct Frame {
     pub ready: bool,
 }
 
-impl Frame {
+impl Pending {
     /// Nothing was read.
-    fn new() -> Frame
+    fn new() -> Pending
         ensures { result ≡ fresh }
     {
-        Frame {
+        Pending {
             has_either: false,
             has_both: false,
             has_then: false,
@@ -118,10 +118,10 @@ impl Frame {
 /// What was read so far of a formula.
 #[derive(Drop)]
 pub struct Parser {
-    pub steps: Items<Step>,
-    pub frame: Frame,
+    pub nodes: Items<Node>,
+    pub pending: Pending,
     /// What was read before each parenthesis that is open, the innermost first.
-    pub outer: Stack<Frame>,
+    pub outer: Stack<Pending>,
 }
 
 impl Parser {
@@ -130,51 +130,51 @@ impl Parser {
         ensures { result ≡ beginning }
     {
         Parser {
-            steps: Items::new(alloc),
-            frame: Frame::new(),
+            nodes: Items::new(alloc),
+            pending: Pending::new(),
             outer: Stack::new(alloc),
         }
     }
 
     fn push_if(&mut self, has: bool, operator: Binary) -> Result<(), SpecError>
-        ensures ok { OnOk result (self.new ≡ with_steps self.old (flag has operator)) }
+        ensures ok { OnOk result (self.new ≡ with_nodes self.old (flag has operator)) }
         ensures err { IfErr result (λ e. e ≡ SpecError.NoMemory) }
     {
         if has {
-            self.steps.push(Step::Join(operator))?;
+            self.nodes.push(Node::Join(operator))?;
         }
         Ok(())
     }
 
     fn end_not(&mut self) -> Result<(), SpecError>
-        ensures ok { OnOk result (self.new ≡ with_steps self.old (end_not self.old.frame)) }
+        ensures ok { OnOk result (self.new ≡ with_nodes self.old (end_not self.old.pending)) }
         ensures err { IfErr result (λ e. e ≡ SpecError.NoMemory) }
     {
-        push_nots(&mut self.steps, self.frame.nots)
+        push_nots(&mut self.nodes, self.pending.nots)
     }
 
     fn end_sequence(&mut self) -> Result<(), SpecError>
-        ensures ok { OnOk result (self.new ≡ with_steps self.old (end_sequence self.old.frame)) }
+        ensures ok { OnOk result (self.new ≡ with_nodes self.old (end_sequence self.old.pending)) }
         ensures err { IfErr result (λ e. e ≡ SpecError.NoMemory) }
     {
         self.end_not()?;
-        self.push_if(self.frame.has_then, Binary::Then)
+        self.push_if(self.pending.has_then, Binary::Then)
     }
 
     fn end_both(&mut self) -> Result<(), SpecError>
-        ensures ok { OnOk result (self.new ≡ with_steps self.old (end_both self.old.frame)) }
+        ensures ok { OnOk result (self.new ≡ with_nodes self.old (end_both self.old.pending)) }
         ensures err { IfErr result (λ e. e ≡ SpecError.NoMemory) }
     {
         self.end_sequence()?;
-        self.push_if(self.frame.has_both, Binary::Both)
+        self.push_if(self.pending.has_both, Binary::Both)
     }
 
     fn end_either(&mut self) -> Result<(), SpecError>
-        ensures ok { OnOk result (self.new ≡ with_steps self.old (end_either self.old.frame)) }
+        ensures ok { OnOk result (self.new ≡ with_nodes self.old (end_either self.old.pending)) }
         ensures err { IfErr result (λ e. e ≡ SpecError.NoMemory) }
     {
         self.end_both()?;
-        self.push_if(self.frame.has_either, Binary::Either)
+        self.push_if(self.pending.has_either, Binary::Either)
     }
 
     /// Another operand begins behind the last.
@@ -183,9 +183,9 @@ impl Parser {
         ensures err { IfErr result (λ e. e ≡ SpecError.NoMemory) }
     {
         self.end_sequence()?;
-        self.frame.has_then = true;
-        self.frame.nots = 0;
-        self.frame.ready = false;
+        self.pending.has_then = true;
+        self.pending.nots = 0;
+        self.pending.ready = false;
         Ok(())
     }
 
@@ -195,10 +195,10 @@ impl Parser {
         ensures err { IfErr result (λ e. e ≡ SpecError.NoMemory) }
     {
         self.end_both()?;
-        self.frame.has_both = true;
-        self.frame.has_then = false;
-        self.frame.nots = 0;
-        self.frame.ready = false;
+        self.pending.has_both = true;
+        self.pending.has_then = false;
+        self.pending.nots = 0;
+        self.pending.ready = false;
         Ok(())
     }
 
@@ -208,11 +208,11 @@ impl Parser {
         ensures err { IfErr result (λ e. e ≡ SpecError.NoMemory) }
     {
         self.end_either()?;
-        self.frame.has_either = true;
-        self.frame.has_both = false;
-        self.frame.has_then = false;
-        self.frame.nots = 0;
-        self.frame.ready = false;
+        self.pending.has_either = true;
+        self.pending.has_both = false;
+        self.pending.has_then = false;
+        self.pending.nots = 0;
+        self.pending.ready = false;
         Ok(())
     }
 
@@ -222,33 +222,33 @@ impl Parser {
         ensures err { IfErr result (λ e. e ≡ SpecError.NoMemory) }
     {
         self.end_either()?;
-        let Some(frame) = self.outer.pop() else {
+        let Some(pending) = self.outer.pop() else {
             return Ok(false);
         };
-        self.frame = frame;
-        self.frame.ready = true;
+        self.pending = pending;
+        self.pending.ready = true;
         Ok(true)
     }
 
     /// A token where an operand is to come. It answers whether the token can stand here.
     fn before_operand(&mut self, sign: Sign) -> Result<bool, SpecError>
-        requires { self.old.frame.nots < 2 ^ 64 - 1 }
+        requires { self.old.pending.nots < 2 ^ 64 - 1 }
         ensures ok { IfOk result (λ goes. MatchBool goes (before_operand self.old sign ≡ Some self.new) (before_operand self.old sign ≡ None)) }
         ensures err { IfErr result (λ e. e ≡ SpecError.NoMemory) }
     {
         match sign {
             Sign::Operand(atom) => {
-                self.steps.push(Step::Push(atom))?;
-                self.frame.ready = true;
+                self.nodes.push(Node::Push(atom))?;
+                self.pending.ready = true;
                 Ok(true)
             }
             Sign::Opening => {
-                self.outer.push(self.frame)?;
-                self.frame = Frame::new();
+                self.outer.push(self.pending)?;
+                self.pending = Pending::new();
                 Ok(true)
             }
             Sign::Tilde => {
-                self.frame.nots += 1;
+                self.pending.nots += 1;
                 Ok(true)
             }
             _ => Ok(false),
@@ -262,11 +262,11 @@ impl Parser {
     {
         match sign {
             Sign::Asterisk => {
-                self.steps.push(Step::Wrap(Unary::Any))?;
+                self.nodes.push(Node::Wrap(Unary::Any))?;
                 Ok(true)
             }
             Sign::PlusSign => {
-                self.steps.push(Step::Wrap(Unary::Many))?;
+                self.nodes.push(Node::Wrap(Unary::Many))?;
                 Ok(true)
             }
             Sign::Ampersand => {
@@ -288,11 +288,11 @@ impl Parser {
 
     /// A token. It answers whether the token can stand here.
     fn follow(&mut self, sign: Sign) -> Result<bool, SpecError>
-        requires { self.old.frame.nots < 2 ^ 64 - 1 }
+        requires { self.old.pending.nots < 2 ^ 64 - 1 }
         ensures ok { IfOk result (λ goes. MatchBool goes (after_sign self.old sign ≡ Some self.new) (after_sign self.old sign ≡ None)) }
         ensures err { IfErr result (λ e. e ≡ SpecError.NoMemory) }
     {
-        if self.frame.ready {
+        if self.pending.ready {
             self.behind_operand(sign)
         } else {
             self.before_operand(sign)
@@ -302,7 +302,7 @@ impl Parser {
     /// A token, which has to be able to stand here.
     fn take(&mut self, bytes: &[u8], token: Token) -> Result<(), SpecError>
         requires token { LiesWithin bytes.now token }
-        requires nots { self.old.frame.nots < 2 ^ 64 - 1 }
+        requires nots { self.old.pending.nots < 2 ^ 64 - 1 }
         ensures { Takes result self.new (after_sign self.old (sign_of bytes.now token)) }
     {
         if self.follow(sign_of(bytes, token))? {
@@ -313,27 +313,27 @@ impl Parser {
     }
 
     /// All nodes, if the formula may end. Its last token is on the line.
-    fn finish(self, line: u32) -> Result<Items<Step>, SpecError>
-        ensures { Gives result (finished self.outer self.frame.ready self) }
+    fn finish(self, line: u32) -> Result<Items<Node>, SpecError>
+        ensures { Gives result (finished self.outer self.pending.ready self) }
     {
         let mut parser = self;
-        if !parser.frame.ready {
+        if !parser.pending.ready {
             return Err(syntax(line));
         }
         match parser.outer.pop() {
             Some(_) => Err(syntax(line)),
-            None => parser.all_steps(),
+            None => parser.all_nodes(),
         }
     }
 
-    fn all_steps(self) -> Result<Items<Step>, SpecError>
-        ensures ok { IfOk result (λ steps. steps ≡ self.steps ++ end_either self.frame) }
+    fn all_nodes(self) -> Result<Items<Node>, SpecError>
+        ensures ok { IfOk result (λ nodes. nodes ≡ self.nodes ++ end_either self.pending) }
         ensures err { IfErr result (λ e. e ≡ SpecError.NoMemory) }
     {
         let mut parser = self;
         parser.end_either()?;
-        let Parser { steps, .. } = parser;
-        Ok(steps)
+        let Parser { nodes, .. } = parser;
+        Ok(nodes)
     }
 }
 
@@ -344,12 +344,12 @@ fn syntax(line: u32) -> SpecError
 }
 
 /// Writes so many `~`.
-fn push_nots(steps: &mut Items<Step>, count: usize) -> Result<(), SpecError>
-    ensures ok { OnOk result (steps.new ≡ steps.old ++ complements count) }
+fn push_nots(nodes: &mut Items<Node>, count: usize) -> Result<(), SpecError>
+    ensures ok { OnOk result (nodes.new ≡ nodes.old ++ complements count) }
     ensures err { IfErr result (λ e. e ≡ SpecError.NoMemory) }
 {
     for _ in 0..count {
-        steps.push(Step::Wrap(Unary::Not))?;
+        nodes.push(Node::Wrap(Unary::Not))?;
     }
     Ok(())
 }
@@ -373,7 +373,7 @@ pub(crate) fn parse(
     bytes: &[u8],
     tokens: &[Token],
     line: u32,
-) -> Result<Items<Step>, SpecError>
+) -> Result<Items<Node>, SpecError>
     requires { LieWithin bytes.now tokens.now }
     ensures { Gives result (parsed bytes.now tokens.now) }
 {

@@ -3,12 +3,12 @@ ghost use Rattle.std.specs.Prelude.{IfOk, IfErr};
 ghost use Rattle.jm_text.specs.Spans.{LieWithin};
 ghost use Rattle.jm_ere.specs.Readings.{IsReadFrom, IsRefused};
 
-use crate::faults::is_too_deep;
 use crate::reader::parse;
 use crate::tree::Ere;
 use crate::value::expression_of;
 use jm_events::EventTable;
-use jm_model::{Counted, SpecError, SpecFault};
+use jm_model::SpecError;
+use jm_reading::few_nested;
 use jm_text::Token;
 use std::alloc::Global;
 
@@ -31,10 +31,7 @@ pub fn read(
     ensures ok { IfOk result (IsReadFrom bytes.now tokens.now table.now) }
     ensures err { IfErr result (IsRefused bytes.now tokens.now table.now) }
 {
-    if is_too_deep(bytes, tokens) {
-        let what = Counted::Nesting;
-        return Err(SpecError::Bad(SpecFault::TooMany { what }));
-    }
-    let steps = parse(alloc, bytes, tokens, line)?;
-    expression_of(alloc, bytes, steps.as_slice(), table)
+    few_nested(bytes, tokens)?;
+    let nodes = parse(alloc, bytes, tokens, line)?;
+    expression_of(alloc, bytes, nodes.as_slice(), table)
 }

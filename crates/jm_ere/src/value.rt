@@ -5,11 +5,11 @@ ghost use Rattle.jm_events.specs.Events.{event_names};
 ghost use Rattle.jm_ere.specs.Expressions.{Expression};
 ghost use Rattle.jm_ere.specs.Readings.{over, between, atom_said};
 ghost use Rattle.jm_ere.specs.Rules.{IsWritten};
-ghost use Rattle.jm_ere.specs.Values.{wrapped, joined, with_step, with_steps, steps_fault};
+ghost use Rattle.jm_ere.specs.Values.{wrapped, joined, with_node, with_nodes, fault_of_nodes};
 
 use crate::faults::{Words, few_nodes};
 use crate::forms::boxed;
-use crate::reader::{Atom, Binary, Step, Unary};
+use crate::reader::{Atom, Binary, Node, Unary};
 use crate::stack::Stack;
 use crate::tree::{Ere, Tree};
 use jm_events::EventTable;
@@ -85,17 +85,17 @@ fn apply(
     bytes: &[u8],
     table: &EventTable,
     stack: &mut Stack<Ere>,
-    step: Step,
+    node: Node,
 ) -> Result<(), SpecError>
-    ensures { Makes result stack.new (with_step bytes.now (event_names table.now) stack.old step) }
+    ensures { Makes result stack.new (with_node bytes.now (event_names table.now) stack.old node) }
 {
-    match step {
-        Step::Push(atom) => {
+    match node {
+        Node::Push(atom) => {
             let ere = atom_of(bytes, table, atom)?;
             stack.push(ere)
         }
-        Step::Wrap(operator) => wrap(alloc, stack, operator),
-        Step::Join(operator) => join(alloc, stack, operator),
+        Node::Wrap(operator) => wrap(alloc, stack, operator),
+        Node::Join(operator) => join(alloc, stack, operator),
     }
 }
 
@@ -104,12 +104,12 @@ fn apply_all(
     bytes: &[u8],
     table: &EventTable,
     stack: &mut Stack<Ere>,
-    steps: &[Step],
+    nodes: &[Node],
 ) -> Result<(), SpecError>
-    ensures { Makes result stack.new (with_steps bytes.now (event_names table.now) stack.old steps.now) }
+    ensures { Makes result stack.new (with_nodes bytes.now (event_names table.now) stack.old nodes.now) }
 {
-    for step in steps {
-        apply(alloc, bytes, table, stack, *step)?;
+    for node in nodes {
+        apply(alloc, bytes, table, stack, *node)?;
     }
     Ok(())
 }
@@ -118,15 +118,15 @@ fn apply_all(
 fn known_expression(
     alloc: Global,
     bytes: &[u8],
-    steps: &[Step],
+    nodes: &[Node],
     table: &EventTable,
 ) -> Result<Ere, SpecError>
-    requires { IsWritten steps.now }
-    ensures ok { IfOk result (λ e. (rest : List Expression) × (with_steps bytes.now (event_names table.now) [] steps.now ≡ Ok (e ∷ rest))) }
-    ensures checked { Checks result (fault_of (with_steps bytes.now (event_names table.now) [] steps.now)) }
+    requires { IsWritten nodes.now }
+    ensures ok { IfOk result (λ e. (rest : List Expression) × (with_nodes bytes.now (event_names table.now) [] nodes.now ≡ Ok (e ∷ rest))) }
+    ensures checked { Checks result (fault_of (with_nodes bytes.now (event_names table.now) [] nodes.now)) }
 {
     let mut stack = Stack::new(alloc);
-    apply_all(alloc, bytes, table, &mut stack, steps)?;
+    apply_all(alloc, bytes, table, &mut stack, nodes)?;
     match stack.pop() {
         Some(ere) => Ok(ere),
         None => unreachable!(),
@@ -134,18 +134,18 @@ fn known_expression(
 }
 
 /// The expression of nodes that are a formula's, or the fault of the first step that has one.
-#[tactic(auto, unfolding(crate::specs::Values::steps_fault))]
+#[tactic(auto, unfolding(crate::specs::Values::fault_of_nodes))]
 pub(crate) fn expression_of(
     alloc: Global,
     bytes: &[u8],
-    steps: &[Step],
+    nodes: &[Node],
     table: &EventTable,
 ) -> Result<Ere, SpecError>
-    requires { IsWritten steps.now }
-    ensures ok { IfOk result (λ e. (rest : List Expression) × (with_steps bytes.now (event_names table.now) [] steps.now ≡ Ok (e ∷ rest))) }
-    ensures checked { Checks result (steps_fault bytes.now table.now steps.now) }
+    requires { IsWritten nodes.now }
+    ensures ok { IfOk result (λ e. (rest : List Expression) × (with_nodes bytes.now (event_names table.now) [] nodes.now ≡ Ok (e ∷ rest))) }
+    ensures checked { Checks result (fault_of_nodes bytes.now table.now nodes.now) }
 {
-    few_nodes(steps)?;
+    few_nodes(nodes)?;
     event_names::<Words>(table)?;
-    known_expression(alloc, bytes, steps, table)
+    known_expression(alloc, bytes, nodes, table)
 }

@@ -3,17 +3,17 @@ use Rattle.std.proofs.lemmas.Bool.{cases_lt}
 use Rattle.jm_model.specs.declared.fault.SpecFault.{SpecFault}
 use Rattle.jm_table.specs.Graphs.{GraphMeaning, step_from, reached_by}
 use Rattle.jm_table.specs.Tables.{Transitions, IsWord, state_after_of, Follows}
-use Rattle.jm_fsm.specs.declared.machine.Target.{Target}
-use Rattle.jm_fsm.specs.declared.machine.Target.TheVariants.{State}
-use Rattle.jm_fsm.specs.Machines.{StateMachine, IsMember, HasGroups, HasStates, IsCompiled, category_count, next_target, fsm_state_after}
+use Rattle.jm_fsm.specs.declared.machine.Destination.{Destination}
+use Rattle.jm_fsm.specs.declared.machine.Destination.TheVariants.{State}
+use Rattle.jm_fsm.specs.Machines.{StateMachine, IsMember, HasGroups, HasStates, IsCompiled, category_count, next_destination, fsm_state_after}
 
 -- a machine as a graph
-abbrev pub graph_of : StateMachine → GraphMeaning Target
-graph_of m = record { start = Ok (State 0); step = λ target letter. Ok (next_target m target letter) }
+abbrev pub graph_of : StateMachine → GraphMeaning Destination
+graph_of m = record { start = Ok (State 0); step = λ destination letter. Ok (next_destination m destination letter) }
 
-path_is : (m : StateMachine) (target : Target) (word : List ℕ) → fold (step_from (graph_of m)) (Ok target) word ≡ Ok (fold (next_target m) target word)
-path_is m target [] = refl
-path_is m target (letter ∷ word) = path_is m (next_target m target letter) word
+path_is : (m : StateMachine) (destination : Destination) (word : List ℕ) → fold (step_from (graph_of m)) (Ok destination) word ≡ Ok (fold (next_destination m) destination word)
+path_is m destination [] = refl
+path_is m destination (letter ∷ word) = path_is m (next_destination m destination letter) word
 
 -- the graph reaches by a word where the path of the word ends
 pub reached_is : (m : StateMachine) (word : List ℕ) → reached_by (graph_of m) word ≡ Ok (fsm_state_after m word)
@@ -33,7 +33,7 @@ last_group groups members category state e =
     let at : slice_get (groups ++ members ∷ []) category ≡ Some members = ap (λ k. slice_get (groups ++ members ∷ []) k) (sym e) ∙ get-last groups members in
     (λ h. rw at at h, λ h. rw at h)
 
-module _ (m : StateMachine) (nodes : List Target) where
+module _ (m : StateMachine) (nodes : List Destination) where
   pub group_more : (category : ℕ) (before t after : Transitions) (members places : List ℕ) → HasGroups m nodes category before t → after ≡ record t { groups = t.groups ++ members ∷ [] }
       → ((s : ℕ) → Contains members s ↔ Contains places s) → ((s : ℕ) → Contains places s ↔ IsSomeAnd (slice_get nodes s) (IsMember m category)) → HasGroups m nodes (category + 1) before after
   group_more category before t after members places so_far added same are = subst (λ (x : Transitions). HasGroups m nodes (category + 1) before x) (sym added) (record {
@@ -51,8 +51,8 @@ module _ (m : StateMachine) (nodes : List Target) where
     ];
   })
 
-  holds_of : (o : Option Target) (target : Target) (category : ℕ) → o ≡ Some target → IsSomeAnd o (IsMember m category) ↔ IsMember m category target
-  holds_of o target category e = (λ h. rw e at h, λ h. rw e h)
+  holds_of : (o : Option Destination) (destination : Destination) (category : ℕ) → o ≡ Some destination → IsSomeAnd o (IsMember m category) ↔ IsMember m category destination
+  holds_of o destination category e = (λ h. rw e at h, λ h. rw e h)
 
   same_states : (before after : Transitions) (word : List ℕ) → after.letters ≡ before.letters → after.next ≡ before.next → state_after_of after word ≡ state_after_of before word
   same_states before after word letters next = rw (letters, next) refl
@@ -62,13 +62,13 @@ module _ (m : StateMachine) (nodes : List Target) where
       → (word : List ℕ) → IsWord after word → slice_get nodes (state_after_of after word) ≡ Some (fsm_state_after m word)
   stands_at before after follows groups word below =
       let stands = follows.stands word (subst (λ n. All (λ letter. letter < n) word) groups.letters below) in
-      let end : stands.0 ≡ fsm_state_after m word = let e : ◌≡◌ {A = Result Target SpecFault} (Ok stands.0) (Ok (fsm_state_after m word)) = sym stands.1 ∙ reached_is m word in cc in
+      let end : stands.0 ≡ fsm_state_after m word = let e : ◌≡◌ {A = Result Destination SpecFault} (Ok stands.0) (Ok (fsm_state_after m word)) = sym stands.1 ∙ reached_is m word in cc in
       let same = same_states before after word groups.letters groups.next in
       ap (λ k. slice_get nodes k) same ∙ stands.2 ∙ ap (λ x. Some x) end
 
   pub has_states : (before after : Transitions) → Follows (graph_of m) before nodes → HasGroups m nodes (category_count m) before after → HasStates m after
   has_states before after follows groups = record {
-    targets = nodes;
+    destinations = nodes;
     count = follows.count ∙ sym groups.states;
     stands = stands_at before after follows groups;
     reached = λ state lt.

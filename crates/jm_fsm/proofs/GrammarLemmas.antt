@@ -23,11 +23,11 @@ module _ (bytes : List ℕ) where
       let a = step_of (word_at bytes (codes "default") tokens) _ _ h in
       let word = word_read bytes (codes "default") tokens a.0.1 a.0.0 a.1 in
       let b = step_of (name_at bytes a.0.1) _ _ a.2 in
-      let target = name_read bytes a.0.1 b.0.1 b.0.0 b.1 in
+      let destination = name_read bytes a.0.1 b.0.1 b.0.0 b.1 in
       let e : ◌≡◌ {A = TransitionText × List Token} (Fallback a.0.0 b.0.0, b.0.1) (t, behind) = cc (b.2) in (
         a.0.0 ∷ b.0.0 ∷ [],
-        word.0 ∙ ap (λ (l : List Token). a.0.0 ∷ l) target.0 ∙ ap (λ (x : TransitionText × List Token). a.0.0 ∷ b.0.0 ∷ x.1) e,
-        subst (λ (x : TransitionText). SpellsTransition bytes (a.0.0 ∷ b.0.0 ∷ []) x) (ap (λ (x : TransitionText × List Token). x.0) e) (refl, word.1, target.1),
+        word.0 ∙ ap (λ (l : List Token). a.0.0 ∷ l) destination.0 ∙ ap (λ (x : TransitionText × List Token). a.0.0 ∷ b.0.0 ∷ x.1) e,
+        subst (λ (x : TransitionText). SpellsTransition bytes (a.0.0 ∷ b.0.0 ∷ []) x) (ap (λ (x : TransitionText × List Token). x.0) e) (refl, word.1, destination.1),
       )
 
   listed_sound : (tokens behind : List Token) (t : TransitionText) → listed_at bytes tokens ≡ Some (t, behind) → (first : List Token) × (tokens ≡ first ++ behind) × SpellsTransition bytes first t
@@ -38,11 +38,11 @@ module _ (bytes : List ℕ) where
       let b = step_of (mark_at bytes (codes "->") a.0.1) _ _ a.2 in
       let arrow = mark_read bytes (codes "->") a.0.1 b.0 b.1 in
       let d = step_of (name_at bytes b.0) _ _ b.2 in
-      let target = name_read bytes b.0 d.0.1 d.0.0 d.1 in
+      let destination = name_read bytes b.0 d.0.1 d.0.0 d.1 in
       let e : ◌≡◌ {A = TransitionText × List Token} (On a.0.0 d.0.0, d.0.1) (t, behind) = cc (d.2) in (
         a.0.0 ∷ arrow.token ∷ d.0.0 ∷ [],
-        event.0 ∙ ap (λ (l : List Token). a.0.0 ∷ l) arrow.cut ∙ ap (λ (l : List Token). a.0.0 ∷ arrow.token ∷ l) target.0 ∙ ap (λ (x : TransitionText × List Token). a.0.0 ∷ arrow.token ∷ d.0.0 ∷ x.1) e,
-        subst (λ (x : TransitionText). SpellsTransition bytes (a.0.0 ∷ arrow.token ∷ d.0.0 ∷ []) x) (ap (λ (x : TransitionText × List Token). x.0) e) (arrow.token, refl, event.1, arrow.is, target.1),
+        event.0 ∙ ap (λ (l : List Token). a.0.0 ∷ l) arrow.cut ∙ ap (λ (l : List Token). a.0.0 ∷ arrow.token ∷ l) destination.0 ∙ ap (λ (x : TransitionText × List Token). a.0.0 ∷ arrow.token ∷ d.0.0 ∷ x.1) e,
+        subst (λ (x : TransitionText). SpellsTransition bytes (a.0.0 ∷ arrow.token ∷ d.0.0 ∷ []) x) (ap (λ (x : TransitionText × List Token). x.0) e) (arrow.token, refl, event.1, arrow.is, destination.1),
       )
 
   transition_sound : (tokens behind : List Token) (t : TransitionText) → transition_at bytes tokens ≡ Some (t, behind) → (first : List Token) × (tokens ≡ first ++ behind) × SpellsTransition bytes first t
@@ -174,22 +174,22 @@ module _ (bytes : List ℕ) where
 -- ---- and what the grammar spells, the rules read
 
 module _ (bytes : List ℕ) where
-  fallback_is : (word target : Token) (behind : List Token) → IsWord bytes (codes "default") word → IsName bytes target → fallback_at bytes (word ∷ target ∷ behind) ≡ Some (Fallback word target, behind)
+  fallback_is : (word destination : Token) (behind : List Token) → IsWord bytes (codes "default") word → IsName bytes destination → fallback_at bytes (word ∷ destination ∷ behind) ≡ Some (Fallback word destination, behind)
   unfolding fallback_at
-  fallback_is word target behind h k = rw (word_is bytes (codes "default") word (target ∷ behind) h, name_is bytes target behind k) refl
+  fallback_is word destination behind h k = rw (word_is bytes (codes "default") word (destination ∷ behind) h, name_is bytes destination behind k) refl
 
-  listed_is : (event arrow target : Token) (behind : List Token) → IsName bytes event → IsMark bytes (codes "->") arrow → IsName bytes target → listed_at bytes (event ∷ arrow ∷ target ∷ behind) ≡ Some (On event target, behind)
+  listed_is : (event arrow destination : Token) (behind : List Token) → IsName bytes event → IsMark bytes (codes "->") arrow → IsName bytes destination → listed_at bytes (event ∷ arrow ∷ destination ∷ behind) ≡ Some (On event destination, behind)
   unfolding listed_at
-  listed_is event arrow target behind h a k = rw (name_is bytes event (arrow ∷ target ∷ behind) h, mark_is bytes (codes "->") arrow (target ∷ behind) a, name_is bytes target behind k) refl
+  listed_is event arrow destination behind h a k = rw (name_is bytes event (arrow ∷ destination ∷ behind) h, mark_is bytes (codes "->") arrow (destination ∷ behind) a, name_is bytes destination behind k) refl
 
   transition_complete : (first behind : List Token) (t : TransitionText) → SpellsTransition bytes first t → transition_at bytes (first ++ behind) ≡ Some (t, behind)
   unfolding transition_at
-  transition_complete first behind (On event target) h =
-      subst (λ (l : List Token). transition_at bytes (l ++ behind) ≡ Some (On event target, behind)) (sym h.1)
-      (second_of_two _ _ _ (and_false _ _ (not_true _ h.3)) ∙ listed_is event h.0 target behind h.2 h.3 h.4)
-  transition_complete first behind (Fallback word target) h =
-      subst (λ (l : List Token). transition_at bytes (l ++ behind) ≡ Some (Fallback word target, behind)) (sym h.0)
-      (first_of_two _ _ _ (and_true _ _ h.1 (not_false _ (name_no_mark bytes (codes "->") target h.2))) ∙ fallback_is word target behind h.1 h.2)
+  transition_complete first behind (On event destination) h =
+      subst (λ (l : List Token). transition_at bytes (l ++ behind) ≡ Some (On event destination, behind)) (sym h.1)
+      (second_of_two _ _ _ (and_false _ _ (not_true _ h.3)) ∙ listed_is event h.0 destination behind h.2 h.3 h.4)
+  transition_complete first behind (Fallback word destination) h =
+      subst (λ (l : List Token). transition_at bytes (l ++ behind) ≡ Some (Fallback word destination, behind)) (sym h.0)
+      (first_of_two _ _ _ (and_true _ _ h.1 (not_false _ (name_no_mark bytes (codes "->") destination h.2))) ∙ fallback_is word destination behind h.1 h.2)
 
   -- no comma stands in front
   abbrev NoComma : List Token → Type 0
@@ -207,12 +207,12 @@ module _ (bytes : List ℕ) where
   entry_reads xs tokens rest behind t h k = rw (h, k) refl
 
   no_mark_first : (first behind : List Token) (t : TransitionText) (mark : List ℕ) → SpellsTransition bytes first t → is_mark_at bytes (first ++ behind) 0 mark ≡ false
-  no_mark_first first behind (On event target) mark h = subst (λ (l : List Token). is_mark_at bytes (l ++ behind) 0 mark ≡ false) (sym h.1) (name_no_mark bytes mark event h.2)
-  no_mark_first first behind (Fallback word target) mark h = subst (λ (l : List Token). is_mark_at bytes (l ++ behind) 0 mark ≡ false) (sym h.0) (word_no_mark bytes (codes "default") mark word h.1)
+  no_mark_first first behind (On event destination) mark h = subst (λ (l : List Token). is_mark_at bytes (l ++ behind) 0 mark ≡ false) (sym h.1) (name_no_mark bytes mark event h.2)
+  no_mark_first first behind (Fallback word destination) mark h = subst (λ (l : List Token). is_mark_at bytes (l ++ behind) 0 mark ≡ false) (sym h.0) (word_no_mark bytes (codes "default") mark word h.1)
 
   some_tokens : (first : List Token) (t : TransitionText) → SpellsTransition bytes first t → 0 < length first
-  some_tokens first (On event target) h = omega (arith, ap (λ (l : List Token). length l) h.1)
-  some_tokens first (Fallback word target) h = omega (arith, ap (λ (l : List Token). length l) h.0)
+  some_tokens first (On event destination) h = omega (arith, ap (λ (l : List Token). length l) h.1)
+  some_tokens first (Fallback word destination) h = omega (arith, ap (λ (l : List Token). length l) h.0)
 
   no_mark_entry : (first behind : List Token) (t : TransitionText) (mark : List ℕ) → SpellsEntry bytes first t → is_mark_at bytes (first ++ behind) 0 mark ≡ false
   no_mark_entry first behind t mark h =

@@ -13,20 +13,20 @@ use Rattle.std.proofs.lemmas.Slice.Eq.{bytes_eq-Decides}
 use Rattle.jm_model.specs.declared.fault.SpecFault.{SpecFault}
 use Rattle.jm_text.specs.declared.token.Token.{Token}
 use Rattle.jm_events.specs.Names.{number_of, with_name}
-use Rattle.jm_fsm.specs.declared.machine.Target.{Target}
-use Rattle.jm_fsm.specs.declared.machine.Target.TheVariants.{State, Fail}
+use Rattle.jm_fsm.specs.declared.machine.Destination.{Destination}
+use Rattle.jm_fsm.specs.declared.machine.Destination.TheVariants.{State, Fail}
 use Rattle.jm_fsm.specs.declared.machine.Transition.{Transition}
 use Rattle.jm_fsm.specs.declared.formula.TransitionText.{TransitionText}
 use Rattle.jm_fsm.specs.declared.formula.TransitionText.TheVariants.{On, Fallback}
 use Rattle.jm_fsm.specs.declared.formula.Part.{Part}
 use Rattle.jm_fsm.specs.declared.formula.Part.TheVariants.{Declaration, Alias}
-use Rattle.jm_fsm.specs.Machines.{StateDefinition, AliasDefinition, StateMachine, IsTarget, IsMachine, AreDistinct, category_names}
+use Rattle.jm_fsm.specs.Machines.{StateDefinition, AliasDefinition, StateMachine, IsDestination, IsMachine, AreDistinct, category_names}
 use Rattle.jm_fsm.specs.Formulas.{is_state}
 use Rattle.jm_fsm.specs.Names.{is_among}
 use Rattle.jm_reading.specs.Tokens.{name_of}
 use Rattle.jm_reading.specs.Events.{letter_said}
 use Rattle.jm_reading.proofs.ReadLemmas.{then_ok}
-use Rattle.jm_fsm.specs.Faults.{is_alias, aliases_fault, is_reserved, part_name_fault, duplicate_state_fault, states_fault, state_names, target_named, target_said, with_listed, with_transition, with_transitions, state_said, with_member, with_members, alias_said, with_part, with_parts}
+use Rattle.jm_fsm.specs.Faults.{is_alias, aliases_fault, is_reserved, part_name_fault, duplicate_state_fault, states_fault, state_names, destination_named, destination_said, with_listed, with_transition, with_transitions, state_said, with_member, with_members, alias_said, with_part, with_parts}
 
 -- ---- counts of names
 
@@ -197,50 +197,50 @@ ok_is_some : {X : Type 0} (o : Option X) (e : SpecFault) (x : X) → ok_or o e �
 ok_is_some None e x h = absurd (cc)
 ok_is_some (Some y) e x h = cc
 
-target_of_name : (b : Bool) (o : Option ℕ) (n : ℕ) (to : Target) → cond b (Some Fail) (option_map (λ k. State k) o) ≡ Some to → ((k : ℕ) → o ≡ Some k → k < n) → IsTarget n to
-target_of_name true o n to h k = let e : Fail ≡ to = cc in subst (λ (x : Target). IsTarget n x) e tt
-target_of_name false None n to h k = absurd (cc)
-target_of_name false (Some j) n to h k = let e : State j ≡ to = cc in subst (λ (x : Target). IsTarget n x) e (k j refl)
+destination_of_name : (b : Bool) (o : Option ℕ) (n : ℕ) (to : Destination) → cond b (Some Fail) (option_map (λ k. State k) o) ≡ Some to → ((k : ℕ) → o ≡ Some k → k < n) → IsDestination n to
+destination_of_name true o n to h k = let e : Fail ≡ to = cc in subst (λ (x : Destination). IsDestination n x) e tt
+destination_of_name false None n to h k = absurd (cc)
+destination_of_name false (Some j) n to h k = let e : State j ≡ to = cc in subst (λ (x : Destination). IsDestination n x) e (k j refl)
 
 abbrev IsFallback : ℕ → StateDefinition → Type 0
-IsFallback n s = (target : Target) → s.fallback ≡ Some target → IsTarget n target
+IsFallback n s = (destination : Destination) → s.fallback ≡ Some destination → IsDestination n destination
 
 abbrev AreListed : ℕ → StateDefinition → Type 0
-AreListed n s = All (λ (t : Transition). IsTarget n t.target) s.transitions
+AreListed n s = All (λ (t : Transition). IsDestination n t.destination) s.transitions
 
 abbrev AreMembers : ℕ → AliasDefinition → Type 0
-AreMembers n a = All (IsTarget n) a.members
+AreMembers n a = All (IsDestination n) a.members
 
 module _ (bytes : List ℕ) (events states : List (List ℕ)) where
-  target_is : (token : Token) (to : Target) → target_said bytes states token ≡ Ok to → IsTarget (length states) to
-  target_is token to h =
-      target_of_name _ (number_of states (name_of bytes token)) (length states) to (ok_is_some (target_named states (name_of bytes token)) _ to h)
+  destination_is : (token : Token) (to : Destination) → destination_said bytes states token ≡ Ok to → IsDestination (length states) to
+  destination_is token to h =
+      destination_of_name _ (number_of states (name_of bytes token)) (length states) to (ok_is_some (destination_named states (name_of bytes token)) _ to h)
       (λ k e. (position-Some (bytes_eq (name_of bytes token)) states k [] e).0)
 
-  -- a state of this name, whose targets are there
+  -- a state of this name, whose destinations are there
   record IsState (name : List ℕ) (s : StateDefinition) : Type 0 where
     named : s.name ≡ name
     listed : AreListed (length states) s
     fallen : IsFallback (length states) s
 
   one_transition : (name : List ℕ) (s made : StateDefinition) (t : TransitionText) → with_transition bytes events states s t ≡ Ok made → IsState name s → IsState name made
-  one_transition name s made (On event target) h is =
+  one_transition name s made (On event destination) h is =
       let a = then_ok (letter_said bytes events event) _ made h in
-      let b = then_ok (target_said bytes states target) _ made a.2 in
+      let b = then_ok (destination_said bytes states destination) _ made a.2 in
       let e : with_listed s a.0 b.0 ≡ made = cc (b.2) in
       subst (λ (x : StateDefinition). IsState name x) e (record {
         named = is.named;
-        listed = All-push (λ (x : Transition). IsTarget (length states) x.target) s.transitions (record { letter = a.0; target = b.0 }) is.listed (target_is target b.0 b.1);
+        listed = All-push (λ (x : Transition). IsDestination (length states) x.destination) s.transitions (record { letter = a.0; destination = b.0 }) is.listed (destination_is destination b.0 b.1);
         fallen = is.fallen;
       })
-  one_transition name s made (Fallback word target) h is =
-      let b = then_ok (target_said bytes states target) _ made h in
+  one_transition name s made (Fallback word destination) h is =
+      let b = then_ok (destination_said bytes states destination) _ made h in
       let x : StateDefinition = record s { fallback = Some b.0 } in
       let e : x ≡ made = cc (b.2) in
       subst (λ (y : StateDefinition). IsState name y) e (record {
         named = is.named;
         listed = is.listed;
-        fallen = λ to k. let same : b.0 ≡ to = cc (k) in subst (λ (y : Target). IsTarget (length states) y) same (target_is target b.0 b.1);
+        fallen = λ to k. let same : b.0 ≡ to = cc (k) in subst (λ (y : Destination). IsDestination (length states) y) same (destination_is destination b.0 b.1);
       })
 
   all_transitions : (name : List ℕ) (s made : StateDefinition) (ts : List TransitionText) → with_transitions bytes events states s ts ≡ Ok made → IsState name s → IsState name made
@@ -260,16 +260,16 @@ module _ (bytes : List ℕ) (events states : List (List ℕ)) where
   all_members name a made [] h is = let e : a ≡ made = cc in subst (λ (x : AliasDefinition). IsAlias name x) e is
   all_members name a made (t ∷ ts) h is =
       let one = then_ok (with_member bytes states a t) _ made h in
-      let b = then_ok (target_said bytes states t) _ one.0 one.1 in
+      let b = then_ok (destination_said bytes states t) _ one.0 one.1 in
       let x : AliasDefinition = record a { members = a.members ++ b.0 ∷ [] } in
       let e : x ≡ one.0 = cc (b.2) in
       all_members name one.0 made ts one.2
-      (subst (λ (y : AliasDefinition). IsAlias name y) e (record { named = is.named; members = All-push (IsTarget (length states)) a.members b.0 is.members (target_is t b.0 b.1) }))
+      (subst (λ (y : AliasDefinition). IsAlias name y) e (record { named = is.named; members = All-push (IsDestination (length states)) a.members b.0 is.members (destination_is t b.0 b.1) }))
 
   the_alias : (name : Token) (made : AliasDefinition) (ts : List Token) → alias_said bytes states name ts ≡ Ok made → IsAlias (name_of bytes name) made
   the_alias name made ts h = all_members (name_of bytes name) _ made ts h (record { named = refl; members = λ k d lt. absurd (omega arith) })
 
-  -- a machine with these names, whose targets are there
+  -- a machine with these names, whose destinations are there
   record IsMade (m : StateMachine) (named aliased : List (List ℕ)) : Type 0 where
     states_are : map (λ (s : StateDefinition). s.name) m.states ≡ named
     aliases_are : map (λ (a : AliasDefinition). a.name) m.aliases ≡ aliased

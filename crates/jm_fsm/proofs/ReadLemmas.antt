@@ -15,7 +15,7 @@ use Rattle.jm_fsm.specs.Machines.{StateDefinition, AliasDefinition, StateMachine
 use Rattle.jm_reading.specs.Tokens.{name_of}
 use Rattle.jm_reading.specs.Events.{letter_said}
 use Rattle.jm_reading.proofs.ReadLemmas.{IsOther, FailsOther, other_or, other_if, other_event, other_then, other_name, other_of}
-use Rattle.jm_fsm.specs.Faults.{name_token, is_grammar_word, part_name_fault, duplicate_state_fault, duplicate_transition_fault, part_transitions_fault, transitions_fault, target_said, with_transition, with_transitions, with_member, with_members, with_part, with_parts, state_names, machine_of, first_fault}
+use Rattle.jm_fsm.specs.Faults.{name_token, is_grammar_word, part_name_fault, duplicate_state_fault, duplicate_transition_fault, part_transitions_fault, transitions_fault, destination_said, with_transition, with_transitions, with_member, with_members, with_part, with_parts, state_names, machine_of, first_fault}
 use Rattle.jm_fsm.specs.Rules.{formula_at}
 use Rattle.jm_reading.specs.Answers.{FailsAt}
 use Rattle.jm_reading.specs.Faults.{Checks, Refuses}
@@ -32,8 +32,8 @@ other_state bytes names (p ∷ ps) = other_if _ _ _ tt (other_state bytes (with_
 
 other_transition : (bytes : List ℕ) (events : List (List ℕ)) (b : Bool) (ts : List TransitionText) → IsOther (duplicate_transition_fault bytes events b ts)
 other_transition bytes events b [] = tt
-other_transition bytes events b (On event target ∷ ts) = other_if _ _ _ tt (other_transition bytes (with_name events (name_of bytes event)) b ts)
-other_transition bytes events b (Fallback word target ∷ ts) = other_if _ _ _ tt (other_transition bytes events true ts)
+other_transition bytes events b (On event destination ∷ ts) = other_if _ _ _ tt (other_transition bytes (with_name events (name_of bytes event)) b ts)
+other_transition bytes events b (Fallback word destination ∷ ts) = other_if _ _ _ tt (other_transition bytes events true ts)
 
 other_transitions_of : (bytes : List ℕ) (p : Part) → IsOther (part_transitions_fault bytes p)
 other_transitions_of bytes (Declaration name ts) = other_transition bytes [] false ts
@@ -45,8 +45,8 @@ other_transitions bytes (p ∷ ps) = other_or _ _ (other_transitions_of bytes p)
 
 module _ (bytes : List ℕ) (events states : List (List ℕ)) where
   other_one : (s : StateDefinition) (t : TransitionText) → FailsOther (with_transition bytes events states s t)
-  other_one s (On event target) = other_then (letter_said bytes events event) _ (other_name _ event.line) (λ letter. other_then (target_said bytes states target) _ (other_name _ target.line) (λ to. tt))
-  other_one s (Fallback word target) = other_then (target_said bytes states target) _ (other_name _ target.line) (λ to. tt)
+  other_one s (On event destination) = other_then (letter_said bytes events event) _ (other_name _ event.line) (λ letter. other_then (destination_said bytes states destination) _ (other_name _ destination.line) (λ to. tt))
+  other_one s (Fallback word destination) = other_then (destination_said bytes states destination) _ (other_name _ destination.line) (λ to. tt)
 
   other_all : (s : StateDefinition) (ts : List TransitionText) → FailsOther (with_transitions bytes events states s ts)
   other_all s [] = tt
@@ -54,7 +54,7 @@ module _ (bytes : List ℕ) (events states : List (List ℕ)) where
 
   other_members : (a : AliasDefinition) (ts : List Token) → FailsOther (with_members bytes states a ts)
   other_members a [] = tt
-  other_members a (t ∷ ts) = other_then (with_member bytes states a t) _ (other_then (target_said bytes states t) _ (other_name _ t.line) (λ to. tt)) (λ more. other_members more ts)
+  other_members a (t ∷ ts) = other_then (with_member bytes states a t) _ (other_then (destination_said bytes states t) _ (other_name _ t.line) (λ to. tt)) (λ more. other_members more ts)
 
   other_in : (m : StateMachine) (p : Part) → FailsOther (with_part bytes events states m p)
   other_in m (Declaration name ts) = other_then (with_transitions bytes events states _ ts) _ (other_all _ ts) (λ s. tt)

@@ -10,15 +10,15 @@ use Rattle.jm_events.specs.Events.{EventDefinitions, event_names}
 use Rattle.jm_reading.specs.Tokens.{name_of}
 use Rattle.jm_reading.specs.Events.{letter_said}
 use Rattle.jm_reading.proofs.ReadLemmas.{then_ok}
-use Rattle.jm_fsm.specs.declared.machine.Target.{Target}
-use Rattle.jm_fsm.specs.declared.machine.Target.TheVariants.{Fail}
+use Rattle.jm_fsm.specs.declared.machine.Destination.{Destination}
+use Rattle.jm_fsm.specs.declared.machine.Destination.TheVariants.{Fail}
 use Rattle.jm_fsm.specs.declared.machine.Transition.{Transition}
 use Rattle.jm_fsm.specs.declared.formula.TransitionText.{TransitionText}
 use Rattle.jm_fsm.specs.declared.formula.TransitionText.TheVariants.{On, Fallback}
 use Rattle.jm_fsm.specs.declared.formula.Part.{Part}
 use Rattle.jm_fsm.specs.declared.formula.Part.TheVariants.{Declaration, Alias}
 use Rattle.jm_fsm.specs.Machines.{StateDefinition, StateMachine}
-use Rattle.jm_fsm.specs.Faults.{target_named, target_said, with_listed, with_transition, with_transitions, state_said, alias_said, with_part, with_parts, state_names, machine_of}
+use Rattle.jm_fsm.specs.Faults.{destination_named, destination_said, with_listed, with_transition, with_transitions, state_said, alias_said, with_part, with_parts, state_names, machine_of}
 use Rattle.jm_fsm.specs.Written.{arrow_of, default_of, IsAsWritten, AreAsWritten}
 
 module _ {X : Type 0} where
@@ -46,26 +46,26 @@ letter_is (Some k) e x h = let l : Letter = record { 0 = k } in let same : l ≡
 
 module _ (bytes : List ℕ) (events states : List (List ℕ)) where
   -- what is written is this
-  abbrev Tells : {X : Type 0} → (X → Target) → Option Token → Option X → Type 0
-  Tells {X} target None x = x ≡ None
-  Tells {X} target (Some name) x = (y : X) × (x ≡ Some y) × (target_named states (name_of bytes name) ≡ Some (target y))
+  abbrev Tells : {X : Type 0} → (X → Destination) → Option Token → Option X → Type 0
+  Tells {X} destination None x = x ≡ None
+  Tells {X} destination (Some name) x = (y : X) × (x ≡ Some y) × (destination_named states (name_of bytes name) ≡ Some (destination y))
 
-  tells_one : (hit : Bool) (name : Token) (others : Option Token) (t : Transition) (x : Option Transition) → target_named states (name_of bytes name) ≡ Some t.target → Tells (λ (y : Transition). y.target) others x → Tells (λ (y : Transition). y.target) (cond hit (Some name) others) (cond hit (Some t) x)
+  tells_one : (hit : Bool) (name : Token) (others : Option Token) (t : Transition) (x : Option Transition) → destination_named states (name_of bytes name) ≡ Some t.destination → Tells (λ (y : Transition). y.destination) others x → Tells (λ (y : Transition). y.destination) (cond hit (Some name) others) (cond hit (Some t) x)
   tells_one true name others t x named rest = (t, refl, named)
   tells_one false name others t x named rest = rest
 
-  tells_last : (others : Option Token) (name : Token) (to : Target) (x : Option Target) → target_named states (name_of bytes name) ≡ Some to → Tells (λ (y : Target). y) others x → Tells (λ (y : Target). y) (option_or others (Some name)) (option_or x (Some to))
-  tells_last None name to x named rest = (to, ap (λ (o : Option Target). option_or o (Some to)) rest, named)
-  tells_last (Some other) name to x named rest = (rest.0, ap (λ (o : Option Target). option_or o (Some to)) rest.1, rest.2)
+  tells_last : (others : Option Token) (name : Token) (to : Destination) (x : Option Destination) → destination_named states (name_of bytes name) ≡ Some to → Tells (λ (y : Destination). y) others x → Tells (λ (y : Destination). y) (option_or others (Some name)) (option_or x (Some to))
+  tells_last None name to x named rest = (to, ap (λ (o : Option Destination). option_or o (Some to)) rest, named)
+  tells_last (Some other) name to x named rest = (rest.0, ap (λ (o : Option Destination). option_or o (Some to)) rest.1, rest.2)
 
   -- what transitions add to a state
   record Goes (letter : ℕ) (s made : StateDefinition) (ts : List TransitionText) : Type 0 where
     listed : Option Transition
     listed_is : find (λ (t : Transition). t.letter.0 == letter) made.transitions ≡ option_or (find (λ (t : Transition). t.letter.0 == letter) s.transitions) listed
-    listed_tells : Tells (λ (y : Transition). y.target) (arrow_of bytes events ts letter) listed
-    fallen : Option Target
+    listed_tells : Tells (λ (y : Transition). y.destination) (arrow_of bytes events ts letter) listed
+    fallen : Option Destination
     fallen_is : made.fallback ≡ option_or fallen s.fallback
-    fallen_tells : Tells (λ (y : Target). y) (default_of ts) fallen
+    fallen_tells : Tells (λ (y : Destination). y) (default_of ts) fallen
     named : made.name ≡ s.name
 
   goes : (letter : ℕ) (ts : List TransitionText) (s made : StateDefinition) → with_transitions bytes events states s ts ≡ Ok made → Goes letter s made ts
@@ -79,11 +79,11 @@ module _ (bytes : List ℕ) (events states : List (List ℕ)) where
         fallen_tells = refl;
         named = ap (λ (x : StateDefinition). x.name) same;
       }
-  goes letter (On event target ∷ ts) s made h =
-      let a = then_ok (with_transition bytes events states s (On event target)) _ made h in
+  goes letter (On event destination ∷ ts) s made h =
+      let a = then_ok (with_transition bytes events states s (On event destination)) _ made h in
       let b = then_ok (letter_said bytes events event) _ a.0 a.1 in
-      let c = then_ok (target_said bytes states target) _ a.0 b.2 in
-      let t : Transition = record { letter = b.0; target = c.0 } in
+      let c = then_ok (destination_said bytes states destination) _ a.0 b.2 in
+      let t : Transition = record { letter = b.0; destination = c.0 } in
       let same : a.0 ≡ with_listed s b.0 c.0 = cc (c.2) in
       let rest = goes letter ts a.0 made a.2 in
       let number : number_of events (name_of bytes event) ≡ Some b.0.0 = letter_is (number_of events (name_of bytes event)) _ b.0 b.1 in
@@ -91,16 +91,16 @@ module _ (bytes : List ℕ) (events states : List (List ℕ)) where
       ap (λ (x : StateDefinition). find (λ (y : Transition). y.letter.0 == letter) x.transitions) same ∙ find-append (λ (x : Transition). x.letter.0 == letter) s.transitions (t ∷ []) in record {
         listed = cond (b.0.0 == letter) (Some t) rest.listed;
         listed_is = rest.listed_is ∙ ap (λ (o : Option Transition). option_or o rest.listed) here ∙ or_one (b.0.0 == letter) _ rest.listed t;
-        listed_tells = subst (λ (o : Option ℕ). Tells (λ (y : Transition). y.target) (cond (unwrap_or (option_map (λ (k : ℕ). k == letter) o) false) (Some target) (arrow_of bytes events ts letter)) (cond (b.0.0 == letter) (Some t) rest.listed)) (sym number)
-            (tells_one (b.0.0 == letter) target (arrow_of bytes events ts letter) t rest.listed (some_of (target_named states (name_of bytes target)) _ c.0 c.1) rest.listed_tells);
+        listed_tells = subst (λ (o : Option ℕ). Tells (λ (y : Transition). y.destination) (cond (unwrap_or (option_map (λ (k : ℕ). k == letter) o) false) (Some destination) (arrow_of bytes events ts letter)) (cond (b.0.0 == letter) (Some t) rest.listed)) (sym number)
+            (tells_one (b.0.0 == letter) destination (arrow_of bytes events ts letter) t rest.listed (some_of (destination_named states (name_of bytes destination)) _ c.0 c.1) rest.listed_tells);
         fallen = rest.fallen;
         fallen_is = rest.fallen_is ∙ ap (λ (x : StateDefinition). option_or rest.fallen x.fallback) same;
         fallen_tells = rest.fallen_tells;
         named = rest.named ∙ ap (λ (x : StateDefinition). x.name) same;
       }
-  goes letter (Fallback word target ∷ ts) s made h =
-      let a = then_ok (with_transition bytes events states s (Fallback word target)) _ made h in
-      let c = then_ok (target_said bytes states target) _ a.0 a.1 in
+  goes letter (Fallback word destination ∷ ts) s made h =
+      let a = then_ok (with_transition bytes events states s (Fallback word destination)) _ made h in
+      let c = then_ok (destination_said bytes states destination) _ a.0 a.1 in
       let next : StateDefinition = record s { fallback = Some c.0 } in
       let same : a.0 ≡ next = cc (c.2) in
       let rest = goes letter ts a.0 made a.2 in record {
@@ -109,18 +109,18 @@ module _ (bytes : List ℕ) (events states : List (List ℕ)) where
         listed_tells = rest.listed_tells;
         fallen = option_or rest.fallen (Some c.0);
         fallen_is = rest.fallen_is ∙ ap (λ (x : StateDefinition). option_or rest.fallen x.fallback) same ∙ sym (or_some rest.fallen s.fallback c.0);
-        fallen_tells = tells_last (default_of ts) target c.0 rest.fallen (some_of (target_named states (name_of bytes target)) _ c.0 c.1) rest.fallen_tells;
+        fallen_tells = tells_last (default_of ts) destination c.0 rest.fallen (some_of (destination_named states (name_of bytes destination)) _ c.0 c.1) rest.fallen_tells;
         named = rest.named ∙ ap (λ (x : StateDefinition). x.name) same;
       }
 
-  abbrev led : Option Transition → Option Target → Target
-  led f g = unwrap_or (option_map (λ (t : Transition). t.target) f) (unwrap_or g Fail)
+  abbrev led : Option Transition → Option Destination → Destination
+  led f g = unwrap_or (option_map (λ (t : Transition). t.destination) f) (unwrap_or g Fail)
 
-  leads_so : (arrow fallback : Option Token) (x f : Option Transition) (y g : Option Target) → f ≡ x → g ≡ y → Tells (λ (z : Transition). z.target) arrow x → Tells (λ (z : Target). z) fallback y
-      → MatchOption arrow (MatchOption fallback (led f g ≡ Fail) (λ name. target_named states (name_of bytes name) ≡ Some (led f g))) (λ name. target_named states (name_of bytes name) ≡ Some (led f g))
+  leads_so : (arrow fallback : Option Token) (x f : Option Transition) (y g : Option Destination) → f ≡ x → g ≡ y → Tells (λ (z : Transition). z.destination) arrow x → Tells (λ (z : Destination). z) fallback y
+      → MatchOption arrow (MatchOption fallback (led f g ≡ Fail) (λ name. destination_named states (name_of bytes name) ≡ Some (led f g))) (λ name. destination_named states (name_of bytes name) ≡ Some (led f g))
   leads_so (Some name) fallback x f y g ef eg h k = h.2 ∙ ap (λ (o : Option Transition). Some (led o g)) (sym (ef ∙ h.1))
-  leads_so None (Some name) x f y g ef eg h k = k.2 ∙ ap (λ (o : Option Target). Some (led None o)) (sym (eg ∙ k.1)) ∙ ap (λ (o : Option Transition). Some (led o g)) (sym (ef ∙ h))
-  leads_so None None x f y g ef eg h k = ap (λ (o : Option Transition). led o g) (ef ∙ h) ∙ ap (λ (o : Option Target). led None o) (eg ∙ k)
+  leads_so None (Some name) x f y g ef eg h k = k.2 ∙ ap (λ (o : Option Destination). Some (led None o)) (sym (eg ∙ k.1)) ∙ ap (λ (o : Option Transition). Some (led o g)) (sym (ef ∙ h))
+  leads_so None None x f y g ef eg h k = ap (λ (o : Option Transition). led o g) (ef ∙ h) ∙ ap (λ (o : Option Destination). led None o) (eg ∙ k)
 
   state_written : (name : Token) (ts : List TransitionText) (made : StateDefinition) → state_said bytes events states name ts ≡ Ok made → IsAsWritten bytes events states name ts made
   state_written name ts made h = record {

@@ -12,8 +12,8 @@ use Rattle.jm_reading.specs.Faults.{or_else, ◌>>>◌, fault_of}
 use Rattle.jm_reading.specs.Events.{reserved_event_fault, letter_said}
 use Rattle.jm_events.specs.Names.{number_of, with_name}
 use Rattle.jm_events.specs.Events.{EventDefinitions, event_names}
-use Rattle.jm_fsm.specs.declared.machine.Target.{Target}
-use Rattle.jm_fsm.specs.declared.machine.Target.TheVariants.{State, Fail}
+use Rattle.jm_fsm.specs.declared.machine.Destination.{Destination}
+use Rattle.jm_fsm.specs.declared.machine.Destination.TheVariants.{State, Fail}
 use Rattle.jm_fsm.specs.declared.formula.TransitionText.{TransitionText}
 use Rattle.jm_fsm.specs.declared.formula.TransitionText.TheVariants.{On, Fallback}
 use Rattle.jm_fsm.specs.declared.formula.Part.{Part}
@@ -57,10 +57,10 @@ duplicate_state_fault bytes names (p ∷ ps) =
 -- in a state no transition is on the event of an earlier one, or one of these events, and at most one is a `default`
 abbrev pub duplicate_transition_fault : List ℕ → List (List ℕ) → Bool → List TransitionText → Option SpecFault
 duplicate_transition_fault bytes events known_default [] = None
-duplicate_transition_fault bytes events known_default (On event target ∷ ts) =
+duplicate_transition_fault bytes events known_default (On event destination ∷ ts) =
     if is_among events (name_of bytes event) then Some (DuplicateTransition event.line)
     else duplicate_transition_fault bytes (with_name events (name_of bytes event)) known_default ts
-duplicate_transition_fault bytes events known_default (Fallback word target ∷ ts) =
+duplicate_transition_fault bytes events known_default (Fallback word destination ∷ ts) =
     if known_default then Some (DuplicateTransition word.line) else duplicate_transition_fault bytes events true ts
 
 abbrev pub part_transitions_fault : List ℕ → Part → Option SpecFault
@@ -82,22 +82,22 @@ state_names bytes (Declaration name transitions ∷ ps) = name_of bytes name ∷
 state_names bytes (Alias name members ∷ ps) = state_names bytes ps
 
 -- the state of a name, or `fail`
-abbrev pub target_named : List (List ℕ) → List ℕ → Option Target
-target_named states name = if bytes_eq name (codes "fail") then Some Fail else option_map (λ k. State k) (number_of states name)
+abbrev pub destination_named : List (List ℕ) → List ℕ → Option Destination
+destination_named states name = if bytes_eq name (codes "fail") then Some Fail else option_map (λ k. State k) (number_of states name)
 
 -- where a name leads
-abbrev pub target_said : List ℕ → List (List ℕ) → Token → Result Target SpecFault
-target_said bytes states token = ok_or (target_named states (name_of bytes token)) (UnknownName token.line)
+abbrev pub destination_said : List ℕ → List (List ℕ) → Token → Result Destination SpecFault
+destination_said bytes states token = ok_or (destination_named states (name_of bytes token)) (UnknownName token.line)
 
 -- The machine that a formula says, among these events and states: what it says is added one after the other, and the
 -- first name that isn't there is the fault.
-abbrev pub with_listed : StateDefinition → Letter → Target → StateDefinition
-with_listed s letter target = record s { transitions = s.transitions ++ record { letter = letter; target = target } ∷ [] }
+abbrev pub with_listed : StateDefinition → Letter → Destination → StateDefinition
+with_listed s letter destination = record s { transitions = s.transitions ++ record { letter = letter; destination = destination } ∷ [] }
 
 abbrev pub with_transition : List ℕ → List (List ℕ) → List (List ℕ) → StateDefinition → TransitionText → Result StateDefinition SpecFault
-with_transition bytes events states s (On event target) =
-    letter_said bytes events event >>> λ letter. target_said bytes states target >>> λ to. Ok (with_listed s letter to)
-with_transition bytes events states s (Fallback word target) = target_said bytes states target >>> λ to. Ok (record s { fallback = Some to })
+with_transition bytes events states s (On event destination) =
+    letter_said bytes events event >>> λ letter. destination_said bytes states destination >>> λ to. Ok (with_listed s letter to)
+with_transition bytes events states s (Fallback word destination) = destination_said bytes states destination >>> λ to. Ok (record s { fallback = Some to })
 
 abbrev pub with_transitions : List ℕ → List (List ℕ) → List (List ℕ) → StateDefinition → List TransitionText → Result StateDefinition SpecFault
 with_transitions bytes events states s [] = Ok s
@@ -107,7 +107,7 @@ abbrev pub state_said : List ℕ → List (List ℕ) → List (List ℕ) → Tok
 state_said bytes events states name transitions = with_transitions bytes events states (record { name = name_of bytes name; transitions = []; fallback = None }) transitions
 
 abbrev pub with_member : List ℕ → List (List ℕ) → AliasDefinition → Token → Result AliasDefinition SpecFault
-with_member bytes states a member = target_said bytes states member >>> λ to. Ok (record a { members = a.members ++ to ∷ [] })
+with_member bytes states a member = destination_said bytes states member >>> λ to. Ok (record a { members = a.members ++ to ∷ [] })
 
 abbrev pub with_members : List ℕ → List (List ℕ) → AliasDefinition → List Token → Result AliasDefinition SpecFault
 with_members bytes states a [] = Ok a

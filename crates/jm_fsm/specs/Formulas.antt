@@ -15,9 +15,9 @@ use Rattle.jm_fsm.specs.declared.formula.Part.TheVariants.{Declaration, Alias}
 
 -- NAME "->" NAME | "default" NAME
 abbrev pub SpellsTransition : List ℕ → List Token → TransitionText → Type 0
-SpellsTransition bytes tokens (On event target) =
-    (arrow : Token) × (tokens ≡ event ∷ arrow ∷ target ∷ []) × IsName bytes event × IsMark bytes (codes "->") arrow × IsName bytes target
-SpellsTransition bytes tokens (Fallback word target) = (tokens ≡ word ∷ target ∷ []) × IsWord bytes (codes "default") word × IsName bytes target
+SpellsTransition bytes tokens (On event destination) =
+    (arrow : Token) × (tokens ≡ event ∷ arrow ∷ destination ∷ []) × IsName bytes event × IsMark bytes (codes "->") arrow × IsName bytes destination
+SpellsTransition bytes tokens (Fallback word destination) = (tokens ≡ word ∷ destination ∷ []) × IsWord bytes (codes "default") word × IsName bytes destination
 
 -- [ "," ]
 abbrev pub SpellsComma : List ℕ → List Token → Type 0

@@ -13,16 +13,16 @@ use Rattle.jm_reading.specs.Reading.{◌>>=◌, is_mark_at, is_word_at, is_left,
 unfoldable pub fallback_at : List ℕ → List Token → Option (TransitionText × List Token)
 fallback_at bytes tokens = do
   word ← word_at bytes (codes "default") tokens
-  target ← name_at bytes word.1
-  Some (Fallback word.0 target.0, target.1)
+  destination ← name_at bytes word.1
+  Some (Fallback word.0 destination.0, destination.1)
 
 -- NAME "->" NAME
 unfoldable pub listed_at : List ℕ → List Token → Option (TransitionText × List Token)
 listed_at bytes tokens = do
   event ← name_at bytes tokens
   arrow ← mark_at bytes (codes "->") event.1
-  target ← name_at bytes arrow
-  Some (On event.0 target.0, target.1)
+  destination ← name_at bytes arrow
+  Some (On event.0 destination.0, destination.1)
 
 -- `default` begins a default, if no `->` stands behind it
 abbrev pub begins_fallback : List ℕ → List Token → Bool

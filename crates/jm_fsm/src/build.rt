@@ -3,13 +3,13 @@ ghost use Rattle.std.specs.Prelude.{◌≡◌, ◌≤◌, [], ◌∷◌, ◌++�
 ghost use Rattle.std.specs.List.{list_any};
 ghost use Rattle.jm_events.specs.Events.{event_names};
 ghost use Rattle.jm_fsm.specs.Formulas.{is_state};
-ghost use Rattle.jm_fsm.specs.Faults.{state_names, target_said, with_transition, with_transitions, with_member, with_members, state_said, alias_said, with_part, with_parts, machine_of, aliases_fault, part_name_fault, duplicate_state_fault, states_fault, first_fault};
+ghost use Rattle.jm_fsm.specs.Faults.{state_names, destination_said, with_transition, with_transitions, with_member, with_members, state_said, alias_said, with_part, with_parts, machine_of, aliases_fault, part_name_fault, duplicate_state_fault, states_fault, first_fault};
 ghost use Rattle.jm_fsm.specs.Machines.{AreDistinct};
 ghost use Rattle.jm_reading.specs.Faults.{Checks, Makes, Answers};
 
 use crate::faults::{self, Words};
 use crate::formula::{Part, TransitionText};
-use crate::machine::{Alias, Draft, Fsm, State, Target, Transition};
+use crate::machine::{Alias, Destination, Draft, Fsm, State, Transition};
 use jm_events::{EventTable, Names};
 use jm_model::{SpecError, SpecFault};
 use jm_reading::{event_names, letter_of, name_of};
@@ -17,16 +17,16 @@ use jm_text::Token;
 use std::alloc::Global;
 
 /// Where a name leads: to a state or to `fail`.
-fn target_of(bytes: &[u8], states: &Names, token: Token) -> Result<Target, SpecError>
+fn destination_of(bytes: &[u8], states: &Names, token: Token) -> Result<Destination, SpecError>
     requires { length states.now ≤ 1023 }
-    ensures { Answers result (target_said bytes.now states.now token) }
+    ensures { Answers result (destination_said bytes.now states.now token) }
 {
     let name = name_of(bytes, token);
     if name == "fail" {
-        return Ok(Target::Fail);
+        return Ok(Destination::Fail);
     }
     match states.find(name) {
-        Some(number) => Ok(Target::State(number as u16)),
+        Some(number) => Ok(Destination::State(number as u16)),
         None => {
             let line = token.line;
             Err(SpecError::Bad(SpecFault::UnknownName { line }))
@@ -46,14 +46,17 @@ fn add_transition(
     ensures { Makes result state.new (with_transition bytes.now (event_names table.now) states.now state.old transition) }
 {
     match transition {
-        TransitionText::On { event, target } => {
+        TransitionText::On { event, destination } => {
             let letter = letter_of(bytes, table, event)?;
-            let target = target_of(bytes, states, target)?;
-            state.list(Transition { letter, target })
+            let destination = destination_of(bytes, states, destination)?;
+            state.list(Transition {
+                letter,
+                destination,
+            })
         }
-        TransitionText::Fallback { target, .. } => {
-            let target = target_of(bytes, states, target)?;
-            state.fall_back(target);
+        TransitionText::Fallback { destination, .. } => {
+            let destination = destination_of(bytes, states, destination)?;
+            state.fall_back(destination);
             Ok(())
         }
     }
@@ -85,8 +88,8 @@ fn add_member(
     requires { length states.now ≤ 1023 }
     ensures { Makes result alias.new (with_member bytes.now states.now alias.old member) }
 {
-    let target = target_of(bytes, states, member)?;
-    alias.add(target)
+    let destination = destination_of(bytes, states, member)?;
+    alias.add(destination)
 }
 
 fn add_members(

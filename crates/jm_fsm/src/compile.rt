@@ -1,10 +1,10 @@
-ghost use Rattle.std.specs.Prelude.{ℕ, ◌≡◌, ◌<◌, ◌≤◌, ◌↔◌, [], Contains, IsSomeAnd, IfOk, IfErr, OnOk, slice_get, length};
-ghost use Rattle.jm_fsm.specs.Machines.{IsMember, HasGroups, HasStates, IsCompiled, category_count};
+ghost use Rattle.std.specs.Prelude.{◌≡◌, ◌<◌, ◌≤◌, [], IfOk, IfErr, OnOk, length};
+ghost use Rattle.jm_fsm.specs.Machines.{HasGroups, HasStates, IsCompiled, category_count};
 
-use crate::machine::{Fsm, Target};
+use crate::machine::{Destination, Fsm};
 use jm_events::EventTable;
 use jm_model::SpecError;
-use jm_table::{Table, build};
+use jm_table::{Table, build, places};
 use std::alloc::Global;
 
 impl Fsm {
@@ -28,7 +28,7 @@ impl Fsm {
         &self,
         alloc: Global,
         categories: usize,
-        nodes: &[Target],
+        nodes: &[Destination],
         table: &mut Table,
     ) -> Result<(), SpecError>
         requires categories { categories ≡ category_count self.now }
@@ -40,30 +40,9 @@ impl Fsm {
         ensures fault { IfErr result (λ e. e ≡ SpecError.NoMemory) }
     {
         for category in 0..categories {
-            let members = self.members(alloc, nodes, category)?;
+            let members = places(alloc, nodes, move |node| self.is_member(category, *node))?;
             table.add_group(members.as_slice())?;
         }
         Ok(())
-    }
-
-    /// The places of a list at which members of a category stand.
-    fn members(
-        &self,
-        alloc: Global,
-        nodes: &[Target],
-        category: usize,
-    ) -> Result<Vec<u16>, SpecError>
-        requires few { length nodes.now ≤ 1024 }
-        requires category { category < category_count self.now }
-        ensures members { IfOk result (λ v. (place : ℕ) → Contains v.items place ↔ IsSomeAnd (slice_get nodes.now place) (IsMember self.now category)) }
-        ensures fault { IfErr result (λ e. e ≡ SpecError.NoMemory) }
-    {
-        let mut members = Vec::new(alloc);
-        for (place, node) in nodes.iter().enumerate() {
-            if self.is_member(category, *node) {
-                members.push(place as u16)?;
-            }
-        }
-        Ok(members)
     }
 }

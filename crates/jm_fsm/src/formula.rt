@@ -9,10 +9,10 @@ use jm_text::Token;
 /// A transition of a state.
 #[derive(Clone, Copy)]
 pub enum TransitionText {
-    /// An event leads to a target.
-    On { event: Token, target: Token },
+    /// An event leads to a destination.
+    On { event: Token, destination: Token },
     /// The word `default`, and where it leads.
-    Fallback { word: Token, target: Token },
+    Fallback { word: Token, destination: Token },
 }
 
 /// A state or an alias.

@@ -17,5 +17,5 @@ mod reader;
 mod reading;
 
 pub use laws::{one_reading, states_as_written};
-pub use machine::{Fsm, Target};
+pub use machine::{Destination, Fsm};
 pub use reading::read;

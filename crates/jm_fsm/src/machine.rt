@@ -1,5 +1,5 @@
 ghost use Rattle.std.specs.Prelude.{ℕ, ◌≡◌, ◌<◌, ◌≤◌, ◌+◌, ◌-◌, ◌^◌, ◌↔◌, false, [], ◌∷◌, ◌++◌, length, map, IsTrue, Contains, OnOk, IfOk, IfErr, string_bytes};
-ghost use Rattle.jm_fsm.specs.Machines.{target_of, next_target, IsMember, IsMachine, AreDistinct, category_names, category_count};
+ghost use Rattle.jm_fsm.specs.Machines.{destination_of, next_destination, IsMember, IsMachine, AreDistinct, category_names, category_count};
 ghost use Rattle.jm_fsm.specs.Names.{is_among};
 
 use jm_events::Names;
@@ -9,20 +9,20 @@ use std::marker::Model;
 
 /// Where a transition leads, or what is a member of an alias.
 #[derive(Clone, Copy, Debug, PartialEq, Eq)]
-pub enum Target {
+pub enum Destination {
     /// A declared state, by its place.
     State(u16),
     /// The state `fail`.
     Fail,
 }
 
-impl Target {
+impl Destination {
     fn is_fail(self) -> bool
-        ensures { IsTrue result ↔ (self ≡ Target.Fail) }
+        ensures { IsTrue result ↔ (self ≡ Destination.Fail) }
     {
         match self {
-            Target::Fail => true,
-            Target::State(_) => false,
+            Destination::Fail => true,
+            Destination::State(_) => false,
         }
     }
 }
@@ -31,7 +31,7 @@ impl Target {
 #[derive(Clone, Copy)]
 pub struct Transition {
     pub letter: Letter,
-    pub target: Target,
+    pub destination: Destination,
 }
 
 /// A state. Contracts see it as its `StateDefinition`.
@@ -39,7 +39,7 @@ pub struct Transition {
 pub struct State {
     name: String,
     transitions: Vec<Transition>,
-    fallback: Option<Target>,
+    fallback: Option<Destination>,
 }
 
 impl Model for State {
@@ -81,20 +81,20 @@ impl State {
     }
 
     /// Leads the letters there that it doesn't list.
-    pub(crate) fn fall_back(&mut self, target: Target)
-        ensures { self.new ≡ record self.old { fallback = Some target } }
+    pub(crate) fn fall_back(&mut self, destination: Destination)
+        ensures { self.new ≡ record self.old { fallback = Some destination } }
     {
-        self.fallback = Some(target);
+        self.fallback = Some(destination);
     }
 
     /// Where a letter leads.
-    fn target(&self, letter: Letter) -> Target
-        ensures { result ≡ target_of self.now letter.0 }
+    fn destination(&self, letter: Letter) -> Destination
+        ensures { result ≡ destination_of self.now letter.0 }
     {
-        let fallback = self.fallback.unwrap_or(Target::Fail);
+        let fallback = self.fallback.unwrap_or(Destination::Fail);
         let listed = self.transitions.iter().find(|t| t.letter.0 == letter.0);
         match listed {
-            Some(transition) => transition.target,
+            Some(transition) => transition.destination,
             None => fallback,
         }
     }
@@ -104,7 +104,7 @@ impl State {
 #[derive(Drop)]
 pub struct Alias {
     name: String,
-    members: Vec<Target>,
+    members: Vec<Destination>,
 }
 
 impl Model for Alias {
@@ -136,7 +136,7 @@ impl Alias {
     }
 
     /// Adds a member.
-    pub(crate) fn add(&mut self, member: Target) -> Result<(), SpecError>
+    pub(crate) fn add(&mut self, member: Destination) -> Result<(), SpecError>
         ensures ok { OnOk result (self.new ≡ record self.old { members = self.old.members ++ member ∷ [] }) }
         ensures err { IfErr result (λ e. e ≡ SpecError.NoMemory) }
     {
@@ -145,11 +145,11 @@ impl Alias {
     }
 
     /// Whether a state is a member.
-    fn contains(&self, target: Target) -> bool
-        ensures { IsTrue result ↔ Contains self.now.members target }
+    fn contains(&self, destination: Destination) -> bool
+        ensures { IsTrue result ↔ Contains self.now.members destination }
     {
         for member in &self.members {
-            if *member == target {
+            if *member == destination {
                 return true;
             }
         }
@@ -244,15 +244,15 @@ impl Fsm {
     }
 
     /// Where a letter leads.
-    pub(crate) fn after(&self, at: Target, letter: Letter) -> Target
-        ensures { result ≡ next_target self.now at letter.0 }
+    pub(crate) fn after(&self, at: Destination, letter: Letter) -> Destination
+        ensures { result ≡ next_destination self.now at letter.0 }
     {
-        let Target::State(number) = at else {
-            return Target::Fail;
+        let Destination::State(number) = at else {
+            return Destination::Fail;
         };
         match self.states.get(number as usize) {
-            Some(state) => state.target(letter),
-            None => Target::Fail,
+            Some(state) => state.destination(letter),
+            None => Destination::Fail,
         }
     }
 
@@ -265,18 +265,18 @@ impl Fsm {
     }
 
     /// Whether a state is a member of a category.
-    pub(crate) fn is_member(&self, category: usize, target: Target) -> bool
+    pub(crate) fn is_member(&self, category: usize, destination: Destination) -> bool
         requires { category < category_count self.now }
-        ensures { IsTrue result ↔ IsMember self.now category target }
+        ensures { IsTrue result ↔ IsMember self.now category destination }
     {
         if category < self.states.len() {
-            return target == Target::State(category as u16);
+            return destination == Destination::State(category as u16);
         }
         let category = category - self.states.len();
         if category < self.aliases.len() {
-            return self.aliases[category].contains(target);
+            return self.aliases[category].contains(destination);
         }
-        target.is_fail()
+        destination.is_fail()
     }
 }
 

@@ -18,8 +18,8 @@ fn fallback(cursor: &mut Cursor<'_>) -> Result<TransitionText, SpecError>
     ensures left { OnOk result (length cursor.new.rest.now < length cursor.old.rest.now) }
 {
     let word = cursor.word(b"default")?;
-    let target = cursor.name()?;
-    Ok(TransitionText::Fallback { word, target })
+    let destination = cursor.name()?;
+    Ok(TransitionText::Fallback { word, destination })
 }
 
 /// NAME "->" NAME
@@ -31,8 +31,8 @@ fn listed(cursor: &mut Cursor<'_>) -> Result<TransitionText, SpecError>
 {
     let event = cursor.name()?;
     cursor.mark(b"->")?;
-    let target = cursor.name()?;
-    Ok(TransitionText::On { event, target })
+    let destination = cursor.name()?;
+    Ok(TransitionText::On { event, destination })
 }
 
 fn begins_fallback(cursor: &Cursor<'_>) -> bool

@@ -22,6 +22,10 @@ Derives productions n word = Trees productions (Nonterminal n ∷ []) word
 abbrev pub IsWord : GrammarDefinition → List ℕ → Type 0
 IsWord g word = Derives g.productions g.start word
 
+-- no word that begins with the word, itself included, is one of the grammar
+abbrev pub IsHopeless : GrammarDefinition → List ℕ → Type 0
+IsHopeless g word = (more : List ℕ) → IsWord g (word ++ more) → ⊥
+
 -- the nonterminal spells some word of these letters
 abbrev pub DerivesOf : List Production → ℕ → ℕ → Type 0
 DerivesOf productions letters n = (word : List ℕ) × All (IsBitSet letters) word × Derives productions n word

@@ -1,5 +1,6 @@
 pub mod Grammars
 pub mod Derivations
+pub mod Categories
 pub mod Rounds
 pub mod Formulas
 pub mod Rules

@@ -1,6 +1,8 @@
 ghost use Rattle.std.specs.Prelude.{◌≡◌, ◌↔◌, None, All, IsTrue, IfOk, IfSome};
+ghost use Rattle.jm_grammar.specs.Categories.{category_names};
 ghost use Rattle.jm_grammar.specs.Grammars.{IsSmall, IsSmallProduction, IsSmallSymbol};
 
+use jm_events::Names;
 use jm_model::{Letter, NoMemory};
 use jm_reading::Items;
 use std::alloc::Global;
@@ -76,6 +78,16 @@ impl Grammar {
         ensures small { IsSmall self.now.productions self.now.start }
     {
         self.start
+    }
+
+    /// The names of the categories, `match` and `fail`. The number of a name is the category's number.
+    pub fn categories(&self, alloc: Global) -> Result<Names, NoMemory>
+        ensures { IfOk result (λ names. names ≡ category_names) }
+    {
+        let mut names = Names::new(alloc);
+        names.add("match")?;
+        names.add("fail")?;
+        Ok(names)
     }
 
     pub(crate) fn allocator(&self) -> Global {

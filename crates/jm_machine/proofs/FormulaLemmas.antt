@@ -10,7 +10,9 @@ use Rattle.jm_events.specs.Events.{EventDefinitions}
 use Rattle.jm_table.specs.Tables.{Transitions, IsWord, IsInGroup, state_after_of}
 use Rattle.jm_fsm.specs.Machines as fsm
 use Rattle.jm_ere.specs.Expressions.{Expression}
+use Rattle.jm_ere.specs.Categories.{ExpressionHolds}
 use Rattle.jm_ere.specs.Groups as ere
+use Rattle.jm_ptltl.specs.Categories.{PastHolds}
 use Rattle.jm_ptltl.specs.Formulas as past
 use Rattle.jm_ptltl.specs.Tables as past_tables
 use Rattle.jm_grammar.specs.Grammars.{GrammarDefinition}
@@ -27,7 +29,7 @@ use Rattle.jm_machine.specs.declared.formula.Formula.{Formula}
 use Rattle.jm_machine.specs.declared.formula.Formula.TheVariants.{Machine, Regular, Temporal, Grammatical}
 use Rattle.jm_machine.specs.declared.engine.Engine.{Engine}
 use Rattle.jm_machine.specs.declared.engine.Engine.TheVariants.{States}
-use Rattle.jm_machine.specs.Formulas.{IsReadAs, CategoryHolds, ExpressionHolds, PastHolds}
+use Rattle.jm_machine.specs.Formulas.{IsReadAs, CategoryHolds}
 use Rattle.jm_machine.specs.Engines.{letters_of_engine, EngineHolds, HasLetters, IsCompiled}
 
 pub machine_count : (m : fsm.StateMachine) → length (fsm.category_names m) ≡ fsm.category_count m

@@ -12,6 +12,8 @@ use Rattle.jm_events.specs.Names.{number_of}
 use Rattle.jm_events.proofs.NameLemmas.{same_name, list_any-place}
 use Rattle.jm_goal.specs.Goals.{GoalDefinition}
 use Rattle.jm_grammar.specs.Derivations as grammar
+use Rattle.jm_grammar.specs.Categories as categories
+use Rattle.jm_grammar.specs.Categories.{GrammarHolds}
 use Rattle.jm_earley.specs.Charts.{ChartsDefinition}
 use Rattle.jm_earley.specs.DeadSets as charts
 use Rattle.jm_earley.specs.Places.{IsAliveFor}
@@ -20,7 +22,7 @@ use Rattle.jm_machine.specs.declared.formula.Formula.TheVariants.{Machine, Regul
 use Rattle.jm_machine.specs.declared.engine.Engine.TheVariants.{Parses}
 use Rattle.jm_machine.specs.declared.run.Run.{Run}
 use Rattle.jm_machine.specs.declared.run.Run.TheVariants.{Start, Barren, State, Parse}
-use Rattle.jm_machine.specs.Formulas.{category_names, grammar_categories, is_grammar, GrammarHolds}
+use Rattle.jm_machine.specs.Formulas.{category_names, is_grammar}
 use Rattle.jm_machine.specs.Meanings.{RuleDefinition, rules_meaning, is_failing_grammar}
 use Rattle.jm_machine.specs.RuleSets.{CompiledRules, IsRuleSet, IsHandledBy, may_begin}
 use Rattle.jm_machine.specs.Runs.{IsRunOf, IsBegun}
@@ -29,17 +31,17 @@ use Rattle.jm_machine.proofs.RuleLemmas.{hit_handled, created_later}
 use Rattle.jm_machine.proofs.NeedLemmas.{can_hit_needed}
 use Rattle.jm_machine.proofs.CutLemmas.{all_places, all_recursion, word_there, barren_never, cut_words}
 
-names_of_grammar : (f : Formula) → is_grammar f ≡ true → category_names f ≡ grammar_categories
+names_of_grammar : (f : Formula) → is_grammar f ≡ true → category_names f ≡ categories.category_names
 names_of_grammar (Grammatical g) is = refl
 names_of_grammar (Machine m) is = absurd (false≢true is)
 names_of_grammar (Regular e) is = absurd (false≢true is)
 names_of_grammar (Temporal f) is = absurd (false≢true is)
 
 -- the categories of a grammar are `match` and `fail`
-name_number : (name : List ℕ) (category : ℕ) → number_of grammar_categories name ≡ Some category → (category ≡ 0) ⊎ (name ≡ codes "fail")
-name_number name category at = by_number category (position-Some (bytes_eq name) grammar_categories category (codes "fail") at)
+name_number : (name : List ℕ) (category : ℕ) → number_of categories.category_names name ≡ Some category → (category ≡ 0) ⊎ (name ≡ codes "fail")
+name_number name category at = by_number category (position-Some (bytes_eq name) categories.category_names category (codes "fail") at)
   where
-    by_number : (k : ℕ) → (k < 2) × (bytes_eq name (get_or grammar_categories k (codes "fail")) ≡ true) × ((i : ℕ) → i < k → bytes_eq name (get_or grammar_categories i (codes "fail")) ≡ false) → (k ≡ 0) ⊎ (name ≡ codes "fail")
+    by_number : (k : ℕ) → (k < 2) × (bytes_eq name (get_or categories.category_names k (codes "fail")) ≡ true) × ((i : ℕ) → i < k → bytes_eq name (get_or categories.category_names i (codes "fail")) ≡ false) → (k ≡ 0) ⊎ (name ≡ codes "fail")
     by_number zero h = inl refl
     by_number (suc zero) h = inr (same_name name (codes "fail") h.1)
     by_number (suc (suc k)) h = absurd (omega (arith, h.0))

@@ -65,7 +65,7 @@ module _ (bytes : List ℕ) (tokens : List Token) (table : EventDefinitions) whe
       same_ok (sym h.4 ∙ ap (past_faults.formula_said bytes (event_names table)) same ∙ k.4)
 
   past_or_fault : (f : past.Formula Letter) (fault : SpecFault) → past_readings.IsReadFrom bytes tokens table f → past_readings.IsRefused bytes tokens table (Bad fault) → ⊥
-  past_or_fault f (TooMany Nesting) h k = h.2 k
+  past_or_fault f (TooMany Nesting) h k = true_or_false h.2 k
   past_or_fault f (Syntax line) h k = k.1 h.0 h.1
   past_or_fault f _ h k = never_some (sym h.3 ∙ ap (past_faults.first_fault bytes table) (past_grammar.one_formula bytes tokens h.0 k.1.0 h.1 k.1.1) ∙ k.1.2)
 

@@ -4,6 +4,7 @@ use Rattle.jm_table.specs.Tables.{IsWord, IsInGroup, state_after_of}
 use Rattle.jm_table.specs.Minimal.{IsReduced}
 use Rattle.jm_grammar.specs.Grammars.{GrammarDefinition}
 use Rattle.jm_grammar.specs.Derivations as grammar
+use Rattle.jm_grammar.specs.Categories.{GrammarHolds}
 use Rattle.jm_earley.specs.Charts.{ChartDefinition, AreBelow, IsChartOf}
 use Rattle.jm_machine.specs.declared.engine.Engine.{Engine}
 use Rattle.jm_machine.specs.declared.engine.Engine.TheVariants.{States, Parses}
@@ -11,7 +12,7 @@ use Rattle.jm_machine.specs.declared.run.Run.{Run}
 use Rattle.jm_machine.specs.declared.run.Run.TheVariants.{State, Parse}
 use Rattle.jm_machine.specs.declared.formula.Formula.{Formula}
 use Rattle.jm_machine.specs.declared.formula.Formula.TheVariants.{Grammatical}
-use Rattle.jm_machine.specs.Formulas.{category_names, CategoryHolds, GrammarHolds}
+use Rattle.jm_machine.specs.Formulas.{category_names, CategoryHolds}
 
 -- how many letters there are, and how many categories
 abbrev pub letters_of_engine : Engine → ℕ

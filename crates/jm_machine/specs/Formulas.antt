@@ -1,6 +1,5 @@
 -- The property of a specification, in whichever logic: its categories, when one holds of a word, and what tokens spell it.
-use Rattle.std.specs.Prelude.{ℕ, zero, suc, Bool, true, false, ◌≡◌, List, [], ◌∷◌, codes}
-use Rattle.jm_model.specs.declared.step.Letter.{Letter}
+use Rattle.std.specs.Prelude.{ℕ, Bool, true, false, ◌≡◌, List}
 use Rattle.jm_model.specs.declared.fault.SpecFault.{SpecFault}
 use Rattle.jm_model.specs.declared.fault.SpecFault.TheVariants.{TooManyStates}
 use Rattle.jm_model.specs.declared.fault.SpecError.TheVariants.{Bad}
@@ -12,59 +11,32 @@ use Rattle.jm_machine.specs.declared.formula.Formula.{Formula}
 use Rattle.jm_machine.specs.declared.formula.Formula.TheVariants.{Machine, Regular, Temporal, Grammatical}
 use Rattle.jm_fsm.specs.Machines as fsm
 use Rattle.jm_fsm.specs.Trees as fsm_trees
-use Rattle.jm_ere.specs.Expressions.{Expression}
-use Rattle.jm_ere.specs.Languages.{InLanguage, IsFailed}
 use Rattle.jm_ere.specs.Categories as ere
 use Rattle.jm_ere.specs.Readings as ere_readings
 use Rattle.jm_ere.specs.Refusals.{FindsFault}
-use Rattle.jm_ptltl.specs.Formulas as past
-use Rattle.jm_ptltl.specs.Meanings.{HoldsLast}
+use Rattle.jm_ptltl.specs.Categories as past
 use Rattle.jm_ptltl.specs.Readings as past_readings
 use Rattle.jm_ptltl.specs.Tables.{IsCrowded}
-use Rattle.jm_grammar.specs.Grammars.{GrammarDefinition}
-use Rattle.jm_grammar.specs.Derivations as grammar
+use Rattle.jm_grammar.specs.Categories as grammar
 use Rattle.jm_grammar.specs.Trees as grammar_readings
-use Rattle.jm_earley.specs.Futures.{IsHopeless}
 
 abbrev pub is_grammar : Formula → Bool
 is_grammar (Grammatical g) = true
 is_grammar _ = false
 
--- the categories of a grammar
-abbrev pub grammar_categories : List (List ℕ)
-grammar_categories = codes "match" ∷ codes "fail" ∷ []
-
 -- the names of the categories; the number of a category is the place of its name
 abbrev pub category_names : Formula → List (List ℕ)
 category_names (Machine m) = fsm.category_names m
 category_names (Regular e) = ere.category_names
-category_names (Temporal f) = codes "validation" ∷ codes "violation" ∷ []
-category_names (Grammatical g) = grammar_categories
-
--- a category of a regular expression, over so many letters: the word is in the language, or no extension of it is
-abbrev pub ExpressionHolds : Expression → ℕ → ℕ → List ℕ → Type 0
-ExpressionHolds e letters zero word = InLanguage e word
-ExpressionHolds e letters (suc zero) word = IsFailed e letters word
-ExpressionHolds e letters (suc (suc category)) word = ⊥
-
--- a category of a past-time formula: it is true, or false, at the word's last position
-abbrev pub PastHolds : past.Formula Letter → ℕ → List ℕ → Type 0
-PastHolds f zero word = HoldsLast f word
-PastHolds f (suc zero) word = HoldsLast f word → ⊥
-PastHolds f (suc (suc category)) word = ⊥
-
--- a category of a grammar: the word is in the language, or no word that begins with it is
-abbrev pub GrammarHolds : GrammarDefinition → ℕ → List ℕ → Type 0
-GrammarHolds g zero word = grammar.IsWord g word
-GrammarHolds g (suc zero) word = IsHopeless g word
-GrammarHolds g (suc (suc category)) word = ⊥
+category_names (Temporal f) = past.category_names
+category_names (Grammatical g) = grammar.category_names
 
 -- the category holds of a word that isn't empty, over so many letters
 abbrev pub CategoryHolds : Formula → ℕ → ℕ → List ℕ → Type 0
 CategoryHolds (Machine m) letters category word = fsm.FsmHolds m category word
-CategoryHolds (Regular e) letters category word = ExpressionHolds e letters category word
-CategoryHolds (Temporal f) letters category word = PastHolds f category word
-CategoryHolds (Grammatical g) letters category word = GrammarHolds g category word
+CategoryHolds (Regular e) letters category word = ere.ExpressionHolds e letters category word
+CategoryHolds (Temporal f) letters category word = past.PastHolds f category word
+CategoryHolds (Grammatical g) letters category word = grammar.GrammarHolds g category word
 
 -- the tokens spell this formula of the logic, without a fault
 abbrev pub IsReadAs : List ℕ → List Token → EventDefinitions → Logic → Formula → Type 0

@@ -5,7 +5,7 @@ ghost use Rattle.jm_text.specs.Spans.{LieWithin};
 ghost use Rattle.jm_table.specs.Explorations.{IfBad};
 ghost use Rattle.jm_table.specs.Tables.{IsWord, IsInGroup, state_after_of};
 ghost use Rattle.jm_earley.specs.Charts.{AreBelow};
-ghost use Rattle.jm_machine.specs.Formulas.{category_names, grammar_categories, is_grammar, IsReadAs, IsRefusedIn, IsTableFault};
+ghost use Rattle.jm_machine.specs.Formulas.{category_names, is_grammar, IsReadAs, IsRefusedIn, IsTableFault};
 ghost use Rattle.jm_machine.specs.Engines.{letters_of_engine, categories_of_engine, is_parsing, EngineHolds, HasLetters, HasParams, IsParserOf, IsCompiled, IsMinimal};
 
 use crate::engine::Engine;
@@ -78,7 +78,7 @@ impl Formula {
             Formula::Machine(machine) => machine.categories(alloc),
             Formula::Regular(expression) => expression.categories(alloc),
             Formula::Temporal(past) => past.categories(alloc),
-            Formula::Grammatical(_) => grammar_categories(alloc),
+            Formula::Grammatical(grammar) => grammar.categories(alloc),
         }
     }
 
@@ -103,16 +103,6 @@ impl Formula {
             Formula::Grammatical(grammar) => parses(alloc, grammar, events),
         }
     }
-}
-
-/// The categories of a grammar.
-fn grammar_categories(alloc: Global) -> Result<Names, NoMemory>
-    ensures { IfOk result (λ names. names ≡ grammar_categories) }
-{
-    let mut names = Names::new(alloc);
-    names.add("match")?;
-    names.add("fail")?;
-    Ok(names)
 }
 
 /// The minimal table of a table.

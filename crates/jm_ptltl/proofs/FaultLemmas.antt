@@ -1,7 +1,6 @@
 -- What is wrong with a formula, step by step.
-use Rattle.std.proofs.Common.{ℕ, ◌≡◌, ◌<◌, ◌≤◌, ◌+◌, inl, inr, Bool, true, false, cond, List, [], ◌∷◌, ◌++◌, Option, Some, None, Result, Ok, Err, IfOk, IfErr, take, length, get_or, refl, sym, ap, subst, ◌∙◌, arith, append_assoc, append-nil, length-append}
+use Rattle.std.proofs.Common.{ℕ, ◌≡◌, ◌<◌, ◌≤◌, inl, inr, Bool, true, false, cond, List, [], ◌∷◌, ◌++◌, Option, Some, None, Result, Ok, Err, IfOk, IfErr, length, refl, sym, ap, subst, ◌∙◌, arith, append_assoc, append-nil, length-append}
 use Rattle.std.proofs.lemmas.Bool.Decides.{leb_tells}
-use Rattle.std.proofs.lemmas.List.Sums.{fold_more}
 use Rattle.jm_model.specs.declared.step.Letter.{Letter}
 use Rattle.jm_model.specs.declared.fault.Counted.TheVariants.{Nesting, Subformulas}
 use Rattle.jm_model.specs.declared.fault.SpecFault.{SpecFault}
@@ -13,27 +12,18 @@ use Rattle.jm_events.specs.Events.{EventDefinitions, event_names}
 use Rattle.jm_reading.specs.Answers.{FailsAt}
 use Rattle.jm_reading.specs.Faults.{or_else, ◌>>>◌, fault_of, Refuses, Checks, Answers}
 use Rattle.jm_reading.specs.Events.{reserved_event_fault, letter_said}
+use Rattle.jm_reading.specs.Nesting.{is_too_deep}
 use Rattle.jm_reading.proofs.ReadLemmas.{then_then, then_same, then_ok, IsOther, FailsOther, other_or, other_if, other_event, other_then, other_name, other_of}
 use Rattle.jm_ptltl.specs.declared.node.Binary.{Binary}
 use Rattle.jm_ptltl.specs.declared.node.Node.{Node}
 use Rattle.jm_ptltl.specs.declared.node.Node.TheVariants.{Event, Prefix, Infix}
 use Rattle.jm_ptltl.specs.Formulas.{Formula, event, constant, unary, binary, subformulas, postfix, formula_of}
 use Rattle.jm_ptltl.specs.Codes.{formula_of-postfix}
-use Rattle.jm_ptltl.specs.Lexicon.{class_of, is_grammar_word}
+use Rattle.jm_ptltl.specs.Lexicon.{is_grammar_word}
 use Rattle.jm_ptltl.specs.Rules.{formula_at}
-use Rattle.jm_ptltl.specs.Faults.{open_by, open_after, IsTooDeep, subformulas_fault, formula_said, first_fault, with_nodes}
+use Rattle.jm_ptltl.specs.Faults.{subformulas_fault, formula_said, first_fault, with_nodes}
 use Rattle.jm_ptltl.specs.Readings.{IsReadFrom, IsRefused}
 use Rattle.jm_ptltl.proofs.GrammarLemmas.{formula_sound, formula_none}
-
--- ---- how deep parentheses stand in one another
-
-module _ (bytes : List ℕ) (tokens : List Token) where
-  pub open_more : (i depth : ℕ) (d : Token) → i < length tokens → depth ≡ open_after bytes (take i tokens) → open_by (class_of bytes (get_or tokens i d)) depth ≡ open_after bytes (take (i + 1) tokens)
-  open_more i depth d lt e = ap (λ k. open_by (class_of bytes (get_or tokens i d)) k) e ∙ sym (fold_more (λ k t. open_by (class_of bytes t) k) 0 tokens i d lt)
-
-  -- so far no 65th is open
-  abbrev pub NoneDeep : ℕ → Type 0
-  NoneDeep i = (k : ℕ) → k ≤ i → open_after bytes (take k tokens) ≤ 64
 
 -- ---- the nodes of a formula over letters
 
@@ -170,7 +160,7 @@ other_fault bytes table f = other_or _ _ (other_if _ _ None tt tt) (other_or _ _
 never : (o : Option SpecFault) (fault : SpecFault) → IsOther o → o ≡ Some fault → IsOther (Some fault)
 never o fault h e = subst IsOther e h
 
-module _ (bytes : List ℕ) (tokens : List Token) (table : EventDefinitions) (shallow : IsTooDeep bytes tokens → ⊥) where
+module _ (bytes : List ℕ) (tokens : List Token) (table : EventDefinitions) (shallow : is_too_deep bytes 0 tokens ≡ false) where
   module _ (f : Formula Token) (spelled : formula_at bytes tokens ≡ Some f) where
     refused_by : (fault : SpecFault) → first_fault bytes table f ≡ Some fault → IsOther (Some fault) → IsRefused bytes tokens table (Bad fault)
     refused_by (Syntax line) h other = absurd other

@@ -1,5 +1,5 @@
 -- What is wrong with a formula, step by step, and the formula over letters that it says.
-use Rattle.std.specs.Prelude.{ℕ, ◌<◌, ◌+◌, ◌-◌, List, [], ◌∷◌, ◌++◌, length, take, fold, Option, Some, None, Result, Ok, nat_lt, if◌then◌else◌}
+use Rattle.std.specs.Prelude.{ℕ, List, [], ◌∷◌, ◌++◌, length, Option, Some, None, Result, Ok, nat_lt, if◌then◌else◌}
 use Rattle.jm_model.specs.declared.step.Letter.{Letter}
 use Rattle.jm_model.specs.declared.fault.Counted.TheVariants.{Subformulas}
 use Rattle.jm_model.specs.declared.fault.SpecFault.{SpecFault}
@@ -10,24 +10,8 @@ use Rattle.jm_reading.specs.Events.{reserved_event_fault, letter_said}
 use Rattle.jm_events.specs.Events.{EventDefinitions, event_names}
 use Rattle.jm_ptltl.specs.declared.node.Node.{Node}
 use Rattle.jm_ptltl.specs.declared.node.Node.TheVariants.{Event, Constant, Prefix, Infix}
-use Rattle.jm_ptltl.specs.declared.lexicon.Class.{Class}
-use Rattle.jm_ptltl.specs.declared.lexicon.Class.TheVariants.{Open, Close}
 use Rattle.jm_ptltl.specs.Formulas.{Formula, event, constant, unary, binary, subformulas}
-use Rattle.jm_ptltl.specs.Lexicon.{class_of, is_grammar_word}
-
--- how many parentheses are open behind a token, where so many were before it; one too many that closes has no effect
-abbrev pub open_by : Class → ℕ → ℕ
-open_by Open depth = depth + 1
-open_by Close depth = depth - 1
-open_by _ depth = depth
-
--- how many parentheses are open behind these tokens
-abbrev pub open_after : List ℕ → List Token → ℕ
-open_after bytes tokens = fold (λ depth t. open_by (class_of bytes t) depth) 0 tokens
-
--- a 65th parenthesis is open at once
-abbrev pub IsTooDeep : List ℕ → List Token → Type 0
-IsTooDeep bytes tokens = (k : ℕ) × (64 < open_after bytes (take k tokens))
+use Rattle.jm_ptltl.specs.Lexicon.{is_grammar_word}
 
 -- there are at most 64 subformulas, each occurrence counted
 abbrev pub subformulas_fault : Formula Token → Option SpecFault

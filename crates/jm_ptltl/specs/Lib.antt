@@ -1,6 +1,7 @@
 pub mod Formulas
 pub mod Codes
 pub mod Meanings
+pub mod Categories
 pub mod Vectors
 pub mod Tables
 pub mod Lexicon

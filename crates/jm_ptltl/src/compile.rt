@@ -1,4 +1,4 @@
-ghost use Rattle.std.specs.Prelude.{ℕ, ◌≡◌, ◌<◌, ◌≤◌, ◌-◌, ◌↔◌, ◌⊎◌, IsTrue, [], Err, Contains, IsSomeAnd, IfOk, IfErr, OnOk, slice_get, length, None, Some};
+ghost use Rattle.std.specs.Prelude.{◌≡◌, ◌<◌, ◌≤◌, ◌↔◌, ◌⊎◌, IsTrue, Err, IfOk, IfErr, OnOk, length};
 ghost use Rattle.jm_ptltl.specs.Vectors.{Says, HasGroup};
 ghost use Rattle.jm_ptltl.specs.Formulas.{postfix};
 ghost use Rattle.jm_ptltl.specs.Tables.{HasStates, IsCompiled, IsCrowded};
@@ -7,7 +7,7 @@ use crate::past::Past;
 use crate::vector::has_bit;
 use jm_events::EventTable;
 use jm_model::{SpecError, SpecFault};
-use jm_table::{Table, build};
+use jm_table::{Table, build, places};
 use std::alloc::Global;
 
 impl Past {
@@ -47,30 +47,9 @@ fn add_group(
     ensures few { table.old.states ≤ 1024 }
     ensures fault { IfErr result (λ e. e ≡ SpecError.NoMemory) }
 {
-    let members = members(alloc, nodes, place, truth)?;
+    let members = places(alloc, nodes, move |node| says(*node, place, truth))?;
     table.add_group(members.as_slice())?;
     Ok(())
-}
-
-/// The places of a list at which the bit of a place says `truth`.
-fn members(
-    alloc: Global,
-    nodes: &[Option<u64>],
-    place: usize,
-    truth: bool,
-) -> Result<Vec<u16>, SpecError>
-    requires place { place < 64 }
-    requires few { length nodes.now ≤ 1024 }
-    ensures members { IfOk result (λ v. (state : ℕ) → Contains v.items state ↔ IsSomeAnd (slice_get nodes.now state) (Says place truth)) }
-    ensures fault { IfErr result (λ e. e ≡ SpecError.NoMemory) }
-{
-    let mut members = Vec::new(alloc);
-    for (state, node) in nodes.iter().enumerate() {
-        if says(*node, place, truth) {
-            members.push(state as u16)?;
-        }
-    }
-    Ok(members)
 }
 
 /// Whether the bit of a place says `truth`. At the start none does.

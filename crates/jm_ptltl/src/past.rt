@@ -1,4 +1,5 @@
-ghost use Rattle.std.specs.Prelude.{◌≡◌, ◌≤◌, [], ◌∷◌, length, codes, IfOk};
+ghost use Rattle.std.specs.Prelude.{◌≡◌, ◌≤◌, length, IfOk};
+ghost use Rattle.jm_ptltl.specs.Categories.{category_names};
 ghost use Rattle.jm_ptltl.specs.Formulas.{postfix, formula_of};
 
 use crate::node::Node;
@@ -42,7 +43,7 @@ impl Past {
     /// The names of the categories: `validation` and `violation`. The number of a name is the category's group in the
     /// compiled table.
     pub fn categories(&self, alloc: Global) -> Result<Names, NoMemory>
-        ensures { IfOk result (λ names. names ≡ codes "validation" ∷ codes "violation" ∷ []) }
+        ensures { IfOk result (λ names. names ≡ category_names) }
     {
         let mut names = Names::new(alloc);
         names.add("validation")?;

@@ -4,12 +4,11 @@ ghost use Rattle.jm_text.specs.Spans.{LieWithin};
 ghost use Rattle.jm_ptltl.specs.Readings.{IsReadFrom, IsRefused};
 
 use crate::build::past_of;
-use crate::faults::is_too_deep;
 use crate::past::Past;
 use crate::reader::formula;
 use jm_events::EventTable;
-use jm_model::{Counted, SpecError, SpecFault};
-use jm_reading::Cursor;
+use jm_model::SpecError;
+use jm_reading::{Cursor, few_nested};
 use jm_text::Token;
 use std::alloc::Global;
 
@@ -31,10 +30,7 @@ pub fn read(
     ensures ok { IfOk result (IsReadFrom bytes.now tokens.now table.now) }
     ensures err { IfErr result (IsRefused bytes.now tokens.now table.now) }
 {
-    if is_too_deep(bytes, tokens) {
-        let what = Counted::Nesting;
-        return Err(SpecError::Bad(SpecFault::TooMany { what }));
-    }
+    few_nested(bytes, tokens)?;
     let mut cursor = Cursor::new(alloc, bytes, tokens, line);
     let nodes = formula(&mut cursor)?;
     past_of(alloc, bytes, nodes.as_slice(), table)

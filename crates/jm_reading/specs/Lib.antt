@@ -3,3 +3,4 @@ pub mod Reading
 pub mod Answers
 pub mod Faults
 pub mod Events
+pub mod Nesting

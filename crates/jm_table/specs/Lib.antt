@@ -5,3 +5,4 @@ pub mod Buckets
 pub mod StateSets
 pub mod Minimal
 pub mod Partitions
+pub mod Members

@@ -1,5 +1,5 @@
 -- The first fault of a script is one, and that of a specification is one but for the line of `Syntax`.
-use Rattle.std.proofs.Common.{◌≡◌, ℕ, ◌⊎◌, inl, inr, List, length, Option, Some, None, Err, refl, sym, ap, subst, ◌∙◌, arith}
+use Rattle.std.proofs.Common.{◌≡◌, ℕ, ◌⊎◌, inl, inr, Bool, List, length, Option, Some, None, Err, refl, sym, ap, subst, ◌∙◌, arith}
 use Rattle.std.proofs.lemmas.Bool.{false≢true}
 use Rattle.std.specs.Prelude.{true, false, IsUtf8}
 use Rattle.jm_model.specs.declared.fault.Counted.TheVariants.{Nesting}
@@ -10,6 +10,7 @@ use Rattle.jm_model.specs.declared.fault.ScriptFault.{ScriptFault}
 use Rattle.jm_text.specs.declared.token.Token.{Token}
 use Rattle.jm_text.specs.Tokens.{IsFaultOf, IsOpenOn}
 use Rattle.jm_events.specs.Events.{EventDefinitions}
+use Rattle.jm_reading.specs.Nesting.{is_too_deep}
 use Rattle.jm_spec.specs.declared.frame.Frame.{Frame}
 use Rattle.jm_spec.specs.declared.tree.Logic.{Logic}
 use Rattle.jm_spec.specs.declared.tree.Logic.TheVariants.{Fsm, Ere, Cfg, Ptltl}
@@ -68,15 +69,15 @@ module _ {X : Type 0} (IsSpelled : X → Type 0) (first : X → Option SpecFault
   one_bad one fault other (inr a) (inr b) = inl (same_some (sym a.2 ∙ ap first (one a.0 b.0 a.1 b.1) ∙ b.2))
 
   -- or else it is nested too deeply, which is looked at first
-  abbrev IsDeepOrBad : Type 0 → SpecFault → Type 0
-  IsDeepOrBad IsDeep fault = (IsDeep × (fault ≡ TooMany Nesting)) ⊎ ((IsDeep → ⊥) × IsBad fault)
+  abbrev IsDeepOrBad : Bool → SpecFault → Type 0
+  IsDeepOrBad deep fault = ((deep ≡ true) × (fault ≡ TooMany Nesting)) ⊎ ((deep ≡ false) × IsBad fault)
 
-  one_deep_or_bad : (IsDeep : Type 0) → ((x y : X) → IsSpelled x → IsSpelled y → x ≡ y) → (fault other : SpecFault)
-      → IsDeepOrBad IsDeep fault → IsDeepOrBad IsDeep other → IsSameFault fault other
-  one_deep_or_bad IsDeep one fault other (inl a) (inl b) = inl (a.1 ∙ sym b.1)
-  one_deep_or_bad IsDeep one fault other (inl a) (inr b) = absurd (b.0 a.0)
-  one_deep_or_bad IsDeep one fault other (inr a) (inl b) = absurd (a.0 b.0)
-  one_deep_or_bad IsDeep one fault other (inr a) (inr b) = one_bad one fault other a.1 b.1
+  one_deep_or_bad : (deep : Bool) → ((x y : X) → IsSpelled x → IsSpelled y → x ≡ y) → (fault other : SpecFault)
+      → IsDeepOrBad deep fault → IsDeepOrBad deep other → IsSameFault fault other
+  one_deep_or_bad deep one fault other (inl a) (inl b) = inl (a.1 ∙ sym b.1)
+  one_deep_or_bad deep one fault other (inl a) (inr b) = absurd (false≢true (sym b.0 ∙ a.0))
+  one_deep_or_bad deep one fault other (inr a) (inl b) = absurd (false≢true (sym a.0 ∙ b.0))
+  one_deep_or_bad deep one fault other (inr a) (inr b) = one_bad one fault other a.1 b.1
 
 -- ---- formulas
 
@@ -85,17 +86,14 @@ module _ (bytes : List ℕ) (tokens : List Token) (table : EventDefinitions) whe
   bad_machine (Syntax line) h = inl (tt, h)
   bad_machine _ h = inr h
 
-  is_shallow : ere.is_too_deep bytes 0 tokens ≡ false → ere.is_too_deep bytes 0 tokens ≡ true → ⊥
-  is_shallow shallow deep = false≢true (sym shallow ∙ deep)
-
   bad_expression : (fault : SpecFault) → ere.IsRefused bytes tokens table (Bad fault)
-      → IsDeepOrBad (ere_spelling.Spells bytes tokens) (ere.first_fault bytes table) (ere.is_too_deep bytes 0 tokens ≡ true) fault
+      → IsDeepOrBad (ere_spelling.Spells bytes tokens) (ere.first_fault bytes table) (is_too_deep bytes 0 tokens) fault
   bad_expression (TooMany Nesting) h = inl (h, refl)
-  bad_expression (Syntax line) h = inr (is_shallow h.0, inl (tt, h.1))
-  bad_expression _ h = inr (is_shallow h.0, inr h.1)
+  bad_expression (Syntax line) h = inr (h.0, inl (tt, h.1))
+  bad_expression _ h = inr (h.0, inr h.1)
 
   bad_past : (fault : SpecFault) → past_readings.IsRefused bytes tokens table (Bad fault)
-      → IsDeepOrBad (past_spelling.Spells bytes tokens) (past_faults.first_fault bytes table) (past_faults.IsTooDeep bytes tokens) fault
+      → IsDeepOrBad (past_spelling.Spells bytes tokens) (past_faults.first_fault bytes table) (is_too_deep bytes 0 tokens) fault
   bad_past (TooMany Nesting) h = inl (h, refl)
   bad_past (Syntax line) h = inr (h.0, inl (tt, h.1))
   bad_past _ h = inr (h.0, inr h.1)
@@ -108,10 +106,10 @@ module _ (bytes : List ℕ) (tokens : List Token) (table : EventDefinitions) whe
   one_formula_fault Fsm fault other a b =
       one_bad (fsm_spelling.Spells bytes tokens) (fsm_faults.first_fault bytes table) (fsm_grammar.one_formula bytes tokens) fault other (bad_machine fault a) (bad_machine other b)
   one_formula_fault Ere fault other a b =
-      one_deep_or_bad (ere_spelling.Spells bytes tokens) (ere.first_fault bytes table) (ere.is_too_deep bytes 0 tokens ≡ true) (ere_grammar.one_formula bytes tokens) fault other
+      one_deep_or_bad (ere_spelling.Spells bytes tokens) (ere.first_fault bytes table) (is_too_deep bytes 0 tokens) (ere_grammar.one_formula bytes tokens) fault other
       (bad_expression fault a) (bad_expression other b)
   one_formula_fault Ptltl fault other a b =
-      one_deep_or_bad (past_spelling.Spells bytes tokens) (past_faults.first_fault bytes table) (past_faults.IsTooDeep bytes tokens) (past_grammar.one_formula bytes tokens) fault other
+      one_deep_or_bad (past_spelling.Spells bytes tokens) (past_faults.first_fault bytes table) (is_too_deep bytes 0 tokens) (past_grammar.one_formula bytes tokens) fault other
       (bad_past fault a) (bad_past other b)
   one_formula_fault Cfg fault other a b =
       one_bad (grammar_spelling.Spells bytes tokens) (grammar_faults.first_fault bytes table) (grammar.one_formula bytes tokens) fault other (bad_grammar fault a) (bad_grammar other b)

@@ -3,4 +3,4 @@ use Rattle.jm_ere.specs.Rules.{complements}
 use Rattle.jm_ere.proofs.reader.push_nots.Given as goal
 
 abbrev pub invariant-loop : goal.invariant-loop
-invariant-loop l = l.steps ≡ l.initial.steps ++ complements l.counter
+invariant-loop l = l.nodes ≡ l.initial.nodes ++ complements l.counter

@@ -5,7 +5,7 @@ use Rattle.jm_ere.proofs.value.known_expression.Goals as goal
 
 pub unreachable-requires : goal.unreachable-requires
 unreachable-requires c =
-    never_empty c.args.bytes.now (event_names c.args.table.now) c.args.steps.now c.requires ((rw c.new-stack.ensures at c.in_ok-apply_all.ensures) ∙ ap (λ s. Ok s) c.in-None.ensures.0)
+    never_empty c.args.bytes.now (event_names c.args.table.now) c.args.nodes.now c.requires ((rw c.new-stack.ensures at c.in_ok-apply_all.ensures) ∙ ap (λ s. Ok s) c.in-None.ensures.0)
 
 pub returns-clause-ok : goal.returns-clause-ok
 returns-clause-ok c = (c.pop.new.self, (rw c.new-stack.ensures at c.in_ok-apply_all.ensures) ∙ ap (λ s. Ok s) c.in-Some.ensures)

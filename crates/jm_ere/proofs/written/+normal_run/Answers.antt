@@ -1,4 +1,3 @@
-use Rattle.std.proofs.Common.{◌≡◌}
 use Rattle.jm_ere.proofs.written.+normal_run.Goals as goal
 
 pub returns-in-Not : goal.returns-in-Not

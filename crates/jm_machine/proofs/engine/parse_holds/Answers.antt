@@ -1,5 +1,5 @@
 use Rattle.std.proofs.Common.{ℕ, ◌↔◌, IsTrue, sym, subst}
-use Rattle.jm_machine.specs.Formulas.{GrammarHolds}
+use Rattle.jm_grammar.specs.Categories.{GrammarHolds}
 use Rattle.jm_machine.proofs.engine.parse_holds.Goals as goal
 
 pub returns-in-1 : goal.returns-in-1
