@@ -187,9 +187,7 @@ impl<M: Monitor> Prop<M> {
         let alloc = self.alloc;
         let mut spare = Spare::none();
         for (line, step) in steps {
-            let Ok(node) = self.node(alloc, caller, *line, *step, &mut spare) else {
-                return Err(NoMemory);
-            };
+            let node = self.node(alloc, caller, *line, *step, &mut spare)?;
             if let Outcome::NoMemory = self.step(node, &mut spare) {
                 return Err(NoMemory);
             }

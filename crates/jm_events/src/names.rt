@@ -65,12 +65,8 @@ impl Names {
         ensures err { OnErr result (self.new ≡ self.old) }
     {
         let number = self.set.len() as u32;
-        let Ok(name) = String::from_str(*self.set.allocator(), name) else {
-            return Err(NoMemory);
-        };
-        let Ok(_) = self.set.insert(name) else {
-            return Err(NoMemory);
-        };
+        let name = String::from_str(*self.set.allocator(), name)?;
+        self.set.insert(name)?;
         Ok(number)
     }
 

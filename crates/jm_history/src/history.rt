@@ -94,9 +94,7 @@ impl History {
         let mut entries = Vec::with_capacity(alloc, self.count as usize)?;
         let mut rest = &self.newest;
         while let Chain::Link(entry, older) = rest {
-            if entries.push(entry).is_err() {
-                return Err(NoMemory);
-            }
+            entries.push(entry)?;
             rest = older;
         }
         match rest {
@@ -129,9 +127,7 @@ impl History {
         let lent = self.entries(alloc)?;
         let mut entries = Vec::new(alloc);
         for entry in &lent {
-            if entries.push(entry.copy()?).is_err() {
-                return Err(NoMemory);
-            }
+            entries.push(entry.copy()?)?;
         }
         Ok(entries)
     }
@@ -190,9 +186,7 @@ fn add_backwards<'a>(row: &'a [Entry], entries: &mut Vec<&'a Entry>) -> Result<(
     let mut i = row.len();
     while i > 0 {
         i -= 1;
-        if entries.push(&row[i]).is_err() {
-            return Err(NoMemory);
-        }
+        entries.push(&row[i])?;
     }
     Ok(())
 }

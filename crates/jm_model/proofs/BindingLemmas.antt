@@ -1,9 +1,9 @@
 -- A binding that is built parameter by parameter.
-use Rattle.std.proofs.Common.{◌≡◌, ◌≢◌, ℕ, zero, suc, ◌+◌, ◌-◌, ◌*◌, ◌/◌, ◌%◌, ◌^◌, ◌<◌, ◌≤◌, List, [], ◌∷◌, ◌++◌, length, get_or, set, take, pow-suc, refl, sym, ◌∙◌, ap, arith, length-set}
+use Rattle.std.proofs.Common.{◌≡◌, ◌≢◌, ℕ, zero, suc, ◌+◌, ◌*◌, ◌/◌, ◌%◌, ◌^◌, ◌<◌, ◌≤◌, List, [], ◌∷◌, ◌++◌, length, get_or, set, take, pow-suc, refl, sym, ◌∙◌, ap, arith, length-set}
 use Rattle.std.specs.Prelude.{Option, Some, None, count_ones}
 use Rattle.std.specs.Int.Count.{ones_step}
 use Rattle.std.proofs.lemmas.List.{take_more}
-use Rattle.jm_model.specs.Bindings.{object_at, objects_of, mask_of, empty, bound}
+use Rattle.jm_model.specs.Bindings.{object_at, objects_of, mask_of}
 
 -- a list of places none of which is bound has no object
 none_bound : (b : List (Option ℕ)) → ((k : ℕ) → object_at b k ≡ None) → objects_of b ≡ []

@@ -1,6 +1,6 @@
 -- What a mask and eight objects stand for, place by place.
-use Rattle.std.proofs.Common.{◌≡◌, ◌≢◌, ℕ, zero, suc, ◌+◌, ◌-◌, ◌*◌, ◌/◌, ◌%◌, ◌^◌, ◌<◌, ◌≤◌, Bool, true, false, cond, List, [], ◌∷◌, length, get_or, set, drop, pow-suc, refl, sym, ◌∙◌, ap, subst, inl, inr, arith}
-use Rattle.std.specs.Prelude.{Option, Some, None, ◌==◌, ◌&&◌, bit_and, min, max, slice_get, option_and_then, unwrap_or}
+use Rattle.std.proofs.Common.{◌≡◌, ◌≢◌, ℕ, zero, suc, ◌+◌, ◌*◌, ◌/◌, ◌%◌, ◌^◌, ◌<◌, ◌≤◌, true, false, cond, List, [], ◌∷◌, length, get_or, set, drop, pow-suc, refl, sym, ◌∙◌, ap, inl, inr, arith}
+use Rattle.std.specs.Prelude.{Option, Some, None, ◌==◌, ◌&&◌, bit_and, min, max, unwrap_or}
 use Rattle.std.specs.Int.RustNames.{bit_or}
 use Rattle.std.specs.Int.{bit_at}
 use Rattle.std.specs.Option.{option_or, option_cmp}
@@ -52,21 +52,6 @@ pub option_at-clear : (m p : ℕ) (os : List ℕ) → bit_at m p ≢ 1 → optio
 option_at-clear m p os h = ap (λ v. cond v (Some (get_or os p 0)) None) (ne_eqb (bit_at m p) 1 h)
 
 -- ---- below
-pub keeps-same : (m n p : ℕ) (a b : List ℕ) → bit_and m n ≡ m → (bit_at m p ≡ 1 → get_or a p 0 ≡ get_or b p 0) → keeps (option_at m p a) (option_at n p b) ≡ true
-keeps-same m n p a b h e = by_lowest_bit (m / 2 ^ p) (λ v. keeps (cond v (Some (get_or a p 0)) None) (option_at n p b) ≡ true) set_case (λ _. refl)
-  where
-    set_case : bit_at m p ≡ 1 → keeps (Some (get_or a p 0)) (option_at n p b) ≡ true
-    set_case one =
-        let both = bit_at_and m n p in
-        let kept = ap (λ k. bit_at k p) h in
-        let other : bit_at n p ≡ 1 = omega (arith, both, kept, one) in
-        ap (keeps (Some (get_or a p 0))) (option_at-set n p b other) ∙ eq-eqb (get_or a p 0) (get_or b p 0) (e one)
-
-pub keeps-other : (m n p : ℕ) (a b : List ℕ) → bit_at m p ≡ 1 → get_or a p 0 ≢ get_or b p 0 → keeps (option_at m p a) (option_at n p b) ≡ false
-keeps-other m n p a b h e =
-    ap (λ x. keeps x (option_at n p b)) (option_at-set m p a h)
-    ∙ by_lowest_bit (n / 2 ^ p) (λ v. keeps (Some (get_or a p 0)) (cond v (Some (get_or b p 0)) None) ≡ false) (λ _. ne_eqb (get_or a p 0) (get_or b p 0) e) (λ _. refl)
-
 -- where one lies below the other, so do their masks
 pub is_below-masks : (m n : ℕ) (a b : List ℕ) → m < 2 ^ length a → is_below (options_of m a) (options_of n b) ≡ true → bit_and m n ≡ m
 is_below-masks m n [] b h e =
@@ -86,11 +71,22 @@ is_below-masks m n (x ∷ a) (y ∷ b) h e =
     first : keeps (cond (m % 2 == 1) (Some x) None) (cond (n % 2 == 1) (Some y) None) ≡ true → min (m % 2) (n % 2) ≡ m % 2
     first kept = by_lowest_bit n (λ v. keeps (cond (m % 2 == 1) (Some x) None) (cond v (Some y) None) ≡ true → min (m % 2) (n % 2) ≡ m % 2) (λ one _. omega arith) (λ none k. least none (λ one. true≢false (sym k ∙ ap (λ v. keeps (cond v (Some x) None) None) (eq-eqb (m % 2) 1 one)))) kept
 
-pub is_below-step : (m n p : ℕ) (a b : List ℕ) → p < length a → p < length b → keeps (option_at m p a) (option_at n p b) ≡ true → is_below (options_from m (p + 1) a) (options_from n (p + 1) b) ≡ is_below (options_from m p a) (options_from n p b)
-is_below-step m n p a b h k e = sym ((λ j. is_below (options_from-step m p a h j) (options_from-step n p b k j)) ∙ ap (λ v. v && is_below (options_from m (p + 1) a) (options_from n (p + 1) b)) e)
-
-pub is_below-stop : (m n p : ℕ) (a b : List ℕ) → p < length a → p < length b → keeps (option_at m p a) (option_at n p b) ≡ false → is_below (options_from m p a) (options_from n p b) ≡ false
-is_below-stop m n p a b h k e = (λ j. is_below (options_from-step m p a h j) (options_from-step n p b k j)) ∙ ap (λ v. v && is_below (options_from m (p + 1) a) (options_from n (p + 1) b)) e
+-- where the masks lie so, what is compatible lies below
+pub is_below-compatible : (m n : ℕ) (a b : List ℕ) → bit_and m n ≡ m → is_below (options_of m a) (options_of n b) ≡ is_compatible (options_of m a) (options_of n b)
+is_below-compatible m n [] [] h = refl
+is_below-compatible m n [] (y ∷ b) h = refl
+is_below-compatible m n (x ∷ a) [] h = refl
+is_below-compatible m n (x ∷ a) (y ∷ b) h =
+    let step = and_step m n in
+    let rest = is_below-compatible (m / 2) (n / 2) a b (omega (arith, step, h)) in
+    let bound : m % 2 ≡ 1 → n % 2 ≡ 0 → ⊥ = λ one none. omega (arith, step, h, one, none) in
+    λ j. first bound j && rest j
+  where
+    first : (m % 2 ≡ 1 → n % 2 ≡ 0 → ⊥) → keeps (cond (m % 2 == 1) (Some x) None) (cond (n % 2 == 1) (Some y) None) ≡ agrees (cond (m % 2 == 1) (Some x) None) (cond (n % 2 == 1) (Some y) None)
+    first bound =
+        by_lowest_bit m (λ v. keeps (cond v (Some x) None) (cond (n % 2 == 1) (Some y) None) ≡ agrees (cond v (Some x) None) (cond (n % 2 == 1) (Some y) None))
+        (λ one. by_lowest_bit n (λ v. keeps (Some x) (cond v (Some y) None) ≡ agrees (Some x) (cond v (Some y) None)) (λ _. refl) (λ none. absurd (bound one none)))
+        (λ _. refl)
 
 -- ---- compatible
 pub agrees-same : (m n p : ℕ) (a b : List ℕ) → (bit_at (bit_and m n) p ≡ 1 → get_or a p 0 ≡ get_or b p 0) → agrees (option_at m p a) (option_at n p b) ≡ true

@@ -2,7 +2,7 @@
 -- parameter, which is 0 where the parameter isn't bound.
 use Rattle.std.specs.Prelude.{◌≡◌, ℕ, ◌+◌, ◌*◌, ◌/◌, ◌%◌, ◌^◌, ◌<◌, ◌==◌, ◌&&◌, Bool, nat_eq, true, false, cond, List, [], ◌∷◌, length, map, Option, Some, None, unwrap_or, refl}
 use Rattle.std.specs.Cmp.Lexicographic.{pointwise}
-use Rattle.std.proofs.Common.{suc, pow-suc, sym, ◌∙◌, ap, subst, arith}
+use Rattle.std.proofs.Common.{pow-suc, sym, subst, arith}
 use Rattle.std.proofs.lemmas.Bool.{eqb-true, eq-eqb}
 
 -- the optional objects that a mask and a list of objects stand for

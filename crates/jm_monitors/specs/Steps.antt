@@ -38,10 +38,6 @@ pub record IsReached {S : Type 0} (Stands : S → List ℕ → Type 0) (letter :
   pub joined : r.instance ≡ join base.instance b
   pub next : Follows Stands letter base.state r.state
 
--- the words of the state hit nothing, and are cut with these dead parameters
-abbrev pub IsLost : Meaning → {S : Type 0} → (S → List ℕ → Type 0) → S → ℕ → Type 0
-IsLost m Stands state dead = (w : List ℕ) → Stands state w → ((k : ℕ) → IsHit m w k → ⊥) × IsCutWord m w dead
-
 -- the words of the state with the letter at their end hit nothing, and are cut with these dead parameters
 abbrev pub IsOverAfter : Meaning → {S : Type 0} → (S → List ℕ → Type 0) → ℕ → S → ℕ → Type 0
 IsOverAfter m Stands letter state dead = (w : List ℕ) → Stands state w → ((k : ℕ) → IsHit m (w ++ letter ∷ []) k → ⊥) × IsCutWord m (w ++ letter ∷ []) dead

@@ -8,7 +8,7 @@ use crate::catalog::Catalog;
 use crate::known::KnownWords;
 use crate::line::read_line;
 use crate::script::{Script, ScriptLine};
-use crate::statement::Position;
+use crate::statement::{MOST_STEPS, Position};
 use crate::words::{behind_line, first_words};
 use jm_events::Names;
 use jm_model::ScriptError;
@@ -16,8 +16,6 @@ use std::alloc::Global;
 
 /// About how many bytes the shortest lines of steps have. Room that no step takes is never touched.
 const SHORTEST_STEP: usize = 8;
-
-const MOST_STEPS: usize = 200_000;
 
 /// Reads a script: adds the names of its new objects, and its number of steps to the count of all scripts.
 ///
@@ -41,10 +39,8 @@ pub fn read_script(
     ensures rising { IfOk result (λ script. RisesFrom 1 script) }
     ensures err { IfErr result (λ error. IsLeft (script_meaning catalog.now count.old bytes.now objects.old) count.old objects.old error objects.new count.new) }
 {
-    let room = (bytes.len() / SHORTEST_STEP).min(MOST_STEPS);
-    let Ok(mut lines) = Vec::with_capacity(alloc, room) else {
-        return Err(ScriptError::NoMemory);
-    };
+    let room = (bytes.len() / SHORTEST_STEP).min(MOST_STEPS as usize);
+    let mut lines = Vec::with_capacity(alloc, room)?;
     let mut words = Vec::new(alloc);
     let mut known = KnownWords::new();
     let mut number = 0;
@@ -55,9 +51,7 @@ pub fn read_script(
             line: number,
             count: *count + lines.len() as u32,
         };
-        let Ok(end) = first_words(text, &mut words) else {
-            return Err(ScriptError::NoMemory);
-        };
+        let end = first_words(text, &mut words)?;
         rest = behind_line(text, end);
         let target = match read_line(alloc, catalog, position, &words, objects, &mut known) {
             Ok(target) => target,
@@ -73,9 +67,7 @@ pub fn read_script(
             line: number,
             target,
         };
-        let Ok(()) = lines.push(line) else {
-            return Err(ScriptError::NoMemory);
-        };
+        lines.push(line)?;
     }
     *count += lines.len() as u32;
     Ok(Script::of(lines))

@@ -107,9 +107,7 @@ pub fn project_in_blocks(
     while !rest.is_empty() {
         let (front, behind) = rest.split_at(rest.len().min(BLOCK));
         let block = project_lines(alloc, front, spec)?;
-        let Ok(()) = blocks.push(block) else {
-            return Err(NoMemory);
-        };
+        blocks.push(block)?;
         rest = behind;
     }
     Ok(blocks)
@@ -123,16 +121,12 @@ fn project_lines(
 ) -> Result<Vec<(u32, Step)>, NoMemory>
     ensures { IfOk result (λ steps. steps.items ≡ projection_of (script_of lines.now) spec) }
 {
-    let Ok(mut steps) = Vec::with_capacity(alloc, lines.len()) else {
-        return Err(NoMemory);
-    };
+    let mut steps = Vec::with_capacity(alloc, lines.len())?;
     for line in lines {
         let Some(step) = line.target.step_for(spec) else {
             continue;
         };
-        let Ok(()) = steps.push((line.line, step)) else {
-            return Err(NoMemory);
-        };
+        steps.push((line.line, step))?;
     }
     Ok(steps)
 }

@@ -20,7 +20,8 @@ use jm_events::Names;
 use jm_model::{Binding, ScriptError, ScriptFault};
 use std::alloc::Global;
 
-const MOST_STEPS: u32 = 200_000;
+/// How many steps the scripts of a run have together at most.
+pub const MOST_STEPS: u32 = 200_000;
 
 /// Where a line stands: its number, and how many steps stand before it in all scripts.
 #[derive(Clone, Copy)]
@@ -66,14 +67,8 @@ pub fn event_line<'a>(
     ensures fits { IfOk result (λ target. IfSome target (FitsTarget catalog.now (length names.new))) }
     ensures read { IsReadAs (statement_meaning catalog.now position.count position.line names.old (event_statement word.now (map (λ w. w.now) objects.now))) names.old result names.new }
 {
-    let event = match event_of(catalog, position, word, objects, known) {
-        Ok(event) => event,
-        Err(error) => return Err(error),
-    };
-    let numbers = match numbers(alloc, position, objects, names) {
-        Ok(numbers) => numbers,
-        Err(error) => return Err(error),
-    };
+    let event = event_of(catalog, position, word, objects, known)?;
+    let numbers = numbers(alloc, position, objects, names)?;
     let binding = Binding::of(event.mask, &numbers[..objects.len()]);
     Ok(Some(Target::Event {
         spec: event.spec,
@@ -176,17 +171,13 @@ fn numbers(
             return Ok(numbers);
         }
     }
-    let Ok(room) = have_room(alloc, objects, names) else {
-        return Err(ScriptError::NoMemory);
-    };
+    let room = have_room(alloc, objects, names)?;
     if !room {
         let line = position.line;
         return Err(ScriptError::Bad(ScriptFault::TooManyObjects { line }));
     }
-    match mention(objects, names) {
-        Ok(numbers) => Ok(numbers),
-        Err(_) => Err(ScriptError::NoMemory),
-    }
+    let numbers = mention(objects, names)?;
+    Ok(numbers)
 }
 
 /// A line `death OBJECT`, by the words behind the first.
@@ -206,10 +197,7 @@ pub fn death_line(
     if position.is_full() {
         return Err(position.too_many_lines());
     }
-    let numbers = match numbers(alloc, position, words, names) {
-        Ok(numbers) => numbers,
-        Err(error) => return Err(error),
-    };
+    let numbers = numbers(alloc, position, words, names)?;
     Ok(Some(Target::Death { object: numbers[0] }))
 }
 

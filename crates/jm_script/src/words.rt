@@ -16,10 +16,9 @@ pub fn first_words<'a>(text: &'a [u8], words: &mut Vec<&'a [u8]>) -> Result<usiz
     ensures words { OnOk result (map (λ w. w.now) words.new.items ≡ words_of (first_line text.now)) }
     ensures line { IfOk result (λ end. end ≡ position_or_len is_line_feed text.now) }
 {
-    match plain_words(text, words) {
-        Ok(Some(end)) => Ok(end),
-        Ok(None) => marked_words(text, words),
-        Err(error) => Err(error),
+    match plain_words(text, words)? {
+        Some(end) => Ok(end),
+        None => marked_words(text, words),
     }
 }
 
@@ -126,10 +125,8 @@ fn add_word<'a>(word: &'a [u8], words: &mut Vec<&'a [u8]>) -> Result<(), NoMemor
     if word.is_empty() {
         return Ok(());
     }
-    match words.push(word) {
-        Ok(()) => Ok(()),
-        Err(_) => Err(NoMemory),
-    }
+    words.push(word)?;
+    Ok(())
 }
 
 /// Puts the words of a line in the place of those that are there.
@@ -141,9 +138,7 @@ fn read_words<'a>(line: &'a [u8], words: &mut Vec<&'a [u8]>) -> Result<(), NoMem
         if word.is_empty() {
             continue;
         }
-        let Ok(()) = words.push(word) else {
-            return Err(NoMemory);
-        };
+        words.push(word)?;
     }
     Ok(())
 }

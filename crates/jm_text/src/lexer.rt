@@ -49,9 +49,7 @@ fn cut(alloc: Global, bytes: &[u8]) -> Result<Vec<Token>, SpecError>
                     end: (start + n) as u32,
                     line: line as u32,
                 };
-                if tokens.push(token).is_err() {
-                    return Err(SpecError::NoMemory);
-                }
+                tokens.push(token)?;
                 start + n
             }
             Piece::Open => return Err(SpecError::Bad(SpecFault::OpenText { line: line as u32 })),

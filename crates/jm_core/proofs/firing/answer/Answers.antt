@@ -1,5 +1,4 @@
 use Rattle.std.proofs.Common.{◌≡◌, ◌∙◌}
-use Rattle.jm_store.specs.Contents.{Contents}
 use Rattle.jm_core.proofs.FireLemmas.{at_rest, rest_after_done}
 use Rattle.jm_core.proofs.firing.answer.Goals as goal
 use Rattle.jm_core.proofs.firing.answer.Goals.{then-known+in_default, else-known}

@@ -1,4 +1,4 @@
-use Rattle.std.proofs.Common.{◌≡◌, ◌≤◌, ◌+◌, ◌-◌, length, take}
+use Rattle.std.proofs.Common.{◌≡◌, ◌≤◌, ◌-◌, length, take}
 use Rattle.jm_script.proofs.known.are_same.Given as goal
 
 abbrev pub invariant-loop-at : goal.invariant-loop-at

@@ -1,4 +1,5 @@
 use Rattle.std.proofs.Common.{◌≡◌, ◌+◌, Some, None, length, refl, ap, ◌∙◌, arith}
+use Rattle.std.proofs.lemmas.Result.{err_from_is_err_and}
 use Rattle.std.proofs.lemmas.List.Elements.{All-nil, All-push}
 use Rattle.jm_script.specs.Lines.{first_line, lines_left, bytes_left}
 use Rattle.jm_script.specs.Fitting.{FitsTarget}
@@ -13,23 +14,23 @@ loop-rest-init c =
       counted = refl;
       few = omega arith;
       known = c.new-known.ensures c.args.catalog.now;
-      fitting = rw c.in-Ok.ensures.items (All-nil (λ l. FitsTarget c.args.catalog.now (length c.args.objects.now) l.target));
-      read = rw c.in-Ok.ensures.items (read_nothing c.args.catalog.now c.args.bytes.now c.args.count.now c.args.objects.now c.requires.few_objects c.requires.few_steps (IsExtension-none c.args.objects.now));
+      fitting = rw c.in_ok-lines.ensures.items (All-nil (λ l. FitsTarget c.args.catalog.now (length c.args.objects.now) l.target));
+      read = rw c.in_ok-lines.ensures.items (read_nothing c.args.catalog.now c.args.bytes.now c.args.count.now c.args.objects.now c.requires.few_objects c.requires.few_steps (IsExtension-none c.args.objects.now));
     }
 
 pub returns-in-Err-clause-err : goal.returns-in-Err-clause-err
 returns-in-Err-clause-err c =
     let here = ap lines_left c.in-Some.is ∙ c.behind_line-rest.ensures.lines in
-    let words = ap texts c.deref.ensures.value ∙ c.in-Ok-first_words.ensures.words in
+    let words = ap texts c.deref.ensures.value ∙ c.in_ok-end.ensures.words in
     let steps : c.loop-rest.count + c.len.result ≡ c.args.count.now + length c.loop-rest.lines.items = omega arith in
     rw (c.count_left.ensures, steps, c.loop-rest.invariant.counted) (ended c.args.catalog.now _ c.args.count.now c.args.objects.now c.loop-rest.lines.items c.loop-rest.objects c.loop-rest.number _ c.loop-rest.invariant.read (first_line c.in-Some.text.now) (lines_left c.behind_line-rest.result) here c.in-Err.error c.read_line.new.names (rw steps at (c.in-Err.ensures.read (first_line c.in-Some.text.now) words)))
 
 pub loop-rest-preserved-in_default-target : goal.loop-rest-preserved-in_default-target
 loop-rest-preserved-in_default-target c =
     let here = ap lines_left c.in-Some.is ∙ c.behind_line-rest.ensures.lines in
-    let words = ap texts c.deref.ensures.value ∙ c.in-Ok-first_words.ensures.words in
+    let words = ap texts c.deref.ensures.value ∙ c.in_ok-end.ensures.words in
     let steps : c.loop-rest.count + c.len.result ≡ c.args.count.now + length c.loop-rest.lines.items = omega arith in
-    let meaning = rw (steps, c.in_default-target.is) at (c.in-Ok-read_line.ensures.read (first_line c.in-Some.text.now) words) in
+    let meaning = rw (steps, c.in_default-target.is) at (c.in-Ok.ensures.read (first_line c.in-Some.text.now) words) in
     record {
       counted = c.loop-rest.invariant.counted;
       few = omega (arith, ap bytes_left c.in-Some.is, c.loop-rest.invariant.few, c.behind_line-rest.ensures.shorter);
@@ -41,31 +42,32 @@ loop-rest-preserved-in_default-target c =
 pub loop-rest-preserved : goal.loop-rest-preserved
 loop-rest-preserved c =
     let here = ap lines_left c.in-Some.is ∙ c.behind_line-rest.ensures.lines in
-    let words = ap texts c.deref.ensures.value ∙ c.in-Ok-first_words.ensures.words in
+    let words = ap texts c.deref.ensures.value ∙ c.in_ok-end.ensures.words in
     let steps : c.loop-rest.count + c.len.result ≡ c.args.count.now + length c.loop-rest.lines.items = omega arith in
-    let meaning = rw (steps, c.in-Some-target.is) at (c.in-Ok-read_line.ensures.read (first_line c.in-Some.text.now) words) in
-    let fits = rw c.in-Some-target.is at c.in-Ok-read_line.ensures.fits in
+    let meaning = rw (steps, c.in-Some-target.is) at (c.in-Ok.ensures.read (first_line c.in-Some.text.now) words) in
+    let fits = rw c.in-Some-target.is at c.in-Ok.ensures.fits in
     let kept = FitsCatalog-more c.args.catalog.now (length c.loop-rest.objects) (length c.read_line.new.names) (more_names c.args.catalog.now _ c.args.count.now c.args.objects.now c.loop-rest.lines.items c.loop-rest.objects c.loop-rest.number _ c.loop-rest.invariant.read (first_line c.in-Some.text.now) (lines_left c.behind_line-rest.result) here (Some c.in-Some-target.target) c.read_line.new.names meaning) c.loop-rest.lines.items c.loop-rest.invariant.fitting in
     record {
       counted = c.loop-rest.invariant.counted;
       few = omega (arith, ap bytes_left c.in-Some.is, c.loop-rest.invariant.few, c.behind_line-rest.ensures.shorter);
       known = c.read_line.ensures.known;
-      fitting = rw c.in-Ok-push.ensures.items (All-push (λ l. FitsTarget c.args.catalog.now (length c.read_line.new.names) l.target) c.loop-rest.lines.items (record { line = c.loop-rest.number + 1; target = c.in-Some-target.target }) kept fits);
-      read = rw c.in-Ok-push.ensures.items (one_step c.args.catalog.now _ c.args.count.now c.args.objects.now c.loop-rest.lines.items c.loop-rest.objects c.loop-rest.number _ c.loop-rest.invariant.read (first_line c.in-Some.text.now) (lines_left c.behind_line-rest.result) here c.in-Some-target.target c.read_line.new.names meaning);
+      fitting = rw c.in_ok-push.ensures.items (All-push (λ l. FitsTarget c.args.catalog.now (length c.read_line.new.names) l.target) c.loop-rest.lines.items (record { line = c.loop-rest.number + 1; target = c.in-Some-target.target }) kept fits);
+      read = rw c.in_ok-push.ensures.items (one_step c.args.catalog.now _ c.args.count.now c.args.objects.now c.loop-rest.lines.items c.loop-rest.objects c.loop-rest.number _ c.loop-rest.invariant.read (first_line c.in-Some.text.now) (lines_left c.behind_line-rest.result) here c.in-Some-target.target c.read_line.new.names meaning);
     }
 
-pub returns-in_default-push-clause-err : goal.returns-in_default-push-clause-err
-returns-in_default-push-clause-err c =
+pub returns-in_err-push-clause-err : goal.returns-in_err-push-clause-err
+returns-in_err-push-clause-err c =
     let here = ap lines_left c.in-Some.is ∙ c.behind_line-rest.ensures.lines in
-    let words = ap texts c.deref.ensures.value ∙ c.in-Ok-first_words.ensures.words in
+    let words = ap texts c.deref.ensures.value ∙ c.in_ok-end.ensures.words in
     let steps : c.loop-rest.count + c.len.result ≡ c.args.count.now + length c.loop-rest.lines.items = omega arith in
-    record {
-      extended = abandoned c.args.catalog.now _ c.args.count.now c.args.objects.now c.loop-rest.lines.items c.loop-rest.objects c.loop-rest.number _ c.loop-rest.invariant.read (first_line c.in-Some.text.now) (lines_left c.behind_line-rest.result) here c.in-Ok-read_line.target c.read_line.new.names (rw steps at (c.in-Ok-read_line.ensures.read (first_line c.in-Some.text.now) words));
+    let p = err_from_is_err_and c.from_residual-in_err-push.result c.from_residual-in_err-push.ensures.1 in
+    rw (p.1, p.2) (record {
+      extended = abandoned c.args.catalog.now _ c.args.count.now c.args.objects.now c.loop-rest.lines.items c.loop-rest.objects c.loop-rest.number _ c.loop-rest.invariant.read (first_line c.in-Some.text.now) (lines_left c.behind_line-rest.result) here c.in-Ok.target c.read_line.new.names (rw steps at (c.in-Ok.ensures.read (first_line c.in-Some.text.now) words));
       counted = c.loop-rest.invariant.counted;
-    }
+    })
 
 pub returns-clause-rising : goal.returns-clause-rising
 returns-clause-rising c =
-    let none = ap lines_left c.in_default-rest.is in
+    let none = ap lines_left c.in_default.is in
     let whole = all_read c.args.catalog.now _ c.args.count.now c.args.objects.now c.loop-rest.lines.items c.loop-rest.objects c.loop-rest.number _ c.loop-rest.invariant.read none in
     rw (c.of.ensures, whole.lines) (script_rises c.args.catalog.now c.args.count.now c.args.bytes.now c.args.objects.now)

@@ -14,7 +14,7 @@ loop-word-preserved-then-is_empty c =
 pub loop-word-preserved : goal.loop-word-preserved
 loop-word-preserved c =
     let t = YieldsList-turn (YieldsList-from_slice_split _ is_blank (content_of c.args.line.now) (cc) (cc) refl (λ x b q k. search (rules, tests))) c.loop-word.yielded _ c.loop-word.yielded_by _ _ c.in-Some.word c.in-Some.is c.next.ensures.steps in
-    rw (length_push, c.in-Ok.ensures.items, map-append) (word_more _ _ _ _ _ t.0 t.1 c.loop-word.invariant (sym c.is_empty.ensures ∙ c.if-is_empty.false))
+    rw (length_push, c.in_ok-push.ensures.items, map-append) (word_more _ _ _ _ _ t.0 t.1 c.loop-word.invariant (sym c.is_empty.ensures ∙ c.if-is_empty.false))
 
 pub returns : goal.returns
 returns c =

@@ -1,10 +1,9 @@
 use Rattle.std.proofs.Common.{◌<◌, ◌≤◌, length, drop, sym, ap, ◌∙◌, arith}
-use Rattle.std.proofs.ResultArms.{chosen}
 use Rattle.std.proofs.lemmas.Slice.{between_to_end}
 use Rattle.jm_text.specs.Pieces.{piece_of}
 use Rattle.jm_text.proofs.Cutting.{nothing_before, gap_more, token_more, arrived}
 use Rattle.jm_text.proofs.lexer.cut.Goals as goal
-use Rattle.jm_text.proofs.lexer.cut.Goals.{in-Gap, in-Cut+else-is_err}
+use Rattle.jm_text.proofs.lexer.cut.Goals.{in-Gap, in-Cut+in_ok-push-in-Cut}
 
 pub loop-start-init : goal.loop-start-init
 loop-start-init c = nothing_before _ _ c.new-tokens.ensures.items
@@ -23,11 +22,10 @@ loop-start-preserved c =
           let fits : w.in-Gap.n ≤ length (drop start bytes) = omega (arith, said.fits) in
           let is_gap = ap piece_of (sym rest) ∙ sym said.value in
           arrived bytes _ _ start w.in-Gap.n _ _ _ (gap_more before w.in-Gap.n some fits is_gap) (ap (λ v. v.items) w.tokens-is) w.end-is c.line_feeds-line.ensures.value
-      | in-Cut+else-is_err w ↦
+      | in-Cut+in_ok-push-in-Cut w ↦
           let said = w.in-Cut.ensures in
           let some : 0 < w.in-Cut.n = omega (arith, said.fits) in
           let fits : w.in-Cut.n ≤ length (drop start bytes) = omega (arith, said.fits) in
           let is_token = ap piece_of (sym rest) ∙ sym said.value in
-          let pushed = chosen _ _ _ _ w.push.ensures.items w.if-is_err.ensures.negation in
-          arrived bytes _ _ start w.in-Cut.n _ _ _ (token_more before w.in-Cut.n some fits w.in-Cut.kind is_token) (ap (λ v. v.items) w.tokens-is ∙ pushed) w.end-is c.line_feeds-line.ensures.value
+          arrived bytes _ _ start w.in-Cut.n _ _ _ (token_more before w.in-Cut.n some fits w.in-Cut.kind is_token) (ap (λ v. v.items) w.tokens-is ∙ w.in_ok-push-in-Cut.ensures.items) w.end-is c.line_feeds-line.ensures.value
     ]

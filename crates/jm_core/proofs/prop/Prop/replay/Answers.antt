@@ -1,5 +1,6 @@
 use Rattle.std.proofs.Common.{◌+◌, ◌++◌, [], ◌∷◌, ℕ, List, take, sym, ◌∙◌, ap, subst}
 use mathlib.Core.List.{IsPrefix}
+use Rattle.std.proofs.lemmas.Result.{err_from_is_err_and}
 use Rattle.jm_model.specs.declared.step.Step.{Step}
 use Rattle.jm_model.specs.declared.step.Outcome.{Outcome}
 use Rattle.jm_history.specs.Nodes.{answered}
@@ -23,21 +24,22 @@ loop-line-preserved g c =
     let steps = c.args.steps.now in
     let i = c.loop-line.line-index in
     let item = c.loop-line-item.result in
-    let u = c.in-Ok.node in
+    let u = c.in_ok-node.node in
     let next = c.step.new.self in
     let added = rw c.node.ensures.same at c.step.ensures.added in
-    let grown = replayed_more c.args.caller (take i steps) c.args.self.now c.loop-line.self next u c.step.result (ap (λ n. n.caller) c.in-Ok.ensures.node) c.in_default-step.not-NoMemory c.loop-line.invariant.done added in
+    let grown = replayed_more c.args.caller (take i steps) c.args.self.now c.loop-line.self next u c.step.result (ap (λ n. n.caller) c.in_ok-node.ensures.node) c.in_default.not-NoMemory c.loop-line.invariant.done added in
     let at_item : Replayed c.args.caller (take i steps ++ item ∷ []) c.args.self.now next =
-    subst (λ (s : ℕ × Step). Replayed c.args.caller (take i steps ++ s ∷ []) c.args.self.now next) (ap (λ n. (n.line, n.step)) c.in-Ok.ensures.node) grown in
+    subst (λ (s : ℕ × Step). Replayed c.args.caller (take i steps ++ s ∷ []) c.args.self.now next) (ap (λ n. (n.line, n.step)) c.in_ok-node.ensures.node) grown in
     record {
       done = subst (λ (l : List (ℕ × Step)). Replayed c.args.caller l c.args.self.now next) (sym (take_with_item steps i item c.loop-line-test.true c.loop-line-item.is)) at_item;
       legal = c.step.ensures.legal;
       fits = c.step.ensures.fits;
     }
 
-pub returns-in_default-clause-err : goal.returns-in_default-clause-err
-returns-in_default-clause-err g c =
-    rw c.node.ensures.same
+pub returns-in_err-node-clause-err : goal.returns-in_err-node-clause-err
+returns-in_err-node-clause-err g c =
+    let p = err_from_is_err_and c.from_residual.result c.from_residual.ensures.1 in
+    rw (c.node.ensures.same, p.1)
     (stopped_before c.args.caller (take c.loop-line.line-index c.args.steps.now) c.args.steps.now c.args.self.now c.loop-line.self (take_is_prefix c.loop-line.line-index c.args.steps.now) c.loop-line.invariant.done)
 
 pub returns-in-NoMemory-clause-err : goal.returns-in-NoMemory-clause-err
@@ -45,12 +47,12 @@ returns-in-NoMemory-clause-err g c =
     let steps = c.args.steps.now in
     let i = c.loop-line.line-index in
     let item = c.loop-line-item.result in
-    let u = c.in-Ok.node in
+    let u = c.in_ok-node.node in
     let next = c.step.new.self in
     let added = rw c.node.ensures.same at c.step.ensures.added in
     let within : IsPrefix (take i steps ++ (u.line, u.step) ∷ []) steps =
     subst (λ (l : List (ℕ × Step)). IsPrefix l steps)
-    (take_with_item steps i item c.loop-line-test.true c.loop-line-item.is ∙ ap (λ n. take i steps ++ (n.line, n.step) ∷ []) (sym c.in-Ok.ensures.node))
+    (take_with_item steps i item c.loop-line-test.true c.loop-line-item.is ∙ ap (λ n. take i steps ++ (n.line, n.step) ∷ []) (sym c.in_ok-node.ensures.node))
     (take_is_prefix (i + 1) steps) in
-    stopped_after c.args.caller (take i steps) steps c.args.self.now c.loop-line.self next u (ap (λ n. n.caller) c.in-Ok.ensures.node) within c.loop-line.invariant.done
+    stopped_after c.args.caller (take i steps) steps c.args.self.now c.loop-line.self next u (ap (λ n. n.caller) c.in_ok-node.ensures.node) within c.loop-line.invariant.done
     (subst (λ (o : Outcome). IsExtended c.loop-line.self next (answered u o ∷ [])) c.in-NoMemory.is added)

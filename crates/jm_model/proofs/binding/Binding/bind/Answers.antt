@@ -1,7 +1,7 @@
 use Rattle.std.proofs.Common.{◌≡◌, ◌<◌, ◌%◌, ◌*◌, ◌^◌, ℕ, length, Some, set, sym, ◌∙◌, ap, subst, arith, length-set}
 use Rattle.std.specs.Int.RustNames.{bit_or}
 use Rattle.std.proofs.lemmas.Nat.{or_of_8, one_shl}
-use Rattle.jm_model.specs.Layout.{options_of, stored_of, IsStored}
+use Rattle.jm_model.specs.Layout.{options_of, stored_of}
 use Rattle.jm_model.proofs.LayoutLemmas.{options_of-set, set-unbound}
 use Rattle.jm_model.proofs.binding.Binding.bind.Goals as goal
 

@@ -1,4 +1,3 @@
-use Rattle.std.proofs.Common.{◌≡◌, ℕ}
 use Rattle.jm_model.proofs.LayoutLemmas.{mask_bits-view, stored_of-view}
 use Rattle.jm_model.proofs.binding.BindingPartialEq.eq.Goals as goal
 
