@@ -1,7 +1,8 @@
 -- Texts are cut where a byte stands that the parts before it don't have.
-use Rattle.std.proofs.Common.{◌≡◌, ◌≢◌, ℕ, ◌+◌, ◌<◌, ◌≤◌, ◌^◌, ◌%◌, List, [], ◌∷◌, ◌++◌, refl, sym, arith}
+use Rattle.std.proofs.Common.{◌≡◌, ◌≢◌, ℕ, zero, suc, ◌<◌, ◌≤◌, ◌/◌, ◌%◌, ◌==◌, Bool, true, false, cond, List, [], ◌∷◌, ◌++◌, refl, sym, arith}
 use Rattle.std.specs.Prelude.{decimal, ◌⊎◌}
-use Rattle.std.proofs.lemmas.Fmt.{decimal_by_steps}
+use Rattle.std.specs.Fmt.{digit_glyph, digits_onto, digits}
+use Rattle.std.proofs.lemmas.Bool.{lt-ltb}
 use Rattle.jm_print.specs.Told.{IsName}
 
 -- no byte of the text is d
@@ -46,13 +47,23 @@ abbrev pub AreDigits : List ℕ → Type 0
 AreDigits [] = Unit {0}
 AreDigits (c ∷ cs) = (48 ≤ c) × (c < 58) × AreDigits cs
 
-more_digits : (ds : List ℕ) (d : ℕ) → AreDigits ds → d < 10 → AreDigits (ds ++ (48 + d) ∷ [])
-more_digits [] d h k = (omega arith, omega arith, tt)
-more_digits (c ∷ cs) d h k = (h.0, h.1, more_digits cs d h.2 k)
+glyph-digit : (d : ℕ) (ds : List ℕ) → d < 10 → AreDigits ds → AreDigits (digit_glyph false d ∷ ds)
+glyph-digit d ds small h = rw (lt-ltb d 10 small) (omega arith, omega arith, h)
 
-pub decimal-digits : (n : ℕ) → n < 2 ^ 64 → AreDigits (decimal n)
-decimal-digits n h =
-    decimal_by_steps (λ m ds. AreDigits ds) (λ m small. (omega arith, omega arith, tt)) (λ m ds big before. more_digits ds (m % 10) before (omega arith)) n h
+-- the last digits of any number, and digits behind them
+onto-digits : (k n : ℕ) (ds : List ℕ) → AreDigits ds → AreDigits (digits_onto k 10 false n ds)
+onto-digits zero n ds h = h
+onto-digits (suc k) n ds h =
+    let more = glyph-digit (n % 10) ds (omega arith) h in
+    go (n / 10 == 0) _ _ more (onto-digits k (n / 10) (digit_glyph false (n % 10) ∷ ds) more)
+  where
+    go : (last : Bool) (ended longer : List ℕ) → AreDigits ended → AreDigits longer → AreDigits (cond last ended longer)
+    go true ended longer here rest = here
+    go false ended longer here rest = rest
+
+pub decimal-digits : (n : ℕ) → AreDigits (decimal n)
+unfolding digits
+decimal-digits n = onto-digits 64 n [] tt
 
 pub digits-lack : (ds : List ℕ) (d : ℕ) → (d < 48) ⊎ (58 ≤ d) → AreDigits ds → Lacks d ds
 digits-lack [] d other h = tt

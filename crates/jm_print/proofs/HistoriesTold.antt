@@ -33,10 +33,14 @@ no_digit : (d mark : ℕ) (ds rest behind : List ℕ) → 58 ≤ d → d ≢ mar
 no_digit d mark [] rest behind high other digits e = other (let i : d ≡ mark = cc in i)
 no_digit d mark (c ∷ cs) rest behind high other digits e = let i : d ≡ c = cc in absurd (omega (arith, i, high, digits.1))
 
--- numbers up to a mark that is no digit
+-- the digits of two numbers up to a mark that is no digit
+number-cut : (mark m n : ℕ) (s t : List ℕ) → (mark < 48) ⊎ (58 ≤ mark) → decimal m ++ mark ∷ s ≡ decimal n ++ mark ∷ t → (decimal m ≡ decimal n) × (s ≡ t)
+number-cut mark m n s t other e = cut mark (decimal m) (decimal n) s t (digits-lack (decimal m) mark other (decimal-digits m)) (digits-lack (decimal n) mark other (decimal-digits n)) e
+
+-- the numbers too, where they are small
 number-same : (mark m n : ℕ) (s t : List ℕ) → (mark < 48) ⊎ (58 ≤ mark) → m < 2 ^ 64 → n < 2 ^ 64 → decimal m ++ mark ∷ s ≡ decimal n ++ mark ∷ t → (m ≡ n) × (s ≡ t)
 number-same mark m n s t other here there e =
-    let parts = cut mark (decimal m) (decimal n) s t (digits-lack (decimal m) mark other (decimal-digits m here)) (digits-lack (decimal n) mark other (decimal-digits n there)) e in
+    let parts = number-cut mark m n s t other e in
     (decimal_injective m n here there parts.0, parts.1)
 
 -- names up to the end of a line
@@ -75,17 +79,25 @@ pub printable_firings : (l : Lexicon) (fs : List Firing) → All (IsPrintableFir
 printable_firings l [] all = tt
 printable_firings l (f ∷ fs) all = (all 0 f (omega arith), printable_firings l fs (λ k d within. all (suc k) d (omega arith)))
 
-firings-same : (l : Lexicon) (fs gs : List Firing) (s t : List ℕ) → HasNames l → ArePrintable l fs → ArePrintable l gs → HaveEight fs → HaveEight gs → length fs ≡ length gs
+-- what may stand behind the lines of firings: a text that begins with no space, as each of them does
+abbrev IsBehindFirings : List ℕ → Type 0
+IsBehindFirings [] = ⊥
+IsBehindFirings (c ∷ cs) = c ≢ 32
+
+no_firing : (l : Lexicon) (f : Firing) (s rest : List ℕ) → IsBehindFirings s → s ≡ firing_text l f ++ rest → ⊥
+no_firing l f s rest last e = subst IsBehindFirings (e ∙ firing_text-cons l f rest) last refl
+
+firings-same : (l : Lexicon) (fs gs : List Firing) (s t : List ℕ) → HasNames l → ArePrintable l fs → ArePrintable l gs → HaveEight fs → HaveEight gs → IsBehindFirings s → IsBehindFirings t
     → flat_map (firing_text l) fs ++ s ≡ flat_map (firing_text l) gs ++ t → (fs ≡ gs) × (s ≡ t)
-firings-same l [] [] s t h m n i j long e = (refl, e)
-firings-same l [] (g ∷ gs) s t h m n i j long e = absurd (omega arith)
-firings-same l (f ∷ fs) [] s t h m n i j long e = absurd (omega arith)
-firings-same l (f ∷ fs) (g ∷ gs) s t h m n i j long e =
+firings-same l [] [] s t h m n i j here there e = (refl, e)
+firings-same l [] (g ∷ gs) s t h m n i j here there e = absurd (no_firing l g s _ here (e ∙ append_assoc (firing_text l g) (flat_map (firing_text l) gs) t))
+firings-same l (f ∷ fs) [] s t h m n i j here there e = absurd (no_firing l f t _ there (sym e ∙ append_assoc (firing_text l f) (flat_map (firing_text l) fs) s))
+firings-same l (f ∷ fs) (g ∷ gs) s t h m n i j here there e =
     let A = flat_map (firing_text l) fs in
     let B = flat_map (firing_text l) gs in
     let whole : firing_text l f ++ (A ++ s) ≡ firing_text l g ++ (B ++ t) = sym (append_assoc (firing_text l f) A s) ∙ e ∙ append_assoc (firing_text l g) B t in
     let first = firing-same l f g (A ++ s) (B ++ t) h m.0 n.0 i.0 j.0 whole in
-    let rest = firings-same l fs gs s t h m.1 n.1 i.1 j.1 (omega arith) first.1 in
+    let rest = firings-same l fs gs s t h m.1 n.1 i.1 j.1 here there first.1 in
     ((λ k. first.0 k ∷ rest.0 k), rest.1)
 
 -- ---- the kinds of rows
@@ -208,14 +220,14 @@ event-same : (l : Lexicon) (e f : Letter) (b c : Binding) → HasNames l → e.0
 event-same l e f b c h here there m n eight other first second =
     (letter-same e f (name-same l.events e.0 f.0 h.events here there first), pairs-same l 0 b c h m n (eight ∙ sym other) second)
 
-fired-fired : (l : Lexicon) (e f : Letter) (b c : Binding) (fs gs : List Firing) (s t : List ℕ) → HasNames l → IsRow l (fired e b fs) → IsRow l (fired f c gs) → Alike l (fired e b fs) (fired f c gs) s t → IsSame (fired e b fs) (fired f c gs) s t
-fired-fired l e f b c fs gs s t h m n a =
+fired-fired : (l : Lexicon) (e f : Letter) (b c : Binding) (fs gs : List Firing) (s t : List ℕ) → HasNames l → IsRow l (fired e b fs) → IsRow l (fired f c gs) → IsBehindFirings s → IsBehindFirings t → Alike l (fired e b fs) (fired f c gs) s t → IsSame (fired e b fs) (fired f c gs) s t
+fired-fired l e f b c fs gs s t h m n here there a =
     let A = flat_map (firing_text l) fs ++ s in
     let B = flat_map (firing_text l) gs ++ t in
     let lasts : codes "fired " ++ (decimal (length fs) ++ 10 ∷ A) ≡ codes "fired " ++ (decimal (length gs) ++ 10 ∷ B) = a.last in
     let events = event-same l e f b c h m.0.0 n.0.0 m.0.1 n.0.1 m.1.0 n.1.0 a.first a.second in
-    let counts = number-same 10 (length fs) (length gs) A B (inl (omega arith)) m.1.2 n.1.2 (same_front (codes "fired ") (decimal (length fs) ++ 10 ∷ A) (decimal (length gs) ++ 10 ∷ B) lasts) in
-    let rest = firings-same l fs gs s t h (printable_firings l fs m.0.2) (printable_firings l gs n.0.2) m.1.1 n.1.1 counts.0 counts.1 in
+    let lines = number-cut 10 (length fs) (length gs) A B (inl (omega arith)) (same_front (codes "fired ") (decimal (length fs) ++ 10 ∷ A) (decimal (length gs) ++ 10 ∷ B) lasts) in
+    let rest = firings-same l fs gs s t h (printable_firings l fs m.0.2) (printable_firings l gs n.0.2) m.1.1 n.1.1 here there lines.1 in
     ((λ j. fired (events.0 j) (events.1 j) (rest.0 j)), rest.1)
 
 unfired-unfired : (l : Lexicon) (e f : Letter) (b c : Binding) (o p : ℕ) (s t : List ℕ) → HasNames l → IsRow l (unfired e b o) → IsRow l (unfired f c p) → Alike l (unfired e b o) (unfired f c p) s t → IsSame (unfired e b o) (unfired f c p) s t
@@ -250,39 +262,39 @@ fired-other : (l : Lexicon) (e : Letter) (b : Binding) (fs : List Firing) (c : �
 fired-other l e b fs c s t other same = apart 102 c other (heads 102 c _ t same)
 
 -- a number begins with a digit
-passed-other : (l : Lexicon) (n c : ℕ) (s t : List ℕ) → IsRow l (passed n) → 58 ≤ c → c ∷ t ≡ last_words l (passed n) s → ⊥
-passed-other l n c s t m high same = no_digit c 10 (decimal n) t s high (λ e. absurd (omega (arith, e, high))) (decimal-digits n m.1) same
+passed-other : (l : Lexicon) (n c : ℕ) (s t : List ℕ) → 58 ≤ c → c ∷ t ≡ last_words l (passed n) s → ⊥
+passed-other l n c s t high same = no_digit c 10 (decimal n) t s high (λ e. absurd (omega (arith, e, high))) (decimal-digits n) same
 
 -- a refused event has an object, and so is no death
 unfired-dead : (l : Lexicon) (e : Letter) (b : Binding) (o p q : ℕ) (s t : List ℕ) → HasNames l → IsRow l (unfired e b o) → IsRow l (dead p q) → Alike l (unfired e b o) (dead p q) s t → ⊥
 unfired-dead l e b o p q s t h m n a = bound-no_name l b (name_of l.objects p) m.0.1 m.1.1 (name-plain l.objects p h.objects n.0.0) a.second
 
-row-same : (l : Lexicon) (r q : Row) (s t : List ℕ) → HasNames l → IsRow l r → IsRow l q → Alike l r q s t → IsSame r q s t
-row-same l (fired e b fs) (fired f c gs) s t h m n a = fired-fired l e f b c fs gs s t h m n a
-row-same l (fired e b fs) (unfired f c o) s t h m n a = absurd (fired-other l e b fs 114 s _ refl a.last)
-row-same l (fired e b fs) (died o) s t h m n a = absurd (fired-other l e b fs 100 s _ refl a.last)
-row-same l (fired e b fs) (dead o q) s t h m n a = absurd (fired-other l e b fs 114 s _ refl a.last)
-row-same l (fired e b fs) (passed k) s t h m n a = absurd (passed-other l k 102 t _ n (omega arith) a.last)
-row-same l (unfired e b o) (fired f c gs) s t h m n a = absurd (fired-other l f c gs 114 t _ refl (sym a.last))
-row-same l (unfired e b o) (unfired f c p) s t h m n a = unfired-unfired l e f b c o p s t h m n a
-row-same l (unfired e b o) (died p) s t h m n a = absurd (apart 114 100 refl (heads 114 100 _ _ a.last))
-row-same l (unfired e b o) (dead p q) s t h m n a = absurd (unfired-dead l e b o p q s t h m n a)
-row-same l (unfired e b o) (passed k) s t h m n a = absurd (passed-other l k 114 t _ n (omega arith) a.last)
-row-same l (died o) (fired f c gs) s t h m n a = absurd (fired-other l f c gs 100 t _ refl (sym a.last))
-row-same l (died o) (unfired f c p) s t h m n a = absurd (apart 100 114 refl (heads 100 114 _ _ a.last))
-row-same l (died o) (died p) s t h m n a = died-died l o p s t h m n a
-row-same l (died o) (dead p q) s t h m n a = absurd (apart 100 114 refl (heads 100 114 _ _ a.last))
-row-same l (died o) (passed k) s t h m n a = absurd (passed-other l k 100 t _ n (omega arith) a.last)
-row-same l (dead o p) (fired f c gs) s t h m n a = absurd (fired-other l f c gs 114 t _ refl (sym a.last))
-row-same l (dead o p) (unfired f c q) s t h m n a = absurd (unfired-dead l f c q o p t s h n m (opposite l (dead o p) (unfired f c q) s t a))
-row-same l (dead o p) (died q) s t h m n a = absurd (apart 114 100 refl (heads 114 100 _ _ a.last))
-row-same l (dead o p) (dead q r) s t h m n a = dead-dead l o q p r s t h m n a
-row-same l (dead o p) (passed k) s t h m n a = absurd (passed-other l k 114 t _ n (omega arith) a.last)
-row-same l (passed k) (fired f c gs) s t h m n a = absurd (passed-other l k 102 s _ m (omega arith) (sym a.last))
-row-same l (passed k) (unfired f c p) s t h m n a = absurd (passed-other l k 114 s _ m (omega arith) (sym a.last))
-row-same l (passed k) (died p) s t h m n a = absurd (passed-other l k 100 s _ m (omega arith) (sym a.last))
-row-same l (passed k) (dead p q) s t h m n a = absurd (passed-other l k 114 s _ m (omega arith) (sym a.last))
-row-same l (passed k) (passed i) s t h m n a = passed-passed l k i s t m n a
+row-same : (l : Lexicon) (r q : Row) (s t : List ℕ) → HasNames l → IsRow l r → IsRow l q → IsBehindFirings s → IsBehindFirings t → Alike l r q s t → IsSame r q s t
+row-same l (fired e b fs) (fired f c gs) s t h m n here there a = fired-fired l e f b c fs gs s t h m n here there a
+row-same l (fired e b fs) (unfired f c o) s t h m n here there a = absurd (fired-other l e b fs 114 s _ refl a.last)
+row-same l (fired e b fs) (died o) s t h m n here there a = absurd (fired-other l e b fs 100 s _ refl a.last)
+row-same l (fired e b fs) (dead o q) s t h m n here there a = absurd (fired-other l e b fs 114 s _ refl a.last)
+row-same l (fired e b fs) (passed k) s t h m n here there a = absurd (passed-other l k 102 t _ (omega arith) a.last)
+row-same l (unfired e b o) (fired f c gs) s t h m n here there a = absurd (fired-other l f c gs 114 t _ refl (sym a.last))
+row-same l (unfired e b o) (unfired f c p) s t h m n here there a = unfired-unfired l e f b c o p s t h m n a
+row-same l (unfired e b o) (died p) s t h m n here there a = absurd (apart 114 100 refl (heads 114 100 _ _ a.last))
+row-same l (unfired e b o) (dead p q) s t h m n here there a = absurd (unfired-dead l e b o p q s t h m n a)
+row-same l (unfired e b o) (passed k) s t h m n here there a = absurd (passed-other l k 114 t _ (omega arith) a.last)
+row-same l (died o) (fired f c gs) s t h m n here there a = absurd (fired-other l f c gs 100 t _ refl (sym a.last))
+row-same l (died o) (unfired f c p) s t h m n here there a = absurd (apart 100 114 refl (heads 100 114 _ _ a.last))
+row-same l (died o) (died p) s t h m n here there a = died-died l o p s t h m n a
+row-same l (died o) (dead p q) s t h m n here there a = absurd (apart 100 114 refl (heads 100 114 _ _ a.last))
+row-same l (died o) (passed k) s t h m n here there a = absurd (passed-other l k 100 t _ (omega arith) a.last)
+row-same l (dead o p) (fired f c gs) s t h m n here there a = absurd (fired-other l f c gs 114 t _ refl (sym a.last))
+row-same l (dead o p) (unfired f c q) s t h m n here there a = absurd (unfired-dead l f c q o p t s h n m (opposite l (dead o p) (unfired f c q) s t a))
+row-same l (dead o p) (died q) s t h m n here there a = absurd (apart 114 100 refl (heads 114 100 _ _ a.last))
+row-same l (dead o p) (dead q r) s t h m n here there a = dead-dead l o q p r s t h m n a
+row-same l (dead o p) (passed k) s t h m n here there a = absurd (passed-other l k 114 t _ (omega arith) a.last)
+row-same l (passed k) (fired f c gs) s t h m n here there a = absurd (passed-other l k 102 s _ (omega arith) (sym a.last))
+row-same l (passed k) (unfired f c p) s t h m n here there a = absurd (passed-other l k 114 s _ (omega arith) (sym a.last))
+row-same l (passed k) (died p) s t h m n here there a = absurd (passed-other l k 100 s _ (omega arith) (sym a.last))
+row-same l (passed k) (dead p q) s t h m n here there a = absurd (passed-other l k 114 s _ (omega arith) (sym a.last))
+row-same l (passed k) (passed i) s t h m n here there a = passed-passed l k i s t m n a
 
 -- ---- entries
 entry_text-cons : (l : Lexicon) (x : Entry) (s : List ℕ) → entry_text l x ++ s ≡ decimal x.caller ++ 58 ∷ (decimal x.line ++ 32 ∷ (step_text l x.step x.outcome ++ s))
@@ -295,8 +307,8 @@ rows_alike l r q s t h m n e =
     let seconds = cut 32 (second_word l r) (second_word l q) (last_words l r s) (last_words l q t) (second_word-spaceless l r h m) (second_word-spaceless l q h n) firsts.1 in
     record { first = firsts.0; second = seconds.0; last = seconds.1 }
 
-step-same : (l : Lexicon) (x y : Entry) (s t : List ℕ) → HasNames l → IsTold l x → IsTold l y → step_text l x.step x.outcome ++ s ≡ step_text l y.step y.outcome ++ t → (x.step ≡ y.step) × (x.outcome ≡ y.outcome) × (s ≡ t)
-step-same l x y s t h m n e =
+step-same : (l : Lexicon) (x y : Entry) (s t : List ℕ) → HasNames l → IsTold l x → IsTold l y → IsBehindFirings s → IsBehindFirings t → step_text l x.step x.outcome ++ s ≡ step_text l y.step y.outcome ++ t → (x.step ≡ y.step) × (x.outcome ≡ y.outcome) × (s ≡ t)
+step-same l x y s t h m n here there e =
     let r = row_of l x.step x.outcome m.printable in
     let q = row_of l y.step y.outcome n.printable in
     let at_row : (z : Entry) (w : Row) → z.step ≡ step_of w → z.outcome ≡ outcome_of w → IsTold l z → IsRow l w =
@@ -305,32 +317,44 @@ step-same l x y s t h m n e =
     let two = at_row y q.0 q.1 q.2 n in
     let rows : step_text l (step_of r.0) (outcome_of r.0) ++ s ≡ step_text l (step_of q.0) (outcome_of q.0) ++ t =
     (λ k. step_text l (sym r.1 k) (sym r.2 k) ++ s) ∙ e ∙ (λ k. step_text l (q.1 k) (q.2 k) ++ t) in
-    let same = row-same l r.0 q.0 s t h one two (rows_alike l r.0 q.0 s t h one two rows) in
+    let same = row-same l r.0 q.0 s t h one two here there (rows_alike l r.0 q.0 s t h one two rows) in
     (r.1 ∙ ap step_of same.0 ∙ sym q.1, r.2 ∙ ap outcome_of same.0 ∙ sym q.2, same.1)
 
-entry-same : (l : Lexicon) (x y : Entry) (s t : List ℕ) → HasNames l → IsTold l x → IsTold l y → entry_text l x ++ s ≡ entry_text l y ++ t → (x ≡ y) × (s ≡ t)
-entry-same l x y s t h m n e =
+entry-same : (l : Lexicon) (x y : Entry) (s t : List ℕ) → HasNames l → IsTold l x → IsTold l y → IsBehindFirings s → IsBehindFirings t → entry_text l x ++ s ≡ entry_text l y ++ t → (x ≡ y) × (s ≡ t)
+entry-same l x y s t h m n here there e =
     let S = step_text l x.step x.outcome ++ s in
     let T = step_text l y.step y.outcome ++ t in
     let whole = sym (entry_text-cons l x s) ∙ e ∙ entry_text-cons l y t in
     let callers = number-same 58 x.caller y.caller (decimal x.line ++ 32 ∷ S) (decimal y.line ++ 32 ∷ T) (inr (omega arith)) m.caller n.caller whole in
     let lines = number-same 32 x.line y.line S T (inl (omega arith)) m.line n.line callers.1 in
-    let steps = step-same l x y s t h m n lines.1 in
+    let steps = step-same l x y s t h m n here there lines.1 in
     ((λ j. record { caller = callers.0 j; line = lines.0 j; step = steps.0 j; outcome = steps.1 j }), steps.2)
 
 -- the last line begins with a letter, and so isn't an entry
-end_no_entry : (l : Lexicon) (x : Entry) (s t : List ℕ) → IsTold l x → 101 ∷ s ≡ entry_text l x ++ t → ⊥
-end_no_entry l x s t m e =
-    no_digit 101 58 (decimal x.caller) s (decimal x.line ++ 32 ∷ (step_text l x.step x.outcome ++ t)) (omega arith) (apart 101 58 refl) (decimal-digits x.caller m.caller) (e ∙ entry_text-cons l x t)
+end_no_entry : (l : Lexicon) (x : Entry) (s t : List ℕ) → 101 ∷ s ≡ entry_text l x ++ t → ⊥
+end_no_entry l x s t e =
+    no_digit 101 58 (decimal x.caller) s (decimal x.line ++ 32 ∷ (step_text l x.step x.outcome ++ t)) (omega arith) (apart 101 58 refl) (decimal-digits x.caller) (e ∙ entry_text-cons l x t)
+
+number-behind : (ds rest : List ℕ) → AreDigits ds → IsBehindFirings (ds ++ 58 ∷ rest)
+number-behind [] rest h = apart 58 32 refl
+number-behind (c ∷ cs) rest h = λ same. absurd (omega (arith, same, h.0))
+
+-- behind an entry's lines stands another entry or the last line
+entries-behind : (l : Lexicon) (h : List Entry) (s : List ℕ) → IsBehindFirings (flat_map (entry_text l) h ++ 101 ∷ s)
+entries-behind l [] s = apart 101 32 refl
+entries-behind l (x ∷ h) s =
+    let A = flat_map (entry_text l) h ++ 101 ∷ s in
+    let whole = append_assoc (entry_text l x) (flat_map (entry_text l) h) (101 ∷ s) ∙ entry_text-cons l x A in
+    subst IsBehindFirings (sym whole) (number-behind (decimal x.caller) (decimal x.line ++ 32 ∷ (step_text l x.step x.outcome ++ A)) (decimal-digits x.caller))
 
 pub entries-same : (l : Lexicon) (h g : List Entry) (s t : List ℕ) → HasNames l → AreTold l h → AreTold l g → flat_map (entry_text l) h ++ 101 ∷ s ≡ flat_map (entry_text l) g ++ 101 ∷ t → (h ≡ g) × (s ≡ t)
 entries-same l [] [] s t names m n e = (refl, same_front (101 ∷ []) s t e)
-entries-same l [] (y ∷ g) s t names m n e = absurd (end_no_entry l y s (flat_map (entry_text l) g ++ 101 ∷ t) n.0 (e ∙ append_assoc (entry_text l y) (flat_map (entry_text l) g) (101 ∷ t)))
-entries-same l (x ∷ h) [] s t names m n e = absurd (end_no_entry l x t (flat_map (entry_text l) h ++ 101 ∷ s) m.0 (sym e ∙ append_assoc (entry_text l x) (flat_map (entry_text l) h) (101 ∷ s)))
+entries-same l [] (y ∷ g) s t names m n e = absurd (end_no_entry l y s (flat_map (entry_text l) g ++ 101 ∷ t) (e ∙ append_assoc (entry_text l y) (flat_map (entry_text l) g) (101 ∷ t)))
+entries-same l (x ∷ h) [] s t names m n e = absurd (end_no_entry l x t (flat_map (entry_text l) h ++ 101 ∷ s) (sym e ∙ append_assoc (entry_text l x) (flat_map (entry_text l) h) (101 ∷ s)))
 entries-same l (x ∷ h) (y ∷ g) s t names m n e =
     let A = flat_map (entry_text l) h ++ 101 ∷ s in
     let B = flat_map (entry_text l) g ++ 101 ∷ t in
     let whole : entry_text l x ++ A ≡ entry_text l y ++ B = sym (append_assoc (entry_text l x) (flat_map (entry_text l) h) (101 ∷ s)) ∙ e ∙ append_assoc (entry_text l y) (flat_map (entry_text l) g) (101 ∷ t) in
-    let first = entry-same l x y A B names m.0 n.0 whole in
+    let first = entry-same l x y A B names m.0 n.0 (entries-behind l h s) (entries-behind l g t) whole in
     let rest = entries-same l h g s t names m.1 n.1 first.1 in
     ((λ j. first.0 j ∷ rest.0 j), rest.1)

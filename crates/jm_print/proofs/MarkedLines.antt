@@ -1,5 +1,5 @@
 -- The lines that handlers print can be dropped: what stays of a history's text.
-use Rattle.std.proofs.Common.{◌≡◌, ◌≢◌, ℕ, ◌<◌, ◌^◌, ◌==◌, Bool, true, false, cond, List, [], ◌∷◌, ◌++◌, length, refl, sym, ◌∙◌, ap, subst, inl, arith, append_assoc}
+use Rattle.std.proofs.Common.{◌≡◌, ◌≢◌, ℕ, ◌<◌, ◌==◌, Bool, true, false, cond, List, [], ◌∷◌, ◌++◌, length, refl, sym, ◌∙◌, ap, subst, inl, arith, append_assoc}
 use Rattle.std.specs.Prelude.{codes, decimal, not, ◌&&◌}
 use Rattle.std.specs.List.{flat_map}
 use mathlib.Core.Bool.{true≢false}
@@ -115,8 +115,8 @@ codes-lack (c ∷ cs) e = go (codes-lack cs) (c == 10) refl e
     go rest true is e = absurd (true≢false (sym e))
     go rest false is e = (no_feed c is, rest e)
 
-decimal-feedless : (n : ℕ) → n < 2 ^ 64 → Lacks 10 (decimal n)
-decimal-feedless n h = digits-lack (decimal n) 10 (inl (omega arith)) (decimal-digits n h)
+decimal-feedless : (n : ℕ) → Lacks 10 (decimal n)
+decimal-feedless n = digits-lack (decimal n) 10 (inl (omega arith)) (decimal-digits n)
 
 -- what a row says up to the end of its line, and the lines behind that
 abbrev body : Lexicon → Row → List ℕ
@@ -140,7 +140,7 @@ row-cut run l (passed n) s = simp append_assoc
 body-lacks : (l : Lexicon) (r : Row) → HasNames l → IsRow l r → Lacks 10 (body l r)
 body-lacks l (fired e b fs) h m =
     Lacks-append 10 (name_of l.events e.0) _ (name-feedless l.events e.0 h.events m.0.0)
-    (apart 32 10 refl, Lacks-append 10 (binding_text l b) _ (binding-feedless l b h m.0.1) (Lacks-append 10 (codes " fired ") _ (codes-lack (codes " fired ") refl) (decimal-feedless (length fs) m.1.2)))
+    (apart 32 10 refl, Lacks-append 10 (binding_text l b) _ (binding-feedless l b h m.0.1) (Lacks-append 10 (codes " fired ") _ (codes-lack (codes " fired ") refl) (decimal-feedless (length fs))))
 body-lacks l (unfired e b o) h m =
     Lacks-append 10 (name_of l.events e.0) _ (name-feedless l.events e.0 h.events m.0.0)
     (apart 32 10 refl, Lacks-append 10 (binding_text l b) _ (binding-feedless l b h m.0.1) (Lacks-append 10 (codes " refused ") _ (codes-lack (codes " refused ") refl) (name-feedless l.objects o h.objects m.0.2)))
@@ -149,7 +149,7 @@ body-lacks l (died o) h m =
 body-lacks l (dead o q) h m =
     Lacks-append 10 (codes "death ") _ (codes-lack (codes "death ") refl)
     (Lacks-append 10 (name_of l.objects o) _ (name-feedless l.objects o h.objects m.0.0) (Lacks-append 10 (codes " refused ") _ (codes-lack (codes " refused ") refl) (name-feedless l.objects q h.objects m.0.1)))
-body-lacks l (passed n) h m = Lacks-append 10 (codes "pass kept ") _ (codes-lack (codes "pass kept ") refl) (decimal-feedless n m.1)
+body-lacks l (passed n) h m = Lacks-append 10 (codes "pass kept ") _ (codes-lack (codes "pass kept ") refl) (decimal-feedless n)
 
 number-stays : (ds rest : List ℕ) → AreDigits ds → stays (ds ++ 58 ∷ rest) ≡ true
 number-stays [] rest h = refl
@@ -159,12 +159,12 @@ number-stays (c ∷ cs) rest h = rw (ne_eqb 32 c (λ same. absurd (omega (arith,
 abbrev headed : ℕ → ℕ → List ℕ → List ℕ
 headed caller line text = decimal caller ++ 58 ∷ (decimal line ++ 32 ∷ text)
 
-headed-stays : (caller line : ℕ) (text rest : List ℕ) → caller < 2 ^ 64 → line < 2 ^ 64 → Lacks 10 text → unmarked (headed caller line (text ++ 10 ∷ rest)) ≡ headed caller line (text ++ 10 ∷ unmarked rest)
-headed-stays caller line text rest small low lacks =
+headed-stays : (caller line : ℕ) (text rest : List ℕ) → Lacks 10 text → unmarked (headed caller line (text ++ 10 ∷ rest)) ≡ headed caller line (text ++ 10 ∷ unmarked rest)
+headed-stays caller line text rest lacks =
     let whole = headed caller line text in
     let cut : (t : List ℕ) → whole ++ 10 ∷ t ≡ headed caller line (text ++ 10 ∷ t) = λ t. simp append_assoc in
-    let feeds : Lacks 10 whole = Lacks-append 10 (decimal caller) (58 ∷ (decimal line ++ 32 ∷ text)) (decimal-feedless caller small) (apart 58 10 refl, Lacks-append 10 (decimal line) (32 ∷ text) (decimal-feedless line low) (apart 32 10 refl, lacks)) in
-    let is : stays (whole ++ 10 ∷ rest) ≡ true = ap stays (cut rest) ∙ number-stays (decimal caller) (decimal line ++ 32 ∷ (text ++ 10 ∷ rest)) (decimal-digits caller small) in
+    let feeds : Lacks 10 whole = Lacks-append 10 (decimal caller) (58 ∷ (decimal line ++ 32 ∷ text)) (decimal-feedless caller) (apart 58 10 refl, Lacks-append 10 (decimal line) (32 ∷ text) (decimal-feedless line) (apart 32 10 refl, lacks)) in
+    let is : stays (whole ++ 10 ∷ rest) ≡ true = ap stays (cut rest) ∙ number-stays (decimal caller) (decimal line ++ 32 ∷ (text ++ 10 ∷ rest)) (decimal-digits caller) in
     ap unmarked (sym (cut rest)) ∙ unmarked-line whole rest feeds is ∙ cut (unmarked rest)
 
 behind-stays : (l : Lexicon) (x : Entry) (r : Row) (rest : List ℕ) → HasNames l → IsRow l r → unmarked (behind (run_text l x) r ++ rest) ≡ behind (firing_text l) r ++ unmarked rest
@@ -174,11 +174,11 @@ behind-stays l x (died o) rest h m = refl
 behind-stays l x (dead o q) rest h m = refl
 behind-stays l x (passed n) rest h m = refl
 
-row-stays : (l : Lexicon) (x : Entry) (r : Row) (rest : List ℕ) → HasNames l → IsRow l r → x.caller < 2 ^ 64 → x.line < 2 ^ 64
+row-stays : (l : Lexicon) (x : Entry) (r : Row) (rest : List ℕ) → HasNames l → IsRow l r
     → unmarked (headed x.caller x.line (outcome_text (run_text l x) l (step_of r) (outcome_of r) ++ rest)) ≡ headed x.caller x.line (step_text l (step_of r) (outcome_of r) ++ unmarked rest)
-row-stays l x r rest h m small low =
+row-stays l x r rest h m =
     let lines = behind (run_text l x) r ++ rest in
-    ap (λ t. unmarked (headed x.caller x.line t)) (row-cut (run_text l x) l r rest) ∙ headed-stays x.caller x.line (body l r) lines small low (body-lacks l r h m)
+    ap (λ t. unmarked (headed x.caller x.line t)) (row-cut (run_text l x) l r rest) ∙ headed-stays x.caller x.line (body l r) lines (body-lacks l r h m)
     ∙ ap (λ t. headed x.caller x.line (body l r ++ 10 ∷ t)) (behind-stays l x r rest h m)
     ∙ ap (headed x.caller x.line) (sym (row-cut (firing_text l) l r (unmarked rest)))
 
@@ -193,7 +193,7 @@ entry-stays l x rest h m =
     let run = run_text l x in
     ap unmarked (entry-headed run l x rest)
     ∙ (λ k. unmarked (headed x.caller x.line (outcome_text run l (i k) (j k) ++ rest)))
-    ∙ row-stays l x r rest h row m.caller m.line
+    ∙ row-stays l x r rest h row
     ∙ (λ k. headed x.caller x.line (step_text l (sym i k) (sym j k) ++ unmarked rest))
     ∙ sym (entry-headed (firing_text l) l x (unmarked rest))
 
@@ -224,10 +224,10 @@ rest-front here (b ∷ front) rest =
 pub unmarked-front : (front rest : List ℕ) → unmarked (front ++ 10 ∷ rest) ≡ unmarked (front ++ 10 ∷ []) ++ unmarked rest
 unmarked-front front rest = ap (λ v. rest_that_stays v (front ++ 10 ∷ rest)) (stays-front front rest) ∙ rest-front (stays (front ++ 10 ∷ [])) front rest
 
-pub end-stays : (n : ℕ) (rest : List ℕ) → n < 2 ^ 64 → unmarked (101 ∷ (codes "nd " ++ (decimal n ++ 10 ∷ rest))) ≡ 101 ∷ (codes "nd " ++ (decimal n ++ 10 ∷ unmarked rest))
-end-stays n rest small =
+pub end-stays : (n : ℕ) (rest : List ℕ) → unmarked (101 ∷ (codes "nd " ++ (decimal n ++ 10 ∷ rest))) ≡ 101 ∷ (codes "nd " ++ (decimal n ++ 10 ∷ unmarked rest))
+end-stays n rest =
     let line = codes "end " ++ decimal n in
-    unmarked-line line rest (Lacks-append 10 (codes "end ") (decimal n) (codes-lack (codes "end ") refl) (decimal-feedless n small)) refl
+    unmarked-line line rest (Lacks-append 10 (codes "end ") (decimal n) (codes-lack (codes "end ") refl) (decimal-feedless n)) refl
 
 pub title-stays : (name rest : List ℕ) → Lacks 10 name → unmarked (codes "spec " ++ (name ++ 10 ∷ rest)) ≡ codes "spec " ++ (name ++ 10 ∷ unmarked rest)
 title-stays name rest lacks = unmarked-line (codes "spec " ++ name) rest (Lacks-append 10 (codes "spec ") name (codes-lack (codes "spec ") refl) lacks) refl

@@ -1,5 +1,5 @@
 -- The text of a history tells the history, also without the lines that handlers print.
-use Rattle.std.proofs.Common.{◌≡◌, ℕ, ◌<◌, ◌^◌, List, [], ◌∷◌, ◌++◌, length, sym, ◌∙◌, ap, refl, append_assoc}
+use Rattle.std.proofs.Common.{◌≡◌, ℕ, List, [], ◌∷◌, ◌++◌, length, sym, ◌∙◌, ap, refl, append_assoc}
 use Rattle.std.specs.Prelude.{codes, decimal}
 use Rattle.std.specs.List.{flat_map}
 use Rattle.jm_model.specs.declared.step.Entry.{Entry}
@@ -48,13 +48,13 @@ lines-told l h g names m n e =
     entries-told l h g [] [] names m n (same_front (unmarked (title ++ 10 ∷ [])) (unmarked A) (unmarked B) parts)
 
 -- the lines that stay are those without a handler's
-pub unmarked-history : (l : Lexicon) (h : List Entry) → HasNames l → AreTold l h → IsName l.specification → length h < 2 ^ 64 → unmarked (history_text l h ++ []) ≡ bare_text l h
-unmarked-history l h names m plain few =
+pub unmarked-history : (l : Lexicon) (h : List Entry) → HasNames l → AreTold l h → IsName l.specification → unmarked (history_text l h ++ []) ≡ bare_text l h
+unmarked-history l h names m plain =
     let entries = flat_map (full_entry_text l) h in
     let name = l.specification in
     ap unmarked (history_text-cons l h [] ∙ append_assoc (codes "spec ") name (10 ∷ (entries ++ ended h [])))
     ∙ title-stays name (entries ++ ended h []) (name-lacks_line_feed name plain)
-    ∙ ap (λ t. codes "spec " ++ (name ++ 10 ∷ t)) (entries-stay l h (ended h []) names m ∙ ap (λ t. flat_map (entry_text l) h ++ t) (end-stays (length h) [] few))
+    ∙ ap (λ t. codes "spec " ++ (name ++ 10 ∷ t)) (entries-stay l h (ended h []) names m ∙ ap (λ t. flat_map (entry_text l) h ++ t) (end-stays (length h) []))
     ∙ sym (bare_text-cons l h)
 
 pub texts_are_told : (ls : List Lexicon) (hs gs : List (List Entry)) (s t : List ℕ) → HaveNames ls → AreToldBy ls hs → AreToldBy ls gs → texts_of ls hs ++ s ≡ texts_of ls gs ++ t → (hs ≡ gs) × (s ≡ t)

@@ -42,9 +42,9 @@ abbrev pub HaveEight : List Firing → Type 0
 HaveEight [] = Unit {0}
 HaveEight (f ∷ fs) = (length f.instance ≡ 8) × HaveEight fs
 
--- bindings have eight places, a refused event binds an object, and numbers fit 64 bits
+-- bindings have eight places, a refused event binds an object, and the count of a pass fits 64 bits
 abbrev pub FitsStep : Step → Outcome → Type 0
-FitsStep (Event e b) (Fired firings) = (length b ≡ 8) × HaveEight firings × (length firings < 2 ^ 64)
+FitsStep (Event e b) (Fired firings) = (length b ≡ 8) × HaveEight firings
 FitsStep (Event e b) (Refused o) = (length b ≡ 8) × BindsSome b
 FitsStep Pass (Kept n) = n < 2 ^ 64
 FitsStep _ _ = Unit {0}

@@ -1,5 +1,5 @@
 //! What holds of the texts of all histories.
-ghost use Rattle.std.specs.Prelude.{◌≡◌, ◌++◌, ◌<◌, ◌^◌, ℕ, List, length};
+ghost use Rattle.std.specs.Prelude.{◌≡◌, ◌++◌, ℕ, List};
 ghost use Rattle.jm_model.specs.declared.step.Entry.{Entry};
 ghost use Rattle.jm_print.specs.Lexicons.{Lexicon};
 ghost use Rattle.jm_print.specs.Texts.{bare_text, history_text};
@@ -17,7 +17,7 @@ pub fn text_determines_history()
 /// stays are the lines of the history without them, and two histories have two texts also then.
 pub fn marked_lines_can_be_dropped()
     ensures dropped { (l : Lexicon) (h : List Entry) → HasNames l → AreTold l h
-        → IsName l.specification → length h < 2 ^ 64
+        → IsName l.specification
         → unmarked (history_text l h) ≡ bare_text l h }
     ensures kept { (l : Lexicon) (h other : List Entry) → HasNames l → AreTold l h → AreTold l other
         → unmarked (history_text l h) ≡ unmarked (history_text l other) → h ≡ other }

@@ -31,7 +31,6 @@ use Rattle.jm_print.specs.Told.{BindsSome, HaveEight, FitsStep, IsTold, AreTold}
 use Rattle.jm_top.specs.Specifications.{Specification, meaning_of}
 use Rattle.jm_top.specs.Histories.{IsHistoryOf, lexicon}
 use Rattle.jm_top.proofs.PrintLemmas.{IsNamedStep, printable}
-use Rattle.jm_telling.specs.Counts.{HasFewFirings}
 use Rattle.jm_telling.proofs.TableMasks.{HasMasks, mask_within}
 use Rattle.jm_telling.proofs.ScriptSteps.{HasObjects, IsLineIn}
 
@@ -90,27 +89,27 @@ found_bound test [] o found = absurd (none-some o found)
 found_bound test (None ∷ b) o found = found_bound test b o found
 found_bound test (Some q ∷ b) o found = tt
 
-reply_fits : (m : Meaning) (h : List Entry) (s : Step) (o : Outcome) → IsStepOf m s → IsReply m h s o → HasFewFirings o → FitsStep s o
-reply_fits m h (Event e b) (Fired firings) own reply few =
+reply_fits : (m : Meaning) (h : List Entry) (s : Step) (o : Outcome) → IsStepOf m s → IsReply m h s o → FitsStep s o
+reply_fits m h (Event e b) (Fired firings) own reply =
     let eight : All (λ (f : Firing). length f.instance ≡ 8) firings =
     All-weaker (Contains firings) (λ (f : Firing). length f.instance ≡ 8) (λ f among. ((reply.1.exact f).0 among).instance.eight) firings (All-contains_itself firings) in
-    (own.1, each_eight firings (recursion_from_All (λ (f : Firing). length f.instance ≡ 8) firings eight), few)
-reply_fits m h (Event e b) (Refused o) own reply few = (own.1, found_bound (is_dead h) b o reply)
-reply_fits m h (Event e b) Done own reply few = tt
-reply_fits m h (Event e b) (Kept n) own reply few = tt
-reply_fits m h (Event e b) NoMemory own reply few = tt
-reply_fits m h (Death o) outcome own reply few = tt
-reply_fits m h Pass (Kept n) own reply few =
+    (own.1, each_eight firings (recursion_from_All (λ (f : Firing). length f.instance ≡ 8) firings eight))
+reply_fits m h (Event e b) (Refused o) own reply = (own.1, found_bound (is_dead h) b o reply)
+reply_fits m h (Event e b) Done own reply = tt
+reply_fits m h (Event e b) (Kept n) own reply = tt
+reply_fits m h (Event e b) NoMemory own reply = tt
+reply_fits m h (Death o) outcome own reply = tt
+reply_fits m h Pass (Kept n) own reply =
     let small : reply.0 % 2 ^ 64 < 2 ^ 64 = mod-lt reply.0 (omega arith) in
     subst (λ (k : ℕ). k < 2 ^ 64) (sym reply.2) small
-reply_fits m h Pass (Fired firings) own reply few = tt
-reply_fits m h Pass (Refused o) own reply few = tt
-reply_fits m h Pass Done own reply few = tt
-reply_fits m h Pass NoMemory own reply few = tt
+reply_fits m h Pass (Fired firings) own reply = tt
+reply_fits m h Pass (Refused o) own reply = tt
+reply_fits m h Pass Done own reply = tt
+reply_fits m h Pass NoMemory own reply = tt
 
-replies_fit : (m : Meaning) (h g : List Entry) → IsLegalAfter m h g → AllByRecursion (λ x. HasFewFirings x.outcome) g → AllByRecursion (λ x. FitsStep x.step x.outcome) g
-replies_fit m h [] legal few = tt
-replies_fit m h (x ∷ g) legal few = (reply_fits m h x.step x.outcome legal.0 legal.1 few.0, replies_fit m (h ++ x ∷ []) g legal.2 few.1)
+replies_fit : (m : Meaning) (h g : List Entry) → IsLegalAfter m h g → AllByRecursion (λ x. FitsStep x.step x.outcome) g
+replies_fit m h [] legal = tt
+replies_fit m h (x ∷ g) legal = (reply_fits m h x.step x.outcome legal.0 legal.1, replies_fit m (h ++ x ∷ []) g legal.2)
 
 -- ---- the names of a step
 
@@ -143,7 +142,7 @@ module _ (s : Specification) (objects : List (List ℕ)) (masks : s.rules.masks 
   step_named Pass own has = tt
 
   -- a history of it
-  module _ (number : ℕ) (scripts : List (List ScriptLine)) (few_scripts : length scripts ≤ 16) (lines : AllByRecursion (AllByRecursion (IsLineIn (length objects) (2 ^ 64))) scripts) (h : List Entry) (is : IsHistoryOf number s scripts h) (few : All (λ x. HasFewFirings x.outcome) h) where
+  module _ (number : ℕ) (scripts : List (List ScriptLine)) (few_scripts : length scripts ≤ 16) (lines : AllByRecursion (AllByRecursion (IsLineIn (length objects) (2 ^ 64))) scripts) (h : List Entry) (is : IsHistoryOf number s scripts h) where
     steps_in : (x : Entry) → Contains h x → IsStepIn (length objects) (x.line, x.step)
     steps_in x among = entry_of_lists (IsStepIn (length objects)) (map (λ script. projection_of (script_of script) number) scripts) h (all_projected (length objects) number scripts lines) is.woven x among
 
@@ -158,7 +157,7 @@ module _ (s : Specification) (objects : List (List ℕ)) (masks : s.rules.masks 
     printed = printable (lexicon objects s) (meaning_of s) (omega arith) h named_steps is.woven.done is.legal
 
     fitting : All (λ x. FitsStep x.step x.outcome) h
-    fitting = All-from_recursion (λ (x : Entry). FitsStep x.step x.outcome) h (replies_fit (meaning_of s) [] h is.legal (recursion_from_All (λ (x : Entry). HasFewFirings x.outcome) h few))
+    fitting = All-from_recursion (λ (x : Entry). FitsStep x.step x.outcome) h (replies_fit (meaning_of s) [] h is.legal)
 
     caller_small : (x : Entry) → Contains h x → x.caller < 2 ^ 64
     caller_small x among =

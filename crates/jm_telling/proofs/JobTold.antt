@@ -17,7 +17,6 @@ use Rattle.jm_top.specs.Inputs.{SaySpecifications, SayScripts}
 use Rattle.jm_top.specs.Histories.{AreHistoriesFrom, lexicon}
 use Rattle.jm_top.specs.Jobs.{IsJob, Accepted, accepted}
 use Rattle.jm_top.proofs.FewLemmas.{few_named}
-use Rattle.jm_telling.specs.Counts.{HaveFewFirings}
 use Rattle.jm_telling.proofs.JobNames.{specification_tables}
 use Rattle.jm_telling.proofs.ScriptSteps.{IsLineIn, more_lines, fit_script}
 use Rattle.jm_telling.proofs.HistorySteps.{history_told}
@@ -74,17 +73,17 @@ said_masks : (bytes : List ℕ) (s : Specification) → IsSpecification bytes s 
 said_masks bytes s is =
     ap (λ (r : RuleDefinition). r.masks) is.rules.rules ∙ ap (λ (t : EventDefinitions). map (λ (e : EventDefinition). e.mask) t.events) (sym is.table)
 
-histories_told : (objects : List (List ℕ)) (scripts : List (List ScriptLine)) → length scripts ≤ 16 → AreLinesIn (length objects) scripts → (number : ℕ) (specs : List Specification) (hs : List (List Entry)) → AllByRecursion IsSaid specs → AreHistoriesFrom number specs scripts hs → HaveFewFirings hs → AreToldBy (map (lexicon objects) specs) hs
-histories_told objects scripts short lines number [] [] said are few = tt
-histories_told objects scripts short lines number [] (h ∷ hs) said are few = absurd are
-histories_told objects scripts short lines number (s ∷ specs) [] said are few = absurd are
-histories_told objects scripts short lines number (s ∷ specs) (h ∷ hs) said are few = (
-  history_told s objects (said_masks said.0.0 s said.0.1) (specification_tables said.0.0 s said.0.1).masks number scripts short lines h are.0 few.0,
-  histories_told objects scripts short lines (number + 1) specs hs said.1 are.1 few.1,
+histories_told : (objects : List (List ℕ)) (scripts : List (List ScriptLine)) → length scripts ≤ 16 → AreLinesIn (length objects) scripts → (number : ℕ) (specs : List Specification) (hs : List (List Entry)) → AllByRecursion IsSaid specs → AreHistoriesFrom number specs scripts hs → AreToldBy (map (lexicon objects) specs) hs
+histories_told objects scripts short lines number [] [] said are = tt
+histories_told objects scripts short lines number [] (h ∷ hs) said are = absurd are
+histories_told objects scripts short lines number (s ∷ specs) [] said are = absurd are
+histories_told objects scripts short lines number (s ∷ specs) (h ∷ hs) said are = (
+  history_told s objects (said_masks said.0.0 s said.0.1) (specification_tables said.0.0 s said.0.1).masks number scripts short lines h are.0,
+  histories_told objects scripts short lines (number + 1) specs hs said.1 are.1,
 )
 
-pub job_told : (words : List (List ℕ)) (contents : List ℕ → Option (List ℕ)) (command : CommandWords) (specs : List Specification) (scripts : List (List ScriptLine)) (objects : List (List ℕ)) (hs : List (List Entry)) → IsJob words contents (Accepted command specs scripts objects) → AreHistoriesFrom 0 specs scripts hs → HaveFewFirings hs → AreToldBy (map (lexicon objects) specs) hs
-job_told words contents _ _ _ _ hs (accepted command specs scripts objects spelled said tells) are few =
+pub job_told : (words : List (List ℕ)) (contents : List ℕ → Option (List ℕ)) (command : CommandWords) (specs : List Specification) (scripts : List (List ScriptLine)) (objects : List (List ℕ)) (hs : List (List Entry)) → IsJob words contents (Accepted command specs scripts objects) → AreHistoriesFrom 0 specs scripts hs → AreToldBy (map (lexicon objects) specs) hs
+job_told words contents _ _ _ _ hs (accepted command specs scripts objects spelled said tells) are =
     let fits = fit_scripts contents specs 0 [] (script_sources command) scripts objects tells in
     let short : length scripts ≤ 16 = omega (arith, fits.many, few_sources command (few_named words command spelled)) in
-    histories_told objects scripts short fits.lines 0 specs hs (each_said contents _ [] _ specs said) are few
+    histories_told objects scripts short fits.lines 0 specs hs (each_said contents _ [] _ specs said) are

@@ -11,7 +11,6 @@ ghost use Rattle.jm_top.specs.Specifications.{Specification, IsSpecFault};
 ghost use Rattle.jm_top.specs.Scripts.{IsScriptFault};
 ghost use Rattle.jm_top.specs.Histories.{AreHistoriesFrom, lexicon};
 ghost use Rattle.jm_top.specs.Jobs.{IsJob, Accepted};
-ghost use Rattle.jm_telling.specs.Counts.{HaveFewFirings};
 ghost use Rattle.jm_telling.specs.FirstFaults.{IsSameFault};
 ghost use Rattle.jm_telling.specs.TokenLaws.{TokensTile, WordsAreMaximal, MarksAreLongest};
 
@@ -26,21 +25,20 @@ pub fn inputs_have_names()
 {}
 
 /// The text of an accepted command tells its histories. Each list of histories that its scripts may have, one for each
-/// specification, is told by its text; and two such lists with one text are one list. Of the histories it is asked only
-/// that an event has fewer than 2 ^ 64 firings, which no definition bounds.
+/// specification, is told by its text; and two such lists with one text are one list.
 pub fn text_tells_histories()
     ensures told { (words : List (List ℕ)) (contents : List ℕ → Option (List ℕ)) (command : CommandWords)
         → (specs : List Specification) (scripts : List (List ScriptLine)) (objects : List (List ℕ))
         → (hs : List (List Entry))
         → IsJob words contents (Accepted command specs scripts objects)
-        → AreHistoriesFrom 0 specs scripts hs → HaveFewFirings hs
+        → AreHistoriesFrom 0 specs scripts hs
         → AreToldBy (map (lexicon objects) specs) hs }
     ensures one { (words : List (List ℕ)) (contents : List ℕ → Option (List ℕ)) (command : CommandWords)
         → (specs : List Specification) (scripts : List (List ScriptLine)) (objects : List (List ℕ))
         → (hs others : List (List Entry))
         → IsJob words contents (Accepted command specs scripts objects)
-        → AreHistoriesFrom 0 specs scripts hs → HaveFewFirings hs
-        → AreHistoriesFrom 0 specs scripts others → HaveFewFirings others
+        → AreHistoriesFrom 0 specs scripts hs
+        → AreHistoriesFrom 0 specs scripts others
         → texts_of (map (lexicon objects) specs) hs ≡ texts_of (map (lexicon objects) specs) others
         → hs ≡ others }
 {}

@@ -5,7 +5,7 @@ use Rattle.jm_print.proofs.TextsTold.{lines-told, unmarked-history}
 use Rattle.jm_print.proofs.laws.marked_lines_can_be_dropped.Goals as goal
 
 pub returns-clause-dropped : goal.returns-clause-dropped
-returns-clause-dropped c = λ l h names told plain few. ap unmarked (sym (append-nil (history_text l h))) ∙ unmarked-history l h names told plain few
+returns-clause-dropped c = λ l h names told plain. ap unmarked (sym (append-nil (history_text l h))) ∙ unmarked-history l h names told plain
 
 pub returns-clause-kept : goal.returns-clause-kept
 returns-clause-kept c =
