@@ -1,4 +1,4 @@
-use jm_machine::{Rules, Run};
+use jm_machine::{Configuration, Rules};
 use jm_model::{Letter, Monitor, NoMemory};
 use std::alloc::{AllocError, Global};
 
@@ -10,35 +10,44 @@ pub(crate) fn cuts(
     word: &str,
     dead: &str,
 ) -> Result<(), AllocError> {
-    let Ok(mut run) = rules.begin() else {
+    let Ok(mut configuration) = rules.begin() else {
         return out.push_str("no memory");
     };
-    add_cuts(out, rules, &run, dead)?;
+    add_cuts(out, rules, &configuration, dead)?;
     for digit in word.bytes() {
-        let Ok(next) = later(rules, &run, digit) else {
+        let Ok(next) = later(rules, &configuration, digit) else {
             return out.push_str("no memory");
         };
-        run = next;
+        configuration = next;
         out.push_str(" ")?;
-        add_cuts(out, rules, &run, dead)?;
+        add_cuts(out, rules, &configuration, dead)?;
     }
     let _ = alloc;
     Ok(())
 }
 
-/// The run with the letter of a digit at its end.
-fn later(rules: &Rules, run: &Run, digit: u8) -> Result<Run, NoMemory> {
+/// The configuration with the letter of a digit at its end.
+fn later(
+    rules: &Rules,
+    configuration: &Configuration,
+    digit: u8,
+) -> Result<Configuration, NoMemory> {
     let letter = digit.saturating_sub(b'0');
     if letter < rules.letters() {
-        rules.next(run, Letter(letter))
+        rules.next(configuration, Letter(letter))
     } else {
-        rules.copy(run)
+        rules.copy(configuration)
     }
 }
 
-fn add_cuts(out: &mut String, rules: &Rules, run: &Run, dead: &str) -> Result<(), AllocError> {
+fn add_cuts(
+    out: &mut String,
+    rules: &Rules,
+    configuration: &Configuration,
+    dead: &str,
+) -> Result<(), AllocError> {
     for mask in dead.split_whitespace() {
-        let cut = rules.cut(run, mask.parse().unwrap_or(255));
+        let cut = rules.cut(configuration, mask.parse().unwrap_or(255));
         out.push_str(if cut { "1" } else { "0" })?;
     }
     Ok(())
@@ -51,25 +60,30 @@ pub(crate) fn rests(
     rules: &Rules,
     word: &str,
 ) -> Result<(), AllocError> {
-    let Ok(mut run) = rules.begin() else {
+    let Ok(mut configuration) = rules.begin() else {
         return out.push_str("no memory");
     };
-    add_rests(alloc, out, rules, &run)?;
+    add_rests(alloc, out, rules, &configuration)?;
     for digit in word.bytes() {
-        let Ok(next) = later(rules, &run, digit) else {
+        let Ok(next) = later(rules, &configuration, digit) else {
             return out.push_str("no memory");
         };
-        run = next;
+        configuration = next;
         out.push_str(" ")?;
-        add_rests(alloc, out, rules, &run)?;
+        add_rests(alloc, out, rules, &configuration)?;
     }
     Ok(())
 }
 
-fn add_rests(alloc: Global, out: &mut String, rules: &Rules, run: &Run) -> Result<(), AllocError> {
-    add_letters(alloc, out, rules, rules.idle(run))?;
+fn add_rests(
+    alloc: Global,
+    out: &mut String,
+    rules: &Rules,
+    configuration: &Configuration,
+) -> Result<(), AllocError> {
+    add_letters(alloc, out, rules, rules.idle(configuration))?;
     out.push_str("/")?;
-    add_letters(alloc, out, rules, rules.ending(run))
+    add_letters(alloc, out, rules, rules.ending(configuration))
 }
 
 /// The letters of a mask, as digits, or a dash where there is none.

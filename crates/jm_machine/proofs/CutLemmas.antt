@@ -14,13 +14,13 @@ use Rattle.jm_goal.specs.Goals.{GoalDefinition}
 use Rattle.jm_table.specs.Tables.{Transitions, next_of, state_from, state_after_of, IsWord, IsInGroup}
 use Rattle.jm_coenable.specs.Needs as needs
 use Rattle.jm_machine.specs.declared.engine.Engine.TheVariants.{States}
-use Rattle.jm_machine.specs.declared.run.Run.{Run}
-use Rattle.jm_machine.specs.declared.run.Run.TheVariants.{Start, Barren, State, Parse}
+use Rattle.jm_machine.specs.declared.configuration.Configuration.{Configuration}
+use Rattle.jm_machine.specs.declared.configuration.Configuration.TheVariants.{Start, Barren, State, Parse}
 use Rattle.jm_machine.specs.Formulas.{category_names}
 use Rattle.jm_machine.specs.Engines.{EngineHolds}
 use Rattle.jm_machine.specs.Meanings.{RuleDefinition, rules_meaning, is_failing_grammar}
 use Rattle.jm_machine.specs.RuleSets.{CompiledRules, IsRuleSet, IsHandledBy, may_begin}
-use Rattle.jm_machine.specs.Runs.{IsRunOf, IsBegun}
+use Rattle.jm_machine.specs.Configurations.{IsConfigurationOf, IsBegun}
 use Rattle.jm_machine.specs.Outlooks.{CanHitFrom}
 use Rattle.jm_machine.proofs.OptionLemmas.{looked_up}
 use Rattle.jm_machine.proofs.RuleLemmas.{hit_handled, created_later}
@@ -162,8 +162,8 @@ module _ (d : RuleDefinition) (t : Transitions) (goal : GoalDefinition) (v : Eve
   alive_same : (P Q : ℕ → Type 0) (dead : ℕ) → ((mask : ℕ) → P mask ↔ Q mask) → ((mask : ℕ) × P mask × (bit_and mask dead ≡ 0)) ↔ needs.IsAlive Q dead
   alive_same P Q dead same = (λ h. (h.0, (same h.0).0 h.1, h.2), λ h. (h.0, (same h.0).1 h.1, h.2))
 
-  -- a run can be hit again where its state, or the start, says so
-  pub can_hit_run : (run : Run) (w : List ℕ) (dead : ℕ) → ((w : List ℕ) → IsWord t w → state_after_of t w < t.states) → IsRunOf rules run w → CanHit m w dead 0 ↔ CanHitFrom t goal v run dead
+  -- a configuration can be hit again where its state, or the start, says so
+  pub can_hit_run : (configuration : Configuration) (w : List ℕ) (dead : ℕ) → ((w : List ℕ) → IsWord t w → state_after_of t w < t.states) → IsConfigurationOf rules configuration w → CanHit m w dead 0 ↔ CanHitFrom t goal v configuration dead
   can_hit_run Start w dead within h =
       subst (λ (x : List ℕ). CanHit m x dead 0 ↔ needs.IsAlive (needs.IsNeededAtStart t goal v) dead) (sym h)
       (let by = can_hit_needed m dead [] 0 (λ k. refl) in

@@ -18,7 +18,7 @@ use Rattle.jm_machine.specs.declared.engine.Engine.TheVariants.{States}
 use Rattle.jm_machine.specs.Formulas.{category_names}
 use Rattle.jm_machine.specs.Meanings.{RuleDefinition, rules_meaning}
 use Rattle.jm_machine.specs.RuleSets.{CompiledRules, IsRuleSet, may_begin}
-use Rattle.jm_machine.specs.Runs.{IsBegun}
+use Rattle.jm_machine.specs.Configurations.{IsBegun}
 use Rattle.jm_machine.proofs.RuleLemmas.{created_later, letter_there}
 use Rattle.jm_machine.proofs.CutLemmas.{all_places, needed_from, params_same, back_letters}
 

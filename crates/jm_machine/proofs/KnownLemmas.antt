@@ -18,18 +18,18 @@ use Rattle.jm_machine.specs.declared.formula.Formula.{Formula}
 use Rattle.jm_machine.specs.declared.engine.Engine.{Engine}
 use Rattle.jm_machine.specs.declared.engine.Engine.TheVariants.{States, Parses}
 use Rattle.jm_machine.specs.declared.outlook.Outlook.TheVariants.{Table, Grammar}
-use Rattle.jm_machine.specs.declared.run.Run.{Run}
-use Rattle.jm_machine.specs.declared.run.Run.TheVariants.{State}
+use Rattle.jm_machine.specs.declared.configuration.Configuration.{Configuration}
+use Rattle.jm_machine.specs.declared.configuration.Configuration.TheVariants.{State}
 use Rattle.jm_machine.specs.Formulas.{category_names}
 use Rattle.jm_machine.specs.Engines.{IsPlaceOf, EngineHolds}
 use Rattle.jm_machine.specs.Meanings.{RuleDefinition, rules_meaning, is_failing_grammar}
 use Rattle.jm_machine.specs.RuleSets.{CompiledRules, IsRuleSet, IsGoalOf, IsHandledBy, definition_of, may_begin}
-use Rattle.jm_machine.specs.Runs.{IsRunOf, IsBegun}
+use Rattle.jm_machine.specs.Configurations.{IsConfigurationOf, IsBegun}
 use Rattle.jm_machine.specs.Outlooks.{StateFacts, ParseFacts, AreFactsOf, IsEndingLetter, CanHitFrom, IsParseOf, CanMatch}
 use Rattle.jm_machine.specs.Known.{IsKnown}
 use Rattle.jm_machine.proofs.OptionLemmas.{looked_up}
 use Rattle.jm_machine.proofs.GoalLemmas.{begins_as_listed}
-use Rattle.jm_machine.proofs.RunLemmas.{state_within, state_next}
+use Rattle.jm_machine.proofs.ConfigurationLemmas.{state_within, state_next}
 use Rattle.jm_machine.proofs.RuleLemmas.{hit_handled, begun_later, created_later, letter_there}
 use Rattle.jm_machine.proofs.CutLemmas.{not_so, cut_words, can_hit_run}
 use Rattle.jm_machine.proofs.ParseLemmas.{failing_cut, matching_cut, parse_of_run}
@@ -71,27 +71,27 @@ module _ (masks : List ℕ) (formula : Formula) (handlers : List (List ℕ)) (go
         let handled = (hit_handled (rules_with (States t)) set word place.0 begun k).1 hit in
         no_bit_of_zero k (subst (λ (n : ℕ). IsBitSet n k) quiet ((handled_state s word place k).1 handled))
 
-    can_run : (run : Run) (w : List ℕ) (dead : ℕ) → IsRunOf (rules_with (States t)) run w → CanHit m w dead 0 ↔ CanHitFrom t goal known.events run dead
-    can_run run w dead h = can_hit_run d t goal known.events set known.masks g.groups listed run w dead (λ w word. state_within t w told.table word) h
+    can_run : (configuration : Configuration) (w : List ℕ) (dead : ℕ) → IsConfigurationOf (rules_with (States t)) configuration w → CanHit m w dead 0 ↔ CanHitFrom t goal known.events configuration dead
+    can_run configuration w dead h = can_hit_run d t goal known.events set known.masks g.groups listed configuration w dead (λ w word. state_within t w told.table word) h
 
     -- where nothing can be hit from the state that a word leads to, the word is cut
     lost : (s : ℕ) (word : List ℕ) → IsBegun (rules_with (States t)) word → IsPlaceOf (States t) (State s) word → (CanHitFrom t goal known.events (State s) 0 → ⊥) → CanHit m word 0 0 → ⊥
     lost s word begun place never can = never ((can_run (State s) word 0 (begun, place)).0 can)
 
-    table_cut : (run : Run) (dead : ℕ) (can : Bool) → IsTrue can ↔ CanHitFrom t goal known.events run dead → (w : List ℕ) → IsRunOf (rules_with (States t)) run w → IsTrue (not can) ↔ IsCutWord m w dead
-    table_cut run dead can says w h =
-        let by = can_run run w dead h in
+    table_cut : (configuration : Configuration) (dead : ℕ) (can : Bool) → IsTrue can ↔ CanHitFrom t goal known.events configuration dead → (w : List ℕ) → IsConfigurationOf (rules_with (States t)) configuration w → IsTrue (not can) ↔ IsCutWord m w dead
+    table_cut configuration dead can says w h =
+        let by = can_run configuration w dead h in
         let cut = cut_words d w dead not_failing in
         let no = not_so can (CanHit m w dead 0) (λ yes. by.1 (says.0 yes), λ hit. says.1 (by.0 hit)) in
         (λ yes. cut.0 (no.0 yes), λ is_cut. no.1 (cut.1 is_cut))
 
-    table_stays : (s e : ℕ) → IsBitSet (slice_index facts.idle s) e → (w : List ℕ) → IsRunOf (rules_with (States t)) (State s) w → IsRunOf (rules_with (States t)) (State s) (w ++ e ∷ [])
+    table_stays : (s e : ℕ) → IsBitSet (slice_index facts.idle s) e → (w : List ℕ) → IsConfigurationOf (rules_with (States t)) (State s) w → IsConfigurationOf (rules_with (States t)) (State s) (w ++ e ∷ [])
     table_stays s e set w h =
         let less : s < t.states = subst (λ (n : ℕ). n < t.states) (sym h.1.1) (state_within t w told.table h.1.0) in
         let idle = told.idle s e less set in
         (begun_later (rules_with (States t)) w e h.0, state_next t s s e w told.table idle.letter (λ _. sym idle.stays) h.1)
 
-    table_rests : (s e : ℕ) → IsBitSet (slice_index facts.idle s) e → (w : List ℕ) → IsRunOf (rules_with (States t)) (State s) w → (k : ℕ) → IsHit m (w ++ e ∷ []) k → ⊥
+    table_rests : (s e : ℕ) → IsBitSet (slice_index facts.idle s) e → (w : List ℕ) → IsConfigurationOf (rules_with (States t)) (State s) w → (k : ℕ) → IsHit m (w ++ e ∷ []) k → ⊥
     table_rests s e bit w h k hit =
         let less : s < t.states = subst (λ (n : ℕ). n < t.states) (sym h.1.1) (state_within t w told.table h.1.0) in
         let idle = told.idle s e less bit in
@@ -139,33 +139,33 @@ module _ (masks : List ℕ) (formula : Formula) (handlers : List (List ℕ)) (go
         subst (λ (n : ℕ). IsBitSet n k ↔ IsHandledBy (rules_with (States t)) word k) (sym (is less)) (handled_state t facts set known s word place k)
     known_hits (Parses c) set known s bits is word place k = absurd place
 
-    pub known_cut : (engine : Engine) → IsRuleSet (rules_with engine) → IsKnown d goal engine (Table facts) → (run : Run) (dead : ℕ) (can : Bool)
-        → ((t : Transitions) (g : GoalDefinition) (v : EventDefinitions) → AreNeedsOf t g v facts.needs → IsTrue can ↔ CanHitFrom t g v run dead)
-        → (w : List ℕ) → IsRunOf (rules_with engine) run w → IsTrue (not can) ↔ IsCutWord m w dead
-    known_cut (States t) set known run dead can says w h =
+    pub known_cut : (engine : Engine) → IsRuleSet (rules_with engine) → IsKnown d goal engine (Table facts) → (configuration : Configuration) (dead : ℕ) (can : Bool)
+        → ((t : Transitions) (g : GoalDefinition) (v : EventDefinitions) → AreNeedsOf t g v facts.needs → IsTrue can ↔ CanHitFrom t g v configuration dead)
+        → (w : List ℕ) → IsConfigurationOf (rules_with engine) configuration w → IsTrue (not can) ↔ IsCutWord m w dead
+    known_cut (States t) set known configuration dead can says w h =
         let told : AreFactsOf t goal known.events facts = known.told in
-        table_cut t facts set known run dead can (says t goal known.events told.needs) w h
-    known_cut (Parses c) set known run dead can says w h = absurd known.told
+        table_cut t facts set known configuration dead can (says t goal known.events told.needs) w h
+    known_cut (Parses c) set known configuration dead can says w h = absurd known.told
 
-    pub known_stays : (engine : Engine) → IsRuleSet (rules_with engine) → IsKnown d goal engine (Table facts) → (s e bits : ℕ) → bits ≡ slice_index facts.idle s → IsBitSet bits e → (w : List ℕ) → IsRunOf (rules_with engine) (State s) w → IsRunOf (rules_with engine) (State s) (w ++ e ∷ [])
+    pub known_stays : (engine : Engine) → IsRuleSet (rules_with engine) → IsKnown d goal engine (Table facts) → (s e bits : ℕ) → bits ≡ slice_index facts.idle s → IsBitSet bits e → (w : List ℕ) → IsConfigurationOf (rules_with engine) (State s) w → IsConfigurationOf (rules_with engine) (State s) (w ++ e ∷ [])
     known_stays (States t) set known s e bits is bit w h = table_stays t facts set known s e (subst (λ (n : ℕ). IsBitSet n e) is bit) w h
     known_stays (Parses c) set known s e bits is bit w h = absurd known.told
 
-    pub known_rests : (engine : Engine) → IsRuleSet (rules_with engine) → IsKnown d goal engine (Table facts) → (s e bits : ℕ) → bits ≡ slice_index facts.idle s → IsBitSet bits e → (w : List ℕ) → IsRunOf (rules_with engine) (State s) w → (k : ℕ) → IsHit m (w ++ e ∷ []) k → ⊥
+    pub known_rests : (engine : Engine) → IsRuleSet (rules_with engine) → IsKnown d goal engine (Table facts) → (s e bits : ℕ) → bits ≡ slice_index facts.idle s → IsBitSet bits e → (w : List ℕ) → IsConfigurationOf (rules_with engine) (State s) w → (k : ℕ) → IsHit m (w ++ e ∷ []) k → ⊥
     known_rests (States t) set known s e bits is bit w h k hit = table_rests t facts set known s e (subst (λ (n : ℕ). IsBitSet n e) is bit) w h k hit
     known_rests (Parses c) set known s e bits is bit w h k hit = absurd known.told
 
-    ending_at : (t : Transitions) (set : IsRuleSet (rules_with (States t))) (known : IsKnown d goal (States t) (Table facts)) (s e bits : ℕ) → bits ≡ slice_index facts.ending s → IsBitSet bits e → (w : List ℕ) → IsRunOf (rules_with (States t)) (State s) w → IsEndingLetter t facts.hits facts.needs s e
+    ending_at : (t : Transitions) (set : IsRuleSet (rules_with (States t))) (known : IsKnown d goal (States t) (Table facts)) (s e bits : ℕ) → bits ≡ slice_index facts.ending s → IsBitSet bits e → (w : List ℕ) → IsConfigurationOf (rules_with (States t)) (State s) w → IsEndingLetter t facts.hits facts.needs s e
     ending_at t set known s e bits is bit w h =
         let told : AreFactsOf t goal known.events facts = known.told in
         let less : s < t.states = subst (λ (n : ℕ). n < t.states) (sym h.1.1) (state_within t w told.table h.1.0) in
         told.ending s e less (subst (λ (n : ℕ). IsBitSet n e) is bit)
 
-    pub known_quiet : (engine : Engine) → IsRuleSet (rules_with engine) → IsKnown d goal engine (Table facts) → (s e bits : ℕ) → bits ≡ slice_index facts.ending s → IsBitSet bits e → (w : List ℕ) → IsRunOf (rules_with engine) (State s) w → (k : ℕ) → IsHit m (w ++ e ∷ []) k → ⊥
+    pub known_quiet : (engine : Engine) → IsRuleSet (rules_with engine) → IsKnown d goal engine (Table facts) → (s e bits : ℕ) → bits ≡ slice_index facts.ending s → IsBitSet bits e → (w : List ℕ) → IsConfigurationOf (rules_with engine) (State s) w → (k : ℕ) → IsHit m (w ++ e ∷ []) k → ⊥
     known_quiet (States t) set known s e bits is bit w h k hit = ended_quiet t facts set known s e w h.1 (ending_at t set known s e bits is bit w h) k hit
     known_quiet (Parses c) set known s e bits is bit w h k hit = absurd known.told
 
-    pub known_ends : (engine : Engine) → IsRuleSet (rules_with engine) → IsKnown d goal engine (Table facts) → (s e bits : ℕ) → bits ≡ slice_index facts.ending s → IsBitSet bits e → (w : List ℕ) → IsRunOf (rules_with engine) (State s) w → IsCutWord m (w ++ e ∷ []) 0
+    pub known_ends : (engine : Engine) → IsRuleSet (rules_with engine) → IsKnown d goal engine (Table facts) → (s e bits : ℕ) → bits ≡ slice_index facts.ending s → IsBitSet bits e → (w : List ℕ) → IsConfigurationOf (rules_with engine) (State s) w → IsCutWord m (w ++ e ∷ []) 0
     known_ends (States t) set known s e bits is bit w h = ended_cut t facts set known s e w h.1 (ending_at t set known s e bits is bit w h)
     known_ends (Parses c) set known s e bits is bit w h = absurd known.told
 
@@ -187,11 +187,11 @@ module _ (masks : List ℕ) (formula : Formula) (handlers : List (List ℕ)) (go
     known_family (Parses c) set known e family less bytes rising exact = absurd known.told
 
   module _ (facts : ParseFacts) where
-    pub known_parse_cut : (c : ChartsDefinition) → IsRuleSet (rules_with (Parses c)) → IsKnown d goal (Parses c) (Grammar facts) → (run : Run) (dead : ℕ) (cut : Bool)
+    pub known_parse_cut : (c : ChartsDefinition) → IsRuleSet (rules_with (Parses c)) → IsKnown d goal (Parses c) (Grammar facts) → (configuration : Configuration) (dead : ℕ) (cut : Bool)
         → (facts.failing ≡ true → IsTrue cut ↔ ((e : ℕ) → charts.IsAvailable c.params dead e → ⊥))
-        → (facts.failing ≡ false → (word : List ℕ) → IsParseOf c run word → IsTrue cut ↔ ((goal.groups ≢ []) × CanMatch c goal run word dead → ⊥))
-        → (w : List ℕ) → IsRunOf (rules_with (Parses c)) run w → IsTrue cut ↔ IsCutWord m w dead
-    known_parse_cut c set known run dead cut failing matching w h = by_case facts.failing refl
+        → (facts.failing ≡ false → (word : List ℕ) → IsParseOf c configuration word → IsTrue cut ↔ ((goal.groups ≢ []) × CanMatch c goal configuration word dead → ⊥))
+        → (w : List ℕ) → IsConfigurationOf (rules_with (Parses c)) configuration w → IsTrue cut ↔ IsCutWord m w dead
+    known_parse_cut c set known configuration dead cut failing matching w h = by_case facts.failing refl
       where
         by_case : (b : Bool) → facts.failing ≡ b → IsTrue cut ↔ IsCutWord m w dead
         by_case true is =
@@ -199,6 +199,6 @@ module _ (masks : List ℕ) (formula : Formula) (handlers : List (List ℕ)) (go
             let meant = failing_cut d c goal set known.bound (sym known.kind) g.groups listed w dead (sym known.told.1 ∙ is) in
             (λ yes. meant.0 (says.0 yes), λ is_cut. says.1 (meant.1 is_cut))
         by_case false is =
-            let says = matching is w (parse_of_run d c run w h) in
-            let meant = matching_cut d c goal set known.bound (sym known.kind) g.groups listed (sym known.told.1 ∙ is) run w dead h in
+            let says = matching is w (parse_of_run d c configuration w h) in
+            let meant = matching_cut d c goal set known.bound (sym known.kind) g.groups listed (sym known.told.1 ∙ is) configuration w dead h in
             (λ yes. meant.0 (says.0 yes), λ is_cut. says.1 (meant.1 is_cut))

@@ -1,5 +1,5 @@
 pub mod OptionLemmas
-pub mod RunLemmas
+pub mod ConfigurationLemmas
 pub mod HandlerLemmas
 pub mod GoalLemmas
 pub mod FormulaLemmas

@@ -20,12 +20,12 @@ use Rattle.jm_earley.specs.Places.{IsAliveFor}
 use Rattle.jm_machine.specs.declared.formula.Formula.{Formula}
 use Rattle.jm_machine.specs.declared.formula.Formula.TheVariants.{Machine, Regular, Temporal, Grammatical}
 use Rattle.jm_machine.specs.declared.engine.Engine.TheVariants.{Parses}
-use Rattle.jm_machine.specs.declared.run.Run.{Run}
-use Rattle.jm_machine.specs.declared.run.Run.TheVariants.{Start, Barren, State, Parse}
+use Rattle.jm_machine.specs.declared.configuration.Configuration.{Configuration}
+use Rattle.jm_machine.specs.declared.configuration.Configuration.TheVariants.{Start, Barren, State, Parse}
 use Rattle.jm_machine.specs.Formulas.{category_names, is_grammar}
 use Rattle.jm_machine.specs.Meanings.{RuleDefinition, rules_meaning, is_failing_grammar}
 use Rattle.jm_machine.specs.RuleSets.{CompiledRules, IsRuleSet, IsHandledBy, may_begin}
-use Rattle.jm_machine.specs.Runs.{IsRunOf, IsBegun}
+use Rattle.jm_machine.specs.Configurations.{IsConfigurationOf, IsBegun}
 use Rattle.jm_machine.specs.Outlooks.{IsParseOf, GoesOn, BeginsWith, CanMatch}
 use Rattle.jm_machine.proofs.RuleLemmas.{hit_handled, created_later}
 use Rattle.jm_machine.proofs.NeedLemmas.{can_hit_needed}
@@ -206,21 +206,21 @@ module _ (d : RuleDefinition) (c : ChartsDefinition) (goal : GoalDefinition) (se
         back e some begins avail (inr more) = made e more.0 some begins ((available_same dead e).1 avail, (all_available dead more.0).1 more.1) more.2
 
     -- the runs of the charts
-    pub parse_can_hit : (run : Run) (w : List ℕ) (dead : ℕ) → IsRunOf rules run w → CanHit m w dead 0 ↔ ((goal.groups ≢ []) × CanMatch c goal run w dead)
+    pub parse_can_hit : (configuration : Configuration) (w : List ℕ) (dead : ℕ) → IsConfigurationOf rules configuration w → CanHit m w dead 0 ↔ ((goal.groups ≢ []) × CanMatch c goal configuration w dead)
     parse_can_hit Start w dead h = subst (λ (x : List ℕ). CanHit m x dead 0 ↔ ((goal.groups ≢ []) × ((e : ℕ) × BeginsWith c goal dead e))) (sym h) (start_can_hit dead)
     parse_can_hit Barren w dead h =
         (λ can. let need = (can_hit_needed m dead w 0 (λ k. refl)).0 can in absurd (barren_never d w need.0 h.0 h.1 need.1), λ never. absurd never.1)
     parse_can_hit (Parse chart) w dead h = word_can_hit w dead h.1.0 h.0
     parse_can_hit (State s) w dead h = absurd h.1
 
-  pub matching_cut : is_failing_grammar d ≡ false → (run : Run) (w : List ℕ) (dead : ℕ) → IsRunOf rules run w → ((goal.groups ≢ []) × CanMatch c goal run w dead → ⊥) ↔ IsCutWord m w dead
-  matching_cut matching run w dead h =
-      let can = parse_can_hit matching run w dead h in
+  pub matching_cut : is_failing_grammar d ≡ false → (configuration : Configuration) (w : List ℕ) (dead : ℕ) → IsConfigurationOf rules configuration w → ((goal.groups ≢ []) × CanMatch c goal configuration w dead → ⊥) ↔ IsCutWord m w dead
+  matching_cut matching configuration w dead h =
+      let can = parse_can_hit matching configuration w dead h in
       let cut = cut_words d w dead matching in
       (λ never. cut.0 (λ hit. never (can.0 hit)), λ is_cut both. cut.1 is_cut (can.1 both))
 
--- the run of a word is one of it, so far as its chart tells
-pub parse_of_run : (d : RuleDefinition) (c : ChartsDefinition) (run : Run) (w : List ℕ) → IsRunOf (record { definition = d; engine = Parses c }) run w → IsParseOf c run w
+-- the configuration of a word is one of it, so far as its chart tells
+pub parse_of_run : (d : RuleDefinition) (c : ChartsDefinition) (configuration : Configuration) (w : List ℕ) → IsConfigurationOf (record { definition = d; engine = Parses c }) configuration w → IsParseOf c configuration w
 parse_of_run d c (Parse chart) w h = h.1.1
 parse_of_run d c Start w h = tt
 parse_of_run d c Barren w h = tt

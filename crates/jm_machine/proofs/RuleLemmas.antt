@@ -1,4 +1,4 @@
--- Runs of compiled rules: the next run, and which handlers a word hits.
+-- Configurations of compiled rules: the next configuration, and which handlers a word hits.
 use Rattle.std.proofs.Common.{◌≡◌, ◌≢◌, ℕ, ◌<◌, List, [], ◌∷◌, ◌++◌, length, get_or, Option, Some, None, map, refl, sym, subst, arith}
 use Rattle.std.specs.Prelude.{All, ◌↔◌, IsBitSet, IsSomeAnd, slice_get}
 use Rattle.std.specs.Str.{bytes_eq}
@@ -7,15 +7,15 @@ use Rattle.std.proofs.lemmas.Option.{slice_get_within, slice_get-get_or}
 use Rattle.jm_model.specs.Meanings.{Meaning, IsCreated, IsHit}
 use Rattle.jm_events.specs.Names.{number_of}
 use Rattle.jm_earley.specs.Charts.{ChartsDefinition, ChartDefinition, IsChartOf}
-use Rattle.jm_machine.specs.declared.run.Run.{Run}
-use Rattle.jm_machine.specs.declared.run.Run.TheVariants.{Start, Barren, State, Parse}
+use Rattle.jm_machine.specs.declared.configuration.Configuration.{Configuration}
+use Rattle.jm_machine.specs.declared.configuration.Configuration.TheVariants.{Start, Barren, State, Parse}
 use Rattle.jm_machine.specs.declared.engine.Engine.{Engine}
 use Rattle.jm_machine.specs.declared.engine.Engine.TheVariants.{States, Parses}
 use Rattle.jm_machine.specs.Engines.{letters_of_engine, IsPlaceOf, IsChartPlace, EngineHolds}
 use Rattle.jm_machine.specs.Formulas.{category_names, CategoryHolds}
 use Rattle.jm_machine.specs.Meanings.{IsNamedCategory, rules_meaning}
 use Rattle.jm_machine.specs.RuleSets.{CompiledRules, IsRuleSet, IsHandledBy}
-use Rattle.jm_machine.specs.Runs.{IsRunOf, IsBegun}
+use Rattle.jm_machine.specs.Configurations.{IsConfigurationOf, IsBegun}
 use Rattle.jm_machine.proofs.OptionLemmas.{some_more, looked_up}
 
 -- ---- groups and categories
@@ -57,14 +57,14 @@ pub begun_later : (r : CompiledRules) (w : List ℕ) (e : ℕ) → IsBegun r w �
 begun_later r w e h = (letter_there w e, (created_later (rules_meaning r.definition) w (e ∷ []) h.0).0 h.1)
 
 -- the chart of a word is the place of it
-pub chart_place : (c : ChartsDefinition) (chart : ChartDefinition) (run : Run) (w : List ℕ) → IsChartPlace chart run → All (λ letter. letter < length c.params) w → IsChartOf c w chart → IsPlaceOf (Parses c) run w
+pub chart_place : (c : ChartsDefinition) (chart : ChartDefinition) (configuration : Configuration) (w : List ℕ) → IsChartPlace chart configuration → All (λ letter. letter < length c.params) w → IsChartOf c w chart → IsPlaceOf (Parses c) configuration w
 chart_place c chart (Parse b) w here below h = (below, subst (IsChartOf c w) (sym here) h)
 chart_place c chart Start w here below h = absurd here
 chart_place c chart Barren w here below h = absurd here
 chart_place c chart (State s) w here below h = absurd here
 
 -- a place is that of a word of letters that are there
-pub place_letters : (engine : Engine) (run : Run) (w : List ℕ) → IsPlaceOf engine run w → All (λ letter. letter < letters_of_engine engine) w
+pub place_letters : (engine : Engine) (configuration : Configuration) (w : List ℕ) → IsPlaceOf engine configuration w → All (λ letter. letter < letters_of_engine engine) w
 place_letters (States t) (State state) w h = h.0
 place_letters (States t) (Parse chart) w h = absurd h
 place_letters (States t) Start w h = absurd h
@@ -108,15 +108,15 @@ module _ (r : CompiledRules) (set : IsRuleSet r) (w : List ℕ) (letters : All (
     λ hit. (holds k).1 hit.3,
   )
 
--- the bits of the handlers of a run's words
-pub run_hits : (r : CompiledRules) (set : IsRuleSet r) (run : Run) (w : List ℕ) → IsBegun r w → IsPlaceOf r.engine run w → (bits : ℕ) → ((k : ℕ) → IsBitSet bits k ↔ IsHandledBy r w k) → (k : ℕ) → IsBitSet bits k ↔ IsHit (rules_meaning r.definition) w k
-run_hits r set run w begun place bits handled k =
-    let hit = hit_handled r set w (place_letters r.engine run w place) begun k in
+-- the bits of the handlers of a configuration's words
+pub run_hits : (r : CompiledRules) (set : IsRuleSet r) (configuration : Configuration) (w : List ℕ) → IsBegun r w → IsPlaceOf r.engine configuration w → (bits : ℕ) → ((k : ℕ) → IsBitSet bits k ↔ IsHandledBy r w k) → (k : ℕ) → IsBitSet bits k ↔ IsHit (rules_meaning r.definition) w k
+run_hits r set configuration w begun place bits handled k =
+    let hit = hit_handled r set w (place_letters r.engine configuration w place) begun k in
     let bit = handled k in
     (λ b. hit.0 (bit.0 b), λ h. bit.1 (hit.1 h))
 
--- a run of its own is that of the empty word, or of one that began otherwise; any other has a place
-pub run_split : (r : CompiledRules) (run : Run) (w : List ℕ) → (run ≡ Start → ⊥) → (run ≡ Barren → ⊥) → IsRunOf r run w → IsBegun r w × IsPlaceOf r.engine run w
+-- a configuration of its own is that of the empty word, or of one that began otherwise; any other has a place
+pub run_split : (r : CompiledRules) (configuration : Configuration) (w : List ℕ) → (configuration ≡ Start → ⊥) → (configuration ≡ Barren → ⊥) → IsConfigurationOf r configuration w → IsBegun r w × IsPlaceOf r.engine configuration w
 run_split r Start w start barren h = absurd (start refl)
 run_split r Barren w start barren h = absurd (barren refl)
 run_split r (State s) w start barren h = (h.0, h.1)

@@ -8,8 +8,8 @@ use Rattle.jm_grammar.specs.Categories.{GrammarHolds}
 use Rattle.jm_earley.specs.Charts.{ChartDefinition, AreBelow, IsChartOf}
 use Rattle.jm_machine.specs.declared.engine.Engine.{Engine}
 use Rattle.jm_machine.specs.declared.engine.Engine.TheVariants.{States, Parses}
-use Rattle.jm_machine.specs.declared.run.Run.{Run}
-use Rattle.jm_machine.specs.declared.run.Run.TheVariants.{State, Parse}
+use Rattle.jm_machine.specs.declared.configuration.Configuration.{Configuration}
+use Rattle.jm_machine.specs.declared.configuration.Configuration.TheVariants.{State, Parse}
 use Rattle.jm_machine.specs.declared.formula.Formula.{Formula}
 use Rattle.jm_machine.specs.declared.formula.Formula.TheVariants.{Grammatical}
 use Rattle.jm_machine.specs.Formulas.{category_names, CategoryHolds}
@@ -39,13 +39,13 @@ HasParams masks (States t) = Unit {0}
 HasParams masks (Parses c) = c.params ≡ masks
 
 -- the word leads to the state, or to the chart
-abbrev pub IsPlaceOf : Engine → Run → List ℕ → Type 0
+abbrev pub IsPlaceOf : Engine → Configuration → List ℕ → Type 0
 IsPlaceOf (States t) (State s) word = IsWord t word × (s ≡ state_after_of t word)
 IsPlaceOf (Parses c) (Parse chart) word = All (λ letter. letter < length c.params) word × IsChartOf c word chart.value
 IsPlaceOf _ _ word = ⊥
 
--- the run has this chart
-abbrev pub IsChartPlace : ChartDefinition → Run → Type 0
+-- the configuration has this chart
+abbrev pub IsChartPlace : ChartDefinition → Configuration → Type 0
 IsChartPlace chart (Parse here) = here.value ≡ chart
 IsChartPlace chart _ = ⊥
 

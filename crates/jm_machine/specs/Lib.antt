@@ -4,6 +4,6 @@ pub mod Meanings
 pub mod Compiling
 pub mod Engines
 pub mod RuleSets
-pub mod Runs
+pub mod Configurations
 pub mod Outlooks
 pub mod Known

@@ -8,8 +8,8 @@ use Rattle.jm_grammar.specs.Derivations.{IsWord}
 use Rattle.jm_earley.specs.Charts.{ChartsDefinition, ChartDefinition, IsChartOf}
 use Rattle.jm_earley.specs.DeadSets.{IsAvailable}
 use Rattle.jm_earley.specs.Places.{IsAliveFor}
-use Rattle.jm_machine.specs.declared.run.Run.{Run}
-use Rattle.jm_machine.specs.declared.run.Run.TheVariants.{Start, State, Parse}
+use Rattle.jm_machine.specs.declared.configuration.Configuration.{Configuration}
+use Rattle.jm_machine.specs.declared.configuration.Configuration.TheVariants.{Start, State, Parse}
 use Rattle.jm_machine.specs.declared.engine.Engine.{Engine}
 use Rattle.jm_machine.specs.declared.engine.Engine.TheVariants.{States}
 use Rattle.jm_machine.specs.Engines.{IsPlaceOf, EngineHolds}
@@ -65,9 +65,9 @@ pub record AreFactsOf (t : Transitions) (goal : GoalDefinition) (events : EventD
   pub first_ending : (e : ℕ) → IsBitSet f.first_ending e → IsFirstEnding t goal f.hits f.needs e
   pub needs : AreNeedsOf t goal events f.needs
 
--- some word of one or more letters without a dead parameter leads from the run's state to a handled one; from the empty word it
+-- some word of one or more letters without a dead parameter leads from the configuration's state to a handled one; from the empty word it
 -- is one that may begin so
-abbrev pub CanHitFrom : Transitions → GoalDefinition → EventDefinitions → Run → ℕ → Type 0
+abbrev pub CanHitFrom : Transitions → GoalDefinition → EventDefinitions → Configuration → ℕ → Type 0
 CanHitFrom t g v Start dead = IsAlive (IsNeededAtStart t g v) dead
 CanHitFrom t g v (State s) dead = (s < t.states) × IsAlive (IsNeededFrom t g v s) dead
 CanHitFrom t g v _ dead = ⊥
@@ -92,14 +92,14 @@ GoesOn c dead e = IsWord c.grammar (e ∷ []) ⊎ IsAliveFor c.grammar c.params 
 abbrev pub BeginsWith : ChartsDefinition → GoalDefinition → ℕ → ℕ → Type 0
 BeginsWith c goal dead e = may_begin goal e × IsAvailable c.params dead e × GoesOn c dead e
 
--- the run is that of a word, so far as its chart tells
-abbrev pub IsParseOf : ChartsDefinition → Run → List ℕ → Type 0
+-- the configuration is that of a word, so far as its chart tells
+abbrev pub IsParseOf : ChartsDefinition → Configuration → List ℕ → Type 0
 IsParseOf c (Parse chart) word = IsChartOf c word chart.value
 IsParseOf c _ word = Unit {0}
 
--- some word of one or more letters without a dead parameter, put after the run's word, is in the language; after the empty word
+-- some word of one or more letters without a dead parameter, put after the configuration's word, is in the language; after the empty word
 -- it is one that may begin so
-abbrev pub CanMatch : ChartsDefinition → GoalDefinition → Run → List ℕ → ℕ → Type 0
+abbrev pub CanMatch : ChartsDefinition → GoalDefinition → Configuration → List ℕ → ℕ → Type 0
 CanMatch c goal Start word dead = (e : ℕ) × BeginsWith c goal dead e
 CanMatch c goal (Parse chart) word dead = IsAliveFor c.grammar c.params dead word
 CanMatch c goal _ word dead = ⊥

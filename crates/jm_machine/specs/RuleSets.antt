@@ -50,7 +50,7 @@ pub record IsGoalOf (masks : List ℕ) (formula : Formula) (handlers : List (Lis
 abbrev pub may_begin : GoalDefinition → ℕ → Type 0
 may_begin goal letter = (goal.creation ≡ 0) ⊎ IsBitSet goal.creation letter
 
--- ---- where handlers run
+-- ---- where handlers configuration
 
 -- what runs the property says that the category of handler k holds of the word
 abbrev pub IsHandledBy : CompiledRules → List ℕ → ℕ → Type 0

@@ -5,7 +5,7 @@ ghost use Rattle.jm_grammar.specs.Categories.{GrammarHolds};
 ghost use Rattle.jm_earley.specs.Charts.{IsChartOf};
 ghost use Rattle.jm_machine.specs.Engines.{letters_of_engine, categories_of_engine, IsPlaceOf, IsChartPlace, EngineHolds};
 
-use crate::run::Run;
+use crate::configuration::Configuration;
 use jm_earley::{Chart, Charts};
 use jm_goal::Goal;
 use jm_model::{Letter, NoMemory};
@@ -22,70 +22,86 @@ pub enum Engine {
 }
 
 impl Engine {
-    /// A run of the same words.
-    pub(crate) fn copy(&self, alloc: Global, run: &Run) -> Result<Run, NoMemory>
-        ensures { IfOk result (λ copy. (word : List ℕ) → IsPlaceOf self.now run.now word → IsPlaceOf self.now copy word) }
+    /// A configuration of the same words.
+    pub(crate) fn copy(
+        &self,
+        alloc: Global,
+        configuration: &Configuration,
+    ) -> Result<Configuration, NoMemory>
+        ensures { IfOk result (λ copy. (word : List ℕ) → IsPlaceOf self.now configuration.now word → IsPlaceOf self.now copy word) }
     {
-        match (self, run) {
-            (_, Run::State(state)) => Ok(Run::State(*state)),
-            (Engine::Parses(charts), Run::Parse(chart)) => run_of(alloc, charts.copy(chart)?),
-            _ => Ok(Run::Barren),
+        match (self, configuration) {
+            (_, Configuration::State(state)) => Ok(Configuration::State(*state)),
+            (Engine::Parses(charts), Configuration::Parse(chart)) => configuration_of(
+                alloc,
+                charts.copy(chart)?,
+            ),
+            _ => Ok(Configuration::Barren),
         }
     }
 
-    /// The run of the words that have one letter more.
-    pub(crate) fn next(&self, alloc: Global, run: &Run, letter: Letter) -> Result<Run, NoMemory>
+    /// The configuration of the words that have one letter more.
+    pub(crate) fn next(
+        &self,
+        alloc: Global,
+        configuration: &Configuration,
+        letter: Letter,
+    ) -> Result<Configuration, NoMemory>
         requires { letter.0 < letters_of_engine self.now }
         ensures { IfOk result (λ next.
-            (word : List ℕ) → IsPlaceOf self.now run.now word → IsPlaceOf self.now next (word ++ letter.0 ∷ [])) }
+            (word : List ℕ) → IsPlaceOf self.now configuration.now word → IsPlaceOf self.now next (word ++ letter.0 ∷ [])) }
     {
-        match (self, run) {
-            (Engine::States(table), Run::State(state)) => {
-                Ok(Run::State(next_state(table, *state, letter)))
+        match (self, configuration) {
+            (Engine::States(table), Configuration::State(state)) => {
+                Ok(Configuration::State(next_state(table, *state, letter)))
             }
-            (Engine::Parses(charts), Run::Parse(chart)) => {
-                run_of(alloc, charts.next(chart, letter)?)
+            (Engine::Parses(charts), Configuration::Parse(chart)) => {
+                configuration_of(alloc, charts.next(chart, letter)?)
             }
-            _ => Ok(Run::Barren),
+            _ => Ok(Configuration::Barren),
         }
     }
 
-    /// Whether the category of this number holds of the words of the run.
-    pub(crate) fn holds(&self, run: &Run, category: u16) -> bool
+    /// Whether the category of this number holds of the words of the configuration.
+    pub(crate) fn holds(&self, configuration: &Configuration, category: u16) -> bool
         requires { category < categories_of_engine self.now }
-        ensures { (word : List ℕ) → IsPlaceOf self.now run.now word → IsTrue result ↔ EngineHolds self.now category word }
+        ensures { (word : List ℕ) → IsPlaceOf self.now configuration.now word → IsTrue result ↔ EngineHolds self.now category word }
     {
-        match (self, run) {
-            (Engine::States(table), Run::State(state)) => is_in_group(table, *state, category),
-            (Engine::Parses(charts), Run::Parse(chart)) => parse_holds(charts, chart, category),
+        match (self, configuration) {
+            (Engine::States(table), Configuration::State(state)) => is_in_group(
+                table, *state, category,
+            ),
+            (Engine::Parses(charts), Configuration::Parse(chart)) => parse_holds(
+                charts, chart, category,
+            ),
             _ => false,
         }
     }
 }
 
-/// The handlers whose category holds of the words of a run: bit k stands for handler k.
+/// The handlers whose category holds of the words of a configuration: bit k stands for handler k.
 #[inline(never)]
-pub(crate) fn handlers_at(goal: &Goal, engine: &Engine, run: &Run) -> u16
+pub(crate) fn handlers_at(goal: &Goal, engine: &Engine, configuration: &Configuration) -> u16
     requires { All (λ group. group < categories_of_engine engine.now) goal.now.groups }
-    ensures { (word : List ℕ) → IsPlaceOf engine.now run.now word → (k : ℕ) →
+    ensures { (word : List ℕ) → IsPlaceOf engine.now configuration.now word → (k : ℕ) →
         IsBitSet result k ↔ IsSomeAnd (slice_get goal.now.groups k) (λ group. EngineHolds engine.now group word) }
 {
     let mut hits = 0;
     for handler in 0..goal.handlers() {
-        if engine.holds(run, goal.group(handler)) {
+        if engine.holds(configuration, goal.group(handler)) {
             hits |= 1 << handler;
         }
     }
     hits
 }
 
-/// The run of a chart.
+/// The configuration of a chart.
 #[inline(never)]
-pub(crate) fn run_of(alloc: Global, chart: Chart) -> Result<Run, NoMemory>
+pub(crate) fn configuration_of(alloc: Global, chart: Chart) -> Result<Configuration, NoMemory>
     ensures { IfOk result (IsChartPlace chart) }
 {
     let chart = Box::new(alloc, chart)?;
-    Ok(Run::Parse(chart))
+    Ok(Configuration::Parse(chart))
 }
 
 /// The state that a letter leads to, from a state of the table.

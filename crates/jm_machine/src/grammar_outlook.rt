@@ -5,9 +5,9 @@ ghost use Rattle.jm_machine.specs.declared.engine.Engine.TheVariants.{Parses};
 ghost use Rattle.jm_machine.specs.Engines.{IsPlaceOf};
 ghost use Rattle.jm_machine.specs.Outlooks.{AreFirstCharts, BeginsWith, GoesOn, IsParseOf, CanMatch};
 
-use crate::engine::run_of;
+use crate::configuration::Configuration;
+use crate::engine::configuration_of;
 use crate::goal::may_begin;
-use crate::run::Run;
 use jm_earley::{Chart, Charts};
 use jm_goal::Goal;
 use jm_model::{Letter, NoMemory};
@@ -54,23 +54,23 @@ impl GrammarOutlook {
         Ok(GrammarOutlook { firsts, failing })
     }
 
-    /// The run of the word of one letter.
+    /// The configuration of the word of one letter.
     #[inline(never)]
     pub(crate) fn first(
         &self,
         alloc: Global,
         charts: &Charts,
         letter: Letter,
-    ) -> Result<Run, NoMemory>
+    ) -> Result<Configuration, NoMemory>
         requires firsts { AreFirstCharts charts.now self.now.firsts }
         requires letter { letter.0 < length self.now.firsts }
-        ensures { IfOk result (λ run. IsPlaceOf (Parses charts.now) run (letter.0 ∷ [])) }
+        ensures { IfOk result (λ configuration. IsPlaceOf (Parses charts.now) configuration (letter.0 ∷ [])) }
     {
         let chart = charts.copy(&self.firsts[letter.0 as usize])?;
-        run_of(alloc, chart)
+        configuration_of(alloc, chart)
     }
 
-    /// Whether an instance with this run can never fire again. Where `fail` is handled that is so only where no letter is without
+    /// Whether an instance with this configuration can never fire again. Where `fail` is handled that is so only where no letter is without
     /// a dead parameter. The masks are the parameters of the letters.
     #[inline(never)]
     pub(crate) fn is_cut(
@@ -78,7 +78,7 @@ impl GrammarOutlook {
         charts: &Charts,
         goal: &Goal,
         masks: &[u8],
-        run: &Run,
+        configuration: &Configuration,
         dead: u8,
     ) -> bool
         requires firsts { AreFirstCharts charts.now self.now.firsts }
@@ -86,35 +86,35 @@ impl GrammarOutlook {
         requires few { length masks.now ≤ 32 }
         ensures failing { self.now.failing ≡ true →
             IsTrue result ↔ ((e : ℕ) → IsAvailable charts.now.params dead e → ⊥) }
-        ensures matching { self.now.failing ≡ false → (word : List ℕ) → IsParseOf charts.now run.now word →
-            IsTrue result ↔ ((goal.now.groups ≢ []) × CanMatch charts.now goal.now run.now word dead → ⊥) }
+        ensures matching { self.now.failing ≡ false → (word : List ℕ) → IsParseOf charts.now configuration.now word →
+            IsTrue result ↔ ((goal.now.groups ≢ []) × CanMatch charts.now goal.now configuration.now word dead → ⊥) }
     {
         if self.failing {
             masks.iter().all(|mask| mask & dead != 0)
         } else {
-            goal.handlers() == 0 || !self.can_match(charts, goal, masks, run, dead)
+            goal.handlers() == 0 || !self.can_match(charts, goal, masks, configuration, dead)
         }
     }
 
-    /// Whether some word of one or more letters without a dead parameter, put after the word of the run, is in the language.
+    /// Whether some word of one or more letters without a dead parameter, put after the word of the configuration, is in the language.
     /// After the empty word it is one that may begin so. The masks are the parameters of the letters.
     pub(crate) fn can_match(
         &self,
         charts: &Charts,
         goal: &Goal,
         masks: &[u8],
-        run: &Run,
+        configuration: &Configuration,
         dead: u8,
     ) -> bool
         requires firsts { AreFirstCharts charts.now self.now.firsts }
         requires masks { masks.now ≡ charts.now.params }
         requires few { length masks.now ≤ 32 }
-        ensures { (word : List ℕ) → IsParseOf charts.now run.now word →
-            IsTrue result ↔ CanMatch charts.now goal.now run.now word dead }
+        ensures { (word : List ℕ) → IsParseOf charts.now configuration.now word →
+            IsTrue result ↔ CanMatch charts.now goal.now configuration.now word dead }
     {
-        match run {
-            Run::Start => self.can_begin(charts, goal, masks, dead),
-            Run::Parse(chart) => charts.alive(chart, dead),
+        match configuration {
+            Configuration::Start => self.can_begin(charts, goal, masks, dead),
+            Configuration::Parse(chart) => charts.alive(chart, dead),
             _ => false,
         }
     }

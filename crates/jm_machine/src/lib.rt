@@ -6,6 +6,7 @@
 //! events exist and its first letter isn't one.
 #![tactic(auto)]
 
+mod configuration;
 mod engine;
 mod formula;
 mod goal;
@@ -15,11 +16,10 @@ mod laws;
 mod outlook;
 mod ranges;
 mod rules;
-mod run;
 mod table_outlook;
 
+pub use configuration::Configuration;
 pub use engine::Engine;
 pub use formula::Formula;
 pub use laws::one_reading;
 pub use rules::Rules;
-pub use run::Run;

@@ -13,13 +13,13 @@ ghost use Rattle.jm_machine.specs.Engines.{letters_of_engine, categories_of_engi
 ghost use Rattle.jm_machine.specs.RuleSets.{IsRuleSet, IsHandledBy};
 ghost use Rattle.jm_machine.specs.Compiling.{IsCompiledFrom, IsNotCompiled};
 
+use crate::configuration::Configuration;
 use crate::engine::{Engine, handlers_at, next_state};
 use crate::formula::Formula;
 use crate::goal::{goal_of, masks_of, may_begin};
 use crate::handlers::handled;
 use crate::outlook::Outlook;
 use crate::ranges::{line_before, range_of};
-use crate::run::Run;
 use jm_events::Names;
 use jm_goal::Goal;
 use jm_model::{Letter, Monitor, NoMemory, SpecError};
@@ -190,14 +190,14 @@ impl Rules {
         may_begin(&self.goal, letter)
     }
 
-    /// The run of the word of one letter, with which words may begin.
-    fn first(&self, letter: Letter) -> Result<Run, NoMemory>
+    /// The configuration of the word of one letter, with which words may begin.
+    fn first(&self, letter: Letter) -> Result<Configuration, NoMemory>
         requires { letter.0 < length self.now.definition.masks }
-        ensures { IfOk result (λ run. IsPlaceOf self.now.engine run (letter.0 ∷ [])) }
+        ensures { IfOk result (λ configuration. IsPlaceOf self.now.engine configuration (letter.0 ∷ [])) }
     {
         match (&self.engine, &self.outlook) {
             (Engine::States(table), _) => {
-                Ok(Run::State(next_state(table, table.start(), letter)))
+                Ok(Configuration::State(next_state(table, table.start(), letter)))
             }
             (Engine::Parses(charts), Outlook::Grammar(outlook)) => {
                 outlook.first(*self.masks.allocator(), charts, letter)
@@ -206,24 +206,25 @@ impl Rules {
         }
     }
 
-    /// The run of the words that have one letter more, of which there is one already.
-    fn step(&self, run: &Run, letter: Letter) -> Result<Run, NoMemory>
+    /// The configuration of the words that have one letter more, of which there is one already.
+    fn step(&self, configuration: &Configuration, letter: Letter) -> Result<Configuration, NoMemory>
         requires { letter.0 < length self.now.definition.masks }
         ensures { IfOk result (λ next. (word : List ℕ) →
-            IsPlaceOf self.now.engine run.now word → IsPlaceOf self.now.engine next (word ++ letter.0 ∷ [])) }
+            IsPlaceOf self.now.engine configuration.now word → IsPlaceOf self.now.engine next (word ++ letter.0 ∷ [])) }
     {
-        self.engine.next(*self.masks.allocator(), run, letter)
+        self.engine
+            .next(*self.masks.allocator(), configuration, letter)
     }
 
-    /// The handlers whose categories hold of the words of a run: bit k stands for handler k.
-    fn handlers_at(&self, run: &Run) -> u16
-        ensures hits { (word : List ℕ) → IsPlaceOf self.now.engine run.now word →
+    /// The handlers whose categories hold of the words of a configuration: bit k stands for handler k.
+    fn handlers_at(&self, configuration: &Configuration) -> u16
+        ensures hits { (word : List ℕ) → IsPlaceOf self.now.engine configuration.now word →
             (k : ℕ) → IsBitSet result k ↔ IsHandledBy self.now word k }
         ensures rules { IsRuleSet self.now }
     {
-        match (&self.outlook, run) {
-            (Outlook::Table(outlook), Run::State(state)) => outlook.hits(*state),
-            _ => handlers_at(&self.goal, &self.engine, run),
+        match (&self.outlook, configuration) {
+            (Outlook::Table(outlook), Configuration::State(state)) => outlook.hits(*state),
+            _ => handlers_at(&self.goal, &self.engine, configuration),
         }
     }
 }
@@ -241,9 +242,9 @@ fn is_failing(formula: &Formula, handlers: &Names) -> bool
 impl Monitor for Rules {
     ghost use Rattle.jm_machine.specs.RuleSets.{CompiledRules};
     ghost use Rattle.jm_machine.specs.Meanings.{rules_meaning};
-    ghost use Rattle.jm_machine.specs.Runs.{IsRunOf};
+    ghost use Rattle.jm_machine.specs.Configurations.{IsConfigurationOf};
 
-    type State = Run;
+    type State = Configuration;
 
     type Definition = Rules;
 
@@ -251,7 +252,7 @@ impl Monitor for Rules {
 
     ghost meaning = { λ r. rules_meaning r.definition };
 
-    ghost StandsFor = { λ r s w. IsRunOf r s w };
+    ghost StandsFor = { λ r s w. IsConfigurationOf r s w };
 
     fn letters(&self) -> u8 {
         self.masks.len() as u8
@@ -265,34 +266,34 @@ impl Monitor for Rules {
         self.goal.must_bind()
     }
 
-    fn begin(&self) -> Result<Run, NoMemory> {
-        Ok(Run::Start)
+    fn begin(&self) -> Result<Configuration, NoMemory> {
+        Ok(Configuration::Start)
     }
 
-    fn copy(&self, state: &Run) -> Result<Run, NoMemory> {
+    fn copy(&self, state: &Configuration) -> Result<Configuration, NoMemory> {
         match state {
-            Run::Start => Ok(Run::Start),
-            Run::Barren => Ok(Run::Barren),
+            Configuration::Start => Ok(Configuration::Start),
+            Configuration::Barren => Ok(Configuration::Barren),
             _ => self.engine.copy(*self.masks.allocator(), state),
         }
     }
 
-    fn next(&self, state: &Run, letter: Letter) -> Result<Run, NoMemory> {
+    fn next(&self, state: &Configuration, letter: Letter) -> Result<Configuration, NoMemory> {
         match state {
-            Run::Start if self.may_begin(letter) => self.first(letter),
-            Run::Start | Run::Barren => Ok(Run::Barren),
+            Configuration::Start if self.may_begin(letter) => self.first(letter),
+            Configuration::Start | Configuration::Barren => Ok(Configuration::Barren),
             _ => self.step(state, letter),
         }
     }
 
-    fn hits(&self, state: &Run) -> u16 {
+    fn hits(&self, state: &Configuration) -> u16 {
         match state {
-            Run::Start | Run::Barren => 0,
+            Configuration::Start | Configuration::Barren => 0,
             _ => self.handlers_at(state),
         }
     }
 
-    fn cut(&self, state: &Run, dead: u8) -> bool {
+    fn cut(&self, state: &Configuration, dead: u8) -> bool {
         match (&self.outlook, &self.engine) {
             (Outlook::Table(outlook), _) => !outlook.can_hit(state, dead),
             (Outlook::Grammar(outlook), Engine::Parses(charts)) => {
@@ -302,19 +303,19 @@ impl Monitor for Rules {
         }
     }
 
-    fn idle(&self, state: &Run) -> u32 {
+    fn idle(&self, state: &Configuration) -> u32 {
         match (&self.outlook, state) {
-            (_, Run::Barren) => u32::MAX,
-            (Outlook::Table(outlook), Run::State(state)) => outlook.idle(*state),
+            (_, Configuration::Barren) => u32::MAX,
+            (Outlook::Table(outlook), Configuration::State(state)) => outlook.idle(*state),
             _ => 0,
         }
     }
 
-    fn ending(&self, state: &Run) -> u32 {
+    fn ending(&self, state: &Configuration) -> u32 {
         match (&self.outlook, state) {
-            (Outlook::Table(_), Run::Barren) => u32::MAX,
-            (Outlook::Table(outlook), Run::Start) => outlook.first_ending(),
-            (Outlook::Table(outlook), Run::State(state)) => outlook.ending(*state),
+            (Outlook::Table(_), Configuration::Barren) => u32::MAX,
+            (Outlook::Table(outlook), Configuration::Start) => outlook.first_ending(),
+            (Outlook::Table(outlook), Configuration::State(state)) => outlook.ending(*state),
             _ => 0,
         }
     }

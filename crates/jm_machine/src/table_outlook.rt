@@ -10,9 +10,9 @@ ghost use Rattle.jm_machine.specs.declared.engine.Engine.TheVariants.{States};
 ghost use Rattle.jm_machine.specs.Engines.{categories_of_engine};
 ghost use Rattle.jm_machine.specs.Outlooks.{AreHandlerMasks, IsIdleLetter, IsEndingLetter, IsFirstEnding, AreIdle, AreEnding, AreFactsOf, CanHitFrom};
 
+use crate::configuration::Configuration;
 use crate::engine::{Engine, handlers_at};
 use crate::goal::may_begin;
-use crate::run::Run;
 use jm_coenable::Needs;
 use jm_events::EventTable;
 use jm_goal::Goal;
@@ -126,14 +126,14 @@ impl TableOutlook {
         self.first_ending
     }
 
-    /// Whether some word of one or more letters without a dead parameter, put after the words of the run, hits a handler.
-    pub(crate) fn can_hit(&self, run: &Run, dead: u8) -> bool
+    /// Whether some word of one or more letters without a dead parameter, put after the words of the configuration, hits a handler.
+    pub(crate) fn can_hit(&self, configuration: &Configuration, dead: u8) -> bool
         ensures { (t : Transitions) (g : GoalDefinition) (v : EventDefinitions) → AreNeedsOf t g v self.now.needs →
-            IsTrue result ↔ CanHitFrom t g v run.now dead }
+            IsTrue result ↔ CanHitFrom t g v configuration.now dead }
     {
-        match run {
-            Run::Start => self.needs.alive_at_start(dead),
-            Run::State(state) => self.is_alive(*state, dead),
+        match configuration {
+            Configuration::Start => self.needs.alive_at_start(dead),
+            Configuration::State(state) => self.is_alive(*state, dead),
             _ => false,
         }
     }
@@ -171,7 +171,7 @@ fn handler_masks(
 {
     let mut masks = Vec::with_capacity(alloc, states as usize)?;
     for state in 0..states {
-        masks.push(handlers_at(goal, engine, &Run::State(state)))?;
+        masks.push(handlers_at(goal, engine, &Configuration::State(state)))?;
     }
     Ok(masks)
 }

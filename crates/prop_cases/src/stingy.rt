@@ -1,5 +1,5 @@
 //! Rules of which one call is refused memory.
-use jm_machine::{Rules, Run};
+use jm_machine::{Configuration, Rules};
 use jm_model::{Letter, Monitor, NoMemory};
 use std::cell::Cell;
 
@@ -24,7 +24,7 @@ impl Monitor for Stingy {
     ghost use Rattle.jm_machine.specs.Meanings.{rules_meaning};
     ghost use Rattle.jm_machine.specs.Runs.{IsRunOf};
 
-    type State = Run;
+    type State = Configuration;
 
     type Definition = Rules;
 
@@ -46,15 +46,15 @@ impl Monitor for Stingy {
         self.rules.must_bind()
     }
 
-    fn begin(&self) -> Result<Run, NoMemory> {
+    fn begin(&self) -> Result<Configuration, NoMemory> {
         self.rules.begin()
     }
 
-    fn copy(&self, state: &Run) -> Result<Run, NoMemory> {
+    fn copy(&self, state: &Configuration) -> Result<Configuration, NoMemory> {
         self.rules.copy(state)
     }
 
-    fn next(&self, state: &Run, letter: Letter) -> Result<Run, NoMemory> {
+    fn next(&self, state: &Configuration, letter: Letter) -> Result<Configuration, NoMemory> {
         let left = self.left.get();
         self.left.set(left.wrapping_sub(1));
         if left == 1 {
@@ -63,19 +63,19 @@ impl Monitor for Stingy {
         self.rules.next(state, letter)
     }
 
-    fn hits(&self, state: &Run) -> u16 {
+    fn hits(&self, state: &Configuration) -> u16 {
         self.rules.hits(state)
     }
 
-    fn cut(&self, state: &Run, dead: u8) -> bool {
+    fn cut(&self, state: &Configuration, dead: u8) -> bool {
         self.rules.cut(state, dead)
     }
 
-    fn idle(&self, state: &Run) -> u32 {
+    fn idle(&self, state: &Configuration) -> u32 {
         self.rules.idle(state)
     }
 
-    fn ending(&self, state: &Run) -> u32 {
+    fn ending(&self, state: &Configuration) -> u32 {
         self.rules.ending(state)
     }
 }

@@ -4,4 +4,4 @@
 
 mod table;
 
-pub use table::{Run, Table};
+pub use table::{Configuration, Table};

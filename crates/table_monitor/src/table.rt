@@ -27,7 +27,7 @@ impl Model for Table {
 
 /// A state, and whether a letter led to it.
 #[derive(Clone, Copy)]
-pub struct Run {
+pub struct Configuration {
     state: u16,
     moved: bool,
 }
@@ -114,7 +114,7 @@ impl Monitor for Table {
     ghost use Rattle.std.specs.Prelude.{◌≡◌};
     ghost use Rattle.table_monitor.specs.Tables.{table_meaning, state_from, has_letter};
 
-    type State = Run;
+    type State = Configuration;
 
     type Definition = Table;
 
@@ -137,37 +137,37 @@ impl Monitor for Table {
         self.must_bind
     }
 
-    fn begin(&self) -> Result<Run, NoMemory> {
-        Ok(Run {
+    fn begin(&self) -> Result<Configuration, NoMemory> {
+        Ok(Configuration {
             state: 0,
             moved: false,
         })
     }
 
-    fn copy(&self, state: &Run) -> Result<Run, NoMemory> {
+    fn copy(&self, state: &Configuration) -> Result<Configuration, NoMemory> {
         Ok(*state)
     }
 
-    fn next(&self, state: &Run, letter: Letter) -> Result<Run, NoMemory> {
+    fn next(&self, state: &Configuration, letter: Letter) -> Result<Configuration, NoMemory> {
         let left = self.left.get();
         self.left.set(left.wrapping_sub(1));
         if left == 1 {
             return Err(NoMemory);
         }
-        Ok(Run {
+        Ok(Configuration {
             state: self.next_state(state.state, letter),
             moved: true,
         })
     }
 
-    fn hits(&self, state: &Run) -> u16 {
+    fn hits(&self, state: &Configuration) -> u16 {
         if !state.moved {
             return 0;
         }
         self.hits_of(state.state)
     }
 
-    fn cut(&self, state: &Run, dead: u8) -> bool {
+    fn cut(&self, state: &Configuration, dead: u8) -> bool {
         let _state = *state;
         self.has_no_letter(dead)
     }

@@ -1,6 +1,6 @@
 use Rattle.std.proofs.Common.{◌<◌, ◌^◌, length}
 use Rattle.std.proofs.lemmas.List.Elements.{All-push}
-use Rattle.jm_machine.proofs.RunLemmas.{mask_more}
+use Rattle.jm_machine.proofs.ConfigurationLemmas.{mask_more}
 use Rattle.jm_machine.proofs.goal.masks_of.Goals as goal
 
 pub loop-letter-preserved : goal.loop-letter-preserved

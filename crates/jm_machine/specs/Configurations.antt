@@ -1,8 +1,8 @@
 -- What a state of compiled rules stands for.
 use Rattle.std.specs.Prelude.{ℕ, ◌≡◌, ◌≢◌, List, []}
 use Rattle.jm_model.specs.Meanings.{IsCreated}
-use Rattle.jm_machine.specs.declared.run.Run.{Run}
-use Rattle.jm_machine.specs.declared.run.Run.TheVariants.{Start, Barren, State, Parse}
+use Rattle.jm_machine.specs.declared.configuration.Configuration.{Configuration}
+use Rattle.jm_machine.specs.declared.configuration.Configuration.TheVariants.{Start, Barren, State, Parse}
 use Rattle.jm_machine.specs.Meanings.{rules_meaning}
 use Rattle.jm_machine.specs.Engines.{IsPlaceOf}
 use Rattle.jm_machine.specs.RuleSets.{CompiledRules}
@@ -15,10 +15,10 @@ IsBegun r w = (w ≢ []) × IsCreated (rules_meaning r.definition) w
 abbrev pub IsBarren : CompiledRules → List ℕ → Type 0
 IsBarren r w = (w ≢ []) × (IsCreated (rules_meaning r.definition) w → ⊥)
 
--- the run of a word: that of the empty word, that of words that can't begin so, and those of the states and charts that the
+-- the configuration of a word: that of the empty word, that of words that can't begin so, and those of the states and charts that the
 -- others lead to
-abbrev pub IsRunOf : CompiledRules → Run → List ℕ → Type 0
-IsRunOf r Start w = w ≡ []
-IsRunOf r Barren w = IsBarren r w
-IsRunOf r (State s) w = IsBegun r w × IsPlaceOf r.engine (State s) w
-IsRunOf r (Parse c) w = IsBegun r w × IsPlaceOf r.engine (Parse c) w
+abbrev pub IsConfigurationOf : CompiledRules → Configuration → List ℕ → Type 0
+IsConfigurationOf r Start w = w ≡ []
+IsConfigurationOf r Barren w = IsBarren r w
+IsConfigurationOf r (State s) w = IsBegun r w × IsPlaceOf r.engine (State s) w
+IsConfigurationOf r (Parse c) w = IsBegun r w × IsPlaceOf r.engine (Parse c) w
