@@ -29,7 +29,8 @@ names_of words = if are_names words then Some words else None
 -- a word of 1 to 4 digits without a leading zero
 abbrev pub is_short_number : List ℕ → Bool
 is_short_number word =
-    nat_lt 0 (length word) && nat_le (length word) 4 && list_all is_ascii_digit word && not (starts_with nat_eq word (codes "0"))
+    nat_lt 0 (length word) && nat_le (length word) 4 && list_all is_ascii_digit word && not
+    (starts_with nat_eq word (codes "0"))
 
 -- the number of rounds, where the word is such a number of at most 8000
 abbrev pub rounds_of : List ℕ → Option ℕ

@@ -27,7 +27,8 @@ abbrev pub IsFirst : GoalDefinition → ℕ → Type 0
 IsFirst g letter = (g.creation ≡ 0) ⊎ IsBitSet g.creation letter
 
 -- this word of one letter or more has exactly these parameters, and leads from the state to a handled one
-pub record IsHitBy (t : Transitions) (g : GoalDefinition) (v : EventDefinitions) (state first : ℕ) (rest : List ℕ) (mask : ℕ) : Type 0 where
+pub record IsHitBy (t : Transitions) (g : GoalDefinition) (v : EventDefinitions) (state first : ℕ) (rest : List ℕ)
+    (mask : ℕ) : Type 0 where
   pub letters : IsWord t (first ∷ rest)
   pub hit : IsHandled t g (state_from t state (first ∷ rest))
   pub params : mask ≡ params_of v (first ∷ rest)
@@ -58,8 +59,8 @@ IsInFamily t g v letter mask = (state : ℕ) × IsArrival t g state letter × Is
 abbrev pub IsAlive : (ℕ → Type 0) → ℕ → Type 0
 IsAlive Needed dead = (mask : ℕ) × Needed mask × (bit_and mask dead ≡ 0)
 
--- what is kept: for each state, and for the empty word, the sets of dead parameters at which it can still be hit, and for
--- each letter its family
+-- what is kept: for each state, and for the empty word, the sets of dead parameters at which it can still be hit, and
+-- for each letter its family
 pub record NeedSets : Type 0 where
   pub alive : List (List ℕ)
   pub start : List ℕ
@@ -73,6 +74,8 @@ set_at sets place = slice_index_or sets place []
 pub record AreNeedsOf (t : Transitions) (g : GoalDefinition) (v : EventDefinitions) (n : NeedSets) : Type 0 where
   pub states : length n.alive ≡ t.states
   pub letters : length n.families ≡ t.letters
-  pub alive : (state dead : ℕ) → state < t.states → dead < 256 → Contains (set_at n.alive state) dead ↔ IsAlive (IsNeededFrom t g v state) dead
+  pub alive : (state dead : ℕ) → state < t.states → dead < 256
+      → Contains (set_at n.alive state) dead ↔ IsAlive (IsNeededFrom t g v state) dead
   pub start : (dead : ℕ) → dead < 256 → Contains n.start dead ↔ IsAlive (IsNeededAtStart t g v) dead
-  pub families : (letter mask : ℕ) → letter < t.letters → mask < 256 → Contains (set_at n.families letter) mask ↔ IsInFamily t g v letter mask
+  pub families : (letter mask : ℕ) → letter < t.letters → mask < 256
+      → Contains (set_at n.families letter) mask ↔ IsInFamily t g v letter mask

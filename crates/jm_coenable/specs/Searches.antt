@@ -7,7 +7,8 @@ use Rattle.jm_coenable.specs.Needs.{params_at, set_at, IsHandled, IsFirst, IsAli
 
 -- some state has this last letter, and needs this mask
 abbrev pub IsTold : List (List ℕ) → List (List ℕ) → ℕ → ℕ → Type 0
-IsTold arrivals needed letter mask = (state : ℕ) × (state < length needed) × Contains (set_at arrivals state) letter × Contains (set_at needed state) mask
+IsTold arrivals needed letter mask = (state : ℕ) × (state < length needed) × Contains (set_at arrivals state) letter
+    × Contains (set_at needed state) mask
 
 -- the sets of dead parameters at which some mask of the set has none of them
 abbrev pub AreDeadSets : List ℕ → List ℕ → Type 0
@@ -15,7 +16,8 @@ AreDeadSets needed alive = (dead : ℕ) → Contains alive dead ↔ ((dead < 256
 
 -- the masks below 256 of the letter
 abbrev pub IsFamilySet : List (List ℕ) → List (List ℕ) → ℕ → List ℕ → Type 0
-IsFamilySet arrivals needed letter family = (mask : ℕ) → Contains family mask ↔ ((mask < 256) × IsTold arrivals needed letter mask)
+IsFamilySet arrivals needed letter family =
+    (mask : ℕ) → Contains family mask ↔ ((mask < 256) × IsTold arrivals needed letter mask)
 
 -- the mask is these parameters and those of a mask of the set
 abbrev pub IsJoined : ℕ → List ℕ → ℕ → Type 0
@@ -24,8 +26,10 @@ IsJoined params rests mask = (rest : ℕ) × Contains rests rest × (mask ≡ bi
 -- the mask is needed of this letter at the start: it leads to a handled state, or more is needed from where it leads
 abbrev pub IsStep : Transitions → GoalDefinition → EventDefinitions → List (List ℕ) → ℕ → ℕ → Type 0
 IsStep t g v needed letter mask =
-    (IsHandled t g (next_of t 0 letter) × (mask ≡ params_at v letter)) ⊎ IsJoined (params_at v letter) (set_at needed (next_of t 0 letter)) mask
+    (IsHandled t g (next_of t 0 letter) × (mask ≡ params_at v letter))
+    ⊎ IsJoined (params_at v letter) (set_at needed (next_of t 0 letter)) mask
 
 -- the mask is needed of one of so many letters, with which a word may begin
 abbrev pub IsStart : Transitions → GoalDefinition → EventDefinitions → List (List ℕ) → ℕ → ℕ → Type 0
-IsStart t g v needed letters mask = (letter : ℕ) × (letter < letters) × IsFirst g letter × IsStep t g v needed letter mask
+IsStart t g v needed letters mask =
+    (letter : ℕ) × (letter < letters) × IsFirst g letter × IsStep t g v needed letter mask

@@ -30,7 +30,8 @@ pub(crate) fn last_letters(
 /// One round over the states. Whether it changed a set.
 fn go_on(table: &Table, goal: &Goal, arrivals: &mut Vec<MaskSet>) -> bool
     requires { length arrivals.old.items ≡ table.now.states }
-    ensures { IsPart (AreArrivals table.now goal.now) (IsSpread table.now goal.now) arrivals.old.items arrivals.new.items result }
+    ensures { IsPart (AreArrivals table.now goal.now)
+        (IsSpread table.now goal.now) arrivals.old.items arrivals.new.items result }
 {
     let mut changed = false;
     for state in 0..table.len() {
@@ -44,7 +45,8 @@ fn go_on(table: &Table, goal: &Goal, arrivals: &mut Vec<MaskSet>) -> bool
 fn spread(table: &Table, goal: &Goal, arrivals: &mut Vec<MaskSet>, state: u16) -> bool
     requires count { length arrivals.old.items ≡ table.now.states }
     requires state { state < table.now.states }
-    ensures { IsPart (AreArrivals table.now goal.now) (IsSpreadState table.now goal.now state) arrivals.old.items arrivals.new.items result }
+    ensures { IsPart (AreArrivals table.now goal.now)
+        (IsSpreadState table.now goal.now state) arrivals.old.items arrivals.new.items result }
 {
     let mut changed = false;
     for letter in 0..table.letters() {
@@ -65,7 +67,8 @@ fn arrive(
     requires count { length arrivals.old.items ≡ table.now.states }
     requires state { state < table.now.states }
     requires letter { letter.0 < table.now.letters }
-    ensures { IsPart (AreArrivals table.now goal.now) (IsSpreadAt table.now goal.now state letter.0) arrivals.old.items arrivals.new.items result }
+    ensures { IsPart (AreArrivals table.now goal.now)
+        (IsSpreadAt table.now goal.now state letter.0) arrivals.old.items arrivals.new.items result }
 {
     let next = table.next(state, letter);
     let letters = table.letters();

@@ -1,5 +1,5 @@
-//! What a property needs to be hit again: which parameters the words have that lead from a state of its table to a handled
-//! one. An instance whose dead parameters meet each of these words can never fire again.
+//! What a property needs to be hit again: which parameters the words have that lead from a state of its table to a
+//! handled one. An instance whose dead parameters meet each of these words can never fire again.
 //!
 //! The definitions that the contracts cite stand in `specs`, as relations over words.
 #![tactic(auto)]

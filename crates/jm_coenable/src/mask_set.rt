@@ -55,7 +55,8 @@ impl MaskSet {
 
     /// Puts a mask into the set, if this is wanted.
     pub(crate) fn insert_if(&mut self, wanted: bool, mask: u8)
-        ensures { (other : ℕ) → Contains self.new other ↔ (Contains self.old other ⊎ ((wanted ≡ true) × (other ≡ mask))) }
+        ensures { (other : ℕ) → Contains self.new other ↔ (Contains self.old other
+            ⊎ ((wanted ≡ true) × (other ≡ mask))) }
     {
         if wanted {
             self.insert(mask);
@@ -93,7 +94,8 @@ impl MaskSet {
     /// The masks in rising order.
     pub(crate) fn masks(&self, alloc: Global) -> Result<Vec<u8>, NoMemory>
         ensures rising { IfOk result (λ masks. IsStrictlySortedBy nat_cmp masks.items) }
-        ensures exact { IfOk result (λ masks. (mask : ℕ) → mask < 256 → Contains masks.items mask ↔ Contains self.now mask) }
+        ensures exact { IfOk result (λ masks. (mask : ℕ) → mask < 256
+            → Contains masks.items mask ↔ Contains self.now mask) }
         ensures few { IfOk result (λ masks. (mask : ℕ) → Contains masks.items mask → mask < 256) }
     {
         let mut masks = Vec::new(alloc);

@@ -35,7 +35,8 @@ pub(crate) fn needed_masks(
 fn go_back(table: &Table, goal: &Goal, events: &EventTable, needed: &mut Vec<MaskSet>) -> bool
     requires fit { AreFit table.now goal.now events.now }
     requires count { length needed.old.items ≡ table.now.states }
-    ensures { IsPart (AreNeeded table.now goal.now events.now) (IsClosed table.now goal.now events.now) needed.old.items needed.new.items result }
+    ensures { IsPart (AreNeeded table.now goal.now events.now)
+        (IsClosed table.now goal.now events.now) needed.old.items needed.new.items result }
 {
     let mut changed = false;
     let states = table.len();
@@ -57,7 +58,8 @@ fn leave(
     requires fit { AreFit table.now goal.now events.now }
     requires count { length needed.old.items ≡ table.now.states }
     requires state { state < table.now.states }
-    ensures { IsPart (AreNeeded table.now goal.now events.now) (IsClosedState table.now goal.now events.now state) needed.old.items needed.new.items result }
+    ensures { IsPart (AreNeeded table.now goal.now events.now)
+        (IsClosedState table.now goal.now events.now state) needed.old.items needed.new.items result }
 {
     let mut changed = false;
     for letter in 0..table.letters() {
@@ -80,7 +82,8 @@ fn follow(
     requires count { length needed.old.items ≡ table.now.states }
     requires state { state < table.now.states }
     requires letter { letter.0 < table.now.letters }
-    ensures { IsPart (AreNeeded table.now goal.now events.now) (IsClosedAt table.now goal.now events.now state letter.0) needed.old.items needed.new.items result }
+    ensures { IsPart (AreNeeded table.now goal.now events.now)
+        (IsClosedAt table.now goal.now events.now state letter.0) needed.old.items needed.new.items result }
 {
     let next = table.next(state, letter);
     let params = events.mask(letter);

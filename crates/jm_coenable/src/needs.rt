@@ -58,8 +58,8 @@ impl Needs {
         })
     }
 
-    /// Whether some word of one or more letters without a dead parameter, which may begin as it does, leads from the start
-    /// to a handled state.
+    /// Whether some word of one or more letters without a dead parameter, which may begin as it does, leads from the
+    /// start to a handled state.
     pub fn alive_at_start(&self, dead: u8) -> bool
         ensures { (t : Transitions) (g : GoalDefinition) (v : EventDefinitions) → AreNeedsOf t g v self.now →
             (result ≡ true) ↔ IsAlive (IsNeededAtStart t g v) dead }
@@ -67,8 +67,8 @@ impl Needs {
         self.start.contains(dead)
     }
 
-    /// Whether some word of one or more letters without a dead parameter leads from the state to a handled one. `started`
-    /// says that the word so far may begin as it does.
+    /// Whether some word of one or more letters without a dead parameter leads from the state to a handled one.
+    /// `started` says that the word so far may begin as it does.
     pub fn alive(&self, state: u16, started: bool, dead: u8) -> bool
         requires { state < length self.now.alive }
         ensures { (t : Transitions) (g : GoalDefinition) (v : EventDefinitions) → AreNeedsOf t g v self.now →
@@ -82,7 +82,8 @@ impl Needs {
         requires { letter.0 < length self.now.families }
         ensures rising { IfOk result (λ masks. IsStrictlySortedBy nat_cmp masks.items) }
         ensures exact { (t : Transitions) (g : GoalDefinition) (v : EventDefinitions) → AreNeedsOf t g v self.now →
-            IfOk result (λ masks. (mask : ℕ) → mask < 256 → Contains masks.items mask ↔ IsInFamily t g v letter.0 mask) }
+            IfOk result (λ masks. (mask : ℕ) → mask < 256
+            → Contains masks.items mask ↔ IsInFamily t g v letter.0 mask) }
         ensures few { IfOk result (λ masks. (mask : ℕ) → Contains masks.items mask → mask < 256) }
     {
         let alloc = *self.families.allocator();

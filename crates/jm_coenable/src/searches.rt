@@ -60,7 +60,8 @@ fn has_both(arrivals: &MaskSet, letter: u8, needed: &MaskSet, mask: u8) -> bool
 /// The sets of dead parameters of each set.
 pub(crate) fn alive_sets(alloc: Global, needed: &[MaskSet]) -> Result<Vec<MaskSet>, NoMemory>
     ensures count { IfOk result (λ sets. length sets.items ≡ length needed.now) }
-    ensures exact { IfOk result (λ sets. (place : ℕ) → place < length sets.items → AreDeadSets (set_at needed.now place) (set_at sets.items place)) }
+    ensures exact { IfOk result (λ sets. (place : ℕ) → place < length sets.items
+        → AreDeadSets (set_at needed.now place) (set_at sets.items place)) }
 {
     let mut alive = Vec::new(alloc);
     for place in 0..needed.len() {
@@ -78,7 +79,8 @@ pub(crate) fn family_sets(
 ) -> Result<Vec<MaskSet>, NoMemory>
     requires { length arrivals.now ≡ length needed.now }
     ensures count { IfOk result (λ sets. length sets.items ≡ letters) }
-    ensures exact { IfOk result (λ sets. (letter : ℕ) → letter < length sets.items → IsFamilySet arrivals.now needed.now letter (set_at sets.items letter)) }
+    ensures exact { IfOk result (λ sets. (letter : ℕ) → letter < length sets.items
+        → IsFamilySet arrivals.now needed.now letter (set_at sets.items letter)) }
 {
     let mut families = Vec::new(alloc);
     for letter in 0..letters {

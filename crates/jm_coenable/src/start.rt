@@ -39,7 +39,8 @@ fn add_first(
     requires fit { AreFit table.now goal.now events.now }
     requires count { length needed.now ≡ table.now.states }
     requires letter { letter.0 < table.now.letters }
-    ensures { (mask : ℕ) → Contains start.new mask ↔ (Contains start.old mask ⊎ (IsFirst goal.now letter.0 × IsStep table.now goal.now events.now needed.now letter.0 mask)) }
+    ensures { (mask : ℕ) → Contains start.new mask ↔ (Contains start.old mask
+        ⊎ (IsFirst goal.now letter.0 × IsStep table.now goal.now events.now needed.now letter.0 mask)) }
 {
     let first = begins(table, goal, letter);
     if first {
@@ -66,7 +67,8 @@ fn add_step(
     requires fit { AreFit table.now goal.now events.now }
     requires count { length needed.now ≡ table.now.states }
     requires letter { letter.0 < table.now.letters }
-    ensures { (mask : ℕ) → Contains start.new mask ↔ (Contains start.old mask ⊎ IsStep table.now goal.now events.now needed.now letter.0 mask) }
+    ensures { (mask : ℕ) → Contains start.new mask ↔ (Contains start.old mask
+        ⊎ IsStep table.now goal.now events.now needed.now letter.0 mask) }
 {
     let first = table.start();
     let next = table.next(first, letter);

@@ -20,7 +20,8 @@ abbrev pub caller_of : Entry → ℕ
 caller_of x = x.caller
 
 -- what an act says of the history before, the answer and the history after
-pub record Answered (m : Meaning) (node : Unanswered) (before : List Entry) (answer : Answer) (after : List Entry) : Type 0 where
+pub record Answered (m : Meaning) (node : Unanswered) (before : List Entry) (answer : Answer)
+    (after : List Entry) : Type 0 where
   pub adds : after ≡ before ++ answered node answer.outcome ∷ []
   pub place : answer.place ≡ place_of before
   pub legal : IsLegal m after
@@ -29,9 +30,10 @@ pub record Answered (m : Meaning) (node : Unanswered) (before : List Entry) (ans
 abbrev pub entry_of : {F : Type 0} → SeatModel Entry F → ℕ → Step → Outcome → Entry
 entry_of seat line step outcome = record { caller = seat.number; line = line; step = step; outcome = outcome }
 
--- A step was made. The seat has seen a legal history that goes on from what it had seen, and ends in the step's entry. The
--- entry is one more of its own, and else the seat is as before.
-pub record Stepped {F : Type 0} (m : Meaning) (line : ℕ) (step : Step) (answer : Answer) (before after : SeatModel Entry F) : Type 0 where
+-- A step was made. The seat has seen a legal history that goes on from what it had seen, and ends in the step's entry.
+-- The entry is one more of its own, and else the seat is as before.
+pub record Stepped {F : Type 0} (m : Meaning) (line : ℕ) (step : Step) (answer : Answer)
+    (before after : SeatModel Entry F) : Type 0 where
   pub found : List Entry
   pub begins : IsPrefix before.seen found
   pub same : after ≡ record before { seen = found ++ entry_of before line step answer.outcome ∷ [] }
@@ -45,7 +47,8 @@ pub record AreArguments (m : Meaning) (n letter : ℕ) (objects : List ℕ) : Ty
   pub there : All (λ o. o < n) objects
 
 -- an event of the letter was made, with these objects for its parameters, in order
-pub record Emitted {F : Type 0} (m : Meaning) (line : ℕ) (letter : Letter) (args : List ℕ) (answer : Answer) (before after : SeatModel Entry F) : Type 0 where
+pub record Emitted {F : Type 0} (m : Meaning) (line : ℕ) (letter : Letter) (args : List ℕ) (answer : Answer)
+    (before after : SeatModel Entry F) : Type 0 where
   pub binding : Binding
   pub eight : length binding ≡ 8
   pub mask : mask_of binding ≡ m.params letter.0

@@ -1,5 +1,5 @@
-//! What is done to the core in a turn. Each act brings its node along, so that nothing is made under the lock but what the
-//! core's own event takes.
+//! What is done to the core in a turn. Each act brings its node along, so that nothing is made under the lock but what
+//! the core's own event takes.
 use crate::watched::Watched;
 use jm_history::Node;
 use jm_model::{Monitor, Outcome};

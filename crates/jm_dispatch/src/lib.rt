@@ -1,8 +1,8 @@
 //! One specification's dispatcher: a turn lock round its core.
 //!
-//! Any number of callers make steps on one specification, each on a seat of its own. A step's entry is made in the caller's
-//! turn, so that all steps stand in one history, and that history is legal. A seat knows a part of it from the beginning on,
-//! with all entries of its own.
+//! Any number of callers make steps on one specification, each on a seat of its own. A step's entry is made in the
+//! caller's turn, so that all steps stand in one history, and that history is legal. A seat knows a part of it from the
+//! beginning on, with all entries of its own.
 //!
 //! | Module | What it has |
 //! |---|---|

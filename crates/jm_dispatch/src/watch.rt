@@ -27,8 +27,8 @@ pub type Seat<M> = jm_turn::Seat<Watched<M>>;
 /// What a seat had seen, for another seat of the same watch to hear.
 pub type Note<M> = jm_turn::Note<Watched<M>>;
 
-/// One specification's dispatcher: a turn lock round its core. It is shared by reference, and each caller has a seat of its
-/// own.
+/// One specification's dispatcher: a turn lock round its core. It is shared by reference, and each caller has a seat of
+/// its own.
 #[derive(Drop)]
 pub struct Watch<M: Monitor> {
     lock: Lock<Watched<M>>,
@@ -60,8 +60,8 @@ fn masks_of<M: Monitor>(rules: &M) -> [u8; 32]
 }
 
 impl<M: Monitor> Watch<M> {
-    /// A watch over a core without history, all of whose objects live, and its seats, numbered from 0 in this order. There
-    /// are 1 to 65,536 of them.
+    /// A watch over a core without history, all of whose objects live, and its seats, numbered from 0 in this order.
+    /// There are 1 to 65,536 of them.
     pub fn new(
         alloc: Global,
         rules: M,
@@ -79,8 +79,8 @@ impl<M: Monitor> Watch<M> {
         Ok((Watch { lock, masks }, seats))
     }
 
-    /// Waits for its turn and does an event of the letter, with one object for each of its parameters, in their order. The
-    /// answer has the outcome of `Prop::event`: a want of memory in the turn is an entry with NoMemory.
+    /// Waits for its turn and does an event of the letter, with one object for each of its parameters, in their order.
+    /// The answer has the outcome of `Prop::event`: a want of memory in the turn is an entry with NoMemory.
     ///
     /// Err means that no step was made.
     pub fn emit(
@@ -94,15 +94,18 @@ impl<M: Monitor> Watch<M> {
     ) -> Result<Answer, NoMemory>
         requires seat { IsSeatOf self.now seat.old }
         requires letter { letter.0 < (M.meaning self.now.fixed.definition).letters }
-        requires args { AreArguments (M.meaning self.now.fixed.definition) self.now.fixed.objects letter.0 args.now.items }
-        ensures ok { IfOk result (λ answer. Emitted (M.meaning self.now.fixed.definition) line letter args.now.items answer seat.old seat.new) }
+        requires args { AreArguments
+            (M.meaning self.now.fixed.definition) self.now.fixed.objects letter.0 args.now.items }
+        ensures ok { IfOk result (λ answer. Emitted
+            (M.meaning self.now.fixed.definition) line letter args.now.items answer seat.old seat.new) }
         ensures err { OnErr result (seat.new ≡ seat.old) }
     {
         let binding = Binding::of(self.params(letter), args.as_slice());
         self.step(rt, alloc, seat, line, Step::Event { letter, binding })
     }
 
-    /// Waits for its turn and lets the object die. The outcome is that of `Prop::death`. Err means that no step was made.
+    /// Waits for its turn and lets the object die. The outcome is that of `Prop::death`. Err means that no step was
+    /// made.
     pub fn death(
         &self,
         rt: &impl Wait,
@@ -113,13 +116,15 @@ impl<M: Monitor> Watch<M> {
     ) -> Result<Answer, NoMemory>
         requires seat { IsSeatOf self.now seat.old }
         requires object { object < self.now.fixed.objects }
-        ensures ok { IfOk result (λ answer. Stepped (M.meaning self.now.fixed.definition) line (Death object) answer seat.old seat.new) }
+        ensures ok { IfOk result (λ answer. Stepped (M.meaning self.now.fixed.definition) line
+            (Death object) answer seat.old seat.new) }
         ensures err { OnErr result (seat.new ≡ seat.old) }
     {
         self.step(rt, alloc, seat, line, Step::Death { object })
     }
 
-    /// Waits for its turn and does a disposal pass. The outcome is that of `Prop::pass`. Err means that no step was made.
+    /// Waits for its turn and does a disposal pass. The outcome is that of `Prop::pass`. Err means that no step was
+    /// made.
     pub fn pass(
         &self,
         rt: &impl Wait,
@@ -128,13 +133,15 @@ impl<M: Monitor> Watch<M> {
         line: u32,
     ) -> Result<Answer, NoMemory>
         requires seat { IsSeatOf self.now seat.old }
-        ensures ok { IfOk result (λ answer. Stepped (M.meaning self.now.fixed.definition) line Pass answer seat.old seat.new) }
+        ensures ok { IfOk result (λ answer. Stepped
+            (M.meaning self.now.fixed.definition) line Pass answer seat.old seat.new) }
         ensures err { OnErr result (seat.new ≡ seat.old) }
     {
         self.step(rt, alloc, seat, line, Step::Pass)
     }
 
-    /// Waits for its turn and does a step of any kind, as `emit`, `death` and `pass` do. Err means that no step was made.
+    /// Waits for its turn and does a step of any kind, as `emit`, `death` and `pass` do. Err means that no step was
+    /// made.
     pub fn step(
         &self,
         rt: &impl Wait,
@@ -145,7 +152,8 @@ impl<M: Monitor> Watch<M> {
     ) -> Result<Answer, NoMemory>
         requires seat { IsSeatOf self.now seat.old }
         requires step { IsFitStep (M.meaning self.now.fixed.definition) self.now.fixed.objects step }
-        ensures ok { IfOk result (λ answer. Stepped (M.meaning self.now.fixed.definition) line step answer seat.old seat.new) }
+        ensures ok { IfOk result (λ answer. Stepped
+            (M.meaning self.now.fixed.definition) line step answer seat.old seat.new) }
         ensures err { OnErr result (seat.new ≡ seat.old) }
     {
         let node = Node::new(alloc, seat.number(), line, step)?;
@@ -183,21 +191,23 @@ impl<M: Monitor> Watch<M> {
         self.lock.note(seat)
     }
 
-    /// The seat hears a note: what both have seen are parts of one history from the beginning on, and the seat keeps the
-    /// longer. It waits for nobody, and takes no memory.
+    /// The seat hears a note: what both have seen are parts of one history from the beginning on, and the seat keeps
+    /// the longer. It waits for nobody, and takes no memory.
     pub fn hear(&self, seat: &mut Seat<M>, note: Note<M>)
         requires seat { IsSeatOf self.now seat.old }
         requires note { IsNoteOf self.now note }
         ensures one { HaveOneHistory seat.old.seen note.seen }
         ensures longer { seat.new ≡ record seat.old { seen = longer_of seat.old.seen note.seen } }
         ensures own { own_entries caller_of seat.new ≡ own_entries caller_of seat.old }
-        ensures legal { IsLegal (M.meaning self.now.fixed.definition) seat.old.seen → IsLegal (M.meaning self.now.fixed.definition) note.seen → IsLegal (M.meaning self.now.fixed.definition) seat.new.seen }
+        ensures legal { IsLegal (M.meaning self.now.fixed.definition) seat.old.seen
+            → IsLegal (M.meaning self.now.fixed.definition) note.seen
+            → IsLegal (M.meaning self.now.fixed.definition) seat.new.seen }
     {
         self.lock.hear(seat, note);
     }
 
-    /// The core, once all seats have come back, in any order. Its history goes on from what each has seen, with no further
-    /// entry of any number that a seat has, and has no entry of another number.
+    /// The core, once all seats have come back, in any order. Its history goes on from what each has seen, with no
+    /// further entry of any number that a seat has, and has no entry of another number.
     pub fn close(self, seats: Vec<Seat<M>>) -> Prop<M>
         requires all { vec_len seats ≡ self.seats }
         requires each { All (λ s. IsSeatOf self s) seats.items }

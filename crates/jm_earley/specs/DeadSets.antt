@@ -18,4 +18,5 @@ pub record IsLeft (params : List ℕ) (sets : List LetterSet) (dead : ℕ) (numb
 -- each set of dead parameters has its letters
 pub record AreDeadSets (productions : List Production) (params : List ℕ) (d : DeadSets) : Type 0 where
   pub exact : All (IsExact productions) d.sets.items
-  pub each : (dead : ℕ) → dead < 256 → (number : ℕ) × (slice_get d.numbers.items dead ≡ Some number) × IsLeft params d.sets.items dead number
+  pub each : (dead : ℕ) → dead < 256 → (number : ℕ) × (slice_get d.numbers.items dead ≡ Some number)
+      × IsLeft params d.sets.items dead number

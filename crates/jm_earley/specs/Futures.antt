@@ -8,12 +8,13 @@ use Rattle.jm_grammar.specs.Derivations.{Trees, Derives, IsWord}
 use Rattle.jm_earley.specs.declared.item.Item.{Item}
 use Rattle.jm_earley.specs.Items.{IsItem}
 
--- The rest may follow the nonterminal that is awaited behind a word: nothing follows the start behind no letter; and inside of
--- a production, what the symbols behind the nonterminal spell is followed by what may follow the production's left side where
--- the production began.
+-- The rest may follow the nonterminal that is awaited behind a word: nothing follows the start behind no letter; and
+-- inside of a production, what the symbols behind the nonterminal spell is followed by what may follow the production's
+-- left side where the production began.
 pub data IsRest (productions : List Production) (start : ℕ) : List ℕ → ℕ → List ℕ → Type 0 where
   at_end : IsRest productions start [] start []
-  within : (before spelled word behind follows rest : List ℕ) (p : Production) (front : List GrammarSymbol) (n : ℕ) (back : List GrammarSymbol)
+  within : (before spelled word behind follows rest : List ℕ) (p : Production) (front : List GrammarSymbol) (n : ℕ)
+      (back : List GrammarSymbol)
       → IsRest productions start before p.left follows
       → Contains productions p
       → p.symbols ≡ front ++ Nonterminal n ∷ back
@@ -23,8 +24,8 @@ pub data IsRest (productions : List Production) (start : ℕ) : List ℕ → ℕ
       → rest ≡ behind ++ follows
       → IsRest productions start word n rest
 
--- the letters may follow a word by way of this item: the symbols behind its dot spell a front of them, and the others may follow
--- its left side
+-- the letters may follow a word by way of this item: the symbols behind its dot spell a front of them, and the others
+-- may follow its left side
 pub record IsContinuation (g : GrammarDefinition) (word : List ℕ) (item : Item) (more : List ℕ) : Type 0 where
   pub is_item : IsItem g word item
   pub behind : List ℕ
@@ -39,7 +40,8 @@ CanEnd g letters word n = (rest : List ℕ) × All (IsBitSet letters) rest × Is
 
 -- and one that isn't empty
 abbrev pub CanGoOn : GrammarDefinition → ℕ → List ℕ → ℕ → Type 0
-CanGoOn g letters word n = (rest : List ℕ) × All (IsBitSet letters) rest × IsRest g.productions g.start word n rest × (rest ≢ [])
+CanGoOn g letters word n =
+    (rest : List ℕ) × All (IsBitSet letters) rest × IsRest g.productions g.start word n rest × (rest ≢ [])
 
 -- some word of one or more of these letters, put after the word, gives a word of the grammar
 abbrev pub IsAlive : GrammarDefinition → ℕ → List ℕ → Type 0
@@ -47,4 +49,5 @@ IsAlive g letters word = (more : List ℕ) × All (IsBitSet letters) more × IsW
 
 -- the nonterminal spells some word of one or more of these letters
 abbrev pub DerivesLetters : List Production → ℕ → ℕ → Type 0
-DerivesLetters productions letters n = (word : List ℕ) × All (IsBitSet letters) word × Derives productions n word × (word ≢ [])
+DerivesLetters productions letters n =
+    (word : List ℕ) × All (IsBitSet letters) word × Derives productions n word × (word ≢ [])

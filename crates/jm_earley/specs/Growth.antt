@@ -1,4 +1,5 @@
--- How the items of a place grow, rule by rule (Earley 1970; Aycock and Horspool 2002 for nonterminals that spell the empty word).
+-- How the items of a place grow, rule by rule (Earley 1970; Aycock and Horspool 2002 for nonterminals that spell the
+-- empty word).
 use Rattle.std.specs.Prelude.{ℕ, ◌≡◌, ◌⊎◌, List, [], ◌∷◌, ◌++◌, Some, IsBitSet, Contains, slice_get}
 use Rattle.jm_grammar.specs.declared.grammar.GrammarSymbol.{GrammarSymbol}
 use Rattle.jm_grammar.specs.declared.grammar.GrammarSymbol.TheVariants.{Nonterminal}
@@ -25,34 +26,44 @@ IsAdvancedOver g from symbol x = (y : Item) × Contains from y × (symbol_after 
 
 -- each of these items before the symbol is there, advanced over it
 abbrev pub AreAdvancedOver : GrammarDefinition → List Item → GrammarSymbol → List Item → Type 0
-AreAdvancedOver g from symbol items = (y : Item) → Contains from y → symbol_after g y ≡ Some symbol → Contains items (advanced y)
+AreAdvancedOver g from symbol items =
+    (y : Item) → Contains from y → symbol_after g y ≡ Some symbol → Contains items (advanced y)
 
 -- the item begins a production of the nonterminal at the place
 abbrev pub IsPrediction : GrammarDefinition → ℕ → ℕ → Item → Type 0
 IsPrediction g place n x =
-    (number : ℕ) × (p : Production) × (slice_get g.productions number ≡ Some p) × (p.left ≡ n) × (x ≡ record { production = number; dot = 0; origin = place })
+    (number : ℕ) × (p : Production) × (slice_get g.productions number ≡ Some p) × (p.left ≡ n)
+    × (x ≡ record { production = number; dot = 0; origin = place })
 
 -- each production of the nonterminal begins at the place
 abbrev pub ArePredicted : GrammarDefinition → ℕ → ℕ → List Item → Type 0
 ArePredicted g place n items =
-    (number : ℕ) (p : Production) → slice_get g.productions number ≡ Some p → p.left ≡ n → Contains items (record { production = number; dot = 0; origin = place })
+    (number : ℕ) (p : Production) → slice_get g.productions number ≡ Some p → p.left ≡ n
+    → Contains items (record { production = number; dot = 0; origin = place })
 
 -- what the nonterminals of a set stand for: their productions begin at the place
 abbrev pub IsPredictedSet : GrammarDefinition → ℕ → ℕ → List Item → Type 0
 IsPredictedSet g place predicted items = (n : ℕ) → IsBitSet predicted n → ArePredicted g place n items
 
--- What the rules make of an item at a place behind those kept: the productions of the nonterminal that it awaits; the item
--- itself over a nonterminal that spells the empty word; the items that awaited its left side, where it is finished.
+-- What the rules make of an item at a place behind those kept: the productions of the nonterminal that it awaits; the
+-- item itself over a nonterminal that spells the empty word; the items that awaited its left side, where it is
+-- finished.
 pub data IsStep (g : GrammarDefinition) (kept : List Place) (place : ℕ) (x : Item) (made : Item) : Type 0 where
-  predicts : (n : ℕ) → symbol_after g x ≡ Some (Nonterminal n) → IsPrediction g place n made → IsStep g kept place x made
-  skips : (n : ℕ) → symbol_after g x ≡ Some (Nonterminal n) → Derives g.productions n [] → made ≡ advanced x → IsStep g kept place x made
-  completes : (n : ℕ) (from : Place) → finished_left g x ≡ Some n → place_at kept x.origin ≡ Some from → IsAdvancedOver g from.items (Nonterminal n) made → IsStep g kept place x made
+  predicts : (n : ℕ) → symbol_after g x ≡ Some (Nonterminal n) → IsPrediction g place n made
+      → IsStep g kept place x made
+  skips : (n : ℕ) → symbol_after g x ≡ Some (Nonterminal n) → Derives g.productions n [] → made ≡ advanced x
+      → IsStep g kept place x made
+  completes : (n : ℕ) (from : Place) → finished_left g x ≡ Some n → place_at kept x.origin ≡ Some from
+      → IsAdvancedOver g from.items (Nonterminal n) made → IsStep g kept place x made
 
 -- all that the rules make of an item is there
-pub record IsWorked (g : GrammarDefinition) (kept : List Place) (place : ℕ) (items : List Item) (x : Item) : Type 0 where
+pub record IsWorked (g : GrammarDefinition) (kept : List Place) (place : ℕ) (items : List Item)
+    (x : Item) : Type 0 where
   pub predicted : (n : ℕ) → symbol_after g x ≡ Some (Nonterminal n) → ArePredicted g place n items
-  pub skipped : (n : ℕ) → symbol_after g x ≡ Some (Nonterminal n) → Derives g.productions n [] → Contains items (advanced x)
-  pub completed : (n : ℕ) (from : Place) → finished_left g x ≡ Some n → place_at kept x.origin ≡ Some from → AreAdvancedOver g from.items (Nonterminal n) items
+  pub skipped : (n : ℕ) → symbol_after g x ≡ Some (Nonterminal n) → Derives g.productions n []
+      → Contains items (advanced x)
+  pub completed : (n : ℕ) (from : Place) → finished_left g x ≡ Some n → place_at kept x.origin ≡ Some from
+      → AreAdvancedOver g from.items (Nonterminal n) items
 
 -- the rules make the item from the first ones
 pub data IsMade (g : GrammarDefinition) (kept : List Place) (place : ℕ) (first : List Item) : Item → Type 0 where

@@ -7,11 +7,12 @@ use Rattle.jm_grammar.specs.Grammars.{GrammarDefinition}
 use Rattle.jm_grammar.specs.Derivations.{Trees}
 use Rattle.jm_earley.specs.declared.item.Item.{Item}
 
--- The nonterminal is awaited behind the word: from the start on, symbols are derived that spell the word, and the nonterminal
--- comes next.
+-- The nonterminal is awaited behind the word: from the start on, symbols are derived that spell the word, and the
+-- nonterminal comes next.
 pub data IsAwaited (productions : List Production) (start : ℕ) : List ℕ → ℕ → Type 0 where
   at_start : IsAwaited productions start [] start
-  inside : (before spelled word : List ℕ) (p : Production) (front : List GrammarSymbol) (n : ℕ) (back : List GrammarSymbol)
+  inside : (before spelled word : List ℕ) (p : Production) (front : List GrammarSymbol) (n : ℕ)
+      (back : List GrammarSymbol)
       → IsAwaited productions start before p.left
       → Contains productions p
       → p.symbols ≡ front ++ Nonterminal n ∷ back
@@ -19,8 +20,8 @@ pub data IsAwaited (productions : List Production) (start : ℕ) : List ℕ → 
       → word ≡ before ++ spelled
       → IsAwaited productions start word n
 
--- The item is one of the word's: its production's left side is awaited behind the front of the word up to its origin, and the
--- symbols before its dot spell the rest.
+-- The item is one of the word's: its production's left side is awaited behind the front of the word up to its origin,
+-- and the symbols before its dot spell the rest.
 pub record IsItem (g : GrammarDefinition) (word : List ℕ) (item : Item) : Type 0 where
   pub production : Production
   pub found : slice_get g.productions item.production ≡ Some production
@@ -42,7 +43,8 @@ symbol_after g item = option_and_then (λ p. slice_get p.symbols item.dot) (slic
 
 -- the left side of an item whose dot is at the end
 abbrev pub finished_left : GrammarDefinition → Item → Option ℕ
-finished_left g item = option_and_then (λ p. if item.dot == length p.symbols then Some p.left else None) (slice_get g.productions item.production)
+finished_left g item = option_and_then (λ p. if item.dot == length p.symbols then Some p.left
+    else None) (slice_get g.productions item.production)
 
 -- the item with one symbol more before its dot
 abbrev pub advanced : Item → Item

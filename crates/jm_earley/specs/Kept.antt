@@ -5,7 +5,8 @@ use Rattle.jm_earley.specs.declared.place.Place.{Place}
 
 -- positions increase
 abbrev pub IsSorted : List Place → Type 0
-IsSorted places = (i j : ℕ) (p q : Place) → i < j → slice_get places i ≡ Some p → slice_get places j ≡ Some q → p.position < q.position
+IsSorted places = (i j : ℕ) (p q : Place) → i < j → slice_get places i ≡ Some p → slice_get places j ≡ Some q
+    → p.position < q.position
 
 -- the place at a position
 abbrev pub place_at : List Place → ℕ → Option Place
@@ -26,12 +27,15 @@ IsOrigin places items number = (x : Item) × Contains items x × IsPlaceNumber p
 
 -- no item began behind its place
 abbrev pub AreBack : List Place → Type 0
-AreBack places = (position : ℕ) (p : Place) → place_at places position ≡ Some p → (x : Item) → Contains p.items x → x.origin ≤ position
+AreBack places = (position : ℕ) (p : Place) → place_at places position ≡ Some p → (x : Item) → Contains p.items x
+    → x.origin ≤ position
 
--- Each place but the last is one where an item of the next place began. So the last place reaches each: an item of it began at the
--- one before, an item of that one at the one before that, and so on to the first. A place that nothing reaches isn't there.
+-- Each place but the last is one where an item of the next place began. So the last place reaches each: an item of it
+-- began at the one before, an item of that one at the one before that, and so on to the first. A place that nothing
+-- reaches isn't there.
 abbrev pub AreLinked : List Place → Type 0
-AreLinked places = (number : ℕ) (p q : Place) → slice_get places number ≡ Some p → slice_get places (number + 1) ≡ Some q → (x : Item) × Contains q.items x × (x.origin ≡ p.position)
+AreLinked places = (number : ℕ) (p q : Place) → slice_get places number ≡ Some p
+    → slice_get places (number + 1) ≡ Some q → (x : Item) × Contains q.items x × (x.origin ≡ p.position)
 
 -- ---- what is kept behind a new place
 
@@ -48,13 +52,15 @@ pub record IsReachTo (places : List Place) (position : ℕ) (old new : ℕ) : Ty
   pub all : (number : ℕ) → IsPlaceNumber places position number → number < new
   pub last : (new ≡ old) ⊎ ((number : ℕ) × (number + 1 ≡ new) × IsPlaceNumber places position number)
 
--- The place is the last of the new ones, and the others are old ones: each where an item of a new one began, if no item began behind
--- its place, and none that the last place doesn't reach, if it was so before.
+-- The place is the last of the new ones, and the others are old ones: each where an item of a new one began, if no item
+-- began behind its place, and none that the last place doesn't reach, if it was so before.
 pub record IsFollowedBy (old : List Place) (place : Place) (new : List Place) : Type 0 where
   pub ends : slice_get new (length new - 1) ≡ Some place
   pub here : place_at new place.position ≡ Some place
-  pub only : (position : ℕ) (p : Place) → place_at new position ≡ Some p → (place_at old position ≡ Some p) ⊎ ((position ≡ place.position) × (p ≡ place))
+  pub only : (position : ℕ) (p : Place) → place_at new position ≡ Some p → (place_at old position ≡ Some p)
+      ⊎ ((position ≡ place.position) × (p ≡ place))
   pub linked : AreLinked old → AreLinked new
   pub first : (x : Item) → Contains place.items x → IsKept old x.origin → IsKept new x.origin
-  pub closed : AreBack old → (position : ℕ) (p : Place) → place_at new position ≡ Some p → place_at old position ≡ Some p
+  pub closed : AreBack old → (position : ℕ) (p : Place) → place_at new position ≡ Some p
+      → place_at old position ≡ Some p
       → (x : Item) → Contains p.items x → IsKept old x.origin → IsKept new x.origin

@@ -18,7 +18,8 @@ use Rattle.jm_earley.specs.LetterSets.{can_spell, can_go_on}
 abbrev pub link_from : ℕ → LetterSet → List GrammarSymbol → Option Link
 link_from left set [] = None
 link_from left set (Letter a ∷ back) = None
-link_from left set (Nonterminal n ∷ back) = if can_spell set back then Some (record { left = left; next = n; goes_on = can_go_on set back }) else None
+link_from left set (Nonterminal n ∷ back) =
+    if can_spell set back then Some (record { left = left; next = n; goes_on = can_go_on set back }) else None
 
 abbrev pub link_in : Item → LetterSet → Option Production → Option Link
 link_in item set None = None
@@ -30,7 +31,8 @@ link_of productions set item = link_in item set (slice_get productions item.prod
 
 -- what may follow at an earlier place
 abbrev pub future_at : List Place → ℕ → ℕ → Option Future
-future_at earlier number position = option_and_then (λ (p : Place). slice_get p.futures.futures.items number) (place_at earlier position)
+future_at earlier number position =
+    option_and_then (λ (p : Place). slice_get p.futures.futures.items number) (place_at earlier position)
 
 -- a rest ends behind the next nonterminal, where one ends behind the left side
 abbrev pub ends_rule : Option Link → Option Future → Rule
@@ -41,7 +43,8 @@ ends_rule (Some l) None = record { gives = only l.next; any = only l.left; alway
 -- a rest with letters ends there, where the symbols between or the rest behind the left side have letters
 abbrev pub more_rule : ℕ → Option Link → Option Future → Rule
 more_rule ends None there = record { gives = 0; any = 0; always = false }
-more_rule ends (Some l) (Some there) = record { gives = only l.next; any = 0; always = l.goes_on && has there.ends l.left || has there.more l.left }
+more_rule ends (Some l) (Some there) =
+    record { gives = only l.next; any = 0; always = l.goes_on && has there.ends l.left || has there.more l.left }
 more_rule ends (Some l) None = record { gives = only l.next; any = only l.left; always = l.goes_on && has ends l.left }
 
 -- at the first place nothing follows the start
@@ -50,7 +53,8 @@ start_rule start earlier = record { gives = only start; any = 0; always = length
 
 abbrev pub ends_rules : List Production → ℕ → LetterSet → ℕ → List Place → List Item → List Rule
 ends_rules productions start set number earlier items =
-    start_rule start earlier ∷ map (λ (item : Item). ends_rule (link_of productions set item) (future_at earlier number item.origin)) items
+    start_rule start earlier ∷ map (λ (item : Item). ends_rule (link_of productions set item)
+    (future_at earlier number item.origin)) items
 
 abbrev pub more_rules : List Production → ℕ → LetterSet → ℕ → List Place → List Item → List Rule
 more_rules productions ends set number earlier items =
@@ -60,8 +64,10 @@ more_rules productions ends set number earlier items =
 abbrev pub keeps_alive_in : Item → LetterSet → Future → Option Production → Bool
 keeps_alive_in item set there None = false
 keeps_alive_in item set there (Some p) =
-    can_spell set (drop item.dot p.symbols) && (can_go_on set (drop item.dot p.symbols) && has there.ends p.left || has there.more p.left)
+    can_spell set (drop item.dot p.symbols) &&
+    (can_go_on set (drop item.dot p.symbols) && has there.ends p.left || has there.more p.left)
 
 abbrev pub keeps_alive : List Production → LetterSet → ℕ → List Place → Future → Item → Bool
 keeps_alive productions set number earlier here item =
-    keeps_alive_in item set (unwrap_or (future_at earlier number item.origin) here) (slice_get productions item.production)
+    keeps_alive_in item set (unwrap_or (future_at earlier number item.origin) here)
+    (slice_get productions item.production)

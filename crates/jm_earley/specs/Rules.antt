@@ -14,7 +14,8 @@ has known n = nat_lt n 64 && has_bit known n
 -- What the rules add in all: a rule adds what it gives where it always does, or where one of its conditions was added.
 pub data IsGained (rules : List Rule) : ℕ → Type 0 where
   at_once : (r : Rule) (n : ℕ) → Contains rules r → r.always ≡ true → IsBitSet r.gives n → IsGained rules n
-  later : (r : Rule) (m n : ℕ) → Contains rules r → IsBitSet r.any m → IsGained rules m → IsBitSet r.gives n → IsGained rules n
+  later : (r : Rule) (m n : ℕ) → Contains rules r → IsBitSet r.any m → IsGained rules m → IsBitSet r.gives n
+      → IsGained rules n
 
 -- two sets have a nonterminal in common
 abbrev pub meets : ℕ → ℕ → Bool

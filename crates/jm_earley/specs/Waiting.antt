@@ -14,12 +14,14 @@ IsEmpty lists = (n : ℕ) → slice_index_or lists n [] ≡ []
 
 -- list n has those of the items that await nonterminal n
 abbrev pub IsWaiting : GrammarDefinition → List Item → List (List Item) → Type 0
-IsWaiting g items lists = (n : ℕ) (x : Item) → Contains (slice_index_or lists n []) x ↔ (Contains items x × (symbol_after g x ≡ Some (Nonterminal n)))
+IsWaiting g items lists = (n : ℕ) (x : Item)
+    → Contains (slice_index_or lists n []) x ↔ (Contains items x × (symbol_after g x ≡ Some (Nonterminal n)))
 
 -- the lists after an item is added to that of the nonterminal that it awaits, if it does
 abbrev pub IsWithWaiting : GrammarDefinition → List (List Item) → Item → List (List Item) → Type 0
 IsWithWaiting g old x new =
-    (n : ℕ) (y : Item) → Contains (slice_index_or new n []) y ↔ (Contains (slice_index_or old n []) y ⊎ ((x ≡ y) × (symbol_after g x ≡ Some (Nonterminal n))))
+    (n : ℕ) (y : Item) → Contains (slice_index_or new n []) y ↔ (Contains (slice_index_or old n []) y
+    ⊎ ((x ≡ y) × (symbol_after g x ≡ Some (Nonterminal n))))
 
 -- the lists of each place are those of its items
 abbrev pub AreWaiting : GrammarDefinition → List Place → Type 0

@@ -21,8 +21,8 @@ use jm_model::{Letter, NoMemory};
 use std::alloc::Global;
 use std::marker::Model;
 
-/// What the charts of a grammar have in common: the grammar, reduced, and the parameters of its letters. Contracts see it as its
-/// `ChartsDefinition`.
+/// What the charts of a grammar have in common: the grammar, reduced, and the parameters of its letters. Contracts see
+/// it as its `ChartsDefinition`.
 #[derive(Drop)]
 pub struct Charts {
     grammar: Grammar,
@@ -41,11 +41,12 @@ impl Model for Charts {
 
     ghost view = { λ c. record { grammar = c.grammar; params = c.params.items; letter_sets = c.dead.sets.items } };
 
-    ghost invariant = { λ c. IsReduced c.grammar c.params.items c.nullable × AreDeadSets c.grammar.productions c.params.items c.dead };
+    ghost invariant = { λ c. IsReduced c.grammar c.params.items c.nullable
+        × AreDeadSets c.grammar.productions c.params.items c.dead };
 }
 
-/// The places of a word that may still matter: the last, and those where items of these places began. Copies share them.
-/// Contracts see it as its `ChartDefinition`, which stands for a word by `IsChartOf`.
+/// The places of a word that may still matter: the last, and those where items of these places began. Copies share
+/// them. Contracts see it as its `ChartDefinition`, which stands for a word by `IsChartOf`.
 #[derive(Drop)]
 pub struct Chart {
     places: Places,
@@ -63,7 +64,8 @@ impl Model for Chart {
 }
 
 impl Charts {
-    /// Charts of a grammar, whose letters are events of the table. They are those of the reduced grammar, which has the same words.
+    /// Charts of a grammar, whose letters are events of the table. They are those of the reduced grammar, which has the
+    /// same words.
     pub fn new(alloc: Global, grammar: Grammar, table: &EventTable) -> Result<Charts, NoMemory>
         requires { AreBelow grammar.productions (length table.now.events) }
         ensures words { IfOk result (λ c. (word : List ℕ) → IsWord c.grammar word ↔ IsWord grammar word) }
@@ -110,11 +112,12 @@ impl Charts {
         Ok(Chart { places })
     }
 
-    /// The chart of a word that has one letter more. It shares the earlier places with this one, and leaves out those that no item
-    /// reaches any more. A word of 2^32 - 1 letters counts as want of memory.
+    /// The chart of a word that has one letter more. It shares the earlier places with this one, and leaves out those
+    /// that no item reaches any more. A word of 2^32 - 1 letters counts as want of memory.
     pub fn next(&self, chart: &Chart, letter: Letter) -> Result<Chart, NoMemory>
         requires { letter.0 < length self.now.params }
-        ensures { (word : List ℕ) → IsChartOf self.now word chart.now → IfOk result (IsChartOf self.now (word ++ letter.0 ∷ [])) }
+        ensures { (word : List ℕ) → IsChartOf self.now word chart.now
+            → IfOk result (IsChartOf self.now (word ++ letter.0 ∷ [])) }
     {
         let last = chart.last();
         if last.position == u32::MAX {
@@ -135,17 +138,19 @@ impl Charts {
 
     /// Whether no word that begins with the word, itself included, is in the language of the grammar.
     pub fn fails(&self, chart: &Chart) -> bool
-        ensures { (word : List ℕ) → IsChartOf self.now word chart.now → IsTrue result ↔ IsHopeless self.now.grammar word }
+        ensures { (word : List ℕ) → IsChartOf self.now word chart.now
+            → IsTrue result ↔ IsHopeless self.now.grammar word }
     {
         // The grammar is reduced: the proof learns it from the fields.
         let _ = &self.grammar;
         is_hopeless(chart.last().items.as_slice())
     }
 
-    /// Whether some word of one or more letters without a dead parameter, put after the word, is in the language of the grammar.
-    /// Bit k of the set stands for parameter k.
+    /// Whether some word of one or more letters without a dead parameter, put after the word, is in the language of the
+    /// grammar. Bit k of the set stands for parameter k.
     pub fn alive(&self, chart: &Chart, dead: u8) -> bool
-        ensures { (word : List ℕ) → IsChartOf self.now word chart.now → IsTrue result ↔ IsAliveFor self.now.grammar self.now.params dead word }
+        ensures { (word : List ℕ) → IsChartOf self.now word chart.now
+            → IsTrue result ↔ IsAliveFor self.now.grammar self.now.params dead word }
     {
         chart.last().futures.is_alive(&self.dead, dead)
     }
@@ -155,7 +160,8 @@ impl Charts {
     /// The chart whose last place has the items that the rules make of the first ones, behind earlier places.
     fn chart_with(&self, earlier: &Places, position: u32, first: ItemSet) -> Result<Chart, NoMemory>
         requires { (number : ℕ) (p : Place) → slice_get earlier.now number ≡ Some p → p.position < position }
-        ensures { AreWaiting self.now.grammar earlier.now → IfOk result (IsChartWith self.now earlier.now position first) }
+        ensures { AreWaiting self.now.grammar earlier.now
+            → IfOk result (IsChartWith self.now earlier.now position first) }
     {
         let items = self.close(earlier, position, first)?;
         let place = self.place_with(earlier, position, items)?;

@@ -9,8 +9,8 @@ use jm_grammar::Grammar;
 use jm_model::NoMemory;
 use std::alloc::Global;
 
-/// The sets of letters that sets of dead parameters leave, each once, and for each of the 256 sets of dead parameters the number
-/// of its set of letters.
+/// The sets of letters that sets of dead parameters leave, each once, and for each of the 256 sets of dead parameters
+/// the number of its set of letters.
 #[derive(Drop)]
 pub(crate) struct DeadSets {
     sets: Vec<LetterSet>,
@@ -67,7 +67,8 @@ fn available(params: &[u8], dead: u8) -> u32
 
 /// The number of the set of these letters, if it is there.
 fn find(sets: &[LetterSet], letters: u32) -> Option<usize>
-    ensures { IfSome result (λ number. (set : LetterSet) × (slice_get sets.now number ≡ Some set) × (set.letters ≡ letters)) }
+    ensures { IfSome result (λ number. (set : LetterSet) × (slice_get sets.now number ≡ Some set)
+        × (set.letters ≡ letters)) }
 {
     for (number, set) in sets.iter().enumerate() {
         if set.letters == letters {
@@ -79,9 +80,11 @@ fn find(sets: &[LetterSet], letters: u32) -> Option<usize>
 
 /// The number of the set of these letters, which is added if it is new.
 fn number_of(sets: &mut Vec<LetterSet>, grammar: &Grammar, letters: u32) -> Result<usize, NoMemory>
-    ensures exact { OnOk result (All (IsExact grammar.now.productions) sets.old.items → All (IsExact grammar.now.productions) sets.new.items) }
+    ensures exact { OnOk result (All (IsExact grammar.now.productions) sets.old.items
+        → All (IsExact grammar.now.productions) sets.new.items) }
     ensures kept { OnOk result ((added : List LetterSet) × (sets.new.items ≡ sets.old.items ++ added)) }
-    ensures found { IfOk result (λ number. (set : LetterSet) × (slice_get sets.new.items number ≡ Some set) × (set.letters ≡ letters)) }
+    ensures found { IfOk result (λ number. (set : LetterSet) × (slice_get sets.new.items number ≡ Some set)
+        × (set.letters ≡ letters)) }
 {
     match find(sets.as_slice(), letters) {
         Some(number) => Ok(number),
@@ -91,9 +94,11 @@ fn number_of(sets: &mut Vec<LetterSet>, grammar: &Grammar, letters: u32) -> Resu
 
 /// Adds the set of these letters at the end.
 fn append(sets: &mut Vec<LetterSet>, grammar: &Grammar, letters: u32) -> Result<usize, NoMemory>
-    ensures exact { OnOk result (All (IsExact grammar.now.productions) sets.old.items → All (IsExact grammar.now.productions) sets.new.items) }
+    ensures exact { OnOk result (All (IsExact grammar.now.productions) sets.old.items
+        → All (IsExact grammar.now.productions) sets.new.items) }
     ensures kept { OnOk result ((added : List LetterSet) × (sets.new.items ≡ sets.old.items ++ added)) }
-    ensures found { IfOk result (λ number. (set : LetterSet) × (slice_get sets.new.items number ≡ Some set) × (set.letters ≡ letters)) }
+    ensures found { IfOk result (λ number. (set : LetterSet) × (slice_get sets.new.items number ≡ Some set)
+        × (set.letters ≡ letters)) }
 {
     let number = sets.len();
     let set = LetterSet::new(*sets.allocator(), grammar, letters)?;

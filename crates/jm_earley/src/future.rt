@@ -19,8 +19,8 @@ use jm_grammar::{Grammar, Production};
 use jm_model::NoMemory;
 use std::alloc::Global;
 
-/// What may follow at a place, of some letters: the nonterminals that a rest may follow, those that one of one or more letters
-/// may follow, and whether one or more letters may follow the word.
+/// What may follow at a place, of some letters: the nonterminals that a rest may follow, those that one of one or more
+/// letters may follow, and whether one or more letters may follow the word.
 #[derive(Clone, Copy)]
 pub(crate) struct Future {
     pub ends: u64,
@@ -43,8 +43,10 @@ impl Futures {
         items: &[Item],
         earlier: &Places,
     ) -> Result<Futures, NoMemory>
-        ensures { IfOk result (λ futures. All (IsExact grammar.now.productions) sets.now.sets.items → (word : List ℕ) → IsItemSet grammar.now word items.now
-            → AreEarlier grammar.now sets.now.sets.items word earlier.now → AreFutures grammar.now sets.now.sets.items word futures) }
+        ensures { IfOk result (λ futures. All (IsExact grammar.now.productions) sets.now.sets.items → (word : List ℕ)
+            → IsItemSet grammar.now word items.now
+            → AreEarlier grammar.now sets.now.sets.items word earlier.now
+            → AreFutures grammar.now sets.now.sets.items word futures) }
     {
         let mut futures = Vec::new(alloc);
         for (number, set) in sets.sets().iter().enumerate() {
@@ -56,7 +58,8 @@ impl Futures {
 
     /// Whether one or more letters without a dead parameter may follow.
     pub(crate) fn is_alive(&self, sets: &DeadSets, dead: u8) -> bool
-        ensures { (g : GrammarDefinition) (params word : List ℕ) → AreDeadSets g.productions params sets.now → AreFutures g sets.now.sets.items word self.now
+        ensures { (g : GrammarDefinition) (params word : List ℕ) → AreDeadSets g.productions params sets.now
+            → AreFutures g sets.now.sets.items word self.now
             → IsTrue result ↔ IsAliveFor g params dead word }
     {
         match sets.number(dead) {
@@ -79,9 +82,11 @@ impl Futures {
     }
 }
 
-/// Whether no word of the grammar begins with the word that has these items, where each nonterminal of a production spells a word.
+/// Whether no word of the grammar begins with the word that has these items, where each nonterminal of a production
+/// spells a word.
 pub(crate) fn is_hopeless(items: &[Item]) -> bool
-    ensures { (g : GrammarDefinition) (word : List ℕ) → AllSpell g → IsItemSet g word items.now → IsTrue result ↔ IsHopeless g word }
+    ensures { (g : GrammarDefinition) (word : List ℕ) → AllSpell g → IsItemSet g word items.now
+        → IsTrue result ↔ IsHopeless g word }
 {
     items.is_empty()
 }

@@ -30,7 +30,8 @@ impl Charts {
         place: u32,
         first: ItemSet,
     ) -> Result<ItemSet, NoMemory>
-        ensures { AreWaiting self.now.grammar kept.now → IfOk result (λ set. IsClosure self.now.grammar kept.now place first set) }
+        ensures { AreWaiting self.now.grammar kept.now
+            → IfOk result (λ set. IsClosure self.now.grammar kept.now place first set) }
     {
         let mut growth = Growth {
             set: first,
@@ -54,8 +55,10 @@ impl Charts {
         item: Item,
     ) -> Result<(), NoMemory>
         requires { IsPredictedSet self.now.grammar place growth.old.predicted growth.old.set }
-        ensures grows { OnOk result (Grows (IsStepOver self.now.grammar kept.now place item) growth.old.set growth.new.set) }
-        ensures worked { OnOk result (AreWaiting self.now.grammar kept.now → IsWorked self.now.grammar kept.now place growth.new.set item) }
+        ensures grows { OnOk result (Grows
+            (IsStepOver self.now.grammar kept.now place item) growth.old.set growth.new.set) }
+        ensures worked { OnOk result (AreWaiting self.now.grammar kept.now
+            → IsWorked self.now.grammar kept.now place growth.new.set item) }
         ensures predicted { OnOk result (IsPredictedSet self.now.grammar place growth.new.predicted growth.new.set) }
     {
         match self.symbol_after(item) {
@@ -110,7 +113,8 @@ impl Charts {
     fn skip(&self, set: &mut ItemSet, item: Item, n: u8) -> Result<(), NoMemory>
         requires small { n < 64 }
         requires room { item.dot < 32 }
-        ensures grows { OnOk result (Grows (λ x. Derives self.now.grammar.productions n [] × (x ≡ advanced item)) set.old set.new) }
+        ensures grows { OnOk result (Grows (λ x. Derives self.now.grammar.productions n []
+            × (x ≡ advanced item)) set.old set.new) }
         ensures all { OnOk result (Derives self.now.grammar.productions n [] → Contains set.new (advanced item)) }
     {
         if self.is_nullable(n) {
@@ -122,8 +126,10 @@ impl Charts {
     /// Adds the items that awaited the left side of a finished item, advanced over it.
     fn complete(&self, kept: &Places, set: &mut ItemSet, item: Item) -> Result<(), NoMemory>
         requires { symbol_after self.now.grammar item ≡ None }
-        ensures grows { (place : ℕ) → OnOk result (Grows (IsStepOver self.now.grammar kept.now place item) set.old set.new) }
-        ensures worked { (place : ℕ) → OnOk result (AreWaiting self.now.grammar kept.now → IsWorked self.now.grammar kept.now place set.new item) }
+        ensures grows { (place : ℕ) → OnOk result
+            (Grows (IsStepOver self.now.grammar kept.now place item) set.old set.new) }
+        ensures worked { (place : ℕ) → OnOk result (AreWaiting self.now.grammar kept.now
+            → IsWorked self.now.grammar kept.now place set.new item) }
     {
         let Some(left) = self.finished_left(item) else {
             return Ok(());

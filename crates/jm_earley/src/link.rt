@@ -6,8 +6,8 @@ use crate::item::Item;
 use crate::letter_set::LetterSet;
 use jm_grammar::{GrammarSymbol, Production};
 
-/// The nonterminal behind an item's dot, where the symbols behind it spell a word of some letters, and whether they spell one of
-/// one or more.
+/// The nonterminal behind an item's dot, where the symbols behind it spell a word of some letters, and whether they
+/// spell one of one or more.
 #[derive(Clone, Copy)]
 pub(crate) struct Link {
     pub left: u8,

@@ -67,7 +67,8 @@ impl Places {
 
     /// The place at a position, if it is kept.
     pub(crate) fn find(&self, position: u32) -> Option<&Place>
-        ensures { MatchOption result (place_at self.now position ≡ None) (λ place. place_at self.now position ≡ Some place.now) }
+        ensures { MatchOption result (place_at self.now position ≡ None)
+            (λ place. place_at self.now position ≡ Some place.now) }
     {
         match self.number_of(position) {
             Some(number) => Some(self.at(number)),
@@ -77,7 +78,8 @@ impl Places {
 
     /// The number of the place at a position, if it is kept.
     fn number_of(&self, position: u32) -> Option<usize>
-        ensures value { MatchOption result ((number : ℕ) → IsPlaceNumber self.now position number → ⊥) (λ number. IsPlaceNumber self.now position number) }
+        ensures value { MatchOption result ((number : ℕ) → IsPlaceNumber self.now position number
+            → ⊥) (λ number. IsPlaceNumber self.now position number) }
         ensures small { IfSome result (λ number. number + 1 < 2 ^ 64) }
         ensures sorted { IsSorted self.now }
     {
@@ -107,7 +109,8 @@ impl Places {
 
     /// The number of the place at a position, by halves.
     fn search(&self, position: u32) -> Option<usize>
-        ensures value { MatchOption result ((number : ℕ) → IsPlaceNumber self.now position number → ⊥) (λ number. IsPlaceNumber self.now position number) }
+        ensures value { MatchOption result ((number : ℕ) → IsPlaceNumber self.now position number
+            → ⊥) (λ number. IsPlaceNumber self.now position number) }
         ensures small { IfSome result (λ number. number + 1 < 2 ^ 64) }
         ensures sorted { IsSorted self.now }
     {

@@ -49,9 +49,13 @@ event_fault t e =
 
 -- what a known event is after a mention of e: if it is that event and the mention says so, a creation event
 abbrev pub after_mention : EventDefinition → EventDefinition → EventDefinition
-after_mention e known = if bytes_eq e.name known.name then record known { creation = known.creation || e.creation } else known
+after_mention e known =
+    if bytes_eq e.name known.name then record known { creation = known.creation || e.creation } else known
 
 -- the definitions after a mention of an event: a new one goes last
 abbrev pub with_event : EventDefinitions → EventDefinition → EventDefinitions
 with_event t e =
-    record t { events = if list_any (bytes_eq e.name) (event_names t) then map (after_mention e) t.events else t.events ++ e ∷ [] }
+    record t {
+      events = if list_any (bytes_eq e.name) (event_names t) then map (after_mention e) t.events
+          else t.events ++ e ∷ [];
+    }

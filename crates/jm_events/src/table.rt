@@ -76,7 +76,8 @@ impl EventTable {
     ///
     /// The fault is `DuplicateParameter` where the name is there, and else `TooMany` parameters where eight are.
     pub fn add_param(&mut self, name: &str, line: u32) -> Result<u8, SpecError>
-        ensures refused { IfSome (parameter_fault self.old name.now line) (λ fault. result ≡ Err (SpecError.Bad fault)) }
+        ensures refused { IfSome (parameter_fault self.old name.now line)
+            (λ fault. result ≡ Err (SpecError.Bad fault)) }
         ensures accepted { IfNone (parameter_fault self.old name.now line) (IsOkUnless result SpecError.NoMemory) }
         ensures number { IfOk result (λ p. p ≡ length self.old.parameters) }
         ensures ok { OnOk result (self.new ≡ with_parameter self.old name.now) }
@@ -172,7 +173,8 @@ impl EventTable {
     ) -> Result<Letter, SpecError>
         requires absent { number_of (event_names self.old) name.now ≡ None }
         requires bits { mask < 2 ^ length self.old.parameters }
-        ensures refused { length self.old.events ≡ 32 → result ≡ Err (SpecError.Bad (SpecFault.TooMany Counted.Events)) }
+        ensures refused { length self.old.events ≡ 32
+            → result ≡ Err (SpecError.Bad (SpecFault.TooMany Counted.Events)) }
         ensures accepted { length self.old.events ≢ 32 → IsOkUnless result SpecError.NoMemory }
         ensures letter { IfOk result (λ letter. letter.0 ≡ length self.old.events) }
         ensures ok { OnOk result (self.new ≡ record self.old {
@@ -199,7 +201,8 @@ impl EventTable {
     /// The letter of an event, if it is there.
     pub fn letter(&self, name: &str) -> Option<Letter>
         ensures value { option_map (λ letter. letter.0) result ≡ number_of (event_names self.now) name.now }
-        ensures at { (k : ℕ) → (result ≡ Some (record { 0 = k })) ↔ (slice_get (event_names self.now) k ≡ Some name.now) }
+        ensures at { (k : ℕ) → (result ≡ Some (record { 0 = k })) ↔
+            (slice_get (event_names self.now) k ≡ Some name.now) }
         ensures absent { IsNone result ↔ ¬ Contains (event_names self.now) name.now }
         ensures within { IfSome result (λ letter. letter.0 < length self.now.events) }
         ensures distinct { IsDistinct bytes_eq (event_names self.now) }

@@ -11,9 +11,9 @@ use std::alloc::{AllocError, Global};
 /// The most rounds of a workload.
 const MAX_ROUNDS: u32 = 8000;
 
-/// The workload of `n` rounds: the specifications `UnsafeIter` and `HasNext`, and four scripts of `n` rounds each. A round
-/// has a collection, its change, the use of its iterator in both specifications, and the deaths of both objects; each
-/// sixteenth round is followed by a pass on both specifications.
+/// The workload of `n` rounds: the specifications `UnsafeIter` and `HasNext`, and four scripts of `n` rounds each. A
+/// round has a collection, its change, the use of its iterator in both specifications, and the deaths of both objects;
+/// each sixteenth round is followed by a pass on both specifications.
 ///
 /// The answer is `OutOfRange` exactly where `n` is 0 or more than 8000.
 pub fn workload(alloc: Global, n: u32) -> Result<Workload, GenError>

@@ -1,5 +1,5 @@
-//! What a table of states is run for: the handlers with their groups of states, the creation letters, and the parameters
-//! that a reported instance has to bind.
+//! What a table of states is run for: the handlers with their groups of states, the creation letters, and the
+//! parameters that a reported instance has to bind.
 #![tactic(auto)]
 
 ghost use Rattle.std.specs.Prelude.{◌≡◌, ◌<◌, ◌≤◌, Some, length, slice_get, vec_len};
@@ -7,8 +7,8 @@ ghost use Rattle.std.specs.Prelude.{◌≡◌, ◌<◌, ◌≤◌, Some, length,
 use std::marker::Model;
 
 /// The handlers of a specification, at most 16, each with the group of the states that it is for; the creation letters,
-/// of which bit k stands for letter k; and the parameters that a reported instance has to bind, of which bit p stands for
-/// parameter p. Contracts see it as its `GoalDefinition`.
+/// of which bit k stands for letter k; and the parameters that a reported instance has to bind, of which bit p stands
+/// for parameter p. Contracts see it as its `GoalDefinition`.
 #[derive(Drop)]
 pub struct Goal {
     groups: Vec<u16>,

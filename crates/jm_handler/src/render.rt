@@ -97,7 +97,8 @@ impl Occasion<'_> {
     /// The lines of a statement.
     fn statement(&self, page: &mut Vec<u8>, statement: &Statement) -> Result<(), NoMemory>
         requires { AreNamed self.now.objects self.now.instance }
-        ensures { OnOk result (page.new.items ≡ page.old.items ++ marked_lines (statement_text self.now statement.now)) }
+        ensures { OnOk result (page.new.items
+            ≡ page.old.items ++ marked_lines (statement_text self.now statement.now)) }
     {
         begin(page)?;
         self.terms(page, statement.terms())?;

@@ -64,4 +64,5 @@ HasDied index dead o = (flag_of dead o ≡ true) × (flag_of index.dropped o ≡
 
 -- among the slots are those of the pairs that bind such an object
 abbrev pub AreListed : PairList → (ℕ → Type 0) → List ℕ → Type 0
-AreListed index IsSuch slots = (pair : Pair) (o : ℕ) → Contains index.list pair → Binds pair.binding o → IsSuch o → Contains slots pair.slot
+AreListed index IsSuch slots =
+    (pair : Pair) (o : ℕ) → Contains index.list pair → Binds pair.binding o → IsSuch o → Contains slots pair.slot

@@ -110,7 +110,8 @@ pub(crate) fn add_slots_at(
     positions: &[usize],
     slots: &mut Vec<usize>,
 ) -> Result<(), NoMemory>
-    ensures { OnOk result (slots.new.items ≡ slots.old.items ++ filter_map (slot_at entries.now domain binding.now) positions.now) }
+    ensures { OnOk result (slots.new.items
+        ≡ slots.old.items ++ filter_map (slot_at entries.now domain binding.now) positions.now) }
 {
     for position in positions {
         if let Some(slot) = slot_at(entries, domain, binding, *position) {
@@ -139,7 +140,8 @@ pub(crate) fn add_live_slots(
 /// Adds the slot of the entry at a position, if it is live.
 fn add_live_slot(entries: &[Entry], position: usize, slots: &mut Vec<usize>) -> Result<(), NoRoom>
     ensures kept { OnOk result ((k : ℕ) → Contains slots.old.items k → Contains slots.new.items k) }
-    ensures here { OnOk result ((pair : Pair) → pair_at entries.now position ≡ Some pair → Contains slots.new.items pair.slot) }
+    ensures here { OnOk result ((pair : Pair) → pair_at entries.now position ≡ Some pair
+        → Contains slots.new.items pair.slot) }
 {
     if let Some(entry) = entries.get(position)
         && entry.is_live()

@@ -128,7 +128,8 @@ impl Flags {
     /// Whether of 64 objects, those of a word of the table, each dead one that has a flag has it set.
     pub(crate) fn has_dead(&self, objects: &Objects, index: u32) -> bool
         requires { 64 * index < length objects.now }
-        ensures { IsTrue result → (o : ℕ) → o / 64 ≡ index → flag_of objects.now o ≡ true → o < length self.now → flag_of self.now o ≡ true }
+        ensures { IsTrue result → (o : ℕ) → o / 64 ≡ index → flag_of objects.now o ≡ true → o < length self.now
+            → flag_of self.now o ≡ true }
     {
         let dead = objects.word(index);
         match self.words.get(index as usize) {
@@ -140,7 +141,8 @@ impl Flags {
     /// The same of the objects of a block of 64 words.
     pub(crate) fn has_dead_of_block(&self, objects: &Objects, block: u32) -> bool
         requires { 4096 * block < length objects.now }
-        ensures { IsTrue result → (o : ℕ) → o / 4096 ≡ block → flag_of objects.now o ≡ true → o < length self.now → flag_of self.now o ≡ true }
+        ensures { IsTrue result → (o : ℕ) → o / 4096 ≡ block → flag_of objects.now o ≡ true → o < length self.now
+            → flag_of self.now o ≡ true }
     {
         let known = self.words.as_slice();
         let dead = objects.words();

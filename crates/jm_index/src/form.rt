@@ -6,8 +6,8 @@ use crate::key::bound_from;
 use jm_model::{Binding, NoMemory};
 use std::alloc::Global;
 
-/// A binding's parameters and then its objects and its slot, where it binds one or two and the slot fits four bytes, and
-/// else the whole. An entry that isn't live keeps neither binding nor slot.
+/// A binding's parameters and then its objects and its slot, where it binds one or two and the slot fits four bytes,
+/// and else the whole. An entry that isn't live keeps neither binding nor slot.
 #[derive(Drop)]
 pub(crate) enum Form {
     Gone,

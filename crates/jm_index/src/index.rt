@@ -66,8 +66,8 @@ impl Index {
     /// Adds a pair at the end. Where memory is wanting, the pairs are as before. The index fits what it fitted, if the
     /// objects of the binding stand in the table.
     ///
-    /// Where there is no room for an entry and more than half of many entries aren't live, the index is made anew of those
-    /// that are.
+    /// Where there is no room for an entry and more than half of many entries aren't live, the index is made anew of
+    /// those that are.
     pub fn add(&mut self, binding: Binding, slot: usize) -> Result<(), NoMemory>
         requires { (pair : Pair) → Contains self.old.list pair → pair.binding ≢ binding }
         ensures added { OnOk result (self.new.list ≡ self.old.list ++ record { binding = binding; slot = slot } ∷ []) }
@@ -91,8 +91,8 @@ impl Index {
         Ok(())
     }
 
-    /// Whether it is time for that. Since a new tree has a path for each object below its greatest, there are to be entries
-    /// enough to pay for these.
+    /// Whether it is time for that. Since a new tree has a path for each object below its greatest, there are to be
+    /// entries enough to pay for these.
     fn is_sparse(&self) -> bool {
         self.entries.len() == self.entries.capacity()
             && self.live < self.entries.len() / 2

@@ -80,7 +80,8 @@ impl Posting {
     /// Counts a position whose entry isn't live any more. Once these are more than half, they go.
     pub(crate) fn thin(&mut self, entries: &[Entry])
         ensures within { (x : ℕ) → Contains self.new.positions x → Contains self.old.positions x }
-        ensures live { (x : ℕ) → is_live_at entries.now x ≡ true → Contains self.old.positions x → Contains self.new.positions x }
+        ensures live { (x : ℕ) → is_live_at entries.now x ≡ true → Contains self.old.positions x
+            → Contains self.new.positions x }
         ensures owner { self.new.owner ≡ self.old.owner }
     {
         self.stale = self.stale.saturating_add(1);

@@ -206,12 +206,13 @@ impl Tree {
         Ok(())
     }
 
-    /// Keeps a posting, in the place of one that was emptied if there is one, and answers its number. More postings than
-    /// numbers of four bytes are more than memory holds.
+    /// Keeps a posting, in the place of one that was emptied if there is one, and answers its number. More postings
+    /// than numbers of four bytes are more than memory holds.
     fn keep(&mut self, posting: Posting) -> Result<u32, NoMemory>
         ensures leaves { self.new.leaves ≡ self.old.leaves }
         ensures here { IfOk result (λ number. posting_by self.new.postings number ≡ posting) }
-        ensures others { (q i : ℕ) → (q ≡ posting.owner → ⊥) → owned_at self.new.postings q i ≡ owned_at self.old.postings q i }
+        ensures others { (q i : ℕ) → (q ≡ posting.owner → ⊥)
+            → owned_at self.new.postings q i ≡ owned_at self.old.postings q i }
         ensures err { OnErr result (self.new.postings ≡ self.old.postings) }
     {
         if let Some(number) = self.vacant() {

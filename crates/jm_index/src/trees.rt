@@ -157,7 +157,8 @@ impl Trees {
         slots: &mut Vec<usize>,
     ) -> Result<(), NoMemory>
         ensures slots { OnOk result (slots.new.items
-            ≡ slots.old.items ++ filter_map (slot_at entries.now domain binding.now) (posting_at self.now domain path)) }
+            ≡ slots.old.items ++ filter_map (slot_at entries.now domain binding.now)
+            (posting_at self.now domain path)) }
         ensures rising { Rises 0 (posting_at self.now domain path) }
     {
         let Some(tree) = self.trees.get(domain as usize) else {

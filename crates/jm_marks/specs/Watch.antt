@@ -1,5 +1,5 @@
--- How the flags lie in memory by which a sweep passes marks over. An object's spot is one more than its number, and spot 0
--- is that of none.
+-- How the flags lie in memory by which a sweep passes marks over. An object's spot is one more than its number, and
+-- spot 0 is that of none.
 use Rattle.std.specs.Prelude.{◌≡◌, ℕ, ◌+◌, ◌-◌, ◌*◌, ◌/◌, ◌%◌, ◌<◌, ◌≤◌, List, Bool, false, Option, Some, None, length, ◌⊎◌, nat_lt, if◌then◌else◌, slice_index, slice_index_or}
 use Rattle.std.specs.Int.{bit_at}
 use Rattle.jm_marks.specs.Marks.{is_dead_object}
@@ -37,7 +37,8 @@ IsSetBy old new bit = (new ≡ old) ⊎ (new ≡ bit)
 pub record AreFlags (flags words : List ℕ) : Type 0 where
   pub room : 64 * length words ≤ length flags - 1
   pub first : IsQuiet flags 0 → ⊥
-  pub each : (o : ℕ) → IsQuiet flags (o + 1) → (o / 64 < length words) × (bit_at (slice_index words (o / 64)) (o % 64) ≡ 0)
+  pub each : (o : ℕ) → IsQuiet flags (o + 1) → (o / 64 < length words)
+      × (bit_at (slice_index words (o / 64)) (o % 64) ≡ 0)
 
 -- each spot has a flag, unless there are no flags and it is 0
 abbrev pub AreSpots : List ℕ → List ℕ → Type 0

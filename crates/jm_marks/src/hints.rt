@@ -1,5 +1,5 @@
-//! Where a mark may stand: for an object the place of a mark that binds it. A hint is looked at before it is believed, so
-//! it may be old, or that of another mark.
+//! Where a mark may stand: for an object the place of a mark that binds it. A hint is looked at before it is believed,
+//! so it may be old, or that of another mark.
 use jm_model::Binding;
 use std::alloc::Global;
 

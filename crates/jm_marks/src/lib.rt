@@ -77,7 +77,8 @@ fn dead_bit(objects: &Objects, binding: &Binding, p: u8) -> u8
 
 /// An object that is bound and alive, if there is one.
 fn live_object(objects: &Objects, binding: &Binding) -> Option<u32>
-    ensures { MatchOption result (has_live objects.now binding.now ≡ false) (λ o. (has_live objects.now binding.now ≡ true) × IsBound binding.now o) }
+    ensures { MatchOption result (has_live objects.now binding.now ≡ false)
+        (λ o. (has_live objects.now binding.now ≡ true) × IsBound binding.now o) }
 {
     let _mask = binding.mask();
     for p in 0..8 {
@@ -152,8 +153,8 @@ fn list_mask(masks: &mut Vec<u8>, mask: u8)
     }
 }
 
-/// Drops the bindings that bind no live object, the last ones first. The last binding takes the place of one that goes, so
-/// that no other is filed anew.
+/// Drops the bindings that bind no live object, the last ones first. The last binding takes the place of one that goes,
+/// so that no other is filed anew.
 fn drop_dead(
     bindings: &mut IndexSet<Binding>,
     watch: &mut Watch,
@@ -227,7 +228,8 @@ fn is_same(one: &Binding, other: &Binding) -> bool
 fn live_object_at(bindings: &IndexSet<Binding>, objects: &Objects, place: usize) -> Option<u32>
     requires { place < length bindings.now.keys }
     ensures { MatchOption result (slice_get (map (has_live objects.now) bindings.now.keys) place ≡ Some false)
-        (λ o. (slice_get (map (has_live objects.now) bindings.now.keys) place ≡ Some true) × IsBound (slice_index_or bindings.now.keys place []) o) }
+        (λ o. (slice_get (map (has_live objects.now) bindings.now.keys) place ≡ Some true)
+        × IsBound (slice_index_or bindings.now.keys place []) o) }
 {
     live_object(objects, &bindings.as_slice()[place])
 }
@@ -253,7 +255,11 @@ impl Model for Marks {
     ghost use Rattle.indexmap.specs.IndexSet.{spare};
     ghost use Rattle.jm_marks.specs.Layout.{AreMarks, AreWatched};
 
-    ghost view = { λ m. record { list = m.bindings.keys; spare = min (spare m.bindings) (min (vec_capacity m.masks - vec_len m.masks) m.watch.spare) } };
+    ghost view = { λ m. record {
+      list = m.bindings.keys;
+      spare = min (spare m.bindings)
+          (min (vec_capacity m.masks - vec_len m.masks) m.watch.spare);
+    } };
 
     ghost invariant = { λ m. AreMarks m.bindings.keys m.masks.items m.limit × AreWatched m.bindings.keys m.watch.spots };
 }
@@ -272,8 +278,8 @@ impl Marks {
         }
     }
 
-    /// Makes room for one `add`: a place for a binding and its object, and one for a set of parameters. Where there is room
-    /// already it costs nothing; where there is none, the places are made for many.
+    /// Makes room for one `add`: a place for a binding and its object, and one for a set of parameters. Where there is
+    /// room already it costs nothing; where there is none, the places are made for many.
     pub fn reserve(&mut self) -> Result<(), NoMemory>
         ensures list { self.new.list ≡ self.old.list }
         ensures room { OnOk result (1 ≤ self.new.spare) }
@@ -305,8 +311,8 @@ impl Marks {
         }
     }
 
-    /// Whether a binding is a mark. It is looked up where the hint doesn't lead to it and no object of it is beyond those of
-    /// all marks.
+    /// Whether a binding is a mark. It is looked up where the hint doesn't lead to it and no object of it is beyond
+    /// those of all marks.
     pub fn contains(&self, binding: &Binding) -> bool
         ensures { IsTrue result ↔ Contains self.now.list binding.now }
     {

@@ -42,7 +42,8 @@ impl Model for Watch {
 
     ghost view = { λ w. record { spots = w.spots.items; flags = w.flags.items; room = w.room; spare = vec_capacity w.spots - vec_len w.spots } };
 
-    ghost invariant = { λ w. AreFlags w.flags.items w.words.items × AreSpots w.spots.items w.flags.items × w.room ≤ length w.flags.items - 1 };
+    ghost invariant = { λ w. AreFlags w.flags.items w.words.items × AreSpots w.spots.items w.flags.items
+        × w.room ≤ length w.flags.items - 1 };
 }
 
 impl Watch {
@@ -68,8 +69,8 @@ impl Watch {
         Ok(())
     }
 
-    /// Makes room for the flags of the objects below a limit and of some more, if there is memory. Rooms are made for many
-    /// at once.
+    /// Makes room for the flags of the objects below a limit and of some more, if there is memory. Rooms are made for
+    /// many at once.
     fn cover(&mut self, limit: u64)
         ensures spots { self.new.spots ≡ self.old.spots }
         ensures spare { self.new.spare ≡ self.old.spare }
@@ -145,7 +146,8 @@ impl Watch {
     /// Whether all marks of a group from a place on have spots, of objects that were alive at the last refresh.
     pub(crate) fn are_quiet(&self, place: usize) -> bool
         requires { place + 16 ≤ length self.now.spots }
-        ensures { IsTrue result → (k : ℕ) → place ≤ k → k < place + 16 → IsQuiet self.now.flags (slice_index self.now.spots k) }
+        ensures { IsTrue result → (k : ℕ) → place ≤ k → k < place + 16
+            → IsQuiet self.now.flags (slice_index self.now.spots k) }
     {
         if self.flags.is_empty() {
             return false;
@@ -168,7 +170,8 @@ fn spot(object: Option<u32>, room: u32) -> u32
     }
 }
 
-/// Makes the flags those of so many words at least, if there is memory, and answers whether they are: the new ones are 1.
+/// Makes the flags those of so many words at least, if there is memory, and answers whether they are: the new ones are
+/// 1.
 fn extend(flags: &mut Vec<u8>, words: &mut Vec<u64>, count: usize) -> bool
     requires few { count < 1000000000 }
     requires flags { AreFlags flags.old.items words.old.items }
@@ -218,7 +221,8 @@ fn word_of(objects: &Objects, index: usize) -> u64
 fn set_flags(flags: &mut Vec<u8>, first: usize, word: u64, changed: u64)
     requires { first + 64 ≤ length flags.old.items }
     ensures size { length flags.new.items ≡ length flags.old.items }
-    ensures bits { (k : ℕ) → k < 64 → IsSetBy (slice_index flags.old.items (first + k)) (slice_index flags.new.items (first + k)) (bit_at word k) }
+    ensures bits { (k : ℕ) → k < 64
+        → IsSetBy (slice_index flags.old.items (first + k)) (slice_index flags.new.items (first + k)) (bit_at word k) }
     ensures all { (k : ℕ) → k < 64 → bit_at changed k ≡ 1 → slice_index flags.new.items (first + k) ≡ bit_at word k }
     ensures before { (k : ℕ) → k < first → slice_index flags.new.items k ≡ slice_index flags.old.items k }
     ensures behind { (k : ℕ) → first + 64 ≤ k → slice_index flags.new.items k ≡ slice_index flags.old.items k }

@@ -31,7 +31,8 @@ pub record IsStored (mask : ℕ) (os : List ℕ) : Type 0 where
   pub unbound : stored_of (options_of mask os) ≡ os
 
 -- what holds in both cases of the test of a mask's lowest bit holds of the test
-pub by_lowest_bit : (mask : ℕ) (P : Bool → Type 0) → (mask % 2 ≡ 1 → P true) → (mask % 2 ≡ 0 → P false) → P (mask % 2 == 1)
+pub by_lowest_bit : (mask : ℕ) (P : Bool → Type 0) → (mask % 2 ≡ 1 → P true) → (mask % 2 ≡ 0 → P false)
+    → P (mask % 2 == 1)
 by_lowest_bit mask P one zero = go (mask % 2 == 1) refl
   where
     go : (b : Bool) → (mask % 2 == 1) ≡ b → P (mask % 2 == 1)
@@ -45,7 +46,8 @@ mask_bits-options_of mask (o ∷ os) h =
     let wide : mask < 2 ^ length os * 2 = rw (← pow-suc 2 (length os)) h in
     let rest : mask / 2 < 2 ^ length os = omega arith in
     let ih = mask_bits-options_of (mask / 2) os rest in
-    by_lowest_bit mask (λ v. mask_bits (cond v (Some o) None ∷ options_of (mask / 2) os) ≡ mask) (λ one. omega arith) (λ zero. omega arith)
+    by_lowest_bit mask (λ v. mask_bits (cond v (Some o) None ∷ options_of (mask / 2) os) ≡ mask) (λ one. omega arith)
+    (λ zero. omega arith)
 
 -- the mask of a stored binding
 pub mask_bits-stored : (mask : ℕ) (os : List ℕ) → IsStored mask os → mask_bits (options_of mask os) ≡ mask

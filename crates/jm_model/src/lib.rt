@@ -1,8 +1,9 @@
 //! What the compiler and the runtime speak of together.
 //!
-//! `Binding` gives objects to parameters; `Step`, `Outcome` and `Entry` are what a history consists of; `Monitor` is the
-//! one trait in which the two sides meet, with the meaning that a specification has; `Steps` counts what an event reads;
-//! and the faults are what can be wrong with a specification or a script. The definitions that the contracts cite stand in `specs`.
+//! `Binding` gives objects to parameters; `Step`, `Outcome` and `Entry` are what a history consists of; `Monitor` is
+//! the one trait in which the two sides meet, with the meaning that a specification has; `Steps` counts what an event
+//! reads; and the faults are what can be wrong with a specification or a script. The definitions that the contracts
+//! cite stand in `specs`.
 #![tactic(auto)]
 
 mod binding;

@@ -9,8 +9,8 @@ use crate::step::{Letter, NoMemory};
 /// what is said of a state and its word holds of each. What the specification means is told apart from any state:
 /// `meaning` reads it off plain data, `definition`, so that a value that keeps this data keeps the meaning.
 ///
-/// A state that no call of the monitor answered, one made up or another monitor's, may be passed to it too. Where it stands for no
-/// word, nothing is said of what is answered.
+/// A state that no call of the monitor answered, one made up or another monitor's, may be passed to it too. Where it
+/// stands for no word, nothing is said of what is answered.
 pub trait Monitor: Drop {
     type State: Drop;
 
@@ -51,8 +51,8 @@ pub trait Monitor: Drop {
         ensures { IfOk result (λ s.
             (w : List ℕ) → StandsFor self.now state.now w → StandsFor self.now s (w ++ letter.0 ∷ [])) };
 
-    /// The handlers that the word hits: bit k is set exactly where the category of handler k holds of it. None is hit by
-    /// the empty word.
+    /// The handlers that the word hits: bit k is set exactly where the category of handler k holds of it. None is hit
+    /// by the empty word.
     fn hits(&self, state: &Self::State) -> u16
         ensures { (w : List ℕ) → StandsFor self.now state.now w →
             (k : ℕ) → (IsBitSet result k ↔ IsHit (meaning (definition self.now)) w k) };
@@ -63,8 +63,8 @@ pub trait Monitor: Drop {
         ensures { (w : List ℕ) → StandsFor self.now state.now w →
             IsTrue result ↔ IsCutWord (meaning (definition self.now)) w dead };
 
-    /// The letters at which an instance rests: bit e is set only where the state also stands for its words with letter e
-    /// at their end, and these hit no handler. Such an event needn't look at the instance.
+    /// The letters at which an instance rests: bit e is set only where the state also stands for its words with letter
+    /// e at their end, and these hit no handler. Such an event needn't look at the instance.
     fn idle(&self, state: &Self::State) -> u32
         ensures stays { (w : List ℕ) → StandsFor self.now state.now w → (e : ℕ) → IsBitSet result e →
             StandsFor self.now state.now (w ++ e ∷ []) }
@@ -75,8 +75,8 @@ pub trait Monitor: Drop {
         0
     }
 
-    /// The letters that end an instance: bit e is set only where the words with letter e at their end hit no handler, and
-    /// an instance of theirs is cut even while nothing of it is dead. Such an event needn't make an instance.
+    /// The letters that end an instance: bit e is set only where the words with letter e at their end hit no handler,
+    /// and an instance of theirs is cut even while nothing of it is dead. Such an event needn't make an instance.
     fn ending(&self, state: &Self::State) -> u32
         ensures quiet { (w : List ℕ) → StandsFor self.now state.now w → (e k : ℕ) → IsBitSet result e →
             IsHit (meaning (definition self.now)) (w ++ e ∷ []) k → ⊥ }

@@ -18,7 +18,8 @@ use Rattle.jm_monitors.specs.Deaths.{AreFlagsOf}
 
 -- the monitors at the start are a store of the empty trace
 abbrev pub StartIsStore : Meaning → {S : Type 0} → (S → List ℕ → Type 0) → Type 0
-StartIsStore m {S} Stands = (dead : List Bool) (stored : List (Stored S)) → IsAtStart m Stands stored → IsStoreOf m Stands [] dead stored []
+StartIsStore m {S} Stands = (dead : List Bool) (stored : List (Stored S)) → IsAtStart m Stands stored
+    → IsStoreOf m Stands [] dead stored []
 
 -- The join of an instance and a seen binding is an instance. So an event whose binding is a mark makes no new one.
 abbrev pub JoinsOfSeenStand : Type 0
@@ -29,31 +30,40 @@ JoinsOfSeenStand =
 -- two stored monitors that an event makes into one instance are of one instance
 abbrev pub BaseIsOne : Meaning → {S : Type 0} → (S → List ℕ → Type 0) → Type 0
 BaseIsOne m {S} Stands =
-    (trace : List ParametricEvent) (dead : List Bool) (stored : List (Stored S)) (marks : List Binding) (letter : ℕ) (b : Binding) (r s : Stored S)
-    → IsStoreOf m Stands trace dead stored marks → IsLiveEvent m dead letter b → Contains stored r → Contains stored s → IsBase b marks r → IsBase b marks s
+    (trace : List ParametricEvent) (dead : List Bool) (stored : List (Stored S)) (marks : List Binding) (letter : ℕ)
+    (b : Binding) (r s : Stored S)
+    → IsStoreOf m Stands trace dead stored marks → IsLiveEvent m dead letter b → Contains stored r → Contains stored s
+    → IsBase b marks r → IsBase b marks s
     → join r.instance b ≡ join s.instance b → r.instance ≡ s.instance
 
 -- what an event makes of a monitor that its binding isn't below is a new instance
 abbrev pub MadeIsNew : Meaning → {S : Type 0} → (S → List ℕ → Type 0) → Type 0
 MadeIsNew m {S} Stands =
-    (trace : List ParametricEvent) (dead : List Bool) (stored : List (Stored S)) (marks : List Binding) (letter : ℕ) (b : Binding) (s : Stored S)
-    → IsStoreOf m Stands trace dead stored marks → IsLiveEvent m dead letter b → Contains stored s → IsBase b marks s → is_below b s.instance ≡ false
+    (trace : List ParametricEvent) (dead : List Bool) (stored : List (Stored S)) (marks : List Binding) (letter : ℕ)
+    (b : Binding) (s : Stored S)
+    → IsStoreOf m Stands trace dead stored marks → IsLiveEvent m dead letter b → Contains stored s → IsBase b marks s
+    → is_below b s.instance ≡ false
     → HasInstance stored (join s.instance b) → ⊥
 
 -- the report of the reached monitors is the answer to the event
 abbrev pub ReportIsAnswer : Meaning → {S : Type 0} → (S → List ℕ → Type 0) → Type 0
 ReportIsAnswer m {S} Stands =
-    (trace : List ParametricEvent) (dead : List Bool) (stored reached : List (Stored S)) (marks : List Binding) (letter : ℕ) (b : Binding) (firings : List Firing)
-    → IsStoreOf m Stands trace dead stored marks → IsLiveEvent m dead letter b → AreReached m Stands letter b dead stored marks reached → IsReport m Stands reached firings
+    (trace : List ParametricEvent) (dead : List Bool) (stored reached : List (Stored S)) (marks : List Binding)
+    (letter : ℕ) (b : Binding) (firings : List Firing)
+    → IsStoreOf m Stands trace dead stored marks → IsLiveEvent m dead letter b
+    → AreReached m Stands letter b dead stored marks reached → IsReport m Stands reached firings
     → IsAnswer m trace (record { letter = letter; binding = b }) firings
 
 -- an event keeps a store, and leaves none above its binding that is cut
 abbrev pub EventKeepsStore : Meaning → {S : Type 0} → (S → List ℕ → Type 0) → Type 0
 EventKeepsStore m {S} Stands =
-    (trace : List ParametricEvent) (dead : List Bool) (stored reached after : List (Stored S)) (marks marked : List Binding) (letter : ℕ) (b : Binding)
-    → IsStoreOf m Stands trace dead stored marks → IsLiveEvent m dead letter b → AreReached m Stands letter b dead stored marks reached
+    (trace : List ParametricEvent) (dead : List Bool) (stored reached after : List (Stored S))
+    (marks marked : List Binding) (letter : ℕ) (b : Binding)
+    → IsStoreOf m Stands trace dead stored marks → IsLiveEvent m dead letter b
+    → AreReached m Stands letter b dead stored marks reached
     → IsAfterEvent m Stands b dead stored reached after → AreMarksAfter b marks marked
-    → IsStoreOf m Stands (trace ++ record { letter = letter; binding = b } ∷ []) dead after marked × NoneCutAbove m Stands b dead after
+    → IsStoreOf m Stands (trace ++ record { letter = letter; binding = b } ∷ []) dead after marked
+    × NoneCutAbove m Stands b dead after
 
 -- a death keeps a store
 abbrev pub DeathKeepsStore : Meaning → {S : Type 0} → (S → List ℕ → Type 0) → Type 0
@@ -68,7 +78,8 @@ PassKeepsStore m {S} Stands =
     (trace : List ParametricEvent) (dead : List Bool) (stored after : List (Stored S)) (marks left : List Binding)
     → IsStoreOf m Stands trace dead stored marks → IsAfterPass m Stands dead stored after marks left
     → IsStoreOf m Stands trace dead after left
-    × ((t : Binding) → HasInstance after t ↔ (IsInstance trace t × (IsCutWord m (slice_of trace t) (dead_mask_of dead t) → ⊥)))
+    × ((t : Binding) → HasInstance after t ↔ (IsInstance trace t
+    × (IsCutWord m (slice_of trace t) (dead_mask_of dead t) → ⊥)))
     × ((b : Binding) → Contains left b ↔ (Contains (seen_of trace) b × (has_live dead b ≡ true)))
 
 -- a word that is cut only with more dead objects of t has one of these
@@ -80,7 +91,8 @@ CutByOwnDeath m =
 
 -- flags of a history's dead objects tell the dead parameters of each binding
 abbrev pub FlagsTellParameters : Type 0
-FlagsTellParameters = (h : List Entry) (dead : List Bool) (t : Binding) → AreFlagsOf h dead → dead_mask h t ≡ dead_mask_of dead t
+FlagsTellParameters =
+    (h : List Entry) (dead : List Bool) (t : Binding) → AreFlagsOf h dead → dead_mask h t ≡ dead_mask_of dead t
 
 -- and whether it binds a dead object
 abbrev pub FlagsTellLive : Type 0
@@ -96,7 +108,8 @@ FlagsAtStart = (n : ℕ) → AreFlagsOf [] (replicate n false)
 abbrev pub FlagsAfterDeath : Type 0
 FlagsAfterDeath =
     (h : List Entry) (dead : List Bool) (x : Entry) (o : ℕ)
-    → AreFlagsOf h dead → accepted_death x.step x.outcome ≡ Some o → o < length dead → AreFlagsOf (h ++ x ∷ []) (after_death dead o)
+    → AreFlagsOf h dead → accepted_death x.step x.outcome ≡ Some o → o < length dead
+    → AreFlagsOf (h ++ x ∷ []) (after_death dead o)
 
 -- any other entry sets none
 abbrev pub FlagsAfterOther : Type 0
@@ -108,4 +121,5 @@ FlagsAfterOther =
 abbrev pub PassCountsStored : Meaning → {S : Type 0} → (S → List ℕ → Type 0) → Type 0
 PassCountsStored m {S} Stands =
     (h : List Entry) (dead : List Bool) (stored after : List (Stored S)) (marks left : List Binding)
-    → AreFlagsOf h dead → IsStoreOf m Stands (trace_of h) dead stored marks → IsAfterPass m Stands dead stored after marks left → IsKeptCount m h (length after)
+    → AreFlagsOf h dead → IsStoreOf m Stands (trace_of h) dead stored marks
+    → IsAfterPass m Stands dead stored after marks left → IsKeptCount m h (length after)

@@ -18,9 +18,12 @@ IsMonitorOf Stands trace s = IsInstance trace s.instance × Stands s.state (slic
 
 -- Stored are distinct instances, with states that stand for their slices, and each instance that isn't stored is cut.
 -- Each mark was seen, and each seen binding with a live object is a mark. Objects are dead by the flags.
-pub record IsStoreOf (m : Meaning) {S : Type 0} (Stands : S → List ℕ → Type 0) (trace : List ParametricEvent) (dead : List Bool) (stored : List (Stored S)) (marks : List Binding) : Type 0 where
+pub record IsStoreOf (m : Meaning) {S : Type 0} (Stands : S → List ℕ
+    → Type 0) (trace : List ParametricEvent) (dead : List Bool) (stored : List (Stored S))
+    (marks : List Binding) : Type 0 where
   pub distinct : AllPairs (λ r s. r.instance ≢ s.instance) stored
   pub each : (s : Stored S) → Contains stored s → IsMonitorOf Stands trace s
-  pub cut : (t : Binding) → IsInstance trace t → (HasInstance stored t → ⊥) → IsCutWord m (slice_of trace t) (dead_mask_of dead t)
+  pub cut : (t : Binding) → IsInstance trace t → (HasInstance stored t → ⊥)
+      → IsCutWord m (slice_of trace t) (dead_mask_of dead t)
   pub seen : (b : Binding) → Contains marks b → Contains (seen_of trace) b
   pub marked : (b : Binding) → Contains (seen_of trace) b → has_live dead b ≡ true → Contains marks b

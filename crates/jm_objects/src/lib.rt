@@ -52,7 +52,8 @@ impl Objects {
     /// The flags of 64 objects: bit k is that of object 64 * index + k, where there is such an object.
     pub fn word(&self, index: u32) -> u64
         requires { 64 * index < length self.now }
-        ensures { (k : ℕ) → k < length self.now → k / 64 ≡ index → slice_get self.now k ≡ Some (bit_at result (k % 64) == 1) }
+        ensures { (k : ℕ) → k < length self.now → k / 64 ≡ index
+            → slice_get self.now k ≡ Some (bit_at result (k % 64) == 1) }
     {
         self.words[index as usize]
     }
@@ -60,7 +61,8 @@ impl Objects {
     /// The flags of all objects, 64 in a word: bit k % 64 of word k / 64 is that of object k.
     pub fn words(&self) -> &[u64]
         ensures room { length self.now ≤ 64 * length result.now }
-        ensures flags { (k : ℕ) → k < length self.now → slice_get self.now k ≡ Some (bit_at (slice_index result.now (k / 64)) (k % 64) == 1) }
+        ensures flags { (k : ℕ) → k < length self.now
+            → slice_get self.now k ≡ Some (bit_at (slice_index result.now (k / 64)) (k % 64) == 1) }
     {
         self.words.as_slice()
     }

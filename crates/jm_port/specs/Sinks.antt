@@ -23,4 +23,9 @@ pub record MemoryText : Type 0 where
 
 -- the text after one more put, which failed or not, and wrote a piece
 abbrev pub after_put : MemoryText → Bool → List ℕ → MemoryText
-after_put t failed piece = record t { text = t.text ++ piece; calls = next_count t.calls; faults = if failed then next_count t.faults else t.faults }
+after_put t failed piece = record t {
+  text = t.text ++ piece;
+  calls = next_count t.calls;
+  faults = if failed
+      then next_count t.faults else t.faults;
+}

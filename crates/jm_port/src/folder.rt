@@ -41,7 +41,8 @@ pub trait Folder {
     fn load(&mut self, name: &str, limit: usize) -> Result<Vec<u8>, LoadFault>
         ensures within { IfOk result (λ bytes. length bytes.items ≤ limit) }
         ensures whole { IfOk result (λ bytes. IfSome (holds self.old name.now) (λ held. bytes.items ≡ held)) }
-        ensures too_long { result ≡ Err LoadFault.TooLong → IfSome (holds self.old name.now) (λ held. limit < length held) }
+        ensures too_long { result ≡ Err LoadFault.TooLong
+            → IfSome (holds self.old name.now) (λ held. limit < length held) }
         ensures failed { result ≡ Err LoadFault.Failed → HasRisen (faults self.old) (faults self.new) }
         ensures never_falls { faults self.old ≤ faults self.new }
         ensures same { (other : List ℕ) → holds self.new other ≡ holds self.old other };

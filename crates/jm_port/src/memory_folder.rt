@@ -76,7 +76,8 @@ impl MemoryFolder {
     /// A folder of these files, whose loads fail where their numbers, counted from 0, stand in `fail`. Of two files
     /// of one name the first counts. A load of a name that isn't there fails, too.
     pub fn new(files: Vec<(String, Vec<u8>)>, fail: Vec<u64>) -> MemoryFolder
-        ensures files { result.files ≡ map (λ file. record { name = string_bytes file.0; bytes = file.1.items }) files.items }
+        ensures files { result.files ≡ map
+            (λ file. record { name = string_bytes file.0; bytes = file.1.items }) files.items }
         ensures fail { result.fail ≡ fail.items }
         ensures calls { result.calls ≡ 0 }
         ensures faults { result.faults ≡ 0 }
@@ -98,7 +99,8 @@ impl Folder for MemoryFolder {
     fn load(&mut self, name: &str, limit: usize) -> Result<Vec<u8>, LoadFault>
         ensures within { IfOk result (λ bytes. length bytes.items ≤ limit) }
         ensures whole { IfOk result (λ bytes. IfSome (held_by self.old.files name.now) (λ held. bytes.items ≡ held)) }
-        ensures too_long { result ≡ Err LoadFault.TooLong → IfSome (held_by self.old.files name.now) (λ held. limit < length held) }
+        ensures too_long { result ≡ Err LoadFault.TooLong
+            → IfSome (held_by self.old.files name.now) (λ held. limit < length held) }
         ensures failed { result ≡ Err LoadFault.Failed → HasRisen self.old.faults self.new.faults }
         ensures never_falls { self.old.faults ≤ self.new.faults }
         ensures same { (other : List ℕ) → held_by self.new.files other ≡ held_by self.old.files other }

@@ -16,7 +16,9 @@ abbrev pub FitAll : {D : Type 0} → (D → Meaning) → List (LockModel (Fixed 
 FitAll meaning watches scripts = All (λ script. All (λ line. FitsWatches meaning watches line) script) scripts
 
 -- These are the seats of a caller, who has a script that fits the watches, and has done nothing of it.
-pub record CanWork {D : Type 0} (meaning : D → Meaning) (watches : List (LockModel (Fixed D))) (scripts : List (List ScriptLine)) (seats : List (SeatModel Entry (Fixed D))) : Type 0 where
+pub record CanWork {D : Type 0} (meaning : D
+    → Meaning) (watches : List (LockModel (Fixed D))) (scripts : List (List ScriptLine))
+    (seats : List (SeatModel Entry (Fixed D))) : Type 0 where
   pub some : 1 ≤ length watches
   pub few : length watches ≤ 16
   pub fits : FitAll meaning watches scripts
@@ -25,8 +27,10 @@ pub record CanWork {D : Type 0} (meaning : D → Meaning) (watches : List (LockM
   pub idle : HaveDone caller [] watches seats
 
 -- the caller whose seats these are has done its script
-abbrev pub HasWorked : {F : Type 0} → List (LockModel F) → List (List ScriptLine) → List (SeatModel Entry F) → List (SeatModel Entry F) → Type 0
-HasWorked watches scripts before after = (k : ℕ) (script : List ScriptLine) → HaveDone k [] watches before → slice_get scripts k ≡ Some script → HaveDone k script watches after
+abbrev pub HasWorked : {F : Type 0} → List (LockModel F) → List (List ScriptLine) → List (SeatModel Entry F)
+    → List (SeatModel Entry F) → Type 0
+HasWorked watches scripts before after = (k : ℕ) (script : List ScriptLine) → HaveDone k [] watches before
+    → slice_get scripts k ≡ Some script → HaveDone k script watches after
 
 -- as many seats of the watch as it has
 pub record AreSeatsOfOne {F : Type 0} (watch : LockModel F) (seats : List (SeatModel Entry F)) : Type 0 where
@@ -34,7 +38,8 @@ pub record AreSeatsOfOne {F : Type 0} (watch : LockModel F) (seats : List (SeatM
   pub each : All (λ s. IsSeatOf watch s) seats
 
 -- the core of a watch that was closed with these seats
-pub record IsClosed {D : Type 0} (m : Meaning) (watch : LockModel (Fixed D)) (seats : List (SeatModel Entry (Fixed D))) (prop : Core D) : Type 0 where
+pub record IsClosed {D : Type 0} (m : Meaning) (watch : LockModel (Fixed D)) (seats : List (SeatModel Entry (Fixed D)))
+    (prop : Core D) : Type 0 where
   pub definition : prop.definition ≡ watch.fixed.definition
   pub objects : prop.objects ≡ watch.fixed.objects
   pub legal : IsLegal m prop.entries

@@ -27,4 +27,5 @@ pub record IsInRow {A : Type 0} (rows : List (List A)) (s k : ℕ) (x : A) : Typ
 -- the columns of these rows: each has one element of each row
 pub record AreColumns {A : Type 0} (rows columns : List (List A)) : Type 0 where
   pub long : All (λ c. length c ≡ length rows) columns
-  pub same : (k s : ℕ) (column : List A) (x : A) → slice_get columns k ≡ Some column → slice_get column s ≡ Some x → IsInRow rows s k x
+  pub same : (k s : ℕ) (column : List A) (x : A) → slice_get columns k ≡ Some column → slice_get column s ≡ Some x
+      → IsInRow rows s k x

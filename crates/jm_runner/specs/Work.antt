@@ -23,36 +23,45 @@ module _ {F : Type 0} where
 
   -- the seat has done one step more
   abbrev pub DoesStep : LockModel F → ℕ → Step → SeatModel Entry F → SeatModel Entry F → Type 0
-  DoesStep watch line step before after = (k : ℕ) (steps : List (ℕ × Step)) → HasDone k steps watch before → HasDone k (steps ++ (line, step) ∷ []) watch after
+  DoesStep watch line step before after = (k : ℕ) (steps : List (ℕ × Step)) → HasDone k steps watch before
+      → HasDone k (steps ++ (line, step) ∷ []) watch after
 
   -- the seat has done what one line more has for specification s
   abbrev pub DoesLine : LockModel F → ℕ → ScriptLine → SeatModel Entry F → SeatModel Entry F → Type 0
   DoesLine watch s line before after = (k : ℕ) (script : List ScriptLine)
-      → HasDone k (projection_of (script_of script) s) watch before → HasDone k (projection_of (script_of (script ++ line ∷ [])) s) watch after
+      → HasDone k (projection_of (script_of script) s) watch before
+      → HasDone k (projection_of (script_of (script ++ line ∷ [])) s) watch after
 
   -- Caller k has one seat of each watch, in order, and has done this script on them.
-  pub record HaveDone (k : ℕ) (script : List ScriptLine) (watches : List (LockModel F)) (seats : List (SeatModel Entry F)) : Type 0 where
+  pub record HaveDone (k : ℕ) (script : List ScriptLine) (watches : List (LockModel F))
+      (seats : List (SeatModel Entry F)) : Type 0 where
     pub count : length seats ≡ length watches
-    pub each : (s : ℕ) (watch : LockModel F) (seat : SeatModel Entry F) → slice_get watches s ≡ Some watch → slice_get seats s ≡ Some seat
+    pub each : (s : ℕ) (watch : LockModel F) (seat : SeatModel Entry F) → slice_get watches s ≡ Some watch
+        → slice_get seats s ≡ Some seat
         → HasDone k (projection_of (script_of script) s) watch seat
 
   -- one seat of each watch, in order
   pub record AreSeatsOf (watches : List (LockModel F)) (seats : List (SeatModel Entry F)) : Type 0 where
     pub count : length seats ≡ length watches
-    pub each : (s : ℕ) (watch : LockModel F) (seat : SeatModel Entry F) → slice_get watches s ≡ Some watch → slice_get seats s ≡ Some seat → IsSeatOf watch seat
+    pub each : (s : ℕ) (watch : LockModel F) (seat : SeatModel Entry F) → slice_get watches s ≡ Some watch
+        → slice_get seats s ≡ Some seat → IsSeatOf watch seat
 
   -- Each seat below place n has done what one line more has for its specification, and the others are as before.
-  pub record DoesLineBelow (n : ℕ) (watches : List (LockModel F)) (line : ScriptLine) (before after : List (SeatModel Entry F)) : Type 0 where
+  pub record DoesLineBelow (n : ℕ) (watches : List (LockModel F)) (line : ScriptLine)
+      (before after : List (SeatModel Entry F)) : Type 0 where
     pub count : length after ≡ length before
     pub below : (s : ℕ) (watch : LockModel F) (old new : SeatModel Entry F) → s < n
-        → slice_get watches s ≡ Some watch → slice_get before s ≡ Some old → slice_get after s ≡ Some new → DoesLine watch s line old new
+        → slice_get watches s ≡ Some watch → slice_get before s ≡ Some old → slice_get after s ≡ Some new
+        → DoesLine watch s line old new
     pub others : (s : ℕ) → n ≤ s → slice_get after s ≡ slice_get before s
 
 module _ {D : Type 0} (meaning : D → Meaning) where
   -- the line's step fits the watch, where it is for it
   abbrev pub FitsWatch : LockModel (Fixed D) → ℕ → ScriptLine → Type 0
-  FitsWatch watch s line = is_for s (spec_of line.target) ≡ true → IsFitStep (meaning watch.fixed.definition) watch.fixed.objects (step_of line.target)
+  FitsWatch watch s line = is_for s (spec_of line.target) ≡ true
+      → IsFitStep (meaning watch.fixed.definition) watch.fixed.objects (step_of line.target)
 
   -- the line fits the watches that it is for
   abbrev pub FitsWatches : List (LockModel (Fixed D)) → ScriptLine → Type 0
-  FitsWatches watches line = (s : ℕ) (watch : LockModel (Fixed D)) → slice_get watches s ≡ Some watch → FitsWatch watch s line
+  FitsWatches watches line =
+      (s : ℕ) (watch : LockModel (Fixed D)) → slice_get watches s ≡ Some watch → FitsWatch watch s line

@@ -15,9 +15,12 @@ pub(crate) fn close_all<M: Monitor>(
     mut seats: Vec<Vec<Seat<M>>>,
 ) -> Result<Vec<Prop<M>>, NoMemory>
     requires count { vec_len seats ≡ vec_len watches }
-    requires seats { (s : ℕ) (watch : _) (all : _) → slice_get watches.items s ≡ Some watch → slice_get seats.items s ≡ Some all → AreSeatsOfOne watch all.items }
+    requires seats { (s : ℕ) (watch : _) (all : _) → slice_get watches.items s ≡ Some watch
+        → slice_get seats.items s ≡ Some all → AreSeatsOfOne watch all.items }
     ensures count { IfOk result (λ props. vec_len props ≡ vec_len watches) }
-    ensures closed { IfOk result (λ props. (s : ℕ) (watch : _) (all : _) (prop : _) → slice_get watches.items s ≡ Some watch → slice_get seats.items s ≡ Some all → slice_get props.items s ≡ Some prop → IsClosed (M.meaning watch.fixed.definition) watch all.items prop) }
+    ensures closed { IfOk result (λ props. (s : ℕ) (watch : _) (all : _) (prop : _)
+        → slice_get watches.items s ≡ Some watch → slice_get seats.items s ≡ Some all
+        → slice_get props.items s ≡ Some prop → IsClosed (M.meaning watch.fixed.definition) watch all.items prop) }
 {
     let mut props = Vec::new(alloc);
     let mut s = 0;

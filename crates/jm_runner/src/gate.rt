@@ -1,5 +1,5 @@
-/// What is told of each line, by many workers at once. A gate may hold a worker up: nothing is promised of when it lets it
-/// go.
+/// What is told of each line, by many workers at once. A gate may hold a worker up: nothing is promised of when it lets
+/// it go.
 pub trait Gate: Sync {
     /// The caller is about to do the n-th step line of its script, from 1.
     fn before(&self, caller: u32, n: u32);

@@ -20,10 +20,10 @@ pub struct Running<M: Monitor> {
     pub seats: Vec<Seat<M>>,
 }
 
-/// Runs 1 to 16 scripts over 1 to 16 specifications, and gives the core of each specification. Script k is caller k: its
-/// lines are done in order by a worker, a death on every specification in order. Each worker has a thread of its own;
-/// where none can be had, some scripts are done one after another. Each line stands between `before` and `after` of the
-/// gate. The answer is NoMemory where a worker met want of memory, which stops it and no other.
+/// Runs 1 to 16 scripts over 1 to 16 specifications, and gives the core of each specification. Script k is caller k:
+/// its lines are done in order by a worker, a death on every specification in order. Each worker has a thread of its
+/// own; where none can be had, some scripts are done one after another. Each line stands between `before` and `after`
+/// of the gate. The answer is NoMemory where a worker met want of memory, which stops it and no other.
 ///
 /// The watches are fresh, each with all its seats, as many as there are scripts.
 pub fn run_scripts<M: Monitor + Send, G: Gate, R: Threads + Wait + Sync>(
@@ -37,9 +37,12 @@ where
     M::State: Send,
     requires watches { (1 ≤ vec_len watches) × (vec_len watches ≤ 16) }
     requires scripts { (1 ≤ length scripts.now) × (length scripts.now ≤ 16) }
-    requires ready { (s : ℕ) (r : _) → slice_get watches.items s ≡ Some r → CanRun (M.meaning r.watch.fixed.definition) scripts.now s r.watch r.seats.items }
+    requires ready { (s : ℕ) (r : _) → slice_get watches.items s ≡ Some r
+        → CanRun (M.meaning r.watch.fixed.definition) scripts.now s r.watch r.seats.items }
     ensures count { IfOk result (λ props. vec_len props ≡ vec_len watches) }
-    ensures runs { IfOk result (λ props. (s : ℕ) (r : _) (p : _) → slice_get watches.items s ≡ Some r → slice_get props.items s ≡ Some p → IsRunOf (M.meaning r.watch.fixed.definition) scripts.now s r.watch.fixed p) }
+    ensures runs { IfOk result (λ props. (s : ℕ) (r : _) (p : _) → slice_get watches.items s ≡ Some r
+        → slice_get props.items s ≡ Some p
+        → IsRunOf (M.meaning r.watch.fixed.definition) scripts.now s r.watch.fixed p) }
 {
     let (watches, seats) = part(alloc, watches)?;
     let hands = columns(alloc, seats, scripts.len())?;

@@ -13,7 +13,8 @@ pub(crate) fn columns<T: Drop>(
 ) -> Result<Vec<Vec<T>>, NoMemory>
     requires { All (λ v. length v.items ≡ width) rows.items }
     ensures count { IfOk result (λ columns. vec_len columns ≡ width) }
-    ensures columns { IfOk result (λ columns. AreColumns (map (λ v. v.items) rows.items) (map (λ v. v.items) columns.items)) }
+    ensures columns { IfOk result (λ columns. AreColumns (map (λ v. v.items) rows.items)
+        (map (λ v. v.items) columns.items)) }
 {
     let mut columns = empty_columns(alloc, width)?;
     for row in rows {
@@ -36,7 +37,8 @@ fn empty_columns<T: Drop>(alloc: Global, width: usize) -> Result<Vec<Vec<T>>, No
 /// Puts the elements of a row at the ends of the columns, in order.
 fn lengthen<T: Drop>(columns: &mut Vec<Vec<T>>, row: Vec<T>) -> Result<(), NoMemory>
     requires { vec_len row ≡ vec_len columns.old }
-    ensures { OnOk result (AreLengthened row.items (map (λ v. v.items) columns.old.items) (map (λ v. v.items) columns.new.items)) }
+    ensures { OnOk result (AreLengthened row.items (map (λ v. v.items) columns.old.items)
+        (map (λ v. v.items) columns.new.items)) }
 {
     let mut k = 0;
     for x in row {
@@ -50,7 +52,8 @@ fn lengthen<T: Drop>(columns: &mut Vec<Vec<T>>, row: Vec<T>) -> Result<(), NoMem
 fn put<T: Drop>(columns: &mut Vec<Vec<T>>, k: usize, x: T) -> Result<(), NoMemory>
     requires { k < vec_len columns.old }
     ensures count { OnOk result (vec_len columns.new ≡ vec_len columns.old) }
-    ensures pushed { OnOk result (IsPushedAt k x (map (λ v. v.items) columns.old.items) (map (λ v. v.items) columns.new.items)) }
+    ensures pushed { OnOk result (IsPushedAt k x (map (λ v. v.items) columns.old.items)
+        (map (λ v. v.items) columns.new.items)) }
 {
     columns[k].push(x)?;
     Ok(())

@@ -28,7 +28,8 @@ where
     M::State: Send,
     requires { All (λ v. CanWork M.meaning watches.now scripts.now v.items) hands.items }
     ensures count { IfOk result (λ back. vec_len back ≡ vec_len hands) }
-    ensures worked { IfOk result (λ back. (k : ℕ) (before : _) (after : _) → slice_get hands.items k ≡ Some before → slice_get back.items k ≡ Some after → HasWorked watches.now scripts.now before.items after.items) }
+    ensures worked { IfOk result (λ back. (k : ℕ) (before : _) (after : _) → slice_get hands.items k ≡ Some before
+        → slice_get back.items k ≡ Some after → HasWorked watches.now scripts.now before.items after.items) }
 {
     // The workers share the watches. Two steps show that they may, since the search for all of it ends at its limit.
     may_be_shared::<Lock<Watched<M>>>();

@@ -21,6 +21,7 @@ pub record Fires (m : Meaning) (trace : List ParametricEvent) (a : ParametricEve
   pub hit : IsHit m (slice_of trace f.instance) f.handler
 
 -- the answer to the event a after the trace: the strictly increasing list of exactly the pairs that fire
-pub record IsAnswer (m : Meaning) (trace : List ParametricEvent) (a : ParametricEvent) (firings : List Firing) : Type 0 where
+pub record IsAnswer (m : Meaning) (trace : List ParametricEvent) (a : ParametricEvent)
+    (firings : List Firing) : Type 0 where
   pub increasing : IsStrictlySortedBy firing_cmp firings
   pub exact : (f : Firing) → (Contains firings f ↔ Fires m (trace ++ a ∷ []) a f)

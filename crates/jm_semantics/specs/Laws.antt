@@ -15,12 +15,14 @@ use Rattle.jm_semantics.specs.Legality.{IsLegal, IsReply, Names}
 
 -- instances are joins: a binding is an instance exactly where it is the join of the seen bindings below it
 abbrev pub InstancesAreJoins : Type 0
-InstancesAreJoins = (trace : List ParametricEvent) (t : Binding) → (IsInstance trace t ↔ ((length t ≡ 8) × (t ≡ join_below trace t)))
+InstancesAreJoins =
+    (trace : List ParametricEvent) (t : Binding) → (IsInstance trace t ↔ ((length t ≡ 8) × (t ≡ join_below trace t)))
 
 -- t is an instance of the trace, or the join of one with the binding of the event
 abbrev pub IsGrownInstance : List ParametricEvent → ParametricEvent → Binding → Type 0
 IsGrownInstance trace a t =
-    IsInstance trace t ⊎ ((s : Binding) × IsInstance trace s × (is_compatible s a.binding ≡ true) × (t ≡ join s a.binding))
+    IsInstance trace t ⊎ ((s : Binding) × IsInstance trace s × (is_compatible s a.binding ≡ true)
+    × (t ≡ join s a.binding))
 
 -- an event adds to the instances exactly their joins with its binding
 abbrev pub InstancesGrowByJoins : Type 0
@@ -47,7 +49,8 @@ AnswerIsDetermined m = (trace : List ParametricEvent) (a : ParametricEvent) (fir
 
 -- a history has one number of kept instances
 abbrev pub KeptCountIsDetermined : Meaning → Type 0
-KeptCountIsDetermined m = (h : List Entry) (count other : ℕ) → IsKeptCount m h count → IsKeptCount m h other → count ≡ other
+KeptCountIsDetermined m =
+    (h : List Entry) (count other : ℕ) → IsKeptCount m h count → IsKeptCount m h other → count ≡ other
 
 -- Cut is final: an instance that is cut stays so after each prefix of whatever follows, and no outcome names it.
 abbrev pub CutIsFinal : Meaning → Type 0

@@ -15,7 +15,8 @@ use Rattle.jm_semantics.specs.Disposal.{IsKeptCount}
 -- After the history h the step may be answered so. An event that names no dead object may also meet want
 -- of memory, and then leaves no trace.
 abbrev pub IsReply : Meaning → List Entry → Step → Outcome → Type 0
-IsReply m h (Event e b) (Fired firings) = (first_dead h b ≡ None) × IsAnswer m (trace_of h) (record { letter = e.0; binding = b }) firings
+IsReply m h (Event e b) (Fired firings) =
+    (first_dead h b ≡ None) × IsAnswer m (trace_of h) (record { letter = e.0; binding = b }) firings
 IsReply m h (Event e b) (Refused o) = first_dead h b ≡ Some o
 IsReply m h (Event e b) NoMemory = first_dead h b ≡ None
 IsReply m h (Death o) Done = is_dead h o ≡ false

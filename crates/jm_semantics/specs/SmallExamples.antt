@@ -48,7 +48,8 @@ fires_twice t = record { instance = t; handler = 0 } ∷ record { instance = t; 
 abbrev pub firing_in_order : List Entry
 firing_in_order =
     on 1 0 0 (fires_twice (binding (Some 0) None None)) ∷
-    event 2 1 (binding None None None) (fires_twice (binding None None None) ++ fires_twice (binding (Some 0) None None)) ∷ []
+    event 2 1 (binding None None None)
+    (fires_twice (binding None None None) ++ fires_twice (binding (Some 0) None None)) ∷ []
 
 -- ---- NotAB: every word but `a b` matches
 abbrev pub is_not_ab : List ℕ → Bool

@@ -13,7 +13,8 @@ member_sign bytes t = without_angles (sign_of bytes t)
 -- the brackets that are open behind a run, if they match
 abbrev pub open_after : List ℕ → List Bracket → List Token → Option (List Bracket)
 open_after bytes stack [] = Some stack
-open_after bytes stack (t ∷ ts) = option_and_then (λ inner. open_after bytes inner ts) (after_sign stack (member_sign bytes t))
+open_after bytes stack (t ∷ ts) =
+    option_and_then (λ inner. open_after bytes inner ts) (after_sign stack (member_sign bytes t))
 
 -- the last token is a `;` or a `}`
 abbrev pub may_end_after : List ℕ → List Token → Bool

@@ -43,7 +43,8 @@ property_fault (p ∷ q ∷ ps) = Some (SecondProperty q.logic.line)
 
 -- the name that a token of the bytes says, if it says one
 unfoldable pub name_of : List ℕ → Token → Option (List ℕ)
-name_of bytes token = if nat_le token.start token.end && nat_le token.end (length bytes) && is_name bytes token then Some (text_of bytes token) else None
+name_of bytes token = if nat_le token.start token.end && nat_le token.end (length bytes) && is_name bytes token
+    then Some (text_of bytes token) else None
 
 -- the logic of a name
 abbrev pub logic_named : List ℕ → Option Logic
@@ -103,11 +104,13 @@ with_names bytes t mask (n ∷ ns) = with_names bytes t (with_bit mask (number_s
 abbrev pub with_mention : EventDefinitions → Option (List ℕ) → ℕ → Bool → ℕ → Result EventDefinitions SpecFault
 with_mention t None mask creation line = Ok t
 with_mention t (Some name) mask creation line =
-    let e : EventDefinition = record { name = name; mask = mask; creation = creation; line = line } in unless (event_fault t e) (with_event t e)
+    let e : EventDefinition = record { name = name; mask = mask; creation = creation; line = line } in unless
+    (event_fault t e) (with_event t e)
 
 -- an event's parameters are the names of its lists that are parameters
 abbrev pub with_advice : List ℕ → EventDefinitions → Mention → Advice → Result EventDefinitions SpecFault
-with_advice bytes t e (Known names) = with_mention t (name_of bytes e.name) (with_names bytes t 0 names) e.creation e.name.line
+with_advice bytes t e (Known names) =
+    with_mention t (name_of bytes e.name) (with_names bytes t 0 names) e.creation e.name.line
 with_advice bytes t e (Other line) = Ok t
 
 -- the table with the events, one mention after the other
@@ -117,7 +120,8 @@ with_events bytes t (e ∷ es) = with_advice bytes t e e.advice >>> λ more. wit
 
 -- the table of a frame: first its parameters, then its events
 abbrev pub table_of : List ℕ → List Token → List Mention → Result EventDefinitions SpecFault
-table_of bytes params events = with_params bytes (record { parameters = []; events = [] }) params >>> λ t. with_events bytes t events
+table_of bytes params events =
+    with_params bytes (record { parameters = []; events = [] }) params >>> λ t. with_events bytes t events
 
 -- the fault of the first step that has one: the modifiers, the advice, the number of properties, the logic, the
 -- parameters and the events

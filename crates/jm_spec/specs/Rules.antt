@@ -37,8 +37,10 @@ more_words_at bytes tokens = step_at_most (begins_more_word bytes) (more_word_at
 -- the modifier that these tokens spell
 abbrev pub modifier_of : List ℕ → List Token → Modifier
 modifier_of bytes tokens =
-    if (length tokens == 1) && (is_word_at bytes tokens 0 (codes "unsynchronized") || is_word_at bytes tokens 0 (codes "decentralized")) then NoEffect
-    else if (length tokens == 3) && is_word_at bytes tokens 0 (codes "full") && is_word_at bytes tokens 2 (codes "binding") then FullBinding
+    if (length tokens == 1) && (is_word_at bytes tokens 0 (codes "unsynchronized") || is_word_at bytes tokens 0
+    (codes "decentralized")) then NoEffect
+    else if (length tokens == 3) && is_word_at bytes tokens 0 (codes "full") && is_word_at bytes tokens 2
+    (codes "binding") then FullBinding
     else Unsupported (line_of 0 tokens)
 
 unfoldable pub modifier_at : List ℕ → List Modifier → List Token → Option (List Modifier × List Token)
@@ -52,7 +54,8 @@ abbrev pub begins_modifier : List ℕ → List Token → Bool
 begins_modifier bytes tokens = not (is_mark_at bytes tokens 1 (codes "("))
 
 unfoldable pub modifiers_at : List ℕ → List Modifier → List Token → Option (List Modifier × List Token)
-modifiers_at bytes modifiers tokens = at_most (begins_modifier bytes) (modifier_at bytes) (length tokens) modifiers tokens
+modifiers_at bytes modifiers tokens =
+    at_most (begins_modifier bytes) (modifier_at bytes) (length tokens) modifiers tokens
 
 -- Param = Type NAME, where the type isn't empty
 abbrev pub named_at : List ℕ → List Token → List Token → ℕ → Option (List Token × List Token)
@@ -80,7 +83,8 @@ params_at bytes names tokens = do
 
 -- List = "(" [ Param { "," Param } ] ")"
 unfoldable pub inner_params_at : List ℕ → List Token → List Token → Option (List Token × List Token)
-inner_params_at bytes names tokens = if is_mark_at bytes tokens 0 (codes ")") then Some (names, tokens) else params_at bytes names tokens
+inner_params_at bytes names tokens =
+    if is_mark_at bytes tokens 0 (codes ")") then Some (names, tokens) else params_at bytes names tokens
 
 unfoldable pub list_at : List ℕ → List Token → List Token → Option (List Token × List Token)
 list_at bytes names tokens = do
@@ -107,11 +111,13 @@ before_at bytes tokens = do
 
 -- a list, which may be missing
 unfoldable pub optional_list_at : List ℕ → List Token → List Token → Option (List Token × List Token)
-optional_list_at bytes names tokens = if is_mark_at bytes tokens 0 (codes "(") then list_at bytes names tokens else Some (names, tokens)
+optional_list_at bytes names tokens =
+    if is_mark_at bytes tokens 0 (codes "(") then list_at bytes names tokens else Some (names, tokens)
 
 -- [ word [ List ] ]
 unfoldable pub outcome_at : List ℕ → List ℕ → List Token → List Token → Option (List Token × List Token)
-outcome_at bytes word names tokens = if is_word_at bytes tokens 0 word then (word_at tokens >>= optional_list_at bytes names) else Some (names, tokens)
+outcome_at bytes word names tokens =
+    if is_word_at bytes tokens 0 word then (word_at tokens >>= optional_list_at bytes names) else Some (names, tokens)
 
 -- "after" List [ "returning" [ List ] ] [ "throwing" [ List ] ] ":" Pointcut End
 unfoldable pub after_at : List ℕ → List Token → Option (Advice × List Token)
@@ -138,13 +144,15 @@ advice_at bytes tokens =
 
 -- [ "creation" ]
 unfoldable pub creation_at : List ℕ → List Token → Option (Bool × List Token)
-creation_at bytes tokens = if is_word_at bytes tokens 0 (codes "creation") then (word_at tokens >>= λ rest. Some (true, rest)) else Some (false, tokens)
+creation_at bytes tokens = if is_word_at bytes tokens 0 (codes "creation")
+    then (word_at tokens >>= λ rest. Some (true, rest)) else Some (false, tokens)
 
 -- an event begins with `event` and a name, or with `creation`, `event` and a name
 abbrev pub begins_event : List ℕ → List Token → Bool
 begins_event bytes tokens =
     (is_word_at bytes tokens 0 (codes "event") && is_name_at bytes tokens 1)
-    || (is_word_at bytes tokens 0 (codes "creation") && is_word_at bytes tokens 1 (codes "event") && is_name_at bytes tokens 2)
+    || (is_word_at bytes tokens 0 (codes "creation") && is_word_at bytes tokens 1
+    (codes "event") && is_name_at bytes tokens 2)
 
 -- Event = [ "creation" ] "event" NAME Advice
 unfoldable pub event_at : List ℕ → List Mention → List Token → Option (List Mention × List Token)
@@ -157,7 +165,8 @@ event_at bytes events tokens = do
 
 -- a member is an event or a declaration, of which nothing is kept
 unfoldable pub member_at : List ℕ → List Mention → List Token → Option (List Mention × List Token)
-member_at bytes events tokens = if begins_event bytes tokens then event_at bytes events tokens else (run_at bytes tokens >>= λ rest. Some (events, rest))
+member_at bytes events tokens = if begins_event bytes tokens then event_at bytes events tokens
+    else (run_at bytes tokens >>= λ rest. Some (events, rest))
 
 -- members stand up to the first property or the end of the body
 abbrev pub begins_member : List ℕ → List Token → Bool
@@ -169,7 +178,8 @@ members_at bytes events tokens = at_most (begins_member bytes) (member_at bytes)
 -- Block, in a file of so many tokens: the range of the tokens inside
 unfoldable pub block_at : List ℕ → ℕ → List Token → Option ((ℕ × ℕ) × List Token)
 block_at bytes total tokens =
-    if is_mark_at bytes tokens 0 (codes "{") then (run_at bytes tokens >>= λ rest. Some ((place total tokens + 1, place total rest - 1), rest)) else None
+    if is_mark_at bytes tokens 0 (codes "{")
+    then (run_at bytes tokens >>= λ rest. Some ((place total tokens + 1, place total rest - 1), rest)) else None
 
 -- Handler = "@" NAME Block
 unfoldable pub handler_at : List ℕ → ℕ → List HandlerText → List Token → Option (List HandlerText × List Token)
@@ -183,7 +193,8 @@ abbrev pub begins_handler : List ℕ → List Token → Bool
 begins_handler bytes tokens = is_mark_at bytes tokens 0 (codes "@")
 
 unfoldable pub handlers_at : List ℕ → ℕ → List HandlerText → List Token → Option (List HandlerText × List Token)
-handlers_at bytes total handlers tokens = at_most (begins_handler bytes) (handler_at bytes total) (length tokens) handlers tokens
+handlers_at bytes total handlers tokens =
+    at_most (begins_handler bytes) (handler_at bytes total) (length tokens) handlers tokens
 
 -- Property = NAME ":" Formula, and its handlers
 unfoldable pub property_at : List ℕ → ℕ → List Property → List Token → Option (List Property × List Token)
@@ -198,14 +209,16 @@ abbrev pub goes_on : List ℕ → List Token → Bool
 goes_on bytes tokens = not (is_mark_at bytes tokens 0 (codes "}"))
 
 unfoldable pub properties_at : List ℕ → ℕ → List Property → List Token → Option (List Property × List Token)
-properties_at bytes total properties tokens = at_most (goes_on bytes) (property_at bytes total) (length tokens) properties tokens
+properties_at bytes total properties tokens =
+    at_most (goes_on bytes) (property_at bytes total) (length tokens) properties tokens
 
 -- nothing stands behind
 abbrev pub at_end : {X : Type 0} → X → List Token → Option X
 at_end x [] = Some x
 at_end x (t ∷ ts) = None
 
--- File = { ( "package" | "import" ) Run ";" } { Modifier } NAME List "{" { Declaration | Event } { Property { Handler } } "}"
+-- File = { ( "package" | "import" ) Run ";" } { Modifier } NAME List "{" { Declaration | Event } { Property { Handler }
+-- } "}"
 unfoldable pub frame_at : List ℕ → ℕ → List Token → Option Frame
 frame_at bytes total tokens = do
   head ← clauses_at bytes tokens

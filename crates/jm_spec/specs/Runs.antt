@@ -42,7 +42,8 @@ member_behind sign (Some stack) more = if ends_member stack sign then Some 1 els
 abbrev pub member_rest : List ℕ → List Bracket → List Token → Option ℕ
 member_rest bytes stack [] = None
 member_rest bytes stack (t ∷ ts) =
-    member_behind (without_angles (sign_of bytes t)) (after_sign stack (without_angles (sign_of bytes t))) (λ inner. member_rest bytes inner ts)
+    member_behind (without_angles (sign_of bytes t)) (after_sign stack (without_angles (sign_of bytes t)))
+    (λ inner. member_rest bytes inner ts)
 
 abbrev pub member_length : List ℕ → List Token → Option ℕ
 member_length bytes tokens = member_rest bytes [] tokens
@@ -62,7 +63,8 @@ parameter_behind stack sign more =
     if parts stack sign then (if is_none_open stack then Some 0 else None)
     else option_and_then (λ inner. one_more (more inner)) (after_sign stack sign)
 
--- inside these brackets: the tokens before the next comma that parts parameters or the `)` that ends them, if they match
+-- inside these brackets: the tokens before the next comma that parts parameters or the `)` that ends them, if they
+-- match
 abbrev pub parameter_rest : List ℕ → List Bracket → List Token → Option ℕ
 parameter_rest bytes stack [] = None
 parameter_rest bytes stack (t ∷ ts) = parameter_behind stack (sign_of bytes t) (λ inner. parameter_rest bytes inner ts)
@@ -78,7 +80,8 @@ begins_property bytes _ = false
 -- a formula ends before a `@`, a `}` and a property
 abbrev pub ends_formula : List ℕ → List Token → Bool
 ends_formula bytes [] = false
-ends_formula bytes (t ∷ ts) = is_mark bytes t (codes "@") || is_mark bytes t (codes "}") || begins_property bytes (t ∷ ts)
+ends_formula bytes (t ∷ ts) =
+    is_mark bytes t (codes "@") || is_mark bytes t (codes "}") || begins_property bytes (t ∷ ts)
 
 -- the tokens before the first `@`, the first `}`, or the first name with a colon behind it
 abbrev pub formula_length : List ℕ → List Token → Option ℕ

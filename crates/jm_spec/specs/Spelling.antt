@@ -31,7 +31,8 @@ pub data Repeats (X : List Token → Type 0) : List Token → Type 0 where
 -- one behind the other
 pub data Spelled {V : Type 0} (X : ℕ → List Token → List V → Type 0) : ℕ → List Token → List V → Type 0 where
   nothing : (at : ℕ) → Spelled X at [] []
-  one_more : (at : ℕ) (front behind : List Token) (xs ys : List V) → X at front xs → Spelled X (at + length front) behind ys → Spelled X at (front ++ behind) (xs ++ ys)
+  one_more : (at : ℕ) (front behind : List Token) (xs ys : List V) → X at front xs
+      → Spelled X (at + length front) behind ys → Spelled X at (front ++ behind) (xs ++ ys)
 
 -- the same, where the place doesn't matter
 abbrev pub SpelledAnywhere : {V : Type 0} → (List Token → List V → Type 0) → List Token → List V → Type 0
@@ -50,7 +51,8 @@ pub data SpellsClause (bytes : List ℕ) : List Token → Type 0 where
 
 -- Modifier = Word { "-" Word }
 pub data SpellsMoreWord (bytes : List ℕ) : List Token → Type 0 where
-  more_word : (dash word : Token) → IsMark bytes (codes "-") dash → IsAnyWord word → SpellsMoreWord bytes (dash ∷ word ∷ [])
+  more_word : (dash word : Token) → IsMark bytes (codes "-") dash → IsAnyWord word
+      → SpellsMoreWord bytes (dash ∷ word ∷ [])
 
 pub data SpellsModifier (bytes : List ℕ) : List Token → List Modifier → Type 0 where
   modifier : (word : Token) (more : List Token)
@@ -61,7 +63,8 @@ pub data SpellsModifier (bytes : List ℕ) : List Token → List Modifier → Ty
 -- the brackets that are open behind a run of a list of parameters, where angle brackets are brackets too, if they match
 abbrev pub open_in_list : List ℕ → List Bracket → List Token → Option (List Bracket)
 open_in_list bytes stack [] = Some stack
-open_in_list bytes stack (t ∷ ts) = option_and_then (λ inner. open_in_list bytes inner ts) (after_sign stack (sign_of bytes t))
+open_in_list bytes stack (t ∷ ts) =
+    option_and_then (λ inner. open_in_list bytes inner ts) (after_sign stack (sign_of bytes t))
 
 -- an angle, round or square bracket is open
 abbrev pub Holds : Option (List Bracket) → Type 0
@@ -72,11 +75,13 @@ Holds (Some stack) = hold_commas stack ≡ true
 pub record IsType (bytes : List ℕ) (run : List Token) : Type 0 where
   pub filled : run ≢ []
   pub balanced : open_in_list bytes [] run ≡ Some []
-  pub held : (front behind : List Token) (comma : Token) → run ≡ front ++ comma ∷ behind → sign_of bytes comma ≡ Comma → Holds (open_in_list bytes [] front)
+  pub held : (front behind : List Token) (comma : Token) → run ≡ front ++ comma ∷ behind → sign_of bytes comma ≡ Comma
+      → Holds (open_in_list bytes [] front)
 
 -- Param = Type NAME
 pub data SpellsParam (bytes : List ℕ) : List Token → List Token → Type 0 where
-  param : (type : List Token) (name : Token) → IsType bytes type → IsName bytes name → SpellsParam bytes (type ++ name ∷ []) (name ∷ [])
+  param : (type : List Token) (name : Token) → IsType bytes type → IsName bytes name
+      → SpellsParam bytes (type ++ name ∷ []) (name ∷ [])
 
 -- List = "(" [ Param { "," Param } ] ")"
 pub data SpellsMoreParam (bytes : List ℕ) : List Token → List Token → Type 0 where
@@ -99,8 +104,8 @@ pub data SpellsList (bytes : List ℕ) : List Token → List Token → Type 0 wh
       → IsMark bytes (codes ")") closing
       → SpellsList bytes (opening ∷ params ++ closing ∷ []) names
 
--- a balanced run up to and with its first `;` or its first Block outside brackets: a Declaration, and so a Pointcut with
--- its End, and an Other with its End
+-- a balanced run up to and with its first `;` or its first Block outside brackets: a Declaration, and so a Pointcut
+-- with its End, and an Other with its End
 pub record RunsToEnd (bytes : List ℕ) (run : List Token) : Type 0 where
   pub ends : EndsMember bytes run
   pub first : (k : ℕ) → k < length run → EndsMember bytes (take k run) → ⊥
@@ -109,7 +114,8 @@ pub record RunsToEnd (bytes : List ℕ) (run : List Token) : Type 0 where
 pub data SpellsOutcome (bytes word : List ℕ) : List Token → List Token → Type 0 where
   missing : SpellsOutcome bytes word [] []
   alone : (t : Token) → IsWord bytes word t → SpellsOutcome bytes word (t ∷ []) []
-  with_list : (t : Token) (params names : List Token) → IsWord bytes word t → SpellsList bytes params names → SpellsOutcome bytes word (t ∷ params) names
+  with_list : (t : Token) (params names : List Token) → IsWord bytes word t → SpellsList bytes params names
+      → SpellsOutcome bytes word (t ∷ params) names
 
 -- no advice that is known begins so, and it isn't empty
 pub record BeginsOther (bytes : List ℕ) (t : Token) : Type 0 where
@@ -136,7 +142,8 @@ pub data SpellsAdvice (bytes : List ℕ) : List Token → Advice → Type 0 wher
       → IsMark bytes (codes ":") colon
       → RunsToEnd bytes run
       → SpellsAdvice bytes (word ∷ params ++ returned ++ thrown ++ colon ∷ run) (Known (names ++ results ++ errors))
-  other : (first : Token) (more : List Token) → BeginsOther bytes first → RunsToEnd bytes (first ∷ more) → SpellsAdvice bytes (first ∷ more) (Other first.line)
+  other : (first : Token) (more : List Token) → BeginsOther bytes first → RunsToEnd bytes (first ∷ more)
+      → SpellsAdvice bytes (first ∷ more) (Other first.line)
 
 -- Event = [ "creation" ] "event" NAME Advice
 pub data SpellsEvent (bytes : List ℕ) : List Token → Mention → Type 0 where
@@ -154,10 +161,12 @@ pub data SpellsEvent (bytes : List ℕ) : List Token → Mention → Type 0 wher
 
 -- Declaration | Event: what begins as an event or as a property is no Declaration
 pub data SpellsMember (bytes : List ℕ) : List Token → List Mention → Type 0 where
-  declaration : (run : List Token) → RunsToEnd bytes run → begins_event bytes run ≡ false → begins_property bytes run ≡ false → SpellsMember bytes run []
+  declaration : (run : List Token) → RunsToEnd bytes run → begins_event bytes run ≡ false
+      → begins_property bytes run ≡ false → SpellsMember bytes run []
   an_event : (tokens : List Token) (e : Mention) → SpellsEvent bytes tokens e → SpellsMember bytes tokens (e ∷ [])
 
--- Handler = "@" NAME Block, where a Block is a balanced run in `{` and `}`. It is kept where the inside begins and ends.
+-- Handler = "@" NAME Block, where a Block is a balanced run in `{` and `}`. It is kept where the inside begins and
+-- ends.
 pub data SpellsHandler (bytes : List ℕ) (at : ℕ) : List Token → List HandlerText → Type 0 where
   handler : (sign category opening : Token) (inside : List Token) (closing : Token)
       → IsMark bytes (codes "@") sign
@@ -165,7 +174,8 @@ pub data SpellsHandler (bytes : List ℕ) (at : ℕ) : List Token → List Handl
       → IsMark bytes (codes "{") opening
       → open_after bytes [] inside ≡ Some []
       → IsMark bytes (codes "}") closing
-      → SpellsHandler bytes at (sign ∷ category ∷ opening ∷ inside ++ closing ∷ []) (record { category = category; first = at + 3; last = at + 3 + length inside } ∷ [])
+      → SpellsHandler bytes at (sign ∷ category ∷ opening ∷ inside ++ closing ∷ [])
+      (record { category = category; first = at + 3; last = at + 3 + length inside } ∷ [])
 
 -- a Formula: nothing in it is a `@` or a `}`, or begins a property
 abbrev pub IsFormula : List ℕ → List Token → Type 0
@@ -179,7 +189,8 @@ pub data SpellsProperty (bytes : List ℕ) (at : ℕ) : List Token → List Prop
       → IsMark bytes (codes ":") colon
       → IsFormula bytes formula
       → Spelled (SpellsHandler bytes) (at + 2 + length formula) handling handlers
-      → SpellsProperty bytes at (logic ∷ colon ∷ formula ++ handling) (record { logic = logic; first = at + 2; last = at + 2 + length formula; handlers = handlers } ∷ [])
+      → SpellsProperty bytes at (logic ∷ colon ∷ formula ++ handling)
+      (record { logic = logic; first = at + 2; last = at + 2 + length formula; handlers = handlers } ∷ [])
 
 -- no clause begins so
 abbrev pub BeginsNoClause : List ℕ → List Token → Type 0
@@ -197,7 +208,8 @@ pub data SpellsHead (bytes : List ℕ) : List Token → List Modifier → Token 
 
 -- Body = "{" { Declaration | Event } { Property { Handler } } "}"
 pub data SpellsBody (bytes : List ℕ) (at : ℕ) : List Token → List Mention → List Property → Type 0 where
-  body : (opening : Token) (members : List Token) (events : List Mention) (stating : List Token) (properties : List Property) (closing : Token)
+  body : (opening : Token) (members : List Token) (events : List Mention) (stating : List Token)
+      (properties : List Property) (closing : Token)
       → IsMark bytes (codes "{") opening
       → SpelledAnywhere (SpellsMember bytes) members events
       → Spelled (SpellsProperty bytes) (at + 1 + length members) stating properties
@@ -206,8 +218,10 @@ pub data SpellsBody (bytes : List ℕ) (at : ℕ) : List Token → List Mention 
 
 -- File = { Clause } Head Body
 pub data Spells (bytes : List ℕ) : List Token → Frame → Type 0 where
-  file : (clauses heading : List Token) (modifiers : List Modifier) (name : Token) (params : List Token) (within : List Token) (events : List Mention) (properties : List Property)
+  file : (clauses heading : List Token) (modifiers : List Modifier) (name : Token) (params : List Token)
+      (within : List Token) (events : List Mention) (properties : List Property)
       → Repeats (SpellsClause bytes) clauses
       → SpellsHead bytes heading modifiers name params
       → SpellsBody bytes (length clauses + length heading) within events properties
-      → Spells bytes (clauses ++ heading ++ within) (record { modifiers = modifiers; name = name; params = params; events = events; properties = properties })
+      → Spells bytes (clauses ++ heading ++ within)
+      (record { modifiers = modifiers; name = name; params = params; events = events; properties = properties })

@@ -39,7 +39,8 @@ pub record IsTreeOf (bytes : List ℕ) (frame : Frame) (tree : SpecTree) : Type 
 
 -- the tokens spell a frame without a fault, whose tree this is
 abbrev pub IsTreeOfTokens : List ℕ → List Token → SpecTree → Type 0
-IsTreeOfTokens bytes tokens tree = (frame : Frame) × Spells bytes tokens frame × (frame_fault bytes frame ≡ None) × IsTreeOf bytes frame tree
+IsTreeOfTokens bytes tokens tree =
+    (frame : Frame) × Spells bytes tokens frame × (frame_fault bytes frame ≡ None) × IsTreeOf bytes frame tree
 
 -- the tokens spell no frame, unless memory is short
 abbrev pub IsUnspelled : List ℕ → List Token → SpecError → Type 0
@@ -55,4 +56,5 @@ HasRange n p = (0 < p.first) × (p.first ≤ p.last) × (p.last ≤ n)
 abbrev pub IsFaultOfTokens : List ℕ → List Token → SpecError → Type 0
 IsFaultOfTokens bytes tokens NoMemory = Unit {0}
 IsFaultOfTokens bytes tokens (Bad (Syntax line)) = (frame : Frame) → Spells bytes tokens frame → ⊥
-IsFaultOfTokens bytes tokens (Bad fault) = (frame : Frame) × Spells bytes tokens frame × (frame_fault bytes frame ≡ Some fault)
+IsFaultOfTokens bytes tokens (Bad fault) =
+    (frame : Frame) × Spells bytes tokens frame × (frame_fault bytes frame ≡ Some fault)

@@ -122,7 +122,8 @@ impl Brackets {
 
     /// Follows a token, and answers whether the brackets match so far.
     pub fn follow(&mut self, sign: Sign) -> Result<bool, NoMemory>
-        ensures { IfOk result (λ matches. MatchBool matches (after_sign self.old sign ≡ Some self.new) (after_sign self.old sign ≡ None)) }
+        ensures { IfOk result (λ matches. MatchBool matches (after_sign self.old sign ≡ Some self.new)
+            (after_sign self.old sign ≡ None)) }
     {
         match sign {
             Sign::Open(kind) => self.push(kind),

@@ -30,7 +30,8 @@ impl Reader<'_> {
     /// The members before the first property. The events are added to those that are there.
     #[tactic(auto, unfolding(crate::specs::Rules::members_at))]
     pub fn members(&mut self, events: &mut Items<Mention>) -> Result<(), SpecError>
-        ensures reads { Fills result events.new self.new.rest.now (members_at self.old.bytes.now events.old self.old.rest.now) }
+        ensures reads { Fills result events.new self.new.rest.now
+            (members_at self.old.bytes.now events.old self.old.rest.now) }
         ensures bytes { self.new.bytes.now ≡ self.old.bytes.now }
         ensures total { self.new.total ≡ self.old.total }
         ensures left { OnOk result (length self.new.rest.now ≤ length self.old.rest.now) }
@@ -49,7 +50,8 @@ impl Reader<'_> {
 
     #[tactic(auto, unfolding(crate::specs::Rules::member_at))]
     fn member(&mut self, events: &mut Items<Mention>) -> Result<(), SpecError>
-        ensures reads { Fills result events.new self.new.rest.now (member_at self.old.bytes.now events.old self.old.rest.now) }
+        ensures reads { Fills result events.new self.new.rest.now
+            (member_at self.old.bytes.now events.old self.old.rest.now) }
         ensures bytes { self.new.bytes.now ≡ self.old.bytes.now }
         ensures total { self.new.total ≡ self.old.total }
         ensures left { OnOk result (length self.new.rest.now < length self.old.rest.now) }
@@ -70,7 +72,8 @@ impl Reader<'_> {
                 && self.is_name_at(2))
     }
 
-    /// The tokens up to and with the first `;` or the first block outside brackets: a declaration, or the rest of an event.
+    /// The tokens up to and with the first `;` or the first block outside brackets: a declaration, or the rest of an
+    /// event.
     #[tactic(auto, unfolding(crate::specs::Rules::run_at))]
     pub fn run(&mut self) -> Result<(), SpecError>
         ensures reads { Leaves result self.new.rest.now (run_at self.old.bytes.now self.old.rest.now) }
@@ -85,7 +88,8 @@ impl Reader<'_> {
 
     #[tactic(auto, unfolding(crate::specs::Rules::event_at))]
     fn event(&mut self, events: &mut Items<Mention>) -> Result<(), SpecError>
-        ensures reads { Fills result events.new self.new.rest.now (event_at self.old.bytes.now events.old self.old.rest.now) }
+        ensures reads { Fills result events.new self.new.rest.now
+            (event_at self.old.bytes.now events.old self.old.rest.now) }
         ensures bytes { self.new.bytes.now ≡ self.old.bytes.now }
         ensures total { self.new.total ≡ self.old.total }
         ensures left { OnOk result (length self.new.rest.now < length self.old.rest.now) }
@@ -175,7 +179,8 @@ impl Reader<'_> {
     /// The word and its list, which may both be missing.
     #[tactic(auto, unfolding(crate::specs::Rules::outcome_at))]
     fn outcome(&mut self, word: &[u8], names: &mut Items<Token>) -> Result<(), SpecError>
-        ensures reads { Fills result names.new self.new.rest.now (outcome_at self.old.bytes.now word.now names.old self.old.rest.now) }
+        ensures reads { Fills result names.new self.new.rest.now
+            (outcome_at self.old.bytes.now word.now names.old self.old.rest.now) }
         ensures bytes { self.new.bytes.now ≡ self.old.bytes.now }
         ensures total { self.new.total ≡ self.old.total }
         ensures left { OnOk result (length self.new.rest.now ≤ length self.old.rest.now) }
@@ -189,7 +194,8 @@ impl Reader<'_> {
 
     #[tactic(auto, unfolding(crate::specs::Rules::optional_list_at))]
     fn optional_list(&mut self, names: &mut Items<Token>) -> Result<(), SpecError>
-        ensures reads { Fills result names.new self.new.rest.now (optional_list_at self.old.bytes.now names.old self.old.rest.now) }
+        ensures reads { Fills result names.new self.new.rest.now
+            (optional_list_at self.old.bytes.now names.old self.old.rest.now) }
         ensures bytes { self.new.bytes.now ≡ self.old.bytes.now }
         ensures total { self.new.total ≡ self.old.total }
         ensures left { OnOk result (length self.new.rest.now ≤ length self.old.rest.now) }

@@ -57,7 +57,8 @@ impl Reader<'_> {
     /// The modifiers before a name and its list.
     #[tactic(auto, unfolding(crate::specs::Rules::modifiers_at))]
     pub fn modifiers(&mut self, modifiers: &mut Items<Modifier>) -> Result<(), SpecError>
-        ensures reads { Fills result modifiers.new self.new.rest.now (modifiers_at self.old.bytes.now modifiers.old self.old.rest.now) }
+        ensures reads { Fills result modifiers.new self.new.rest.now
+            (modifiers_at self.old.bytes.now modifiers.old self.old.rest.now) }
         ensures bytes { self.new.bytes.now ≡ self.old.bytes.now }
         ensures total { self.new.total ≡ self.old.total }
         ensures left { OnOk result (length self.new.rest.now ≤ length self.old.rest.now) }
@@ -77,7 +78,8 @@ impl Reader<'_> {
     /// Words with `-` between them.
     #[tactic(auto, unfolding(crate::specs::Rules::modifier_at))]
     fn modifier(&mut self, modifiers: &mut Items<Modifier>) -> Result<(), SpecError>
-        ensures reads { Fills result modifiers.new self.new.rest.now (modifier_at self.old.bytes.now modifiers.old self.old.rest.now) }
+        ensures reads { Fills result modifiers.new self.new.rest.now
+            (modifier_at self.old.bytes.now modifiers.old self.old.rest.now) }
         ensures bytes { self.new.bytes.now ≡ self.old.bytes.now }
         ensures total { self.new.total ≡ self.old.total }
         ensures left { OnOk result (length self.new.rest.now < length self.old.rest.now) }
@@ -122,7 +124,8 @@ impl Reader<'_> {
     /// Parameters in round brackets, with commas between them. Their names are added to those that are there.
     #[tactic(auto, unfolding(crate::specs::Rules::list_at))]
     pub fn list(&mut self, names: &mut Items<Token>) -> Result<(), SpecError>
-        ensures reads { Fills result names.new self.new.rest.now (list_at self.old.bytes.now names.old self.old.rest.now) }
+        ensures reads { Fills result names.new self.new.rest.now
+            (list_at self.old.bytes.now names.old self.old.rest.now) }
         ensures bytes { self.new.bytes.now ≡ self.old.bytes.now }
         ensures total { self.new.total ≡ self.old.total }
         ensures left { OnOk result (length self.new.rest.now < length self.old.rest.now) }
@@ -134,7 +137,8 @@ impl Reader<'_> {
 
     #[tactic(auto, unfolding(crate::specs::Rules::inner_params_at))]
     fn inner_params(&mut self, names: &mut Items<Token>) -> Result<(), SpecError>
-        ensures reads { Fills result names.new self.new.rest.now (inner_params_at self.old.bytes.now names.old self.old.rest.now) }
+        ensures reads { Fills result names.new self.new.rest.now
+            (inner_params_at self.old.bytes.now names.old self.old.rest.now) }
         ensures bytes { self.new.bytes.now ≡ self.old.bytes.now }
         ensures total { self.new.total ≡ self.old.total }
         ensures left { OnOk result (length self.new.rest.now ≤ length self.old.rest.now) }
@@ -147,7 +151,8 @@ impl Reader<'_> {
 
     #[tactic(auto, unfolding(crate::specs::Rules::params_at))]
     fn params(&mut self, names: &mut Items<Token>) -> Result<(), SpecError>
-        ensures reads { Fills result names.new self.new.rest.now (params_at self.old.bytes.now names.old self.old.rest.now) }
+        ensures reads { Fills result names.new self.new.rest.now
+            (params_at self.old.bytes.now names.old self.old.rest.now) }
         ensures bytes { self.new.bytes.now ≡ self.old.bytes.now }
         ensures total { self.new.total ≡ self.old.total }
         ensures left { OnOk result (length self.new.rest.now < length self.old.rest.now) }
@@ -158,7 +163,8 @@ impl Reader<'_> {
 
     #[tactic(auto, unfolding(crate::specs::Rules::more_params_at))]
     fn more_params(&mut self, names: &mut Items<Token>) -> Result<(), SpecError>
-        ensures reads { Fills result names.new self.new.rest.now (more_params_at self.old.bytes.now names.old self.old.rest.now) }
+        ensures reads { Fills result names.new self.new.rest.now
+            (more_params_at self.old.bytes.now names.old self.old.rest.now) }
         ensures bytes { self.new.bytes.now ≡ self.old.bytes.now }
         ensures total { self.new.total ≡ self.old.total }
         ensures left { OnOk result (length self.new.rest.now ≤ length self.old.rest.now) }
@@ -177,7 +183,8 @@ impl Reader<'_> {
 
     #[tactic(auto, unfolding(crate::specs::Rules::more_param_at))]
     fn more_param(&mut self, names: &mut Items<Token>) -> Result<(), SpecError>
-        ensures reads { Fills result names.new self.new.rest.now (more_param_at self.old.bytes.now names.old self.old.rest.now) }
+        ensures reads { Fills result names.new self.new.rest.now
+            (more_param_at self.old.bytes.now names.old self.old.rest.now) }
         ensures bytes { self.new.bytes.now ≡ self.old.bytes.now }
         ensures total { self.new.total ≡ self.old.total }
         ensures left { OnOk result (length self.new.rest.now < length self.old.rest.now) }
@@ -189,7 +196,8 @@ impl Reader<'_> {
     /// A type, which isn't empty, and a name.
     #[tactic(auto, unfolding(crate::specs::Rules::param_at))]
     fn param(&mut self, names: &mut Items<Token>) -> Result<(), SpecError>
-        ensures reads { Fills result names.new self.new.rest.now (param_at self.old.bytes.now names.old self.old.rest.now) }
+        ensures reads { Fills result names.new self.new.rest.now
+            (param_at self.old.bytes.now names.old self.old.rest.now) }
         ensures bytes { self.new.bytes.now ≡ self.old.bytes.now }
         ensures total { self.new.total ≡ self.old.total }
         ensures left { OnOk result (length self.new.rest.now < length self.old.rest.now) }

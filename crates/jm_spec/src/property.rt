@@ -30,7 +30,8 @@ impl Reader<'_> {
     /// The properties up to the end of the body. They are added to those that are there.
     #[tactic(auto, unfolding(crate::specs::Rules::properties_at))]
     pub fn properties(&mut self, properties: &mut Items<Property>) -> Result<(), SpecError>
-        ensures reads { Fills result properties.new self.new.rest.now (properties_at self.old.bytes.now self.old.total properties.old self.old.rest.now) }
+        ensures reads { Fills result properties.new self.new.rest.now
+            (properties_at self.old.bytes.now self.old.total properties.old self.old.rest.now) }
         ensures bytes { self.new.bytes.now ≡ self.old.bytes.now }
         ensures total { self.new.total ≡ self.old.total }
         ensures left { OnOk result (length self.new.rest.now ≤ length self.old.rest.now) }
@@ -49,7 +50,8 @@ impl Reader<'_> {
 
     #[tactic(auto, unfolding(crate::specs::Rules::property_at))]
     fn property(&mut self, properties: &mut Items<Property>) -> Result<(), SpecError>
-        ensures reads { Fills result properties.new self.new.rest.now (property_at self.old.bytes.now self.old.total properties.old self.old.rest.now) }
+        ensures reads { Fills result properties.new self.new.rest.now
+            (property_at self.old.bytes.now self.old.total properties.old self.old.rest.now) }
         ensures bytes { self.new.bytes.now ≡ self.old.bytes.now }
         ensures total { self.new.total ≡ self.old.total }
         ensures left { OnOk result (length self.new.rest.now < length self.old.rest.now) }
@@ -72,7 +74,8 @@ impl Reader<'_> {
 
     #[tactic(auto, unfolding(crate::specs::Rules::handlers_at))]
     fn handlers(&mut self, handlers: &mut Items<HandlerText>) -> Result<(), SpecError>
-        ensures reads { Fills result handlers.new self.new.rest.now (handlers_at self.old.bytes.now self.old.total handlers.old self.old.rest.now) }
+        ensures reads { Fills result handlers.new self.new.rest.now
+            (handlers_at self.old.bytes.now self.old.total handlers.old self.old.rest.now) }
         ensures bytes { self.new.bytes.now ≡ self.old.bytes.now }
         ensures total { self.new.total ≡ self.old.total }
         ensures left { OnOk result (length self.new.rest.now ≤ length self.old.rest.now) }
@@ -91,7 +94,8 @@ impl Reader<'_> {
 
     #[tactic(auto, unfolding(crate::specs::Rules::handler_at))]
     fn handler(&mut self, handlers: &mut Items<HandlerText>) -> Result<(), SpecError>
-        ensures reads { Fills result handlers.new self.new.rest.now (handler_at self.old.bytes.now self.old.total handlers.old self.old.rest.now) }
+        ensures reads { Fills result handlers.new self.new.rest.now
+            (handler_at self.old.bytes.now self.old.total handlers.old self.old.rest.now) }
         ensures bytes { self.new.bytes.now ≡ self.old.bytes.now }
         ensures total { self.new.total ≡ self.old.total }
         ensures left { OnOk result (length self.new.rest.now < length self.old.rest.now) }

@@ -1,5 +1,5 @@
-//! A reader over the tokens of a file. Each rule of the frame's grammar is a method of it, which takes the tokens that the
-//! rule spells from the front of those that are left.
+//! A reader over the tokens of a file. Each rule of the frame's grammar is a method of it, which takes the tokens that
+//! the rule spells from the front of those that are left.
 ghost use Rattle.std.specs.Prelude.{◌≡◌, ◌+◌, ◌<◌, ◌≤◌, ◌^◌, length, drop, OnOk};
 ghost use Rattle.jm_text.specs.Spans.{LieWithin};
 ghost use Rattle.jm_reading.specs.Answers.{Reads, Leaves, IsSyntax};

@@ -13,8 +13,8 @@ use std::alloc::Global;
 
 /// The frame of the file whose tokens these are, fewer than 2^32.
 ///
-/// `Bad` has the first fault: `Syntax` where the tokens spell no frame, or else the fault of the first step that has one:
-/// modifiers, advice, properties, the logic, parameters, events.
+/// `Bad` has the first fault: `Syntax` where the tokens spell no frame, or else the fault of the first step that has
+/// one: modifiers, advice, properties, the logic, parameters, events.
 ///
 /// The line of `Syntax` is that of the first token that can't go on, or of the last token at the end, and 1 in a file
 /// without tokens.

@@ -136,7 +136,8 @@ fn only_property(properties: Items<Property>) -> Result<Property, SpecError>
 /// The logic of a word.
 fn known_logic(bytes: &[u8], word: Token) -> Result<Logic, SpecError>
     ensures ok { IfOk result (λ logic. logic_of bytes.now word ≡ Some logic) }
-    ensures err { IfErr result (λ e. (e ≡ SpecError.Bad (SpecFault.UnsupportedLogic word.line)) × (logic_of bytes.now word ≡ None)) }
+    ensures err { IfErr result (λ e. (e ≡ SpecError.Bad (SpecFault.UnsupportedLogic word.line))
+        × (logic_of bytes.now word ≡ None)) }
 {
     if let Some(name) = name_of(bytes, word) {
         if let Some(logic) = logic_named(name) {

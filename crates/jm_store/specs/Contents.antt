@@ -16,8 +16,8 @@ use Rattle.jm_store.specs.Slots.{monitor_at, stored_in}
 use Rattle.jm_store.specs.Moves.{after_moves, AreApart, IsEnding, AreEnding, EndsFewer, IsNext, IsSwept, AreVisited, has_all}
 
 -- The monitors by slot, the marks, whether a plan is open, and the index, which has a pair for each monitor. What the
--- store is to have where a plan is open isn't among the monitors. Last, for each set of parameters letters that end the monitors
--- with it.
+-- store is to have where a plan is open isn't among the monitors. Last, for each set of parameters letters that end the
+-- monitors with it.
 pub record Contents (S : Type 0) : Type 0 where
   pub monitors : List (Option (Stored S))
   pub marks : List Binding
@@ -42,16 +42,20 @@ pub record IsFit {S : Type 0} (store : Contents S) (dead : List Bool) : Type 0 w
 
 -- The contents are a store of this trace of events, with these dead objects. Stored are distinct instances whose states
 -- stand for their slices, each other instance is cut, and the marks are seen bindings, among them each one with a live
--- object. What is kept beside them fits them: the letters end the monitors, and the objects that the index dropped cut none.
-pub record IsStoreAfter (m : Meaning) {S : Type 0} (Stands : S → List ℕ → Type 0) (trace : List ParametricEvent) (dead : List Bool) (store : Contents S) : Type 0 where
+-- object. What is kept beside them fits them: the letters end the monitors, and the objects that the index dropped cut
+-- none.
+pub record IsStoreAfter (m : Meaning) {S : Type 0} (Stands : S → List ℕ
+    → Type 0) (trace : List ParametricEvent) (dead : List Bool) (store : Contents S) : Type 0 where
   pub monitors : IsStoreOf m Stands trace dead (stored_of store) store.marks
   pub ended : AreEnding m Stands store.ending (stored_of store)
   pub spared : AreSpared m Stands store.index.dropped (stored_of store)
 
 -- Some monitors of the store were dropped that the dead objects cut, and nothing else but their pairs.
-pub record IsCutDown (m : Meaning) {S : Type 0} (Stands : S → List ℕ → Type 0) (dead : List Bool) (old new : Contents S) : Type 0 where
+pub record IsCutDown (m : Meaning) {S : Type 0} (Stands : S → List ℕ
+    → Type 0) (dead : List Bool) (old new : Contents S) : Type 0 where
   pub closed : new.is_open ≡ false
-  pub each : (k : ℕ) → (monitor_at new.monitors k ≡ monitor_at old.monitors k) ⊎ IsSwept m Stands dead (monitor_at old.monitors k) (monitor_at new.monitors k)
+  pub each : (k : ℕ) → (monitor_at new.monitors k ≡ monitor_at old.monitors k)
+      ⊎ IsSwept m Stands dead (monitor_at old.monitors k) (monitor_at new.monitors k)
   pub size : length new.monitors ≡ length old.monitors
   pub marks : new.marks ≡ old.marks
   pub ending : new.ending ≡ old.ending
@@ -63,15 +67,17 @@ IsFilled {S} store pair = (s : Stored S) × (monitor_at store.monitors pair.slot
 
 -- one of the moves is for the pair
 abbrev pub IsPlannedBy : {S : Type 0} → List (Move S) → Pair → Type 0
-IsPlannedBy {S} moves pair = (move : Move S) × Contains moves move × (move.slot ≡ Some pair.slot) × (move.monitor.instance ≡ pair.binding)
+IsPlannedBy {S} moves pair = (move : Move S) × Contains moves move × (move.slot ≡ Some pair.slot)
+    × (move.monitor.instance ≡ pair.binding)
 
--- The plan fits the store: where one of its moves has a slot, the index leads to it, and a slot to which the index leads
--- has a monitor, or one of the moves is for it. Its binding is a mark where it says so. It has its answer twice.
+-- The plan fits the store: where one of its moves has a slot, the index leads to it, and a slot to which the index
+-- leads has a monitor, or one of the moves is for it. Its binding is a mark where it says so. It has its answer twice.
 pub record IsPlanFor {S : Type 0} (store : Contents S) (plan : Plan S) : Type 0 where
   pub twice : plan.copy ≡ plan.answer
   pub known : IsTrue plan.known → Contains store.marks plan.binding
   pub apart : AreApart plan.moves.items
-  pub placed : (move : Move S) (k : ℕ) → Contains plan.moves.items move → move.slot ≡ Some k → Contains store.index.list (record { binding = move.monitor.instance; slot = k })
+  pub placed : (move : Move S) (k : ℕ) → Contains plan.moves.items move → move.slot ≡ Some k
+      → Contains store.index.list (record { binding = move.monitor.instance; slot = k })
   pub filled : (pair : Pair) → Contains store.index.list pair
       → IsFilled store pair ⊎ IsPlannedBy plan.moves.items pair
 
@@ -86,19 +92,24 @@ pub record IsCarriedOut {S : Type 0} (before after : Contents S) (plan : Plan S)
   pub ending : after.ending ≡ before.ending
   pub dropped : after.index.dropped ≡ before.index.dropped
 
--- The plan is that of the event with this letter after the trace: its answer is the event's, and once it is carried out the
--- contents are a store of the trace with the event, in which no monitor above the event's binding is cut. Each monitor is
--- then that of a move, or a stored one that the event's binding isn't below.
-pub record IsPlanOf (m : Meaning) {S : Type 0} (Stands : S → List ℕ → Type 0) (trace : List ParametricEvent) (dead : List Bool) (letter : ℕ) (contents : Contents S) (plan : Plan S) : Type 0 where
+-- The plan is that of the event with this letter after the trace: its answer is the event's, and once it is carried out
+-- the contents are a store of the trace with the event, in which no monitor above the event's binding is cut. Each
+-- monitor is then that of a move, or a stored one that the event's binding isn't below.
+pub record IsPlanOf (m : Meaning) {S : Type 0} (Stands : S → List ℕ
+    → Type 0) (trace : List ParametricEvent) (dead : List Bool) (letter : ℕ) (contents : Contents S)
+    (plan : Plan S) : Type 0 where
   pub answer : IsAnswer m trace (record { letter = letter; binding = plan.binding }) plan.answer
-  pub store : (after : Contents S) → IsCarriedOut contents after plan → IsStoreAfter m Stands (trace ++ record { letter = letter; binding = plan.binding } ∷ []) dead after
+  pub store : (after : Contents S) → IsCarriedOut contents after plan
+      → IsStoreAfter m Stands (trace ++ record { letter = letter; binding = plan.binding } ∷ []) dead after
   pub none_cut : NoneCutAbove m Stands plan.binding dead (stored_in (monitors_after contents plan))
   pub each : (s : Stored S) → Contains (stored_in (monitors_after contents plan)) s
-      → ((move : Move S) × Contains plan.moves.items move × (move.monitor ≡ s) × (move.stays ≡ true)) ⊎ (Contains (stored_of contents) s × (is_below plan.binding s.instance ≡ false))
+      → ((move : Move S) × Contains plan.moves.items move × (move.monitor ≡ s) × (move.stays ≡ true))
+      ⊎ (Contains (stored_of contents) s × (is_below plan.binding s.instance ≡ false))
 
 -- Instance t has the pair of a slot which no pair had and in which there was no monitor; or it had a pair before.
 abbrev pub IsPlaced : {S : Type 0} → Contents S → Contents S → Binding → Option ℕ → Type 0
-IsPlaced old new t None = (new.index.list ≡ old.index.list) × ((pair : Pair) × Contains old.index.list pair × (pair.binding ≡ t))
+IsPlaced old new t None =
+    (new.index.list ≡ old.index.list) × ((pair : Pair) × Contains old.index.list pair × (pair.binding ≡ t))
 IsPlaced old new t (Some k) =
     (new.index.list ≡ old.index.list ++ record { binding = t; slot = k } ∷ [])
     × ((pair : Pair) → Contains old.index.list pair → pair.slot ≡ k → ⊥)
@@ -107,16 +118,19 @@ IsPlaced old new t (Some k) =
 -- where a move has a slot, the index leads to it
 abbrev pub ArePlaced : {S : Type 0} → Contents S → List (Move S) → Type 0
 ArePlaced {S} store moves =
-    (move : Move S) (k : ℕ) → Contains moves move → move.slot ≡ Some k → Contains store.index.list (record { binding = move.monitor.instance; slot = k })
+    (move : Move S) (k : ℕ) → Contains moves move → move.slot ≡ Some k
+    → Contains store.index.list (record { binding = move.monitor.instance; slot = k })
 
--- a move that had no slot gets that of its new pair, or none where its instance had a pair; one that had a slot keeps it
+-- a move that had no slot gets that of its new pair, or none where its instance had a pair; one that had a slot keeps
+-- it
 abbrev pub IsSlotted : {S : Type 0} → Contents S → Contents S → Move S → Option ℕ → Type 0
 IsSlotted old new move slot =
     ((new.index.list ≡ old.index.list) × ((k : ℕ) × (move.slot ≡ Some k) × (slot ≡ Some k)))
     ⊎ ((move.slot ≡ None) × IsPlaced old new move.monitor.instance slot)
 
 -- the move was put at the end, with its slot
-pub record IsPlacedNext {S : Type 0} (old new : Contents S) (move : Move S) (before after : List (Move S)) : Type 0 where
+pub record IsPlacedNext {S : Type 0} (old new : Contents S) (move : Move S)
+    (before after : List (Move S)) : Type 0 where
   pub slot : Option ℕ
   pub slotted : IsSlotted old new move slot
   pub grown : after ≡ before ++ record { slot = slot; monitor = move.monitor; stays = move.stays } ∷ []
@@ -132,38 +146,47 @@ pub record IsPlacedFrom {S : Type 0} (old : Contents S) (first move : Move S) : 
 abbrev pub AreDistinct : {S : Type 0} → List (Move S) → Type 0
 AreDistinct moves = AllPairs (λ x y. x.monitor.instance ≢ y.monitor.instance) moves
 
--- The moves of a plan that is being opened: one for each of those that were done, each with a slot, unless its instance was
--- stored before or another move has its instance.
+-- The moves of a plan that is being opened: one for each of those that were done, each with a slot, unless its instance
+-- was stored before or another move has its instance.
 pub record ArePlacedOf {S : Type 0} (old new : Contents S) (moves done placed : List (Move S)) : Type 0 where
   pub apart : AreApart placed
   pub leads : ArePlaced new placed
   pub filled : (pair : Pair) → Contains new.index.list pair → IsFilled new pair ⊎ IsPlannedBy placed pair
-  pub each : (move : Move S) → Contains placed move → (first : Move S) × Contains done first × IsPlacedFrom old first move
+  pub each : (move : Move S) → Contains placed move → (first : Move S) × Contains done first
+      × IsPlacedFrom old first move
       × (AreDistinct moves → move.slot ≡ None → HasInstance (stored_of old) first.monitor.instance)
-  pub all : (first : Move S) → Contains done first → (move : Move S) × Contains placed move × IsPlacedFrom old first move
+  pub all : (first : Move S) → Contains done first → (move : Move S) × Contains placed move
+      × IsPlacedFrom old first move
       × (AreDistinct moves → move.slot ≡ None → HasInstance (stored_of old) first.monitor.instance)
   pub kept : (pair : Pair) → Contains old.index.list pair → Contains new.index.list pair
 
--- The index has the pair of each monitor's instance and slot, no two pairs of one binding, and none of a slot that isn't there.
+-- The index has the pair of each monitor's instance and slot, no two pairs of one binding, and none of a slot that
+-- isn't there.
 pub record ArePaired {S : Type 0} (store : Contents S) : Type 0 where
-  pub paired : (k : ℕ) (s : Stored S) → monitor_at store.monitors k ≡ Some s → Contains store.index.list (record { binding = s.instance; slot = k })
+  pub paired : (k : ℕ) (s : Stored S) → monitor_at store.monitors k ≡ Some s
+      → Contains store.index.list (record { binding = s.instance; slot = k })
   pub bindings : AllPairs (λ a b. a.binding ≢ b.binding) store.index.list
   pub within : (pair : Pair) → Contains store.index.list pair → pair.slot < length store.monitors
 
--- The event with this letter and binding was done: this is its answer, and the contents are a store of the trace with the
--- event, in which no monitor above its binding is cut.
-pub record IsEventDone (m : Meaning) {S : Type 0} (Stands : S → List ℕ → Type 0) (trace : List ParametricEvent) (dead : List Bool) (letter : ℕ) (b : Binding) (after : Contents S) (firings : List Firing) : Type 0 where
+-- The event with this letter and binding was done: this is its answer, and the contents are a store of the trace with
+-- the event, in which no monitor above its binding is cut.
+pub record IsEventDone (m : Meaning) {S : Type 0} (Stands : S → List ℕ
+    → Type 0) (trace : List ParametricEvent) (dead : List Bool) (letter : ℕ) (b : Binding) (after : Contents S)
+    (firings : List Firing) : Type 0 where
   pub answer : IsAnswer m trace (record { letter = letter; binding = b }) firings
   pub store : IsStoreAfter m Stands (trace ++ record { letter = letter; binding = b } ∷ []) dead after
   pub none_cut : NoneCutAbove m Stands b dead (stored_of after)
 
--- The monitor of slot k was moved by the letter: it has the next state, or it is gone where that is cut. The answer is its
--- report, and nothing else changed but letters that were kept.
-pub record IsSlotAdvanced (m : Meaning) {S : Type 0} (Stands : S → List ℕ → Type 0) (letter : ℕ) (dead : List Bool) (k : ℕ) (base : Stored S) (before after : Contents S) (stays : Bool) (firings : List Firing) : Type 0 where
+-- The monitor of slot k was moved by the letter: it has the next state, or it is gone where that is cut. The answer is
+-- its report, and nothing else changed but letters that were kept.
+pub record IsSlotAdvanced (m : Meaning) {S : Type 0} (Stands : S → List ℕ
+    → Type 0) (letter : ℕ) (dead : List Bool) (k : ℕ) (base : Stored S) (before after : Contents S) (stays : Bool)
+    (firings : List Firing) : Type 0 where
   pub state : S
   pub next : IsNext m Stands letter dead base.instance base.state state stays
   pub report : IsReport m Stands (record { instance = base.instance; state = state } ∷ []) firings
-  pub monitors : after.monitors ≡ slice_set before.monitors k (cond stays (Some (record { instance = base.instance; state = state })) None)
+  pub monitors : after.monitors ≡ slice_set before.monitors k
+      (cond stays (Some (record { instance = base.instance; state = state })) None)
   pub marks : after.marks ≡ before.marks
   pub fewer : EndsFewer before.ending after.ending
   pub ended : IsEnding m Stands after.ending (record { instance = base.instance; state = state })

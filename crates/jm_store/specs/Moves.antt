@@ -14,51 +14,63 @@ use Rattle.jm_store.specs.declared.moves.Move.{Move}
 use Rattle.jm_store.specs.Slots.{monitor_at}
 
 -- the state of instance t follows a base by the letter, and the flag tells whether it isn't cut
-pub record IsNext (m : Meaning) {S : Type 0} (Stands : S → List ℕ → Type 0) (letter : ℕ) (dead : List Bool) (t : Binding) (base state : S) (stays : Bool) : Type 0 where
+pub record IsNext (m : Meaning) {S : Type 0} (Stands : S → List ℕ
+    → Type 0) (letter : ℕ) (dead : List Bool) (t : Binding) (base state : S) (stays : Bool) : Type 0 where
   pub next : Follows Stands letter base state
   pub alive : stays ≡ true → IsAliveState m Stands state (dead_mask_of dead t)
   pub cut : stays ≡ false → IsCutState m Stands state (dead_mask_of dead t)
 
 -- the monitor of instance t whose state follows a base by the letter, and whether it isn't cut
-pub record IsAdvanced (m : Meaning) {S : Type 0} (Stands : S → List ℕ → Type 0) (letter : ℕ) (dead : List Bool) (k : Option ℕ) (t : Binding) (base : S) (move : Move S) : Type 0 where
+pub record IsAdvanced (m : Meaning) {S : Type 0} (Stands : S → List ℕ
+    → Type 0) (letter : ℕ) (dead : List Bool) (k : Option ℕ) (t : Binding) (base : S) (move : Move S) : Type 0 where
   pub slot : move.slot ≡ k
   pub instance : move.monitor.instance ≡ t
   pub next : Follows Stands letter base move.monitor.state
   pub alive : move.stays ≡ true → IsAliveState m Stands move.monitor.state (dead_mask_of dead t)
   pub cut : move.stays ≡ false → IsCutState m Stands move.monitor.state (dead_mask_of dead t)
 
--- The monitor s of slot k moves: the event's binding lies below its instance; or it makes a new instance, which has no slot.
-pub record IsMoved (m : Meaning) {S : Type 0} (Stands : S → List ℕ → Type 0) (letter : ℕ) (b : Binding) (dead : List Bool) (marks : List Binding) (k : ℕ) (s : Stored S) (move : Move S) : Type 0 where
+-- The monitor s of slot k moves: the event's binding lies below its instance; or it makes a new instance, which has no
+-- slot.
+pub record IsMoved (m : Meaning) {S : Type 0} (Stands : S → List ℕ
+    → Type 0) (letter : ℕ) (b : Binding) (dead : List Bool) (marks : List Binding) (k : ℕ) (s : Stored S)
+    (move : Move S) : Type 0 where
   pub is_base : IsBase b marks s
-  pub advanced : IsAdvanced m Stands letter dead (cond (is_below b s.instance) (Some k) None) (join s.instance b) s.state move
+  pub advanced : IsAdvanced m Stands letter dead (cond (is_below b s.instance) (Some k) None)
+      (join s.instance b) s.state move
 
 -- The event makes nothing of the monitor s: it doesn't reach it, or the new instance would be lost at once.
-abbrev pub IsLeft : Meaning → {S : Type 0} → (S → List ℕ → Type 0) → ℕ → Binding → List Bool → List Binding → Stored S → Type 0
+abbrev pub IsLeft : Meaning → {S : Type 0} → (S → List ℕ → Type 0) → ℕ → Binding → List Bool → List Binding → Stored S
+    → Type 0
 IsLeft m {S} Stands letter b dead marks s =
     (IsBase b marks s → ⊥)
     ⊎ ((is_below b s.instance ≡ false)
     × IsOverAfter m Stands letter s.state (dead_mask_of dead (join s.instance b)))
 
 -- what the event makes of the monitor s of slot k
-abbrev pub IsOutcome : Meaning → {S : Type 0} → (S → List ℕ → Type 0) → ℕ → Binding → List Bool → List Binding → ℕ → Stored S → Option (Move S) → Type 0
+abbrev pub IsOutcome : Meaning → {S : Type 0} → (S → List ℕ → Type 0) → ℕ → Binding → List Bool → List Binding → ℕ
+    → Stored S → Option (Move S) → Type 0
 IsOutcome m {S} Stands letter b dead marks k s None = IsLeft m Stands letter b dead marks s
 IsOutcome m {S} Stands letter b dead marks k s (Some move) = IsMoved m Stands letter b dead marks k s move
 
 -- and of slot k, whatever is in it
-abbrev pub IsOutcomeIn : Meaning → {S : Type 0} → (S → List ℕ → Type 0) → ℕ → Binding → List Bool → List Binding → ℕ → Option (Stored S) → Option (Move S) → Type 0
+abbrev pub IsOutcomeIn : Meaning → {S : Type 0} → (S → List ℕ → Type 0) → ℕ → Binding → List Bool → List Binding → ℕ
+    → Option (Stored S) → Option (Move S) → Type 0
 IsOutcomeIn m {S} Stands letter b dead marks k None move = move ≡ None
 IsOutcomeIn m {S} Stands letter b dead marks k (Some s) move = IsOutcome m Stands letter b dead marks k s move
 
-abbrev pub IsOutcomeAt : Meaning → {S : Type 0} → (S → List ℕ → Type 0) → ℕ → Binding → List Bool → List Binding → List (Option (Stored S)) → ℕ → Option (Move S) → Type 0
-IsOutcomeAt m {S} Stands letter b dead marks monitors k move = IsOutcomeIn m Stands letter b dead marks k (monitor_at monitors k) move
+abbrev pub IsOutcomeAt : Meaning → {S : Type 0} → (S → List ℕ → Type 0) → ℕ → Binding → List Bool → List Binding
+    → List (Option (Stored S)) → ℕ → Option (Move S) → Type 0
+IsOutcomeAt m {S} Stands letter b dead marks monitors k move = IsOutcomeIn m Stands letter b dead marks k
+    (monitor_at monitors k) move
 
 -- ys has what R gives for each of xs, in order, where it gives something
 abbrev pub AreGiven : {X Y : Type 0} → (X → Option Y → Type 0) → List X → List Y → Type 0
 AreGiven {X} {Y} R [] ys = ys ≡ []
-AreGiven {X} {Y} R (x ∷ xs) ys = (o : Option Y) × R x o × ((rest : List Y) × AreGiven R xs rest × (ys ≡ cons_option o rest))
+AreGiven {X} {Y} R (x ∷ xs) ys = (o : Option Y) × R x o
+    × ((rest : List Y) × AreGiven R xs rest × (ys ≡ cons_option o rest))
 
--- Whether an event reads the monitors with this set of parameters: those that it can lie below; and others where its binding is
--- no mark, unless it ends all of them.
+-- Whether an event reads the monitors with this set of parameters: those that it can lie below; and others where its
+-- binding is no mark, unless it ends all of them.
 abbrev pub is_asked : Bool → Bool → Binding → ℕ → Bool
 is_asked known ends b domain = (bit_and (mask_of b) domain == mask_of b) || (not known && not ends)
 
@@ -80,7 +92,8 @@ visited asks b pairs (d ∷ domains) = cond (asks d) (asked_slots d b pairs) [] 
 
 -- the letters kept for a monitor's set of parameters end it
 abbrev pub IsEnding : Meaning → {S : Type 0} → (S → List ℕ → Type 0) → List ℕ → Stored S → Type 0
-IsEnding m {S} Stands ending s = (e : ℕ) → ends_all ending e (mask_of s.instance) ≡ true → IsOverAfter m Stands e s.state 0
+IsEnding m {S} Stands ending s = (e : ℕ) → ends_all ending e (mask_of s.instance) ≡ true
+    → IsOverAfter m Stands e s.state 0
 
 -- they end each of the monitors
 abbrev pub AreEnding : Meaning → {S : Type 0} → (S → List ℕ → Type 0) → List ℕ → List (Stored S) → Type 0
@@ -90,15 +103,20 @@ AreEnding m {S} Stands ending stored = (s : Stored S) → Contains stored s → 
 abbrev pub EndsFewer : List ℕ → List ℕ → Type 0
 EndsFewer old new = (e d : ℕ) → ends_all new e d ≡ true → ends_all old e d ≡ true
 
--- The slots that an event reads are distinct, and each has a monitor that is compatible with its binding. Those whose sets of
--- parameters are asked are among them.
-pub record AreVisited {S : Type 0} (asks : ℕ → Bool) (b : Binding) (monitors : List (Option (Stored S))) (slots : List ℕ) : Type 0 where
+-- The slots that an event reads are distinct, and each has a monitor that is compatible with its binding. Those whose
+-- sets of parameters are asked are among them.
+pub record AreVisited {S : Type 0} (asks : ℕ
+    → Bool) (b : Binding) (monitors : List (Option (Stored S))) (slots : List ℕ) : Type 0 where
   pub apart : AllPairs (λ j k. j ≢ k) slots
-  pub each : (k : ℕ) → Contains slots k → (s : Stored S) × (monitor_at monitors k ≡ Some s) × (is_compatible s.instance b ≡ true)
-  pub all : (k : ℕ) (s : Stored S) → monitor_at monitors k ≡ Some s → is_compatible s.instance b ≡ true → asks (mask_of s.instance) ≡ true → Contains slots k
+  pub each : (k : ℕ) → Contains slots k → (s : Stored S) × (monitor_at monitors k ≡ Some s)
+      × (is_compatible s.instance b ≡ true)
+  pub all : (k : ℕ) (s : Stored S) → monitor_at monitors k ≡ Some s → is_compatible s.instance b ≡ true
+      → asks (mask_of s.instance) ≡ true → Contains slots k
 
 -- the moves that an event makes, for all slots that it reads
-pub record AreMovesOf (m : Meaning) {S : Type 0} (Stands : S → List ℕ → Type 0) (letter : ℕ) (b : Binding) (dead : List Bool) (marks : List Binding) (asks : ℕ → Bool) (monitors : List (Option (Stored S))) (moves : List (Move S)) : Type 0 where
+pub record AreMovesOf (m : Meaning) {S : Type 0} (Stands : S → List ℕ
+    → Type 0) (letter : ℕ) (b : Binding) (dead : List Bool) (marks : List Binding) (asks : ℕ
+    → Bool) (monitors : List (Option (Stored S))) (moves : List (Move S)) : Type 0 where
   pub slots : List ℕ
   pub visit : AreVisited asks b monitors slots
   pub given : AreGiven (IsOutcomeAt m Stands letter b dead marks monitors) slots moves
@@ -146,7 +164,8 @@ abbrev pub pairs_after : {S : Type 0} → Move S → List Pair → List Pair
 pairs_after move pairs = pairs_at move.slot (cond move.stays pairs (without move.monitor.instance pairs)) pairs
 
 -- a slot's monitor after a pass: gone, if it is cut
-abbrev pub IsSwept : Meaning → {S : Type 0} → (S → List ℕ → Type 0) → List Bool → Option (Stored S) → Option (Stored S) → Type 0
+abbrev pub IsSwept : Meaning → {S : Type 0} → (S → List ℕ → Type 0) → List Bool → Option (Stored S) → Option (Stored S)
+    → Type 0
 IsSwept m Stands dead None new = new ≡ None
 IsSwept m Stands dead (Some s) None = IsCutState m Stands s.state (dead_mask_of dead s.instance)
 IsSwept m Stands dead (Some s) (Some t) = (t ≡ s) × IsAliveState m Stands s.state (dead_mask_of dead s.instance)

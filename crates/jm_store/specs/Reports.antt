@@ -8,7 +8,8 @@ use Rattle.jm_monitors.specs.declared.stored.Stored.{Stored}
 -- the firings of instance t, in order, for the handlers below n whose bits are set
 unfoldable pub firings_below : Binding → ℕ → ℕ → List Firing
 firings_below t hits zero = []
-firings_below t hits (suc n) = firings_below t hits n ++ cond (bit_at hits n == 1) (record { instance = t; handler = n } ∷ []) []
+firings_below t hits (suc n) =
+    firings_below t hits n ++ cond (bit_at hits n == 1) (record { instance = t; handler = n } ∷ []) []
 
 -- the instances of monitors
 abbrev pub instances_of : {S : Type 0} → List (Stored S) → List Binding

@@ -25,8 +25,8 @@ pub(crate) struct Event<'a, M: Monitor> {
 }
 
 impl<M: Monitor> Event<'_, M> {
-    /// Whether monitors with this set of parameters are read, where `ending` are letters that end all of these. Where the
-    /// binding is a mark, it makes no new instance.
+    /// Whether monitors with this set of parameters are read, where `ending` are letters that end all of these. Where
+    /// the binding is a mark, it makes no new instance.
     pub(crate) fn asks(&self, ending: u32, domain: u8) -> bool
         requires { self.now.letter.0 < (M.meaning (M.definition self.now.rules.now)).letters }
         ensures { result ≡ is_asked self.now.known (bit_at ending self.now.letter.0 == 1) self.now.binding.now domain }
@@ -36,7 +36,8 @@ impl<M: Monitor> Event<'_, M> {
         mask & domain == mask || (!self.known && (ending >> self.letter.0) % 2 != 1)
     }
 
-    /// Puts what the monitor of a slot becomes, or the new instance that it makes, at the end of the moves, if it does either.
+    /// Puts what the monitor of a slot becomes, or the new instance that it makes, at the end of the moves, if it does
+    /// either.
     pub(crate) fn add_outcome(
         &self,
         slot: usize,
@@ -46,7 +47,8 @@ impl<M: Monitor> Event<'_, M> {
         requires letter { self.now.letter.0 < (M.meaning (M.definition self.now.rules.now)).letters }
         requires known { IsTrue self.now.known ↔ Contains self.now.marks.now.list self.now.binding.now }
         requires compatible { IsTrue (is_compatible base.now.instance self.now.binding.now) }
-        ensures { OnOk result (IsPushed (IsOutcome (M.meaning (M.definition self.now.rules.now)) (M.StandsFor self.now.rules.now)
+        ensures { OnOk result (IsPushed
+            (IsOutcome (M.meaning (M.definition self.now.rules.now)) (M.StandsFor self.now.rules.now)
             self.now.letter.0 self.now.binding.now self.now.objects.now self.now.marks.now.list slot) base.now moves.old.items moves.new.items) }
     {
         if self.binding.le(&base.instance) {
@@ -81,7 +83,8 @@ impl<M: Monitor> Event<'_, M> {
     #[inline(always)]
     fn advance(&self, instance: &Binding, base: &M::State) -> Result<(M::State, bool), NoMemory>
         requires { self.now.letter.0 < (M.meaning (M.definition self.now.rules.now)).letters }
-        ensures { IfOk result (λ next. IsNext (M.meaning (M.definition self.now.rules.now)) (M.StandsFor self.now.rules.now)
+        ensures { IfOk result (λ next. IsNext (M.meaning (M.definition self.now.rules.now))
+            (M.StandsFor self.now.rules.now)
             self.now.letter.0 self.now.objects.now instance.now base.now next.0 next.1) }
     {
         let state = self.rules.next(base, self.letter)?;

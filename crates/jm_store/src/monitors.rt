@@ -212,8 +212,10 @@ fn count_at<S>(slots: &[Slot<S>], slot: usize) -> usize
 
 /// Whether a monitor is cut.
 fn is_cut<M: Monitor>(rules: &M, objects: &Objects, monitor: &Stored<M::State>) -> bool
-    ensures yes { result ≡ true → IsCutState (M.meaning (M.definition rules.now)) (M.StandsFor rules.now) monitor.now.state (dead_mask_of objects.now monitor.now.instance) }
-    ensures no { result ≡ false → IsAliveState (M.meaning (M.definition rules.now)) (M.StandsFor rules.now) monitor.now.state (dead_mask_of objects.now monitor.now.instance) }
+    ensures yes { result ≡ true → IsCutState (M.meaning (M.definition rules.now))
+        (M.StandsFor rules.now) monitor.now.state (dead_mask_of objects.now monitor.now.instance) }
+    ensures no { result ≡ false → IsAliveState (M.meaning (M.definition rules.now))
+        (M.StandsFor rules.now) monitor.now.state (dead_mask_of objects.now monitor.now.instance) }
 {
     rules.cut(&monitor.state, dead_mask(objects, &monitor.instance))
 }

@@ -46,7 +46,8 @@ impl<S> Plan<S> {
     /// Whether many monitors are reached, and the letter leaves each that stays as it is then.
     pub fn rests<M: Monitor<State = S>>(&self, rules: &M, letter: Letter) -> bool
         requires { letter.0 < (M.meaning (M.definition rules.now)).letters }
-        ensures { IsTrue result → (move : Change S) → Contains self.now.moves.items move → move.stays ≡ true → IsResting (M.meaning (M.definition rules.now)) (M.StandsFor rules.now) letter.0 move.monitor.state }
+        ensures { IsTrue result → (move : Change S) → Contains self.now.moves.items move → move.stays ≡ true
+            → IsResting (M.meaning (M.definition rules.now)) (M.StandsFor rules.now) letter.0 move.monitor.state }
     {
         if self.moves.len() < MANY {
             return false;
@@ -63,7 +64,8 @@ impl<S> Plan<S> {
 /// Whether a letter leaves a state as it is, and the state hits nothing.
 fn is_resting<M: Monitor>(rules: &M, state: &M::State, letter: Letter) -> bool
     requires { letter.0 < (M.meaning (M.definition rules.now)).letters }
-    ensures { IsTrue result → IsResting (M.meaning (M.definition rules.now)) (M.StandsFor rules.now) letter.0 state.now }
+    ensures { IsTrue result → IsResting (M.meaning (M.definition rules.now))
+        (M.StandsFor rules.now) letter.0 state.now }
 {
     let _letters = rules.letters();
     rules.hits(state) == 0 && (rules.idle(state) >> letter.0) % 2 == 1

@@ -33,8 +33,8 @@ pub struct Store<M: Monitor> {
     /// For each set of parameters letters that end all monitors with it.
     ending: [u32; 256],
     is_open: bool,
-    /// Room for the slots that an event reads, for its moves, and for these once they have slots. It is used again from event to
-    /// event.
+    /// Room for the slots that an event reads, for its moves, and for these once they have slots. It is used again from
+    /// event to event.
     slots: Vec<usize>,
     moves: Vec<Move<M::State>>,
     placed: Vec<Move<M::State>>,
@@ -78,7 +78,8 @@ impl<M: Monitor> Model for Store<M> {
 impl<M: Monitor> Store<M> {
     /// The empty binding with a state that stands for the empty word, unless that is cut; and no mark.
     pub fn new(alloc: Global, rules: &M) -> Result<Store<M>, NoMemory>
-        ensures stored { IfOk result (λ store. IsAtStart (M.meaning (M.definition rules.now)) (M.StandsFor rules.now) (stored_of store)) }
+        ensures stored { IfOk result (λ store. IsAtStart (M.meaning (M.definition rules.now)) (M.StandsFor rules.now)
+            (stored_of store)) }
         ensures marks { IfOk result (λ store. store.marks ≡ []) }
         ensures closed { IfOk result (λ store. store.is_open ≡ false) }
         ensures fits { IfOk result (λ store. (dead : List Bool) → IsFit store dead) }

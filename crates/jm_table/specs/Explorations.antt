@@ -58,7 +58,8 @@ module _ {D : Type 0} where
   -- step n leads from what its state stands for to what this state stands for
   abbrev pub LeadsTo : GraphMeaning D → ℕ → List D → ℕ → ℕ → Type 0
   LeadsTo g letters found n target =
-      (d : D) × (e : D) × (slice_get found (n / letters) ≡ Some d) × (g.step d (n % letters) ≡ Ok e) × (slice_get found target ≡ Some e)
+      (d : D) × (e : D) × (slice_get found (n / letters) ≡ Some d) × (g.step d (n % letters) ≡ Ok e)
+      × (slice_get found target ≡ Some e)
 
   -- n steps are done: this is what is found, and each next state so far is that of its step
   pub record IsInWork (g : GraphMeaning D) (letters n : ℕ) (found : List D) (next : List ℕ) : Type 0 where

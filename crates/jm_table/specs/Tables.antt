@@ -43,7 +43,8 @@ IsWord t word = All (λ letter. letter < t.letters) word
 -- The table follows the graph, where state k stands for item k of the list: after each word its state stands for what
 -- the graph reaches, each state is that after some word, and no two stand for the same.
 pub record Follows {D : Type 0} (g : GraphMeaning D) (t : Transitions) (found : List D) : Type 0 where
-  pub stands : (word : List ℕ) → IsWord t word → (d : D) × (reached_by g word ≡ Ok d) × (slice_get found (state_after_of t word) ≡ Some d)
+  pub stands : (word : List ℕ) → IsWord t word → (d : D) × (reached_by g word ≡ Ok d)
+      × (slice_get found (state_after_of t word) ≡ Some d)
   pub reached : (state : ℕ) → state < t.states → (word : List ℕ) × IsWord t word × (state_after_of t word ≡ state)
   pub distinct : IsWithoutRepeats found
   pub count : length found ≡ t.states

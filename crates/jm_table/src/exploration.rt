@@ -36,13 +36,15 @@ pub fn build<G: Graph>(
     requires { letters ≤ 32 }
     ensures shape { IfOk result (λ r. (r.0.letters ≡ letters) × (r.0.groups ≡ [])) }
     ensures follows { IfOk result (λ r. Follows (G.meaning graph.now) r.0 (map (G.data_of graph.now) r.1.items)) }
-    ensures explored { IfOk result (λ r. IsExplored (G.meaning graph.now) letters (Ok (map (G.data_of graph.now) r.1.items))) }
+    ensures explored { IfOk result (λ r. IsExplored (G.meaning graph.now) letters
+        (Ok (map (G.data_of graph.now) r.1.items))) }
     ensures fault { IfErr result (λ e. IfBad e (λ fault. IsExplored (G.meaning graph.now) letters (Err fault))) }
     ensures cause { IfErr result (λ e. IfBad e (λ fault. IsMet (G.meaning graph.now) letters fault
         ⊎ ((fault ≡ SpecFault.TooManyStates) × IsCrowded (G.meaning graph.now) letters))) }
     ensures refused { (fault : SpecFault) → IsExplored (G.meaning graph.now) letters (Err fault) →
         (result ≡ Err (SpecError.Bad fault)) ⊎ (result ≡ Err SpecError.NoMemory) }
-    ensures accepted { (found : _) → IsExplored (G.meaning graph.now) letters (Ok found) → IsOkUnless result SpecError.NoMemory }
+    ensures accepted { (found : _) → IsExplored (G.meaning graph.now) letters (Ok found)
+        → IsOkUnless result SpecError.NoMemory }
 {
     let mut work = begin(alloc, graph)?;
     let mut state = 0;
@@ -57,7 +59,8 @@ pub fn build<G: Graph>(
 
 /// The start alone.
 fn begin<G: Graph>(alloc: Global, graph: &G) -> Result<Work<G::Node>, SpecError>
-    ensures ok { IfOk result (λ w. first_found (G.meaning graph.now).start ≡ Ok (map (G.data_of graph.now) w.nodes.items)) }
+    ensures ok { IfOk result (λ w. first_found (G.meaning graph.now).start
+        ≡ Ok (map (G.data_of graph.now) w.nodes.items)) }
     ensures next { IfOk result (λ w. w.next.items ≡ []) }
     ensures index { IfOk result (λ w. IsIndex (G.key_of graph.now) (map (G.data_of graph.now) w.nodes.items) w.known) }
     ensures fault { IfErr result (λ e. IfBad e (λ fault. (G.meaning graph.now).start ≡ Err fault)) }
@@ -81,10 +84,13 @@ fn expand<G: Graph>(
     letters: u8,
 ) -> Result<(), SpecError>
     requires state { state < vec_len work.old.nodes }
-    requires work { IsInWork (G.meaning graph.now) letters (state * letters) (map (G.data_of graph.now) work.old.nodes.items) work.old.next.items }
+    requires work { IsInWork (G.meaning graph.now) letters (state * letters)
+        (map (G.data_of graph.now) work.old.nodes.items) work.old.next.items }
     requires index { IsIndex (G.key_of graph.now) (map (G.data_of graph.now) work.old.nodes.items) work.old.known }
-    ensures work { OnOk result (IsInWork (G.meaning graph.now) letters ((state + 1) * letters) (map (G.data_of graph.now) work.new.nodes.items) work.new.next.items) }
-    ensures index { OnOk result (IsIndex (G.key_of graph.now) (map (G.data_of graph.now) work.new.nodes.items) work.new.known) }
+    ensures work { OnOk result (IsInWork (G.meaning graph.now) letters ((state + 1) * letters)
+        (map (G.data_of graph.now) work.new.nodes.items) work.new.next.items) }
+    ensures index { OnOk result (IsIndex (G.key_of graph.now)
+        (map (G.data_of graph.now) work.new.nodes.items) work.new.known) }
     ensures grown { OnOk result (vec_len work.old.nodes ≤ vec_len work.new.nodes) }
     ensures fault { IfErr result (λ e. IfBad e (λ fault. IsExplored (G.meaning graph.now) letters (Err fault))) }
 {
@@ -110,8 +116,10 @@ fn follow<G: Graph>(
         IfErr result (λ e. IfBad e (λ fault. Finds (map (G.data_of graph.now) work.old.nodes.items) ((G.meaning graph.now).step d letter.0) (Err fault))) }
     ensures target { (d : _) → slice_get (map (G.data_of graph.now) work.old.nodes.items) state ≡ Some d →
         OnOk result ((e : _) × (target : ℕ) × ((G.meaning graph.now).step d letter.0 ≡ Ok e)
-        × (slice_get (map (G.data_of graph.now) work.new.nodes.items) target ≡ Some e) × (work.new.next.items ≡ work.old.next.items ++ target ∷ [])) }
-    ensures index { OnOk result (IsIndex (G.key_of graph.now) (map (G.data_of graph.now) work.new.nodes.items) work.new.known) }
+        × (slice_get (map (G.data_of graph.now) work.new.nodes.items) target ≡ Some e)
+        × (work.new.next.items ≡ work.old.next.items ++ target ∷ [])) }
+    ensures index { OnOk result (IsIndex (G.key_of graph.now)
+        (map (G.data_of graph.now) work.new.nodes.items) work.new.known) }
 {
     let node = graph.step(&work.nodes[state], letter)?;
     let target = number(graph, work, node)?;
@@ -123,10 +131,14 @@ fn follow<G: Graph>(
 fn number<G: Graph>(graph: &G, work: &mut Work<G::Node>, node: G::Node) -> Result<u16, SpecError>
     requires few { vec_len work.old.nodes ≤ 1024 }
     requires index { IsIndex (G.key_of graph.now) (map (G.data_of graph.now) work.old.nodes.items) work.old.known }
-    ensures finds { OnOk result (Finds (map (G.data_of graph.now) work.old.nodes.items) (Ok (G.data_of graph.now node)) (Ok (map (G.data_of graph.now) work.new.nodes.items))) }
-    ensures fault { IfErr result (λ e. IfBad e (λ fault. Finds (map (G.data_of graph.now) work.old.nodes.items) (Ok (G.data_of graph.now node)) (Err fault))) }
-    ensures here { IfOk result (λ number. slice_get (map (G.data_of graph.now) work.new.nodes.items) number ≡ Some (G.data_of graph.now node)) }
-    ensures index { OnOk result (IsIndex (G.key_of graph.now) (map (G.data_of graph.now) work.new.nodes.items) work.new.known) }
+    ensures finds { OnOk result (Finds (map (G.data_of graph.now) work.old.nodes.items) (Ok (G.data_of graph.now node))
+        (Ok (map (G.data_of graph.now) work.new.nodes.items))) }
+    ensures fault { IfErr result (λ e. IfBad e
+        (λ fault. Finds (map (G.data_of graph.now) work.old.nodes.items) (Ok (G.data_of graph.now node)) (Err fault))) }
+    ensures here { IfOk result (λ number. slice_get (map (G.data_of graph.now) work.new.nodes.items) number
+        ≡ Some (G.data_of graph.now node)) }
+    ensures index { OnOk result (IsIndex (G.key_of graph.now)
+        (map (G.data_of graph.now) work.new.nodes.items) work.new.known) }
     ensures next { work.new.next ≡ work.old.next }
 {
     if let Some(number) = find(graph, work, &node) {
@@ -144,7 +156,8 @@ fn find<G: Graph>(graph: &G, work: &Work<G::Node>, node: &G::Node) -> Option<u16
     requires index { IsIndex (G.key_of graph.now) (map (G.data_of graph.now) work.now.nodes.items) work.now.known }
     ensures { MatchOption result
         (Contains (map (G.data_of graph.now) work.now.nodes.items) (G.data_of graph.now node.now) → ⊥)
-        (λ number. slice_get (map (G.data_of graph.now) work.now.nodes.items) number ≡ Some (G.data_of graph.now node.now)) }
+        (λ number. slice_get (map (G.data_of graph.now) work.now.nodes.items) number
+        ≡ Some (G.data_of graph.now node.now)) }
 {
     for number in work.known.bucket(graph.key(node)) {
         if graph.same(&work.nodes[*number as usize], node) {
@@ -160,8 +173,10 @@ fn append<G: Graph>(graph: &G, work: &mut Work<G::Node>, node: G::Node) -> Resul
     requires index { IsIndex (G.key_of graph.now) (map (G.data_of graph.now) work.old.nodes.items) work.old.known }
     ensures fault { IfErr result (λ e. e ≡ SpecError.NoMemory) }
     ensures number { IfOk result (λ number. number ≡ vec_len work.old.nodes) }
-    ensures found { OnOk result (map (G.data_of graph.now) work.new.nodes.items ≡ map (G.data_of graph.now) work.old.nodes.items ++ G.data_of graph.now node ∷ []) }
-    ensures index { OnOk result (IsIndex (G.key_of graph.now) (map (G.data_of graph.now) work.new.nodes.items) work.new.known) }
+    ensures found { OnOk result (map (G.data_of graph.now) work.new.nodes.items
+        ≡ map (G.data_of graph.now) work.old.nodes.items ++ G.data_of graph.now node ∷ []) }
+    ensures index { OnOk result (IsIndex (G.key_of graph.now)
+        (map (G.data_of graph.now) work.new.nodes.items) work.new.known) }
     ensures next { work.new.next ≡ work.old.next }
 {
     let number = work.nodes.len() as u16;

@@ -35,7 +35,8 @@ impl Model for Table {
 
     ghost view = { λ t. record { states = t.states; letters = t.letters; next = t.next.items; groups = t.groups.items } };
 
-    ghost invariant = { λ t. IsTable (record { states = t.states; letters = t.letters; next = t.next.items; groups = t.groups.items }) };
+    ghost invariant = { λ t. IsTable
+        (record { states = t.states; letters = t.letters; next = t.next.items; groups = t.groups.items }) };
 }
 
 impl Table {

@@ -78,6 +78,7 @@ piece_of bytes =
     if is_white (slice_index bytes 0) then Gap 1
     else if starts_with nat_eq bytes (codes "//") then Gap (line_length bytes)
     else if starts_with nat_eq bytes (codes "/*") then closed Gap (plus 2 (comment_rest (drop 2 bytes)))
-    else if is_quote (slice_index bytes 0) then closed (Cut Text) (plus 1 (text_rest (slice_index bytes 0) (drop 1 bytes)))
+    else if is_quote (slice_index bytes 0)
+    then closed (Cut Text) (plus 1 (text_rest (slice_index bytes 0) (drop 1 bytes)))
     else if is_word_byte (slice_index bytes 0) then Cut Word (prefix_len is_word_byte bytes)
     else Cut Mark (mark_length bytes)

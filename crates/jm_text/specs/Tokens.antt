@@ -1,5 +1,5 @@
--- The tokens of a specification: its bytes are cut into pieces from the front on, and the pieces that are white space or
--- comments are dropped.
+-- The tokens of a specification: its bytes are cut into pieces from the front on, and the pieces that are white space
+-- or comments are dropped.
 use Rattle.std.specs.Prelude.{ℕ, zero, suc, ◌≡◌, ◌+◌, ◌-◌, ◌<◌, ◌≤◌, ◌==◌, List, [], ◌∷◌, Result, Ok, Err, if◌then◌else◌, IsUtf8}
 use Rattle.jm_model.specs.declared.fault.SpecError.{SpecError}
 use Rattle.jm_model.specs.declared.fault.SpecError.TheVariants.{Bad, NoMemory}
@@ -29,17 +29,19 @@ line_after b line = if b == line_feed then line + 1 else line
 -- comment that isn't closed stands in their place.
 abbrev pub led_by : Piece → ℕ → ℕ → Result (List Token) ℕ → Result (List Token) ℕ
 led_by (Gap n) start line tokens = tokens
-led_by (Cut kind n) start line (Ok tokens) = Ok (record { kind = kind; start = start; end = start + n; line = line } ∷ tokens)
+led_by (Cut kind n) start line (Ok tokens) =
+    Ok (record { kind = kind; start = start; end = start + n; line = line } ∷ tokens)
 led_by (Cut kind n) start line (Err opening) = Err opening
 led_by Open start line tokens = Err line
 
--- the tokens of the bytes behind the first few, which belong to the piece before; the first byte stands at this place and
--- on this line
+-- the tokens of the bytes behind the first few, which belong to the piece before; the first byte stands at this place
+-- and on this line
 abbrev pub tokens_behind : ℕ → List ℕ → ℕ → ℕ → Result (List Token) ℕ
 tokens_behind taken [] start line = Ok []
 tokens_behind (suc taken) (b ∷ bs) start line = tokens_behind taken bs (start + 1) (line_after b line)
 tokens_behind zero (b ∷ bs) start line =
-    led_by (piece_of (b ∷ bs)) start line (tokens_behind (piece_length (piece_of (b ∷ bs)) - 1) bs (start + 1) (line_after b line))
+    led_by (piece_of (b ∷ bs)) start line
+    (tokens_behind (piece_length (piece_of (b ∷ bs)) - 1) bs (start + 1) (line_after b line))
 
 -- the tokens of a whole file, or the line of the first text or comment that isn't closed; lines are counted from 1
 unfoldable pub token_list : List ℕ → Result (List Token) ℕ

@@ -60,7 +60,8 @@ HaveOneHistory {E} xs ys = (all : List E) × IsPrefix xs all × IsPrefix ys all
 
 -- One turn. The act found a list that goes on from what the seat had seen, gave this answer, and left
 -- the list with one entry more, the seat's. The seat has seen that list, and the entry is one more of its own
-pub record TakesTurn {E F R : Type 0} (caller : E → ℕ) (relates : List E → R → List E → Type 0) (answer : R) (before after : SeatModel E F) : Type 0 where
+pub record TakesTurn {E F R : Type 0} (caller : E → ℕ) (relates : List E → R → List E
+    → Type 0) (answer : R) (before after : SeatModel E F) : Type 0 where
   pub found : List E
   pub entry : E
   pub begins : IsPrefix before.seen found

@@ -71,7 +71,8 @@ module _ {V E F : Type 0} where
 
 module _ {V E F : Type 0} (entries : V → List E) (caller : E → ℕ) (part : V → F) where
   -- an act of the number n gave the answer, and changed the value that the seat holds: its list has one entry more
-  pub record HasRun {R : Type 0} (n : ℕ) (relates : F → List E → R → List E → Type 0) (answer : R) (m m' : Me (Option V) (View E F)) : Type 0 where
+  pub record HasRun {R : Type 0} (n : ℕ) (relates : F → List E → R → List E
+      → Type 0) (answer : R) (m m' : Me (Option V) (View E F)) : Type 0 where
     pub before : V
     pub after : V
     pub entry : E
@@ -105,8 +106,10 @@ IsRecorded v n seen = ((v.number ≡ Some n) × (v.seen ≡ seen)) ⊎ HasJoined
 
 -- The value of a lock whose seats are all joined into one: its list goes on from what each had seen,
 -- with no further entry of that number, and has no entry of a number that none of them had
-pub record IsValueOf {V E F : Type 0} (entries : V → List E) (caller : E → ℕ) (part : V → F) (f : F) (all : View E F) (value : V) : Type 0 where
+pub record IsValueOf {V E F : Type 0} (entries : V → List E) (caller : E → ℕ) (part : V
+    → F) (f : F) (all : View E F) (value : V) : Type 0 where
   pub fixed : part value ≡ f
   pub seen : (n : ℕ) (seen : List E) → IsRecorded all n seen → IsPrefix seen (entries value)
-  pub own : (n : ℕ) (seen : List E) → IsRecorded all n seen → entries_by caller n (entries value) ≡ entries_by caller n seen
+  pub own : (n : ℕ) (seen : List E) → IsRecorded all n seen
+      → entries_by caller n (entries value) ≡ entries_by caller n seen
   pub known : (i : ℕ) (e : E) → slice_get (entries value) i ≡ Some e → 0 < times (caller e) (numbers_in all)

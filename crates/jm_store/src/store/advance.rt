@@ -50,8 +50,8 @@ impl<M: Monitor> Store<M> {
         self.marks.contains(binding)
     }
 
-    /// Does an event whose binding is a mark, if it reaches no monitor or one alone and memory isn't wanting. Where it doesn't
-    /// do it, all is as before. Only monitors that are compatible with the binding are read.
+    /// Does an event whose binding is a mark, if it reaches no monitor or one alone and memory isn't wanting. Where it
+    /// doesn't do it, all is as before. Only monitors that are compatible with the binding are read.
     pub fn advance_one<L: Ledger>(
         &mut self,
         rules: &M,
@@ -73,8 +73,10 @@ impl<M: Monitor> Store<M> {
             → (s : Kept M.State) → Contains (stored_of self.new) s → Contains (stored_of self.old) s) }
         ensures works { MatchOption result (Unit {0}) (λ done. (trace : List ParametricEvent)
             → IsStoreAfter (M.meaning (M.definition rules.now)) (M.StandsFor rules.now) trace objects.now self.old
-            → IsEventDone (M.meaning (M.definition rules.now)) (M.StandsFor rules.now) trace objects.now letter.0 binding.now self.new done.answer) }
-        ensures steps { steps.new ≤ steps.old + count_by (λ s. is_compatible s.instance binding.now) (stored_of self.old) }
+            → IsEventDone (M.meaning (M.definition rules.now))
+            (M.StandsFor rules.now) trace objects.now letter.0 binding.now self.new done.answer) }
+        ensures steps { steps.new ≤ steps.old + count_by (λ s. is_compatible s.instance binding.now)
+            (stored_of self.old) }
     {
         let mut slots = self.take_slots();
         let above = self.only_slot_above(objects, binding, &mut slots);

@@ -20,7 +20,8 @@ impl<M: Monitor> Store<M> {
         ensures marks { AreMarksAfter plan.binding self.old.marks self.new.marks }
         ensures ending { self.new.ending ≡ self.old.ending }
         ensures closed { self.new.is_open ≡ false }
-        ensures fits { (dead : List Bool) → IsFit self.old dead → AreBelow (length dead) plan.binding → IsFit self.new dead }
+        ensures fits { (dead : List Bool) → IsFit self.old dead → AreBelow (length dead) plan.binding
+            → IsFit self.new dead }
         ensures works { (rules : M) (trace : List ParametricEvent) (dead : List Bool) (letter : ℕ)
             → IsPlanOf (M.meaning (M.definition rules)) (M.StandsFor rules) trace dead letter self.old plan
             → IsStoreAfter (M.meaning (M.definition rules)) (M.StandsFor rules)
@@ -48,7 +49,8 @@ impl<M: Monitor> Store<M> {
     /// Carries a move out.
     fn carry_out(&mut self, step: Move<M::State>)
         requires open { self.old.is_open ≡ true }
-        requires placed { (k : ℕ) → step.slot ≡ Some k → Contains self.old.index.list (record { binding = step.monitor.instance; slot = k }) }
+        requires placed { (k : ℕ) → step.slot ≡ Some k
+            → Contains self.old.index.list (record { binding = step.monitor.instance; slot = k }) }
         ensures open { self.new.is_open ≡ true }
         ensures monitors { self.new.monitors ≡ after_move step self.old.monitors }
         ensures marks { self.new.marks ≡ self.old.marks }

@@ -18,8 +18,10 @@ impl<M: Monitor> Store<M> {
     pub fn dispose(&mut self, rules: &M, objects: &Objects) -> u64
         requires closed { self.old.is_open ≡ false }
         requires fits { IsFit self.old objects.now }
-        ensures thinned { IsThinned (M.meaning (M.definition rules.now)) (M.StandsFor rules.now) objects.now (stored_of self.old) (stored_of self.new) }
-        ensures alive { AreSpared (M.meaning (M.definition rules.now)) (M.StandsFor rules.now) self.old.index.dropped (stored_of self.old)
+        ensures thinned { IsThinned (M.meaning (M.definition rules.now)) (M.StandsFor rules.now) objects.now
+            (stored_of self.old) (stored_of self.new) }
+        ensures alive { AreSpared (M.meaning (M.definition rules.now)) (M.StandsFor rules.now) self.old.index.dropped
+            (stored_of self.old)
             → AreSpared (M.meaning (M.definition rules.now)) (M.StandsFor rules.now) objects.now (stored_of self.new) }
         ensures marks { AreLiveMarks objects.now self.old.marks self.new.marks }
         ensures ending { self.new.ending ≡ self.old.ending }
@@ -37,12 +39,14 @@ impl<M: Monitor> Store<M> {
         self.monitors.len()
     }
 
-    /// Drops the monitors that are cut. These bind objects that died since the last pass, so that no others are looked at,
-    /// unless there is no room for a list of them.
+    /// Drops the monitors that are cut. These bind objects that died since the last pass, so that no others are looked
+    /// at, unless there is no room for a list of them.
     fn drop_all_cut(&mut self, rules: &M, objects: &Objects)
         requires closed { self.old.is_open ≡ false }
-        ensures down { IsCutDown (M.meaning (M.definition rules.now)) (M.StandsFor rules.now) objects.now self.old self.new }
-        ensures all { AreSpared (M.meaning (M.definition rules.now)) (M.StandsFor rules.now) self.old.index.dropped (stored_of self.old)
+        ensures down { IsCutDown (M.meaning (M.definition rules.now))
+            (M.StandsFor rules.now) objects.now self.old self.new }
+        ensures all { AreSpared (M.meaning (M.definition rules.now)) (M.StandsFor rules.now) self.old.index.dropped
+            (stored_of self.old)
             → (k : ℕ) → IsSwept (M.meaning (M.definition rules.now)) (M.StandsFor rules.now) objects.now
             (monitor_at self.old.monitors k) (monitor_at self.new.monitors k) }
     {
@@ -58,7 +62,8 @@ impl<M: Monitor> Store<M> {
     /// Drops those in these slots.
     fn drop_cut_in(&mut self, rules: &M, objects: &Objects, slots: &[usize])
         requires closed { self.old.is_open ≡ false }
-        ensures down { IsCutDown (M.meaning (M.definition rules.now)) (M.StandsFor rules.now) objects.now self.old self.new }
+        ensures down { IsCutDown (M.meaning (M.definition rules.now))
+            (M.StandsFor rules.now) objects.now self.old self.new }
         ensures there { (k : ℕ) → Contains slots.now k
             → IsSwept (M.meaning (M.definition rules.now)) (M.StandsFor rules.now) objects.now
             (monitor_at self.old.monitors k) (monitor_at self.new.monitors k) }
@@ -71,7 +76,8 @@ impl<M: Monitor> Store<M> {
     /// Drops those in all slots.
     fn drop_cut_everywhere(&mut self, rules: &M, objects: &Objects)
         requires closed { self.old.is_open ≡ false }
-        ensures down { IsCutDown (M.meaning (M.definition rules.now)) (M.StandsFor rules.now) objects.now self.old self.new }
+        ensures down { IsCutDown (M.meaning (M.definition rules.now))
+            (M.StandsFor rules.now) objects.now self.old self.new }
         ensures all { (k : ℕ) → IsSwept (M.meaning (M.definition rules.now)) (M.StandsFor rules.now) objects.now
             (monitor_at self.old.monitors k) (monitor_at self.new.monitors k) }
     {
@@ -85,7 +91,8 @@ impl<M: Monitor> Store<M> {
         requires closed { self.old.is_open ≡ false }
         ensures closed { self.new.is_open ≡ false }
         ensures monitors { (k : ℕ) → (k ≡ slot → ⊥) → monitor_at self.new.monitors k ≡ monitor_at self.old.monitors k }
-        ensures here { IsSwept (M.meaning (M.definition rules.now)) (M.StandsFor rules.now) objects.now (monitor_at self.old.monitors slot) (monitor_at self.new.monitors slot) }
+        ensures here { IsSwept (M.meaning (M.definition rules.now)) (M.StandsFor rules.now) objects.now
+            (monitor_at self.old.monitors slot) (monitor_at self.new.monitors slot) }
         ensures length { length self.new.monitors ≡ length self.old.monitors }
         ensures marks { self.new.marks ≡ self.old.marks }
         ensures fits { (dead : List Bool) → IsFitting self.old.index dead → IsFitting self.new.index dead }

@@ -23,7 +23,8 @@ impl<M: Monitor> Store<M> {
         ensures stored { stored_of self.new ≡ stored_of self.old }
         ensures monitors { (k : ℕ) → monitor_at self.new.monitors k ≡ monitor_at self.old.monitors k }
         ensures marks { self.new.marks ≡ self.old.marks }
-        ensures fits { (dead : List Bool) → IsFitting self.old.index dead → LieWithin (length dead) moves.items → IsFitting self.new.index dead }
+        ensures fits { (dead : List Bool) → IsFitting self.old.index dead → LieWithin (length dead) moves.items
+            → IsFitting self.new.index dead }
         ensures closed { OnErr result (self.new.is_open ≡ false) }
         ensures opened { OnOk result (self.new.is_open ≡ true) }
         ensures placed { IfOk result (λ placed. ArePlacedOf self.old self.new moves.items moves.items placed.items) }
@@ -64,9 +65,11 @@ impl<M: Monitor> Store<M> {
         ensures stored { stored_of self.new ≡ stored_of self.old }
         ensures monitors { (k : ℕ) → monitor_at self.new.monitors k ≡ monitor_at self.old.monitors k }
         ensures marks { self.new.marks ≡ self.old.marks }
-        ensures fits { (dead : List Bool) → IsFitting self.old.index dead → LieWithin (length dead) moves.items → IsFitting self.new.index dead }
+        ensures fits { (dead : List Bool) → IsFitting self.old.index dead → LieWithin (length dead) moves.items
+            → IsFitting self.new.index dead }
         ensures leads { ArePlaced self.new placed.new.items }
-        ensures filled { (pair : Pair) → Contains self.new.index.list pair → IsFilled self.new pair ⊎ IsPlannedBy placed.new.items pair }
+        ensures filled { (pair : Pair) → Contains self.new.index.list pair → IsFilled self.new pair
+            ⊎ IsPlannedBy placed.new.items pair }
         ensures placed { OnOk result (ArePlacedOf self.old self.new moves.items moves.items placed.new.items) }
         ensures ending { self.new.ending ≡ self.old.ending }
     {
@@ -105,7 +108,8 @@ impl<M: Monitor> Store<M> {
         ensures stored { stored_of self.new ≡ stored_of self.old }
         ensures monitors { (k : ℕ) → monitor_at self.new.monitors k ≡ monitor_at self.old.monitors k }
         ensures marks { self.new.marks ≡ self.old.marks }
-        ensures fits { (dead : List Bool) → IsFitting self.old.index dead → AreBelow (length dead) step.monitor.instance → IsFitting self.new.index dead }
+        ensures fits { (dead : List Bool) → IsFitting self.old.index dead → AreBelow (length dead) step.monitor.instance
+            → IsFitting self.new.index dead }
         ensures next { OnOk result (IsPlacedNext self.old self.new step placed.old.items placed.new.items) }
         ensures same { OnErr result (self.new.index.list ≡ self.old.index.list) }
         ensures none { OnErr result (placed.new.items ≡ placed.old.items) }
@@ -126,7 +130,8 @@ impl<M: Monitor> Store<M> {
         ensures stored { stored_of self.new ≡ stored_of self.old }
         ensures monitors { (k : ℕ) → monitor_at self.new.monitors k ≡ monitor_at self.old.monitors k }
         ensures marks { self.new.marks ≡ self.old.marks }
-        ensures fits { (dead : List Bool) → IsFitting self.old.index dead → AreBelow (length dead) instance.now → IsFitting self.new.index dead }
+        ensures fits { (dead : List Bool) → IsFitting self.old.index dead → AreBelow (length dead) instance.now
+            → IsFitting self.new.index dead }
         ensures placed { IfOk result (λ slot. IsPlaced self.old self.new instance.now slot) }
         ensures same { OnErr result (self.new.index.list ≡ self.old.index.list) }
         ensures ending { self.new.ending ≡ self.old.ending }
@@ -162,7 +167,8 @@ impl<M: Monitor> Store<M> {
     fn take_back(&mut self, moves: &[Move<M::State>])
         requires open { self.old.is_open ≡ true }
         requires placed { ArePlaced self.old moves.now }
-        requires filled { (pair : Pair) → Contains self.old.index.list pair → IsFilled self.old pair ⊎ IsPlannedBy moves.now pair }
+        requires filled { (pair : Pair) → Contains self.old.index.list pair → IsFilled self.old pair
+            ⊎ IsPlannedBy moves.now pair }
         ensures open { self.new.is_open ≡ true }
         ensures stored { stored_of self.new ≡ stored_of self.old }
         ensures monitors { (k : ℕ) → monitor_at self.new.monitors k ≡ monitor_at self.old.monitors k }
@@ -182,8 +188,10 @@ impl<M: Monitor> Store<M> {
     /// Frees a slot, if it is planned.
     fn free(&mut self, slot: usize, instance: &Binding)
         requires open { self.old.is_open ≡ true }
-        requires paired { (pair : Pair) → Contains self.old.index.list pair → pair.slot ≡ slot → pair.binding ≡ instance.now }
-        requires bound { (pair : Pair) → Contains self.old.index.list pair → pair.binding ≡ instance.now → pair.slot ≡ slot }
+        requires paired { (pair : Pair) → Contains self.old.index.list pair → pair.slot ≡ slot
+            → pair.binding ≡ instance.now }
+        requires bound { (pair : Pair) → Contains self.old.index.list pair → pair.binding ≡ instance.now
+            → pair.slot ≡ slot }
         ensures open { self.new.is_open ≡ true }
         ensures stored { stored_of self.new ≡ stored_of self.old }
         ensures monitors { (k : ℕ) → monitor_at self.new.monitors k ≡ monitor_at self.old.monitors k }

@@ -18,8 +18,8 @@ use jm_objects::Objects;
 use std::mem;
 use std::sync::ledger::Ledger;
 
-/// A pass has room for so many slots, and for one for each few slots that there are, so that it needn't look at all of them
-/// where few are to be looked at.
+/// A pass has room for so many slots, and for one for each few slots that there are, so that it needn't look at all of
+/// them where few are to be looked at.
 const MANY: usize = 64;
 
 const FEW: usize = 4;
@@ -36,8 +36,8 @@ fn make_room(slots: &mut Vec<usize>, count: usize) -> Result<(), NoMemory>
 }
 
 impl<M: Monitor> Store<M> {
-    /// Works out an event, and makes all growths. The contents are as before. Only monitors that are compatible with the
-    /// binding are read, each once.
+    /// Works out an event, and makes all growths. The contents are as before. Only monitors that are compatible with
+    /// the binding are read, each once.
     pub fn plan<L: Ledger>(
         &mut self,
         rules: &M,
@@ -63,8 +63,10 @@ impl<M: Monitor> Store<M> {
             → IsStoreAfter (M.meaning (M.definition rules.now)) (M.StandsFor rules.now) trace objects.now self.new }
         ensures works { IfOk result (λ plan. (trace : List ParametricEvent)
             → IsStoreAfter (M.meaning (M.definition rules.now)) (M.StandsFor rules.now) trace objects.now self.old
-            → IsPlanOf (M.meaning (M.definition rules.now)) (M.StandsFor rules.now) trace objects.now letter.0 self.new plan) }
-        ensures steps { steps.new ≤ steps.old + count_by (λ s. is_compatible s.instance binding.now) (stored_of self.old) }
+            → IsPlanOf (M.meaning (M.definition rules.now))
+            (M.StandsFor rules.now) trace objects.now letter.0 self.new plan) }
+        ensures steps { steps.new ≤ steps.old + count_by (λ s. is_compatible s.instance binding.now)
+            (stored_of self.old) }
     {
         let known = self.marks.contains(binding);
         self.plan_as(rules, objects, letter, binding, known, steps)
@@ -98,8 +100,10 @@ impl<M: Monitor> Store<M> {
             → IsStoreAfter (M.meaning (M.definition rules.now)) (M.StandsFor rules.now) trace objects.now self.new }
         ensures works { IfOk result (λ plan. (trace : List ParametricEvent)
             → IsStoreAfter (M.meaning (M.definition rules.now)) (M.StandsFor rules.now) trace objects.now self.old
-            → IsPlanOf (M.meaning (M.definition rules.now)) (M.StandsFor rules.now) trace objects.now letter.0 self.new plan) }
-        ensures steps { steps.new ≤ steps.old + count_by (λ s. is_compatible s.instance binding.now) (stored_of self.old) }
+            → IsPlanOf (M.meaning (M.definition rules.now))
+            (M.StandsFor rules.now) trace objects.now letter.0 self.new plan) }
+        ensures steps { steps.new ≤ steps.old + count_by (λ s. is_compatible s.instance binding.now)
+            (stored_of self.old) }
     {
         let moves = self.take_moves();
         let mut slots = self.take_slots();
@@ -141,8 +145,10 @@ impl<M: Monitor> Store<M> {
             → IsStoreAfter (M.meaning (M.definition rules.now)) (M.StandsFor rules.now) trace objects.now self.new }
         ensures works { IfOk result (λ plan. (trace : List ParametricEvent)
             → IsStoreAfter (M.meaning (M.definition rules.now)) (M.StandsFor rules.now) trace objects.now self.old
-            → IsPlanOf (M.meaning (M.definition rules.now)) (M.StandsFor rules.now) trace objects.now letter.0 self.new plan) }
-        ensures steps { steps.new ≤ steps.old + count_by (λ s. is_compatible s.instance binding.now) (stored_of self.old) }
+            → IsPlanOf (M.meaning (M.definition rules.now))
+            (M.StandsFor rules.now) trace objects.now letter.0 self.new plan) }
+        ensures steps { steps.new ≤ steps.old + count_by (λ s. is_compatible s.instance binding.now)
+            (stored_of self.old) }
     {
         slots.clear();
         make_room(slots, self.monitors.count_slots())?;
@@ -194,9 +200,11 @@ impl<M: Monitor> Store<M> {
         requires fits { IsFitting self.now.index event.now.objects.now }
         requires live { AreLive event.now.objects.now event.now.binding.now }
         requires none { moves.items ≡ [] }
-        ensures moves { IfOk result (λ moves. AreMovesOf (M.meaning (M.definition event.now.rules.now)) (M.StandsFor event.now.rules.now) event.now.letter.0 event.now.binding.now
+        ensures moves { IfOk result (λ moves. AreMovesOf (M.meaning (M.definition event.now.rules.now))
+            (M.StandsFor event.now.rules.now) event.now.letter.0 event.now.binding.now
             event.now.objects.now event.now.marks.now.list (asks_by event.now.known self.now.ending event.now.letter.0 event.now.binding.now) self.now.monitors moves.items) }
-        ensures steps { steps.new ≤ steps.old + count_by (λ s. is_compatible s.instance event.now.binding.now) (stored_of self.now) }
+        ensures steps { steps.new ≤ steps.old + count_by (λ s. is_compatible s.instance event.now.binding.now)
+            (stored_of self.now) }
     {
         for domain in &self.domains {
             if event.asks(self.ending[*domain as usize], *domain) {
@@ -218,10 +226,14 @@ impl<M: Monitor> Store<M> {
     ) -> Result<(), NoMemory>
         requires letter { event.now.letter.0 < (M.meaning (M.definition event.now.rules.now)).letters }
         requires known { IsTrue event.now.known ↔ Contains event.now.marks.now.list event.now.binding.now }
-        requires compatible { (k : ℕ) → Contains slots.now k → IsCompatibleAt event.now.binding.now (monitor_at self.now.monitors k) }
-        ensures moves { OnOk result ((slots_before : List ℕ) → AreGiven (IsOutcomeAt (M.meaning (M.definition event.now.rules.now)) (M.StandsFor event.now.rules.now) event.now.letter.0 event.now.binding.now
+        requires compatible { (k : ℕ) → Contains slots.now k
+            → IsCompatibleAt event.now.binding.now (monitor_at self.now.monitors k) }
+        ensures moves { OnOk result ((slots_before : List ℕ)
+            → AreGiven (IsOutcomeAt (M.meaning (M.definition event.now.rules.now))
+            (M.StandsFor event.now.rules.now) event.now.letter.0 event.now.binding.now
             event.now.objects.now event.now.marks.now.list self.now.monitors) slots_before moves.old.items
-            → AreGiven (IsOutcomeAt (M.meaning (M.definition event.now.rules.now)) (M.StandsFor event.now.rules.now) event.now.letter.0 event.now.binding.now
+            → AreGiven (IsOutcomeAt (M.meaning (M.definition event.now.rules.now))
+            (M.StandsFor event.now.rules.now) event.now.letter.0 event.now.binding.now
             event.now.objects.now event.now.marks.now.list self.now.monitors) (slots_before ++ slots.now) moves.new.items) }
         ensures steps { steps.new ≤ steps.old + length slots.now }
     {
@@ -242,7 +254,9 @@ impl<M: Monitor> Store<M> {
         requires letter { event.now.letter.0 < (M.meaning (M.definition event.now.rules.now)).letters }
         requires known { IsTrue event.now.known ↔ Contains event.now.marks.now.list event.now.binding.now }
         requires compatible { IsCompatibleAt event.now.binding.now (monitor_at self.now.monitors slot) }
-        ensures moves { OnOk result (IsPushed (IsOutcomeAt (M.meaning (M.definition event.now.rules.now)) (M.StandsFor event.now.rules.now) event.now.letter.0 event.now.binding.now
+        ensures moves { OnOk result (IsPushed
+            (IsOutcomeAt (M.meaning (M.definition event.now.rules.now))
+            (M.StandsFor event.now.rules.now) event.now.letter.0 event.now.binding.now
             event.now.objects.now event.now.marks.now.list self.now.monitors) slot moves.old.items moves.new.items) }
         ensures steps { steps.new ≤ steps.old + 1 }
     {
@@ -256,7 +270,8 @@ impl<M: Monitor> Store<M> {
     fn end_fewer(&mut self, rules: &M, moves: &[Move<M::State>])
         ensures same { self.new ≡ with_ending self.old self.new.ending }
         ensures fewer { EndsFewer self.old.ending self.new.ending }
-        ensures ended { AreEnding (M.meaning (M.definition rules.now)) (M.StandsFor rules.now) self.new.ending (reached_by moves.now) }
+        ensures ended { AreEnding (M.meaning (M.definition rules.now)) (M.StandsFor rules.now) self.new.ending
+            (reached_by moves.now) }
     {
         end_fewer_by(&mut self.ending, rules, moves);
     }
