@@ -14,7 +14,6 @@ use Rattle.jm_ere.specs.Groups as ere
 use Rattle.jm_ptltl.specs.Formulas as past
 use Rattle.jm_ptltl.specs.Tables as past_tables
 use Rattle.jm_grammar.specs.Grammars.{GrammarDefinition}
-use Rattle.jm_grammar.specs.Derivations as grammar
 use Rattle.jm_grammar.specs.Trees as grammar_trees
 use Rattle.jm_grammar.specs.declared.grammar.Production.{Production}
 use Rattle.jm_grammar.specs.declared.grammar.GrammarSymbol.{GrammarSymbol}
