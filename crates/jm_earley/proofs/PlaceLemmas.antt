@@ -101,15 +101,6 @@ module _ {X : Type 0} where
   past_end (x ∷ xs) zero h = absurd (none-some x (sym h))
   past_end (x ∷ xs) (suc k) h = omega (arith, past_end xs k h)
 
-  -- one element more of a list of images
-  pub map_next : {Y : Type 0} (f : X → Y) (xs : List X) (i : ℕ) (y : Y) → option_map f (slice_get xs i) ≡ Some y → map f (take (i + 1) xs) ≡ map f (take i xs) ++ y ∷ []
-  map_next f xs i y h = rw add-one (by xs i h)
-    where
-      by : (ys : List X) (j : ℕ) → option_map f (slice_get ys j) ≡ Some y → map f (take (suc j) ys) ≡ map f (take j ys) ++ y ∷ []
-      by [] j e = absurd (none-some y e)
-      by (x ∷ ys) zero e = ap (λ z. z ∷ []) (same_Some (f x) y e)
-      by (x ∷ ys) (suc j) e = ap (λ l. f x ∷ l) (by ys j e)
-
 -- one copy more
 pub copied_more : {X Y : Type 0} (f : X → Y) (items copy new : List X) (images : List Y) (i : ℕ) (item read : X) → i < length items → read ≡ get_or items i read → f item ≡ f read
     → map f items ≡ images → map f copy ≡ take i images → new ≡ copy ++ item ∷ [] → map f new ≡ take (i + 1) images

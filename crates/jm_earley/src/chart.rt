@@ -81,7 +81,7 @@ impl Charts {
         ensures params { IfOk result (λ c. c.params ≡ map (λ e. e.mask) table.now.events) }
     {
         let grammar = grammar.reduce()?;
-        let params = masks(alloc, table)?;
+        let params = table.masks(alloc)?;
         let nullable = grammar.productive(0);
         let dead = DeadSets::new(alloc, &grammar, params.as_slice())?;
         Ok(Charts {
@@ -267,18 +267,6 @@ fn left_at_end(production: &Production, place: u8) -> Option<u8>
     } else {
         None
     }
-}
-
-/// The parameters of each event.
-fn masks(alloc: Global, table: &EventTable) -> Result<Vec<u8>, NoMemory>
-    ensures value { IfOk result (λ masks. masks.items ≡ map (λ e. e.mask) table.now.events) }
-    ensures few { length table.now.events ≤ 32 }
-{
-    let mut masks = Vec::new(alloc);
-    for letter in 0..table.letters() {
-        masks.push(table.mask(Letter(letter)))?;
-    }
-    Ok(masks)
 }
 
 impl Chart {

@@ -1,4 +1,4 @@
-use Rattle.std.proofs.Common.{ℕ, ◌≡◌, ◌≢◌, ◌<◌, ◌+◌, ◌*◌, ◌%◌, ◌^◌, ◌↔◌, inl, inr, Bool, true, false, List, [], ◌∷◌, Option, Some, None, map, option_map, length, get_or, take, slice_get, IsTrue, IsSomeAnd, IsBitSet, bit_and, bit_or, refl, sym, ap, ◌∙◌, arith}
+use Rattle.std.proofs.Common.{ℕ, ◌≡◌, ◌≢◌, ◌<◌, ◌+◌, ◌*◌, ◌%◌, ◌^◌, ◌↔◌, inl, inr, Bool, true, false, List, Option, Some, None, option_map, length, get_or, take, slice_get, IsTrue, IsSomeAnd, IsBitSet, bit_and, bit_or, refl, sym, ap, ◌∙◌, arith}
 use Rattle.std.proofs.lemmas.Bool.{false≢true, cases_lt}
 use Rattle.std.proofs.lemmas.Bool.Decides.{eqb_tells}
 use Rattle.std.proofs.lemmas.Nat.{pow_pos}
@@ -8,6 +8,7 @@ use Rattle.std.specs.Int.{bit_at, w32}
 use Rattle.jm_events.specs.declared.table.Row.{Row}
 use Rattle.jm_events.specs.Events.{EventDefinition}
 use Rattle.jm_events.specs.Rows.{events_of}
+use Rattle.jm_events.proofs.RowLemmas.{fields-events_of}
 use Rattle.jm_events.proofs.NameLemmas.{slice_get-take, slice_get-take_past}
 
 -- the row at a place is that of a creation event
@@ -60,13 +61,6 @@ marks_same rows letters i d lt unmarked before k =
 
 -- ---- the events of the rows
 
--- the creation events are those of the rows
-creations-events_of : (names : List (List ℕ)) (rows : List Row) → length rows ≡ length names → map (λ e. e.creation) (events_of names rows) ≡ map (λ row. row.creation) rows
-creations-events_of [] [] e = refl
-creations-events_of [] (row ∷ rows) e = absurd (omega arith)
-creations-events_of (name ∷ names) [] e = refl
-creations-events_of (name ∷ names) (row ∷ rows) e = ap (λ bs. row.creation ∷ bs) (creations-events_of names rows (omega arith))
-
 -- a test of a value that is there
 some_true : {X : Type 0} (f : X → Bool) (o : Option X) → IsSomeAnd o (λ x. IsTrue (f x)) ↔ IsSomeAnd (option_map f o) IsTrue
 some_true f None = (λ h. h, λ h. h)
@@ -76,7 +70,7 @@ some_true f (Some x) = (λ h. h, λ h. h)
 pub creation-events_of : (names : List (List ℕ)) (rows : List Row) (k : ℕ) → length rows ≡ length names → IsMarked rows k ↔ IsSomeAnd (slice_get (events_of names rows) k) (λ e. IsTrue e.creation)
 creation-events_of names rows k each =
     let same : option_map (λ row. row.creation) (slice_get rows k) ≡ option_map (λ e. e.creation) (slice_get (events_of names rows) k) =
-    sym (slice_get-map (λ row. row.creation) rows k) ∙ ap (λ bs. slice_get bs k) (sym (creations-events_of names rows each)) ∙ slice_get-map (λ e. e.creation) (events_of names rows) k in
+    sym (slice_get-map (λ row. row.creation) rows k) ∙ ap (λ bs. slice_get bs k) (sym (fields-events_of (λ e. e.creation) (λ row. row.creation) names rows (λ _ _. refl) each)) ∙ slice_get-map (λ e. e.creation) (events_of names rows) k in
     let of_row = some_true (λ (row : Row). row.creation) (slice_get rows k) in
     let of_event = some_true (λ (e : EventDefinition). e.creation) (slice_get (events_of names rows) k) in
     (λ h. of_event.1 (rw same at (of_row.0 h)), λ h. of_row.1 (rw (← same) at (of_event.0 h)))

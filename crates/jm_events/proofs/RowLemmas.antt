@@ -23,6 +23,13 @@ length-events_of [] (row ∷ rows) e = refl
 length-events_of (name ∷ names) [] e = absurd (omega arith)
 length-events_of (name ∷ names) (row ∷ rows) e = ap suc (length-events_of names rows (suc_same _ _ e))
 
+-- what the events say, of what their rows say
+pub fields-events_of : {Y : Type 0} (f : EventDefinition → Y) (g : Row → Y) (names : List (List ℕ)) (rows : List Row) → ((name : List ℕ) (row : Row) → f (event_of name row) ≡ g row) → length rows ≡ length names → map f (events_of names rows) ≡ map g rows
+fields-events_of f g [] [] same e = refl
+fields-events_of f g [] (row ∷ rows) same e = absurd (omega arith)
+fields-events_of f g (name ∷ names) [] same e = refl
+fields-events_of f g (name ∷ names) (row ∷ rows) same e = λ j. same name row j ∷ fields-events_of f g names rows same (suc_same _ _ e) j
+
 -- the event at a place
 pub slice_get-events_of : (names : List (List ℕ)) (rows : List Row) (k : ℕ) (name : List ℕ) (row : Row) → slice_get names k ≡ Some name → slice_get rows k ≡ Some row → slice_get (events_of names rows) k ≡ Some (event_of name row)
 slice_get-events_of [] rows k name row at here = absurd (none-some name at)

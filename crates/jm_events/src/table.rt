@@ -1,4 +1,4 @@
-ghost use Rattle.std.specs.Prelude.{ℕ, ◌≡◌, ◌≢◌, ◌<◌, ◌≤◌, ◌^◌, ◌↔◌, ◌||◌, [], ◌∷◌, ◌++◌, length, Contains, Some, None, IsNone, IfNone, IfSome, IfOk, OnOk, OnErr, IsOkUnless, IsBitSet, slice_get, slice_set, option_map, vec_len};
+ghost use Rattle.std.specs.Prelude.{ℕ, ◌≡◌, ◌≢◌, ◌<◌, ◌≤◌, ◌^◌, ◌↔◌, ◌||◌, [], ◌∷◌, ◌++◌, length, map, All, Contains, Some, None, IsNone, IfNone, IfSome, IfOk, OnOk, OnErr, IsOkUnless, IsBitSet, slice_get, slice_set, option_map, vec_len};
 ghost use Rattle.std.specs.List.{IsDistinct};
 ghost use Rattle.std.specs.Str.{bytes_eq};
 ghost use Rattle.jm_events.specs.Names.{number_of};
@@ -264,6 +264,20 @@ impl EventTable {
         ensures bits { result < 2 ^ length self.now.parameters }
     {
         self.row(letter).mask
+    }
+
+    /// The parameters of each event, letter by letter.
+    pub fn masks(&self, alloc: Global) -> Result<Vec<u8>, NoMemory>
+        ensures value { IfOk result (λ masks. masks.items ≡ map (λ e. e.mask) self.now.events) }
+        ensures few { IfOk result (λ masks. length masks.items ≤ 32) }
+        ensures fit { IfOk result (λ masks. All (λ mask. mask < 2 ^ length self.now.parameters) masks.items) }
+        ensures bytes { IfOk result (λ masks. All (λ mask. mask < 256) masks.items) }
+    {
+        let mut masks = Vec::new(alloc);
+        for row in &self.rows {
+            masks.push(row.mask)?;
+        }
+        Ok(masks)
     }
 
     /// The name of an event.

@@ -1,11 +1,7 @@
--- Words lead to states of tables, and the sets of parameters letter by letter.
-use Rattle.std.proofs.Common.{◌≡◌, ℕ, zero, suc, ◌+◌, ◌*◌, ◌<◌, List, [], ◌∷◌, ◌++◌, get_or, refl, sym, ◌∙◌, ap, subst, arith}
-use Rattle.std.specs.Prelude.{Option, Some, None, ◌↔◌, map, take, slice_get, unwrap_or, option_map}
-use Rattle.std.proofs.lemmas.List.{map_more}
-use Rattle.std.proofs.lemmas.Option.{slice_get_within, unwrap_or-slice_get}
+-- Words lead to states of tables.
+use Rattle.std.proofs.Common.{◌≡◌, ℕ, zero, suc, ◌+◌, ◌*◌, ◌<◌, List, [], ◌∷◌, ◌++◌, sym, ◌∙◌, ap, subst, arith}
+use Rattle.std.specs.Prelude.{◌↔◌}
 use Rattle.std.proofs.lemmas.List.Elements.{All-get_or, All-head, All-tail, All-push}
-use Rattle.jm_events.specs.Events.{EventDefinition}
-use Rattle.jm_machine.proofs.OptionLemmas.{same_some}
 use Rattle.jm_table.specs.Tables.{Transitions, next_of, state_from, state_after_of, IsTable, IsWord, IsInGroup}
 use Rattle.jm_table.proofs.PlaceLemmas.{fold_push}
 
@@ -41,15 +37,3 @@ pub group_after : (t : Transitions) (state group : ℕ) (w : List ℕ) (P : Type
 group_after t state group w P table says place =
     let within : state < t.states = subst (λ n. n < t.states) (sym place.1) (state_within t w table place.0) in
     subst (λ n. P ↔ IsInGroup t n group) place.1 (says within)
-
--- ---- the sets of parameters, one letter more
-pub mask_more : (events : List EventDefinition) (n mask : ℕ) (masks : List ℕ) → masks ≡ map (λ e. e.mask) (take n events) → option_map (λ e. e.mask) (slice_get events n) ≡ Some mask
-    → masks ++ mask ∷ [] ≡ map (λ e. e.mask) (take (n + 1) events)
-mask_more events n mask masks filled at = by_case (slice_get events n) refl at
-  where
-    by_case : (o : Option EventDefinition) → slice_get events n ≡ o → option_map (λ (e : EventDefinition). e.mask) o ≡ Some mask → masks ++ mask ∷ [] ≡ map (λ (e : EventDefinition). e.mask) (take (n + 1) events)
-    by_case None e none = absurd cc
-    by_case (Some x) e some =
-        let there : get_or events n x ≡ x = sym (unwrap_or-slice_get events n x) ∙ ap (λ o. unwrap_or o x) e in
-        ap (λ ms. ms ++ mask ∷ []) filled ∙ ap (λ v. map (λ (e : EventDefinition). e.mask) (take n events) ++ v ∷ []) (sym (same_some some) ∙ ap (λ (e : EventDefinition). e.mask) (sym there))
-        ∙ sym (map_more (λ (e : EventDefinition). e.mask) events n x (slice_get_within events n x e))

@@ -1,5 +1,5 @@
 //! What the rules of a specification are run for.
-ghost use Rattle.std.specs.Prelude.{ℕ, ◌≡◌, ◌<◌, ◌≤◌, ◌^◌, ◌-◌, ◌↔◌, All, Some, IsTrue, IsBitSet, IfOk, IfErr, length, map};
+ghost use Rattle.std.specs.Prelude.{ℕ, ◌≡◌, ◌<◌, ◌≤◌, ◌^◌, ◌-◌, ◌↔◌, Some, IsTrue, IsBitSet, IfOk, IfErr, length, map};
 ghost use Rattle.jm_events.specs.Names.{number_of};
 ghost use Rattle.jm_events.specs.Events.{IsCreation};
 ghost use Rattle.jm_machine.specs.Handlers.{AreCategories};
@@ -50,21 +50,6 @@ fn all_below(count: u8) -> u8
     ensures { result ≡ 2 ^ count - 1 }
 {
     ((1u16 << count) - 1) as u8
-}
-
-/// The sets of parameters of the events, letter by letter.
-pub(crate) fn masks_of(alloc: Global, table: &EventTable) -> Result<Vec<u8>, SpecError>
-    ensures value { IfOk result (λ masks. masks.items ≡ map (λ e. e.mask) table.now.events) }
-    ensures few { IfOk result (λ masks. length masks.items ≤ 32) }
-    ensures fit { IfOk result (λ masks. All (λ mask. mask < 2 ^ length table.now.parameters) masks.items) }
-    ensures bytes { IfOk result (λ masks. All (λ mask. mask < 256) masks.items) }
-    ensures err { IfErr result (λ e. e ≡ SpecError.NoMemory) }
-{
-    let mut masks = Vec::new(alloc);
-    for letter in 0..table.letters() {
-        masks.push(table.mask(Letter(letter)))?;
-    }
-    Ok(masks)
 }
 
 /// Whether a word may begin with the letter: it is a creation letter, or there is none.

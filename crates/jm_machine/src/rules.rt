@@ -16,7 +16,7 @@ ghost use Rattle.jm_machine.specs.Compiling.{IsCompiledFrom, IsNotCompiled};
 use crate::configuration::Configuration;
 use crate::engine::{Engine, handlers_at, next_state};
 use crate::formula::Formula;
-use crate::goal::{goal_of, masks_of, may_begin};
+use crate::goal::{goal_of, may_begin};
 use crate::handlers::handled;
 use crate::outlook::Outlook;
 use crate::ranges::{line_before, range_of};
@@ -123,7 +123,7 @@ impl Rules {
         ensures fit { IfOk result (λ r. All (λ mask. mask < 2 ^ length tree.now.table.parameters) r.definition.masks) }
         ensures err { IfErr result (λ e. e ≡ SpecError.NoMemory) }
     {
-        let masks = masks_of(alloc, &tree.table)?;
+        let masks = tree.table.masks(alloc)?;
         let goal = goal_of(alloc, tree, categories, &handlers)?;
         let failing = is_failing(&formula, &handlers);
         let outlook = Outlook::new(alloc, &engine, &goal, &tree.table, failing)?;
