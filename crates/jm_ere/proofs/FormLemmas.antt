@@ -1,11 +1,13 @@
-use Rattle.std.proofs.Common.{ℕ, nat_le, Bool, true, false, inl, inr, ◌⊎◌, List, [], ◌∷◌, ◌++◌, Ok, Err, if◌then◌else◌, fold}
+use Rattle.std.proofs.Common.{ℕ, nat_le, Bool, true, false, List, [], ◌∷◌, ◌++◌, Ok, Err, if◌then◌else◌, fold}
 use Rattle.jm_model.specs.declared.fault.SpecFault.{SpecFault}
 use Rattle.jm_table.specs.Graphs.{step_from, reached_by}
+use Rattle.jm_ere.specs.declared.order.Operator.{Operator}
+use Rattle.jm_ere.specs.declared.order.Operator.TheVariants.{Or, And}
 use Rattle.jm_ere.specs.Expressions.{Expression, Symbol, EmptyWord, NoWord, Complement, Star, Plus, Product, Union, Intersection}
 use Rattle.jm_ere.specs.Languages.{InLanguage, IsSplit}
-use Rattle.jm_ere.specs.NormalForms.{is_product, is_union, is_intersection, complement_of, star_of, product_of, union_of, intersection_of, size_of, Formed, fitting, part, ◌>>=◌, normal_run, normal_form, is_nullable, derivative_run, forms_of}
-use Rattle.jm_ere.proofs.LanguageLemmas.{Same, split_map, chain_map, plain, plain_tells}
-use Rattle.jm_ere.proofs.NormalLemmas.{complement_keeps, star_keeps, product_keeps, union_keeps, intersection_keeps}
+use Rattle.jm_ere.specs.NormalForms.{is_product, pair, is_run, complement_of, star_of, product_of, combined, size_of, Formed, fitting, part, ◌>>=◌, normal_run, normal_form, is_nullable, derivative_run, forms_of}
+use Rattle.jm_ere.proofs.LanguageLemmas.{Same, itself, through, split_map, chain_map, plain, plain_tells}
+use Rattle.jm_ere.proofs.NormalLemmas.{complement_keeps, star_keeps, product_keeps, pair_keeps, combined_keeps}
 
 -- what is formed has these words, unless it is a fault
 abbrev pub Gives : Formed → (List ℕ → Type 0) → Type 0
@@ -28,8 +30,10 @@ gives_then : (F : Formed) (L : List ℕ → Type 0) (k : Expression → Formed) 
 gives_then (Err fault) L k M gives more = tt
 gives_then (Ok d) L k M gives more = more d gives
 
-through : (L M N : List ℕ → Type 0) → Same L M → Same M N → Same L N
-through L M N f g w = (λ h. (g w).0 ((f w).0 h), λ h. (f w).1 ((g w).1 h))
+-- two parts, and what is made of both
+gives_both : (F G : Formed) (f : Expression → Expression → Expression) (L M N : List ℕ → Type 0) → Gives F L → Gives G M
+    → ((d e : Expression) → Same (InLanguage d) L → Same (InLanguage e) M → Same (InLanguage (f d e)) N) → Gives (F >>= λ d. G >>= λ e. Ok (f d e)) N
+gives_both F G f L M N first rest more = gives_then F L (λ d. G >>= λ e. Ok (f d e)) N first (λ d same. gives_then G M (λ e. Ok (f d e)) N rest (λ e also. more d e same also))
 
 -- ---- operators over forms that have the words of parts
 
@@ -40,24 +44,12 @@ star_gives : (d : Expression) (r : Expression) → Same (InLanguage d) (InLangua
 star_gives d r same = through (InLanguage (star_of d)) (InLanguage (Star d)) (InLanguage (Star r)) (star_keeps d)
     (λ w. (chain_map (InLanguage d) (InLanguage r) (λ u. (same u).0) w, chain_map (InLanguage r) (InLanguage d) (λ u. (same u).1) w))
 
-product_gives : (d e : Expression) (L M : List ℕ → Type 0) → Same (InLanguage d) L → Same (InLanguage e) M → Same (InLanguage (product_of d e)) (IsSplit L M)
-product_gives d e L M f g = through (InLanguage (product_of d e)) (InLanguage (Product d e)) (IsSplit L M) (product_keeps d e)
+product_gives : (L M : List ℕ → Type 0) (d e : Expression) → Same (InLanguage d) L → Same (InLanguage e) M → Same (InLanguage (product_of d e)) (IsSplit L M)
+product_gives L M d e f g = through (InLanguage (product_of d e)) (InLanguage (Product d e)) (IsSplit L M) (product_keeps d e)
     (λ w. (split_map (InLanguage d) (InLanguage e) L M (λ u. (f u).0) (λ u. (g u).0) w, split_map L M (InLanguage d) (InLanguage e) (λ u. (f u).1) (λ u. (g u).1) w))
 
-union_gives : (d e : Expression) (L M : List ℕ → Type 0) → Same (InLanguage d) L → Same (InLanguage e) M → Same (InLanguage (union_of d e)) (λ w. L w ⊎ M w)
-union_gives d e L M f g w = let keeps = union_keeps d e w in (
-  λ h. elim (keeps.0 h) [ inl k ↦ inl ((f w).0 k) | inr k ↦ inr ((g w).0 k) ],
-  elim [ inl k ↦ keeps.1 (inl ((f w).1 k)) | inr k ↦ keeps.1 (inr ((g w).1 k)) ],
-)
-
-intersection_gives : (d e : Expression) (L M : List ℕ → Type 0) → Same (InLanguage d) L → Same (InLanguage e) M → Same (InLanguage (intersection_of d e)) (λ w. L w × M w)
-intersection_gives d e L M f g w = let keeps = intersection_keeps d e w in (
-  λ h. let k = keeps.0 h in ((f w).0 k.0, (g w).0 k.1),
-  λ h. keeps.1 ((f w).1 h.0, (g w).1 h.1),
-)
-
-itself : (L : List ℕ → Type 0) → Same L L
-itself L w = (λ h. h, λ h. h)
+combined_gives : (op : Operator) (r s d e : Expression) → Same (InLanguage d) (InLanguage r) → Same (InLanguage e) (InLanguage s) → Same (InLanguage (combined op d e)) (InLanguage (pair op r s))
+combined_gives op r s d e f g = through (InLanguage (combined op d e)) (InLanguage (pair op d e)) (InLanguage (pair op r s)) (combined_keeps op d e) (pair_keeps op d e r s f g)
 
 -- ---- normal forms keep the language
 
@@ -67,19 +59,16 @@ normal_gives (Star r) = gives_then (part false (normal_run r)) (InLanguage r) (�
 normal_gives (Plus r) =
     gives_then (part false (normal_run r)) (InLanguage r) (λ n. fitting (star_of n) >>= λ s. Ok (product_of n s)) (InLanguage (Plus r)) (gives_part false (normal_run r) (InLanguage r) (normal_gives r))
     (λ n same. gives_then (fitting (star_of n)) (InLanguage (Star r)) (λ s. Ok (product_of n s)) (InLanguage (Plus r)) (gives_fitting (star_of n) (InLanguage (Star r)) (star_gives n r same))
-    (λ s more. product_gives n s (InLanguage r) (InLanguage (Star r)) same more))
+    (λ s more. product_gives (InLanguage r) (InLanguage (Star r)) n s same more))
 normal_gives (Product r s) =
-    gives_then (part (is_product r) (normal_run r)) (InLanguage r) (λ n. part (is_product s) (normal_run s) >>= λ m. Ok (product_of n m)) (InLanguage (Product r s)) (gives_part (is_product r) (normal_run r) (InLanguage r) (normal_gives r))
-    (λ n same. gives_then (part (is_product s) (normal_run s)) (InLanguage s) (λ m. Ok (product_of n m)) (InLanguage (Product r s)) (gives_part (is_product s) (normal_run s) (InLanguage s) (normal_gives s))
-    (λ m more. product_gives n m (InLanguage r) (InLanguage s) same more))
+    gives_both (part (is_product r) (normal_run r)) (part (is_product s) (normal_run s)) product_of (InLanguage r) (InLanguage s) (InLanguage (Product r s)) (gives_part (is_product r) (normal_run r) (InLanguage r) (normal_gives r)) (gives_part (is_product s) (normal_run s) (InLanguage s) (normal_gives s))
+    (product_gives (InLanguage r) (InLanguage s))
 normal_gives (Union r s) =
-    gives_then (part (is_union r) (normal_run r)) (InLanguage r) (λ n. part (is_union s) (normal_run s) >>= λ m. Ok (union_of n m)) (InLanguage (Union r s)) (gives_part (is_union r) (normal_run r) (InLanguage r) (normal_gives r))
-    (λ n same. gives_then (part (is_union s) (normal_run s)) (InLanguage s) (λ m. Ok (union_of n m)) (InLanguage (Union r s)) (gives_part (is_union s) (normal_run s) (InLanguage s) (normal_gives s))
-    (λ m more. union_gives n m (InLanguage r) (InLanguage s) same more))
+    gives_both (part (is_run Or r) (normal_run r)) (part (is_run Or s) (normal_run s)) (combined Or) (InLanguage r) (InLanguage s) (InLanguage (Union r s)) (gives_part (is_run Or r) (normal_run r) (InLanguage r) (normal_gives r)) (gives_part (is_run Or s) (normal_run s) (InLanguage s) (normal_gives s))
+    (combined_gives Or r s)
 normal_gives (Intersection r s) =
-    gives_then (part (is_intersection r) (normal_run r)) (InLanguage r) (λ n. part (is_intersection s) (normal_run s) >>= λ m. Ok (intersection_of n m)) (InLanguage (Intersection r s)) (gives_part (is_intersection r) (normal_run r) (InLanguage r) (normal_gives r))
-    (λ n same. gives_then (part (is_intersection s) (normal_run s)) (InLanguage s) (λ m. Ok (intersection_of n m)) (InLanguage (Intersection r s)) (gives_part (is_intersection s) (normal_run s) (InLanguage s) (normal_gives s))
-    (λ m more. intersection_gives n m (InLanguage r) (InLanguage s) same more))
+    gives_both (part (is_run And r) (normal_run r)) (part (is_run And s) (normal_run s)) (combined And) (InLanguage r) (InLanguage s) (InLanguage (Intersection r s)) (gives_part (is_run And r) (normal_run r) (InLanguage r) (normal_gives r)) (gives_part (is_run And s) (normal_run s) (InLanguage s) (normal_gives s))
+    (combined_gives And r s)
 normal_gives (Symbol x) = itself (InLanguage (Symbol x))
 normal_gives EmptyWord = itself (InLanguage EmptyWord)
 normal_gives NoWord = itself (InLanguage NoWord)
@@ -87,15 +76,12 @@ normal_gives NoWord = itself (InLanguage NoWord)
 -- ---- derivatives of normal forms have the words that may follow
 
 product_derived : (x : ℕ) (r s : Expression) (b : Bool) (d : Expression) → Same (InLanguage d) (InLanguage (plain x r)) → Gives (derivative_run x s) (InLanguage (plain x s))
-    → Gives (if b then (fitting (product_of d s) >>= λ front. part false (derivative_run x s) >>= λ e. Ok (union_of front e)) else Ok (product_of d s))
+    → Gives (if b then (fitting (product_of d s) >>= λ front. part false (derivative_run x s) >>= λ e. Ok (combined Or front e)) else Ok (product_of d s))
     (InLanguage (if b then Union (Product (plain x r) s) (plain x s) else Product (plain x r) s))
 product_derived x r s true d same second =
-    gives_then (fitting (product_of d s)) (InLanguage (Product (plain x r) s)) (λ front. part false (derivative_run x s) >>= λ e. Ok (union_of front e)) (InLanguage (Union (Product (plain x r) s) (plain x s)))
-    (gives_fitting (product_of d s) (InLanguage (Product (plain x r) s)) (product_gives d s (InLanguage (plain x r)) (InLanguage s) same (itself (InLanguage s))))
-    (λ front keeps. gives_then (part false (derivative_run x s)) (InLanguage (plain x s)) (λ e. Ok (union_of front e)) (InLanguage (Union (Product (plain x r) s) (plain x s)))
-    (gives_part false (derivative_run x s) (InLanguage (plain x s)) second)
-    (λ e more. union_gives front e (InLanguage (Product (plain x r) s)) (InLanguage (plain x s)) keeps more))
-product_derived x r s false d same second = product_gives d s (InLanguage (plain x r)) (InLanguage s) same (itself (InLanguage s))
+    gives_both (fitting (product_of d s)) (part false (derivative_run x s)) (combined Or) (InLanguage (Product (plain x r) s)) (InLanguage (plain x s)) (InLanguage (Union (Product (plain x r) s) (plain x s))) (gives_fitting (product_of d s) (InLanguage (Product (plain x r) s)) (product_gives (InLanguage (plain x r)) (InLanguage s) d s same (itself (InLanguage s)))) (gives_part false (derivative_run x s) (InLanguage (plain x s)) second)
+    (combined_gives Or (Product (plain x r) s) (plain x s))
+product_derived x r s false d same second = product_gives (InLanguage (plain x r)) (InLanguage s) d s same (itself (InLanguage s))
 
 pub derivative_gives : (x : ℕ) (r : Expression) → Gives (derivative_run x r) (InLanguage (plain x r))
 derivative_gives x (Symbol y) = itself (InLanguage (plain x (Symbol y)))
@@ -105,22 +91,20 @@ derivative_gives x (Complement r) =
     gives_then (part false (derivative_run x r)) (InLanguage (plain x r)) (λ d. Ok (complement_of d)) (InLanguage (Complement (plain x r))) (gives_part false (derivative_run x r) (InLanguage (plain x r)) (derivative_gives x r)) (λ d same. complement_gives d (plain x r) same)
 derivative_gives x (Star r) =
     gives_then (part false (derivative_run x r)) (InLanguage (plain x r)) (λ d. Ok (product_of d (Star r))) (InLanguage (Product (plain x r) (Star r))) (gives_part false (derivative_run x r) (InLanguage (plain x r)) (derivative_gives x r))
-    (λ d same. product_gives d (Star r) (InLanguage (plain x r)) (InLanguage (Star r)) same (itself (InLanguage (Star r))))
+    (λ d same. product_gives (InLanguage (plain x r)) (InLanguage (Star r)) d (Star r) same (itself (InLanguage (Star r))))
 derivative_gives x (Plus r) =
     gives_then (part false (derivative_run x r)) (InLanguage (plain x r)) (λ d. Ok (product_of d (star_of r))) (InLanguage (Product (plain x r) (Star r))) (gives_part false (derivative_run x r) (InLanguage (plain x r)) (derivative_gives x r))
-    (λ d same. product_gives d (star_of r) (InLanguage (plain x r)) (InLanguage (Star r)) same (star_keeps r))
+    (λ d same. product_gives (InLanguage (plain x r)) (InLanguage (Star r)) d (star_of r) same (star_keeps r))
 derivative_gives x (Product r s) =
-    gives_then (part false (derivative_run x r)) (InLanguage (plain x r)) (λ d. if is_nullable r then (fitting (product_of d s) >>= λ front. part false (derivative_run x s) >>= λ e. Ok (union_of front e)) else Ok (product_of d s))
+    gives_then (part false (derivative_run x r)) (InLanguage (plain x r)) (λ d. if is_nullable r then (fitting (product_of d s) >>= λ front. part false (derivative_run x s) >>= λ e. Ok (combined Or front e)) else Ok (product_of d s))
     (InLanguage (plain x (Product r s))) (gives_part false (derivative_run x r) (InLanguage (plain x r)) (derivative_gives x r))
     (λ d same. product_derived x r s (is_nullable r) d same (derivative_gives x s))
 derivative_gives x (Union r s) =
-    gives_then (part false (derivative_run x r)) (InLanguage (plain x r)) (λ d. part (is_union s) (derivative_run x s) >>= λ e. Ok (union_of d e)) (InLanguage (Union (plain x r) (plain x s))) (gives_part false (derivative_run x r) (InLanguage (plain x r)) (derivative_gives x r))
-    (λ d same. gives_then (part (is_union s) (derivative_run x s)) (InLanguage (plain x s)) (λ e. Ok (union_of d e)) (InLanguage (Union (plain x r) (plain x s))) (gives_part (is_union s) (derivative_run x s) (InLanguage (plain x s)) (derivative_gives x s))
-    (λ e more. union_gives d e (InLanguage (plain x r)) (InLanguage (plain x s)) same more))
+    gives_both (part false (derivative_run x r)) (part (is_run Or s) (derivative_run x s)) (combined Or) (InLanguage (plain x r)) (InLanguage (plain x s)) (InLanguage (Union (plain x r) (plain x s))) (gives_part false (derivative_run x r) (InLanguage (plain x r)) (derivative_gives x r)) (gives_part (is_run Or s) (derivative_run x s) (InLanguage (plain x s)) (derivative_gives x s))
+    (combined_gives Or (plain x r) (plain x s))
 derivative_gives x (Intersection r s) =
-    gives_then (part false (derivative_run x r)) (InLanguage (plain x r)) (λ d. part (is_intersection s) (derivative_run x s) >>= λ e. Ok (intersection_of d e)) (InLanguage (Intersection (plain x r) (plain x s))) (gives_part false (derivative_run x r) (InLanguage (plain x r)) (derivative_gives x r))
-    (λ d same. gives_then (part (is_intersection s) (derivative_run x s)) (InLanguage (plain x s)) (λ e. Ok (intersection_of d e)) (InLanguage (Intersection (plain x r) (plain x s))) (gives_part (is_intersection s) (derivative_run x s) (InLanguage (plain x s)) (derivative_gives x s))
-    (λ e more. intersection_gives d e (InLanguage (plain x r)) (InLanguage (plain x s)) same more))
+    gives_both (part false (derivative_run x r)) (part (is_run And s) (derivative_run x s)) (combined And) (InLanguage (plain x r)) (InLanguage (plain x s)) (InLanguage (Intersection (plain x r) (plain x s))) (gives_part false (derivative_run x r) (InLanguage (plain x r)) (derivative_gives x r)) (gives_part (is_run And s) (derivative_run x s) (InLanguage (plain x s)) (derivative_gives x s))
+    (combined_gives And (plain x r) (plain x s))
 
 -- ---- along a word
 

@@ -164,6 +164,12 @@ symbol_follows x y w = elim (eqb_tells x y) [
 abbrev pub Same : (List ℕ → Type 0) → (List ℕ → Type 0) → Type 0
 Same L M = (w : List ℕ) → L w ↔ M w
 
+pub itself : (L : List ℕ → Type 0) → Same L L
+itself L w = (λ h. h, λ h. h)
+
+pub through : (L M N : List ℕ → Type 0) → Same L M → Same M N → Same L N
+through L M N f g w = (λ h. (g w).0 ((f w).0 h), λ h. (f w).1 ((g w).1 h))
+
 module _ (x : ℕ) where
   -- the words that follow the letter in r are those of d
   abbrev Follow : Expression → Expression → Type 0

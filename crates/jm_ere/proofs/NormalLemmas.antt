@@ -2,11 +2,13 @@ use Rattle.std.proofs.Common.{ℕ, ◌≡◌, ◌≢◌, ◌||◌, Bool, true, f
 use Rattle.std.specs.List.{AllByRecursion}
 use Rattle.std.specs.declared.cmp.Ordering.{Ordering}
 use Rattle.std.specs.declared.cmp.Ordering.TheVariants.{Less, Equal, Greater}
+use Rattle.jm_ere.specs.declared.order.Operator.{Operator}
+use Rattle.jm_ere.specs.declared.order.Operator.TheVariants.{Or, And}
 use Rattle.jm_ere.specs.Expressions.{Expression, EmptyWord, NoWord, Complement, Star, Product, Union, Intersection}
 use Rattle.jm_ere.specs.Languages.{InLanguage, IsChain, joined}
-use Rattle.jm_ere.specs.NormalForms.{order, by_order, is_nothing, is_everything, complement_of, star_of, before, product_of, put_union, join_union, union_of, put_intersection, join_intersection, intersection_of}
+use Rattle.jm_ere.specs.NormalForms.{order, by_order, is_nothing, is_everything, pair, is_unit, is_zero, complement_of, star_of, before, product_of, put, join, combined}
 use Rattle.jm_ere.proofs.OrderLemmas.{order_tells}
-use Rattle.jm_ere.proofs.LanguageLemmas.{Same, chain_of_chains, chain_empty, decide}
+use Rattle.jm_ere.proofs.LanguageLemmas.{Same, itself, through, chain_of_chains, chain_empty, decide}
 
 -- ---- each rule keeps the language
 
@@ -71,10 +73,10 @@ everything_is : (t : Expression) → is_everything t ≡ true → t ≡ Compleme
 everything_is (Complement r) e = ap Complement (nothing_is r e)
 everything_is t e = cc
 
-pub none_in : (t : Expression) (w : List ℕ) → is_nothing t ≡ true → InLanguage t w → ⊥
+none_in : (t : Expression) (w : List ℕ) → is_nothing t ≡ true → InLanguage t w → ⊥
 none_in t w e h = let i = nothing_is t e in subst (λ r. InLanguage r w) i h
 
-pub all_in : (t : Expression) (w : List ℕ) → is_everything t ≡ true → InLanguage t w
+all_in : (t : Expression) (w : List ℕ) → is_everything t ≡ true → InLanguage t w
 all_in t w e = let i = everything_is t e in subst (λ r. InLanguage r w) (sym i) (λ h. h)
 
 or_true : (a b : Bool) → (a || b) ≡ true → (a ≡ true) ⊎ (b ≡ true)
@@ -86,81 +88,89 @@ if_keeps : (b : Bool) (r s : Expression) (L : List ℕ → Type 0) → (b ≡ tr
 if_keeps true r s L then_keeps else_keeps = then_keeps refl
 if_keeps false r s L then_keeps else_keeps = else_keeps refl
 
--- the words of either
-abbrev pub Either : Expression → Expression → List ℕ → Type 0
-Either r s w = InLanguage r w ⊎ InLanguage s w
+-- expressions of the same words
+abbrev pub Alike : Expression → Expression → Type 0
+Alike r s = Same (InLanguage r) (InLanguage s)
 
--- one member put into a run of `|`, where it stands in the order
-put_one : (o : Ordering) (t r : Expression) → (o ≡ Equal → t ≡ r) → Same (InLanguage (by_order o (Union t r) r (Union r t))) (Either t r)
-put_one Less t r same w = (λ h. h, λ h. h)
-put_one Equal t r same w = (λ h. inr h, elim [ inl h ↦ subst (λ e. InLanguage e w) (same refl) h | inr h ↦ h ])
-put_one Greater t r same w = (elim [ inl h ↦ inr h | inr h ↦ inl h ], elim [ inl h ↦ inr h | inr h ↦ inl h ])
+-- what both operators have in common
+swap : (op : Operator) (r s : Expression) → Alike (pair op r s) (pair op s r)
+swap Or r s w = (elim [ inl h ↦ inr h | inr h ↦ inl h ], elim [ inl h ↦ inr h | inr h ↦ inl h ])
+swap And r s w = (λ h. (h.1, h.0), λ h. (h.1, h.0))
 
-put_more : (o : Ordering) (t r s rest : Expression) → (o ≡ Equal → t ≡ r) → Same (InLanguage rest) (Either t s) → Same (InLanguage (by_order o (Union t (Union r s)) (Union r s) (Union r rest))) (Either t (Union r s))
-put_more Less t r s rest same keeps w = (λ h. h, λ h. h)
-put_more Equal t r s rest same keeps w = (λ h. inr h, elim [ inl h ↦ inl (subst (λ e. InLanguage e w) (same refl) h) | inr h ↦ h ])
-put_more Greater t r s rest same keeps w = (
-  elim [ inl h ↦ inr (inl h) | inr h ↦ elim ((keeps w).0 h) [ inl k ↦ inl k | inr k ↦ inr (inr k) ] ],
-  elim [ inl h ↦ inr ((keeps w).1 (inl h)) | inr h ↦ elim h [ inl k ↦ inl k | inr k ↦ inr ((keeps w).1 (inr k)) ] ],
+twice : (op : Operator) (r : Expression) → Alike r (pair op r r)
+twice Or r w = (λ h. inl h, elim [ inl h ↦ h | inr h ↦ h ])
+twice And r w = (λ h. (h, h), λ h. h.0)
+
+again : (op : Operator) (r s : Expression) → Alike (pair op r s) (pair op r (pair op r s))
+again Or r s w = (λ h. inr h, elim [ inl h ↦ inl h | inr h ↦ h ])
+again And r s w = (λ h. (h.0, h), λ h. h.1)
+
+turn : (op : Operator) (t r s : Expression) → Alike (pair op r (pair op t s)) (pair op t (pair op r s))
+turn Or t r s w = (
+  elim [ inl h ↦ inr (inl h) | inr h ↦ elim h [ inl k ↦ inl k | inr k ↦ inr (inr k) ] ],
+  elim [ inl h ↦ inr (inl h) | inr h ↦ elim h [ inl k ↦ inl k | inr k ↦ inr (inr k) ] ],
 )
+turn And t r s w = (λ h. (h.1.0, (h.0, h.1.1)), λ h. (h.1.0, (h.0, h.1.1)))
 
-pub put_union_keeps : (t run : Expression) → Same (InLanguage (put_union t run)) (Either t run)
-put_union_keeps t (Union r s) = put_more (order t r) t r s (put_union t s) (order_tells t r) (put_union_keeps t s)
-put_union_keeps t r = put_one (order t r) t r (order_tells t r)
+flat : (op : Operator) (p q s : Expression) → Alike (pair op q (pair op p s)) (pair op (pair op p q) s)
+flat Or p q s w = (
+  elim [ inl h ↦ inl (inr h) | inr h ↦ elim h [ inl k ↦ inl (inl k) | inr k ↦ inr k ] ],
+  elim [ inl h ↦ elim h [ inl k ↦ inr (inl k) | inr k ↦ inl k ] | inr h ↦ inr (inr h) ],
+)
+flat And p q s w = (λ h. ((h.1.0, h.0), h.1.1), λ h. (h.0.1, (h.0.0, h.1)))
 
--- `empty` is dropped, and with `~empty` the whole is `~empty`
-pub join_union_keeps : (t run : Expression) → Same (InLanguage (join_union t run)) (Either t run)
-join_union_keeps t run =
-    if_keeps (is_nothing t || is_everything run) run (if is_everything t || is_nothing run then t else put_union t run) (Either t run)
-    (λ test w. (λ h. inr h, elim [ inl h ↦ elim (or_true (is_nothing t) (is_everything run) test) [ inl none ↦ absurd (none_in t w none h) | inr all ↦ all_in run w all ] | inr h ↦ h ]))
-    (λ _. if_keeps (is_everything t || is_nothing run) t (put_union t run) (Either t run)
-    (λ test w. (λ h. inl h, elim [ inl h ↦ h | inr h ↦ elim (or_true (is_everything t) (is_nothing run) test) [ inl all ↦ all_in t w all | inr none ↦ absurd (none_in run w none h) ] ]))
-    (λ _. put_union_keeps t run))
+pub pair_keeps : (op : Operator) (r s p q : Expression) → Alike r p → Alike s q → Alike (pair op r s) (pair op p q)
+pair_keeps Or r s p q f g w = (elim [ inl h ↦ inl ((f w).0 h) | inr h ↦ inr ((g w).0 h) ], elim [ inl h ↦ inl ((f w).1 h) | inr h ↦ inr ((g w).1 h) ])
+pair_keeps And r s p q f g w = (λ h. ((f w).0 h.0, (g w).0 h.1), λ h. ((f w).1 h.0, (g w).1 h.1))
+
+unit_drops : (op : Operator) (t r : Expression) → is_unit op t ≡ true → Alike r (pair op t r)
+unit_drops Or t r e w = (λ h. inr h, elim [ inl h ↦ absurd (none_in t w e h) | inr h ↦ h ])
+unit_drops And t r e w = (λ h. (all_in t w e, h), λ h. h.1)
+
+zero_takes : (op : Operator) (t r : Expression) → is_zero op t ≡ true → Alike t (pair op t r)
+zero_takes Or t r e w = (λ h. inl h, λ _. all_in t w e)
+zero_takes And t r e w = (λ h. absurd (none_in t w e h), λ h. h.0)
+
+-- one member put into a run, where it stands in the order
+placed_keeps : (op : Operator) (o : Ordering) (t r run rest : Expression) → (o ≡ Equal → t ≡ r) → Alike run (pair op r run) → Alike (pair op r rest) (pair op t run) → Alike (by_order o (pair op t run) run (pair op r rest)) (pair op t run)
+placed_keeps op Less t r run rest same held behind = itself (InLanguage (pair op t run))
+placed_keeps op Equal t r run rest same held behind = subst (λ e. Alike run (pair op e run)) (sym (same refl)) held
+placed_keeps op Greater t r run rest same held behind = behind
+
+-- of what stands behind the first member of the run
+put_behind : (op : Operator) (t r s rest : Expression) → Alike rest (pair op t s) → Alike (pair op r rest) (pair op t (pair op r s))
+put_behind op t r s rest keeps =
+    through (InLanguage (pair op r rest)) (InLanguage (pair op r (pair op t s))) (InLanguage (pair op t (pair op r s))) (pair_keeps op r rest r (pair op t s) (itself (InLanguage r)) keeps) (turn op t r s)
+
+put_keeps : (op : Operator) (t run : Expression) → Alike (put op t run) (pair op t run)
+put_keeps Or t (Union r s) = placed_keeps Or (order t r) t r (Union r s) (put Or t s) (order_tells t r) (again Or r s) (put_behind Or t r s (put Or t s) (put_keeps Or t s))
+put_keeps And t (Intersection r s) = placed_keeps And (order t r) t r (Intersection r s) (put And t s) (order_tells t r) (again And r s) (put_behind And t r s (put And t s) (put_keeps And t s))
+put_keeps op t r = placed_keeps op (order t r) t r r t (order_tells t r) (twice op r) (swap op r t)
+
+-- a unit is dropped, and with a zero the whole is the zero
+join_keeps : (op : Operator) (t run : Expression) → Alike (join op t run) (pair op t run)
+join_keeps op t run =
+    let back : Alike (pair op run t) (pair op t run) = swap op run t in
+    if_keeps (is_unit op t || is_zero op run) run (if is_zero op t || is_unit op run then t else put op t run) (InLanguage (pair op t run))
+    (λ test. elim (or_true (is_unit op t) (is_zero op run) test) [
+      | inl unit ↦ unit_drops op t run unit
+      | inr zero ↦ through (InLanguage run) (InLanguage (pair op run t)) (InLanguage (pair op t run)) (zero_takes op run t zero) back
+    ])
+    (λ _. if_keeps (is_zero op t || is_unit op run) t (put op t run) (InLanguage (pair op t run))
+    (λ test. elim (or_true (is_zero op t) (is_unit op run) test) [
+      | inl zero ↦ zero_takes op t run zero
+      | inr unit ↦ through (InLanguage t) (InLanguage (pair op run t)) (InLanguage (pair op t run)) (unit_drops op run t unit) back
+    ])
+    (λ _. put_keeps op t run))
+
+-- the members of a run inside another
+nest_keeps : (op : Operator) (p q run inner outer : Expression) → Alike inner (pair op p run) → Alike outer (pair op q inner) → Alike outer (pair op (pair op p q) run)
+nest_keeps op p q run inner outer keeps more =
+    through (InLanguage outer) (InLanguage (pair op q inner)) (InLanguage (pair op (pair op p q) run)) more
+    (through (InLanguage (pair op q inner)) (InLanguage (pair op q (pair op p run))) (InLanguage (pair op (pair op p q) run)) (pair_keeps op q inner q (pair op p run) (itself (InLanguage q)) keeps) (flat op p q run))
 
 -- flattened, sorted and without doubles
-pub union_keeps : (r run : Expression) → Same (InLanguage (union_of r run)) (Either r run)
-union_keeps (Union p q) run w =
-    let outer = union_keeps q (union_of p run) w in let inner = union_keeps p run w in (
-      λ h. elim (outer.0 h) [ inl k ↦ inl (inr k) | inr k ↦ elim (inner.0 k) [ inl m ↦ inl (inl m) | inr m ↦ inr m ] ],
-      elim [ inl h ↦ elim h [ inl k ↦ outer.1 (inr (inner.1 (inl k))) | inr k ↦ outer.1 (inl k) ] | inr h ↦ outer.1 (inr (inner.1 (inr h))) ],
-    )
-union_keeps r run w = join_union_keeps r run w
-
--- the words of both
-abbrev pub Both : Expression → Expression → List ℕ → Type 0
-Both r s w = InLanguage r w × InLanguage s w
-
-meet_one : (o : Ordering) (t r : Expression) → (o ≡ Equal → t ≡ r) → Same (InLanguage (by_order o (Intersection t r) r (Intersection r t))) (Both t r)
-meet_one Less t r same w = (λ h. h, λ h. h)
-meet_one Equal t r same w = (λ h. (subst (λ e. InLanguage e w) (sym (same refl)) h, h), λ h. h.1)
-meet_one Greater t r same w = (λ h. (h.1, h.0), λ h. (h.1, h.0))
-
-meet_more : (o : Ordering) (t r s rest : Expression) → (o ≡ Equal → t ≡ r) → Same (InLanguage rest) (Both t s)
-    → Same (InLanguage (by_order o (Intersection t (Intersection r s)) (Intersection r s) (Intersection r rest))) (Both t (Intersection r s))
-meet_more Less t r s rest same keeps w = (λ h. h, λ h. h)
-meet_more Equal t r s rest same keeps w = (λ h. (subst (λ e. InLanguage e w) (sym (same refl)) h.0, h), λ h. h.1)
-meet_more Greater t r s rest same keeps w = (
-  λ h. let k = (keeps w).0 h.1 in (k.0, (h.0, k.1)),
-  λ h. (h.1.0, (keeps w).1 (h.0, h.1.1)),
-)
-
-pub put_intersection_keeps : (t run : Expression) → Same (InLanguage (put_intersection t run)) (Both t run)
-put_intersection_keeps t (Intersection r s) = meet_more (order t r) t r s (put_intersection t s) (order_tells t r) (put_intersection_keeps t s)
-put_intersection_keeps t r = meet_one (order t r) t r (order_tells t r)
-
--- `~empty` is dropped, and with `empty` the whole is `empty`
-pub join_intersection_keeps : (t run : Expression) → Same (InLanguage (join_intersection t run)) (Both t run)
-join_intersection_keeps t run =
-    if_keeps (is_everything t || is_nothing run) run (if is_nothing t || is_everything run then t else put_intersection t run) (Both t run)
-    (λ test w. (λ h. elim (or_true (is_everything t) (is_nothing run) test) [ inl all ↦ (all_in t w all, h) | inr none ↦ absurd (none_in run w none h) ], λ h. h.1))
-    (λ _. if_keeps (is_nothing t || is_everything run) t (put_intersection t run) (Both t run)
-    (λ test w. (λ h. elim (or_true (is_nothing t) (is_everything run) test) [ inl none ↦ absurd (none_in t w none h) | inr all ↦ (h, all_in run w all) ], λ h. h.0))
-    (λ _. put_intersection_keeps t run))
-
-pub intersection_keeps : (r run : Expression) → Same (InLanguage (intersection_of r run)) (Both r run)
-intersection_keeps (Intersection p q) run w =
-    let outer = intersection_keeps q (intersection_of p run) w in let inner = intersection_keeps p run w in (
-      λ h. let k = outer.0 h in let m = inner.0 k.1 in ((m.0, k.0), m.1),
-      λ h. outer.1 (h.0.1, inner.1 (h.0.0, h.1)),
-    )
-intersection_keeps r run w = join_intersection_keeps r run w
+pub combined_keeps : (op : Operator) (r run : Expression) → Alike (combined op r run) (pair op r run)
+combined_keeps Or (Union p q) run = nest_keeps Or p q run (combined Or p run) (combined Or q (combined Or p run)) (combined_keeps Or p run) (combined_keeps Or q (combined Or p run))
+combined_keeps And (Intersection p q) run = nest_keeps And p q run (combined And p run) (combined And q (combined And p run)) (combined_keeps And p run) (combined_keeps And q (combined And p run))
+combined_keeps op r run = join_keeps op r run

@@ -4,9 +4,11 @@ use Rattle.std.specs.declared.cmp.Ordering.{Ordering}
 use Rattle.std.specs.declared.cmp.Ordering.TheVariants.{Less, Equal, Greater}
 use Rattle.jm_model.specs.declared.fault.SpecFault.{SpecFault}
 use Rattle.jm_table.specs.Graphs.{step_from, reached_by}
+use Rattle.jm_ere.specs.declared.order.Operator.{Operator}
+use Rattle.jm_ere.specs.declared.order.Operator.TheVariants.{Or, And}
 use Rattle.jm_ere.specs.Expressions.{Expression, Symbol, EmptyWord, NoWord, Complement, Star, Plus, Product, Union, Intersection}
-use Rattle.jm_ere.specs.NormalForms.{order, by_order, is_nothing, is_everything, is_epsilon, is_product, is_union, is_intersection, complement_of, star_of, before, product_of, put_union, join_union, union_of, put_intersection, join_intersection, intersection_of, size_of, Formed, fitting, part, ◌>>=◌, normal_run, normal_form, is_nullable, derivative_run, forms_of}
-use Rattle.jm_ere.specs.Normality.{IsProper, IsFactor, first_of_union, first_of_intersection, IsNormal}
+use Rattle.jm_ere.specs.NormalForms.{order, by_order, is_nothing, is_epsilon, is_product, pair, is_run, is_unit, is_zero, complement_of, star_of, before, product_of, placed, put, join, combined, size_of, Formed, fitting, part, ◌>>=◌, normal_run, normal_form, is_nullable, derivative_run, forms_of}
+use Rattle.jm_ere.specs.Normality.{IsProper, IsFactor, first_of, Rises, IsNormal}
 use Rattle.jm_ere.proofs.OrderLaws.{order_total}
 
 -- ---- operators of one part
@@ -44,138 +46,86 @@ product_choice r s false false a b h k = (before_normal r s h k (a, b)).normal
 product_normal : (r s : Expression) → IsNormal r → IsNormal s → IsNormal (product_of r s)
 product_normal r s h k = product_choice r s (is_nothing s) (is_epsilon s) refl refl h k
 
--- ---- runs of `|`
+-- ---- runs
 
 greater_less : (r s : Expression) → order r s ≡ Greater → order s r ≡ Less
 greater_less r s e = order_total.antisymm s r ∙ ap ordering_reverse e
 
 -- a member, which isn't a run itself
-record IsMember (t : Expression) : Type 0 where
+record IsMember (op : Operator) (t : Expression) : Type 0 where
   normal : IsNormal t
   proper : IsProper t
-  single : is_union t ≡ false
+  single : is_run op t ≡ false
 
 record IsRun (run : Expression) : Type 0 where
   normal : IsNormal run
   proper : IsProper run
 
 -- a run, of which the first member is behind whatever both are behind
-record IsPut (t run put : Expression) : Type 0 where
+record IsPut (op : Operator) (t run put : Expression) : Type 0 where
   run_of : IsRun put
-  behind : (c : Expression) → order c t ≡ Less → order c (first_of_union run) ≡ Less → order c (first_of_union put) ≡ Less
+  behind : (c : Expression) → order c t ≡ Less → order c (first_of op run) ≡ Less → order c (first_of op put) ≡ Less
 
-single_first : (t : Expression) → is_union t ≡ false → first_of_union t ≡ t
-single_first (Union r s) e = cc
-single_first t e = refl
+single_first : (op : Operator) (t : Expression) → is_run op t ≡ false → first_of op t ≡ t
+single_first Or (Union r s) e = cc
+single_first And (Intersection r s) e = cc
+single_first op t e = refl
 
-put_last : (o : Ordering) (t r : Expression) → order t r ≡ o → IsMember t → IsRun r → is_union r ≡ false → IsPut t r (by_order o (Union t r) r (Union r t))
-put_last Less t r e m k one = record {
-  run_of = record { normal = (m.normal, k.normal, m.proper, k.proper, m.single, rw (single_first r one) e); proper = (refl, refl) };
-  behind = λ c before_t before_r. before_t;
+pair_first : (op : Operator) (r s : Expression) → first_of op (pair op r s) ≡ r
+pair_first Or r s = refl
+pair_first And r s = refl
+
+pair_run : (op : Operator) (r s : Expression) → IsMember op r → IsRun s → order r (first_of op s) ≡ Less → IsRun (pair op r s)
+pair_run Or r s m k e = record { normal = (m.normal, k.normal, (m.proper, k.proper, m.single, e)); proper = (refl, refl) }
+pair_run And r s m k e = record { normal = (m.normal, k.normal, (m.proper, k.proper, m.single, e)); proper = (refl, refl) }
+
+placed_normal : (op : Operator) (o : Ordering) (t r run rest : Expression) → order t r ≡ o → first_of op run ≡ r → IsMember op t → IsMember op r → IsRun run → IsRun rest
+    → (order r t ≡ Less → order r (first_of op rest) ≡ Less) → IsPut op t run (by_order o (pair op t run) run (pair op r rest))
+placed_normal op Less t r run rest e first m n k more rises = record {
+  run_of = pair_run op t run m k (rw first e);
+  behind = λ c before_t before_r. rw (pair_first op t run) before_t;
 }
-put_last Equal t r e m k one = record { run_of = k; behind = λ c before_t before_r. before_r }
-put_last Greater t r e m k one = record {
-  run_of = record { normal = (k.normal, m.normal, k.proper, m.proper, one, rw (single_first t m.single) (greater_less t r e)); proper = (refl, refl) };
-  behind = λ c before_t before_r. rw (single_first r one) at before_r;
+placed_normal op Equal t r run rest e first m n k more rises = record { run_of = k; behind = λ c before_t before_r. before_r }
+placed_normal op Greater t r run rest e first m n k more rises = record {
+  run_of = pair_run op r rest n more (rises (greater_less t r e));
+  behind = λ c before_t before_r. rw (pair_first op r rest) (rw first at before_r);
 }
 
-put_middle : (o : Ordering) (t r s rest : Expression) → order t r ≡ o → IsMember t → IsRun (Union r s) → IsPut t s rest → IsPut t (Union r s) (by_order o (Union t (Union r s)) (Union r s) (Union r rest))
-put_middle Less t r s rest e m k more = record {
-  run_of = record { normal = (m.normal, k.normal, m.proper, k.proper, m.single, e); proper = (refl, refl) };
-  behind = λ c before_t before_r. before_t;
-}
-put_middle Equal t r s rest e m k more = record { run_of = k; behind = λ c before_t before_r. before_r }
-put_middle Greater t r s rest e m k more =
-    let n = k.normal in record {
-      run_of = record { normal = (n.0, more.run_of.normal, n.2, more.run_of.proper, n.4, more.behind r (greater_less t r e) n.5); proper = (refl, refl) };
-      behind = λ c before_t before_r. before_r;
-    }
+put_before : (op : Operator) (t r s run rest : Expression) → first_of op run ≡ r → IsMember op t → IsRun run → IsNormal r × IsNormal s × Rises op r s → IsPut op t s rest → IsPut op t run (placed op t r run rest)
+put_before op t r s run rest first m k n more =
+    placed_normal op (order t r) t r run rest refl first m (record { normal = n.0; proper = n.2.0; single = n.2.2 }) k more.run_of (λ e. more.behind r e n.2.3)
 
-put_normal : (t run : Expression) → IsMember t → IsRun run → IsPut t run (put_union t run)
-put_normal t (Union r s) m k = put_middle (order t r) t r s (put_union t s) refl m k (put_normal t s m (record { normal = k.normal.1; proper = k.normal.3 }))
-put_normal t r m k = put_last (order t r) t r refl m k refl
+put_normal : (op : Operator) (t run : Expression) → IsMember op t → IsRun run → IsPut op t run (put op t run)
+put_normal Or t (Union r s) m k = put_before Or t r s (Union r s) (put Or t s) refl m k k.normal (put_normal Or t s m (record { normal = k.normal.1; proper = k.normal.2.1 }))
+put_normal And t (Intersection r s) m k = put_before And t r s (Intersection r s) (put And t s) refl m k k.normal (put_normal And t s m (record { normal = k.normal.1; proper = k.normal.2.1 }))
+put_normal op t r m k =
+    placed_normal op (order t r) t r r t refl (single_first op r refl) m (record { normal = k.normal; proper = k.proper; single = refl }) k (record { normal = m.normal; proper = m.proper })
+    (λ e. rw (single_first op t m.single) e)
 
 -- the tests of a member and of a run, and what they choose
 or_false : (a b : Bool) → (a || b) ≡ false → (a ≡ false) × (b ≡ false)
 or_false true b e = cc
 or_false false b e = (refl, e)
 
-join_choice : (t run : Expression) (a b : Bool) → (is_nothing t || is_everything run) ≡ a → (is_everything t || is_nothing run) ≡ b → IsNormal t → is_union t ≡ false → IsNormal run → IsNormal (if a then run else (if b then t else put_union t run))
-join_choice t run true b ea eb h one k = k
-join_choice t run false true ea eb h one k = h
-join_choice t run false false ea eb h one k =
-    let p = or_false (is_nothing t) (is_everything run) ea in
-    let q = or_false (is_everything t) (is_nothing run) eb in
-    (put_normal t run (record { normal = h; proper = (p.0, q.0); single = one }) (record { normal = k; proper = (q.1, p.1) })).run_of.normal
+neither_proper : (op : Operator) (r : Expression) → is_unit op r ≡ false → is_zero op r ≡ false → IsProper r
+neither_proper Or r unit zero = (unit, zero)
+neither_proper And r unit zero = (zero, unit)
 
-join_normal : (t run : Expression) → IsNormal t → is_union t ≡ false → IsNormal run → IsNormal (join_union t run)
-join_normal t run h one k = join_choice t run (is_nothing t || is_everything run) (is_everything t || is_nothing run) refl refl h one k
+join_choice : (op : Operator) (t run : Expression) (a b : Bool) → (is_unit op t || is_zero op run) ≡ a → (is_zero op t || is_unit op run) ≡ b → IsNormal t → is_run op t ≡ false → IsNormal run → IsNormal (if a then run else (if b then t else put op t run))
+join_choice op t run true b ea eb h one k = k
+join_choice op t run false true ea eb h one k = h
+join_choice op t run false false ea eb h one k =
+    let p = or_false (is_unit op t) (is_zero op run) ea in
+    let q = or_false (is_zero op t) (is_unit op run) eb in
+    (put_normal op t run (record { normal = h; proper = neither_proper op t p.0 q.0; single = one }) (record { normal = k; proper = neither_proper op run q.1 p.1 })).run_of.normal
 
-union_normal : (r run : Expression) → IsNormal r → IsNormal run → IsNormal (union_of r run)
-union_normal (Union p q) run h k = union_normal q (union_of p run) h.1 (union_normal p run h.0 k)
-union_normal r run h k = join_normal r run h refl k
+join_normal : (op : Operator) (t run : Expression) → IsNormal t → is_run op t ≡ false → IsNormal run → IsNormal (join op t run)
+join_normal op t run h one k = join_choice op t run (is_unit op t || is_zero op run) (is_zero op t || is_unit op run) refl refl h one k
 
--- ---- runs of `&`
-
-record IsMeetMember (t : Expression) : Type 0 where
-  normal : IsNormal t
-  proper : IsProper t
-  single : is_intersection t ≡ false
-
-record IsMeet (run : Expression) : Type 0 where
-  normal : IsNormal run
-  proper : IsProper run
-
--- a run, of which the first member is behind whatever both are behind
-record IsMet (t run put : Expression) : Type 0 where
-  run_of : IsMeet put
-  behind : (c : Expression) → order c t ≡ Less → order c (first_of_intersection run) ≡ Less → order c (first_of_intersection put) ≡ Less
-
-meet_single_first : (t : Expression) → is_intersection t ≡ false → first_of_intersection t ≡ t
-meet_single_first (Intersection r s) e = cc
-meet_single_first t e = refl
-
-meet_put_last : (o : Ordering) (t r : Expression) → order t r ≡ o → IsMeetMember t → IsMeet r → is_intersection r ≡ false → IsMet t r (by_order o (Intersection t r) r (Intersection r t))
-meet_put_last Less t r e m k one = record {
-  run_of = record { normal = (m.normal, k.normal, m.proper, k.proper, m.single, rw (meet_single_first r one) e); proper = (refl, refl) };
-  behind = λ c before_t before_r. before_t;
-}
-meet_put_last Equal t r e m k one = record { run_of = k; behind = λ c before_t before_r. before_r }
-meet_put_last Greater t r e m k one = record {
-  run_of = record { normal = (k.normal, m.normal, k.proper, m.proper, one, rw (meet_single_first t m.single) (greater_less t r e)); proper = (refl, refl) };
-  behind = λ c before_t before_r. rw (meet_single_first r one) at before_r;
-}
-
-meet_put_middle : (o : Ordering) (t r s rest : Expression) → order t r ≡ o → IsMeetMember t → IsMeet (Intersection r s) → IsMet t s rest → IsMet t (Intersection r s) (by_order o (Intersection t (Intersection r s)) (Intersection r s) (Intersection r rest))
-meet_put_middle Less t r s rest e m k more = record {
-  run_of = record { normal = (m.normal, k.normal, m.proper, k.proper, m.single, e); proper = (refl, refl) };
-  behind = λ c before_t before_r. before_t;
-}
-meet_put_middle Equal t r s rest e m k more = record { run_of = k; behind = λ c before_t before_r. before_r }
-meet_put_middle Greater t r s rest e m k more =
-    let n = k.normal in record {
-      run_of = record { normal = (n.0, more.run_of.normal, n.2, more.run_of.proper, n.4, more.behind r (greater_less t r e) n.5); proper = (refl, refl) };
-      behind = λ c before_t before_r. before_r;
-    }
-
-meet_put_normal : (t run : Expression) → IsMeetMember t → IsMeet run → IsMet t run (put_intersection t run)
-meet_put_normal t (Intersection r s) m k = meet_put_middle (order t r) t r s (put_intersection t s) refl m k (meet_put_normal t s m (record { normal = k.normal.1; proper = k.normal.3 }))
-meet_put_normal t r m k = meet_put_last (order t r) t r refl m k refl
-
-meet_join_choice : (t run : Expression) (a b : Bool) → (is_everything t || is_nothing run) ≡ a → (is_nothing t || is_everything run) ≡ b → IsNormal t → is_intersection t ≡ false → IsNormal run → IsNormal (if a then run else (if b then t else put_intersection t run))
-meet_join_choice t run true b ea eb h one k = k
-meet_join_choice t run false true ea eb h one k = h
-meet_join_choice t run false false ea eb h one k =
-    let p = or_false (is_everything t) (is_nothing run) ea in
-    let q = or_false (is_nothing t) (is_everything run) eb in
-    (meet_put_normal t run (record { normal = h; proper = (q.0, p.0); single = one }) (record { normal = k; proper = (p.1, q.1) })).run_of.normal
-
-meet_join_normal : (t run : Expression) → IsNormal t → is_intersection t ≡ false → IsNormal run → IsNormal (join_intersection t run)
-meet_join_normal t run h one k = meet_join_choice t run (is_everything t || is_nothing run) (is_nothing t || is_everything run) refl refl h one k
-
-intersection_normal : (r run : Expression) → IsNormal r → IsNormal run → IsNormal (intersection_of r run)
-intersection_normal (Intersection p q) run h k = intersection_normal q (intersection_of p run) h.1 (intersection_normal p run h.0 k)
-intersection_normal r run h k = meet_join_normal r run h refl k
+combined_normal : (op : Operator) (r run : Expression) → IsNormal r → IsNormal run → IsNormal (combined op r run)
+combined_normal Or (Union p q) run h k = combined_normal Or q (combined Or p run) h.1 (combined_normal Or p run h.0 k)
+combined_normal And (Intersection p q) run h k = combined_normal And q (combined And p run) h.1 (combined_normal And p run h.0 k)
+combined_normal op r run h k = join_normal op r run h refl k
 
 -- ---- what is formed
 
@@ -199,17 +149,17 @@ then_normal : (F : Formed) (k : Expression → Formed) → AreNormal F → ((d :
 then_normal (Err fault) k h more = tt
 then_normal (Ok d) k h more = more d h
 
+both_normal : (F G : Formed) (f : Expression → Expression → Expression) → AreNormal F → AreNormal G → ((d e : Expression) → IsNormal d → IsNormal e → IsNormal (f d e)) → AreNormal (F >>= λ d. G >>= λ e. Ok (f d e))
+both_normal F G f h k keeps = then_normal F (λ d. G >>= λ e. Ok (f d e)) h (λ d m. then_normal G (λ e. Ok (f d e)) k (λ e n. keeps d e m n))
+
 written_normal : (r : Expression) → AreNormal (normal_run r)
 written_normal (Complement r) = then_normal (part false (normal_run r)) (λ n. Ok (complement_of n)) (part_normal false (normal_run r) (written_normal r)) complement_normal
 written_normal (Star r) = then_normal (part false (normal_run r)) (λ n. Ok (star_of n)) (part_normal false (normal_run r) (written_normal r)) star_normal
 written_normal (Plus r) = then_normal (part false (normal_run r)) (λ n. fitting (star_of n) >>= λ s. Ok (product_of n s)) (part_normal false (normal_run r) (written_normal r))
     (λ n h. then_normal (fitting (star_of n)) (λ s. Ok (product_of n s)) (fitting_normal (star_of n) (star_normal n h)) (λ s k. product_normal n s h k))
-written_normal (Product r s) = then_normal (part (is_product r) (normal_run r)) (λ n. part (is_product s) (normal_run s) >>= λ m. Ok (product_of n m)) (part_normal (is_product r) (normal_run r) (written_normal r))
-    (λ n h. then_normal (part (is_product s) (normal_run s)) (λ m. Ok (product_of n m)) (part_normal (is_product s) (normal_run s) (written_normal s)) (λ m k. product_normal n m h k))
-written_normal (Union r s) = then_normal (part (is_union r) (normal_run r)) (λ n. part (is_union s) (normal_run s) >>= λ m. Ok (union_of n m)) (part_normal (is_union r) (normal_run r) (written_normal r))
-    (λ n h. then_normal (part (is_union s) (normal_run s)) (λ m. Ok (union_of n m)) (part_normal (is_union s) (normal_run s) (written_normal s)) (λ m k. union_normal n m h k))
-written_normal (Intersection r s) = then_normal (part (is_intersection r) (normal_run r)) (λ n. part (is_intersection s) (normal_run s) >>= λ m. Ok (intersection_of n m)) (part_normal (is_intersection r) (normal_run r) (written_normal r))
-    (λ n h. then_normal (part (is_intersection s) (normal_run s)) (λ m. Ok (intersection_of n m)) (part_normal (is_intersection s) (normal_run s) (written_normal s)) (λ m k. intersection_normal n m h k))
+written_normal (Product r s) = both_normal (part (is_product r) (normal_run r)) (part (is_product s) (normal_run s)) product_of (part_normal (is_product r) (normal_run r) (written_normal r)) (part_normal (is_product s) (normal_run s) (written_normal s)) product_normal
+written_normal (Union r s) = both_normal (part (is_run Or r) (normal_run r)) (part (is_run Or s) (normal_run s)) (combined Or) (part_normal (is_run Or r) (normal_run r) (written_normal r)) (part_normal (is_run Or s) (normal_run s) (written_normal s)) (combined_normal Or)
+written_normal (Intersection r s) = both_normal (part (is_run And r) (normal_run r)) (part (is_run And s) (normal_run s)) (combined And) (part_normal (is_run And r) (normal_run r) (written_normal r)) (part_normal (is_run And s) (normal_run s) (written_normal s)) (combined_normal And)
 written_normal (Symbol x) = tt
 written_normal EmptyWord = tt
 written_normal NoWord = tt
@@ -219,9 +169,8 @@ letter_normal true = tt
 letter_normal false = tt
 
 product_derived : (x : ℕ) (s : Expression) (b : Bool) (d : Expression) → IsNormal d → IsNormal s → AreNormal (derivative_run x s)
-    → AreNormal (if b then (fitting (product_of d s) >>= λ front. part false (derivative_run x s) >>= λ e. Ok (union_of front e)) else Ok (product_of d s))
-product_derived x s true d h k second = then_normal (fitting (product_of d s)) (λ front. part false (derivative_run x s) >>= λ e. Ok (union_of front e)) (fitting_normal (product_of d s) (product_normal d s h k))
-    (λ front f. then_normal (part false (derivative_run x s)) (λ e. Ok (union_of front e)) (part_normal false (derivative_run x s) second) (λ e g. union_normal front e f g))
+    → AreNormal (if b then (fitting (product_of d s) >>= λ front. part false (derivative_run x s) >>= λ e. Ok (combined Or front e)) else Ok (product_of d s))
+product_derived x s true d h k second = both_normal (fitting (product_of d s)) (part false (derivative_run x s)) (combined Or) (fitting_normal (product_of d s) (product_normal d s h k)) (part_normal false (derivative_run x s) second) (combined_normal Or)
 product_derived x s false d h k second = product_normal d s h k
 
 derived_normal : (x : ℕ) (r : Expression) → IsNormal r → AreNormal (derivative_run x r)
@@ -231,12 +180,10 @@ derived_normal x NoWord n = tt
 derived_normal x (Complement r) n = then_normal (part false (derivative_run x r)) (λ d. Ok (complement_of d)) (part_normal false (derivative_run x r) (derived_normal x r n.0)) complement_normal
 derived_normal x (Star r) n = then_normal (part false (derivative_run x r)) (λ d. Ok (product_of d (Star r))) (part_normal false (derivative_run x r) (derived_normal x r n.0)) (λ d h. product_normal d (Star r) h n)
 derived_normal x (Plus r) n = absurd n
-derived_normal x (Product r s) n = then_normal (part false (derivative_run x r)) (λ d. if is_nullable r then (fitting (product_of d s) >>= λ front. part false (derivative_run x s) >>= λ e. Ok (union_of front e)) else Ok (product_of d s))
+derived_normal x (Product r s) n = then_normal (part false (derivative_run x r)) (λ d. if is_nullable r then (fitting (product_of d s) >>= λ front. part false (derivative_run x s) >>= λ e. Ok (combined Or front e)) else Ok (product_of d s))
     (part_normal false (derivative_run x r) (derived_normal x r n.0)) (λ d h. product_derived x s (is_nullable r) d h n.1 (derived_normal x s n.1))
-derived_normal x (Union r s) n = then_normal (part false (derivative_run x r)) (λ d. part (is_union s) (derivative_run x s) >>= λ e. Ok (union_of d e)) (part_normal false (derivative_run x r) (derived_normal x r n.0))
-    (λ d h. then_normal (part (is_union s) (derivative_run x s)) (λ e. Ok (union_of d e)) (part_normal (is_union s) (derivative_run x s) (derived_normal x s n.1)) (λ e k. union_normal d e h k))
-derived_normal x (Intersection r s) n = then_normal (part false (derivative_run x r)) (λ d. part (is_intersection s) (derivative_run x s) >>= λ e. Ok (intersection_of d e)) (part_normal false (derivative_run x r) (derived_normal x r n.0))
-    (λ d h. then_normal (part (is_intersection s) (derivative_run x s)) (λ e. Ok (intersection_of d e)) (part_normal (is_intersection s) (derivative_run x s) (derived_normal x s n.1)) (λ e k. intersection_normal d e h k))
+derived_normal x (Union r s) n = both_normal (part false (derivative_run x r)) (part (is_run Or s) (derivative_run x s)) (combined Or) (part_normal false (derivative_run x r) (derived_normal x r n.0)) (part_normal (is_run Or s) (derivative_run x s) (derived_normal x s n.1)) (combined_normal Or)
+derived_normal x (Intersection r s) n = both_normal (part false (derivative_run x r)) (part (is_run And s) (derivative_run x s)) (combined And) (part_normal false (derivative_run x r) (derived_normal x r n.0)) (part_normal (is_run And s) (derivative_run x s) (derived_normal x s n.1)) (combined_normal And)
 
 step_normal : (e : Expression) (x : ℕ) (F : Formed) → AreNormal F → AreNormal (step_from (forms_of e) F x)
 step_normal e x (Err fault) h = tt

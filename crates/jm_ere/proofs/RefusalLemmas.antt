@@ -6,8 +6,9 @@ use Rattle.jm_table.specs.Graphs.{step_from}
 use Rattle.jm_model.specs.declared.fault.SpecError.{SpecError}
 use Rattle.jm_model.specs.declared.fault.SpecError.TheVariants.{Bad, NoMemory}
 use Rattle.jm_table.specs.Explorations.{IfBad, IsMet, IsCrowded}
+use Rattle.jm_ere.specs.declared.order.Operator.TheVariants.{Or, And}
 use Rattle.jm_ere.specs.Expressions.{Expression, Symbol, EmptyWord, NoWord, Complement, Star, Plus, Product, Union, Intersection}
-use Rattle.jm_ere.specs.NormalForms.{is_product, is_union, is_intersection, complement_of, star_of, product_of, union_of, intersection_of, size_of, Formed, fitting, part, ◌>>=◌, normal_run, normal_form, is_nullable, derivative_run, forms_of}
+use Rattle.jm_ere.specs.NormalForms.{is_product, is_run, complement_of, star_of, product_of, combined, size_of, Formed, fitting, part, ◌>>=◌, normal_run, normal_form, is_nullable, derivative_run, forms_of}
 use Rattle.jm_ere.specs.Refusals.{IsCause}
 
 -- no fault but that of a form that is too large
@@ -31,24 +32,23 @@ only_then : (F : Formed) (k : Expression → Formed) → OnlyTerm F → ((d : Ex
 only_then (Err fault) k h more = h
 only_then (Ok d) k h more = more d
 
+only_both : (F G : Formed) (f : Expression → Expression → Expression) → OnlyTerm F → OnlyTerm G → OnlyTerm (F >>= λ d. G >>= λ e. Ok (f d e))
+only_both F G f h k = only_then F (λ d. G >>= λ e. Ok (f d e)) h (λ d. only_then G (λ e. Ok (f d e)) k (λ e. tt))
+
 only_normal : (r : Expression) → OnlyTerm (normal_run r)
 only_normal (Complement r) = only_then (part false (normal_run r)) (λ n. Ok (complement_of n)) (only_part false (normal_run r) (only_normal r)) (λ n. tt)
 only_normal (Star r) = only_then (part false (normal_run r)) (λ n. Ok (star_of n)) (only_part false (normal_run r) (only_normal r)) (λ n. tt)
 only_normal (Plus r) = only_then (part false (normal_run r)) (λ n. fitting (star_of n) >>= λ s. Ok (product_of n s)) (only_part false (normal_run r) (only_normal r))
     (λ n. only_then (fitting (star_of n)) (λ s. Ok (product_of n s)) (only_fitting (star_of n)) (λ s. tt))
-only_normal (Product r s) = only_then (part (is_product r) (normal_run r)) (λ n. part (is_product s) (normal_run s) >>= λ m. Ok (product_of n m)) (only_part (is_product r) (normal_run r) (only_normal r))
-    (λ n. only_then (part (is_product s) (normal_run s)) (λ m. Ok (product_of n m)) (only_part (is_product s) (normal_run s) (only_normal s)) (λ m. tt))
-only_normal (Union r s) = only_then (part (is_union r) (normal_run r)) (λ n. part (is_union s) (normal_run s) >>= λ m. Ok (union_of n m)) (only_part (is_union r) (normal_run r) (only_normal r))
-    (λ n. only_then (part (is_union s) (normal_run s)) (λ m. Ok (union_of n m)) (only_part (is_union s) (normal_run s) (only_normal s)) (λ m. tt))
-only_normal (Intersection r s) = only_then (part (is_intersection r) (normal_run r)) (λ n. part (is_intersection s) (normal_run s) >>= λ m. Ok (intersection_of n m)) (only_part (is_intersection r) (normal_run r) (only_normal r))
-    (λ n. only_then (part (is_intersection s) (normal_run s)) (λ m. Ok (intersection_of n m)) (only_part (is_intersection s) (normal_run s) (only_normal s)) (λ m. tt))
+only_normal (Product r s) = only_both (part (is_product r) (normal_run r)) (part (is_product s) (normal_run s)) product_of (only_part (is_product r) (normal_run r) (only_normal r)) (only_part (is_product s) (normal_run s) (only_normal s))
+only_normal (Union r s) = only_both (part (is_run Or r) (normal_run r)) (part (is_run Or s) (normal_run s)) (combined Or) (only_part (is_run Or r) (normal_run r) (only_normal r)) (only_part (is_run Or s) (normal_run s) (only_normal s))
+only_normal (Intersection r s) = only_both (part (is_run And r) (normal_run r)) (part (is_run And s) (normal_run s)) (combined And) (only_part (is_run And r) (normal_run r) (only_normal r)) (only_part (is_run And s) (normal_run s) (only_normal s))
 only_normal (Symbol x) = tt
 only_normal EmptyWord = tt
 only_normal NoWord = tt
 
-only_product : (x : ℕ) (s : Expression) (b : Bool) (d : Expression) → OnlyTerm (derivative_run x s) → OnlyTerm (if b then (fitting (product_of d s) >>= λ front. part false (derivative_run x s) >>= λ e. Ok (union_of front e)) else Ok (product_of d s))
-only_product x s true d h = only_then (fitting (product_of d s)) (λ front. part false (derivative_run x s) >>= λ e. Ok (union_of front e)) (only_fitting (product_of d s))
-    (λ front. only_then (part false (derivative_run x s)) (λ e. Ok (union_of front e)) (only_part false (derivative_run x s) h) (λ e. tt))
+only_product : (x : ℕ) (s : Expression) (b : Bool) (d : Expression) → OnlyTerm (derivative_run x s) → OnlyTerm (if b then (fitting (product_of d s) >>= λ front. part false (derivative_run x s) >>= λ e. Ok (combined Or front e)) else Ok (product_of d s))
+only_product x s true d h = only_both (fitting (product_of d s)) (part false (derivative_run x s)) (combined Or) (only_fitting (product_of d s)) (only_part false (derivative_run x s) h)
 only_product x s false d h = tt
 
 only_derivative : (x : ℕ) (r : Expression) → OnlyTerm (derivative_run x r)
@@ -58,12 +58,10 @@ only_derivative x NoWord = tt
 only_derivative x (Complement r) = only_then (part false (derivative_run x r)) (λ d. Ok (complement_of d)) (only_part false (derivative_run x r) (only_derivative x r)) (λ d. tt)
 only_derivative x (Star r) = only_then (part false (derivative_run x r)) (λ d. Ok (product_of d (Star r))) (only_part false (derivative_run x r) (only_derivative x r)) (λ d. tt)
 only_derivative x (Plus r) = only_then (part false (derivative_run x r)) (λ d. Ok (product_of d (star_of r))) (only_part false (derivative_run x r) (only_derivative x r)) (λ d. tt)
-only_derivative x (Product r s) = only_then (part false (derivative_run x r)) (λ d. if is_nullable r then (fitting (product_of d s) >>= λ front. part false (derivative_run x s) >>= λ e. Ok (union_of front e)) else Ok (product_of d s))
+only_derivative x (Product r s) = only_then (part false (derivative_run x r)) (λ d. if is_nullable r then (fitting (product_of d s) >>= λ front. part false (derivative_run x s) >>= λ e. Ok (combined Or front e)) else Ok (product_of d s))
     (only_part false (derivative_run x r) (only_derivative x r)) (λ d. only_product x s (is_nullable r) d (only_derivative x s))
-only_derivative x (Union r s) = only_then (part false (derivative_run x r)) (λ d. part (is_union s) (derivative_run x s) >>= λ e. Ok (union_of d e)) (only_part false (derivative_run x r) (only_derivative x r))
-    (λ d. only_then (part (is_union s) (derivative_run x s)) (λ e. Ok (union_of d e)) (only_part (is_union s) (derivative_run x s) (only_derivative x s)) (λ e. tt))
-only_derivative x (Intersection r s) = only_then (part false (derivative_run x r)) (λ d. part (is_intersection s) (derivative_run x s) >>= λ e. Ok (intersection_of d e)) (only_part false (derivative_run x r) (only_derivative x r))
-    (λ d. only_then (part (is_intersection s) (derivative_run x s)) (λ e. Ok (intersection_of d e)) (only_part (is_intersection s) (derivative_run x s) (only_derivative x s)) (λ e. tt))
+only_derivative x (Union r s) = only_both (part false (derivative_run x r)) (part (is_run Or s) (derivative_run x s)) (combined Or) (only_part false (derivative_run x r) (only_derivative x r)) (only_part (is_run Or s) (derivative_run x s) (only_derivative x s))
+only_derivative x (Intersection r s) = only_both (part false (derivative_run x r)) (part (is_run And s) (derivative_run x s)) (combined And) (only_part false (derivative_run x r) (only_derivative x r)) (only_part (is_run And s) (derivative_run x s) (only_derivative x s))
 
 only_step : (e : Expression) (x : ℕ) (F : Formed) → OnlyTerm F → OnlyTerm (step_from (forms_of e) F x)
 only_step e x (Err fault) h = h

@@ -8,6 +8,8 @@ use Rattle.jm_model.specs.declared.fault.Counted.TheVariants.{Term}
 use Rattle.jm_model.specs.declared.fault.SpecFault.{SpecFault}
 use Rattle.jm_model.specs.declared.fault.SpecFault.TheVariants.{TooMany}
 use Rattle.jm_table.specs.Graphs.{GraphMeaning}
+use Rattle.jm_ere.specs.declared.order.Operator.{Operator}
+use Rattle.jm_ere.specs.declared.order.Operator.TheVariants.{Or, And}
 use Rattle.jm_ere.specs.Expressions.{Expression, Symbol, EmptyWord, NoWord, Complement, Star, Plus, Product, Union, Intersection}
 
 -- ---- one fixed order
@@ -60,13 +62,27 @@ abbrev pub is_product : Expression → Bool
 is_product (Product r s) = true
 is_product r = false
 
-abbrev pub is_union : Expression → Bool
-is_union (Union r s) = true
-is_union r = false
+-- ---- `|` and `&`, whose runs are told alike
 
-abbrev pub is_intersection : Expression → Bool
-is_intersection (Intersection r s) = true
-is_intersection r = false
+-- `r | s`, or `r & s`
+abbrev pub pair : Operator → Expression → Expression → Expression
+pair Or r s = Union r s
+pair And r s = Intersection r s
+
+abbrev pub is_run : Operator → Expression → Bool
+is_run Or (Union r s) = true
+is_run And (Intersection r s) = true
+is_run op r = false
+
+-- what changes nothing beside other members: `empty` with `|`, and `~empty` with `&`
+abbrev pub is_unit : Operator → Expression → Bool
+is_unit Or r = is_nothing r
+is_unit And r = is_everything r
+
+-- what the whole is wherever it is a member: `~empty` with `|`, and `empty` with `&`
+abbrev pub is_zero : Operator → Expression → Bool
+is_zero Or r = is_everything r
+is_zero And r = is_nothing r
 
 -- ---- the operators over normal forms
 
@@ -93,33 +109,27 @@ before r s = Product r s
 abbrev pub product_of : Expression → Expression → Expression
 product_of r s = if is_nothing s then NoWord else (if is_epsilon s then r else before r s)
 
--- A run of `|` is nested to the right, and sorted without doubles. One more member of such a run, which may be one form:
-abbrev pub put_union : Expression → Expression → Expression
-put_union t (Union r s) = by_order (order t r) (Union t (Union r s)) (Union r s) (Union r (put_union t s))
-put_union t r = by_order (order t r) (Union t r) r (Union r t)
+-- A run of an operator is nested to the right, and sorted without doubles. One more member `t` beside such a run, whose
+-- first member is `r`, where `rest` is what stands behind `r` if `t` does:
+abbrev pub placed : Operator → Expression → Expression → Expression → Expression → Expression
+placed op t r run rest = by_order (order t r) (pair op t run) run (pair op r rest)
 
--- a member of a run of `|`, and the rest: `empty` is dropped, and with `~empty` among them the whole is `~empty`
-abbrev pub join_union : Expression → Expression → Expression
-join_union t run =
-    if is_nothing t || is_everything run then run else (if is_everything t || is_nothing run then t else put_union t run)
+-- one more member of such a run, which may be one form
+abbrev pub put : Operator → Expression → Expression → Expression
+put Or t (Union r s) = placed Or t r (Union r s) (put Or t s)
+put And t (Intersection r s) = placed And t r (Intersection r s) (put And t s)
+put op t r = placed op t r r t
 
--- `r | s`: the members of `r`, which may be a run itself, are put among those of `s`
-abbrev pub union_of : Expression → Expression → Expression
-union_of (Union p q) run = union_of q (union_of p run)
-union_of t run = join_union t run
+-- a member of a run, and the rest: a unit is dropped, and with a zero among them the whole is the zero
+abbrev pub join : Operator → Expression → Expression → Expression
+join op t run =
+    if is_unit op t || is_zero op run then run else (if is_zero op t || is_unit op run then t else put op t run)
 
--- the same of `&`, where `empty` and `~empty` change places
-abbrev pub put_intersection : Expression → Expression → Expression
-put_intersection t (Intersection r s) = by_order (order t r) (Intersection t (Intersection r s)) (Intersection r s) (Intersection r (put_intersection t s))
-put_intersection t r = by_order (order t r) (Intersection t r) r (Intersection r t)
-
-abbrev pub join_intersection : Expression → Expression → Expression
-join_intersection t run =
-    if is_everything t || is_nothing run then run else (if is_nothing t || is_everything run then t else put_intersection t run)
-
-abbrev pub intersection_of : Expression → Expression → Expression
-intersection_of (Intersection p q) run = intersection_of q (intersection_of p run)
-intersection_of t run = join_intersection t run
+-- `r | s`, or `r & s`: the members of `r`, which may be a run itself, are put among those of `s`
+abbrev pub combined : Operator → Expression → Expression → Expression
+combined Or (Union p q) run = combined Or q (combined Or p run)
+combined And (Intersection p q) run = combined And q (combined And p run)
+combined op t run = join op t run
 
 -- ---- sizes
 
@@ -129,8 +139,8 @@ size_of (Complement r) = 1 + size_of r
 size_of (Star r) = 1 + size_of r
 size_of (Plus r) = 1 + size_of r
 size_of (Product r s) = 1 + (size_of r + size_of s)
-size_of (Union r s) = (if is_union s then 0 else 1) + (size_of r + size_of s)
-size_of (Intersection r s) = (if is_intersection s then 0 else 1) + (size_of r + size_of s)
+size_of (Union r s) = (if is_run Or s then 0 else 1) + (size_of r + size_of s)
+size_of (Intersection r s) = (if is_run And s then 0 else 1) + (size_of r + size_of s)
 size_of r = 1
 
 -- a form, or the fault of one with more than 4,096 nodes
@@ -157,8 +167,8 @@ normal_run (Complement r) = part false (normal_run r) >>= λ n. Ok (complement_o
 normal_run (Star r) = part false (normal_run r) >>= λ n. Ok (star_of n)
 normal_run (Plus r) = part false (normal_run r) >>= λ n. fitting (star_of n) >>= λ s. Ok (product_of n s)
 normal_run (Product r s) = part (is_product r) (normal_run r) >>= λ n. part (is_product s) (normal_run s) >>= λ m. Ok (product_of n m)
-normal_run (Union r s) = part (is_union r) (normal_run r) >>= λ n. part (is_union s) (normal_run s) >>= λ m. Ok (union_of n m)
-normal_run (Intersection r s) = part (is_intersection r) (normal_run r) >>= λ n. part (is_intersection s) (normal_run s) >>= λ m. Ok (intersection_of n m)
+normal_run (Union r s) = part (is_run Or r) (normal_run r) >>= λ n. part (is_run Or s) (normal_run s) >>= λ m. Ok (combined Or n m)
+normal_run (Intersection r s) = part (is_run And r) (normal_run r) >>= λ n. part (is_run And s) (normal_run s) >>= λ m. Ok (combined And n m)
 normal_run r = Ok r
 
 -- the normal form of a written expression
@@ -186,9 +196,9 @@ derivative_run x (Complement r) = part false (derivative_run x r) >>= λ d. Ok (
 derivative_run x (Star r) = part false (derivative_run x r) >>= λ d. Ok (product_of d (Star r))
 derivative_run x (Plus r) = part false (derivative_run x r) >>= λ d. Ok (product_of d (star_of r))
 derivative_run x (Product r s) = part false (derivative_run x r) >>= λ d.
-    if is_nullable r then (fitting (product_of d s) >>= λ front. part false (derivative_run x s) >>= λ e. Ok (union_of front e)) else Ok (product_of d s)
-derivative_run x (Union r s) = part false (derivative_run x r) >>= λ d. part (is_union s) (derivative_run x s) >>= λ e. Ok (union_of d e)
-derivative_run x (Intersection r s) = part false (derivative_run x r) >>= λ d. part (is_intersection s) (derivative_run x s) >>= λ e. Ok (intersection_of d e)
+    if is_nullable r then (fitting (product_of d s) >>= λ front. part false (derivative_run x s) >>= λ e. Ok (combined Or front e)) else Ok (product_of d s)
+derivative_run x (Union r s) = part false (derivative_run x r) >>= λ d. part (is_run Or s) (derivative_run x s) >>= λ e. Ok (combined Or d e)
+derivative_run x (Intersection r s) = part false (derivative_run x r) >>= λ d. part (is_run And s) (derivative_run x s) >>= λ e. Ok (combined And d e)
 
 -- the derivative of a normal form by a letter
 abbrev pub derivative : ℕ → Expression → Formed

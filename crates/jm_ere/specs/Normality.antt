@@ -1,8 +1,10 @@
 -- What normal forms look like: no rule is left to apply.
 use Rattle.std.specs.Prelude.{◌≡◌, Bool, true, false}
 use Rattle.std.specs.declared.cmp.Ordering.TheVariants.{Less}
+use Rattle.jm_ere.specs.declared.order.Operator.{Operator}
+use Rattle.jm_ere.specs.declared.order.Operator.TheVariants.{Or, And}
 use Rattle.jm_ere.specs.Expressions.{Expression, Symbol, EmptyWord, NoWord, Complement, Star, Plus, Product, Union, Intersection}
-use Rattle.jm_ere.specs.NormalForms.{order, is_nothing, is_everything, is_epsilon, is_product, is_union, is_intersection}
+use Rattle.jm_ere.specs.NormalForms.{order, is_nothing, is_everything, is_epsilon, is_product, is_run}
 
 abbrev pub is_complement : Expression → Bool
 is_complement (Complement r) = true
@@ -20,14 +22,15 @@ IsProper r = (is_nothing r ≡ false) × (is_everything r ≡ false)
 abbrev pub IsFactor : Expression → Type 0
 IsFactor r = (is_nothing r ≡ false) × (is_epsilon r ≡ false)
 
--- the first member of a run of `|`, or of `&`, or the one form
-abbrev pub first_of_union : Expression → Expression
-first_of_union (Union r s) = r
-first_of_union r = r
+-- the first member of a run of the operator, or the one form
+abbrev pub first_of : Operator → Expression → Expression
+first_of Or (Union r s) = r
+first_of And (Intersection r s) = r
+first_of op r = r
 
-abbrev pub first_of_intersection : Expression → Expression
-first_of_intersection (Intersection r s) = r
-first_of_intersection r = r
+-- a member of a run of the operator, and the rest of it
+abbrev pub Rises : Operator → Expression → Expression → Type 0
+Rises op r s = IsProper r × IsProper s × (is_run op r ≡ false) × (order r (first_of op s) ≡ Less)
 
 -- Each operator stands over normal forms. There is no `~~r`, and no star of `empty`, `epsilon` or a star. Juxtapositions
 -- are nested to the right, without `empty` and `epsilon`. Runs of `|` and of `&` are nested to the right, without `empty`
@@ -40,5 +43,5 @@ IsNormal (Complement r) = IsNormal r × (is_complement r ≡ false)
 IsNormal (Star r) = IsNormal r × IsFactor r × (is_star r ≡ false)
 IsNormal (Plus r) = ⊥
 IsNormal (Product r s) = IsNormal r × IsNormal s × IsFactor r × IsFactor s × (is_product r ≡ false)
-IsNormal (Union r s) = IsNormal r × IsNormal s × IsProper r × IsProper s × (is_union r ≡ false) × (order r (first_of_union s) ≡ Less)
-IsNormal (Intersection r s) = IsNormal r × IsNormal s × IsProper r × IsProper s × (is_intersection r ≡ false) × (order r (first_of_intersection s) ≡ Less)
+IsNormal (Union r s) = IsNormal r × IsNormal s × Rises Or r s
+IsNormal (Intersection r s) = IsNormal r × IsNormal s × Rises And r s

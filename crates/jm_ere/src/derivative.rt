@@ -3,11 +3,12 @@ ghost use Rattle.std.specs.Prelude.{◌≡◌, ◌==◌, if◌then◌else◌, Ok
 ghost use Rattle.jm_table.specs.Graphs.{Answers};
 ghost use Rattle.jm_ere.specs.Trees.{expression_of};
 ghost use Rattle.jm_ere.specs.Expressions.{EmptyWord, NoWord, Star};
-ghost use Rattle.jm_ere.specs.NormalForms.{Formed, ◌>>=◌ as ◌>>>◌, fitting, product_of, star_of, union_of, derivative_run, derivative};
+ghost use Rattle.jm_ere.specs.declared.order.Operator.TheVariants.{Or};
+ghost use Rattle.jm_ere.specs.NormalForms.{Formed, ◌>>=◌ as ◌>>>◌, fitting, product_of, star_of, combined, derivative_run, derivative};
 
-use crate::forms::{copy, product_of, repeated, star_of, union_of};
-use crate::order::{is_intersection, is_nullable, is_union};
-use crate::parts::{complement_of_part, intersection_of_parts, union_of_parts};
+use crate::forms::{combined, copy, product_of, repeated, star_of};
+use crate::order::{Operator, is_nullable, is_run};
+use crate::parts::{combined_parts, complement_of_part};
 use crate::sizes::{fitting, part};
 use crate::tree::Tree;
 use jm_model::{Letter, SpecError};
@@ -43,13 +44,13 @@ fn derivative_run(alloc: Global, tree: &Tree, letter: Letter) -> Result<Tree, Sp
         }
         Tree::Either(r, s) => {
             let first = part(false, derivative_run(alloc, r, letter));
-            let rest = part(is_union(s), derivative_run(alloc, s, letter));
-            union_of_parts(alloc, first, rest)
+            let rest = part(is_run(Operator::Or, s), derivative_run(alloc, s, letter));
+            combined_parts(alloc, Operator::Or, first, rest)
         }
         Tree::Both(r, s) => {
             let first = part(false, derivative_run(alloc, r, letter));
-            let rest = part(is_intersection(s), derivative_run(alloc, s, letter));
-            intersection_of_parts(alloc, first, rest)
+            let rest = part(is_run(Operator::And, s), derivative_run(alloc, s, letter));
+            combined_parts(alloc, Operator::And, first, rest)
         }
     }
 }
@@ -93,12 +94,12 @@ fn before_copy_or(
     second: Result<Tree, SpecError>,
 ) -> Result<Tree, SpecError>
     ensures { (d e : Formed) → Answers expression_of d first → Answers expression_of e second →
-        Answers expression_of (d >>> λ d. fitting (product_of d (expression_of s.now)) >>> λ front. e >>> λ e. Ok (union_of front e)) result }
+        Answers expression_of (d >>> λ d. fitting (product_of d (expression_of s.now)) >>> λ front. e >>> λ e. Ok (combined Or front e)) result }
 {
     let first = first?;
     let front = fitting_product(alloc, first, s)?;
     let second = second?;
-    union_of(alloc, front, second)
+    combined(alloc, Operator::Or, front, second)
 }
 
 /// A word of one expression and then of the other.

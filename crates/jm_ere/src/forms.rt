@@ -1,10 +1,10 @@
 //! The operators over normal forms.
 ghost use Rattle.std.specs.Prelude.{◌≡◌, ◌<◌, ◌^◌, IfOk, IfErr};
 ghost use Rattle.jm_ere.specs.Trees.{expression_of};
-ghost use Rattle.jm_ere.specs.Expressions.{Symbol, EmptyWord, NoWord, Complement, Star, Plus, Product, Union, Intersection};
-ghost use Rattle.jm_ere.specs.NormalForms.{complement_of, star_of, before, product_of, put_union, join_union, union_of, put_intersection, join_intersection, intersection_of};
+ghost use Rattle.jm_ere.specs.Expressions.{Symbol, EmptyWord, NoWord, Complement, Star, Plus, Product};
+ghost use Rattle.jm_ere.specs.NormalForms.{complement_of, star_of, before, product_of, pair, put, join, combined};
 
-use crate::order::{is_epsilon, is_everything, is_nothing, order};
+use crate::order::{Operator, is_epsilon, is_nothing, is_unit, is_zero, order};
 use crate::tree::Tree;
 use jm_model::SpecError;
 use std::alloc::Global;
@@ -30,8 +30,8 @@ pub(crate) fn copy(alloc: Global, tree: &Tree) -> Result<Tree, SpecError>
         Tree::Star(r) => Ok(Tree::Star(boxed(alloc, copy(alloc, r)?)?)),
         Tree::Plus(r) => Ok(Tree::Plus(boxed(alloc, copy(alloc, r)?)?)),
         Tree::Then(r, s) => then(alloc, copy(alloc, r)?, copy(alloc, s)?),
-        Tree::Either(r, s) => either(alloc, copy(alloc, r)?, copy(alloc, s)?),
-        Tree::Both(r, s) => both(alloc, copy(alloc, r)?, copy(alloc, s)?),
+        Tree::Either(r, s) => pair(alloc, Operator::Or, copy(alloc, r)?, copy(alloc, s)?),
+        Tree::Both(r, s) => pair(alloc, Operator::And, copy(alloc, r)?, copy(alloc, s)?),
     }
 }
 
@@ -52,22 +52,23 @@ fn then(alloc: Global, r: Tree, s: Tree) -> Result<Tree, SpecError>
     Ok(Tree::Then(r, s))
 }
 
-fn either(alloc: Global, r: Tree, s: Tree) -> Result<Tree, SpecError>
-    ensures ok { IfOk result (λ t. expression_of t ≡ Union (expression_of r) (expression_of s)) }
-    ensures err { IfErr result (λ e. e ≡ SpecError.NoMemory) }
+fn pair_of(operator: Operator, r: Box<Tree>, s: Box<Tree>) -> Tree
+    ensures { expression_of result ≡ pair operator (expression_of r.value) (expression_of s.value) }
 {
-    let r = boxed(alloc, r)?;
-    let s = boxed(alloc, s)?;
-    Ok(Tree::Either(r, s))
+    match operator {
+        Operator::Or => Tree::Either(r, s),
+        Operator::And => Tree::Both(r, s),
+    }
 }
 
-fn both(alloc: Global, r: Tree, s: Tree) -> Result<Tree, SpecError>
-    ensures ok { IfOk result (λ t. expression_of t ≡ Intersection (expression_of r) (expression_of s)) }
+/// `r | s`, or `r & s`.
+fn pair(alloc: Global, operator: Operator, r: Tree, s: Tree) -> Result<Tree, SpecError>
+    ensures ok { IfOk result (λ t. expression_of t ≡ pair operator (expression_of r) (expression_of s)) }
     ensures err { IfErr result (λ e. e ≡ SpecError.NoMemory) }
 {
     let r = boxed(alloc, r)?;
     let s = boxed(alloc, s)?;
-    Ok(Tree::Both(r, s))
+    Ok(pair_of(operator, r, s))
 }
 
 /// `~r`, where `~~r` is `r`.
@@ -125,104 +126,60 @@ pub(crate) fn product_of(alloc: Global, r: Tree, s: Tree) -> Result<Tree, SpecEr
     before(alloc, r, s)
 }
 
-/// Puts one more member into a run of `|`, which is sorted and without doubles.
-fn put_union(alloc: Global, t: Tree, run: Tree) -> Result<Tree, SpecError>
-    ensures ok { IfOk result (λ u. expression_of u ≡ put_union (expression_of t) (expression_of run)) }
+/// Puts one more member into a run, which is sorted and without doubles.
+fn put(alloc: Global, operator: Operator, t: Tree, run: Tree) -> Result<Tree, SpecError>
+    ensures ok { IfOk result (λ u. expression_of u ≡ put operator (expression_of t) (expression_of run)) }
     ensures err { IfErr result (λ e. e ≡ SpecError.NoMemory) }
 {
-    match run {
-        Tree::Either(r, s) => match order(&t, &r) {
-            Ordering::Less => Ok(Tree::Either(boxed(alloc, t)?, boxed(alloc, Tree::Either(r, s))?)),
-            Ordering::Equal => Ok(Tree::Either(r, s)),
+    match (operator, run) {
+        (Operator::Or, Tree::Either(r, s)) | (Operator::And, Tree::Both(r, s)) => match order(
+            &t, &r,
+        ) {
+            Ordering::Less => pair(alloc, operator, t, pair_of(operator, r, s)),
+            Ordering::Equal => Ok(pair_of(operator, r, s)),
             Ordering::Greater => {
-                let rest = put_union(alloc, t, Box::into_inner(s))?;
+                let rest = put(alloc, operator, t, Box::into_inner(s))?;
                 let rest = boxed(alloc, rest)?;
-                Ok(Tree::Either(r, rest))
+                Ok(pair_of(operator, r, rest))
             }
         },
-        r => match order(&t, &r) {
-            Ordering::Less => either(alloc, t, r),
+        (_, r) => match order(&t, &r) {
+            Ordering::Less => pair(alloc, operator, t, r),
             Ordering::Equal => Ok(r),
-            Ordering::Greater => either(alloc, r, t),
+            Ordering::Greater => pair(alloc, operator, r, t),
         },
     }
 }
 
-/// A member of a run of `|`, and the rest of the run: `empty` is dropped, and with `~empty` the whole is `~empty`.
-fn join_union(alloc: Global, t: Tree, run: Tree) -> Result<Tree, SpecError>
-    ensures ok { IfOk result (λ u. expression_of u ≡ join_union (expression_of t) (expression_of run)) }
+/// A member of a run, and the rest of the run: a unit is dropped, and with a zero the whole is the zero.
+fn join(alloc: Global, operator: Operator, t: Tree, run: Tree) -> Result<Tree, SpecError>
+    ensures ok { IfOk result (λ u. expression_of u ≡ join operator (expression_of t) (expression_of run)) }
     ensures err { IfErr result (λ e. e ≡ SpecError.NoMemory) }
 {
-    if is_nothing(&t) || is_everything(&run) {
+    if is_unit(operator, &t) || is_zero(operator, &run) {
         return Ok(run);
     }
-    if is_everything(&t) || is_nothing(&run) {
+    if is_zero(operator, &t) || is_unit(operator, &run) {
         return Ok(t);
     }
-    put_union(alloc, t, run)
+    put(alloc, operator, t, run)
 }
 
-/// `r | s`: the members of the first, which may be a run, are put among those of the second.
-pub(crate) fn union_of(alloc: Global, r: Tree, run: Tree) -> Result<Tree, SpecError>
-    ensures ok { IfOk result (λ u. expression_of u ≡ union_of (expression_of r) (expression_of run)) }
+/// `r | s`, or `r & s`: the members of the first, which may be a run, are put among those of the second.
+pub(crate) fn combined(
+    alloc: Global,
+    operator: Operator,
+    r: Tree,
+    run: Tree,
+) -> Result<Tree, SpecError>
+    ensures ok { IfOk result (λ u. expression_of u ≡ combined operator (expression_of r) (expression_of run)) }
     ensures err { IfErr result (λ e. e ≡ SpecError.NoMemory) }
 {
-    match r {
-        Tree::Either(p, q) => {
-            let run = union_of(alloc, Box::into_inner(p), run)?;
-            union_of(alloc, Box::into_inner(q), run)
+    match (operator, r) {
+        (Operator::Or, Tree::Either(p, q)) | (Operator::And, Tree::Both(p, q)) => {
+            let run = combined(alloc, operator, Box::into_inner(p), run)?;
+            combined(alloc, operator, Box::into_inner(q), run)
         }
-        r => join_union(alloc, r, run),
-    }
-}
-
-/// Puts one more member into a run of `&`, which is sorted and without doubles.
-fn put_intersection(alloc: Global, t: Tree, run: Tree) -> Result<Tree, SpecError>
-    ensures ok { IfOk result (λ u. expression_of u ≡ put_intersection (expression_of t) (expression_of run)) }
-    ensures err { IfErr result (λ e. e ≡ SpecError.NoMemory) }
-{
-    match run {
-        Tree::Both(r, s) => match order(&t, &r) {
-            Ordering::Less => Ok(Tree::Both(boxed(alloc, t)?, boxed(alloc, Tree::Both(r, s))?)),
-            Ordering::Equal => Ok(Tree::Both(r, s)),
-            Ordering::Greater => {
-                let rest = put_intersection(alloc, t, Box::into_inner(s))?;
-                let rest = boxed(alloc, rest)?;
-                Ok(Tree::Both(r, rest))
-            }
-        },
-        r => match order(&t, &r) {
-            Ordering::Less => both(alloc, t, r),
-            Ordering::Equal => Ok(r),
-            Ordering::Greater => both(alloc, r, t),
-        },
-    }
-}
-
-/// A member of a run of `&`, and the rest of the run: `~empty` is dropped, and with `empty` the whole is `empty`.
-fn join_intersection(alloc: Global, member: Tree, run: Tree) -> Result<Tree, SpecError>
-    ensures ok { IfOk result (λ u. expression_of u ≡ join_intersection (expression_of member) (expression_of run)) }
-    ensures err { IfErr result (λ e. e ≡ SpecError.NoMemory) }
-{
-    if is_everything(&member) || is_nothing(&run) {
-        return Ok(run);
-    }
-    if is_nothing(&member) || is_everything(&run) {
-        return Ok(member);
-    }
-    put_intersection(alloc, member, run)
-}
-
-/// `r & s`: the members of the first, which may be a run, are put among those of the second.
-pub(crate) fn intersection_of(alloc: Global, r: Tree, run: Tree) -> Result<Tree, SpecError>
-    ensures ok { IfOk result (λ u. expression_of u ≡ intersection_of (expression_of r) (expression_of run)) }
-    ensures err { IfErr result (λ e. e ≡ SpecError.NoMemory) }
-{
-    match r {
-        Tree::Both(p, q) => {
-            let run = intersection_of(alloc, Box::into_inner(p), run)?;
-            intersection_of(alloc, Box::into_inner(q), run)
-        }
-        r => join_intersection(alloc, r, run),
+        (_, r) => join(alloc, operator, r, run),
     }
 }

@@ -1,10 +1,17 @@
 //! The fixed order of expressions, and the kinds that rules ask for.
 ghost use Rattle.std.specs.Prelude.{◌≡◌, ◌↔◌, IsTrue};
 ghost use Rattle.jm_ere.specs.Trees.{expression_of};
-ghost use Rattle.jm_ere.specs.NormalForms.{rank, order, is_nothing, is_everything, is_epsilon, is_product, is_union, is_intersection, is_nullable};
+ghost use Rattle.jm_ere.specs.NormalForms.{rank, order, is_nothing, is_everything, is_epsilon, is_product, is_run, is_unit, is_zero, is_nullable};
 
 use crate::tree::Tree;
 use std::cmp::Ordering;
+
+/// The operators whose runs are sorted: `|` and `&`.
+#[derive(Clone, Copy)]
+pub enum Operator {
+    Or,
+    And,
+}
 
 /// Where the kind of an expression stands in the order.
 fn rank(tree: &Tree) -> u8
@@ -62,7 +69,7 @@ pub(crate) fn is_nothing(tree: &Tree) -> bool
 }
 
 /// Whether it is `~empty`.
-pub(crate) fn is_everything(tree: &Tree) -> bool
+fn is_everything(tree: &Tree) -> bool
     ensures { result ≡ is_everything (expression_of tree.now) }
 {
     match tree {
@@ -90,21 +97,33 @@ pub(crate) fn is_product(tree: &Tree) -> bool
     }
 }
 
-pub(crate) fn is_union(tree: &Tree) -> bool
-    ensures { result ≡ is_union (expression_of tree.now) }
+/// Whether it is made by the operator.
+pub(crate) fn is_run(operator: Operator, tree: &Tree) -> bool
+    ensures { result ≡ is_run operator (expression_of tree.now) }
 {
-    match tree {
-        Tree::Either(_, _) => true,
+    match (operator, tree) {
+        (Operator::Or, Tree::Either(_, _)) | (Operator::And, Tree::Both(_, _)) => true,
         _ => false,
     }
 }
 
-pub(crate) fn is_intersection(tree: &Tree) -> bool
-    ensures { result ≡ is_intersection (expression_of tree.now) }
+/// Whether it changes nothing beside other members of a run.
+pub(crate) fn is_unit(operator: Operator, tree: &Tree) -> bool
+    ensures { result ≡ is_unit operator (expression_of tree.now) }
 {
-    match tree {
-        Tree::Both(_, _) => true,
-        _ => false,
+    match operator {
+        Operator::Or => is_nothing(tree),
+        Operator::And => is_everything(tree),
+    }
+}
+
+/// Whether a run with it is no other.
+pub(crate) fn is_zero(operator: Operator, tree: &Tree) -> bool
+    ensures { result ≡ is_zero operator (expression_of tree.now) }
+{
+    match operator {
+        Operator::Or => is_everything(tree),
+        Operator::And => is_nothing(tree),
     }
 }
 

@@ -2,9 +2,10 @@
 ghost use Rattle.std.specs.Prelude.{◌≡◌, Ok};
 ghost use Rattle.jm_table.specs.Graphs.{Answers};
 ghost use Rattle.jm_ere.specs.Trees.{expression_of};
-ghost use Rattle.jm_ere.specs.NormalForms.{Formed, ◌>>=◌ as ◌>>>◌, complement_of, union_of, intersection_of};
+ghost use Rattle.jm_ere.specs.NormalForms.{Formed, ◌>>=◌ as ◌>>>◌, complement_of, combined};
 
-use crate::forms::{complement_of, intersection_of, union_of};
+use crate::forms::{combined, complement_of};
+use crate::order::Operator;
 use crate::tree::Tree;
 use jm_model::SpecError;
 use std::alloc::Global;
@@ -19,28 +20,16 @@ pub(crate) fn complement_of_part(
     complement_of(alloc, inner)
 }
 
-pub(crate) fn union_of_parts(
+pub(crate) fn combined_parts(
     alloc: Global,
+    operator: Operator,
     first: Result<Tree, SpecError>,
     rest: Result<Tree, SpecError>,
 ) -> Result<Tree, SpecError>
     ensures { (n m : Formed) → Answers expression_of n first → Answers expression_of m rest →
-        Answers expression_of (n >>> λ n. m >>> λ m. Ok (union_of n m)) result }
+        Answers expression_of (n >>> λ n. m >>> λ m. Ok (combined operator n m)) result }
 {
     let first = first?;
     let rest = rest?;
-    union_of(alloc, first, rest)
-}
-
-pub(crate) fn intersection_of_parts(
-    alloc: Global,
-    first: Result<Tree, SpecError>,
-    rest: Result<Tree, SpecError>,
-) -> Result<Tree, SpecError>
-    ensures { (n m : Formed) → Answers expression_of n first → Answers expression_of m rest →
-        Answers expression_of (n >>> λ n. m >>> λ m. Ok (intersection_of n m)) result }
-{
-    let first = first?;
-    let rest = rest?;
-    intersection_of(alloc, first, rest)
+    combined(alloc, operator, first, rest)
 }

@@ -5,8 +5,8 @@ ghost use Rattle.jm_ere.specs.Trees.{expression_of};
 ghost use Rattle.jm_ere.specs.NormalForms.{Formed, ◌>>=◌ as ◌>>>◌, fitting, product_of, star_of, normal_run, normal_form};
 
 use crate::forms::{copy, product_of, star_of};
-use crate::order::{is_intersection, is_product, is_union};
-use crate::parts::{complement_of_part, intersection_of_parts, union_of_parts};
+use crate::order::{Operator, is_product, is_run};
+use crate::parts::{combined_parts, complement_of_part};
 use crate::sizes::{fitting, part};
 use crate::tree::Tree;
 use jm_model::SpecError;
@@ -39,14 +39,14 @@ fn normal_run(alloc: Global, tree: &Tree) -> Result<Tree, SpecError>
             product_of_parts(alloc, first, rest)
         }
         Tree::Either(r, s) => {
-            let first = part(is_union(r), normal_run(alloc, r));
-            let rest = part(is_union(s), normal_run(alloc, s));
-            union_of_parts(alloc, first, rest)
+            let first = part(is_run(Operator::Or, r), normal_run(alloc, r));
+            let rest = part(is_run(Operator::Or, s), normal_run(alloc, s));
+            combined_parts(alloc, Operator::Or, first, rest)
         }
         Tree::Both(r, s) => {
-            let first = part(is_intersection(r), normal_run(alloc, r));
-            let rest = part(is_intersection(s), normal_run(alloc, s));
-            intersection_of_parts(alloc, first, rest)
+            let first = part(is_run(Operator::And, r), normal_run(alloc, r));
+            let rest = part(is_run(Operator::And, s), normal_run(alloc, s));
+            combined_parts(alloc, Operator::And, first, rest)
         }
     }
 }
