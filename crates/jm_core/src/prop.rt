@@ -224,7 +224,7 @@ impl<M: Monitor> Prop<M> {
         }
     }
 
-    /// The rules.
+    /// The rules that the core was made with.
     pub fn rules(&self) -> &M
         ensures { M.definition result.now ≡ self.now.definition }
     {
@@ -238,7 +238,7 @@ impl<M: Monitor> Prop<M> {
         self.objects.len()
     }
 
-    /// The history.
+    /// All entries so far, the oldest first.
     pub fn history(&self) -> &History
         ensures value { result.now ≡ self.now.entries }
         ensures legal { IsLegal (M.meaning self.now.definition) self.now.entries }

@@ -9,8 +9,8 @@ use crate::step::{Letter, NoMemory};
 /// what is said of a state and its word holds of each. What the specification means is told apart from any state:
 /// `meaning` reads it off plain data, `definition`, so that a value that keeps this data keeps the meaning.
 ///
-/// A state that no call of the monitor answered, one made up or another monitor's, may be passed to it too. Where it
-/// stands for no word, nothing is said of what is answered.
+/// A state that no call of the monitor answered may be passed to it too. Where such a state stands for no word, nothing
+/// is said of what is answered.
 pub trait Monitor: Drop {
     type State: Drop;
 
