@@ -12,7 +12,6 @@ use Rattle.jm_script.specs.Catalogs.{spec_names}
 use Rattle.jm_cli.specs.Words.CommandWords.{Replay, Run, Check, Coenable, Gen}
 use Rattle.jm_top.specs.declared.status.Status.{Status}
 use Rattle.jm_top.specs.declared.status.Status.TheVariants.{ReadFailed}
-use Rattle.jm_top.specs.declared.specification.Loaded.{Loaded}
 use Rattle.jm_top.specs.declared.library.Library.{Library}
 use Rattle.jm_top.specs.declared.scripts.Scripts.{Scripts}
 use Rattle.jm_top.specs.declared.inputs.Inputs.{Inputs}
@@ -24,8 +23,9 @@ use Rattle.jm_top.specs.Inputs.{SaySpecifications, step_count}
 use Rattle.jm_top.specs.Histories.{IsTextOfHistories, IsTextOfSummaries}
 use Rattle.jm_top.specs.Texts.{declared_text, IsTextOfFamilies}
 use Rattle.jm_top.specs.Causes.{IsNoSpec, IsNoScript, StopsSpecs, StopsScripts, StopsInputs, StopsCommand, short, at_spec, at_script, IsTextOfCommand}
-use Rattle.jm_top.specs.Reading.{specification_of, specs_in, IsLibraryOf, AreScriptsOf, AreInputsOf}
+use Rattle.jm_top.specs.Reading.{Listed, listed_in, specification_of, specs_in, IsLibraryOf, AreScriptsOf, AreInputsOf}
 use Rattle.jm_top.proofs.OneReadingLemmas.{never_some, same_err}
+use Rattle.jm_top.proofs.LibraryLemmas.{length-specs_in}
 use Rattle.jm_top.proofs.InputLemmas.{length-said, length-scripts}
 
 -- ---- specifications and scripts
@@ -125,7 +125,7 @@ given_length {V} items files texts n is many = sym (length-map files items) ∙ 
 
 pub workload_library : (contents : List ℕ → Option (List ℕ)) (library : Library) → IsLibraryOf contents false (given_files workload_specs) library → length library.specs.items ≡ 2
 workload_library contents library h =
-    sym (length-map library.specs.items specification_of) ∙ length-said contents false [] (given_files workload_specs) (specs_in library) h.said ∙ length-map workload_specs (λ bytes. Given bytes) ∙ specs_length
+    sym (length-specs_in library h.catalogued) ∙ length-said contents false [] (given_files workload_specs) (specs_in library) h.said ∙ length-map workload_specs (λ bytes. Given bytes) ∙ specs_length
 
 pub workload_many : (contents : List ℕ → Option (List ℕ)) (specs : List Specification) (n : ℕ) (scripts : Scripts) → AreScriptsOf contents specs (given_files (workload_scripts n)) scripts → length scripts.list.items ≡ 4
 workload_many contents specs n scripts h =
@@ -170,10 +170,10 @@ tables_said contents before (x ∷ sources) specs (bytes, s, more, e, given, is,
     (no_grammar (is_grammar s.rules.formula) s.logic_line (option_map (λ earlier. DuplicateSpec) (number_of (spec_names (catalog_of before)) s.name)) is.sound)
     (tables_said contents (before ++ s ∷ []) sources more rest))
 
-unmapped : (P : Specification → Type 0) (ls : List Loaded) → All P (map specification_of ls) → All (λ l. P (specification_of l)) ls
+unmapped : (P : Specification → Type 0) (ls : List Listed) → All P (map specification_of ls) → All (λ l. P (specification_of l)) ls
 unmapped P [] all = All-nil (λ l. P (specification_of l))
 unmapped P (l ∷ ls) all = All-cons (λ l. P (specification_of l)) l ls (All-head P (specification_of l) (map specification_of ls) all) (unmapped P ls (All-tail P (specification_of l) (map specification_of ls) all))
 
 -- where families were asked for, no specification is a grammar
-pub tables_in : (contents : List ℕ → Option (List ℕ)) (sources : List Source) (library : Library) → IsLibraryOf contents true sources library → All (λ l. is_grammar l.rules.definition.formula ≡ false) library.specs.items
-tables_in contents sources library h = unmapped (λ (s : Specification). is_grammar s.rules.formula ≡ false) library.specs.items (tables_said contents [] sources (specs_in library) h.said)
+pub tables_in : (contents : List ℕ → Option (List ℕ)) (sources : List Source) (library : Library) → IsLibraryOf contents true sources library → All (λ l. is_grammar l.rules.definition.formula ≡ false) (listed_in library)
+tables_in contents sources library h = unmapped (λ (s : Specification). is_grammar s.rules.formula ≡ false) (listed_in library) (tables_said contents [] sources (specs_in library) h.said)

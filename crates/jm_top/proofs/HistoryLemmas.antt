@@ -1,6 +1,6 @@
 -- The histories of scripts' steps, and their texts.
 use Rattle.std.proofs.Common.{◌≡◌, ◌≢◌, ℕ, zero, suc, ◌^◌, ◌<◌, ◌≤◌, true, List, [], ◌∷◌, ◌++◌, length, get_or, pow-suc, append-nil, append_assoc, refl, sym, ◌∙◌, ap, subst, arith}
-use Rattle.std.specs.Prelude.{All, Contains, Option, Some, None, ◌==◌, map, filter, slice_get, unwrap_or, option_map, string_bytes, Result, Ok, Err, IfOk}
+use Rattle.std.specs.Prelude.{All, Contains, Option, Some, None, ◌==◌, map, filter, slice_get, unwrap_or, option_map, Result, Ok, Err, IfOk}
 use Rattle.std.specs.Global.{Vec}
 use Rattle.std.specs.Option.{option_map_or}
 use Rattle.std.specs.List.{AllByRecursion}
@@ -31,12 +31,11 @@ use Rattle.jm_script.specs.Fitting.{FitsCatalog, FitsSpecification}
 use Rattle.jm_script.specs.Projections.{script_of, steps_in}
 use Rattle.jm_script.specs.declared.script.ScriptLine.{ScriptLine}
 use Rattle.jm_machine.specs.Meanings.{RuleDefinition, rules_meaning}
-use Rattle.jm_top.specs.declared.specification.Titles.{Titles}
 use Rattle.jm_top.specs.declared.specification.Loaded.{Loaded}
 use Rattle.jm_top.specs.declared.library.Library.{Library}
 use Rattle.jm_top.specs.declared.scripts.Scripts.{Scripts}
 use Rattle.jm_top.specs.Scripts.{catalog_of}
-use Rattle.jm_top.specs.Reading.{AreTitlesOf, titled, title_lexicon, specification_of, IsWhole, specs_in, IsCatalogued, AreCounted}
+use Rattle.jm_top.specs.Reading.{Shown, named_entry, listing, listed, listed_in, AreTitlesOf, titled, title_lexicon, specification_of, IsWhole, specs_in, IsCatalogued, AreCounted}
 use Rattle.jm_top.specs.Histories.{lexicon, IsTextOfHistories}
 use Rattle.jm_top.specs.Replays.{IsReplayOf, IsPrintedReplay}
 use Rattle.jm_top.proofs.OneReadingLemmas.{same_some}
@@ -95,13 +94,13 @@ entries_of_lists P lists h each is = All-weaker (Contains h) (λ (x : Entry). P 
         All-contains (λ (step : ℕ × Step). P step.1) (steps_of x.caller h) (x.line, x.step) (each x.caller (steps_of x.caller h) (is.each x.caller caller)) there
 
 -- Titles that are those of rules, whose specification has this number in a catalog.
-module _ (t : Titles) (rules : RuleDefinition) (whole : AreTitlesOf rules t) (catalog : List CatalogEntry) (number : ℕ) (there : table_of catalog number ≡ t.table) where
+module _ (t : Shown) (rules : RuleDefinition) (whole : AreTitlesOf rules t) (catalog : List CatalogEntry) (number : ℕ) (there : table_of catalog number ≡ t.entry.table) where
   -- the letters and their parameters are those of the events
   mask_of_rules : (e : ℕ) → mask_at (table_of catalog number) e ≡ unwrap_or (slice_get rules.masks e) 0
-  mask_of_rules e = ap (λ (x : EventDefinitions). mask_at x e) there ∙ sym (ap (λ ms. unwrap_or (slice_get ms e) 0) whole.masks ∙ mask_there t.table.events e)
+  mask_of_rules e = ap (λ (x : EventDefinitions). mask_at x e) there ∙ sym (ap (λ ms. unwrap_or (slice_get ms e) 0) whole.masks ∙ mask_there t.entry.table.events e)
 
   letters_of_rules : length (table_of catalog number).events ≡ length rules.masks
-  letters_of_rules = ap (λ (x : EventDefinitions). length x.events) there ∙ sym (ap (λ ms. length ms) whole.masks ∙ length-map t.table.events (λ (e : EventDefinition). e.mask))
+  letters_of_rules = ap (λ (x : EventDefinitions). length x.events) there ∙ sym (ap (λ ms. length ms) whole.masks ∙ length-map t.entry.table.events (λ (e : EventDefinition). e.mask))
 
   -- a step that fits the specification is one of its meaning
   pub fitting_step : (n : ℕ) (x : Step) → FitsSpecification catalog n number x → IsFitStep (rules_meaning rules) n x
@@ -110,15 +109,15 @@ module _ (t : Titles) (rules : RuleDefinition) (whole : AreTitlesOf rules t) (ca
   fitting_step n (Death o) fits = fits
   fitting_step n Pass fits = tt
 
-  small_params : (e : ℕ) → mask_at (table_of catalog number) e < 2 ^ length t.table.parameters
+  small_params : (e : ℕ) → mask_at (table_of catalog number) e < 2 ^ length t.entry.table.parameters
   small_params e =
-      subst (λ m. m < 2 ^ length t.table.parameters) (sym (mask_of_rules e)) (small_masks rules.masks (2 ^ length t.table.parameters) (power_some (length t.table.parameters)) whole.fit e)
+      subst (λ m. m < 2 ^ length t.entry.table.parameters) (sym (mask_of_rules e)) (small_masks rules.masks (2 ^ length t.entry.table.parameters) (power_some (length t.entry.table.parameters)) whole.fit e)
 
   -- and has names
   fitting_named : (objects : List (List ℕ)) (x : Step) → FitsSpecification catalog (length objects) number x → IsNamedStep (title_lexicon objects t) x
   fitting_named objects (Event e b) fits = (
-    subst (λ n. e.0 < n) (sym (length-map t.table.events (λ (x : EventDefinition). x.name))) (subst (λ (x : EventDefinitions). e.0 < length x.events) there fits.event.event),
-    λ p o at. (bound_parameter b (length t.table.parameters) p o (subst (λ m. m < 2 ^ length t.table.parameters) (sym fits.event.parameters) (small_params e.0)) at, named_object b (length objects) p o fits.named at),
+    subst (λ n. e.0 < n) (sym (length-map t.entry.table.events (λ (x : EventDefinition). x.name))) (subst (λ (x : EventDefinitions). e.0 < length x.events) there fits.event.event),
+    λ p o at. (bound_parameter b (length t.entry.table.parameters) p o (subst (λ m. m < 2 ^ length t.entry.table.parameters) (sym fits.event.parameters) (small_params e.0)) at, named_object b (length objects) p o fits.named at),
   )
   fitting_named objects (Death o) fits = fits
   fitting_named objects Pass fits = tt
@@ -133,7 +132,7 @@ module _ (t : Titles) (rules : RuleDefinition) (whole : AreTitlesOf rules t) (ca
       → IsLegal (rules_meaning rules) h → IsInterleaving h lists → All (IsPrintable (title_lexicon objects t)) h
   history_printable objects lists h fits legal woven =
       let names = title_lexicon objects t in
-      let few : length rules.handlers ≤ length t.handlers = subst (λ hs. length rules.handlers ≤ length hs) (sym whole.handlers) (omega arith) in
+      let few : length rules.handlers ≤ length t.titles.handlers = subst (λ hs. length rules.handlers ≤ length hs) (sym whole.handlers) (omega arith) in
       let each : All (λ (e : Entry). IsNamedStep names e.step) h =
       entries_of_lists (λ (x : Step). IsNamedStep names x) lists h
       (λ k own at. All-weaker (λ (step : ℕ × Step). FitsSpecification catalog (length objects) number step.1) (λ (step : ℕ × Step). IsNamedStep names step.1) (λ step. fitting_named objects step.1) own (fits k own at)) woven in
@@ -228,18 +227,18 @@ one_list : (own : List (ℕ × Step)) (k : ℕ) (list : List (ℕ × Step)) → 
 one_list own zero list at = sym (same_some at)
 one_list own (suc k) list at = absurd (none-some list at)
 
-pub replay_printable : (t : Titles) (rules : RuleDefinition) (catalog : List CatalogEntry) → AreTitlesOf rules t → table_of catalog 0 ≡ t.table → (objects : List (List ℕ)) (own : List (ℕ × Step)) (h : List Entry)
+pub replay_printable : (t : Shown) (rules : RuleDefinition) (catalog : List CatalogEntry) → AreTitlesOf rules t → table_of catalog 0 ≡ t.entry.table → (objects : List (List ℕ)) (own : List (ℕ × Step)) (h : List Entry)
     → All (λ step. FitsSpecification catalog (length objects) 0 step.1) own → IsReplayOf (rules_meaning rules) own h → All (IsPrintable (title_lexicon objects t)) h
 replay_printable t rules catalog whole there objects own h fits is =
     history_printable t rules whole catalog 0 there objects (own ∷ []) h
     (λ k list at. subst (All (λ (step : ℕ × Step). FitsSpecification catalog (length objects) 0 step.1)) (sym (one_list own k list at)) fits) is.legal is.woven
 
-pub replay_text : (t : Titles) (rules : RuleDefinition) → AreTitlesOf rules t → (script : List ScriptLine) (objects : List (List ℕ)) (text : List ℕ)
+pub replay_text : (t : Shown) (rules : RuleDefinition) → AreTitlesOf rules t → (script : List ScriptLine) (objects : List (List ℕ)) (text : List ℕ)
     → IsPrintedReplay (rules_meaning rules) (projection_of (script_of script) 0) (title_lexicon objects t) text → IsTextOfHistories (titled t rules ∷ []) (script ∷ []) objects text
 replay_text t rules whole script objects text h = record {
   histories = h.history ∷ [];
   each = (record { legal = h.replayed.legal; woven = h.replayed.woven }, tt);
-  printed = h.printed ∙ ap (λ (hs : List (List ℕ)). history_text (lexicon_of (string_bytes t.name) t.table hs objects t.texts.items) h.history) whole.handlers ∙ sym (append-nil (history_text (lexicon objects (titled t rules)) h.history));
+  printed = h.printed ∙ ap (λ (hs : List (List ℕ)). history_text (lexicon_of t.entry.name t.entry.table hs objects t.titles.texts.items) h.history) whole.handlers ∙ sym (append-nil (history_text (lexicon objects (titled t rules)) h.history));
 }
 
 single_of : {X : Type 0} (xs ys : List X) (x : X) → xs ≡ ys ++ x ∷ [] → length xs ≡ 1 → xs ≡ x ∷ []
@@ -251,18 +250,27 @@ first_of [] x one here = absurd (omega (arith, one))
 first_of (y ∷ []) x one here = ap (λ v. v ∷ []) (sym here)
 first_of (y ∷ z ∷ xs) x one here = absurd (omega (arith, one))
 
--- the specification of a library of one
-module _ (library : Library) (catalogued : IsCatalogued library) (rest : List Loaded) (l : Loaded) (popped : library.specs.items ≡ rest ++ l ∷ []) (one : length library.specs.items ≡ 1) where
-  alone : library.specs.items ≡ l ∷ []
-  alone = single_of library.specs.items rest l popped one
+-- the one entry of a catalog, whose parts were looked up
+first_entry : (es : List CatalogEntry) (name : List ℕ) (table : EventDefinitions) → length es ≡ 1 → option_map (λ e. e.name) (slice_get es 0) ≡ Some name → option_map (λ e. e.table) (slice_get es 0) ≡ Some table → es ≡ named_entry name table ∷ []
+first_entry [] name table one named there = absurd (omega (arith, one))
+first_entry (e ∷ []) name table one named there = let same : e ≡ named_entry name table = (λ i. named_entry (same_some named i) (same_some there i)) in ap (λ v. v ∷ []) same
+first_entry (e ∷ d ∷ es) name table one named there = absurd (omega (arith, one))
 
-  pub alone_is : specs_in library ≡ specification_of l ∷ []
+-- the specification of a library of one
+module _ (library : Library) (catalogued : IsCatalogued library) (rest : List Loaded) (l : Loaded) (popped : library.specs.items ≡ rest ++ l ∷ []) (one : length library.specs.items ≡ 1) (name : List ℕ) (table : EventDefinitions) (named : option_map (λ e. e.name) (slice_get library.catalog 0) ≡ Some name) (there : option_map (λ e. e.table) (slice_get library.catalog 0) ≡ Some table) where
+  alone : listed_in library ≡ listing (named_entry name table) l ∷ []
+  alone =
+      let entries = first_entry library.catalog name table (catalogued.many ∙ one) named there in
+      let kept = single_of library.specs.items rest l popped one in
+      λ i. listed (entries i) (kept i)
+
+  pub alone_is : specs_in library ≡ specification_of (listing (named_entry name table) l) ∷ []
   alone_is = ap (λ v. map specification_of v) alone
 
-  pub alone_whole : IsWhole l
-  alone_whole = All-head IsWhole l [] (subst (All IsWhole) alone catalogued.kept)
+  pub alone_whole : IsWhole (listing (named_entry name table) l)
+  alone_whole = All-head IsWhole (listing (named_entry name table) l) [] (subst (All IsWhole) alone catalogued.kept)
 
-  pub alone_there : table_of (catalog_of (specs_in library)) 0 ≡ l.titles.table
+  pub alone_there : table_of (catalog_of (specs_in library)) 0 ≡ table
   alone_there = ap (λ v. table_of (catalog_of v) 0) alone_is
 
 module _ (library : Library) (catalogued : IsCatalogued library) (scripts : Scripts) (counted : AreCounted (specs_in library) scripts) (one_script : length scripts.list.items ≡ 1) (script : List ScriptLine) (here : script ≡ get_or scripts.list.items 0 script) where
@@ -272,18 +280,24 @@ module _ (library : Library) (catalogued : IsCatalogued library) (scripts : Scri
   pub script_fits : FitsCatalog (catalog_of (specs_in library)) (length scripts.objects) script
   script_fits = All-head (FitsCatalog (catalog_of (specs_in library)) (length scripts.objects)) script [] (subst (All (FitsCatalog (catalog_of (specs_in library)) (length scripts.objects))) script_alone counted.fit)
 
-  module _ (rest : List Loaded) (l : Loaded) (popped : library.specs.items ≡ rest ++ l ∷ []) (one : length library.specs.items ≡ 1) (own : List (ℕ × Step)) (fits : All (λ step. FitsSpecification (catalog_of (specs_in library)) (length scripts.objects) 0 step.1) own) where
+  module _ (rest : List Loaded) (l : Loaded) (popped : library.specs.items ≡ rest ++ l ∷ []) (one : length library.specs.items ≡ 1) (name : List ℕ) (table : EventDefinitions) (named : option_map (λ e. e.name) (slice_get library.catalog 0) ≡ Some name) (there : option_map (λ e. e.table) (slice_get library.catalog 0) ≡ Some table) (own : List (ℕ × Step)) (fits : All (λ step. FitsSpecification (catalog_of (specs_in library)) (length scripts.objects) 0 step.1) own) where
+    whole : AreTitlesOf l.rules.definition (listing (named_entry name table) l).shown
+    whole = alone_whole library catalogued rest l popped one name table named there
+
+    at_first : table_of (catalog_of (specs_in library)) 0 ≡ table
+    at_first = alone_there library catalogued rest l popped one name table named there
+
     pub own_doable : All (λ step. IsFitStep (rules_meaning l.rules.definition) (length scripts.objects) step.1) own
-    own_doable = doable l.titles l.rules.definition (alone_whole library catalogued rest l popped one) (catalog_of (specs_in library)) 0 (alone_there library catalogued rest l popped one) own (length scripts.objects) fits
+    own_doable = doable (listing (named_entry name table) l).shown l.rules.definition whole (catalog_of (specs_in library)) 0 at_first own (length scripts.objects) fits
 
-    pub own_printable : (h : List Entry) → IsReplayOf (rules_meaning l.rules.definition) own h → All (IsPrintable (title_lexicon scripts.objects l.titles)) h
-    own_printable h is = replay_printable l.titles l.rules.definition (catalog_of (specs_in library)) (alone_whole library catalogued rest l popped one) (alone_there library catalogued rest l popped one) scripts.objects own h fits is
+    pub own_printable : (h : List Entry) → IsReplayOf (rules_meaning l.rules.definition) own h → All (IsPrintable (title_lexicon scripts.objects (listing (named_entry name table) l).shown)) h
+    own_printable h is = replay_printable (listing (named_entry name table) l).shown l.rules.definition (catalog_of (specs_in library)) whole at_first scripts.objects own h fits is
 
-    pub own_text : own ≡ projection_of (script_of script) 0 → (text : List ℕ) → IsPrintedReplay (rules_meaning l.rules.definition) own (title_lexicon scripts.objects l.titles) text → IsTextOfHistories (specs_in library) scripts.list.items scripts.objects text
+    pub own_text : own ≡ projection_of (script_of script) 0 → (text : List ℕ) → IsPrintedReplay (rules_meaning l.rules.definition) own (title_lexicon scripts.objects (listing (named_entry name table) l).shown) text → IsTextOfHistories (specs_in library) scripts.list.items scripts.objects text
     own_text is text printed =
-        let made = replay_text l.titles l.rules.definition (alone_whole library catalogued rest l popped one) script scripts.objects text (subst (λ v. IsPrintedReplay (rules_meaning l.rules.definition) v (title_lexicon scripts.objects l.titles) text) is printed) in
-        subst (λ v. IsTextOfHistories v scripts.list.items scripts.objects text) (sym (alone_is library catalogued rest l popped one))
-        (subst (λ v. IsTextOfHistories (specification_of l ∷ []) v scripts.objects text) (sym script_alone) made)
+        let made = replay_text (listing (named_entry name table) l).shown l.rules.definition whole script scripts.objects text (subst (λ v. IsPrintedReplay (rules_meaning l.rules.definition) v (title_lexicon scripts.objects (listing (named_entry name table) l).shown) text) is printed) in
+        subst (λ v. IsTextOfHistories v scripts.list.items scripts.objects text) (sym (alone_is library catalogued rest l popped one name table named there))
+        (subst (λ v. IsTextOfHistories (titled (listing (named_entry name table) l).shown l.rules.definition ∷ []) v scripts.objects text) (sym script_alone) made)
 
 -- its text, where there is one
 pub made_text : {T E : Type 0} (items : T → List ℕ) (P Q : List ℕ → Type 0) (made : Result T E) → ((text : List ℕ) → P text → Q text) → IfOk made (λ text. P (items text)) → IfOk made (λ text. Q (items text))

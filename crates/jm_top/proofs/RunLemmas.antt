@@ -1,6 +1,6 @@
 -- Runs of scripts over specifications, and the texts of their histories.
 use Rattle.std.proofs.Common.{◌≡◌, ℕ, zero, suc, ◌+◌, List, [], ◌∷◌, ◌++◌, length, Option, Some, refl, sym, ap, subst, ◌∙◌, arith}
-use Rattle.std.specs.Prelude.{All, map, slice_get, option_map, string_bytes}
+use Rattle.std.specs.Prelude.{All, map, slice_get, option_map}
 use Rattle.std.specs.Option.{option_map_or}
 use Rattle.std.proofs.lemmas.Option.{slice_get-map, none-some}
 use Rattle.std.proofs.lemmas.List.{length-map, map-append}
@@ -29,10 +29,11 @@ use Rattle.jm_top.specs.declared.specification.Loaded.{Loaded}
 use Rattle.jm_top.specs.declared.library.Library.{Library}
 use Rattle.jm_top.specs.declared.scripts.Scripts.{Scripts}
 use Rattle.jm_top.specs.Scripts.{entry_of, catalog_of}
-use Rattle.jm_top.specs.Reading.{titled, specification_of, IsWhole, specs_in, IsCatalogued, AreCounted, title_lexicon, ArePrintable, title_summaries}
+use Rattle.jm_top.specs.Reading.{Listed, listing, listed, shown_with, listed_in, specification_of, IsWhole, specs_in, IsCatalogued, AreCounted, title_lexicon, ArePrintable, entry_summaries}
 use Rattle.jm_top.specs.Histories.{lexicon, IsHistoryOf, AreHistoriesFrom, IsTextOfHistories, summaries_of, IsTextOfSummaries}
 use Rattle.jm_top.specs.Runs.{IsWatchOf, AreWatchesOf, AreRunsOf}
 use Rattle.jm_top.proofs.OneReadingLemmas.{same_some}
+use Rattle.jm_top.proofs.LibraryLemmas.{length-listed}
 use Rattle.jm_top.proofs.HistoryLemmas.{doable, history_printable}
 
 -- ---- a specification in its catalog
@@ -43,7 +44,7 @@ at_map {A} {B} f xs k x at = slice_get-map f xs k ∙ ap (option_map f) at
 entry_there : (o : Option CatalogEntry) (e : CatalogEntry) → o ≡ Some e → option_map_or (λ x. x.table) o (record { parameters = []; events = [] }) ≡ e.table
 entry_there o e at = ap (λ v. option_map_or (λ (x : CatalogEntry). x.table) v (record { parameters = []; events = [] })) at
 
-pub table_at : (ls : List Loaded) (k : ℕ) (l : Loaded) → slice_get ls k ≡ Some l → table_of (catalog_of (map specification_of ls)) k ≡ l.titles.table
+pub table_at : (ls : List Listed) (k : ℕ) (l : Listed) → slice_get ls k ≡ Some l → table_of (catalog_of (map specification_of ls)) k ≡ l.shown.entry.table
 table_at ls k l at = entry_there (slice_get (catalog_of (map specification_of ls)) k) (entry_of (specification_of l)) (at_map entry_of (map specification_of ls) k (specification_of l) (at_map specification_of ls k l at))
 
 All-at : {X : Type 0} (P : X → Type 0) (xs : List X) (k : ℕ) (x : X) → All P xs → slice_get xs k ≡ Some x → P x
@@ -58,21 +59,21 @@ projected catalog names number scripts fit =
     All-map (λ steps. All (λ (step : ℕ × Step). FitsSpecification catalog names number step.1) steps) (λ script. projection_of (script_of script) number) scripts
     (All-weaker (FitsCatalog catalog names) (λ script. All (λ (step : ℕ × Step). FitsSpecification catalog names number step.1) (projection_of (script_of script) number)) (λ script fits. projection_fits catalog names number script fits) scripts fit)
 
-module _ (library : Library) (scripts : Scripts) (catalogued : IsCatalogued library) (counted : AreCounted (specs_in library) scripts) (k : ℕ) (l : Loaded) (at : slice_get library.specs.items k ≡ Some l) where
+module _ (library : Library) (scripts : Scripts) (catalogued : IsCatalogued library) (counted : AreCounted (specs_in library) scripts) (k : ℕ) (l : Listed) (at : slice_get (listed_in library) k ≡ Some l) where
   whole_at : IsWhole l
-  whole_at = All-at IsWhole library.specs.items k l catalogued.kept at
+  whole_at = All-at IsWhole (listed_in library) k l catalogued.kept at
 
   -- so they can be run
   pub fitting_at : All (λ steps. AreFitSteps (rules_meaning l.rules.definition) (length scripts.objects) steps) (projections_of scripts.list.items k)
   fitting_at =
       All-weaker (λ steps. All (λ (step : ℕ × Step). FitsSpecification (catalog_of (specs_in library)) (length scripts.objects) k step.1) steps) (λ steps. AreFitSteps (rules_meaning l.rules.definition) (length scripts.objects) steps)
-      (λ steps fits. doable l.titles l.rules.definition whole_at (catalog_of (specs_in library)) k (table_at library.specs.items k l at) steps (length scripts.objects) fits) (projections_of scripts.list.items k)
+      (λ steps fits. doable l.shown l.rules.definition whole_at (catalog_of (specs_in library)) k (table_at (listed_in library) k l at) steps (length scripts.objects) fits) (projections_of scripts.list.items k)
       (projected (catalog_of (specs_in library)) (length scripts.objects) k scripts.list.items counted.fit)
 
   -- and their histories can be printed
-  pub printable_at : (h : List Entry) → IsLegal (rules_meaning l.rules.definition) h → IsInterleaving h (projections_of scripts.list.items k) → All (IsPrintable (title_lexicon scripts.objects l.titles)) h
+  pub printable_at : (h : List Entry) → IsLegal (rules_meaning l.rules.definition) h → IsInterleaving h (projections_of scripts.list.items k) → All (IsPrintable (title_lexicon scripts.objects l.shown)) h
   printable_at h legal woven =
-      history_printable l.titles l.rules.definition whole_at (catalog_of (specs_in library)) k (table_at library.specs.items k l at) scripts.objects (projections_of scripts.list.items k) h
+      history_printable l.shown l.rules.definition whole_at (catalog_of (specs_in library)) k (table_at (listed_in library) k l at) scripts.objects (projections_of scripts.list.items k) h
       (λ j own here. All-at (λ steps. All (λ (step : ℕ × Step). FitsSpecification (catalog_of (specs_in library)) (length scripts.objects) k step.1) steps) (projections_of scripts.list.items k) j own (projected (catalog_of (specs_in library)) (length scripts.objects) k scripts.list.items counted.fit) here) legal woven
 
 -- ---- dispatchers
@@ -109,8 +110,8 @@ watch_at objects seats (x ∷ ls) (w ∷ watches) [] k watch all h at there = ab
 -- ---- texts
 
 -- each history is one of its specification
-histories_from : (number : ℕ) (ls : List Loaded) (scripts : List (List ScriptLine)) (ps : List (Core CompiledRules)) → length ps ≡ length ls
-    → ((k : ℕ) (l : Loaded) (p : Core CompiledRules) → slice_get ls k ≡ Some l → slice_get ps k ≡ Some p → IsHistoryOf (number + k) (specification_of l) scripts p.entries)
+histories_from : (number : ℕ) (ls : List Listed) (scripts : List (List ScriptLine)) (ps : List (Core CompiledRules)) → length ps ≡ length ls
+    → ((k : ℕ) (l : Listed) (p : Core CompiledRules) → slice_get ls k ≡ Some l → slice_get ps k ≡ Some p → IsHistoryOf (number + k) (specification_of l) scripts p.entries)
     → AreHistoriesFrom number (map specification_of ls) scripts (map (λ (p : Core CompiledRules). p.entries) ps)
 histories_from number [] scripts [] same each = tt
 histories_from number [] scripts (p ∷ ps) same each = absurd (omega (arith, same))
@@ -122,49 +123,79 @@ histories_from number (l ∷ ls) scripts (p ∷ ps) same each =
           (λ k m q at there. let next : number + suc k ≡ (number + 1) + k = omega arith in subst (λ n. IsHistoryOf n (specification_of m) scripts q.entries) next (each (suc k) m q at there)),
     )
 
-printables_from : (objects : List (List ℕ)) (ls : List Loaded) (ps : List (Core CompiledRules))
-    → ((k : ℕ) (l : Loaded) (p : Core CompiledRules) → slice_get ls k ≡ Some l → slice_get ps k ≡ Some p → All (IsPrintable (title_lexicon objects l.titles)) p.entries)
-    → ArePrintable (map (title_lexicon objects) (map (λ (l : Loaded). l.titles) ls)) (map (λ (p : Core CompiledRules). p.entries) ps)
+printables_from : (objects : List (List ℕ)) (ls : List Listed) (ps : List (Core CompiledRules))
+    → ((k : ℕ) (l : Listed) (p : Core CompiledRules) → slice_get ls k ≡ Some l → slice_get ps k ≡ Some p → All (IsPrintable (title_lexicon objects l.shown)) p.entries)
+    → ArePrintable (map (title_lexicon objects) (map (λ (l : Listed). l.shown) ls)) (map (λ (p : Core CompiledRules). p.entries) ps)
 printables_from objects [] ps each = tt
 printables_from objects (l ∷ ls) [] each = tt
 printables_from objects (l ∷ ls) (p ∷ ps) each = (each 0 l p refl refl, printables_from objects ls ps (λ k m q at there. each (suc k) m q at there))
 
 -- the names of the titles are those of the specifications
-lexicons_are : (objects : List (List ℕ)) (ls : List Loaded) → All IsWhole ls → map (title_lexicon objects) (map (λ (l : Loaded). l.titles) ls) ≡ map (lexicon objects) (map specification_of ls)
+lexicons_are : (objects : List (List ℕ)) (ls : List Listed) → All IsWhole ls → map (title_lexicon objects) (map (λ (l : Listed). l.shown) ls) ≡ map (lexicon objects) (map specification_of ls)
 lexicons_are objects [] all = refl
 lexicons_are objects (l ∷ ls) all =
-    let here : title_lexicon objects l.titles ≡ lexicon objects (specification_of l) = ap (λ (hs : List (List ℕ)). lexicon_of (string_bytes l.titles.name) l.titles.table hs objects l.titles.texts.items) (All-head IsWhole l ls all).handlers in
+    let here : title_lexicon objects l.shown ≡ lexicon objects (specification_of l) = ap (λ (hs : List (List ℕ)). lexicon_of l.shown.entry.name l.shown.entry.table hs objects l.shown.titles.texts.items) (All-head IsWhole l ls all).handlers in
     let rest = lexicons_are objects ls (All-tail IsWhole l ls all) in
     λ i. here i ∷ rest i
 
-summaries_are : (ls : List Loaded) (hs : List (List Entry)) → title_summaries (map (λ (l : Loaded). l.titles) ls) hs ≡ summaries_of (map specification_of ls) hs
-summaries_are [] hs = refl
-summaries_are (l ∷ ls) [] = refl
-summaries_are (l ∷ ls) (h ∷ hs) = ap (λ v. summary_text (string_bytes l.titles.name) h ++ v) (summaries_are ls hs)
+summaries_are : (es : List CatalogEntry) (ls : List Loaded) (hs : List (List Entry)) → length es ≡ length ls → entry_summaries es hs ≡ summaries_of (map specification_of (listed es ls)) hs
+summaries_are [] ls hs same = refl
+summaries_are (e ∷ es) [] hs same = absurd (omega (arith, same))
+summaries_are (e ∷ es) (l ∷ ls) [] same = refl
+summaries_are (e ∷ es) (l ∷ ls) (h ∷ hs) same = ap (λ v. summary_text e.name h ++ v) (summaries_are es ls hs (omega (arith, same)))
+
+-- ---- what is kept under the entries
+
+shown_listed : (es : List CatalogEntry) (ls : List Loaded) → shown_with es (map (λ (l : Loaded). l.titles) ls) ≡ map (λ (l : Listed). l.shown) (listed es ls)
+shown_listed [] ls = refl
+shown_listed (e ∷ es) [] = refl
+shown_listed (e ∷ es) (l ∷ ls) = ap (λ v. (listing e l).shown ∷ v) (shown_listed es ls)
+
+kept_at : (es : List CatalogEntry) (ls : List Loaded) (k : ℕ) (x : Listed) → slice_get (listed es ls) k ≡ Some x → (l : Loaded) × (slice_get ls k ≡ Some l) × (l.rules ≡ x.rules)
+kept_at [] ls k x at = absurd (none-some x at)
+kept_at (e ∷ es) [] k x at = absurd (none-some x at)
+kept_at (e ∷ es) (l ∷ ls) zero x at = (l, refl, ap (λ (v : Listed). v.rules) (same_some at))
+kept_at (e ∷ es) (l ∷ ls) (suc k) x at = kept_at es ls k x at
+
+entry_for : (es : List CatalogEntry) (ls : List Loaded) (k : ℕ) (l : Loaded) → length es ≡ length ls → slice_get ls k ≡ Some l → (e : CatalogEntry) × (slice_get (listed es ls) k ≡ Some (listing e l))
+entry_for [] [] k l same at = absurd (none-some l at)
+entry_for [] (m ∷ ls) k l same at = absurd (omega (arith, same))
+entry_for (e ∷ es) [] k l same at = absurd (none-some l at)
+entry_for (e ∷ es) (m ∷ ls) zero l same at = (e, ap (λ v. Some (listing e v)) (same_some at))
+entry_for (e ∷ es) (m ∷ ls) (suc k) l same at = entry_for es ls k l (omega (arith, same)) at
 
 module _ (library : Library) (scripts : Scripts) (catalogued : IsCatalogued library) (counted : AreCounted (specs_in library) scripts) (titles : List Titles) (ps : List (Core CompiledRules)) (runs : AreRunsOf library.specs.items scripts.list.items titles ps) where
-  pub runs_printable : ArePrintable (map (title_lexicon scripts.objects) titles) (map (λ (p : Core CompiledRules). p.entries) ps)
+  run_history : (k : ℕ) (l : Listed) (p : Core CompiledRules) → slice_get (listed_in library) k ≡ Some l → slice_get ps k ≡ Some p → IsHistoryOf k (specification_of l) scripts.list.items p.entries
+  run_history k l p at there =
+      let (own, place, same) = kept_at library.catalog library.specs.items k l at in
+      record { legal = subst (λ (d : CompiledRules). IsLegal (rules_meaning d.definition) p.entries) same (runs.legal k own p place there); woven = runs.woven k own p place there }
+
+  shown_are : shown_with library.catalog titles ≡ map (λ (l : Listed). l.shown) (listed_in library)
+  shown_are = ap (shown_with library.catalog) runs.titled ∙ shown_listed library.catalog library.specs.items
+
+  pub runs_printable : ArePrintable (map (title_lexicon scripts.objects) (shown_with library.catalog titles)) (map (λ (p : Core CompiledRules). p.entries) ps)
   runs_printable =
-      subst (λ ts. ArePrintable (map (title_lexicon scripts.objects) ts) (map (λ (p : Core CompiledRules). p.entries) ps)) (sym runs.titled)
-      (printables_from scripts.objects library.specs.items ps (λ k l p at there. printable_at library scripts catalogued counted k l at p.entries (runs.legal k l p at there) (runs.woven k l p at there)))
+      subst (λ ts. ArePrintable (map (title_lexicon scripts.objects) ts) (map (λ (p : Core CompiledRules). p.entries) ps)) (sym shown_are)
+      (printables_from scripts.objects (listed_in library) ps
+      (λ k l p at there. let h = run_history k l p at there in printable_at library scripts catalogued counted k l at p.entries h.legal h.woven))
 
-  pub run_histories : AreHistoriesFrom 0 (specs_in library) scripts.list.items (map (λ (p : Core CompiledRules). p.entries) ps)
-  run_histories = histories_from 0 library.specs.items scripts.list.items ps runs.many
+  run_histories : AreHistoriesFrom 0 (specs_in library) scripts.list.items (map (λ (p : Core CompiledRules). p.entries) ps)
+  run_histories = histories_from 0 (listed_in library) scripts.list.items ps (runs.many ∙ sym (length-listed library.catalog library.specs.items catalogued.many))
       (λ k l p at there. let same : 0 + k ≡ k = omega arith in
-      subst (λ n. IsHistoryOf n (specification_of l) scripts.list.items p.entries) (sym same) (record { legal = runs.legal k l p at there; woven = runs.woven k l p at there }))
+      subst (λ n. IsHistoryOf n (specification_of l) scripts.list.items p.entries) (sym same) (run_history k l p at there))
 
-  pub runs_text : (text : List ℕ) → text ≡ texts_of (map (title_lexicon scripts.objects) titles) (map (λ (p : Core CompiledRules). p.entries) ps) → IsTextOfHistories (specs_in library) scripts.list.items scripts.objects text
+  pub runs_text : (text : List ℕ) → text ≡ texts_of (map (title_lexicon scripts.objects) (shown_with library.catalog titles)) (map (λ (p : Core CompiledRules). p.entries) ps) → IsTextOfHistories (specs_in library) scripts.list.items scripts.objects text
   runs_text text printed = record {
     histories = map (λ (p : Core CompiledRules). p.entries) ps;
     each = run_histories;
-    printed = printed ∙ ap (λ ls. texts_of ls (map (λ (p : Core CompiledRules). p.entries) ps)) (ap (map (title_lexicon scripts.objects)) runs.titled ∙ lexicons_are scripts.objects library.specs.items catalogued.kept);
+    printed = printed ∙ ap (λ ls. texts_of ls (map (λ (p : Core CompiledRules). p.entries) ps)) (ap (map (title_lexicon scripts.objects)) shown_are ∙ lexicons_are scripts.objects (listed_in library) catalogued.kept);
   }
 
-  pub runs_summaries : (text : List ℕ) → text ≡ title_summaries titles (map (λ (p : Core CompiledRules). p.entries) ps) → IsTextOfSummaries (specs_in library) scripts.list.items text
+  pub runs_summaries : (text : List ℕ) → text ≡ entry_summaries library.catalog (map (λ (p : Core CompiledRules). p.entries) ps) → IsTextOfSummaries (specs_in library) scripts.list.items text
   runs_summaries text printed = record {
     histories = map (λ (p : Core CompiledRules). p.entries) ps;
     each = run_histories;
-    printed = printed ∙ ap (λ ts. title_summaries ts (map (λ (p : Core CompiledRules). p.entries) ps)) runs.titled ∙ summaries_are library.specs.items (map (λ (p : Core CompiledRules). p.entries) ps);
+    printed = printed ∙ summaries_are library.catalog library.specs.items (map (λ (p : Core CompiledRules). p.entries) ps) catalogued.many;
   }
 
 -- what was run is what the scripts had to do
@@ -174,6 +205,7 @@ runs_of library scripts catalogued counted objects named watches alls k watch al
     let found = watch_at objects seats library.specs.items watches alls k watch all are at there in
     let l = found.0 in
     let is = found.2 in
+    let place = entry_for library.catalog library.specs.items k l catalogued.many found.1 in
     let definition : watch.fixed.definition ≡ l.rules = ap (λ (f : Fixed CompiledRules). f.definition) is.fixed in
     let many_objects : watch.fixed.objects ≡ length scripts.objects = ap (λ (f : Fixed CompiledRules). f.objects) is.fixed ∙ named in
     record {
@@ -181,12 +213,16 @@ runs_of library scripts catalogued counted objects named watches alls k watch al
       all = is.many ∙ many;
       newcomers = is.newcomers;
       fitting = subst (λ (d : CompiledRules). All (λ steps. AreFitSteps (rules_meaning d.definition) watch.fixed.objects steps) (projections_of scripts.list.items k)) (sym definition)
-          (subst (λ n. All (λ steps. AreFitSteps (rules_meaning l.rules.definition) n steps) (projections_of scripts.list.items k)) (sym many_objects) (fitting_at library scripts catalogued counted k l found.1));
+          (subst (λ n. All (λ steps. AreFitSteps (rules_meaning l.rules.definition) n steps) (projections_of scripts.list.items k)) (sym many_objects) (fitting_at library scripts catalogued counted k (listing place.0 l) place.1));
     }
 
 -- as many titles as cores
 pub runs_many : (library : Library) (scripts : Scripts) (titles : List Titles) (ps : List (Core CompiledRules)) → AreRunsOf library.specs.items scripts.list.items titles ps → length titles ≡ length ps
 runs_many library scripts titles ps runs = ap (λ ts. length ts) runs.titled ∙ length-map library.specs.items (λ (l : Loaded). l.titles) ∙ sym runs.many
+
+-- as many entries as titles
+pub runs_titled : (library : Library) (scripts : Scripts) (titles : List Titles) (ps : List (Core CompiledRules)) → IsCatalogued library → AreRunsOf library.specs.items scripts.list.items titles ps → length library.catalog ≡ length titles
+runs_titled library scripts titles ps catalogued runs = catalogued.many ∙ sym (ap (λ ts. length ts) runs.titled ∙ length-map library.specs.items (λ (l : Loaded). l.titles))
 
 -- ---- dispatchers as they are kept
 

@@ -1,6 +1,6 @@
 -- The texts of several specifications, one after another.
 use Rattle.std.proofs.Common.{◌≡◌, ℕ, zero, suc, ◌+◌, ◌<◌, List, [], ◌∷◌, ◌++◌, length, get_or, take, refl, sym, ap, subst, ◌∙◌, arith, append_assoc, append-nil}
-use Rattle.std.specs.Prelude.{All, Contains, map, slice_get, IfSome, string_bytes}
+use Rattle.std.specs.Prelude.{All, Contains, map, slice_get, option_map, Some, IfSome}
 use Rattle.std.specs.List.{flat_map}
 use Rattle.std.proofs.lemmas.List.{take_more, map-append, length-map, length_push, length-take-le}
 use Rattle.std.proofs.lemmas.List.Elements.{All-contains, Contains-get_or}
@@ -10,11 +10,14 @@ use Rattle.jm_print.specs.Lexicons.{Lexicon}
 use Rattle.jm_print.specs.Texts.{history_text, IsPrintable}
 use Rattle.jm_print.specs.Told.{texts_of}
 use Rattle.jm_print.specs.Summaries.{summary_text}
+use Rattle.jm_events.specs.Events.{EventDefinitions}
+use Rattle.jm_script.specs.Catalogs.{CatalogEntry}
 use Rattle.jm_top.specs.declared.specification.Titles.{Titles}
 use Rattle.jm_top.specs.declared.specification.Loaded.{Loaded}
 use Rattle.jm_top.specs.Specifications.{Specification}
-use Rattle.jm_top.specs.Reading.{specification_of, ArePrintable, title_summaries}
+use Rattle.jm_top.specs.Reading.{Shown, Listed, named_entry, listing, listed, shown_with, specification_of, ArePrintable, entry_summaries}
 use Rattle.jm_top.specs.Texts.{declared_text, IsTextOfFamily, IsTextOfFamilies}
+use Rattle.jm_top.proofs.OneReadingLemmas.{same_some}
 
 -- what holds of each holds of the one of a place
 pub All-place : {X : Type 0} (P : X → Type 0) (xs : List X) (i : ℕ) (x : X) → All P xs → i < length xs → x ≡ get_or xs i x → P x
@@ -23,7 +26,43 @@ All-place {X} P xs i x all lt here = All-contains P xs x all (subst (λ v. Conta
 one_more : {X : Type 0} (xs : List X) (i : ℕ) (x : X) → i < length xs → x ≡ get_or xs i x → take (i + 1) xs ≡ take i xs ++ x ∷ []
 one_more {X} xs i x lt here = take_more xs i x lt ∙ ap (λ v. take i xs ++ v ∷ []) (sym here)
 
-pub declared_more : (xs : List Loaded) (i : ℕ) (x : Loaded) (text block new : List ℕ) → i < length xs → x ≡ get_or xs i x → text ≡ flat_map declared_text (map specification_of (take i xs)) → block ≡ declared_text (specification_of x) → new ≡ text ++ block
+-- the entry of a place, whose parts were looked up
+pub entry_there : (es : List CatalogEntry) (k : ℕ) (name : List ℕ) (table : EventDefinitions) → option_map (λ e. e.name) (slice_get es k) ≡ Some name → option_map (λ e. e.table) (slice_get es k) ≡ Some table
+    → named_entry name table ≡ get_or es k (named_entry name table)
+entry_there [] k name table named there = absurd cc
+entry_there (e ∷ es) zero name table named there = sym (λ i. named_entry (same_some named i) (same_some there i))
+entry_there (e ∷ es) (suc k) name table named there = entry_there es k name table named there
+
+pub name_there : (es : List CatalogEntry) (k : ℕ) (name : List ℕ) → option_map (λ e. e.name) (slice_get es k) ≡ Some name → (e : CatalogEntry) × (e ≡ get_or es k e) × (e.name ≡ name)
+name_there [] k name named = absurd cc
+name_there (e ∷ es) zero name named = (e, refl, same_some named)
+name_there (e ∷ es) (suc k) name named = name_there es k name named
+
+-- what is kept under the entry of a place
+pub listed_there : (es : List CatalogEntry) (ls : List Loaded) (k : ℕ) (e : CatalogEntry) (l : Loaded) → length es ≡ length ls → k < length es → e ≡ get_or es k e → l ≡ get_or ls k l
+    → (k < length (listed es ls)) × (listing e l ≡ get_or (listed es ls) k (listing e l))
+listed_there [] ls k e l same lt here there = absurd (omega (arith, lt))
+listed_there (d ∷ es) [] k e l same lt here there = absurd (omega (arith, same))
+listed_there (d ∷ es) (m ∷ ls) zero e l same lt here there = (omega arith, λ i. listing (here i) (there i))
+listed_there (d ∷ es) (m ∷ ls) (suc k) e l same lt here there =
+    let rest = listed_there es ls k e l (omega (arith, same)) (omega (arith, lt)) here there in
+    (omega (arith, rest.0), rest.1)
+
+pub length-shown : (es : List CatalogEntry) (ts : List Titles) → length es ≡ length ts → length (shown_with es ts) ≡ length es
+length-shown [] ts same = refl
+length-shown (e ∷ es) [] same = absurd (omega (arith, same))
+length-shown (e ∷ es) (t ∷ ts) same = omega (arith, length-shown es ts (omega (arith, same)))
+
+pub shown_there : (es : List CatalogEntry) (ts : List Titles) (k : ℕ) (e : CatalogEntry) (t : Titles) → length es ≡ length ts → k < length es → e ≡ get_or es k e → t ≡ get_or ts k t
+    → (k < length (shown_with es ts)) × (◌≡◌ {A = Shown} (record { entry = e; titles = t }) (get_or (shown_with es ts) k (record { entry = e; titles = t })))
+shown_there [] ts k e t same lt here there = absurd (omega (arith, lt))
+shown_there (d ∷ es) [] k e t same lt here there = absurd (omega (arith, same))
+shown_there (d ∷ es) (u ∷ ts) zero e t same lt here there = (omega arith, λ i. record { entry = here i; titles = there i })
+shown_there (d ∷ es) (u ∷ ts) (suc k) e t same lt here there =
+    let rest = shown_there es ts k e t (omega (arith, same)) (omega (arith, lt)) here there in
+    (omega (arith, rest.0), rest.1)
+
+pub declared_more : (xs : List Listed) (i : ℕ) (x : Listed) (text block new : List ℕ) → i < length xs → x ≡ get_or xs i x → text ≡ flat_map declared_text (map specification_of (take i xs)) → block ≡ declared_text (specification_of x) → new ≡ text ++ block
     → new ≡ flat_map declared_text (map specification_of (take (i + 1) xs))
 declared_more xs i x text block new lt here before is joined =
     joined ∙ ap (λ v. v ++ block) before ∙ ap (λ v. flat_map declared_text (map specification_of (take i xs)) ++ v) (is ∙ sym (append-nil (declared_text (specification_of x))))
@@ -35,7 +74,7 @@ families_behind [] s text block none is = (block, [], ap (λ v. v ++ block) none
 families_behind (x ∷ specs) s text block (first, more, e, own, rest) is =
     (first, more ++ block, ap (λ v. v ++ block) e ∙ append_assoc first more block, own, families_behind specs s more block rest is)
 
-pub families_more : (xs : List Loaded) (i : ℕ) (x : Loaded) (text block new : List ℕ) → i < length xs → x ≡ get_or xs i x → IsTextOfFamilies (map specification_of (take i xs)) text → IsTextOfFamily (specification_of x) block → new ≡ text ++ block
+pub families_more : (xs : List Listed) (i : ℕ) (x : Listed) (text block new : List ℕ) → i < length xs → x ≡ get_or xs i x → IsTextOfFamilies (map specification_of (take i xs)) text → IsTextOfFamily (specification_of x) block → new ≡ text ++ block
     → IsTextOfFamilies (map specification_of (take (i + 1) xs)) new
 families_more xs i x text block new lt here before is joined =
     let whole : map specification_of (take (i + 1) xs) ≡ map specification_of (take i xs) ++ specification_of x ∷ [] = ap (map specification_of) (one_more xs i x lt here) ∙ map-append specification_of (take i xs) (x ∷ []) in
@@ -73,21 +112,21 @@ histories_more {A} {B} f g xs ys i x y in_xs in_ys here there =
     let right : map g (take (i + 1) ys) ≡ map g (take i ys) ++ g y ∷ [] = ap (map g) (one_more ys i y in_ys there) ∙ map-append g (take i ys) (y ∷ []) in
     (λ j. texts_of (left j) (right j)) ∙ behind (map f (take i xs)) (map g (take i ys)) (f x) (g y) same
 
-summaries_behind : (ts : List Titles) (hs : List (List Entry)) (t : Titles) (h : List Entry) → length ts ≡ length hs → title_summaries (ts ++ t ∷ []) (hs ++ h ∷ []) ≡ title_summaries ts hs ++ summary_text (string_bytes t.name) h
-summaries_behind [] [] t h same = append-nil (summary_text (string_bytes t.name) h)
+summaries_behind : (ts : List CatalogEntry) (hs : List (List Entry)) (t : CatalogEntry) (h : List Entry) → length ts ≡ length hs → entry_summaries (ts ++ t ∷ []) (hs ++ h ∷ []) ≡ entry_summaries ts hs ++ summary_text t.name h
+summaries_behind [] [] t h same = append-nil (summary_text t.name h)
 summaries_behind [] (g ∷ hs) t h same = absurd (omega (arith, same))
 summaries_behind (k ∷ ts) [] t h same = absurd (omega (arith, same))
 summaries_behind (k ∷ ts) (g ∷ hs) t h same =
-    ap (λ v. summary_text (string_bytes k.name) g ++ v) (summaries_behind ts hs t h (omega (arith, same))) ∙ sym (append_assoc (summary_text (string_bytes k.name) g) (title_summaries ts hs) (summary_text (string_bytes t.name) h))
+    ap (λ v. summary_text k.name g ++ v) (summaries_behind ts hs t h (omega (arith, same))) ∙ sym (append_assoc (summary_text k.name g) (entry_summaries ts hs) (summary_text t.name h))
 
 -- the summary of one history more
-pub summaries_more : {B : Type 0} (g : B → List Entry) (xs : List Titles) (ys : List B) (i : ℕ) (x : Titles) (y : B) → i < length xs → i < length ys → x ≡ get_or xs i x → y ≡ get_or ys i y
-    → title_summaries (take (i + 1) xs) (map g (take (i + 1) ys)) ≡ title_summaries (take i xs) (map g (take i ys)) ++ summary_text (string_bytes x.name) (g y)
+pub summaries_more : {B : Type 0} (g : B → List Entry) (xs : List CatalogEntry) (ys : List B) (i : ℕ) (x : CatalogEntry) (y : B) → i < length xs → i < length ys → x ≡ get_or xs i x → y ≡ get_or ys i y
+    → entry_summaries (take (i + 1) xs) (map g (take (i + 1) ys)) ≡ entry_summaries (take i xs) (map g (take i ys)) ++ summary_text x.name (g y)
 summaries_more {B} g xs ys i x y in_xs in_ys here there =
     let same : length (take i xs) ≡ length (map g (take i ys)) = length-take-le i xs (omega arith) ∙ sym (length-take-le i ys (omega arith)) ∙ sym (length-map (take i ys) g) in
     let left : take (i + 1) xs ≡ take i xs ++ x ∷ [] = one_more xs i x in_xs here in
     let right : map g (take (i + 1) ys) ≡ map g (take i ys) ++ g y ∷ [] = ap (map g) (one_more ys i y in_ys there) ∙ map-append g (take i ys) (y ∷ []) in
-    (λ j. title_summaries (left j) (right j)) ∙ summaries_behind (take i xs) (map g (take i ys)) x (g y) same
+    (λ j. entry_summaries (left j) (right j)) ∙ summaries_behind (take i xs) (map g (take i ys)) x (g y) same
 
 -- the history of a place can be printed
 pub printable_place : {A B : Type 0} (f : A → Lexicon) (g : B → List Entry) (xs : List A) (ys : List B) (i : ℕ) (x : A) (y : B) → ArePrintable (map f xs) (map g ys) → i < length xs → i < length ys → x ≡ get_or xs i x → y ≡ get_or ys i y → All (IsPrintable (f x)) (g y)

@@ -1,6 +1,6 @@
 -- What the bytes of a file say.
 use Rattle.std.proofs.Common.{◌≡◌, ℕ, ◌+◌, ◌<◌, ◌≤◌, List, [], ◌∷◌, length, sym, ap, subst, ◌∙◌, arith}
-use Rattle.std.specs.Prelude.{All, ◌^◌, map, string_bytes}
+use Rattle.std.specs.Prelude.{All, ◌^◌, map}
 use Rattle.jm_model.specs.declared.fault.SpecFault.{SpecFault}
 use Rattle.jm_text.specs.declared.token.Token.{Token}
 use Rattle.jm_text.specs.Spans.{LieInOrder}
@@ -13,7 +13,7 @@ use Rattle.jm_machine.specs.Meanings.{RuleDefinition}
 use Rattle.jm_machine.specs.RuleSets.{CompiledRules}
 use Rattle.jm_events.specs.Events.{EventDefinitions}
 use Rattle.jm_machine.specs.Compiling.{IsCompiledFrom, IsFaultyTree}
-use Rattle.jm_top.specs.declared.specification.Loaded.{Loaded}
+use Rattle.jm_top.specs.declared.specification.Reading.{Reading}
 use Rattle.jm_top.specs.Specifications.{IsTold, IsSpecFault, in_tree, BlocksSay, most_bytes}
 use Rattle.jm_top.specs.Reading.{IsRead}
 
@@ -25,19 +25,19 @@ module _ (bytes : List ℕ) (tokens : List Token) (small : length bytes ≤ most
   tree_fault_of tree fault told h = in_tree tokens tree fault (told_of tree told) h
 
   -- what is kept of a specification
-  pub read_of : (tree : SpecTree) (l : Loaded) (rules : CompiledRules) (texts : List (List (List Term))) → IsTreeOfTokens bytes tokens tree → IsCompiledFrom bytes tokens tree rules.definition
+  pub read_of : (tree : SpecTree) (r : Reading) (rules : CompiledRules) (texts : List (List (List Term))) → IsTreeOfTokens bytes tokens tree → IsCompiledFrom bytes tokens tree rules.definition
       → All (λ mask. mask < 2 ^ length tree.table.parameters) rules.definition.masks → length rules.definition.handlers ≤ 16
-      → BlocksSay bytes tokens tree.table.parameters tree.handlers.items texts → l.rules ≡ rules → l.titles.texts.items ≡ texts
-      → string_bytes l.titles.name ≡ name_of bytes tree.name → l.titles.table ≡ tree.table → l.titles.handlers ≡ rules.definition.handlers
-      → l.titles.logic ≡ tree.logic → l.titles.logic_line ≡ tree.logic_line → l.titles.full_binding ≡ tree.full_binding → IsRead bytes l
-  read_of tree l rules texts told compiled fit few say is printed titled table handlers logic line full =
+      → BlocksSay bytes tokens tree.table.parameters tree.handlers.items texts → r.loaded.rules ≡ rules → r.loaded.titles.texts.items ≡ texts
+      → r.name.now ≡ name_of bytes tree.name → r.table ≡ tree.table → r.loaded.titles.handlers ≡ rules.definition.handlers
+      → r.loaded.titles.logic ≡ tree.logic → r.loaded.titles.logic_line ≡ tree.logic_line → r.loaded.titles.full_binding ≡ tree.full_binding → IsRead bytes r
+  read_of tree r rules texts told compiled fit few say is printed titled table handlers logic line full =
       let masks : rules.definition.masks ≡ map (λ e. e.mask) tree.table.events = ap (λ (x : RuleDefinition). x.masks) compiled.rules in
       record {
         said = record {
           tokens = tokens;
           tree = tree;
           told = told_of tree told;
-          rules = subst (λ (r : CompiledRules). IsCompiledFrom bytes tokens tree r.definition) (sym is) compiled;
+          rules = subst (λ (x : CompiledRules). IsCompiledFrom bytes tokens tree x.definition) (sym is) compiled;
           name = titled;
           table = table;
           logic = logic;
@@ -46,10 +46,10 @@ module _ (bytes : List ℕ) (tokens : List Token) (small : length bytes ≤ most
           texts = subst (λ v. BlocksSay bytes tokens tree.table.parameters tree.handlers.items v) (sym printed) say;
         };
         kept = record {
-          handlers = handlers ∙ ap (λ (r : CompiledRules). r.definition.handlers) (sym is);
-          masks = ap (λ (r : CompiledRules). r.definition.masks) is ∙ masks ∙ ap (λ (t : EventDefinitions). map (λ e. e.mask) t.events) (sym table);
-          fit = subst (λ (t : EventDefinitions). All (λ mask. mask < 2 ^ length t.parameters) l.rules.definition.masks) (sym table) (subst (λ (r : CompiledRules). All (λ mask. mask < 2 ^ length tree.table.parameters) r.definition.masks) (sym is) fit);
-          few = subst (λ (r : CompiledRules). length r.definition.handlers ≤ 16) (sym is) few;
+          handlers = handlers ∙ ap (λ (x : CompiledRules). x.definition.handlers) (sym is);
+          masks = ap (λ (x : CompiledRules). x.definition.masks) is ∙ masks ∙ ap (λ (t : EventDefinitions). map (λ e. e.mask) t.events) (sym table);
+          fit = subst (λ (t : EventDefinitions). All (λ mask. mask < 2 ^ length t.parameters) r.loaded.rules.definition.masks) (sym table) (subst (λ (x : CompiledRules). All (λ mask. mask < 2 ^ length tree.table.parameters) x.definition.masks) (sym is) fit);
+          few = subst (λ (x : CompiledRules). length x.definition.handlers ≤ 16) (sym is) few;
         };
       }
 

@@ -1,10 +1,14 @@
 -- What the calls that read specifications answer.
-use Rattle.std.specs.Prelude.{ℕ, ◌≡◌, ◌<◌, ◌≤◌, ◌^◌, Bool, false, List, [], ◌∷◌, ◌++◌, length, map, All, Option, string_bytes}
+use Rattle.std.specs.Prelude.{ℕ, ◌≡◌, ◌<◌, ◌≤◌, ◌^◌, Bool, false, List, [], ◌∷◌, ◌++◌, length, map, All, Option}
 use Rattle.jm_script.specs.declared.script.ScriptLine.{ScriptLine}
+use Rattle.jm_script.specs.Catalogs.{CatalogEntry}
 use Rattle.jm_script.specs.Fitting.{FitsCatalog}
+use Rattle.jm_events.specs.Events.{EventDefinitions}
 use Rattle.jm_machine.specs.Meanings.{RuleDefinition}
+use Rattle.jm_machine.specs.RuleSets.{CompiledRules}
 use Rattle.jm_top.specs.declared.specification.Titles.{Titles}
 use Rattle.jm_top.specs.declared.specification.Loaded.{Loaded}
+use Rattle.jm_top.specs.declared.specification.Reading.{Reading}
 use Rattle.jm_top.specs.declared.library.Library.{Library}
 use Rattle.jm_top.specs.declared.scripts.Scripts.{Scripts}
 use Rattle.jm_top.specs.declared.inputs.Inputs.{Inputs}
@@ -19,45 +23,79 @@ use Rattle.jm_top.specs.Inputs.{IsAdmitted, SaySpecifications, step_count, SaySc
 
 -- ---- specifications
 
--- the specification of these titles and rules
-abbrev pub titled : Titles → RuleDefinition → Specification
-titled t rules = record {
-  name = string_bytes t.name;
-  table = t.table;
-  logic = t.logic;
-  logic_line = t.logic_line;
-  full_binding = t.full_binding;
+-- what a specification is printed with: what its catalog has, and its titles
+pub record Shown : Type 0 where
+  pub entry : CatalogEntry
+  pub titles : Titles
+
+-- and its rules
+pub record Listed : Type 0 where
+  pub shown : Shown
+  pub rules : CompiledRules
+
+-- what is kept under this entry
+abbrev pub listing : CatalogEntry → Loaded → Listed
+listing e l = record { shown = record { entry = e; titles = l.titles }; rules = l.rules }
+
+-- each is kept under the entry of its place
+abbrev pub listed : List CatalogEntry → List Loaded → List Listed
+listed (e ∷ es) (l ∷ ls) = listing e l ∷ listed es ls
+listed _ _ = []
+
+abbrev pub shown_with : List CatalogEntry → List Titles → List Shown
+shown_with (e ∷ es) (t ∷ ts) = record { entry = e; titles = t } ∷ shown_with es ts
+shown_with _ _ = []
+
+-- the entry of this name, parameters and events
+abbrev pub named_entry : List ℕ → EventDefinitions → CatalogEntry
+named_entry name table = record { name = name; table = table }
+
+-- what was read
+abbrev pub listing_of : Reading → Listed
+listing_of r = listing (named_entry r.name.now r.table) r.loaded
+
+-- the specification with these rules
+abbrev pub titled : Shown → RuleDefinition → Specification
+titled s rules = record {
+  name = s.entry.name;
+  table = s.entry.table;
+  logic = s.titles.logic;
+  logic_line = s.titles.logic_line;
+  full_binding = s.titles.full_binding;
   rules = rules;
-  texts = t.texts.items;
+  texts = s.titles.texts.items;
 }
 
 -- the specification that is kept
-abbrev pub specification_of : Loaded → Specification
-specification_of l = titled l.titles l.rules.definition
+abbrev pub specification_of : Listed → Specification
+specification_of l = titled l.shown l.rules.definition
 
 -- The handlers of the titles are those of the rules, and few; the letters are the events, whose sets of parameters are there.
-pub record AreTitlesOf (rules : RuleDefinition) (t : Titles) : Type 0 where
-  pub handlers : t.handlers ≡ rules.handlers
-  pub masks : rules.masks ≡ map (λ e. e.mask) t.table.events
-  pub fit : All (λ mask. mask < 2 ^ length t.table.parameters) rules.masks
+pub record AreTitlesOf (rules : RuleDefinition) (s : Shown) : Type 0 where
+  pub handlers : s.titles.handlers ≡ rules.handlers
+  pub masks : rules.masks ≡ map (λ e. e.mask) s.entry.table.events
+  pub fit : All (λ mask. mask < 2 ^ length s.entry.table.parameters) rules.masks
   pub few : length rules.handlers ≤ 16
 
-abbrev pub IsWhole : Loaded → Type 0
-IsWhole l = AreTitlesOf l.rules.definition l.titles
+abbrev pub IsWhole : Listed → Type 0
+IsWhole l = AreTitlesOf l.rules.definition l.shown
 
 -- the bytes say the specification that is kept
-pub record IsRead (bytes : List ℕ) (l : Loaded) : Type 0 where
-  pub said : IsSpecification bytes (specification_of l)
-  pub kept : IsWhole l
+pub record IsRead (bytes : List ℕ) (r : Reading) : Type 0 where
+  pub said : IsSpecification bytes (specification_of (listing_of r))
+  pub kept : IsWhole (listing_of r)
 
 -- the specifications of a library
-abbrev pub specs_in : Library → List Specification
-specs_in library = map specification_of library.specs.items
+abbrev pub listed_in : Library → List Listed
+listed_in library = listed library.catalog library.specs.items
 
--- the catalog is that of the specifications, each of which is kept whole
+abbrev pub specs_in : Library → List Specification
+specs_in library = map specification_of (listed_in library)
+
+-- the catalog has an entry for each specification, and each is kept whole
 pub record IsCatalogued (library : Library) : Type 0 where
-  pub catalog : library.catalog ≡ catalog_of (specs_in library)
-  pub kept : All IsWhole library.specs.items
+  pub many : length library.catalog ≡ length library.specs.items
+  pub kept : All IsWhole (listed_in library)
 
 -- the library has one specification more, which these bytes say
 pub record HasNext (families : Bool) (bytes : List ℕ) (old new : Library) : Type 0 where
@@ -80,18 +118,18 @@ pub record IsLibraryOf (contents : List ℕ → Option (List ℕ)) (families : B
 -- ---- histories
 
 -- the names that a history is printed with, and what its handlers print, by these titles
-abbrev pub title_lexicon : List (List ℕ) → Titles → Lexicon
-title_lexicon objects t = lexicon_of (string_bytes t.name) t.table t.handlers objects t.texts.items
+abbrev pub title_lexicon : List (List ℕ) → Shown → Lexicon
+title_lexicon objects s = lexicon_of s.entry.name s.entry.table s.titles.handlers objects s.titles.texts.items
 
 -- each history can be printed by its lexicon
 abbrev pub ArePrintable : List Lexicon → List (List Entry) → Type 0
 ArePrintable (l ∷ ls) (h ∷ hs) = All (IsPrintable l) h × ArePrintable ls hs
 ArePrintable _ _ = Unit {0}
 
--- the summaries of histories by these titles
-abbrev pub title_summaries : List Titles → List (List Entry) → List ℕ
-title_summaries (t ∷ ts) (h ∷ hs) = summary_text (string_bytes t.name) h ++ title_summaries ts hs
-title_summaries _ _ = []
+-- the summaries of histories by these entries
+abbrev pub entry_summaries : List CatalogEntry → List (List Entry) → List ℕ
+entry_summaries (e ∷ es) (h ∷ hs) = summary_text e.name h ++ entry_summaries es hs
+entry_summaries _ _ = []
 
 -- ---- scripts
 

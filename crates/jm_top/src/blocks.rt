@@ -1,86 +1,115 @@
 //! The texts of `check` and `coenable`: a block for each specification.
-ghost use Rattle.std.specs.Prelude.{◌≡◌, ◌++◌, ◌<◌, false, All, length, map, IfOk};
+ghost use Rattle.std.specs.Prelude.{◌≡◌, ◌++◌, ◌<◌, false, ℕ, All, length, map, slice_get, IfOk, IfSome};
 ghost use Rattle.std.specs.List.{flat_map};
 ghost use Rattle.jm_machine.specs.Formulas.{is_grammar};
 ghost use Rattle.jm_semantics.specs.Families.{IsFamily};
 ghost use Rattle.jm_top.specs.Texts.{declared_text, AreFamiliesOf, IsTextOfFamily, IsTextOfFamilies};
 ghost use Rattle.jm_machine.specs.Meanings.{rules_meaning};
-ghost use Rattle.jm_top.specs.Reading.{specification_of, IsWhole};
+ghost use Rattle.jm_top.specs.Reading.{named_entry, listing, listed, specification_of, IsWhole};
 
 use crate::specification::Loaded;
+use jm_events::EventTable;
 use jm_machine::Rules;
 use jm_model::{Letter, NoMemory};
 use jm_print::{render_check, render_coenable};
+use jm_script::Catalog;
 use std::alloc::Global;
 
 /// What each specification declares.
-pub(crate) fn declared(alloc: Global, specs: &[Loaded]) -> Result<Vec<u8>, NoMemory>
-    requires { All IsWhole specs.now }
-    ensures { IfOk result (λ text. text.items ≡ flat_map declared_text (map specification_of specs.now)) }
+pub(crate) fn declared(
+    alloc: Global,
+    catalog: &Catalog,
+    specs: &[Loaded],
+) -> Result<Vec<u8>, NoMemory>
+    requires many { length catalog.now ≡ length specs.now }
+    requires whole { All IsWhole (listed catalog.now specs.now) }
+    ensures { IfOk result (λ text. text.items ≡ flat_map declared_text (map specification_of (listed catalog.now specs.now))) }
 {
     let mut text = Vec::new(alloc);
-    for loaded in specs {
-        let block = declared_by(alloc, loaded)?;
+    for spec in 0..catalog.len() {
+        let number = spec as usize;
+        let block = declared_by(
+            alloc,
+            catalog.name(spec),
+            catalog.table(spec),
+            &specs[number],
+        )?;
         text = joined(text, block)?;
     }
     Ok(text)
 }
 
 /// What a specification declares.
-fn declared_by(alloc: Global, loaded: &Loaded) -> Result<Vec<u8>, NoMemory>
-    requires { IsWhole loaded.now }
-    ensures { IfOk result (λ text. text.items ≡ declared_text (specification_of loaded.now)) }
+fn declared_by(
+    alloc: Global,
+    name: &str,
+    table: &EventTable,
+    loaded: &Loaded,
+) -> Result<Vec<u8>, NoMemory>
+    requires { IsWhole (listing (named_entry name.now table.now) loaded.now) }
+    ensures { IfOk result (λ text. text.items ≡ declared_text (specification_of (listing (named_entry name.now table.now) loaded.now))) }
 {
     let titles = &loaded.titles;
     render_check(
         alloc,
-        titles.name.as_str(),
+        name,
         titles.logic,
         titles.full_binding,
-        &titles.table,
+        table,
         &titles.handlers,
     )
 }
 
 /// The coenable families of each specification. None is a grammar.
-pub(crate) fn families(alloc: Global, specs: &[Loaded]) -> Result<Vec<u8>, NoMemory>
-    requires whole { All IsWhole specs.now }
-    requires tables { All (λ l. is_grammar l.rules.definition.formula ≡ false) specs.now }
-    ensures { IfOk result (λ text. IsTextOfFamilies (map specification_of specs.now) text.items) }
+pub(crate) fn families(
+    alloc: Global,
+    catalog: &Catalog,
+    specs: &[Loaded],
+) -> Result<Vec<u8>, NoMemory>
+    requires many { length catalog.now ≡ length specs.now }
+    requires whole { All IsWhole (listed catalog.now specs.now) }
+    requires tables { All (λ l. is_grammar l.rules.definition.formula ≡ false) (listed catalog.now specs.now) }
+    ensures { IfOk result (λ text. IsTextOfFamilies (map specification_of (listed catalog.now specs.now)) text.items) }
 {
     let mut text = Vec::new(alloc);
-    for loaded in specs {
-        let block = families_text(alloc, loaded)?;
+    for spec in 0..catalog.len() {
+        let number = spec as usize;
+        let block = families_text(
+            alloc,
+            catalog.name(spec),
+            catalog.table(spec),
+            &specs[number],
+        )?;
         text = joined(text, block)?;
     }
     Ok(text)
 }
 
 /// The coenable families of a specification, as a text.
-fn families_text(alloc: Global, loaded: &Loaded) -> Result<Vec<u8>, NoMemory>
-    requires whole { IsWhole loaded.now }
+fn families_text(
+    alloc: Global,
+    name: &str,
+    table: &EventTable,
+    loaded: &Loaded,
+) -> Result<Vec<u8>, NoMemory>
+    requires whole { IsWhole (listing (named_entry name.now table.now) loaded.now) }
     requires table { is_grammar loaded.now.rules.definition.formula ≡ false }
-    ensures { IfOk result (λ text. IsTextOfFamily (specification_of loaded.now) text.items) }
+    ensures { IfOk result (λ text. IsTextOfFamily (specification_of (listing (named_entry name.now table.now) loaded.now)) text.items) }
 {
-    let families = families_of(alloc, loaded)?;
-    let titles = &loaded.titles;
-    render_coenable(
-        alloc,
-        titles.name.as_str(),
-        &titles.table,
-        families.as_slice(),
-    )
+    let families = families_of(alloc, table, &loaded.rules)?;
+    render_coenable(alloc, name, table, families.as_slice())
 }
 
-/// The coenable family of each letter of a specification.
-fn families_of(alloc: Global, loaded: &Loaded) -> Result<Vec<Vec<u8>>, NoMemory>
-    requires whole { IsWhole loaded.now }
-    requires table { is_grammar loaded.now.rules.definition.formula ≡ false }
-    ensures { IfOk result (λ families. AreFamiliesOf (specification_of loaded.now) (map (λ f. f.items) families.items)) }
+/// The coenable family of each letter of these events, by rules that have families.
+fn families_of(alloc: Global, table: &EventTable, rules: &Rules) -> Result<Vec<Vec<u8>>, NoMemory>
+    requires letters { length rules.now.definition.masks ≡ length table.now.events }
+    requires table { is_grammar rules.now.definition.formula ≡ false }
+    ensures many { IfOk result (λ families. length families.items ≡ length table.now.events) }
+    ensures each { IfOk result (λ families. (letter : ℕ) → IfSome (slice_get (map (λ f. f.items) families.items) letter) (IsFamily (rules_meaning rules.now.definition) letter)) }
 {
     let mut families = Vec::new(alloc);
-    for letter in 0..loaded.titles.table.letters() {
-        let family = family_of(&loaded.rules, Letter(letter))?;
+    for letter in 0..table.letters() {
+        let family = family_of(rules, Letter(letter))?;
         families.push(family)?;
     }
     Ok(families)

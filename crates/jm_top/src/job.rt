@@ -89,7 +89,7 @@ fn checked<F: Folder>(alloc: Global, specs: &[String], files: &mut F) -> Result<
     ensures read_failed { (file : ℕ) → result ≡ Err (Status.ReadFailed file) → HasRisen (F.faults files.old) (F.faults files.new) }
 {
     let library = read_specifications(alloc, specs, false, files)?;
-    let text = declared(alloc, library.specs.as_slice())?;
+    let text = declared(alloc, &library.catalog, library.specs.as_slice())?;
     Ok(text)
 }
 
@@ -101,7 +101,7 @@ fn coenabled<F: Folder>(alloc: Global, specs: &[String], files: &mut F) -> Resul
     ensures read_failed { (file : ℕ) → result ≡ Err (Status.ReadFailed file) → HasRisen (F.faults files.old) (F.faults files.new) }
 {
     let library = read_specifications(alloc, specs, true, files)?;
-    let text = families(alloc, library.specs.as_slice())?;
+    let text = families(alloc, &library.catalog, library.specs.as_slice())?;
     Ok(text)
 }
 

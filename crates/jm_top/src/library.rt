@@ -10,11 +10,12 @@ ghost use Rattle.jm_top.specs.Sources.{Named, Gives};
 ghost use Rattle.jm_top.specs.Specifications.{Specification, most_bytes};
 ghost use Rattle.jm_top.specs.Scripts.{catalog_of};
 ghost use Rattle.jm_top.specs.Inputs.{IsRefusal};
-ghost use Rattle.jm_top.specs.Reading.{IsWhole, specs_in, IsCatalogued, HasNext, HasNextFrom, IsLibraryOf};
+ghost use Rattle.jm_top.specs.Reading.{IsWhole, named_entry, listing, listed_in, specs_in, IsCatalogued, HasNext, HasNextFrom, IsLibraryOf};
 ghost use Rattle.jm_top.specs.Causes.{IsNoSpec, IsNoSpecIn, StopsSpecs};
 
-use crate::specification::{Loaded, read_specification};
+use crate::specification::{Loaded, Reading, read_specification};
 use crate::status::{MOST_BYTES, Status};
+use jm_events::EventTable;
 use jm_model::{SpecError, SpecFault};
 use jm_port::{Folder, LoadFault};
 use jm_script::Catalog;
@@ -40,18 +41,17 @@ impl Library {
     }
 
     /// Adds a specification. The fault is `DuplicateSpec` where one has its name.
-    fn add(&mut self, loaded: Loaded) -> Result<(), SpecError>
+    fn add(&mut self, name: &str, table: EventTable, loaded: Loaded) -> Result<(), SpecError>
         requires few { length self.old.specs.items < 16 }
         requires catalogued { IsCatalogued self.old }
-        requires whole { IsWhole loaded }
-        ensures specs { OnOk result (self.new.specs.items ≡ self.old.specs.items ++ loaded ∷ []) }
+        requires whole { IsWhole (listing (named_entry name.now table) loaded) }
+        ensures listed { OnOk result (listed_in self.new ≡ listed_in self.old ++ listing (named_entry name.now table) loaded ∷ []) }
         ensures catalogued { OnOk result (IsCatalogued self.new) }
-        ensures new_name { OnOk result (number_of (spec_names (catalog_of (specs_in self.old))) (string_bytes loaded.titles.name) ≡ None) }
+        ensures new_name { OnOk result (number_of (spec_names (catalog_of (specs_in self.old))) name.now ≡ None) }
         ensures fault { (fault : SpecFault) → result ≡ Err (SpecError.Bad fault) →
-            (fault ≡ SpecFault.DuplicateSpec) × IsSome (number_of (spec_names (catalog_of (specs_in self.old))) (string_bytes loaded.titles.name)) }
+            (fault ≡ SpecFault.DuplicateSpec) × IsSome (number_of (spec_names (catalog_of (specs_in self.old))) name.now) }
     {
-        let table = loaded.titles.table.copy()?;
-        self.catalog.add(loaded.titles.name.as_str(), table)?;
+        self.catalog.add(name, table)?;
         self.specs.push(loaded)?;
         Ok(())
     }
@@ -192,9 +192,14 @@ fn admit(
     ensures read { OnOk result (HasNext families bytes.now library.old library.new) }
     ensures fault { (fault : SpecFault) → result ≡ Err (SpecError.Bad fault) → IsRefusal families (specs_in library.old) bytes.now fault }
 {
-    let loaded = read_specification(alloc, bytes)?;
+    let reading = read_specification(alloc, bytes)?;
+    let Reading {
+        name,
+        table,
+        loaded,
+    } = reading;
     has_families(families, &loaded)?;
-    library.add(loaded)
+    library.add(name, table, loaded)
 }
 
 /// Refuses a grammar, where families are asked for: it has none.

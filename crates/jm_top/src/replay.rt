@@ -5,7 +5,7 @@ ghost use Rattle.jm_model.specs.declared.step.Entry.{Entry};
 ghost use Rattle.jm_core.specs.Steps.{IsFitStep};
 ghost use Rattle.jm_script.specs.Projections.{steps_in};
 ghost use Rattle.jm_print.specs.Texts.{IsPrintable};
-ghost use Rattle.jm_top.specs.Reading.{specs_in, IsCatalogued, AreCounted, title_lexicon};
+ghost use Rattle.jm_top.specs.Reading.{named_entry, specs_in, IsCatalogued, AreCounted, title_lexicon};
 ghost use Rattle.jm_top.specs.Histories.{IsTextOfHistories};
 ghost use Rattle.jm_top.specs.Replays.{IsReplayOf, IsPrintedReplay};
 
@@ -13,7 +13,7 @@ use crate::library::Library;
 use crate::scripts::Scripts;
 use crate::specification::{Loaded, Titles};
 use jm_core::Prop;
-use jm_events::Names;
+use jm_events::{EventTable, Names};
 use jm_model::{Monitor, NoMemory, Step};
 use jm_print::render_history;
 use jm_script::project_in_blocks;
@@ -31,28 +31,37 @@ pub(crate) fn replay(alloc: Global, library: Library, scripts: Scripts) -> Resul
     let Scripts { list, objects, .. } = scripts;
     let own = project_in_blocks(alloc, &list[0], 0)?;
     drop(list);
-    let mut specs = library.specs;
+    let Library { mut specs, catalog } = library;
     let Some(loaded) = specs.pop() else {
         unreachable!()
     };
-    replay_own(alloc, loaded, own, &objects)
+    replay_own(
+        alloc,
+        catalog.name(0),
+        catalog.table(0),
+        loaded,
+        own,
+        &objects,
+    )
 }
 
 /// The printed history of these steps of a specification.
 fn replay_own(
     alloc: Global,
+    name: &str,
+    table: &EventTable,
     loaded: Loaded,
     own: Vec<Vec<(u32, Step)>>,
     objects: &Names,
 ) -> Result<Vec<u8>, NoMemory>
     requires steps { All (λ step. IsFitStep (rules_meaning loaded.rules.definition) (length objects.now) step.1) (steps_in own.items) }
     requires printable { (h : List Entry) → IsReplayOf (rules_meaning loaded.rules.definition) (steps_in own.items) h
-        → All (IsPrintable (title_lexicon objects.now loaded.titles)) h }
+        → All (IsPrintable (title_lexicon objects.now (record { entry = named_entry name.now table.now; titles = loaded.titles }))) h }
     ensures { IfOk result (λ text. IsPrintedReplay (rules_meaning loaded.rules.definition) (steps_in own.items)
-        (title_lexicon objects.now loaded.titles) text.items) }
+        (title_lexicon objects.now (record { entry = named_entry name.now table.now; titles = loaded.titles })) text.items) }
 {
     let Loaded { titles, rules } = loaded;
-    history_of(alloc, rules, own, &titles, objects)
+    history_of(alloc, rules, own, name, table, &titles, objects)
 }
 
 /// The printed history of these steps of one caller, by these rules.
@@ -60,22 +69,24 @@ fn history_of<M: Monitor>(
     alloc: Global,
     rules: M,
     blocks: Vec<Vec<(u32, Step)>>,
+    name: &str,
+    table: &EventTable,
     titles: &Titles,
     objects: &Names,
 ) -> Result<Vec<u8>, NoMemory>
     requires steps { All (λ step. IsFitStep (M.meaning (M.definition rules)) (length objects.now) step.1) (steps_in blocks.items) }
     requires printable { (h : List Entry) → IsReplayOf (M.meaning (M.definition rules)) (steps_in blocks.items) h
-        → All (IsPrintable (title_lexicon objects.now titles.now)) h }
+        → All (IsPrintable (title_lexicon objects.now (record { entry = named_entry name.now table.now; titles = titles.now }))) h }
     ensures { IfOk result (λ text. IsPrintedReplay (M.meaning (M.definition rules)) (steps_in blocks.items)
-        (title_lexicon objects.now titles.now) text.items) }
+        (title_lexicon objects.now (record { entry = named_entry name.now table.now; titles = titles.now })) text.items) }
 {
     let prop = replayed(alloc, rules, blocks, objects.len())?;
     let history = prop.into_history();
     render_history(
         alloc,
-        titles.name.as_str(),
+        name,
         &history,
-        &titles.table,
+        table,
         &titles.handlers,
         titles.texts.as_slice(),
         objects,

@@ -13,6 +13,7 @@ use jm_dispatch::Watch;
 use jm_machine::Rules;
 use jm_model::NoMemory;
 use jm_runner::{Gate, Running, run_scripts};
+use jm_script::Catalog;
 use std::alloc::Global;
 use std::sync::Wait;
 use std::thread::Threads;
@@ -34,6 +35,7 @@ pub(crate) fn run<R: Threads + Wait + Sync, G: Gate>(
     let runs = run_all(rt, alloc, library, scripts, gate)?;
     histories_text(
         alloc,
+        &runs.catalog,
         runs.titles.as_slice(),
         runs.props.as_slice(),
         &scripts.objects,
@@ -55,12 +57,13 @@ pub(crate) fn run_in_short<R: Threads + Wait + Sync, G: Gate>(
     ensures { IfOk result (λ text. IsTextOfSummaries (specs_in library) scripts.now.list.items text.items) }
 {
     let runs = run_all(rt, alloc, library, scripts, gate)?;
-    summaries_text(alloc, runs.titles.as_slice(), runs.props.as_slice())
+    summaries_text(alloc, &runs.catalog, runs.props.as_slice())
 }
 
-/// The titles of each specification, and its core after the run.
+/// The catalog of the specifications, the titles of each, and its core after the run.
 #[derive(Drop)]
 pub(crate) struct Runs {
+    pub catalog: Catalog,
     pub titles: Vec<Titles>,
     pub props: Vec<Prop<Rules>>,
 }
@@ -77,13 +80,19 @@ pub(crate) fn run_all<R: Threads + Wait + Sync, G: Gate>(
     requires scripts { (1 ≤ length scripts.now.list.items) × (length scripts.now.list.items ≤ 16) }
     requires catalogued { IsCatalogued library }
     requires counted { AreCounted (specs_in library) scripts.now }
-    ensures { IfOk result (λ runs. AreRunsOf library.specs.items scripts.now.list.items runs.titles.items runs.props.items) }
+    ensures catalog { IfOk result (λ runs. runs.catalog ≡ library.catalog) }
+    ensures ran { IfOk result (λ runs. AreRunsOf library.specs.items scripts.now.list.items runs.titles.items runs.props.items) }
 {
+    let Library { specs, catalog } = library;
     let seats = scripts.list.len() as u32;
-    let made = dispatchers(alloc, library.specs, scripts.objects.len(), seats)?;
+    let made = dispatchers(alloc, specs, scripts.objects.len(), seats)?;
     let Watched { titles, watches } = made;
     let props = run_scripts(rt, alloc, watches, scripts.list.as_slice(), gate)?;
-    Ok(Runs { titles, props })
+    Ok(Runs {
+        catalog,
+        titles,
+        props,
+    })
 }
 
 /// The titles of each specification, and its dispatcher with a seat for each script.

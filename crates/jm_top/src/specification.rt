@@ -1,5 +1,5 @@
 //! Reading a specification: from bytes to rules that run.
-ghost use Rattle.std.specs.Prelude.{◌≡◌, ◌<◌, ◌≤◌, ◌^◌, ◌-◌, [], ◌∷◌, length, slice_range, IfOk, IfErr, string_bytes};
+ghost use Rattle.std.specs.Prelude.{◌≡◌, ◌<◌, ◌≤◌, ◌^◌, ◌-◌, [], ◌∷◌, length, slice_range, IfOk, IfErr};
 ghost use Rattle.jm_text.specs.Spans.{LieWithin};
 ghost use Rattle.jm_model.specs.declared.fault.SpecFault.{SpecFault};
 ghost use Rattle.jm_top.specs.Specifications.{IsSpecFault, BlocksSay, most_bytes};
@@ -14,12 +14,10 @@ use jm_spec::{Logic, SpecTree, read_spec};
 use jm_text::{Token, tokens};
 use std::alloc::Global;
 
-/// What a specification declares beside its rules: its name, its parameters and events, its logic and the line of that word,
-/// whether it is for full bindings alone, the categories of its handlers and what they print.
+/// What is kept of a specification beside its rules and what its catalog has: its logic and the line of that word, whether it
+/// is for full bindings alone, the categories of its handlers and what they print.
 #[derive(Drop)]
 pub(crate) struct Titles {
-    pub name: String,
-    pub table: EventTable,
     pub logic: Logic,
     pub logic_line: u32,
     pub full_binding: bool,
@@ -27,15 +25,26 @@ pub(crate) struct Titles {
     pub texts: Vec<Handler>,
 }
 
-/// A specification that was read.
+/// What is kept of a specification beside what its catalog has.
 #[derive(Drop)]
 pub(crate) struct Loaded {
     pub titles: Titles,
     pub rules: Rules,
 }
 
+/// A specification that was read: its name, its parameters and events, and what is kept beside them.
+#[derive(Drop)]
+pub(crate) struct Reading<'a> {
+    pub name: &'a str,
+    pub table: EventTable,
+    pub loaded: Loaded,
+}
+
 /// The specification that the bytes say. The fault is that of the first step that has one.
-pub(crate) fn read_specification(alloc: Global, bytes: &[u8]) -> Result<Loaded, SpecError>
+pub(crate) fn read_specification<'a>(
+    alloc: Global,
+    bytes: &'a [u8],
+) -> Result<Reading<'a>, SpecError>
     requires { length bytes.now ≤ most_bytes }
     ensures ok { IfOk result (IsRead bytes.now) }
     ensures err { (fault : SpecFault) → result ≡ Err (SpecError.Bad fault) → IsSpecFault bytes.now fault }
@@ -44,8 +53,9 @@ pub(crate) fn read_specification(alloc: Global, bytes: &[u8]) -> Result<Loaded, 
     let tree = read_spec(alloc, bytes, tokens.as_slice())?;
     let rules = Rules::compile(alloc, bytes, tokens.as_slice(), &tree)?;
     let texts = handlers_of(alloc, bytes, tokens.as_slice(), &tree)?;
-    let names = names_of(alloc, name_of(bytes, tree.name), rules.handlers())?;
-    Ok(load(names, tree, rules, texts))
+    let handlers = copy_of(alloc, rules.handlers())?;
+    let name = name_of(bytes, tree.name);
+    Ok(put_together(name, handlers, tree, rules, texts))
 }
 
 /// What the blocks of the handlers say.
@@ -77,49 +87,36 @@ fn block_of(tokens: &[Token], first: u32, last: u32) -> &[Token]
     &tokens[first..last]
 }
 
-/// Puts together what is kept of a specification.
-fn load(names: SpecNames, tree: SpecTree, rules: Rules, texts: Vec<Handler>) -> Loaded
-    ensures name { result.titles.name ≡ names.name }
-    ensures table { result.titles.table ≡ tree.table }
-    ensures logic { result.titles.logic ≡ tree.logic }
-    ensures logic_line { result.titles.logic_line ≡ tree.logic_line }
-    ensures full_binding { result.titles.full_binding ≡ tree.full_binding }
-    ensures handlers { result.titles.handlers ≡ names.handlers }
-    ensures texts { result.titles.texts.items ≡ texts.items }
-    ensures rules { result.rules ≡ rules }
+/// Puts together what was read of a specification.
+fn put_together<'a>(
+    name: &'a str,
+    handlers: Names,
+    tree: SpecTree,
+    rules: Rules,
+    texts: Vec<Handler>,
+) -> Reading<'a>
+    ensures name { result.name.now ≡ name.now }
+    ensures table { result.table ≡ tree.table }
+    ensures logic { result.loaded.titles.logic ≡ tree.logic }
+    ensures logic_line { result.loaded.titles.logic_line ≡ tree.logic_line }
+    ensures full_binding { result.loaded.titles.full_binding ≡ tree.full_binding }
+    ensures handlers { result.loaded.titles.handlers ≡ handlers }
+    ensures texts { result.loaded.titles.texts.items ≡ texts.items }
+    ensures rules { result.loaded.rules ≡ rules }
 {
-    let SpecNames { name, handlers } = names;
     let titles = Titles {
-        name,
-        table: tree.table,
         logic: tree.logic,
         logic_line: tree.logic_line,
         full_binding: tree.full_binding,
         handlers,
         texts,
     };
-    Loaded { titles, rules }
-}
-
-/// The names of a specification: its own, and those of its handlers' categories.
-#[derive(Drop)]
-struct SpecNames {
-    name: String,
-    handlers: Names,
-}
-
-/// Copies the names of a specification.
-fn names_of(alloc: Global, name: &str, handlers: &Names) -> Result<SpecNames, NoMemory>
-    requires { length handlers.now ≤ 16 }
-    ensures name { IfOk result (λ n. string_bytes n.name ≡ name.now) }
-    ensures handlers { IfOk result (λ n. n.handlers ≡ handlers.now) }
-{
-    let owned = String::from_str(alloc, name)?;
-    let handlers = copy_of(alloc, handlers)?;
-    Ok(SpecNames {
-        name: owned,
-        handlers,
-    })
+    let loaded = Loaded { titles, rules };
+    Reading {
+        name,
+        table: tree.table,
+        loaded,
+    }
 }
 
 /// The same names.

@@ -7,5 +7,5 @@ use Rattle.jm_top.proofs.blocks.families_of.Given as goal
 abbrev pub invariant-loop-letter : goal.invariant-loop-letter
 invariant-loop-letter l = record {
   many : length l.families.items ≡ l.letter;
-  each : (k : ℕ) → IfSome (slice_get (map (λ f. f.items) l.families.items) k) (IsFamily (rules_meaning l.loaded.rules.definition) k);
+  each : (k : ℕ) → IfSome (slice_get (map (λ f. f.items) l.families.items) k) (IsFamily (rules_meaning l.rules.definition) k);
 }

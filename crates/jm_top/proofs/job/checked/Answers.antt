@@ -9,8 +9,11 @@ returns-in_err-library-clause-caused g c =
     let p = err_from_is_err_and c.from_residual.result c.from_residual.ensures.1 in
     rw (p.1, p.2) (check_stops (g.F.Folder.holds c.args.files.now) (map string_bytes c.args.specs.now) _ c.in_err-library.ensures.err)
 
-pub declared-requires : goal.declared-requires
-declared-requires g c = rw c.as_slice.ensures.value c.in_ok-library.ensures.read.catalogued.kept
+pub declared-requires-clause-many : goal.declared-requires-clause-many
+declared-requires-clause-many g c = rw c.as_slice.ensures.value c.in_ok-library.ensures.read.catalogued.many
+
+pub declared-requires-clause-whole : goal.declared-requires-clause-whole
+declared-requires-clause-whole g c = rw c.as_slice.ensures.value c.in_ok-library.ensures.read.catalogued.kept
 
 pub returns-in_err-text-clause-caused : goal.returns-in_err-text-clause-caused
 returns-in_err-text-clause-caused g c =

@@ -10,6 +10,9 @@ returns-in_err-library-clause-caused g c =
     let p = err_from_is_err_and c.from_residual.result c.from_residual.ensures.1 in
     rw (p.1, p.2) (coenable_stops (g.F.Folder.holds c.args.files.now) (map string_bytes c.args.specs.now) _ c.in_err-library.ensures.err)
 
+pub families-requires-clause-many : goal.families-requires-clause-many
+families-requires-clause-many g c = rw c.as_slice.ensures.value c.in_ok-library.ensures.read.catalogued.many
+
 pub families-requires-clause-whole : goal.families-requires-clause-whole
 families-requires-clause-whole g c = rw c.as_slice.ensures.value c.in_ok-library.ensures.read.catalogued.kept
 

@@ -17,8 +17,8 @@ run_scripts-requires-clause-ready g c = λ words bounds s r at.
     let seats : c.len-seats.result ≡ length c.args.scripts.now.list.items = omega (arith, c.len-seats.ensures, c.args.scripts.now.list.ok.0) in
     rw c.as_slice.ensures.value (ready_at (λ r. r.watch) (λ r. r.seats.items) c.len.result c.len-seats.result c.args.library c.args.scripts.now c.requires.catalogued c.requires.counted c.len.ensures.value seats c.in_ok-made.made.watches.items c.in_ok-made.ensures.watches s r at)
 
-pub returns : goal.returns
-returns g c =
+pub returns-clause-ran : goal.returns-clause-ran
+returns-clause-ran g c =
     let many : length c.in_ok-props.props.items ≡ length c.in_ok-made.made.watches.items = omega (arith, c.in_ok-props.ensures.count, c.in_ok-props.props.ok.0, c.in_ok-made.made.watches.ok.0) in
     runs_from (λ r. r.watch) (λ r. r.seats.items) c.len.result c.len-seats.result c.args.library.specs.items c.args.scripts.now.list.items c.in_ok-made.made.titles.items c.in_ok-props.props.items c.in_ok-made.made.watches.items c.in_ok-made.ensures.titles many c.in_ok-made.ensures.watches
     (rw c.as_slice.ensures.value at c.in_ok-props.ensures.runs)

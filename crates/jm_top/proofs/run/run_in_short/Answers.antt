@@ -1,12 +1,17 @@
+use Rattle.std.proofs.Common.{◌∙◌}
 use Rattle.jm_top.proofs.HistoryLemmas.{made_text}
-use Rattle.jm_top.proofs.RunLemmas.{runs_many, runs_summaries}
+use Rattle.jm_top.proofs.RunLemmas.{runs_many, runs_titled, runs_summaries}
 use Rattle.jm_top.proofs.run.run_in_short.Goals as goal
 
 pub summaries_text-requires : goal.summaries_text-requires
-summaries_text-requires g c = rw (c.as_slice.ensures.value, c.as_slice-2.ensures.value) (runs_many c.args.library c.args.scripts.now c.in_ok-runs.runs.titles.items c.in_ok-runs.runs.props.items c.in_ok-runs.ensures)
+summaries_text-requires g c =
+    let titles = c.in_ok-runs.runs.titles.items in
+    let props = c.in_ok-runs.runs.props.items in
+    rw (c.as_slice.ensures.value, c.in_ok-runs.ensures.catalog)
+    (runs_titled c.args.library c.args.scripts.now titles props c.requires.catalogued c.in_ok-runs.ensures.ran ∙ runs_many c.args.library c.args.scripts.now titles props c.in_ok-runs.ensures.ran)
 
 pub returns : goal.returns
 returns g c =
     made_text (λ text. text.items) _ _ c.summaries_text.result
-    (runs_summaries c.args.library c.args.scripts.now c.requires.catalogued c.requires.counted c.in_ok-runs.runs.titles.items c.in_ok-runs.runs.props.items c.in_ok-runs.ensures)
-    (rw (c.as_slice.ensures.value, c.as_slice-2.ensures.value) at c.summaries_text.ensures)
+    (runs_summaries c.args.library c.args.scripts.now c.requires.catalogued c.requires.counted c.in_ok-runs.runs.titles.items c.in_ok-runs.runs.props.items c.in_ok-runs.ensures.ran)
+    (rw (c.as_slice.ensures.value, c.in_ok-runs.ensures.catalog) at c.summaries_text.ensures)

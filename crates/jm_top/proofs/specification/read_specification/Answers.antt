@@ -1,5 +1,4 @@
-use Rattle.std.proofs.Common.{length, sym, ◌∙◌, ap, subst, arith}
-use Rattle.std.specs.Prelude.{string_bytes}
+use Rattle.std.proofs.Common.{length, sym, ◌∙◌, subst, arith}
 use Rattle.std.proofs.lemmas.Result.{err_from_is_err_and}
 use Rattle.jm_text.specs.Tokens.{IsFaultOf}
 use Rattle.jm_top.specs.Specifications.{no_tokens, in_frame}
@@ -41,6 +40,6 @@ returns-clause-ok c =
     let told = rw c.as_slice.ensures.value at c.in_ok-tree.ensures.ok in
     let say = rw c.as_slice-3.ensures.value at c.in_ok-texts.ensures.ok in
     let compiled = rw c.as_slice-2.ensures.value at c.in_ok-rules.ensures.ok in
-    read_of c.args.bytes.now c.in_ok-tokens.tokens.items c.requires c.in_ok-tokens.ensures.ok c.in_ok-tree.tree c.load.result c.in_ok-rules.rules c.in_ok-texts.texts.items told compiled
-    c.in_ok-rules.ensures.fit c.in_ok-rules.ensures.few say c.load.ensures.rules c.load.ensures.texts (ap string_bytes c.load.ensures.name ∙ c.in_ok-names.ensures.name ∙ c.name_of.ensures)
-    c.load.ensures.table (c.load.ensures.handlers ∙ c.in_ok-names.ensures.handlers ∙ c.handlers.ensures) c.load.ensures.logic c.load.ensures.logic_line c.load.ensures.full_binding
+    read_of c.args.bytes.now c.in_ok-tokens.tokens.items c.requires c.in_ok-tokens.ensures.ok c.in_ok-tree.tree c.put_together.result c.in_ok-rules.rules c.in_ok-texts.texts.items told compiled
+    c.in_ok-rules.ensures.fit c.in_ok-rules.ensures.few say c.put_together.ensures.rules c.put_together.ensures.texts (c.put_together.ensures.name ∙ c.name_of-name.ensures)
+    c.put_together.ensures.table (c.put_together.ensures.handlers ∙ c.in_ok-handlers.ensures ∙ c.handlers.ensures) c.put_together.ensures.logic c.put_together.ensures.logic_line c.put_together.ensures.full_binding
