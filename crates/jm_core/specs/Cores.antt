@@ -15,8 +15,8 @@ use Rattle.jm_semantics.specs.Histories.{trace_of, is_dead}
 use Rattle.jm_semantics.specs.Instances.{IsInstance}
 use Rattle.jm_semantics.specs.Disposal.{IsCut}
 
--- What a core is seen as: what its specification means, as plain data, how many objects there are, its history, and what it
--- keeps in memory beside the history: the bindings that have a monitor, and the marks.
+-- What a core is seen as: what its specification means, as plain data, how many objects there are, its history, and
+-- what it keeps in memory beside the history: the bindings that have a monitor, and the marks.
 pub record Core (D : Type 0) : Type 0 where
   pub definition : D
   pub objects : ℕ
@@ -65,13 +65,13 @@ IsTidyAfter m h stored marks (Event e b) (Fired firings) = NoneCut m h stored b
 IsTidyAfter m h stored marks Pass (Kept n) = IsSwept m h stored marks
 IsTidyAfter m h stored marks _ _ = Unit {0}
 
--- Directly after an event that was answered, no binding above the event's that is stored is cut. Directly after a pass, the
--- memory is swept.
+-- Directly after an event that was answered, no binding above the event's that is stored is cut. Directly after a pass,
+-- the memory is swept.
 abbrev pub IsTidy : Meaning → List Entry → List Binding → List Binding → Type 0
 IsTidy m h stored marks = MatchOption (last_of h) (Unit {0}) (λ x. IsTidyAfter m h stored marks x.step x.outcome)
 
--- What is kept in memory fits the history: stored are distinct instances, and each other instance is cut, so that no later
--- outcome names it. Each mark was seen, and each seen binding with a live object is a mark.
+-- What is kept in memory fits the history: stored are distinct instances, and each other instance is cut, so that no
+-- later outcome names it. Each mark was seen, and each seen binding with a live object is a mark.
 pub record FitsHistory (m : Meaning) (h : List Entry) (stored marks : List Binding) : Type 0 where
   pub distinct : AllPairs (λ t u. t ≢ u) stored
   pub instances : (t : Binding) → Contains stored t → IsInstance (trace_of h) t

@@ -22,9 +22,10 @@ use Rattle.jm_core.specs.Cores.{IsTidy}
 abbrev pub instances_of : {S : Type 0} → List (Stored S) → List Binding
 instances_of monitors = map (λ s. s.instance) monitors
 
--- The history is legal, and the flags of objects are those of its dead ones. The store fits the objects, has no open plan,
--- and is one of the history's events and dead objects.
-pub record IsCore (m : Meaning) {S : Type 0} (Stands : S → List ℕ → Type 0) (h : List Entry) (dead : List Bool) (store : Contents S) : Type 0 where
+-- The history is legal, and the flags of objects are those of its dead ones. The store fits the objects, has no open
+-- plan, and is one of the history's events and dead objects.
+pub record IsCore (m : Meaning) {S : Type 0} (Stands : S → List ℕ
+    → Type 0) (h : List Entry) (dead : List Bool) (store : Contents S) : Type 0 where
   pub legal : IsLegal m h
   pub flags : AreFlagsOf h dead
   pub closed : store.is_open ≡ false
@@ -37,23 +38,31 @@ abbrev pub first_dead_by : List Bool → Binding → Option ℕ
 first_dead_by dead b = find (is_dead_object dead) (objects_of b)
 
 -- monitors and marks are as before, and the contents are still a store of the trace
-pub record IsUntouched (m : Meaning) {S : Type 0} (Stands : S → List ℕ → Type 0) (trace : List ParametricEvent) (dead : List Bool) (before after : Contents S) : Type 0 where
+pub record IsUntouched (m : Meaning) {S : Type 0} (Stands : S → List ℕ
+    → Type 0) (trace : List ParametricEvent) (dead : List Bool) (before after : Contents S) : Type 0 where
   pub stored : stored_of after ≡ stored_of before
   pub marks : after.marks ≡ before.marks
   pub holds : IsStoreAfter m Stands trace dead after
 
 -- the contents are a store of the trace with the event a, in which no monitor above its binding is cut
-pub record IsMoved (m : Meaning) {S : Type 0} (Stands : S → List ℕ → Type 0) (trace : List ParametricEvent) (dead : List Bool) (a : ParametricEvent) (after : Contents S) : Type 0 where
+pub record IsMoved (m : Meaning) {S : Type 0} (Stands : S → List ℕ
+    → Type 0) (trace : List ParametricEvent) (dead : List Bool) (a : ParametricEvent)
+    (after : Contents S) : Type 0 where
   pub holds : IsStoreAfter m Stands (trace ++ a ∷ []) dead after
   pub none_cut : NoneCutAbove m Stands a.binding dead (stored_of after)
 
 -- what an event comes to in a store
-abbrev pub IsOutcomeOf : Meaning → {S : Type 0} → (S → List ℕ → Type 0) → List ParametricEvent → List Bool → ParametricEvent → Contents S → Contents S → Outcome → Type 0
-IsOutcomeOf m Stands trace dead a before after (Fired firings) = (first_dead_by dead a.binding ≡ None) × IsAnswer m trace a firings × IsMoved m Stands trace dead a after
-IsOutcomeOf m Stands trace dead a before after (Refused o) = (first_dead_by dead a.binding ≡ Some o) × IsUntouched m Stands trace dead before after
-IsOutcomeOf m Stands trace dead a before after NoMemory = (first_dead_by dead a.binding ≡ None) × IsUntouched m Stands trace dead before after
+abbrev pub IsOutcomeOf : Meaning → {S : Type 0} → (S → List ℕ → Type 0) → List ParametricEvent → List Bool
+    → ParametricEvent → Contents S → Contents S → Outcome → Type 0
+IsOutcomeOf m Stands trace dead a before after (Fired firings) =
+    (first_dead_by dead a.binding ≡ None) × IsAnswer m trace a firings × IsMoved m Stands trace dead a after
+IsOutcomeOf m Stands trace dead a before after (Refused o) =
+    (first_dead_by dead a.binding ≡ Some o) × IsUntouched m Stands trace dead before after
+IsOutcomeOf m Stands trace dead a before after NoMemory =
+    (first_dead_by dead a.binding ≡ None) × IsUntouched m Stands trace dead before after
 IsOutcomeOf m Stands trace dead a before after _ = ⊥
 
 -- the event that is known, if one is, leaves all monitors above its binding as they are
 abbrev pub IsRested : Meaning → {S : Type 0} → (S → List ℕ → Type 0) → List Bool → Contents S → Rest → Type 0
-IsRested m Stands dead store rest = rest.is_known ≡ true → AreResting m Stands dead rest.letter.0 rest.binding (stored_of store) store.marks
+IsRested m Stands dead store rest =
+    rest.is_known ≡ true → AreResting m Stands dead rest.letter.0 rest.binding (stored_of store) store.marks

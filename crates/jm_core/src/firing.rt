@@ -15,8 +15,8 @@ use std::alloc::Global;
 use std::marker::Brand;
 use std::sync::ledger::{Blank, Ledger};
 
-/// What an event comes to, twice: it is refused where it binds a dead object, with the first one. Unless it is answered,
-/// monitors and marks stay as they are.
+/// What an event comes to, twice: it is refused where it binds a dead object, with the first one. Unless it is
+/// answered, monitors and marks stay as they are.
 pub(crate) fn perform<M: Monitor>(
     alloc: Global,
     rules: &M,
@@ -122,7 +122,8 @@ fn counted_advance<M: Monitor, L: Ledger>(
         → (s : Stored M.State) → Contains (stored_of store.new) s → Contains (stored_of store.old) s) }
     ensures works { MatchOption result (Unit {0}) (λ done. (trace : List ParametricEvent)
         → IsStoreAfter (M.meaning (M.definition rules.now)) (M.StandsFor rules.now) trace objects.now store.old
-        → IsEventDone (M.meaning (M.definition rules.now)) (M.StandsFor rules.now) trace objects.now letter.0 binding.now store.new done.answer) }
+        → IsEventDone (M.meaning (M.definition rules.now))
+        (M.StandsFor rules.now) trace objects.now letter.0 binding.now store.new done.answer) }
 {
     let mut steps = Steps::<L>::new(blank);
     store.advance_one(rules, objects, letter, binding, &mut steps)
@@ -212,7 +213,8 @@ fn counted_plan<M: Monitor, L: Ledger>(
         → IsStoreAfter (M.meaning (M.definition rules.now)) (M.StandsFor rules.now) trace objects.now store.new }
     ensures works { IfOk result (λ plan. (trace : List ParametricEvent)
         → IsStoreAfter (M.meaning (M.definition rules.now)) (M.StandsFor rules.now) trace objects.now store.old
-        → IsPlanOf (M.meaning (M.definition rules.now)) (M.StandsFor rules.now) trace objects.now letter.0 store.new plan) }
+        → IsPlanOf (M.meaning (M.definition rules.now))
+        (M.StandsFor rules.now) trace objects.now letter.0 store.new plan) }
 {
     let mut steps = Steps::<L>::new(blank);
     store.plan_as(rules, objects, letter, binding, known, &mut steps)

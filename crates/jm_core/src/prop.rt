@@ -66,7 +66,8 @@ impl<M: Monitor> Prop<M> {
         ensures objects { IfOk result (λ prop. prop.objects ≡ objects) }
         ensures entries { IfOk result (λ prop. prop.entries ≡ []) }
         ensures legal { IfOk result (λ prop. IsLegal (M.meaning prop.definition) prop.entries) }
-        ensures fits { IfOk result (λ prop. FitsHistory (M.meaning prop.definition) prop.entries prop.stored prop.marks) }
+        ensures fits { IfOk result (λ prop. FitsHistory
+            (M.meaning prop.definition) prop.entries prop.stored prop.marks) }
     {
         let objects = Objects::new(alloc, objects)?;
         let store = Store::new(alloc, &rules)?;
@@ -80,9 +81,9 @@ impl<M: Monitor> Prop<M> {
         })
     }
 
-    /// Does an event, and records it with the outcome that it answers: it is refused exactly where it binds a dead object,
-    /// with the first one. Where memory is wanting, the entry stands with NoMemory. Monitors and marks stay as they are
-    /// unless the event is answered.
+    /// Does an event, and records it with the outcome that it answers: it is refused exactly where it binds a dead
+    /// object, with the first one. Where memory is wanting, the entry stands with NoMemory. Monitors and marks stay as
+    /// they are unless the event is answered.
     pub fn event(&mut self, node: Node) -> Outcome
         requires { IsEventOf (M.meaning self.old.definition) self.old.objects node.step }
         ensures added { IsExtended self.old self.new (answered node result ∷ []) }
@@ -152,8 +153,8 @@ impl<M: Monitor> Prop<M> {
         }
     }
 
-    /// Drops the monitors of instances that can't fire any more and the marks without a live object, and records how many
-    /// monitors are kept. It takes no memory.
+    /// Drops the monitors of instances that can't fire any more and the marks without a live object, and records how
+    /// many monitors are kept. It takes no memory.
     pub fn pass(&mut self, node: Node) -> Outcome
         requires { node.step ≡ Pass }
         ensures added { IsExtended self.old self.new (answered node result ∷ []) }

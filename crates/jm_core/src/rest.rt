@@ -3,8 +3,8 @@ ghost use Rattle.std.specs.Prelude.{◌≡◌, ◌⊎◌, true, false, IsTrue};
 
 use jm_model::{Binding, Letter};
 
-/// An event, if one is known: an event that reaches many monitors and changes none of them needn't be worked out again, as long
-/// as no monitor changes.
+/// An event, if one is known: an event that reaches many monitors and changes none of them needn't be worked out again,
+/// as long as no monitor changes.
 #[derive(Drop)]
 pub(crate) struct Rest {
     is_known: bool,
@@ -46,10 +46,12 @@ impl Rest {
         self.is_known = false;
     }
 
-    /// Takes an event that was carried out, if it leaves all as it is from now on; forgets the event, unless no monitor changed.
+    /// Takes an event that was carried out, if it leaves all as it is from now on; forgets the event, unless no monitor
+    /// changed.
     pub(crate) fn follow(&mut self, rests: bool, drops: bool, letter: Letter, binding: &Binding)
         ensures { self.new.is_known ≡ true
-            → ((rests ≡ true) × (self.new.letter.0 ≡ letter.0) × (self.new.binding ≡ binding.now)) ⊎ ((drops ≡ true) × (self.new ≡ self.old)) }
+            → ((rests ≡ true) × (self.new.letter.0 ≡ letter.0) × (self.new.binding ≡ binding.now))
+            ⊎ ((drops ≡ true) × (self.new ≡ self.old)) }
     {
         if rests {
             self.is_known = true;

@@ -47,8 +47,8 @@ impl History {
         self.count
     }
 
-    /// A step of a caller, at a line of its script, as `Node::new` makes it. Where it can, it makes room for the entry in a
-    /// row of entries, which takes less memory than a link. The node has the link that is spare, if one is.
+    /// A step of a caller, at a line of its script, as `Node::new` makes it. Where it can, it makes room for the entry
+    /// in a row of entries, which takes less memory than a link. The node has the link that is spare, if one is.
     pub fn node(
         &mut self,
         alloc: Global,
@@ -71,7 +71,8 @@ impl History {
         self.push_sparing(node, outcome, &mut Spare::none());
     }
 
-    /// Adds an entry at the end, as `push` does, and keeps the node's link as a spare one where the entry goes into a row.
+    /// Adds an entry at the end, as `push` does, and keeps the node's link as a spare one where the entry goes into a
+    /// row.
     #[inline(always)]
     pub fn push_sparing(&mut self, node: Node, outcome: Outcome, spare: &mut Spare)
         ensures { self.new ≡ self.old ++ answered node outcome ∷ [] }
@@ -106,8 +107,8 @@ impl History {
         Ok(entries)
     }
 
-    /// The entries in pieces, the oldest first, lent and not copied: a piece for each row, or for each entry where they don't
-    /// stand in rows.
+    /// The entries in pieces, the oldest first, lent and not copied: a piece for each row, or for each entry where they
+    /// don't stand in rows.
     pub fn pieces(&self, alloc: Global) -> Result<Vec<&[Entry]>, NoMemory>
         ensures { IfOk result (λ pieces. flat_map (λ piece. piece.now) pieces.items ≡ self.now) }
     {
@@ -151,7 +152,8 @@ fn row_pieces<'a>(
 
 /// A piece for each entry.
 fn entry_pieces<'a>(alloc: Global, entries: &[&'a Entry]) -> Result<Vec<&'a [Entry]>, NoMemory>
-    ensures { IfOk result (λ pieces. flat_map (λ piece. piece.now) pieces.items ≡ map (λ entry. entry.now) entries.now) }
+    ensures { IfOk result (λ pieces. flat_map (λ piece. piece.now) pieces.items
+        ≡ map (λ entry. entry.now) entries.now) }
 {
     let mut pieces = Vec::new(alloc);
     for entry in entries {

@@ -24,8 +24,8 @@ impl Model for Node {
     ghost view = { λ n. record { caller = n.caller; line = n.line; step = n.step } };
 }
 
-/// The memory of a link that no entry took, for the next node. It is used again from entry to entry where one caller makes
-/// many.
+/// The memory of a link that no entry took, for the next node. It is used again from entry to entry where one caller
+/// makes many.
 #[derive(Drop)]
 pub struct Spare {
     link: Option<Box<Chain>>,

@@ -24,6 +24,7 @@ count_of what h = sum_by (λ x. weight_of what x.step x.outcome) h % 2 ^ 64
 -- the summary of a history of the specification of this name
 abbrev pub summary_text : List ℕ → List Entry → List ℕ
 summary_text name h =
-    codes "spec " ++ name ++ codes " events " ++ decimal (count_of Events h) ++ codes " fired " ++ decimal (count_of Firings h)
+    codes "spec " ++ name ++ codes " events " ++ decimal (count_of Events h) ++ codes " fired "
+    ++ decimal (count_of Firings h)
     ++ codes " refused " ++ decimal (count_of Refusals h) ++ codes " deaths " ++ decimal (count_of Deaths h)
     ++ codes " passes " ++ decimal (count_of Passes h) ++ codes "\n"

@@ -94,7 +94,8 @@ IsPrintableFiring l f = (f.handler < length l.handlers) × HasNamesFrom l 0 f.in
 
 -- a step and its outcome have names, and aren't want of memory
 abbrev pub IsPrintableStep : Lexicon → Step → Outcome → Type 0
-IsPrintableStep l (Event e b) (Fired firings) = (e.0 < length l.events) × HasNamesFrom l 0 b × All (IsPrintableFiring l) firings
+IsPrintableStep l (Event e b) (Fired firings) =
+    (e.0 < length l.events) × HasNamesFrom l 0 b × All (IsPrintableFiring l) firings
 IsPrintableStep l (Event e b) (Refused o) = (e.0 < length l.events) × HasNamesFrom l 0 b × (o < length l.objects)
 IsPrintableStep l (Death o) Done = o < length l.objects
 IsPrintableStep l (Death o) (Refused q) = (o < length l.objects) × (q < length l.objects)

@@ -10,8 +10,8 @@ use jm_model::{Letter, NoMemory};
 use jm_spec::Logic;
 use std::alloc::Global;
 
-/// What a specification declares: its name and its logic, `full-binding` where it stands, its parameters, its events with
-/// their parameters, and the categories of its handlers.
+/// What a specification declares: its name and its logic, `full-binding` where it stands, its parameters, its events
+/// with their parameters, and the categories of its handlers.
 pub fn render_check(
     alloc: Global,
     name: &str,

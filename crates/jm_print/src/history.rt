@@ -76,8 +76,8 @@ pub fn render_history(
 }
 
 impl Printer<'_> {
-    /// About how many bytes the text of these pieces has, and seldom fewer: the first entries of some of them tell, which lie
-    /// evenly among all.
+    /// About how many bytes the text of these pieces has, and seldom fewer: the first entries of some of them tell,
+    /// which lie evenly among all.
     fn estimate(&self, alloc: Global, pieces: &[&[Entry]]) -> Result<usize, NoMemory>
         requires { All (λ piece. All (IsPrintable self.now) piece.now) pieces.now }
     {
@@ -268,7 +268,8 @@ impl Printer<'_> {
     /// An event with its binding.
     fn event(&self, page: &mut Page, letter: Letter, binding: &Binding) -> Result<(), NoMemory>
         requires { (letter.0 < length self.now.events) × HasNamesFrom self.now 0 binding.now }
-        ensures { OnOk result (page.new ≡ page.old ++ name_of self.now.events letter.0 ++ codes " " ++ binding_text self.now binding.now) }
+        ensures { OnOk result (page.new
+            ≡ page.old ++ name_of self.now.events letter.0 ++ codes " " ++ binding_text self.now binding.now) }
     {
         page.text(self.table.event_name(letter))?;
         page.byte(b' ')?;
@@ -296,7 +297,8 @@ impl Printer<'_> {
     /// A parameter with its object, behind a comma where it isn't the first.
     fn pair(&self, page: &mut Page, first: bool, p: u8, object: u32) -> Result<(), NoMemory>
         requires { (p < length self.now.parameters) × (object < length self.now.objects) }
-        ensures { OnOk result (page.new ≡ page.old ++ (if first then [] else codes ",") ++ pair_text self.now p object) }
+        ensures { OnOk result (page.new
+            ≡ page.old ++ (if first then [] else codes ",") ++ pair_text self.now p object) }
     {
         if !first {
             page.byte(b',')?;

@@ -9,8 +9,10 @@ ghost use Rattle.jm_print.specs.Unmarked.{unmarked};
 /// The text determines the history: with one lexicon of names, two histories have two texts, and neither text is the
 /// front of the other's.
 pub fn text_determines_history()
-    ensures whole { (l : Lexicon) (h other : List Entry) → HasNames l → AreTold l h → AreTold l other → history_text l h ≡ history_text l other → h ≡ other }
-    ensures front { (l : Lexicon) (h other : List Entry) (s t : List ℕ) → HasNames l → AreTold l h → AreTold l other → history_text l h ++ s ≡ history_text l other ++ t → (h ≡ other) × (s ≡ t) }
+    ensures whole { (l : Lexicon) (h other : List Entry) → HasNames l → AreTold l h → AreTold l other
+        → history_text l h ≡ history_text l other → h ≡ other }
+    ensures front { (l : Lexicon) (h other : List Entry) (s t : List ℕ) → HasNames l → AreTold l h → AreTold l other
+        → history_text l h ++ s ≡ history_text l other ++ t → (h ≡ other) × (s ≡ t) }
 {}
 
 /// The lines that begin with two spaces and `>`, which are all that handlers print, can be dropped without loss: what
@@ -25,5 +27,6 @@ pub fn marked_lines_can_be_dropped()
 
 /// The texts of several specifications, one after another, split in one way.
 pub fn texts_split_in_one_way()
-    ensures { (ls : List Lexicon) (hs others : List (List Entry)) → HaveNames ls → AreToldBy ls hs → AreToldBy ls others → texts_of ls hs ≡ texts_of ls others → hs ≡ others }
+    ensures { (ls : List Lexicon) (hs others : List (List Entry)) → HaveNames ls → AreToldBy ls hs → AreToldBy ls others
+        → texts_of ls hs ≡ texts_of ls others → hs ≡ others }
 {}

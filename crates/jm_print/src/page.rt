@@ -109,7 +109,8 @@ impl Page {
         line: u32,
     ) -> Result<(), NoMemory>
         requires { AreNamed objects.now instance.now }
-        ensures { OnOk result (self.new ≡ self.old ++ handler_text (occasion instance.now objects.now caller line) handler.now) }
+        ensures { OnOk result (self.new
+            ≡ self.old ++ handler_text (occasion instance.now objects.now caller line) handler.now) }
     {
         handler.render_onto(&mut self.bytes, instance, objects, caller, line)
     }

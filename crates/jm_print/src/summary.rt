@@ -16,8 +16,8 @@ pub(crate) enum Measure {
     Passes,
 }
 
-/// The summary of a history: how many events it has, handlers ran and steps were refused, and how many deaths and passes
-/// it has, each modulo 2^64.
+/// The summary of a history: how many events it has, handlers ran and steps were refused, and how many deaths and
+/// passes it has, each modulo 2^64.
 pub fn render_summary(alloc: Global, name: &str, history: &History) -> Result<Vec<u8>, NoMemory>
     ensures { IfOk result (λ text. text.items ≡ summary_text name.now history.now) }
 {

@@ -15,19 +15,23 @@ IsStoppedBy meaning old (Bad fault) new = (meaning ≡ Err fault) × (new ≡ ol
 IsStoppedBy meaning old NoMemory new = IsExtension old new
 
 -- a line is read by its meaning: its target, and the names then
-abbrev pub IsReadAs : Result LineMeaning ScriptFault → List (List ℕ) → Result (Option Target) ScriptError → List (List ℕ) → Type 0
+abbrev pub IsReadAs : Result LineMeaning ScriptFault → List (List ℕ) → Result (Option Target) ScriptError
+    → List (List ℕ) → Type 0
 IsReadAs meaning old (Ok target) new = meaning ≡ Ok (record { target = target; names = new })
 IsReadAs meaning old (Err error) new = IsStoppedBy meaning old error new
 
--- a script is read by its meaning: no line has a fault, these are its steps, the names and how many steps there are then
-pub record IsWhole (meaning : ScriptMeaning) (count : ℕ) (script : List ScriptLine) (names : List (List ℕ)) (count_then : ℕ) : Type 0 where
+-- a script is read by its meaning: no line has a fault, these are its steps, the names and how many steps there are
+-- then
+pub record IsWhole (meaning : ScriptMeaning) (count : ℕ) (script : List ScriptLine) (names : List (List ℕ))
+    (count_then : ℕ) : Type 0 where
   pub sound : meaning.fault ≡ None
   pub lines : script ≡ meaning.lines
   pub named : names ≡ meaning.names
   pub counted : count_then ≡ count + length script
 
 -- this is the first fault of the script's first line that has one, and what the lines before it left
-pub record IsRefused (meaning : ScriptMeaning) (count : ℕ) (fault : ScriptFault) (names : List (List ℕ)) (count_then : ℕ) : Type 0 where
+pub record IsRefused (meaning : ScriptMeaning) (count : ℕ) (fault : ScriptFault) (names : List (List ℕ))
+    (count_then : ℕ) : Type 0 where
   pub first : meaning.fault ≡ Some fault
   pub named : names ≡ meaning.names
   pub counted : count_then ≡ count + length meaning.lines

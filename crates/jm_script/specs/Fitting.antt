@@ -16,7 +16,8 @@ pub record HasEvent (catalog : List CatalogEntry) (spec letter mask : ℕ) : Typ
   pub event : letter < length (table_of catalog spec).events
   pub parameters : mask ≡ mask_at (table_of catalog spec) letter
 
--- the binding gives an object that has a name, among so many, to each parameter of an event that is there, and to no other
+-- the binding gives an object that has a name, among so many, to each parameter of an event that is there, and to no
+-- other
 pub record FitsEvent (catalog : List CatalogEntry) (names spec letter : ℕ) (binding : Binding) : Type 0 where
   pub event : HasEvent catalog spec letter (mask_of binding)
   pub eight : length binding ≡ 8

@@ -11,7 +11,8 @@ use Rattle.jm_script.specs.declared.known.Known.{Known}
 -- the word has the shape `SPEC.EVENT`, and with so many objects it names this event on each line
 pub record IsEventOf (catalog : List CatalogEntry) (word : List ℕ) (count : ℕ) (event : NamedEvent) : Type 0 where
   pub shape : (is_name (before_first is_dot word) && is_name (after_first is_dot word)) ≡ true
-  pub named : (line : ℕ) → named_event catalog line (before_first is_dot word) (after_first is_dot word) count ≡ Ok event
+  pub named : (line : ℕ) → named_event catalog line (before_first is_dot word) (after_first is_dot word) count
+      ≡ Ok event
   pub there : HasEvent catalog event.spec event.letter.0 event.mask
   pub few : count ≤ 8
   pub counted : count ≡ count_ones event.mask

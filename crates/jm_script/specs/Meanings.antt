@@ -26,7 +26,8 @@ mentioning line names objects target_of =
     else Err (TooManyObjects line)
 
 -- an event line, of the event that it names
-abbrev pub event_meaning : ℕ → List (List ℕ) → List (List ℕ) → Result NamedEvent ScriptFault → Result LineMeaning ScriptFault
+abbrev pub event_meaning : ℕ → List (List ℕ) → List (List ℕ) → Result NamedEvent ScriptFault
+    → Result LineMeaning ScriptFault
 event_meaning line names objects (Err fault) = Err fault
 event_meaning line names objects (Ok event) =
     mentioning line names objects (λ numbers. target.Event event.spec event.letter (spread 8 event.mask numbers))
@@ -40,11 +41,13 @@ pass_meaning line names (Some spec) = Ok (record { target = Some (target.Pass sp
 abbrev pub step_meaning : List CatalogEntry → ℕ → List (List ℕ) → Statement → Result LineMeaning ScriptFault
 step_meaning catalog line names (Event spec event objects) =
     event_meaning line names objects (named_event catalog line spec event (length objects))
-step_meaning catalog line names (Death object) = mentioning line names (object ∷ []) (λ numbers. target.Death (slice_index numbers 0))
+step_meaning catalog line names (Death object) =
+    mentioning line names (object ∷ []) (λ numbers. target.Death (slice_index numbers 0))
 step_meaning catalog line names (Pass spec) = pass_meaning line names (number_of (spec_names catalog) spec)
 
 -- a line with words, after `count` steps of all scripts
-abbrev pub statement_meaning : List CatalogEntry → ℕ → ℕ → List (List ℕ) → Option Statement → Result LineMeaning ScriptFault
+abbrev pub statement_meaning : List CatalogEntry → ℕ → ℕ → List (List ℕ) → Option Statement
+    → Result LineMeaning ScriptFault
 statement_meaning catalog count line names None = Err (BadLine line)
 statement_meaning catalog count line names (Some statement) =
     if nat_lt count 200000 then step_meaning catalog line names statement else Err (TooManyLines line)
@@ -52,7 +55,8 @@ statement_meaning catalog count line names (Some statement) =
 -- a line of these words; one without words is no step
 abbrev pub words_meaning : List CatalogEntry → ℕ → ℕ → List (List ℕ) → List (List ℕ) → Result LineMeaning ScriptFault
 words_meaning catalog count line names [] = Ok (record { target = None; names = names })
-words_meaning catalog count line names (word ∷ words) = statement_meaning catalog count line names (statement_of word words)
+words_meaning catalog count line names (word ∷ words) =
+    statement_meaning catalog count line names (statement_of word words)
 
 -- what a line means, by its bytes and its number, after `count` steps of all scripts; or its first fault
 unfoldable pub line_meaning : List CatalogEntry → ℕ → ℕ → List ℕ → List (List ℕ) → Result LineMeaning ScriptFault
@@ -76,7 +80,8 @@ steps_of None = 0
 steps_of (Some target) = 1
 
 -- a line and what follows it, which is told how many steps and which names there are then; a fault ends the script
-abbrev pub led_by : ℕ → ℕ → List (List ℕ) → Result LineMeaning ScriptFault → (ℕ → List (List ℕ) → ScriptMeaning) → ScriptMeaning
+abbrev pub led_by : ℕ → ℕ → List (List ℕ) → Result LineMeaning ScriptFault → (ℕ → List (List ℕ) → ScriptMeaning)
+    → ScriptMeaning
 led_by line count names (Err fault) rest = record { lines = []; names = names; fault = Some fault }
 led_by line count names (Ok m) rest = with_line line m.target (rest (count + steps_of m.target) m.names)
 

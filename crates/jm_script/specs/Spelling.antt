@@ -4,7 +4,8 @@ use Rattle.std.specs.List.{list_all}
 use Rattle.jm_script.specs.Statements.{Statement, Event, Death, Pass, death_word, pass_word, is_name, is_object, statement_of}
 
 -- the words of a line spell an event with its objects: `SPEC.EVENT OBJECT..`
-pub record SpellsEvent (word : List ℕ) (words : List (List ℕ)) (spec event : List ℕ) (objects : List (List ℕ)) : Type 0 where
+pub record SpellsEvent (word : List ℕ) (words : List (List ℕ)) (spec event : List ℕ)
+    (objects : List (List ℕ)) : Type 0 where
   pub first : word ≡ spec ++ 46 ∷ event
   pub rest : words ≡ objects
   pub spec_named : is_name spec ≡ true
@@ -24,12 +25,15 @@ Spells word words (Pass spec) = SpellsOne word pass_word words spec × (is_name 
 
 -- what is spelled is read
 abbrev pub SpelledIsRead : Type 0
-SpelledIsRead = (word : List ℕ) (words : List (List ℕ)) (statement : Statement) → Spells word words statement → statement_of word words ≡ Some statement
+SpelledIsRead = (word : List ℕ) (words : List (List ℕ)) (statement : Statement) → Spells word words statement
+    → statement_of word words ≡ Some statement
 
 -- the words of a line spell at most one statement
 abbrev pub OneReading : Type 0
-OneReading = (word : List ℕ) (words : List (List ℕ)) (statement other : Statement) → Spells word words statement → Spells word words other → statement ≡ other
+OneReading = (word : List ℕ) (words : List (List ℕ)) (statement other : Statement) → Spells word words statement
+    → Spells word words other → statement ≡ other
 
 -- what is read is spelled so
 abbrev pub ReadIsSpelled : Type 0
-ReadIsSpelled = (word : List ℕ) (words : List (List ℕ)) (statement : Statement) → statement_of word words ≡ Some statement → Spells word words statement
+ReadIsSpelled = (word : List ℕ) (words : List (List ℕ)) (statement : Statement)
+    → statement_of word words ≡ Some statement → Spells word words statement

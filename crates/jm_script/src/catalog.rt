@@ -40,7 +40,8 @@ impl Catalog {
     /// Adds a specification, and answers its number. The fault is `DuplicateSpec` where the name is there.
     pub fn add(&mut self, name: &str, table: EventTable) -> Result<u8, SpecError>
         requires { length self.old < 16 }
-        ensures refused { IsSome (number_of (spec_names self.old) name.now) → IsErrOf result (SpecError.Bad SpecFault.DuplicateSpec) }
+        ensures refused { IsSome (number_of (spec_names self.old) name.now)
+            → IsErrOf result (SpecError.Bad SpecFault.DuplicateSpec) }
         ensures accepted { number_of (spec_names self.old) name.now ≡ None → IsOkUnless result SpecError.NoMemory }
         ensures number { IfOk result (λ spec. spec ≡ length self.old) }
         ensures ok { OnOk result (self.new ≡ self.old ++ record { name = name.now; table = table } ∷ []) }

@@ -52,7 +52,8 @@ fn words_line<'a>(
     requires known { AreSound catalog.now known.old.slots }
     ensures known { AreSound catalog.now known.new.slots }
     ensures fits { IfOk result (λ target. IfSome target (FitsTarget catalog.now (length names.new))) }
-    ensures read { IsReadAs (statement_meaning catalog.now position.count position.line names.old (statement_of word.now (map (λ w. w.now) rest.now))) names.old result names.new }
+    ensures read { IsReadAs (statement_meaning catalog.now position.count position.line names.old
+        (statement_of word.now (map (λ w. w.now) rest.now))) names.old result names.new }
 {
     if is_word(word, b"death") {
         death_line(alloc, position, rest, names)

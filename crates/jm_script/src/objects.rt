@@ -29,7 +29,8 @@ pub fn known_numbers(objects: &[&[u8]], names: &Names) -> Option<[u32; 8]>
     requires objects { IsTrue (list_all is_object (map (λ w. w.now) objects.now)) }
     requires few { length objects.now ≤ 8 }
     ensures names { IsSome result → mentioned names.now (map (λ w. w.now) objects.now) ≡ names.now }
-    ensures numbers { IfSome result (λ numbers. take (length objects.now) numbers ≡ numbers_of names.now (map (λ w. w.now) objects.now)) }
+    ensures numbers { IfSome result
+        (λ numbers. take (length objects.now) numbers ≡ numbers_of names.now (map (λ w. w.now) objects.now)) }
 {
     let mut numbers = [0; 8];
     for (i, object) in objects.iter().enumerate() {
@@ -83,7 +84,8 @@ pub fn mention(objects: &[&[u8]], names: &mut Names) -> Result<[u32; 8], NoMemor
     requires few { length objects.now ≤ 8 }
     requires room { length names.old ≤ 65536 }
     ensures ok { OnOk result (names.new ≡ mentioned names.old (map (λ w. w.now) objects.now)) }
-    ensures numbers { IfOk result (λ numbers. take (length objects.now) numbers ≡ numbers_of names.old (map (λ w. w.now) objects.now)) }
+    ensures numbers { IfOk result (λ numbers. take (length objects.now) numbers
+        ≡ numbers_of names.old (map (λ w. w.now) objects.now)) }
     ensures err { OnErr result (IsExtension names.old names.new) }
 {
     let mut numbers = [0; 8];

@@ -32,7 +32,8 @@ pub fn read_script(
     requires small { length bytes.now < 2 ^ 32 - 1 }
     requires few_steps { count.old ≤ 200000 }
     requires few_objects { length objects.old ≤ 65536 }
-    ensures ok { IfOk result (λ script. IsWhole (script_meaning catalog.now count.old bytes.now objects.old) count.old script objects.new count.new) }
+    ensures ok { IfOk result (λ script. IsWhole
+        (script_meaning catalog.now count.old bytes.now objects.old) count.old script objects.new count.new) }
     ensures fitting { IfOk result (λ script. FitsCatalog catalog.now (length objects.new) script) }
     ensures bounded { OnOk result ((count.new ≤ 200000) × (length objects.new ≤ 65536)) }
     ensures grown { OnOk result (length objects.old ≤ length objects.new) }

@@ -88,7 +88,8 @@ impl Script {
 /// deaths.
 pub fn project(alloc: Global, script: &Script, spec: u8) -> Result<Vec<(u32, Step)>, NoMemory>
     ensures value { IfOk result (λ steps. steps.items ≡ projection_of (script_of script.now) spec) }
-    ensures fitting { (catalog : List CatalogEntry) (names : ℕ) → FitsCatalog catalog names script.now → IfOk result (λ steps. All (λ s. FitsSpecification catalog names spec s.1) steps.items) }
+    ensures fitting { (catalog : List CatalogEntry) (names : ℕ) → FitsCatalog catalog names script.now
+        → IfOk result (λ steps. All (λ s. FitsSpecification catalog names spec s.1) steps.items) }
 {
     project_lines(alloc, script.lines(), spec)
 }
@@ -100,7 +101,8 @@ pub fn project_in_blocks(
     spec: u8,
 ) -> Result<Vec<Vec<(u32, Step)>>, NoMemory>
     ensures value { IfOk result (λ blocks. steps_in blocks.items ≡ projection_of (script_of script.now) spec) }
-    ensures fitting { (catalog : List CatalogEntry) (names : ℕ) → FitsCatalog catalog names script.now → IfOk result (λ blocks. All (λ s. FitsSpecification catalog names spec s.1) (steps_in blocks.items)) }
+    ensures fitting { (catalog : List CatalogEntry) (names : ℕ) → FitsCatalog catalog names script.now
+        → IfOk result (λ blocks. All (λ s. FitsSpecification catalog names spec s.1) (steps_in blocks.items)) }
 {
     let mut blocks = Vec::new(alloc);
     let mut rest = script.lines();

@@ -65,7 +65,8 @@ pub fn event_line<'a>(
     requires known { AreSound catalog.now known.old.slots }
     ensures known { AreSound catalog.now known.new.slots }
     ensures fits { IfOk result (λ target. IfSome target (FitsTarget catalog.now (length names.new))) }
-    ensures read { IsReadAs (statement_meaning catalog.now position.count position.line names.old (event_statement word.now (map (λ w. w.now) objects.now))) names.old result names.new }
+    ensures read { IsReadAs (statement_meaning catalog.now position.count position.line names.old
+        (event_statement word.now (map (λ w. w.now) objects.now))) names.old result names.new }
 {
     let event = event_of(catalog, position, word, objects, known)?;
     let numbers = numbers(alloc, position, objects, names)?;
@@ -90,7 +91,10 @@ fn event_of<'a>(
     ensures ok { IfOk result (IsEventOf catalog.now word.now (length objects.now)) }
     ensures objects { OnOk result (IsTrue (list_all is_object (map (λ w. w.now) objects.now))) }
     ensures room { OnOk result (position.count < 200000) }
-    ensures err { (names : List (List ℕ)) → IfErr result (λ error. IsStoppedBy (statement_meaning catalog.now position.count position.line names (event_statement word.now (map (λ w. w.now) objects.now))) names error names) }
+    ensures err { (names : List (List ℕ))
+        → IfErr result (λ error. IsStoppedBy
+        (statement_meaning catalog.now position.count position.line names
+        (event_statement word.now (map (λ w. w.now) objects.now))) names error names) }
 {
     if let Some(event) = known.find(word, objects.len()) {
         if are_objects(objects) && !position.is_full() {
@@ -116,7 +120,10 @@ fn new_event(
     ensures ok { IfOk result (IsEventOf catalog.now word.now (length objects.now)) }
     ensures objects { OnOk result (IsTrue (list_all is_object (map (λ w. w.now) objects.now))) }
     ensures room { OnOk result (position.count < 200000) }
-    ensures err { (names : List (List ℕ)) → IfErr result (λ error. IsStoppedBy (statement_meaning catalog.now position.count position.line names (event_statement word.now (map (λ w. w.now) objects.now))) names error names) }
+    ensures err { (names : List (List ℕ))
+        → IfErr result (λ error. IsStoppedBy
+        (statement_meaning catalog.now position.count position.line names
+        (event_statement word.now (map (λ w. w.now) objects.now))) names error names) }
 {
     let dot = position_of(word, b'.');
     let spec = &word[..dot];
@@ -163,8 +170,11 @@ fn numbers(
     requires room { length names.old ≤ 65536 }
     ensures room { OnOk result (length (mentioned names.old (map (λ w. w.now) objects.now)) ≤ 65536) }
     ensures ok { OnOk result (names.new ≡ mentioned names.old (map (λ w. w.now) objects.now)) }
-    ensures numbers { IfOk result (λ numbers. take (length objects.now) numbers ≡ numbers_of names.old (map (λ w. w.now) objects.now)) }
-    ensures err { (target_of : List ℕ → Target) → IfErr result (λ error. IsStoppedBy (mentioning position.line names.old (map (λ w. w.now) objects.now) target_of) names.old error names.new) }
+    ensures numbers { IfOk result (λ numbers. take (length objects.now) numbers
+        ≡ numbers_of names.old (map (λ w. w.now) objects.now)) }
+    ensures err { (target_of : List ℕ → Target)
+        → IfErr result (λ error. IsStoppedBy
+        (mentioning position.line names.old (map (λ w. w.now) objects.now) target_of) names.old error names.new) }
 {
     if !are_few(objects, names) {
         if let Some(numbers) = known_numbers(objects, names) {
@@ -188,8 +198,11 @@ pub fn death_line(
     names: &mut Names,
 ) -> Result<Option<Target>, ScriptError>
     requires { length names.old ≤ 65536 }
-    ensures fits { (catalog : List CatalogEntry) → IfOk result (λ target. IfSome target (FitsTarget catalog (length names.new))) }
-    ensures read { (catalog : List CatalogEntry) → IsReadAs (statement_meaning catalog position.count position.line names.old (death_statement (map (λ w. w.now) words.now))) names.old result names.new }
+    ensures fits { (catalog : List CatalogEntry)
+        → IfOk result (λ target. IfSome target (FitsTarget catalog (length names.new))) }
+    ensures read { (catalog : List CatalogEntry)
+        → IsReadAs (statement_meaning catalog position.count position.line names.old
+        (death_statement (map (λ w. w.now) words.now))) names.old result names.new }
 {
     if !is_one_object(words) {
         return Err(position.bad_line());
@@ -214,7 +227,9 @@ pub fn pass_line(
     words: &[&[u8]],
 ) -> Result<Option<Target>, ScriptError>
     ensures fits { (names : ℕ) → IfOk result (λ target. IfSome target (FitsTarget catalog.now names)) }
-    ensures read { (names : List (List ℕ)) → IsReadAs (statement_meaning catalog.now position.count position.line names (pass_statement (map (λ w. w.now) words.now))) names result names }
+    ensures read { (names : List (List ℕ))
+        → IsReadAs (statement_meaning catalog.now position.count position.line names
+        (pass_statement (map (λ w. w.now) words.now))) names result names }
 {
     let [spec] = words else {
         return Err(position.bad_line());

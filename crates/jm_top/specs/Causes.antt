@@ -26,14 +26,16 @@ IsNoSpecIn families before number bytes _ = ⊥
 
 -- these bytes, which have this number, say no script behind others with so many steps and these names of objects
 abbrev pub IsNoScriptIn : List Specification → ℕ → List (List ℕ) → ℕ → List ℕ → Status → Type 0
-IsNoScriptIn specs count names number bytes (BadScript script fault) = (script ≡ number) × IsScriptFault specs count names bytes fault
+IsNoScriptIn specs count names number bytes (BadScript script fault) =
+    (script ≡ number) × IsScriptFault specs count names bytes fault
 IsNoScriptIn specs count names number bytes NoMemory = Unit {0}
 IsNoScriptIn specs count names number bytes _ = ⊥
 
 module _ (contents : List ℕ → Option (List ℕ)) where
   -- this source, which has this number, gives no specification behind these
   abbrev pub IsNoSpec : Bool → List Specification → ℕ → Source → Status → Type 0
-  IsNoSpec families before number source (BadSpec file fault) = (file ≡ number) × ((bytes : List ℕ) × Gives contents source bytes × IsRefusal families before bytes fault)
+  IsNoSpec families before number source (BadSpec file fault) =
+      (file ≡ number) × ((bytes : List ℕ) × Gives contents source bytes × IsRefusal families before bytes fault)
   IsNoSpec families before number source (ReadFailed file) = (file ≡ number) × IsFile source
   IsNoSpec families before number source NoMemory = Unit {0}
   IsNoSpec families before number source _ = ⊥
@@ -48,13 +50,15 @@ module _ (contents : List ℕ → Option (List ℕ)) where
 
   -- this source, which has this number, gives no script behind these; so many files are before the scripts
   abbrev pub IsNoScript : List Specification → ℕ → ℕ → List (List ℕ) → ℕ → Source → Status → Type 0
-  IsNoScript specs files count names number source (BadScript script fault) = (script ≡ number) × ((bytes : List ℕ) × Gives contents source bytes × IsScriptFault specs count names bytes fault)
+  IsNoScript specs files count names number source (BadScript script fault) =
+      (script ≡ number) × ((bytes : List ℕ) × Gives contents source bytes × IsScriptFault specs count names bytes fault)
   IsNoScript specs files count names number source (ReadFailed file) = (file ≡ files + number) × IsFile source
   IsNoScript specs files count names number source NoMemory = Unit {0}
   IsNoScript specs files count names number source _ = ⊥
 
   -- one of the sources, of which the ones before it say scripts, gives none
-  pub record StopsScripts (specs : List Specification) (files : ℕ) (sources : List Source) (status : Status) : Type 0 where
+  pub record StopsScripts (specs : List Specification) (files : ℕ) (sources : List Source)
+      (status : Status) : Type 0 where
     pub number : ℕ
     pub source : Source
     pub before : List (List ScriptLine)
@@ -66,12 +70,14 @@ module _ (contents : List ℕ → Option (List ℕ)) where
 abbrev pub StopsInputs : (List ℕ → Option (List ℕ)) → List Source → List Source → Status → Type 0
 StopsInputs contents specs scripts status =
     StopsSpecs contents false specs status
-    ⊎ ((said : List Specification) × SaySpecifications contents false [] specs said × StopsScripts contents said (length specs) scripts status)
+    ⊎ ((said : List Specification) × SaySpecifications contents false [] specs said
+    × StopsScripts contents said (length specs) scripts status)
 
 -- why a command ends before its text is written
 pub data StopsCommand (contents : List ℕ → Option (List ℕ)) (command : CommandWords) : Status → Type 0 where
   short : StopsCommand contents command NoMemory
-  at_spec : (status : Status) → StopsSpecs contents (needs_families command) (spec_sources command) status → StopsCommand contents command status
+  at_spec : (status : Status) → StopsSpecs contents (needs_families command) (spec_sources command) status
+      → StopsCommand contents command status
   at_script : (specs : List Specification) (status : Status)
       → SaySpecifications contents (needs_families command) [] (spec_sources command) specs
       → StopsScripts contents specs (length (spec_sources command)) (script_sources command) status

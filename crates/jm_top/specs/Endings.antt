@@ -8,8 +8,8 @@ use Rattle.jm_top.specs.Texts.{IsTextOf}
 use Rattle.jm_top.specs.declared.status.Status.{Status}
 use Rattle.jm_top.specs.declared.status.Status.TheVariants.{Done, ReadFailed, WriteFailed, NoMemory}
 
--- how the writing of a text ends: at `Done` it was appended whole, and where the sink failed or memory was short a prefix
--- of it
+-- how the writing of a text ends: at `Done` it was appended whole, and where the sink failed or memory was short a
+-- prefix of it
 abbrev pub WritesText : Status → Option (List ℕ) → Option (List ℕ) → List ℕ → Type 0
 WritesText Done before after text = after ≡ appended before text
 WritesText WriteFailed before after text = AppendsPrefix before after text
@@ -35,26 +35,28 @@ module _ (words : List (List ℕ)) (contents : List ℕ → Option (List ℕ)) w
     pub is_text : IsText text
     pub whole : after ≡ appended before text
 
-  -- What the sink holds: at `Done` a text of the command was appended whole, where the writing failed a prefix of one. Where
-  -- memory was short it was a prefix or nothing, and at every other status nothing.
+  -- What the sink holds: at `Done` a text of the command was appended whole, where the writing failed a prefix of one.
+  -- Where memory was short it was a prefix or nothing, and at every other status nothing.
   abbrev pub Writes : Status → Option (List ℕ) → Option (List ℕ) → Type 0
   Writes Done before after = WritesWhole before after
   Writes WriteFailed before after = WritesPrefix before after
   Writes NoMemory before after = (after ≡ before) ⊎ WritesPrefix before after
   Writes _ before after = after ≡ before
 
-  -- The work of the command may end with this status: the status says what was left on the sink and is caused, and a failed read
-  -- or a failed write was counted by the folder, or by the sink.
+  -- The work of the command may end with this status: the status says what was left on the sink and is caused, and a
+  -- failed read or a failed write was counted by the folder, or by the sink.
   pub record Ends (faults_before faults_after : ℕ) (before after : ℕ × Option (List ℕ)) (status : Status) : Type 0 where
     pub written : Writes status before.1 after.1
     pub caused : IsCaused words contents status
     pub read_failed : (file : ℕ) → status ≡ ReadFailed file → HasRisen faults_before faults_after
     pub write_failed : status ≡ WriteFailed → HasRisen before.0 after.0
 
--- What the error sink holds: nothing at `Done`, and else the text of the status, of which a part may be missing only where a
--- fault of the error sink was counted. Where memory was short it is a prefix of the text of the status that was meant: this one,
--- or the one in whose place it came.
+-- What the error sink holds: nothing at `Done`, and else the text of the status, of which a part may be missing only
+-- where a fault of the error sink was counted. Where memory was short it is a prefix of the text of the status that was
+-- meant: this one, or the one in whose place it came.
 abbrev pub Reports : (Status → Type 0) → Status → (ℕ × Option (List ℕ)) → (ℕ × Option (List ℕ)) → Type 0
 Reports IsMeant Done before after = after.1 ≡ before.1
-Reports IsMeant NoMemory before after = (meant : Status) × IsMeant meant × AppendsPrefix before.1 after.1 (fault_text_of meant)
-Reports IsMeant status before after = (after.1 ≡ appended before.1 (fault_text_of status)) ⊎ (HasRisen before.0 after.0 × AppendsPrefix before.1 after.1 (fault_text_of status))
+Reports IsMeant NoMemory before after =
+    (meant : Status) × IsMeant meant × AppendsPrefix before.1 after.1 (fault_text_of meant)
+Reports IsMeant status before after = (after.1 ≡ appended before.1 (fault_text_of status))
+    ⊎ (HasRisen before.0 after.0 × AppendsPrefix before.1 after.1 (fault_text_of status))

@@ -95,7 +95,8 @@ line_part (Some line) = codes ", line " ++ decimal line
 
 -- the line on a fault of a specification or a script, which are counted from 1 here
 abbrev pub fault_line : List ℕ → ℕ → Option ℕ → List ℕ → List ℕ
-fault_line kind number line words = codes "jmop: " ++ kind ++ codes " " ++ decimal (number + 1) ++ line_part line ++ codes ": " ++ words ++ 10 ∷ []
+fault_line kind number line words =
+    codes "jmop: " ++ kind ++ codes " " ++ decimal (number + 1) ++ line_part line ++ codes ": " ++ words ++ 10 ∷ []
 
 -- the line on a file that couldn't be read
 abbrev pub unreadable_line : ℕ → List ℕ

@@ -10,15 +10,18 @@ use Rattle.jm_script.specs.declared.script.ScriptLine.{ScriptLine}
 use Rattle.jm_script.specs.Projections.{script_of}
 use Rattle.jm_top.specs.Specifications.{Specification, meaning_of}
 
--- the history is legal for what the specification of this number means, and an interleaving of the scripts' projections on it
-pub record IsHistoryOf (number : ℕ) (s : Specification) (scripts : List (List ScriptLine)) (h : List Entry) : Type 0 where
+-- the history is legal for what the specification of this number means, and an interleaving of the scripts' projections
+-- on it
+pub record IsHistoryOf (number : ℕ) (s : Specification) (scripts : List (List ScriptLine))
+    (h : List Entry) : Type 0 where
   pub legal : IsLegal (meaning_of s) h
   pub woven : IsInterleaving h (map (λ script. projection_of (script_of script) number) scripts)
 
 -- such a history of each specification, in order, of which the first has this number
 abbrev pub AreHistoriesFrom : ℕ → List Specification → List (List ScriptLine) → List (List Entry) → Type 0
 AreHistoriesFrom number [] scripts [] = Unit {0}
-AreHistoriesFrom number (s ∷ specs) scripts (h ∷ hs) = IsHistoryOf number s scripts h × AreHistoriesFrom (number + 1) specs scripts hs
+AreHistoriesFrom number (s ∷ specs) scripts (h ∷ hs) =
+    IsHistoryOf number s scripts h × AreHistoriesFrom (number + 1) specs scripts hs
 AreHistoriesFrom number _ scripts _ = ⊥
 
 -- the names that a history of the specification is printed with, and what its handlers print
@@ -26,7 +29,8 @@ abbrev pub lexicon : List (List ℕ) → Specification → Lexicon
 lexicon objects s = lexicon_of s.name s.table s.rules.handlers objects s.texts
 
 -- the text is the printed history of each specification, in order
-pub record IsTextOfHistories (specs : List Specification) (scripts : List (List ScriptLine)) (objects : List (List ℕ)) (text : List ℕ) : Type 0 where
+pub record IsTextOfHistories (specs : List Specification) (scripts : List (List ScriptLine)) (objects : List (List ℕ))
+    (text : List ℕ) : Type 0 where
   pub histories : List (List Entry)
   pub each : AreHistoriesFrom 0 specs scripts histories
   pub printed : text ≡ texts_of (map (lexicon objects) specs) histories
@@ -37,7 +41,8 @@ summaries_of (s ∷ specs) (h ∷ hs) = summary_text s.name h ++ summaries_of sp
 summaries_of _ _ = []
 
 -- the text is the summary of a history of each specification, in order
-pub record IsTextOfSummaries (specs : List Specification) (scripts : List (List ScriptLine)) (text : List ℕ) : Type 0 where
+pub record IsTextOfSummaries (specs : List Specification) (scripts : List (List ScriptLine))
+    (text : List ℕ) : Type 0 where
   pub histories : List (List Entry)
   pub each : AreHistoriesFrom 0 specs scripts histories
   pub printed : text ≡ summaries_of specs histories

@@ -12,25 +12,28 @@ use Rattle.jm_top.specs.Scripts.{catalog_of, IsScript}
 
 -- ---- specifications
 
--- Why a specification is refused though its bytes have no fault: families are asked for, and its property is a grammar; or one
--- before it has its name.
+-- Why a specification is refused though its bytes have no fault: families are asked for, and its property is a grammar;
+-- or one before it has its name.
 abbrev pub refusal_of : Bool → List Specification → Specification → Option SpecFault
 refusal_of families before s =
     if families && is_grammar s.rules.formula then Some (UnsupportedLogic s.logic_line)
     else option_map (λ earlier. DuplicateSpec) (number_of (spec_names (catalog_of before)) s.name)
 
 -- the bytes say this specification, and it isn't refused behind these
-pub record IsAdmitted (families : Bool) (before : List Specification) (bytes : List ℕ) (s : Specification) : Type 0 where
+pub record IsAdmitted (families : Bool) (before : List Specification) (bytes : List ℕ)
+    (s : Specification) : Type 0 where
   pub said : IsSpecification bytes s
   pub sound : refusal_of families before s ≡ None
 
 -- this is what is wrong with the bytes, or with the specification that they say, behind these
 pub data IsRefusal (families : Bool) (before : List Specification) (bytes : List ℕ) (fault : SpecFault) : Type 0 where
   faulty : IsSpecFault bytes fault → IsRefusal families before bytes fault
-  refused : (s : Specification) → IsSpecification bytes s → refusal_of families before s ≡ Some fault → IsRefusal families before bytes fault
+  refused : (s : Specification) → IsSpecification bytes s → refusal_of families before s ≡ Some fault
+      → IsRefusal families before bytes fault
 
 -- the sources say these specifications, in order, behind those that were read before
-abbrev pub SaySpecifications : (List ℕ → Option (List ℕ)) → Bool → List Specification → List Source → List Specification → Type 0
+abbrev pub SaySpecifications : (List ℕ → Option (List ℕ)) → Bool → List Specification → List Source → List Specification
+    → Type 0
 SaySpecifications contents families before [] specs = specs ≡ []
 SaySpecifications contents families before (source ∷ sources) specs =
     (bytes : List ℕ) × (s : Specification) × (more : List Specification) × (specs ≡ s ∷ more)
@@ -38,7 +41,9 @@ SaySpecifications contents families before (source ∷ sources) specs =
     × SaySpecifications contents families (before ++ s ∷ []) sources more
 
 -- this source has this number among the sources, and those before it say these specifications
-pub record AreReadUpTo (contents : List ℕ → Option (List ℕ)) (families : Bool) (sources : List Source) (number : ℕ) (source : Source) (specs : List Specification) : Type 0 where
+pub record AreReadUpTo (contents : List ℕ
+    → Option (List ℕ)) (families : Bool) (sources : List Source) (number : ℕ) (source : Source)
+    (specs : List Specification) : Type 0 where
   pub first : List Source
   pub rest : List Source
   pub split : sources ≡ first ++ source ∷ rest
@@ -52,16 +57,21 @@ abbrev pub step_count : List (List ScriptLine) → ℕ
 step_count [] = 0
 step_count (script ∷ scripts) = length script + step_count scripts
 
--- the sources say these scripts, in order, behind so many steps and with these names of objects; and the names in the end
-abbrev pub SayScripts : (List ℕ → Option (List ℕ)) → List Specification → ℕ → List (List ℕ) → List Source → List (List ScriptLine) → List (List ℕ) → Type 0
+-- the sources say these scripts, in order, behind so many steps and with these names of objects; and the names in the
+-- end
+abbrev pub SayScripts : (List ℕ → Option (List ℕ)) → List Specification → ℕ → List (List ℕ) → List Source
+    → List (List ScriptLine) → List (List ℕ) → Type 0
 SayScripts contents specs count names [] scripts objects = (scripts ≡ []) × (objects ≡ names)
 SayScripts contents specs count names (source ∷ sources) scripts objects =
-    (bytes : List ℕ) × (script : List ScriptLine) × (more : List (List ScriptLine)) × (later : List (List ℕ)) × (scripts ≡ script ∷ more)
+    (bytes : List ℕ) × (script : List ScriptLine) × (more : List (List ScriptLine)) × (later : List (List ℕ))
+    × (scripts ≡ script ∷ more)
     × Gives contents source bytes × IsScript specs count names bytes script later
     × SayScripts contents specs (count + length script) later sources more objects
 
 -- this source has this number among the sources, and those before it say these scripts, with these names of objects
-pub record AreScriptsUpTo (contents : List ℕ → Option (List ℕ)) (specs : List Specification) (sources : List Source) (number : ℕ) (source : Source) (scripts : List (List ScriptLine)) (objects : List (List ℕ)) : Type 0 where
+pub record AreScriptsUpTo (contents : List ℕ
+    → Option (List ℕ)) (specs : List Specification) (sources : List Source) (number : ℕ) (source : Source)
+    (scripts : List (List ScriptLine)) (objects : List (List ℕ)) : Type 0 where
   pub first : List Source
   pub rest : List Source
   pub split : sources ≡ first ++ source ∷ rest

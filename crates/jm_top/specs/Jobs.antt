@@ -15,40 +15,46 @@ use Rattle.jm_top.specs.Inputs.{IsRefusal, SaySpecifications, AreReadUpTo, step_
 -- either the command is refused, or it is done over these specifications and scripts, by these names of objects
 pub data Job : Type 0 where
   Refused : (status : Status) → Job
-  Accepted : (command : CommandWords) (specs : List Specification) (scripts : List (List ScriptLine)) (objects : List (List ℕ)) → Job
+  Accepted : (command : CommandWords) (specs : List Specification) (scripts : List (List ScriptLine))
+      (objects : List (List ℕ)) → Job
 
 module _ (words : List (List ℕ)) (contents : List ℕ → Option (List ℕ)) where
-  -- The job: the first fault in the order of the work, which is the words, each specification in order, each script in order;
-  -- or, where there is none, what was read.
+  -- The job: the first fault in the order of the work, which is the words, each specification in order, each script in
+  -- order; or, where there is none, what was read.
   pub data IsJob : Job → Type 0 where
     no_command : command_of words ≡ None → IsJob (Refused Usage)
-    bad_spec : (command : CommandWords) (number : ℕ) (source : Source) (before : List Specification) (bytes : List ℕ) (fault : SpecFault)
+    bad_spec : (command : CommandWords) (number : ℕ) (source : Source) (before : List Specification) (bytes : List ℕ)
+        (fault : SpecFault)
         → command_of words ≡ Some command
         → AreReadUpTo contents (needs_families command) (spec_sources command) number source before
         → Gives contents source bytes
         → IsRefusal (needs_families command) before bytes fault
         → IsJob (Refused (BadSpec number fault))
-    bad_script : (command : CommandWords) (specs : List Specification) (number : ℕ) (source : Source) (before : List (List ScriptLine)) (names : List (List ℕ)) (bytes : List ℕ) (fault : ScriptFault)
+    bad_script : (command : CommandWords) (specs : List Specification) (number : ℕ) (source : Source)
+        (before : List (List ScriptLine)) (names : List (List ℕ)) (bytes : List ℕ) (fault : ScriptFault)
         → command_of words ≡ Some command
         → SaySpecifications contents (needs_families command) [] (spec_sources command) specs
         → AreScriptsUpTo contents specs (script_sources command) number source before names
         → Gives contents source bytes
         → IsScriptFault specs (step_count before) names bytes fault
         → IsJob (Refused (BadScript number fault))
-    accepted : (command : CommandWords) (specs : List Specification) (scripts : List (List ScriptLine)) (objects : List (List ℕ))
+    accepted : (command : CommandWords) (specs : List Specification) (scripts : List (List ScriptLine))
+        (objects : List (List ℕ))
         → command_of words ≡ Some command
         → SaySpecifications contents (needs_families command) [] (spec_sources command) specs
         → SayScripts contents specs 0 [] (script_sources command) scripts objects
         → IsJob (Accepted command specs scripts objects)
 
-  -- nothing has a fault that comes before the file of this number is loaded: files are counted in the order of the words
+  -- nothing has a fault that comes before the file of this number is loaded: files are counted in the order of the
+  -- words
   pub data ReachesFile : ℕ → Type 0 where
     spec_file : (command : CommandWords) (number : ℕ) (file : Source) (before : List Specification)
         → command_of words ≡ Some command
         → AreReadUpTo contents (needs_families command) (spec_sources command) number file before
         → IsFile file
         → ReachesFile number
-    script_file : (command : CommandWords) (specs : List Specification) (number : ℕ) (file : Source) (before : List (List ScriptLine)) (names : List (List ℕ))
+    script_file : (command : CommandWords) (specs : List Specification) (number : ℕ) (file : Source)
+        (before : List (List ScriptLine)) (names : List (List ℕ))
         → command_of words ≡ Some command
         → SaySpecifications contents (needs_families command) [] (spec_sources command) specs
         → AreScriptsUpTo contents specs (script_sources command) number file before names
@@ -65,4 +71,5 @@ module _ (words : List (List ℕ)) (contents : List ℕ → Option (List ℕ)) w
 
   -- it is told what the files of the command hold
   abbrev pub AreTold : Type 0
-  AreTold = (command : CommandWords) → command_of words ≡ Some command → AllTold contents (spec_sources command) × AllTold contents (script_sources command)
+  AreTold = (command : CommandWords) → command_of words ≡ Some command → AllTold contents (spec_sources command)
+      × AllTold contents (script_sources command)

@@ -70,7 +70,8 @@ titled s rules = record {
 abbrev pub specification_of : Listed → Specification
 specification_of l = titled l.shown l.rules.definition
 
--- The handlers of the titles are those of the rules, and few; the letters are the events, whose sets of parameters are there.
+-- The handlers of the titles are those of the rules, and few; the letters are the events, whose sets of parameters are
+-- there.
 pub record AreTitlesOf (rules : RuleDefinition) (s : Shown) : Type 0 where
   pub handlers : s.titles.handlers ≡ rules.handlers
   pub masks : rules.masks ≡ map (λ e. e.mask) s.entry.table.events
@@ -105,13 +106,15 @@ pub record HasNext (families : Bool) (bytes : List ℕ) (old new : Library) : Ty
   pub catalogued : IsCatalogued new
 
 -- which a file of this name says
-pub record HasNextFrom (contents : List ℕ → Option (List ℕ)) (source : Source) (families : Bool) (old new : Library) : Type 0 where
+pub record HasNextFrom (contents : List ℕ
+    → Option (List ℕ)) (source : Source) (families : Bool) (old new : Library) : Type 0 where
   pub bytes : List ℕ
   pub given : Gives contents source bytes
   pub next : HasNext families bytes old new
 
 -- the library has what the sources say
-pub record IsLibraryOf (contents : List ℕ → Option (List ℕ)) (families : Bool) (sources : List Source) (library : Library) : Type 0 where
+pub record IsLibraryOf (contents : List ℕ
+    → Option (List ℕ)) (families : Bool) (sources : List Source) (library : Library) : Type 0 where
   pub said : SaySpecifications contents families [] sources (specs_in library)
   pub catalogued : IsCatalogued library
 
@@ -133,7 +136,8 @@ entry_summaries _ _ = []
 
 -- ---- scripts
 
--- each script fits the specifications and the names of objects; the counts are those of what was read, and within their limits
+-- each script fits the specifications and the names of objects; the counts are those of what was read, and within their
+-- limits
 pub record AreCounted (specs : List Specification) (s : Scripts) : Type 0 where
   pub fit : All (FitsCatalog (catalog_of specs) (length s.objects)) s.list.items
   pub counted : s.count ≡ step_count s.list.items
@@ -148,17 +152,20 @@ pub record HasScript (specs : List Specification) (bytes : List ℕ) (old new : 
   pub counted : AreCounted specs new
 
 -- which a file of this name says
-pub record HasScriptFrom (contents : List ℕ → Option (List ℕ)) (source : Source) (specs : List Specification) (old new : Scripts) : Type 0 where
+pub record HasScriptFrom (contents : List ℕ
+    → Option (List ℕ)) (source : Source) (specs : List Specification) (old new : Scripts) : Type 0 where
   pub bytes : List ℕ
   pub given : Gives contents source bytes
   pub next : HasScript specs bytes old new
 
 -- the scripts are what the sources say
-pub record AreScriptsOf (contents : List ℕ → Option (List ℕ)) (specs : List Specification) (sources : List Source) (s : Scripts) : Type 0 where
+pub record AreScriptsOf (contents : List ℕ
+    → Option (List ℕ)) (specs : List Specification) (sources : List Source) (s : Scripts) : Type 0 where
   pub said : SayScripts contents specs 0 [] sources s.list.items s.objects
   pub counted : AreCounted specs s
 
 -- what was read is what these sources of specifications and of scripts say
-pub record AreInputsOf (contents : List ℕ → Option (List ℕ)) (specs scripts : List Source) (inputs : Inputs) : Type 0 where
+pub record AreInputsOf (contents : List ℕ
+    → Option (List ℕ)) (specs scripts : List Source) (inputs : Inputs) : Type 0 where
   pub library : IsLibraryOf contents false specs inputs.library
   pub read : AreScriptsOf contents (specs_in inputs.library) scripts inputs.scripts

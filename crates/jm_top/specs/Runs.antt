@@ -14,21 +14,28 @@ use Rattle.jm_top.specs.declared.specification.Titles.{Titles}
 use Rattle.jm_top.specs.declared.specification.Loaded.{Loaded}
 
 -- a fresh dispatcher by these rules, over so many objects, with so many seats
-pub record IsWatchOf (objects seats : ℕ) (rules : CompiledRules) (watch : LockModel (Fixed CompiledRules)) (all : List (SeatModel Entry (Fixed CompiledRules))) : Type 0 where
+pub record IsWatchOf (objects seats : ℕ) (rules : CompiledRules) (watch : LockModel (Fixed CompiledRules))
+    (all : List (SeatModel Entry (Fixed CompiledRules))) : Type 0 where
   pub fixed : watch.fixed ≡ record { definition = rules; objects = objects }
   pub count : watch.seats ≡ seats
   pub many : length all ≡ seats
   pub newcomers : AreNewcomers watch all
 
 -- one for each specification
-abbrev pub AreWatchesOf : ℕ → ℕ → List Loaded → List (LockModel (Fixed CompiledRules)) → List (List (SeatModel Entry (Fixed CompiledRules))) → Type 0
+abbrev pub AreWatchesOf : ℕ → ℕ → List Loaded → List (LockModel (Fixed CompiledRules))
+    → List (List (SeatModel Entry (Fixed CompiledRules))) → Type 0
 AreWatchesOf objects seats [] [] [] = Unit {0}
-AreWatchesOf objects seats (l ∷ ls) (watch ∷ watches) (all ∷ alls) = IsWatchOf objects seats l.rules watch all × AreWatchesOf objects seats ls watches alls
+AreWatchesOf objects seats (l ∷ ls) (watch ∷ watches) (all ∷ alls) =
+    IsWatchOf objects seats l.rules watch all × AreWatchesOf objects seats ls watches alls
 AreWatchesOf objects seats _ _ _ = ⊥
 
--- the titles of these specifications, and the core of each, whose history is legal and an interleaving of the scripts' projections
-pub record AreRunsOf (specs : List Loaded) (scripts : List (List ScriptLine)) (titles : List Titles) (props : List (Core CompiledRules)) : Type 0 where
+-- the titles of these specifications, and the core of each, whose history is legal and an interleaving of the scripts'
+-- projections
+pub record AreRunsOf (specs : List Loaded) (scripts : List (List ScriptLine)) (titles : List Titles)
+    (props : List (Core CompiledRules)) : Type 0 where
   pub titled : titles ≡ map (λ l. l.titles) specs
   pub many : length props ≡ length specs
-  pub legal : (k : ℕ) (l : Loaded) (p : Core CompiledRules) → slice_get specs k ≡ Some l → slice_get props k ≡ Some p → IsLegal (rules_meaning l.rules.definition) p.entries
-  pub woven : (k : ℕ) (l : Loaded) (p : Core CompiledRules) → slice_get specs k ≡ Some l → slice_get props k ≡ Some p → IsInterleaving p.entries (projections_of scripts k)
+  pub legal : (k : ℕ) (l : Loaded) (p : Core CompiledRules) → slice_get specs k ≡ Some l → slice_get props k ≡ Some p
+      → IsLegal (rules_meaning l.rules.definition) p.entries
+  pub woven : (k : ℕ) (l : Loaded) (p : Core CompiledRules) → slice_get specs k ≡ Some l → slice_get props k ≡ Some p
+      → IsInterleaving p.entries (projections_of scripts k)

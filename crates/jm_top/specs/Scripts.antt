@@ -20,14 +20,16 @@ abbrev pub meaning_over : List Specification → ℕ → List (List ℕ) → Lis
 meaning_over specs count names bytes = script_meaning (catalog_of specs) count bytes names
 
 -- the bytes say these steps, and these are the names of objects then: no line has a fault
-pub record IsScript (specs : List Specification) (count : ℕ) (names : List (List ℕ)) (bytes : List ℕ) (script : List ScriptLine) (objects : List (List ℕ)) : Type 0 where
+pub record IsScript (specs : List Specification) (count : ℕ) (names : List (List ℕ)) (bytes : List ℕ)
+    (script : List ScriptLine) (objects : List (List ℕ)) : Type 0 where
   pub small : length bytes ≤ most_bytes
   pub sound : (meaning_over specs count names bytes).fault ≡ None
   pub lines : script ≡ (meaning_over specs count names bytes).lines
   pub named : objects ≡ (meaning_over specs count names bytes).names
 
 -- the first fault of the bytes: they are too many, or a line has it
-pub data IsScriptFault (specs : List Specification) (count : ℕ) (names : List (List ℕ)) (bytes : List ℕ) : ScriptFault → Type 0 where
+pub data IsScriptFault (specs : List Specification) (count : ℕ) (names : List (List ℕ)) (bytes : List ℕ) : ScriptFault
+    → Type 0 where
   too_long : most_bytes < length bytes → IsScriptFault specs count names bytes TooLong
   in_line : (fault : ScriptFault)
       → length bytes ≤ most_bytes

@@ -17,8 +17,9 @@ use Rattle.jm_spec.specs.Trees.{IsTreeOfTokens, IsFaultOfTokens}
 use Rattle.jm_machine.specs.Meanings.{RuleDefinition, rules_meaning}
 use Rattle.jm_machine.specs.Compiling.{IsCompiledFrom, IsFaultyTree}
 
--- a specification: its name, its parameters and events, the logic of its property and the line of the word that names it,
--- whether it is for full bindings alone, its rules, and what each of its handlers prints: a list of terms for each statement
+-- a specification: its name, its parameters and events, the logic of its property and the line of the word that names
+-- it, whether it is for full bindings alone, its rules, and what each of its handlers prints: a list of terms for each
+-- statement
 pub record Specification : Type 0 where
   pub name : List ℕ
   pub table : EventDefinitions
@@ -66,8 +67,8 @@ pub record IsSpecification (bytes : List ℕ) (s : Specification) : Type 0 where
   pub full_binding : s.full_binding ≡ tree.full_binding
   pub texts : BlocksSay bytes tokens tree.table.parameters tree.handlers.items s.texts
 
--- The first fault of the bytes, step by step: they are too many; they have no tokens; these spell no frame, or one with a fault;
--- its formula, its handlers or the table of its formula has one. The line of `Syntax` is left open.
+-- The first fault of the bytes, step by step: they are too many; they have no tokens; these spell no frame, or one with
+-- a fault; its formula, its handlers or the table of its formula has one. The line of `Syntax` is left open.
 pub data IsSpecFault (bytes : List ℕ) : SpecFault → Type 0 where
   too_long : most_bytes < length bytes → IsSpecFault bytes TooLong
   no_tokens : (fault : SpecFault) → length bytes ≤ most_bytes → IsFaultOf bytes (Bad fault) → IsSpecFault bytes fault

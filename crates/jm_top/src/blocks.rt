@@ -23,7 +23,8 @@ pub(crate) fn declared(
 ) -> Result<Vec<u8>, NoMemory>
     requires many { length catalog.now ≡ length specs.now }
     requires whole { All IsWhole (listed catalog.now specs.now) }
-    ensures { IfOk result (λ text. text.items ≡ flat_map declared_text (map specification_of (listed catalog.now specs.now))) }
+    ensures { IfOk result (λ text. text.items
+        ≡ flat_map declared_text (map specification_of (listed catalog.now specs.now))) }
 {
     let mut text = Vec::new(alloc);
     for spec in 0..catalog.len() {
@@ -47,7 +48,8 @@ fn declared_by(
     loaded: &Loaded,
 ) -> Result<Vec<u8>, NoMemory>
     requires { IsWhole (listing (named_entry name.now table.now) loaded.now) }
-    ensures { IfOk result (λ text. text.items ≡ declared_text (specification_of (listing (named_entry name.now table.now) loaded.now))) }
+    ensures { IfOk result (λ text. text.items
+        ≡ declared_text (specification_of (listing (named_entry name.now table.now) loaded.now))) }
 {
     let titles = &loaded.titles;
     render_check(
@@ -94,7 +96,8 @@ fn families_text(
 ) -> Result<Vec<u8>, NoMemory>
     requires whole { IsWhole (listing (named_entry name.now table.now) loaded.now) }
     requires table { is_grammar loaded.now.rules.definition.formula ≡ false }
-    ensures { IfOk result (λ text. IsTextOfFamily (specification_of (listing (named_entry name.now table.now) loaded.now)) text.items) }
+    ensures { IfOk result (λ text. IsTextOfFamily
+        (specification_of (listing (named_entry name.now table.now) loaded.now)) text.items) }
 {
     let families = families_of(alloc, table, &loaded.rules)?;
     render_coenable(alloc, name, table, families.as_slice())
@@ -105,7 +108,9 @@ fn families_of(alloc: Global, table: &EventTable, rules: &Rules) -> Result<Vec<V
     requires letters { length rules.now.definition.masks ≡ length table.now.events }
     requires table { is_grammar rules.now.definition.formula ≡ false }
     ensures many { IfOk result (λ families. length families.items ≡ length table.now.events) }
-    ensures each { IfOk result (λ families. (letter : ℕ) → IfSome (slice_get (map (λ f. f.items) families.items) letter) (IsFamily (rules_meaning rules.now.definition) letter)) }
+    ensures each { IfOk result (λ families. (letter : ℕ)
+        → IfSome (slice_get (map (λ f. f.items) families.items) letter)
+        (IsFamily (rules_meaning rules.now.definition) letter)) }
 {
     let mut families = Vec::new(alloc);
     for letter in 0..table.letters() {

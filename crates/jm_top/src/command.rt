@@ -21,16 +21,16 @@ use std::thread::Threads;
 
 /// Does a command, and tells how it ended. `words` are those of the command line without the program's name.
 ///
-/// The order of work, and of refusals, is: the words; each specification in order, loaded, read and compiled; each script in
-/// order, loaded and read; their steps; the whole text; the text given to `out`; and last, where the status isn't `Done`, its
-/// text given to `err`. Want of memory may end the work at any point.
+/// The order of work, and of refusals, is: the words; each specification in order, loaded, read and compiled; each
+/// script in order, loaded and read; their steps; the whole text; the text given to `out`; and last, where the status
+/// isn't `Done`, its text given to `err`. Want of memory may end the work at any point.
 ///
-/// At `Done` the text is that of the command's job. For `replay` and `run` it is, for each specification in order, a printed
-/// history that is legal for what the specification means, and an interleaving of the scripts' steps for it; for `gen` the
-/// summaries of such histories over the workload's files; for `check` what the specifications declare, and for `coenable`
-/// their families. A refusal is the job's first fault in the order of work. `ReadFailed` and `WriteFailed` come only where the folder or the sink counted a
-/// fault. So where the job has no fault, it is told what the files hold, and no fault was counted, the whole text was
-/// written, or memory was short.
+/// At `Done` the text is that of the command's job. For `replay` and `run` it is, for each specification in order, a
+/// printed history that is legal for what the specification means, and an interleaving of the scripts' steps for it;
+/// for `gen` the summaries of such histories over the workload's files; for `check` what the specifications declare,
+/// and for `coenable` their families. A refusal is the job's first fault in the order of work. `ReadFailed` and
+/// `WriteFailed` come only where the folder or the sink counted a fault. So where the job has no fault, it is told what
+/// the files hold, and no fault was counted, the whole text was written, or memory was short.
 pub fn jmop<R: Threads + Wait + Sync, F: Folder, S: Sink, E: Sink, G: Gate>(
     rt: &R,
     alloc: Global,
@@ -40,15 +40,21 @@ pub fn jmop<R: Threads + Wait + Sync, F: Folder, S: Sink, E: Sink, G: Gate>(
     err: &mut E,
     gate: &G,
 ) -> Status
-    ensures written { Writes (map string_bytes words.now) (F.holds files.old) result (S.written out.old) (S.written out.new) }
+    ensures written { Writes (map string_bytes words.now) (F.holds files.old) result (S.written out.old)
+        (S.written out.new) }
     ensures caused { IsCaused (map string_bytes words.now) (F.holds files.old) result }
-    ensures no_command { command_of (map string_bytes words.now) ≡ None → (result ≡ Status.Usage) ⊎ (result ≡ Status.NoMemory) }
-    ensures read_failed { (file : ℕ) → result ≡ Status.ReadFailed file → HasRisen (F.faults files.old) (F.faults files.new) }
+    ensures no_command { command_of (map string_bytes words.now) ≡ None → (result ≡ Status.Usage)
+        ⊎ (result ≡ Status.NoMemory) }
+    ensures read_failed { (file : ℕ) → result ≡ Status.ReadFailed file
+        → HasRisen (F.faults files.old) (F.faults files.new) }
     ensures write_failed { result ≡ Status.WriteFailed → HasRisen (S.faults out.old) (S.faults out.new) }
-    ensures complete { (command : CommandWords) (specs : List Specification) (scripts : List (List ScriptLine)) (objects : List (List ℕ)) → AreTold (map string_bytes words.now) (F.holds files.old)
-        → IsJob (map string_bytes words.now) (F.holds files.old) (Accepted command specs scripts objects) → ¬ HasRisen (F.faults files.old) (F.faults files.new) → ¬ HasRisen (S.faults out.old) (S.faults out.new)
+    ensures complete { (command : CommandWords) (specs : List Specification) (scripts : List (List ScriptLine))
+        (objects : List (List ℕ)) → AreTold (map string_bytes words.now) (F.holds files.old)
+        → IsJob (map string_bytes words.now) (F.holds files.old) (Accepted command specs scripts objects)
+        → ¬ HasRisen (F.faults files.old) (F.faults files.new) → ¬ HasRisen (S.faults out.old) (S.faults out.new)
         → (result ≡ Status.Done) ⊎ (result ≡ Status.NoMemory) }
-    ensures reported { Reports (Ends (map string_bytes words.now) (F.holds files.old) (F.faults files.old) (F.faults files.new) (S.faults out.old, S.written out.old) (S.faults out.new, S.written out.new))
+    ensures reported { Reports (Ends (map string_bytes words.now) (F.holds files.old) (F.faults files.old)
+        (F.faults files.new) (S.faults out.old, S.written out.old) (S.faults out.new, S.written out.new))
         result (E.faults err.old, E.written err.old) (E.faults err.new, E.written err.new) }
 {
     let status = carry_out(rt, alloc, words, files, out, gate);
@@ -64,10 +70,13 @@ fn carry_out<R: Threads + Wait + Sync, F: Folder, S: Sink, G: Gate>(
     out: &mut S,
     gate: &G,
 ) -> Status
-    ensures written { Writes (map string_bytes words.now) (F.holds files.old) result (S.written out.old) (S.written out.new) }
+    ensures written { Writes (map string_bytes words.now) (F.holds files.old) result (S.written out.old)
+        (S.written out.new) }
     ensures caused { IsCaused (map string_bytes words.now) (F.holds files.old) result }
-    ensures no_command { command_of (map string_bytes words.now) ≡ None → (result ≡ Status.Usage) ⊎ (result ≡ Status.NoMemory) }
-    ensures read_failed { (file : ℕ) → result ≡ Status.ReadFailed file → HasRisen (F.faults files.old) (F.faults files.new) }
+    ensures no_command { command_of (map string_bytes words.now) ≡ None → (result ≡ Status.Usage)
+        ⊎ (result ≡ Status.NoMemory) }
+    ensures read_failed { (file : ℕ) → result ≡ Status.ReadFailed file
+        → HasRisen (F.faults files.old) (F.faults files.new) }
     ensures write_failed { result ≡ Status.WriteFailed → HasRisen (S.faults out.old) (S.faults out.new) }
 {
     let command = match read_command(alloc, words) {
@@ -84,7 +93,8 @@ fn carry_out<R: Threads + Wait + Sync, F: Folder, S: Sink, G: Gate>(
 fn read_command(alloc: Global, words: &[String]) -> Result<Command, Status>
     ensures spelled { IfOk result (λ command. command_of (map string_bytes words.now) ≡ Some (command_words command)) }
     ensures within { IfOk result (λ command. IsWithin (command_words command)) }
-    ensures err { IfErr result (λ status. ((status ≡ Status.Usage) × (command_of (map string_bytes words.now) ≡ None)) ⊎ (status ≡ Status.NoMemory)) }
+    ensures err { IfErr result (λ status. ((status ≡ Status.Usage) × (command_of (map string_bytes words.now) ≡ None))
+        ⊎ (status ≡ Status.NoMemory)) }
 {
     match read_words(alloc, words) {
         Ok(command) => Ok(command),
@@ -109,7 +119,8 @@ fn write<S: Sink>(out: &mut S, text: &[u8]) -> Status
 fn report<E: Sink>(alloc: Global, status: Status, err: &mut E) -> Status
     ensures done { status ≡ Status.Done → result ≡ Status.Done }
     ensures kept { (result ≡ status) ⊎ (result ≡ Status.NoMemory) }
-    ensures reported { Reports (λ meant. meant ≡ status) result (E.faults err.old, E.written err.old) (E.faults err.new, E.written err.new) }
+    ensures reported { Reports (λ meant. meant ≡ status) result (E.faults err.old, E.written err.old)
+        (E.faults err.new, E.written err.new) }
 {
     if let Status::Done = status {
         return status;

@@ -24,8 +24,11 @@ pub(crate) fn histories_text<M: Monitor>(
 ) -> Result<Vec<u8>, NoMemory>
     requires titled { length catalog.now ≡ length titles.now }
     requires many { length titles.now ≡ length props.now }
-    requires printable { ArePrintable (map (title_lexicon objects.now) (shown_with catalog.now titles.now)) (map (λ p. p.entries) props.now) }
-    ensures { IfOk result (λ text. text.items ≡ texts_of (map (title_lexicon objects.now) (shown_with catalog.now titles.now)) (map (λ p. p.entries) props.now)) }
+    requires printable { ArePrintable (map (title_lexicon objects.now) (shown_with catalog.now titles.now))
+        (map (λ p. p.entries) props.now) }
+    ensures { IfOk result (λ text. text.items
+        ≡ texts_of (map (title_lexicon objects.now) (shown_with catalog.now titles.now))
+        (map (λ p. p.entries) props.now)) }
 {
     let mut text = Vec::new(alloc);
     for spec in 0..catalog.len() {
@@ -47,8 +50,11 @@ fn history_text<M: Monitor>(
     prop: &Prop<M>,
     objects: &Names,
 ) -> Result<Vec<u8>, NoMemory>
-    requires { All (IsPrintable (title_lexicon objects.now (record { entry = named_entry name.now table.now; titles = titles.now }))) prop.now.entries }
-    ensures { IfOk result (λ text. text.items ≡ history_text (title_lexicon objects.now (record { entry = named_entry name.now table.now; titles = titles.now })) prop.now.entries) }
+    requires { All (IsPrintable (title_lexicon objects.now
+        (record { entry = named_entry name.now table.now; titles = titles.now }))) prop.now.entries }
+    ensures { IfOk result (λ text. text.items
+        ≡ history_text (title_lexicon objects.now
+        (record { entry = named_entry name.now table.now; titles = titles.now })) prop.now.entries) }
 {
     render_history(
         alloc,

@@ -31,9 +31,12 @@ pub(crate) fn read_inputs<F: Folder>(
 ) -> Result<Inputs, Status>
     requires few_specs { length specs.now ≤ 16 }
     requires few_scripts { length scripts.now ≤ 16 }
-    ensures read { IfOk result (AreInputsOf (F.holds files.old) (named (map string_bytes specs.now)) (named (map string_bytes scripts.now))) }
-    ensures err { IfErr result (StopsInputs (F.holds files.old) (named (map string_bytes specs.now)) (named (map string_bytes scripts.now))) }
-    ensures read_failed { (file : ℕ) → result ≡ Err (Status.ReadFailed file) → HasRisen (F.faults files.old) (F.faults files.new) }
+    ensures read { IfOk result (AreInputsOf (F.holds files.old) (named (map string_bytes specs.now))
+        (named (map string_bytes scripts.now))) }
+    ensures err { IfErr result (StopsInputs (F.holds files.old) (named (map string_bytes specs.now))
+        (named (map string_bytes scripts.now))) }
+    ensures read_failed { (file : ℕ) → result ≡ Err (Status.ReadFailed file)
+        → HasRisen (F.faults files.old) (F.faults files.new) }
 {
     let library = read_specifications(alloc, specs, false, files)?;
     let scripts = read_scripts(alloc, scripts, &library, files)?;
@@ -44,8 +47,12 @@ pub(crate) fn read_inputs<F: Folder>(
 fn given_inputs(alloc: Global, specs: &[Vec<u8>], scripts: &[Vec<u8>]) -> Result<Inputs, Status>
     requires few_specs { length specs.now ≤ 16 }
     requires few_scripts { length scripts.now ≤ 16 }
-    ensures read { (contents : List ℕ → Option (List ℕ)) → IfOk result (AreInputsOf contents (given_files (map (λ file. file.items) specs.now)) (given_files (map (λ file. file.items) scripts.now))) }
-    ensures err { (contents : List ℕ → Option (List ℕ)) → IfErr result (StopsInputs contents (given_files (map (λ file. file.items) specs.now)) (given_files (map (λ file. file.items) scripts.now))) }
+    ensures read { (contents : List ℕ → Option (List ℕ))
+        → IfOk result (AreInputsOf contents (given_files (map (λ file. file.items) specs.now))
+        (given_files (map (λ file. file.items) scripts.now))) }
+    ensures err { (contents : List ℕ → Option (List ℕ))
+        → IfErr result (StopsInputs contents (given_files (map (λ file. file.items) specs.now))
+        (given_files (map (λ file. file.items) scripts.now))) }
 {
     let library = given_specifications(alloc, specs)?;
     let scripts = given_scripts(alloc, scripts, &library)?;
@@ -55,7 +62,8 @@ fn given_inputs(alloc: Global, specs: &[Vec<u8>], scripts: &[Vec<u8>]) -> Result
 /// Makes the workload of `n` rounds, and reads its files as if they were loaded.
 pub(crate) fn read_workload(alloc: Global, n: u32) -> Result<Inputs, Status>
     requires { IsInRange n }
-    ensures read { (contents : List ℕ → Option (List ℕ)) → IfOk result (AreInputsOf contents (given_files workload_specs) (given_files (workload_scripts n))) }
+    ensures read { (contents : List ℕ → Option (List ℕ))
+        → IfOk result (AreInputsOf contents (given_files workload_specs) (given_files (workload_scripts n))) }
     ensures err { (contents : List ℕ → Option (List ℕ)) → IfErr result (StopsCommand contents (Gen n)) }
 {
     let files = files_of(alloc, n)?;

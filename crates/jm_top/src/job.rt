@@ -32,7 +32,8 @@ pub(crate) fn make_text<R: Threads + Wait + Sync, F: Folder, G: Gate>(
     requires { IsWithin (command_words command.now) }
     ensures made { IfOk result (λ text. IsTextOfCommand (F.holds files.old) (command_words command.now) text.items) }
     ensures caused { IfErr result (StopsCommand (F.holds files.old) (command_words command.now)) }
-    ensures read_failed { (file : ℕ) → result ≡ Err (Status.ReadFailed file) → HasRisen (F.faults files.old) (F.faults files.new) }
+    ensures read_failed { (file : ℕ) → result ≡ Err (Status.ReadFailed file)
+        → HasRisen (F.faults files.old) (F.faults files.new) }
 {
     match command {
         Command::Replay { spec, script } => replayed(alloc, spec, script, files),
@@ -52,9 +53,12 @@ fn replayed<F: Folder>(
     script: &String,
     files: &mut F,
 ) -> Result<Vec<u8>, Status>
-    ensures made { IfOk result (λ text. IsTextOfCommand (F.holds files.old) (Replay (string_bytes spec.now) (string_bytes script.now)) text.items) }
-    ensures caused { IfErr result (StopsCommand (F.holds files.old) (Replay (string_bytes spec.now) (string_bytes script.now))) }
-    ensures read_failed { (file : ℕ) → result ≡ Err (Status.ReadFailed file) → HasRisen (F.faults files.old) (F.faults files.new) }
+    ensures made { IfOk result (λ text. IsTextOfCommand (F.holds files.old)
+        (Replay (string_bytes spec.now) (string_bytes script.now)) text.items) }
+    ensures caused { IfErr result (StopsCommand (F.holds files.old)
+        (Replay (string_bytes spec.now) (string_bytes script.now))) }
+    ensures read_failed { (file : ℕ) → result ≡ Err (Status.ReadFailed file)
+        → HasRisen (F.faults files.old) (F.faults files.new) }
 {
     let inputs = read_inputs(alloc, slice::from_ref(spec), slice::from_ref(script), files)?;
     let text = replay(alloc, inputs.library, inputs.scripts)?;
@@ -72,9 +76,12 @@ fn ran<R: Threads + Wait + Sync, F: Folder, G: Gate>(
 ) -> Result<Vec<u8>, Status>
     requires specs { AreFew (map string_bytes specs.now) }
     requires scripts { AreFew (map string_bytes scripts.now) }
-    ensures made { IfOk result (λ text. IsTextOfCommand (F.holds files.old) (Run (map string_bytes specs.now) (map string_bytes scripts.now)) text.items) }
-    ensures caused { IfErr result (StopsCommand (F.holds files.old) (Run (map string_bytes specs.now) (map string_bytes scripts.now))) }
-    ensures read_failed { (file : ℕ) → result ≡ Err (Status.ReadFailed file) → HasRisen (F.faults files.old) (F.faults files.new) }
+    ensures made { IfOk result (λ text. IsTextOfCommand (F.holds files.old)
+        (Run (map string_bytes specs.now) (map string_bytes scripts.now)) text.items) }
+    ensures caused { IfErr result (StopsCommand (F.holds files.old)
+        (Run (map string_bytes specs.now) (map string_bytes scripts.now))) }
+    ensures read_failed { (file : ℕ) → result ≡ Err (Status.ReadFailed file)
+        → HasRisen (F.faults files.old) (F.faults files.new) }
 {
     let inputs = read_inputs(alloc, specs, scripts, files)?;
     let text = run(rt, alloc, inputs.library, &inputs.scripts, gate)?;
@@ -84,9 +91,11 @@ fn ran<R: Threads + Wait + Sync, F: Folder, G: Gate>(
 /// The text of `check`.
 fn checked<F: Folder>(alloc: Global, specs: &[String], files: &mut F) -> Result<Vec<u8>, Status>
     requires { AreFew (map string_bytes specs.now) }
-    ensures made { IfOk result (λ text. IsTextOfCommand (F.holds files.old) (Check (map string_bytes specs.now)) text.items) }
+    ensures made { IfOk result (λ text. IsTextOfCommand (F.holds files.old)
+        (Check (map string_bytes specs.now)) text.items) }
     ensures caused { IfErr result (StopsCommand (F.holds files.old) (Check (map string_bytes specs.now))) }
-    ensures read_failed { (file : ℕ) → result ≡ Err (Status.ReadFailed file) → HasRisen (F.faults files.old) (F.faults files.new) }
+    ensures read_failed { (file : ℕ) → result ≡ Err (Status.ReadFailed file)
+        → HasRisen (F.faults files.old) (F.faults files.new) }
 {
     let library = read_specifications(alloc, specs, false, files)?;
     let text = declared(alloc, &library.catalog, library.specs.as_slice())?;
@@ -96,9 +105,11 @@ fn checked<F: Folder>(alloc: Global, specs: &[String], files: &mut F) -> Result<
 /// The text of `coenable`.
 fn coenabled<F: Folder>(alloc: Global, specs: &[String], files: &mut F) -> Result<Vec<u8>, Status>
     requires { AreFew (map string_bytes specs.now) }
-    ensures made { IfOk result (λ text. IsTextOfCommand (F.holds files.old) (Coenable (map string_bytes specs.now)) text.items) }
+    ensures made { IfOk result (λ text. IsTextOfCommand (F.holds files.old)
+        (Coenable (map string_bytes specs.now)) text.items) }
     ensures caused { IfErr result (StopsCommand (F.holds files.old) (Coenable (map string_bytes specs.now))) }
-    ensures read_failed { (file : ℕ) → result ≡ Err (Status.ReadFailed file) → HasRisen (F.faults files.old) (F.faults files.new) }
+    ensures read_failed { (file : ℕ) → result ≡ Err (Status.ReadFailed file)
+        → HasRisen (F.faults files.old) (F.faults files.new) }
 {
     let library = read_specifications(alloc, specs, true, files)?;
     let text = families(alloc, &library.catalog, library.specs.as_slice())?;
@@ -113,7 +124,8 @@ fn generated<R: Threads + Wait + Sync, G: Gate>(
     gate: &G,
 ) -> Result<Vec<u8>, Status>
     requires { IsInRange n }
-    ensures made { (contents : List ℕ → Option (List ℕ)) → IfOk result (λ text. IsTextOfCommand contents (Gen n) text.items) }
+    ensures made { (contents : List ℕ → Option (List ℕ))
+        → IfOk result (λ text. IsTextOfCommand contents (Gen n) text.items) }
     ensures caused { (contents : List ℕ → Option (List ℕ)) → IfErr result (StopsCommand contents (Gen n)) }
 {
     let inputs = read_workload(alloc, n)?;

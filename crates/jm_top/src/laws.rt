@@ -6,5 +6,6 @@ ghost use Rattle.jm_top.specs.Specifications.{Specification, IsSpecification, Is
 /// One reading: no bytes say two specifications, or a specification and a fault.
 pub fn one_reading()
     ensures one { (bytes : List ℕ) (s t : Specification) → IsSpecification bytes s → IsSpecification bytes t → s ≡ t }
-    ensures never_both { (bytes : List ℕ) (s : Specification) (fault : SpecFault) → IsSpecification bytes s → IsSpecFault bytes fault → ⊥ }
+    ensures never_both { (bytes : List ℕ) (s : Specification) (fault : SpecFault) → IsSpecification bytes s
+        → IsSpecFault bytes fault → ⊥ }
 {}

@@ -45,11 +45,13 @@ impl Library {
         requires few { length self.old.specs.items < 16 }
         requires catalogued { IsCatalogued self.old }
         requires whole { IsWhole (listing (named_entry name.now table) loaded) }
-        ensures listed { OnOk result (listed_in self.new ≡ listed_in self.old ++ listing (named_entry name.now table) loaded ∷ []) }
+        ensures listed { OnOk result (listed_in self.new
+            ≡ listed_in self.old ++ listing (named_entry name.now table) loaded ∷ []) }
         ensures catalogued { OnOk result (IsCatalogued self.new) }
         ensures new_name { OnOk result (number_of (spec_names (catalog_of (specs_in self.old))) name.now ≡ None) }
         ensures fault { (fault : SpecFault) → result ≡ Err (SpecError.Bad fault) →
-            (fault ≡ SpecFault.DuplicateSpec) × IsSome (number_of (spec_names (catalog_of (specs_in self.old))) name.now) }
+            (fault ≡ SpecFault.DuplicateSpec)
+            × IsSome (number_of (spec_names (catalog_of (specs_in self.old))) name.now) }
     {
         self.catalog.add(name, table)?;
         self.specs.push(loaded)?;
@@ -67,7 +69,8 @@ pub(crate) fn read_specifications<F: Folder>(
     requires { length names.now ≤ 16 }
     ensures read { IfOk result (IsLibraryOf (F.holds files.old) families (named (map string_bytes names.now))) }
     ensures err { IfErr result (StopsSpecs (F.holds files.old) families (named (map string_bytes names.now))) }
-    ensures read_failed { (file : ℕ) → result ≡ Err (Status.ReadFailed file) → HasRisen (F.faults files.old) (F.faults files.new) }
+    ensures read_failed { (file : ℕ) → result ≡ Err (Status.ReadFailed file)
+        → HasRisen (F.faults files.old) (F.faults files.new) }
     ensures never_falls { F.faults files.old ≤ F.faults files.new }
     ensures same { (other : List ℕ) → F.holds files.new other ≡ F.holds files.old other }
 {
@@ -81,8 +84,10 @@ pub(crate) fn read_specifications<F: Folder>(
 /// Reads the specifications that these bytes say, in order.
 pub(crate) fn given_specifications(alloc: Global, files: &[Vec<u8>]) -> Result<Library, Status>
     requires { length files.now ≤ 16 }
-    ensures read { (contents : List ℕ → Option (List ℕ)) → IfOk result (IsLibraryOf contents false (given_files (map (λ file. file.items) files.now))) }
-    ensures err { (contents : List ℕ → Option (List ℕ)) → IfErr result (StopsSpecs contents false (given_files (map (λ file. file.items) files.now))) }
+    ensures read { (contents : List ℕ → Option (List ℕ))
+        → IfOk result (IsLibraryOf contents false (given_files (map (λ file. file.items) files.now))) }
+    ensures err { (contents : List ℕ → Option (List ℕ))
+        → IfErr result (StopsSpecs contents false (given_files (map (λ file. file.items) files.now))) }
 {
     let mut library = Library::new(alloc);
     for file in files {
@@ -120,8 +125,10 @@ fn read_next<F: Folder>(
     requires few { length library.old.specs.items < 16 }
     requires catalogued { IsCatalogued library.old }
     ensures read { OnOk result (HasNextFrom (F.holds files.old) (Named name.now) families library.old library.new) }
-    ensures err { IfErr result (IsNoSpec (F.holds files.old) families (specs_in library.old) (length library.old.specs.items) (Named name.now)) }
-    ensures read_failed { (file : ℕ) → result ≡ Err (Status.ReadFailed file) → HasRisen (F.faults files.old) (F.faults files.new) }
+    ensures err { IfErr result (IsNoSpec (F.holds files.old) families (specs_in library.old)
+        (length library.old.specs.items) (Named name.now)) }
+    ensures read_failed { (file : ℕ) → result ≡ Err (Status.ReadFailed file)
+        → HasRisen (F.faults files.old) (F.faults files.new) }
     ensures never_falls { F.faults files.old ≤ F.faults files.new }
     ensures same { (other : List ℕ) → F.holds files.new other ≡ F.holds files.old other }
 {
@@ -134,8 +141,10 @@ fn read_next<F: Folder>(
 fn load_spec<F: Folder>(name: &str, number: u32, files: &mut F) -> Result<Vec<u8>, Status>
     ensures within { IfOk result (λ bytes. length bytes.items ≤ most_bytes) }
     ensures held { IfOk result (λ bytes. Gives (F.holds files.old) (Named name.now) bytes.items) }
-    ensures err { (families : Bool) (before : List Specification) → IfErr result (IsNoSpec (F.holds files.old) families before number (Named name.now)) }
-    ensures read_failed { (file : ℕ) → result ≡ Err (Status.ReadFailed file) → HasRisen (F.faults files.old) (F.faults files.new) }
+    ensures err { (families : Bool) (before : List Specification)
+        → IfErr result (IsNoSpec (F.holds files.old) families before number (Named name.now)) }
+    ensures read_failed { (file : ℕ) → result ≡ Err (Status.ReadFailed file)
+        → HasRisen (F.faults files.old) (F.faults files.new) }
     ensures never_falls { F.faults files.old ≤ F.faults files.new }
     ensures same { (other : List ℕ) → F.holds files.new other ≡ F.holds files.old other }
 {
@@ -190,7 +199,8 @@ fn admit(
     requires few { length library.old.specs.items < 16 }
     requires catalogued { IsCatalogued library.old }
     ensures read { OnOk result (HasNext families bytes.now library.old library.new) }
-    ensures fault { (fault : SpecFault) → result ≡ Err (SpecError.Bad fault) → IsRefusal families (specs_in library.old) bytes.now fault }
+    ensures fault { (fault : SpecFault) → result ≡ Err (SpecError.Bad fault)
+        → IsRefusal families (specs_in library.old) bytes.now fault }
 {
     let reading = read_specification(alloc, bytes)?;
     let Reading {
@@ -205,7 +215,8 @@ fn admit(
 /// Refuses a grammar, where families are asked for: it has none.
 fn has_families(families: bool, loaded: &Loaded) -> Result<(), SpecError>
     ensures ok { OnOk result ((families && is_grammar loaded.now.rules.definition.formula) ≡ false) }
-    ensures err { IfErr result (λ e. ((families && is_grammar loaded.now.rules.definition.formula) ≡ true) × (e ≡ SpecError.Bad (SpecFault.UnsupportedLogic loaded.now.titles.logic_line))) }
+    ensures err { IfErr result (λ e. ((families && is_grammar loaded.now.rules.definition.formula) ≡ true)
+        × (e ≡ SpecError.Bad (SpecFault.UnsupportedLogic loaded.now.titles.logic_line))) }
 {
     if families && loaded.rules.table().is_none() {
         return Err(SpecError::Bad(SpecFault::UnsupportedLogic {

@@ -19,8 +19,8 @@ use jm_print::render_history;
 use jm_script::project_in_blocks;
 use std::alloc::Global;
 
-/// The printed history of the one script, replayed over the one specification. The script is let go before the replay, and
-/// its steps as they are done, and of the core nothing but the history is left for the printing.
+/// The printed history of the one script, replayed over the one specification. The script is let go before the replay,
+/// and its steps as they are done, and of the core nothing but the history is left for the printing.
 pub(crate) fn replay(alloc: Global, library: Library, scripts: Scripts) -> Result<Vec<u8>, NoMemory>
     requires one_spec { length library.specs.items ≡ 1 }
     requires one_script { length scripts.list.items ≡ 1 }
@@ -54,11 +54,14 @@ fn replay_own(
     own: Vec<Vec<(u32, Step)>>,
     objects: &Names,
 ) -> Result<Vec<u8>, NoMemory>
-    requires steps { All (λ step. IsFitStep (rules_meaning loaded.rules.definition) (length objects.now) step.1) (steps_in own.items) }
+    requires steps { All (λ step. IsFitStep (rules_meaning loaded.rules.definition) (length objects.now) step.1)
+        (steps_in own.items) }
     requires printable { (h : List Entry) → IsReplayOf (rules_meaning loaded.rules.definition) (steps_in own.items) h
-        → All (IsPrintable (title_lexicon objects.now (record { entry = named_entry name.now table.now; titles = loaded.titles }))) h }
+        → All (IsPrintable (title_lexicon objects.now
+        (record { entry = named_entry name.now table.now; titles = loaded.titles }))) h }
     ensures { IfOk result (λ text. IsPrintedReplay (rules_meaning loaded.rules.definition) (steps_in own.items)
-        (title_lexicon objects.now (record { entry = named_entry name.now table.now; titles = loaded.titles })) text.items) }
+        (title_lexicon objects.now
+        (record { entry = named_entry name.now table.now; titles = loaded.titles })) text.items) }
 {
     let Loaded { titles, rules } = loaded;
     history_of(alloc, rules, own, name, table, &titles, objects)
@@ -74,11 +77,14 @@ fn history_of<M: Monitor>(
     titles: &Titles,
     objects: &Names,
 ) -> Result<Vec<u8>, NoMemory>
-    requires steps { All (λ step. IsFitStep (M.meaning (M.definition rules)) (length objects.now) step.1) (steps_in blocks.items) }
+    requires steps { All (λ step. IsFitStep (M.meaning (M.definition rules)) (length objects.now) step.1)
+        (steps_in blocks.items) }
     requires printable { (h : List Entry) → IsReplayOf (M.meaning (M.definition rules)) (steps_in blocks.items) h
-        → All (IsPrintable (title_lexicon objects.now (record { entry = named_entry name.now table.now; titles = titles.now }))) h }
+        → All (IsPrintable (title_lexicon objects.now
+        (record { entry = named_entry name.now table.now; titles = titles.now }))) h }
     ensures { IfOk result (λ text. IsPrintedReplay (M.meaning (M.definition rules)) (steps_in blocks.items)
-        (title_lexicon objects.now (record { entry = named_entry name.now table.now; titles = titles.now })) text.items) }
+        (title_lexicon objects.now
+        (record { entry = named_entry name.now table.now; titles = titles.now })) text.items) }
 {
     let prop = replayed(alloc, rules, blocks, objects.len())?;
     let history = prop.into_history();

@@ -30,7 +30,8 @@ pub(crate) fn run<R: Threads + Wait + Sync, G: Gate>(
     requires scripts { (1 ≤ length scripts.now.list.items) × (length scripts.now.list.items ≤ 16) }
     requires catalogued { IsCatalogued library }
     requires counted { AreCounted (specs_in library) scripts.now }
-    ensures { IfOk result (λ text. IsTextOfHistories (specs_in library) scripts.now.list.items scripts.now.objects text.items) }
+    ensures { IfOk result (λ text. IsTextOfHistories
+        (specs_in library) scripts.now.list.items scripts.now.objects text.items) }
 {
     let runs = run_all(rt, alloc, library, scripts, gate)?;
     histories_text(
@@ -81,7 +82,8 @@ pub(crate) fn run_all<R: Threads + Wait + Sync, G: Gate>(
     requires catalogued { IsCatalogued library }
     requires counted { AreCounted (specs_in library) scripts.now }
     ensures catalog { IfOk result (λ runs. runs.catalog ≡ library.catalog) }
-    ensures ran { IfOk result (λ runs. AreRunsOf library.specs.items scripts.now.list.items runs.titles.items runs.props.items) }
+    ensures ran { IfOk result
+        (λ runs. AreRunsOf library.specs.items scripts.now.list.items runs.titles.items runs.props.items) }
 {
     let Library { specs, catalog } = library;
     let seats = scripts.list.len() as u32;
@@ -111,7 +113,8 @@ fn dispatchers(
 ) -> Result<Watched, NoMemory>
     requires { (1 ≤ seats) × (seats ≤ 16) }
     ensures titles { IfOk result (λ w. w.titles.items ≡ map (λ l. l.titles) specs.items) }
-    ensures watches { IfOk result (λ w. AreWatchesOf objects seats specs.items (map (λ r. r.watch) w.watches.items) (map (λ r. r.seats.items) w.watches.items)) }
+    ensures watches { IfOk result (λ w. AreWatchesOf objects seats specs.items (map (λ r. r.watch) w.watches.items)
+        (map (λ r. r.seats.items) w.watches.items)) }
 {
     let mut titles = Vec::new(alloc);
     let mut watches = Vec::new(alloc);

@@ -51,9 +51,12 @@ pub(crate) fn read_scripts<F: Folder>(
     requires few { length names.now ≤ 16 }
     requires few_specs { length library.now.specs.items ≤ 16 }
     requires catalogued { IsCatalogued library.now }
-    ensures read { IfOk result (AreScriptsOf (F.holds files.old) (specs_in library.now) (named (map string_bytes names.now))) }
-    ensures err { IfErr result (StopsScripts (F.holds files.old) (specs_in library.now) (length library.now.specs.items) (named (map string_bytes names.now))) }
-    ensures read_failed { (file : ℕ) → result ≡ Err (Status.ReadFailed file) → HasRisen (F.faults files.old) (F.faults files.new) }
+    ensures read { IfOk result (AreScriptsOf (F.holds files.old) (specs_in library.now)
+        (named (map string_bytes names.now))) }
+    ensures err { IfErr result (StopsScripts (F.holds files.old) (specs_in library.now) (length library.now.specs.items)
+        (named (map string_bytes names.now))) }
+    ensures read_failed { (file : ℕ) → result ≡ Err (Status.ReadFailed file)
+        → HasRisen (F.faults files.old) (F.faults files.new) }
 {
     let mut scripts = Scripts::new(alloc);
     for name in names {
@@ -70,8 +73,12 @@ pub(crate) fn given_scripts(
 ) -> Result<Scripts, Status>
     requires few { length files.now ≤ 16 }
     requires catalogued { IsCatalogued library.now }
-    ensures read { (contents : List ℕ → Option (List ℕ)) → IfOk result (AreScriptsOf contents (specs_in library.now) (given_files (map (λ file. file.items) files.now))) }
-    ensures err { (contents : List ℕ → Option (List ℕ)) → IfErr result (StopsScripts contents (specs_in library.now) (length library.now.specs.items) (given_files (map (λ file. file.items) files.now))) }
+    ensures read { (contents : List ℕ → Option (List ℕ))
+        → IfOk result (AreScriptsOf contents (specs_in library.now)
+        (given_files (map (λ file. file.items) files.now))) }
+    ensures err { (contents : List ℕ → Option (List ℕ))
+        → IfErr result (StopsScripts contents (specs_in library.now) (length library.now.specs.items)
+        (given_files (map (λ file. file.items) files.now))) }
 {
     let mut scripts = Scripts::new(alloc);
     for file in files {
@@ -91,7 +98,8 @@ fn read_given(
     requires catalogued { IsCatalogued library.now }
     requires counted { AreCounted (specs_in library.now) scripts.old }
     ensures read { OnOk result (HasScript (specs_in library.now) bytes.now scripts.old scripts.new) }
-    ensures err { IfErr result (IsNoScriptIn (specs_in library.now) scripts.old.count scripts.old.objects (length scripts.old.list.items) bytes.now) }
+    ensures err { IfErr result (IsNoScriptIn (specs_in library.now) scripts.old.count scripts.old.objects
+        (length scripts.old.list.items) bytes.now) }
 {
     let number = scripts.list.len() as u32;
     if bytes.len() > MOST_BYTES {
@@ -116,9 +124,13 @@ fn read_next<F: Folder>(
     requires few_specs { length library.now.specs.items ≤ 16 }
     requires catalogued { IsCatalogued library.now }
     requires counted { AreCounted (specs_in library.now) scripts.old }
-    ensures read { OnOk result (HasScriptFrom (F.holds files.old) (Named name.now) (specs_in library.now) scripts.old scripts.new) }
-    ensures err { IfErr result (IsNoScript (F.holds files.old) (specs_in library.now) (length library.now.specs.items) scripts.old.count scripts.old.objects (length scripts.old.list.items) (Named name.now)) }
-    ensures read_failed { (file : ℕ) → result ≡ Err (Status.ReadFailed file) → HasRisen (F.faults files.old) (F.faults files.new) }
+    ensures read { OnOk result (HasScriptFrom (F.holds files.old) (Named name.now)
+        (specs_in library.now) scripts.old scripts.new) }
+    ensures err { IfErr result (IsNoScript (F.holds files.old) (specs_in library.now)
+        (length library.now.specs.items) scripts.old.count scripts.old.objects (length scripts.old.list.items)
+        (Named name.now)) }
+    ensures read_failed { (file : ℕ) → result ≡ Err (Status.ReadFailed file)
+        → HasRisen (F.faults files.old) (F.faults files.new) }
     ensures never_falls { F.faults files.old ≤ F.faults files.new }
     ensures same { (other : List ℕ) → F.holds files.new other ≡ F.holds files.old other }
 {
@@ -138,8 +150,10 @@ fn load_script<F: Folder>(
     requires { before + number < 2 ^ 32 }
     ensures within { IfOk result (λ bytes. length bytes.items ≤ most_bytes) }
     ensures held { IfOk result (λ bytes. Gives (F.holds files.old) (Named name.now) bytes.items) }
-    ensures err { (specs : List Specification) (count : ℕ) (names : List (List ℕ)) → IfErr result (IsNoScript (F.holds files.old) specs before count names number (Named name.now)) }
-    ensures read_failed { (file : ℕ) → result ≡ Err (Status.ReadFailed file) → HasRisen (F.faults files.old) (F.faults files.new) }
+    ensures err { (specs : List Specification) (count : ℕ) (names : List (List ℕ))
+        → IfErr result (IsNoScript (F.holds files.old) specs before count names number (Named name.now)) }
+    ensures read_failed { (file : ℕ) → result ≡ Err (Status.ReadFailed file)
+        → HasRisen (F.faults files.old) (F.faults files.new) }
     ensures never_falls { F.faults files.old ≤ F.faults files.new }
     ensures same { (other : List ℕ) → F.holds files.new other ≡ F.holds files.old other }
 {
@@ -173,7 +187,8 @@ fn read_bytes(
     requires catalogued { IsCatalogued library.now }
     requires counted { AreCounted (specs_in library.now) scripts.old }
     ensures read { OnOk result (HasScript (specs_in library.now) bytes.now scripts.old scripts.new) }
-    ensures err { IfErr result (IsNoScriptIn (specs_in library.now) scripts.old.count scripts.old.objects number bytes.now) }
+    ensures err { IfErr result (IsNoScriptIn
+        (specs_in library.now) scripts.old.count scripts.old.objects number bytes.now) }
 {
     match add(alloc, bytes, library, scripts) {
         Ok(()) => Ok(()),
@@ -198,7 +213,8 @@ fn add(
     requires catalogued { IsCatalogued library.now }
     requires counted { AreCounted (specs_in library.now) scripts.old }
     ensures read { OnOk result (HasScript (specs_in library.now) bytes.now scripts.old scripts.new) }
-    ensures fault { (fault : ScriptFault) → result ≡ Err (ScriptError.Bad fault) → IsScriptFault (specs_in library.now) scripts.old.count scripts.old.objects bytes.now fault }
+    ensures fault { (fault : ScriptFault) → result ≡ Err (ScriptError.Bad fault)
+        → IsScriptFault (specs_in library.now) scripts.old.count scripts.old.objects bytes.now fault }
 {
     let script = read_script(
         alloc,

@@ -14,8 +14,8 @@ use jm_spec::{Logic, SpecTree, read_spec};
 use jm_text::{Token, tokens};
 use std::alloc::Global;
 
-/// What is kept of a specification beside its rules and what its catalog has: its logic and the line of that word, whether it
-/// is for full bindings alone, the categories of its handlers and what they print.
+/// What is kept of a specification beside its rules and what its catalog has: its logic and the line of that word,
+/// whether it is for full bindings alone, the categories of its handlers and what they print.
 #[derive(Drop)]
 pub(crate) struct Titles {
     pub logic: Logic,
