@@ -1,16 +1,16 @@
 -- What a reader of a formula answers.
 use Rattle.std.proofs.Common.{ℕ, ◌≡◌, false, List, [], ◌∷◌, ◌++◌, Option, Some, None, Result, Ok, Err, IfOk, IfErr, refl, sym, ap, subst, ◌∙◌, append_assoc, append-nil}
-use Rattle.jm_model.specs.declared.fault.Counted.TheVariants.{Nesting}
 use Rattle.jm_model.specs.declared.fault.SpecError.{SpecError}
 use Rattle.jm_model.specs.declared.fault.SpecError.TheVariants.{Bad, NoMemory}
 use Rattle.jm_model.specs.declared.fault.SpecFault.{SpecFault}
-use Rattle.jm_model.specs.declared.fault.SpecFault.TheVariants.{Syntax, TooMany}
+use Rattle.jm_model.specs.declared.fault.SpecFault.TheVariants.{Syntax}
 use Rattle.jm_text.specs.declared.token.Token.{Token}
 use Rattle.jm_reading.specs.Answers.{FailsAt}
 use Rattle.jm_reading.specs.Faults.{or_else, ◌>>>◌, fault_of, Refuses, Checks}
 use Rattle.jm_reading.specs.Events.{reserved_event_fault, letter_said}
 use Rattle.jm_reading.specs.Nesting.{is_too_deep}
 use Rattle.jm_reading.proofs.ReadLemmas.{then_then, then_same, IsOther, FailsOther, other_or, other_if, other_event, other_then, other_name, other_of}
+use Rattle.jm_reading.proofs.FormulaLemmas as reading
 use Rattle.jm_events.specs.Events.{EventDefinitions, event_names}
 use Rattle.jm_ere.specs.declared.reader.Atom.{Atom}
 use Rattle.jm_ere.specs.declared.reader.Atom.TheVariants.{Name, Epsilon, Empty}
@@ -24,7 +24,7 @@ use Rattle.jm_ere.specs.Readings.{nodes_fault, is_grammar_word, atom_said, over,
 use Rattle.jm_ere.specs.Values.{with_nodes, fault_of_nodes}
 use Rattle.jm_ere.proofs.CompleteLemmas.{spelled_is_parsed}
 use Rattle.jm_ere.proofs.SoundLemmas.{parsed_is_spelled}
-use Rattle.jm_ere.proofs.FormulaLemmas.{nodes_counted}
+use Rattle.jm_ere.proofs.FormulaLemmas.{nodes_counted, one_formula}
 
 -- ---- the value of a formula's nodes is what the formula says
 
@@ -94,12 +94,6 @@ other_fault bytes table f =
 -- ---- what is answered
 
 module _ (bytes : List ℕ) (tokens : List Token) (table : EventDefinitions) (shallow : is_too_deep bytes 0 tokens ≡ false) where
-  refused_as : (f : Formula) → Spells bytes tokens f → (e : SpecError) → IsOther (first_fault bytes table f) → Refuses (first_fault bytes table f) e → IsRefused bytes tokens table e
-  refused_as f spelled NoMemory other h = tt
-  refused_as f spelled (Bad (Syntax line)) other h = absurd (subst IsOther h other)
-  refused_as f spelled (Bad (TooMany Nesting)) other h = absurd (subst IsOther h other)
-  refused_as f spelled (Bad _) other h = (shallow, (f, spelled, h))
-
   module _ (nodes : List Node) (read : parsed bytes tokens ≡ Some nodes) where
     pub read_written : IsWritten nodes
     read_written = let formula = parsed_is_spelled bytes tokens nodes read in (formula.0, formula.2)
@@ -116,13 +110,23 @@ module _ (bytes : List ℕ) (tokens : List Token) (table : EventDefinitions) (sh
     read_err (Err e) h =
         let formula = parsed_is_spelled bytes tokens nodes read in
         let f : Formula = formula.0 in
-        refused_as f formula.1 e (other_fault bytes table f) (subst (λ (o : Option SpecFault). Refuses o e) (ap (fault_of_nodes bytes table) formula.2 ∙ faults_are bytes table f) h)
+        reading.refused_within (Spells bytes tokens) (first_fault bytes table) f formula.1 (other_fault bytes table f) (is_too_deep bytes 0 tokens) shallow e
+        (subst (λ (o : Option SpecFault). Refuses o e) (ap (fault_of_nodes bytes table) formula.2 ∙ faults_are bytes table f) h)
 
-  never_both : {X : Type 0} (o : Option X) (x : X) → o ≡ None → o ≡ Some x → ⊥
-  never_both o x h k = cc
+  none_or_some : {X : Type 0} (o : Option X) (x : X) → o ≡ None → o ≡ Some x → ⊥
+  none_or_some o x h k = cc
 
   -- nothing was read
   pub read_none : (e : SpecError) → FailsAt e (parsed bytes tokens) → IsRefused bytes tokens table e
   read_none NoMemory h = tt
-  read_none (Bad (Syntax line)) h = (shallow, λ f spelled. never_both (parsed bytes tokens) (postfix f) h (spelled_is_parsed bytes tokens f spelled))
+  read_none (Bad (Syntax line)) h = (shallow, λ f spelled. none_or_some (parsed bytes tokens) (postfix f) h (spelled_is_parsed bytes tokens f spelled))
   read_none (Bad _) h = absurd h
+
+-- ---- one answer
+
+module _ (bytes : List ℕ) (tokens : List Token) (table : EventDefinitions) where
+  pub one_expression : (d e : Expression) → IsReadFrom bytes tokens table d → IsReadFrom bytes tokens table e → d ≡ e
+  one_expression = reading.one_within (Spells bytes tokens) (first_fault bytes table) (one_formula bytes tokens) (expression_said bytes (event_names table)) (is_too_deep bytes 0 tokens)
+
+  pub never_both : (e : Expression) (fault : SpecFault) → IsReadFrom bytes tokens table e → IsRefused bytes tokens table (Bad fault) → ⊥
+  never_both = reading.never_both_within (Spells bytes tokens) (first_fault bytes table) (one_formula bytes tokens) (expression_said bytes (event_names table)) (is_too_deep bytes 0 tokens)

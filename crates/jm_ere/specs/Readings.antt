@@ -1,15 +1,15 @@
 -- What a reader of a formula answers.
-use Rattle.std.specs.Prelude.{ℕ, ◌≡◌, Bool, true, false, ◌||◌, List, Option, Some, None, Result, Ok, codes, nat_lt, if◌then◌else◌}
+use Rattle.std.specs.Prelude.{ℕ, Bool, ◌||◌, List, Option, Some, None, Result, Ok, codes, nat_lt, if◌then◌else◌}
 use Rattle.std.specs.Str.{bytes_eq}
-use Rattle.jm_model.specs.declared.fault.Counted.TheVariants.{Nesting, Nodes}
+use Rattle.jm_model.specs.declared.fault.Counted.TheVariants.{Nodes}
 use Rattle.jm_model.specs.declared.fault.SpecFault.{SpecFault}
-use Rattle.jm_model.specs.declared.fault.SpecFault.TheVariants.{TooMany, Syntax}
+use Rattle.jm_model.specs.declared.fault.SpecFault.TheVariants.{TooMany}
 use Rattle.jm_model.specs.declared.fault.SpecError.{SpecError}
-use Rattle.jm_model.specs.declared.fault.SpecError.TheVariants.{Bad, NoMemory}
 use Rattle.jm_text.specs.declared.token.Token.{Token}
 use Rattle.jm_reading.specs.Faults.{or_else, ◌>>>◌, fault_of}
 use Rattle.jm_reading.specs.Events.{reserved_event_fault, letter_said}
 use Rattle.jm_reading.specs.Nesting.{is_too_deep}
+use Rattle.jm_reading.specs.Formulas.{IsReadWithin, IsRefusedWithin}
 use Rattle.jm_events.specs.Events.{EventDefinitions, event_names}
 use Rattle.jm_ere.specs.declared.reader.Atom.{Atom}
 use Rattle.jm_ere.specs.declared.reader.Atom.TheVariants.{Name, Epsilon, Empty}
@@ -60,13 +60,9 @@ first_fault bytes table f =
 
 -- no 65th parenthesis is open at once, and the tokens spell a formula without a fault, which says this expression
 abbrev pub IsReadFrom : List ℕ → List Token → EventDefinitions → Expression → Type 0
-IsReadFrom bytes tokens table e =
-    (is_too_deep bytes 0 tokens ≡ false)
-    × ((f : Formula) × Spells bytes tokens f × (first_fault bytes table f ≡ None) × (expression_said bytes (event_names table) f ≡ Ok e))
+IsReadFrom bytes tokens table =
+    IsReadWithin (Spells bytes tokens) (first_fault bytes table) (is_too_deep bytes 0 tokens) (expression_said bytes (event_names table))
 
 -- a 65th parenthesis is open at once; or else the tokens spell no formula, or one with this first fault; or memory is short
 abbrev pub IsRefused : List ℕ → List Token → EventDefinitions → SpecError → Type 0
-IsRefused bytes tokens table NoMemory = Unit {0}
-IsRefused bytes tokens table (Bad (TooMany Nesting)) = is_too_deep bytes 0 tokens ≡ true
-IsRefused bytes tokens table (Bad (Syntax line)) = (is_too_deep bytes 0 tokens ≡ false) × ((f : Formula) → Spells bytes tokens f → ⊥)
-IsRefused bytes tokens table (Bad fault) = (is_too_deep bytes 0 tokens ≡ false) × ((f : Formula) × Spells bytes tokens f × (first_fault bytes table f ≡ Some fault))
+IsRefused bytes tokens table = IsRefusedWithin (Spells bytes tokens) (first_fault bytes table) (is_too_deep bytes 0 tokens)

@@ -1,5 +1,5 @@
 -- What a reader of a formula answers.
-use Rattle.std.proofs.Common.{ℕ, ◌≡◌, Bool, true, false, List, [], ◌∷◌, Option, Some, None, Result, Ok, Err, IfOk, IfErr, subst}
+use Rattle.std.proofs.Common.{ℕ, ◌≡◌, Bool, true, false, List, [], ◌∷◌, Some, None, Result, Ok, Err, IfOk, IfErr}
 use Rattle.jm_model.specs.declared.fault.SpecError.{SpecError}
 use Rattle.jm_model.specs.declared.fault.SpecError.TheVariants.{Bad, NoMemory}
 use Rattle.jm_model.specs.declared.fault.SpecFault.{SpecFault}
@@ -16,11 +16,13 @@ use Rattle.jm_reading.specs.Tokens.{name_of}
 use Rattle.jm_reading.specs.Events.{letter_said}
 use Rattle.jm_reading.proofs.ReadLemmas.{IsOther, FailsOther, other_or, other_if, other_event, other_then, other_name, other_of}
 use Rattle.jm_fsm.specs.Faults.{name_token, is_grammar_word, part_name_fault, duplicate_state_fault, duplicate_transition_fault, part_transitions_fault, transitions_fault, destination_said, with_transition, with_transitions, with_member, with_members, with_part, with_parts, state_names, machine_of, first_fault}
+use Rattle.jm_fsm.specs.Formulas.{Spells}
 use Rattle.jm_fsm.specs.Rules.{formula_at}
 use Rattle.jm_reading.specs.Answers.{FailsAt}
-use Rattle.jm_reading.specs.Faults.{Checks, Refuses}
+use Rattle.jm_reading.specs.Faults.{Checks}
+use Rattle.jm_reading.proofs.FormulaLemmas as reading
 use Rattle.jm_fsm.specs.Trees.{IsReadFrom, IsRefused}
-use Rattle.jm_fsm.proofs.GrammarLemmas.{formula_sound, formula_none}
+use Rattle.jm_fsm.proofs.GrammarLemmas.{formula_sound, formula_none, one_formula}
 
 other_part : (bytes : List ℕ) (ps : List Part) → IsOther (part_name_fault bytes ps)
 other_part bytes [] = tt
@@ -75,18 +77,10 @@ other_fault bytes table parts =
     (other_or _ _ (other_if _ _ None tt tt)
     (other_of _ (other_parts bytes (event_names table) (state_names bytes parts) (record { states = []; aliases = [] }) parts)))))))
 
-never : (o : Option SpecFault) (line : ℕ) → IsOther o → o ≡ Some (Syntax line) → ⊥
-never o line h e = subst IsOther e h
-
 module _ (bytes : List ℕ) (tokens : List Token) (table : EventDefinitions) (parts : List Part) (spelled : formula_at bytes tokens ≡ Some parts) where
-  refused_as : (e : SpecError) → Refuses (first_fault bytes table parts) e → IsRefused bytes tokens table e
-  refused_as NoMemory h = tt
-  refused_as (Bad (Syntax line)) h = absurd (never (first_fault bytes table parts) line (other_fault bytes table parts) h)
-  refused_as (Bad _) h = (parts, formula_sound bytes tokens parts spelled, h)
-
   pub read_err : (r : Result StateMachine SpecError) → Checks r (first_fault bytes table parts) → IfErr r (IsRefused bytes tokens table)
   read_err (Ok m) h = tt
-  read_err (Err e) h = refused_as e h
+  read_err (Err e) h = reading.refused_by (Spells bytes tokens) (first_fault bytes table) parts (formula_sound bytes tokens parts spelled) (other_fault bytes table parts) e h
 
   pub read_ok : (r : Result StateMachine SpecError) → IfOk r (λ m. machine_of bytes table parts ≡ Ok m) → Checks r (first_fault bytes table parts) → IfOk r (IsReadFrom bytes tokens table)
   read_ok (Ok m) made h = (parts, formula_sound bytes tokens parts spelled, h, made)
@@ -97,3 +91,12 @@ pub read_none : (bytes : List ℕ) (tokens : List Token) (table : EventDefinitio
 read_none bytes tokens table NoMemory h = tt
 read_none bytes tokens table (Bad (Syntax line)) h = λ parts spelled. formula_none bytes tokens parts h spelled
 read_none bytes tokens table (Bad _) h = absurd h
+
+-- ---- one answer
+
+module _ (bytes : List ℕ) (tokens : List Token) (table : EventDefinitions) where
+  pub one_machine : (m n : StateMachine) → IsReadFrom bytes tokens table m → IsReadFrom bytes tokens table n → m ≡ n
+  one_machine = reading.one_read (Spells bytes tokens) (first_fault bytes table) (one_formula bytes tokens) (machine_of bytes table)
+
+  pub never_both : (m : StateMachine) (fault : SpecFault) → IsReadFrom bytes tokens table m → IsRefused bytes tokens table (Bad fault) → ⊥
+  never_both = reading.never_both (Spells bytes tokens) (first_fault bytes table) (one_formula bytes tokens) (machine_of bytes table)

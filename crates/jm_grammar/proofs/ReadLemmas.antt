@@ -1,5 +1,5 @@
 -- What a reader of a formula answers.
-use Rattle.std.proofs.Common.{ℕ, ◌≡◌, Bool, true, false, cond, List, [], ◌∷◌, Option, Some, None, Result, Ok, Err, IfOk, IfErr, Contains, length, ◌<◌, refl, arith, ap, subst, ◌∙◌}
+use Rattle.std.proofs.Common.{ℕ, ◌≡◌, Bool, true, false, cond, List, [], ◌∷◌, Option, Some, None, Result, Ok, Err, IfOk, IfErr, Contains, length, ◌<◌, refl, arith, ap, ◌∙◌}
 use Rattle.std.specs.Prelude.{nat_lt}
 use Rattle.std.specs.List.{list_any}
 use Rattle.jm_model.specs.declared.fault.SpecError.{SpecError}
@@ -15,13 +15,15 @@ use Rattle.jm_events.specs.Names.{number_of}
 use Rattle.jm_events.specs.Events.{EventDefinitions, EventDefinition, event_names}
 use Rattle.jm_reading.specs.Tokens.{name_of}
 use Rattle.jm_reading.specs.Answers.{FailsAt}
-use Rattle.jm_reading.specs.Faults.{or_else, Checks, Refuses}
+use Rattle.jm_reading.specs.Faults.{or_else, Checks}
 use Rattle.jm_reading.specs.Events.{reserved_event_fault}
 use Rattle.jm_reading.proofs.ReadLemmas.{then_ok, IsOther, FailsOther, other_or, other_if, other_event, other_then, other_name, other_of}
+use Rattle.jm_reading.proofs.FormulaLemmas as reading
 use Rattle.jm_grammar.specs.declared.formula.Part.{Part}
 use Rattle.jm_grammar.specs.declared.grammar.GrammarSymbol.{GrammarSymbol}
 use Rattle.jm_grammar.specs.declared.grammar.Production.{Production}
 use Rattle.jm_grammar.specs.Grammars.{GrammarDefinition}
+use Rattle.jm_grammar.specs.Formulas.{Spells}
 use Rattle.jm_grammar.specs.Rules.{formula_at}
 use Rattle.jm_grammar.specs.Faults.{nonterminals, nonterminals_fault, production_count, productions_fault, has_long, symbols_fault, is_epsilon, left_name_fault, clash_fault, nonterminal_said, letter_or, symbol_said, with_symbol, with_symbols, with_alternative, with_alternatives, with_part, with_parts, grammar_of, first_fault}
 use Rattle.jm_grammar.specs.Trees.{IsReadFrom, IsRefused}
@@ -81,18 +83,10 @@ other_fault bytes table parts =
     let many = other_or (productions_fault parts) _ (other_if (nat_lt 256 (production_count parts)) (TooMany Productions) None tt tt) long in
     other_or (nonterminals_fault bytes parts) _ (other_if (nat_lt 64 (length (nonterminals bytes parts))) (TooMany Nonterminals) None tt tt) many
 
-never : (o : Option SpecFault) (line : ℕ) → IsOther o → o ≡ Some (Syntax line) → ⊥
-never o line h e = subst IsOther e h
-
 module _ (bytes : List ℕ) (tokens behind : List Token) (table : EventDefinitions) (parts : List Part) (spelled : formula_at bytes tokens ≡ Some (parts, behind)) where
-  refused_as : (e : SpecError) → Refuses (first_fault bytes table parts) e → IsRefused bytes tokens table e
-  refused_as NoMemory h = tt
-  refused_as (Bad (Syntax line)) h = absurd (never (first_fault bytes table parts) line (other_fault bytes table parts) h)
-  refused_as (Bad _) h = (parts, formula_sound bytes tokens behind parts spelled, h)
-
   pub read_err : (r : Result GrammarDefinition SpecError) → Checks r (first_fault bytes table parts) → IfErr r (IsRefused bytes tokens table)
   read_err (Ok g) h = tt
-  read_err (Err e) h = refused_as e h
+  read_err (Err e) h = reading.refused_by (Spells bytes tokens) (first_fault bytes table) parts (formula_sound bytes tokens behind parts spelled) (other_fault bytes table parts) e h
 
   pub read_ok : (r : Result GrammarDefinition SpecError) → IfOk r (λ g. grammar_of bytes table parts ≡ Ok g) → Checks r (first_fault bytes table parts) → IfOk r (IsReadFrom bytes tokens table)
   read_ok (Ok g) made h = (parts, formula_sound bytes tokens behind parts spelled, h, made)
@@ -106,24 +100,12 @@ read_none bytes tokens table (Bad _) h = absurd h
 
 -- ---- one answer
 
-same_ok : (r : Result GrammarDefinition SpecFault) (g h : GrammarDefinition) → r ≡ Ok g → r ≡ Ok h → g ≡ h
-same_ok r g h a b = cc
+module _ (bytes : List ℕ) (tokens : List Token) (table : EventDefinitions) where
+  pub one_grammar : (g h : GrammarDefinition) → IsReadFrom bytes tokens table g → IsReadFrom bytes tokens table h → g ≡ h
+  one_grammar = reading.one_read (Spells bytes tokens) (first_fault bytes table) (one_formula bytes tokens) (grammar_of bytes table)
 
-none_and_some : (o : Option SpecFault) (fault : SpecFault) → o ≡ None → o ≡ Some fault → ⊥
-none_and_some o fault a b = absurd (cc)
-
--- no tokens have two grammars
-pub one_grammar : (bytes : List ℕ) (tokens : List Token) (table : EventDefinitions) (g h : GrammarDefinition) → IsReadFrom bytes tokens table g → IsReadFrom bytes tokens table h → g ≡ h
-one_grammar bytes tokens table g h a b =
-    let same : a.0 ≡ b.0 = one_formula bytes tokens a.0 b.0 a.1 b.1 in
-    same_ok (grammar_of bytes table a.0) g h a.3 (ap (λ (l : List Part). grammar_of bytes table l) same ∙ b.3)
-
--- and none have a grammar and a fault
-pub never_both : (bytes : List ℕ) (tokens : List Token) (table : EventDefinitions) (g : GrammarDefinition) (fault : SpecFault) → IsReadFrom bytes tokens table g → IsRefused bytes tokens table (Bad fault) → ⊥
-never_both bytes tokens table g (Syntax line) a b = b a.0 a.1
-never_both bytes tokens table g _ a b =
-    let same : a.0 ≡ b.0 = one_formula bytes tokens a.0 b.0 a.1 b.1 in
-    none_and_some (first_fault bytes table a.0) _ a.2 (ap (λ (l : List Part). first_fault bytes table l) same ∙ b.2)
+  pub never_both : (g : GrammarDefinition) (fault : SpecFault) → IsReadFrom bytes tokens table g → IsRefused bytes tokens table (Bad fault) → ⊥
+  never_both = reading.never_both (Spells bytes tokens) (first_fault bytes table) (one_formula bytes tokens) (grammar_of bytes table)
 
 -- ---- the letters of a grammar
 

@@ -1,22 +1,17 @@
 -- What a reader of a formula answers.
-use Rattle.std.specs.Prelude.{ℕ, ◌≡◌, List, Some, None, Ok}
+use Rattle.std.specs.Prelude.{ℕ, List}
 use Rattle.jm_model.specs.declared.fault.SpecError.{SpecError}
-use Rattle.jm_model.specs.declared.fault.SpecError.TheVariants.{Bad, NoMemory}
-use Rattle.jm_model.specs.declared.fault.SpecFault.TheVariants.{Syntax}
 use Rattle.jm_text.specs.declared.token.Token.{Token}
 use Rattle.jm_events.specs.Events.{EventDefinitions}
-use Rattle.jm_grammar.specs.declared.formula.Part.{Part}
+use Rattle.jm_reading.specs.Formulas.{IsReadBy, IsRefusedBy}
 use Rattle.jm_grammar.specs.Grammars.{GrammarDefinition}
 use Rattle.jm_grammar.specs.Formulas.{Spells}
 use Rattle.jm_grammar.specs.Faults.{grammar_of, first_fault}
 
 -- the tokens spell a formula without a fault, which says this grammar
 abbrev pub IsReadFrom : List ℕ → List Token → EventDefinitions → GrammarDefinition → Type 0
-IsReadFrom bytes tokens table g =
-    (parts : List Part) × Spells bytes tokens parts × (first_fault bytes table parts ≡ None) × (grammar_of bytes table parts ≡ Ok g)
+IsReadFrom bytes tokens table = IsReadBy (Spells bytes tokens) (first_fault bytes table) (grammar_of bytes table)
 
 -- the tokens spell no formula, or one with this first fault, unless memory is short
 abbrev pub IsRefused : List ℕ → List Token → EventDefinitions → SpecError → Type 0
-IsRefused bytes tokens table NoMemory = Unit {0}
-IsRefused bytes tokens table (Bad (Syntax line)) = (parts : List Part) → Spells bytes tokens parts → ⊥
-IsRefused bytes tokens table (Bad fault) = (parts : List Part) × Spells bytes tokens parts × (first_fault bytes table parts ≡ Some fault)
+IsRefused bytes tokens table = IsRefusedBy (Spells bytes tokens) (first_fault bytes table)

@@ -1,5 +1,5 @@
 -- Values that may be there.
-use Rattle.std.proofs.Common.{◌≡◌, ℕ, Bool, true, false, Option, Some, None, Result, Ok, List, map, refl, sym, ◌∙◌, ap, subst}
+use Rattle.std.proofs.Common.{◌≡◌, ℕ, Bool, true, false, Option, Some, None, List, map, refl, sym, ◌∙◌, ap, subst}
 use Rattle.std.specs.Prelude.{IsSomeAnd, ◌↔◌, is_some, option_map, slice_get}
 use Rattle.std.proofs.lemmas.Option.{slice_get-map}
 
@@ -8,9 +8,6 @@ same_some e = cc
 
 pub never_some : {X : Type 0} {x : X} → None ≡ Some x → ⊥
 never_some e = cc
-
-pub same_ok : {X E : Type 0} {x y : X} → ◌≡◌ {A = Result X E} (Ok x) (Ok y) → x ≡ y
-same_ok e = cc
 
 pub none_of_not_some : (o : Option ℕ) → is_some o ≡ false → o ≡ None
 none_of_not_some None e = refl

@@ -1,8 +1,8 @@
 -- What is wrong with a formula, step by step.
-use Rattle.std.proofs.Common.{ℕ, ◌≡◌, ◌<◌, ◌≤◌, inl, inr, Bool, true, false, cond, List, [], ◌∷◌, ◌++◌, Option, Some, None, Result, Ok, Err, IfOk, IfErr, length, refl, sym, ap, subst, ◌∙◌, arith, append_assoc, append-nil, length-append}
+use Rattle.std.proofs.Common.{ℕ, ◌≡◌, ◌<◌, ◌≤◌, inl, inr, Bool, true, false, cond, List, [], ◌∷◌, ◌++◌, Some, None, Result, Ok, Err, IfOk, IfErr, length, refl, sym, ap, ◌∙◌, arith, append_assoc, append-nil, length-append}
 use Rattle.std.proofs.lemmas.Bool.Decides.{leb_tells}
 use Rattle.jm_model.specs.declared.step.Letter.{Letter}
-use Rattle.jm_model.specs.declared.fault.Counted.TheVariants.{Nesting, Subformulas}
+use Rattle.jm_model.specs.declared.fault.Counted.TheVariants.{Subformulas}
 use Rattle.jm_model.specs.declared.fault.SpecFault.{SpecFault}
 use Rattle.jm_model.specs.declared.fault.SpecFault.TheVariants.{Syntax, TooMany}
 use Rattle.jm_model.specs.declared.fault.SpecError.{SpecError}
@@ -14,16 +14,18 @@ use Rattle.jm_reading.specs.Faults.{or_else, ◌>>>◌, fault_of, Refuses, Check
 use Rattle.jm_reading.specs.Events.{reserved_event_fault, letter_said}
 use Rattle.jm_reading.specs.Nesting.{is_too_deep}
 use Rattle.jm_reading.proofs.ReadLemmas.{then_then, then_same, then_ok, IsOther, FailsOther, other_or, other_if, other_event, other_then, other_name, other_of}
+use Rattle.jm_reading.proofs.FormulaLemmas as reading
 use Rattle.jm_ptltl.specs.declared.node.Binary.{Binary}
 use Rattle.jm_ptltl.specs.declared.node.Node.{Node}
 use Rattle.jm_ptltl.specs.declared.node.Node.TheVariants.{Event, Prefix, Infix}
 use Rattle.jm_ptltl.specs.Formulas.{Formula, event, constant, unary, binary, subformulas, postfix, formula_of}
 use Rattle.jm_ptltl.specs.Codes.{formula_of-postfix}
 use Rattle.jm_ptltl.specs.Lexicon.{is_grammar_word}
+use Rattle.jm_ptltl.specs.Grammar.{Spells}
 use Rattle.jm_ptltl.specs.Rules.{formula_at}
 use Rattle.jm_ptltl.specs.Faults.{subformulas_fault, formula_said, first_fault, with_nodes}
 use Rattle.jm_ptltl.specs.Readings.{IsReadFrom, IsRefused}
-use Rattle.jm_ptltl.proofs.GrammarLemmas.{formula_sound, formula_none}
+use Rattle.jm_ptltl.proofs.GrammarLemmas.{formula_sound, formula_none, one_formula}
 
 -- ---- the nodes of a formula over letters
 
@@ -157,27 +159,15 @@ other_fault : (bytes : List ℕ) (table : EventDefinitions) (f : Formula Token) 
 unfolding first_fault
 other_fault bytes table f = other_or _ _ (other_if _ _ None tt tt) (other_or _ _ (other_event is_grammar_word table.events) (other_of _ (other_said bytes (event_names table) f)))
 
-never : (o : Option SpecFault) (fault : SpecFault) → IsOther o → o ≡ Some fault → IsOther (Some fault)
-never o fault h e = subst IsOther e h
-
 module _ (bytes : List ℕ) (tokens : List Token) (table : EventDefinitions) (shallow : is_too_deep bytes 0 tokens ≡ false) where
   module _ (f : Formula Token) (spelled : formula_at bytes tokens ≡ Some f) where
-    refused_by : (fault : SpecFault) → first_fault bytes table f ≡ Some fault → IsOther (Some fault) → IsRefused bytes tokens table (Bad fault)
-    refused_by (Syntax line) h other = absurd other
-    refused_by (TooMany Nesting) h other = absurd other
-    refused_by (TooMany _) h other = (shallow, (f, formula_sound bytes tokens f spelled, h))
-    refused_by _ h other = (shallow, (f, formula_sound bytes tokens f spelled, h))
-
-    refused_as : (e : SpecError) → Refuses (first_fault bytes table f) e → IsRefused bytes tokens table e
-    refused_as NoMemory h = tt
-    refused_as (Bad fault) h = refused_by fault h (never (first_fault bytes table f) fault (other_fault bytes table f) h)
-
     pub read_err : (r : Result (Formula Letter) SpecError) → Checks r (first_fault bytes table f) → IfErr r (IsRefused bytes tokens table)
     read_err (Ok g) h = tt
-    read_err (Err e) h = refused_as e h
+    read_err (Err e) h =
+        reading.refused_within (Spells bytes tokens) (first_fault bytes table) f (formula_sound bytes tokens f spelled) (other_fault bytes table f) (is_too_deep bytes 0 tokens) shallow e h
 
     pub read_ok : (r : Result (Formula Letter) SpecError) → IfOk r (λ g. formula_said bytes (event_names table) f ≡ Ok g) → Checks r (first_fault bytes table f) → IfOk r (IsReadFrom bytes tokens table)
-    read_ok (Ok g) said h = (f, formula_sound bytes tokens f spelled, shallow, h, said)
+    read_ok (Ok g) said h = (shallow, (f, formula_sound bytes tokens f spelled, h, said))
     read_ok (Err e) said h = tt
 
   -- nothing was read
@@ -185,3 +175,12 @@ module _ (bytes : List ℕ) (tokens : List Token) (table : EventDefinitions) (sh
   read_none NoMemory h = tt
   read_none (Bad (Syntax line)) h = (shallow, λ f spelled. formula_none bytes tokens f h spelled)
   read_none (Bad _) h = absurd h
+
+-- ---- one answer
+
+module _ (bytes : List ℕ) (tokens : List Token) (table : EventDefinitions) where
+  pub one_past : (f g : Formula Letter) → IsReadFrom bytes tokens table f → IsReadFrom bytes tokens table g → f ≡ g
+  one_past = reading.one_within (Spells bytes tokens) (first_fault bytes table) (one_formula bytes tokens) (formula_said bytes (event_names table)) (is_too_deep bytes 0 tokens)
+
+  pub never_both : (f : Formula Letter) (fault : SpecFault) → IsReadFrom bytes tokens table f → IsRefused bytes tokens table (Bad fault) → ⊥
+  never_both = reading.never_both_within (Spells bytes tokens) (first_fault bytes table) (one_formula bytes tokens) (formula_said bytes (event_names table)) (is_too_deep bytes 0 tokens)

@@ -3,3 +3,4 @@ pub mod LoopLemmas
 pub mod GrammarLemmas
 pub mod EventLemmas
 pub mod ReadLemmas
+pub mod FormulaLemmas

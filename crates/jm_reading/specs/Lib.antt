@@ -4,3 +4,4 @@ pub mod Answers
 pub mod Faults
 pub mod Events
 pub mod Nesting
+pub mod Formulas

@@ -5,6 +5,7 @@ use Rattle.jm_model.specs.declared.fault.SpecError.{SpecError}
 use Rattle.jm_model.specs.declared.fault.SpecError.TheVariants.{Bad, NoMemory}
 use Rattle.jm_model.specs.declared.fault.SpecFault.TheVariants.{Syntax}
 use Rattle.jm_text.specs.declared.token.Token.{Token}
+use Rattle.jm_reading.specs.Formulas.{IsRefusedBy}
 use Rattle.jm_spec.specs.declared.head.Modifier.{Modifier}
 use Rattle.jm_spec.specs.declared.head.Modifier.TheVariants.{FullBinding}
 use Rattle.jm_spec.specs.declared.property.Property.{Property}
@@ -54,7 +55,4 @@ HasRange n p = (0 < p.first) × (p.first ≤ p.last) × (p.last ≤ n)
 
 -- the tokens spell no frame, or one with this first fault, unless memory is short
 abbrev pub IsFaultOfTokens : List ℕ → List Token → SpecError → Type 0
-IsFaultOfTokens bytes tokens NoMemory = Unit {0}
-IsFaultOfTokens bytes tokens (Bad (Syntax line)) = (frame : Frame) → Spells bytes tokens frame → ⊥
-IsFaultOfTokens bytes tokens (Bad fault) =
-    (frame : Frame) × Spells bytes tokens frame × (frame_fault bytes frame ≡ Some fault)
+IsFaultOfTokens bytes tokens = IsRefusedBy (Spells bytes tokens) (frame_fault bytes)

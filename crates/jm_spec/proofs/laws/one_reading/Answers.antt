@@ -1,8 +1,8 @@
-use Rattle.std.proofs.Common.{◌≡◌, ℕ, List, Option, Some, None, sym, ap, ◌∙◌}
+use Rattle.std.proofs.Common.{◌≡◌, ℕ, List, sym, ◌∙◌}
 use Rattle.jm_model.specs.declared.fault.SpecError.TheVariants.{Bad}
 use Rattle.jm_model.specs.declared.fault.SpecFault.{SpecFault}
-use Rattle.jm_model.specs.declared.fault.SpecFault.TheVariants.{Syntax}
 use Rattle.jm_text.specs.declared.token.Token.{Token}
+use Rattle.jm_reading.proofs.FormulaLemmas.{never_refused}
 use Rattle.jm_spec.specs.declared.frame.Frame.{Frame}
 use Rattle.jm_spec.specs.declared.tree.SpecTree.{SpecTree}
 use Rattle.jm_spec.specs.Spelling.{Spells}
@@ -15,15 +15,8 @@ use Rattle.jm_spec.proofs.laws.one_reading.Goals as goal
 one_frame : (bytes : List ℕ) (tokens : List Token) (frame other : Frame) → Spells bytes tokens frame → Spells bytes tokens other → frame ≡ other
 one_frame bytes tokens frame other h k = same_some (sym (spelled_is_frame bytes tokens frame h) ∙ spelled_is_frame bytes tokens other k)
 
-no_fault_and_one : (o : Option SpecFault) (fault : SpecFault) → o ≡ None → o ≡ Some fault → ⊥
-no_fault_and_one o fault h k = cc
-
-faulty : (bytes : List ℕ) (tokens : List Token) (frame other : Frame) (fault : SpecFault) → Spells bytes tokens frame → frame_fault bytes frame ≡ None → Spells bytes tokens other → frame_fault bytes other ≡ Some fault → ⊥
-faulty bytes tokens frame other fault h none k some = no_fault_and_one (frame_fault bytes frame) fault none (ap (frame_fault bytes) (one_frame bytes tokens frame other h k) ∙ some)
-
 never : (bytes : List ℕ) (tokens : List Token) (tree : SpecTree) (fault : SpecFault) → IsTreeOfTokens bytes tokens tree → IsFaultOfTokens bytes tokens (Bad fault) → ⊥
-never bytes tokens tree (Syntax line) t f = f t.0 t.1
-never bytes tokens tree _ t f = faulty bytes tokens t.0 f.0 _ t.1 t.2 f.1 f.2
+never bytes tokens tree fault t f = never_refused (Spells bytes tokens) (frame_fault bytes) (one_frame bytes tokens) t.0 t.1 t.2 fault f
 
 pub returns-clause-frame : goal.returns-clause-frame
 returns-clause-frame c = one_frame
