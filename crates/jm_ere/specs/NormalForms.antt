@@ -74,12 +74,12 @@ is_run Or (Union r s) = true
 is_run And (Intersection r s) = true
 is_run op r = false
 
--- what changes nothing beside other members: `empty` with `|`, and `~empty` with `&`
+-- what is dropped from a run: `empty` from one of `|`, and `~empty` from one of `&`
 abbrev pub is_unit : Operator → Expression → Bool
 is_unit Or r = is_nothing r
 is_unit And r = is_everything r
 
--- what the whole is wherever it is a member: `~empty` with `|`, and `empty` with `&`
+-- what the whole run is where it is a member: `~empty` of one of `|`, and `empty` of one of `&`
 abbrev pub is_zero : Operator → Expression → Bool
 is_zero Or r = is_everything r
 is_zero And r = is_nothing r
@@ -109,8 +109,8 @@ before r s = Product r s
 abbrev pub product_of : Expression → Expression → Expression
 product_of r s = if is_nothing s then NoWord else (if is_epsilon s then r else before r s)
 
--- A run of an operator is nested to the right, and sorted without doubles. One more member `t` beside such a run, whose
--- first member is `r`, where `rest` is what stands behind `r` if `t` does:
+-- A run of an operator is nested to the right, and sorted without doubles. One more member `t` of such a run, whose first
+-- member is `r`; `rest` is what then stands behind `r`, if `t` belongs there:
 abbrev pub placed : Operator → Expression → Expression → Expression → Expression → Expression
 placed op t r run rest = by_order (order t r) (pair op t run) run (pair op r rest)
 

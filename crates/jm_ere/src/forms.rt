@@ -52,6 +52,7 @@ fn then(alloc: Global, r: Tree, s: Tree) -> Result<Tree, SpecError>
     Ok(Tree::Then(r, s))
 }
 
+/// `r | s`, or `r & s`.
 fn pair_of(operator: Operator, r: Box<Tree>, s: Box<Tree>) -> Tree
     ensures { expression_of result ≡ pair operator (expression_of r.value) (expression_of s.value) }
 {
@@ -61,7 +62,7 @@ fn pair_of(operator: Operator, r: Box<Tree>, s: Box<Tree>) -> Tree
     }
 }
 
-/// `r | s`, or `r & s`.
+/// The same of parts that are not in boxes yet.
 fn pair(alloc: Global, operator: Operator, r: Tree, s: Tree) -> Result<Tree, SpecError>
     ensures ok { IfOk result (λ t. expression_of t ≡ pair operator (expression_of r) (expression_of s)) }
     ensures err { IfErr result (λ e. e ≡ SpecError.NoMemory) }
@@ -151,7 +152,8 @@ fn put(alloc: Global, operator: Operator, t: Tree, run: Tree) -> Result<Tree, Sp
     }
 }
 
-/// A member of a run, and the rest of the run: a unit is dropped, and with a zero the whole is the zero.
+/// A member of a run, and the rest of the run. In a run of `|` `empty` is dropped, and with `~empty` the whole is
+/// `~empty`; in a run of `&` they change places.
 fn join(alloc: Global, operator: Operator, t: Tree, run: Tree) -> Result<Tree, SpecError>
     ensures ok { IfOk result (λ u. expression_of u ≡ join operator (expression_of t) (expression_of run)) }
     ensures err { IfErr result (λ e. e ≡ SpecError.NoMemory) }

@@ -107,7 +107,7 @@ pub(crate) fn is_run(operator: Operator, tree: &Tree) -> bool
     }
 }
 
-/// Whether it changes nothing beside other members of a run.
+/// Whether a run of the operator is the same without it: `empty` in one of `|`, and `~empty` in one of `&`.
 pub(crate) fn is_unit(operator: Operator, tree: &Tree) -> bool
     ensures { result ≡ is_unit operator (expression_of tree.now) }
 {
@@ -117,7 +117,7 @@ pub(crate) fn is_unit(operator: Operator, tree: &Tree) -> bool
     }
 }
 
-/// Whether a run with it is no other.
+/// Whether a run of the operator is it wherever it is a member: `~empty` in one of `|`, and `empty` in one of `&`.
 pub(crate) fn is_zero(operator: Operator, tree: &Tree) -> bool
     ensures { result ≡ is_zero operator (expression_of tree.now) }
 {
