@@ -12,7 +12,7 @@ use Rattle.jm_grammar.specs.declared.grammar.GrammarSymbol.{GrammarSymbol}
 use Rattle.jm_grammar.specs.declared.grammar.GrammarSymbol.TheVariants.{Letter, Nonterminal}
 use Rattle.jm_grammar.specs.declared.grammar.Production.{Production}
 use Rattle.jm_grammar.specs.Grammars.{GrammarDefinition, IsSmall, IsSmallSymbol, IsSmallProduction}
-use Rattle.jm_grammar.specs.Derivations.{Trees, IsWord}
+use Rattle.jm_grammar.specs.Meanings.{Trees, IsWord}
 use Rattle.jm_earley.specs.declared.item.Item.{Item}
 use Rattle.jm_earley.specs.declared.rule.Rule.{Rule}
 use Rattle.jm_earley.specs.declared.link.Link.{Link}

@@ -9,7 +9,7 @@ use Rattle.std.proofs.lemmas.Nat.Bits.{bit_at_set_other, bit_at-zero}
 use Rattle.std.proofs.lemmas.List.Elements.{All-nil, All-head, All-contains, Contains-get_or}
 use Rattle.jm_earley.specs.Charts.{IsBelow, AreBelow}
 use Rattle.jm_grammar.specs.declared.grammar.Production.{Production}
-use Rattle.jm_grammar.specs.Derivations.{Derives, DerivesOf}
+use Rattle.jm_grammar.specs.Meanings.{Derives, DerivesOf}
 use Rattle.jm_grammar.proofs.RoundLemmas.{bit_of, of_bit}
 
 -- the test of a bit

@@ -8,7 +8,7 @@ use Rattle.jm_grammar.specs.declared.grammar.GrammarSymbol.{GrammarSymbol}
 use Rattle.jm_grammar.specs.declared.grammar.GrammarSymbol.TheVariants.{Letter, Nonterminal}
 use Rattle.jm_grammar.specs.declared.grammar.Production.{Production}
 use Rattle.jm_grammar.specs.Grammars.{IsSmallSymbol, IsSmallProduction}
-use Rattle.jm_grammar.specs.Derivations.{Trees, no_tree, leaf, node, Derives, DerivesOf}
+use Rattle.jm_grammar.specs.Meanings.{Trees, no_tree, leaf, node, Derives, DerivesOf}
 use Rattle.jm_grammar.proofs.RoundLemmas.{bit_of, of_bit, trees_append, SpellAll}
 use Rattle.jm_earley.specs.declared.rule.Rule.{Rule}
 use Rattle.jm_earley.specs.declared.letter_set.LetterSet.{LetterSet}

@@ -4,7 +4,7 @@ use Rattle.jm_grammar.specs.declared.grammar.GrammarSymbol.{GrammarSymbol}
 use Rattle.jm_grammar.specs.declared.grammar.GrammarSymbol.TheVariants.{Letter, Nonterminal}
 use Rattle.jm_grammar.specs.declared.grammar.Production.{Production}
 use Rattle.jm_grammar.specs.Grammars.{GrammarDefinition}
-use Rattle.jm_grammar.specs.Derivations.{DerivesOf, DerivesSome, IsIn}
+use Rattle.jm_grammar.specs.Meanings.{DerivesOf, DerivesSome, IsIn}
 use Rattle.jm_earley.specs.declared.item.Item.{Item}
 use Rattle.jm_earley.specs.declared.letter_set.LetterSet.{LetterSet}
 use Rattle.jm_earley.specs.declared.place.Place.{Place}

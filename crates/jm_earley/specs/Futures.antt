@@ -4,7 +4,7 @@ use Rattle.jm_grammar.specs.declared.grammar.GrammarSymbol.{GrammarSymbol}
 use Rattle.jm_grammar.specs.declared.grammar.GrammarSymbol.TheVariants.{Nonterminal}
 use Rattle.jm_grammar.specs.declared.grammar.Production.{Production}
 use Rattle.jm_grammar.specs.Grammars.{GrammarDefinition}
-use Rattle.jm_grammar.specs.Derivations.{Trees, Derives, IsWord}
+use Rattle.jm_grammar.specs.Meanings.{Trees, Derives, IsWord}
 use Rattle.jm_earley.specs.declared.item.Item.{Item}
 use Rattle.jm_earley.specs.Items.{IsItem}
 

@@ -1,7 +1,7 @@
 -- What a place keeps of what may follow there.
 use Rattle.std.specs.Prelude.{ℕ, ◌≡◌, ◌≢◌, ◌<◌, ◌≤◌, ◌↔◌, List, [], ◌++◌, All, Some, None, IsBitSet, IsTrue, length, take, slice_get}
 use Rattle.jm_grammar.specs.Grammars.{GrammarDefinition}
-use Rattle.jm_grammar.specs.Derivations.{IsWord, IsIn, DerivesSome}
+use Rattle.jm_grammar.specs.Meanings.{IsWord, IsIn, DerivesSome}
 use Rattle.jm_earley.specs.declared.item.Item.{Item}
 use Rattle.jm_earley.specs.declared.letter_set.LetterSet.{LetterSet}
 use Rattle.jm_earley.specs.declared.future.Future.{Future}

@@ -2,7 +2,7 @@
 ghost use Rattle.std.specs.Prelude.{ℕ, ◌≡◌, ◌==◌, ◌<◌, ◌≤◌, ◌+◌, ◌-◌, ◌^◌, ◌↔◌, List, [], ◌∷◌, ◌++◌, Some, None, Any, IsTrue, IfSome, IfOk, map, length, slice_get, if◌then◌else◌};
 ghost use Rattle.jm_grammar.specs.declared.grammar.GrammarSymbol.{GrammarSymbol};
 ghost use Rattle.jm_grammar.specs.Grammars.{IsSmall, IsSmallSymbol, IsSmallProduction};
-ghost use Rattle.jm_grammar.specs.Derivations.{IsWord, Derives, IsHopeless};
+ghost use Rattle.jm_grammar.specs.Meanings.{IsWord, Derives, IsHopeless};
 ghost use Rattle.jm_earley.specs.Items.{symbol_after, finished_left, IsWhole};
 ghost use Rattle.jm_earley.specs.declared.place.Place.{Place};
 ghost use Rattle.jm_earley.specs.Kept.{IsSorted};

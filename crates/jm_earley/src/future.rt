@@ -6,7 +6,7 @@ ghost use Rattle.jm_grammar.specs.Grammars.{GrammarDefinition};
 ghost use Rattle.jm_earley.specs.Items.{IsItemSet};
 ghost use Rattle.jm_earley.specs.LetterSets.{IsExact};
 ghost use Rattle.jm_earley.specs.DeadSets.{AreDeadSets};
-ghost use Rattle.jm_grammar.specs.Derivations.{IsHopeless};
+ghost use Rattle.jm_grammar.specs.Meanings.{IsHopeless};
 ghost use Rattle.jm_earley.specs.Places.{AllSpell, AreEarlier, AreFutures, IsFutureOf, IsAliveFor};
 
 use crate::dead::DeadSets;

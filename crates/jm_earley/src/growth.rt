@@ -2,7 +2,7 @@
 ghost use Rattle.std.specs.Prelude.{ℕ, ◌≡◌, ◌<◌, ◌↔◌, [], Some, None, IfOk, OnOk, Contains};
 ghost use Rattle.jm_grammar.specs.declared.grammar.GrammarSymbol.{GrammarSymbol};
 ghost use Rattle.jm_grammar.specs.Grammars.{IsSmallSymbol};
-ghost use Rattle.jm_grammar.specs.Derivations.{Derives};
+ghost use Rattle.jm_grammar.specs.Meanings.{Derives};
 ghost use Rattle.jm_earley.specs.declared.item.Item.{Item};
 ghost use Rattle.jm_earley.specs.Items.{symbol_after, finished_left, advanced};
 ghost use Rattle.jm_earley.specs.Growth.{Grows, IsAdvancedOver, AreAdvancedOver, IsPrediction, ArePredicted, IsPredictedSet, IsWorked, IsClosure};

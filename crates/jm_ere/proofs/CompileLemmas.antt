@@ -9,7 +9,7 @@ use Rattle.jm_table.specs.Members.{ArePlaces}
 use Rattle.jm_table.specs.Tables.{Transitions, IsWord, Follows, next_of, state_from, state_after_of}
 use Rattle.jm_table.proofs.MemberLemmas.{members_are}
 use Rattle.jm_ere.specs.Expressions.{Expression}
-use Rattle.jm_ere.specs.Languages.{InLanguage, IsFailed}
+use Rattle.jm_ere.specs.Meanings.{InLanguage, IsFailed}
 use Rattle.jm_ere.specs.NormalForms.{is_nullable, forms_of}
 use Rattle.jm_ere.specs.Groups.{IsCompiled, HasGroups, IsMatching, LeadsToMatch, AreLive, IsClosed}
 use Rattle.jm_ere.proofs.LanguageLemmas.{Decided, Same, nullable_tells}

@@ -4,7 +4,7 @@ use Rattle.jm_table.specs.Graphs.{step_from, reached_by}
 use Rattle.jm_ere.specs.declared.order.Operator.{Operator}
 use Rattle.jm_ere.specs.declared.order.Operator.TheVariants.{Or, And}
 use Rattle.jm_ere.specs.Expressions.{Expression, Symbol, EmptyWord, NoWord, Complement, Star, Plus, Product, Union, Intersection}
-use Rattle.jm_ere.specs.Languages.{InLanguage, IsSplit}
+use Rattle.jm_ere.specs.Meanings.{InLanguage, IsSplit}
 use Rattle.jm_ere.specs.NormalForms.{is_product, pair, is_run, complement_of, star_of, product_of, combined, size_of, Formed, fitting, part, ◌>>=◌, normal_run, normal_form, is_nullable, derivative_run, forms_of}
 use Rattle.jm_ere.proofs.LanguageLemmas.{Same, itself, through, split_map, chain_map, plain, plain_tells}
 use Rattle.jm_ere.proofs.NormalLemmas.{complement_keeps, star_keeps, product_keeps, pair_keeps, combined_keeps}

@@ -1,8 +1,8 @@
 -- The nodes of a formula give it back.
 use Rattle.std.proofs.Common.{◌≡◌, ℕ, List, [], ◌∷◌, ◌++◌, length, Option, Some, refl, sym, ap, ◌∙◌, append_assoc, length-append, arith}
 use Rattle.jm_text.specs.declared.token.Token.{Token}
-use Rattle.jm_ere.specs.declared.reader.Node.{Node}
-use Rattle.jm_ere.specs.declared.reader.Node.TheVariants.{Push, Wrap, Join}
+use Rattle.jm_ere.specs.declared.formula.Node.{Node}
+use Rattle.jm_ere.specs.declared.formula.Node.TheVariants.{Push, Wrap, Join}
 use Rattle.jm_ere.specs.Formulas.{Formula, Leaf, Over, Between, node_count}
 use Rattle.jm_ere.specs.Spelling.{Spells}
 use Rattle.jm_ere.specs.Rules.{postfix, parsed}

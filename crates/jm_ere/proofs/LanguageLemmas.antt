@@ -2,7 +2,7 @@ use Rattle.std.proofs.Common.{ℕ, ◌≡◌, ◌≢◌, ◌↔◌, ◌==◌, �
 use Rattle.std.specs.List.{AllByRecursion}
 use Rattle.std.proofs.lemmas.Bool.Decides.{eqb_tells}
 use Rattle.jm_ere.specs.Expressions.{Expression, Symbol, EmptyWord, NoWord, Complement, Star, Plus, Product, Union, Intersection}
-use Rattle.jm_ere.specs.Languages.{InLanguage, IsSplit, IsChain, joined}
+use Rattle.jm_ere.specs.Meanings.{InLanguage, IsSplit, IsChain, joined}
 use Rattle.jm_ere.specs.NormalForms.{is_nullable}
 
 -- ---- splits and chains

@@ -5,7 +5,7 @@ use Rattle.std.specs.declared.cmp.Ordering.TheVariants.{Less, Equal, Greater}
 use Rattle.jm_ere.specs.declared.order.Operator.{Operator}
 use Rattle.jm_ere.specs.declared.order.Operator.TheVariants.{Or, And}
 use Rattle.jm_ere.specs.Expressions.{Expression, EmptyWord, NoWord, Complement, Star, Product, Union, Intersection}
-use Rattle.jm_ere.specs.Languages.{InLanguage, IsChain, joined}
+use Rattle.jm_ere.specs.Meanings.{InLanguage, IsChain, joined}
 use Rattle.jm_ere.specs.NormalForms.{order, by_order, is_nothing, is_everything, pair, is_unit, is_zero, complement_of, star_of, before, product_of, put, join, combined}
 use Rattle.jm_ere.proofs.OrderLemmas.{order_tells}
 use Rattle.jm_ere.proofs.LanguageLemmas.{Same, itself, through, chain_of_chains, chain_empty, decide}

@@ -12,15 +12,16 @@ use Rattle.jm_reading.specs.Nesting.{is_too_deep}
 use Rattle.jm_reading.proofs.ReadLemmas.{then_then, then_same, IsOther, FailsOther, other_or, other_if, other_event, other_then, other_name, other_of}
 use Rattle.jm_reading.proofs.FormulaLemmas as reading
 use Rattle.jm_events.specs.Events.{EventDefinitions, event_names}
-use Rattle.jm_ere.specs.declared.reader.Atom.{Atom}
-use Rattle.jm_ere.specs.declared.reader.Atom.TheVariants.{Name, Epsilon, Empty}
-use Rattle.jm_ere.specs.declared.reader.Node.{Node}
-use Rattle.jm_ere.specs.declared.reader.Node.TheVariants.{Wrap, Join}
+use Rattle.jm_ere.specs.declared.formula.Atom.{Atom}
+use Rattle.jm_ere.specs.declared.formula.Atom.TheVariants.{Name, Epsilon, Empty}
+use Rattle.jm_ere.specs.declared.formula.Node.{Node}
+use Rattle.jm_ere.specs.declared.formula.Node.TheVariants.{Wrap, Join}
 use Rattle.jm_ere.specs.Expressions.{Expression}
 use Rattle.jm_ere.specs.Formulas.{Formula, Leaf, Over, Between, node_count}
 use Rattle.jm_ere.specs.Spelling.{Spells}
 use Rattle.jm_ere.specs.Rules.{postfix, IsWritten, parsed}
-use Rattle.jm_ere.specs.Readings.{nodes_fault, is_grammar_word, atom_said, over, between, expression_said, first_fault, IsReadFrom, IsRefused}
+use Rattle.jm_ere.specs.Readings.{IsReadFrom, IsRefused}
+use Rattle.jm_ere.specs.Faults.{nodes_fault, is_grammar_word, atom_said, over, between, expression_said, first_fault}
 use Rattle.jm_ere.specs.Values.{with_nodes, fault_of_nodes}
 use Rattle.jm_ere.proofs.CompleteLemmas.{spelled_is_parsed}
 use Rattle.jm_ere.proofs.SoundLemmas.{parsed_is_spelled}

@@ -9,7 +9,7 @@ use Rattle.jm_text.specs.declared.token.TokenKind.TheVariants.{Word, Text, Mark}
 use Rattle.jm_text.specs.Texts.{is_name, is_word, is_mark, is_word_kind, is_mark_kind}
 use Rattle.jm_reading.specs.Tokens.{IsName, IsWord, IsMark}
 use Rattle.jm_reading.proofs.TokenLemmas.{other_mark}
-use Rattle.jm_ere.specs.declared.reader.Atom.TheVariants.{Name, Epsilon, Empty}
+use Rattle.jm_ere.specs.declared.formula.Atom.TheVariants.{Name, Epsilon, Empty}
 use Rattle.jm_ere.specs.declared.reader.Sign.{Sign}
 use Rattle.jm_ere.specs.declared.reader.Sign.TheVariants.{Operand, Opening, Closing, Tilde, Asterisk, PlusSign, Bar, Ampersand, Other}
 use Rattle.jm_ere.specs.Rules.{sign_of}

@@ -4,13 +4,13 @@ use Rattle.std.specs.Prelude.{codes}
 use Rattle.jm_text.specs.declared.token.Token.{Token}
 use Rattle.jm_reading.specs.Tokens.{IsMark}
 use Rattle.jm_reading.proofs.TokenLemmas.{step_of}
-use Rattle.jm_ere.specs.declared.reader.Atom.{Atom}
-use Rattle.jm_ere.specs.declared.reader.Atom.TheVariants.{Name, Epsilon, Empty}
-use Rattle.jm_ere.specs.declared.reader.Unary.{Unary}
-use Rattle.jm_ere.specs.declared.reader.Unary.TheVariants.{Not, Any, Many}
-use Rattle.jm_ere.specs.declared.reader.Binary.TheVariants.{Then, Either, Both}
-use Rattle.jm_ere.specs.declared.reader.Node.{Node}
-use Rattle.jm_ere.specs.declared.reader.Node.TheVariants.{Push, Wrap, Join}
+use Rattle.jm_ere.specs.declared.formula.Atom.{Atom}
+use Rattle.jm_ere.specs.declared.formula.Atom.TheVariants.{Name, Epsilon, Empty}
+use Rattle.jm_ere.specs.declared.formula.Unary.{Unary}
+use Rattle.jm_ere.specs.declared.formula.Unary.TheVariants.{Not, Any, Many}
+use Rattle.jm_ere.specs.declared.formula.Binary.TheVariants.{Then, Either, Both}
+use Rattle.jm_ere.specs.declared.formula.Node.{Node}
+use Rattle.jm_ere.specs.declared.formula.Node.TheVariants.{Push, Wrap, Join}
 use Rattle.jm_ere.specs.declared.reader.Sign.{Sign}
 use Rattle.jm_ere.specs.declared.reader.Sign.TheVariants.{Operand, Opening, Closing, Tilde, Asterisk, PlusSign, Bar, Ampersand, Other}
 use Rattle.jm_ere.specs.declared.reader.Pending.{Pending}

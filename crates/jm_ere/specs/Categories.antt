@@ -1,7 +1,7 @@
 -- The categories of a regular expression.
 use Rattle.std.specs.Prelude.{ℕ, zero, suc, List, [], ◌∷◌, codes}
 use Rattle.jm_ere.specs.Expressions.{Expression}
-use Rattle.jm_ere.specs.Languages.{InLanguage, IsFailed}
+use Rattle.jm_ere.specs.Meanings.{InLanguage, IsFailed}
 
 -- the names of the categories, in the order of their groups
 abbrev pub category_names : List (List ℕ)

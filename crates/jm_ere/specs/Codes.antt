@@ -36,18 +36,23 @@ topmost (e ∷ stack) = e
 abbrev pub from_numbers : List ℕ → Expression
 from_numbers numbers = topmost (fold made_of [] numbers)
 
-abbrev pub numbers_give : (e : Expression) (stack : List Expression) (rest : List ℕ) → fold made_of stack (numbers_of e rest) ≡ fold made_of (e ∷ stack) rest
+abbrev pub numbers_give : (e : Expression) (stack : List Expression) (rest : List ℕ)
+    → fold made_of stack (numbers_of e rest) ≡ fold made_of (e ∷ stack) rest
 numbers_give EmptyWord stack rest = refl
 numbers_give NoWord stack rest = refl
 numbers_give (Complement r) stack rest = numbers_give r stack (2 ∷ rest)
 numbers_give (Star r) stack rest = numbers_give r stack (3 ∷ rest)
 numbers_give (Plus r) stack rest = numbers_give r stack (4 ∷ rest)
-numbers_give (Product r s) stack rest = numbers_give r stack (numbers_of s (5 ∷ rest)) ∙ numbers_give s (r ∷ stack) (5 ∷ rest)
-numbers_give (Union r s) stack rest = numbers_give r stack (numbers_of s (6 ∷ rest)) ∙ numbers_give s (r ∷ stack) (6 ∷ rest)
-numbers_give (Intersection r s) stack rest = numbers_give r stack (numbers_of s (7 ∷ rest)) ∙ numbers_give s (r ∷ stack) (7 ∷ rest)
+numbers_give (Product r s) stack rest =
+    numbers_give r stack (numbers_of s (5 ∷ rest)) ∙ numbers_give s (r ∷ stack) (5 ∷ rest)
+numbers_give (Union r s) stack rest =
+    numbers_give r stack (numbers_of s (6 ∷ rest)) ∙ numbers_give s (r ∷ stack) (6 ∷ rest)
+numbers_give (Intersection r s) stack rest =
+    numbers_give r stack (numbers_of s (7 ∷ rest)) ∙ numbers_give s (r ∷ stack) (7 ∷ rest)
 numbers_give (Symbol x) (r ∷ s ∷ stack) rest = refl
 numbers_give (Symbol x) (r ∷ []) rest = refl
 numbers_give (Symbol x) [] rest = refl
 
 abbrev pub expression_code : Coded Expression
-expression_code = code_by (List ℕ) (coded_list coded_ℕ) (λ e. numbers_of e []) from_numbers (λ e. ap topmost (numbers_give e [] []))
+expression_code =
+    code_by (List ℕ) (coded_list coded_ℕ) (λ e. numbers_of e []) from_numbers (λ e. ap topmost (numbers_give e [] []))

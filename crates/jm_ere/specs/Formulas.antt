@@ -1,8 +1,8 @@
 -- A formula as it is written, and how many nodes it has.
 use Rattle.std.specs.Prelude.{ℕ, ◌+◌}
-use Rattle.jm_ere.specs.declared.reader.Atom.{Atom}
-use Rattle.jm_ere.specs.declared.reader.Unary.{Unary}
-use Rattle.jm_ere.specs.declared.reader.Binary.{Binary}
+use Rattle.jm_ere.specs.declared.formula.Atom.{Atom}
+use Rattle.jm_ere.specs.declared.formula.Unary.{Unary}
+use Rattle.jm_ere.specs.declared.formula.Binary.{Binary}
 
 -- an atom, or an operator over one formula or two
 pub data Formula : Type 0 where

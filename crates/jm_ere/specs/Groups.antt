@@ -1,7 +1,7 @@
 use Rattle.std.specs.Prelude.{ℕ, ◌≡◌, ◌<◌, ◌↔◌, Bool, true, false, List, Some, IsSomeAnd, slice_get, length}
 use Rattle.jm_table.specs.Tables.{Transitions, IsWord, IsInGroup, next_of, state_from, state_after_of}
 use Rattle.jm_ere.specs.Expressions.{Expression}
-use Rattle.jm_ere.specs.Languages.{InLanguage, IsFailed}
+use Rattle.jm_ere.specs.Meanings.{InLanguage, IsFailed}
 use Rattle.jm_ere.specs.NormalForms.{is_nullable}
 
 -- After each word of the table's letters its state is in group 0, `match`, exactly where the word is in the language,

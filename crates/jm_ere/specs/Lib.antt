@@ -1,5 +1,5 @@
 pub mod Expressions
-pub mod Languages
+pub mod Meanings
 pub mod NormalForms
 pub mod Normality
 pub mod Keys
@@ -13,3 +13,4 @@ pub mod Spelling
 pub mod Rules
 pub mod Readings
 pub mod Values
+pub mod Faults

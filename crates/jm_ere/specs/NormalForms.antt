@@ -109,8 +109,8 @@ before r s = Product r s
 abbrev pub product_of : Expression → Expression → Expression
 product_of r s = if is_nothing s then NoWord else (if is_epsilon s then r else before r s)
 
--- A run of an operator is nested to the right, and sorted without doubles. One more member `t` of such a run, whose first
--- member is `r`; `rest` is what then stands behind `r`, if `t` belongs there:
+-- A run of an operator is nested to the right, and sorted without doubles. One more member `t` of such a run, whose
+-- first member is `r`; `rest` is what then stands behind `r`, if `t` belongs there:
 abbrev pub placed : Operator → Expression → Expression → Expression → Expression → Expression
 placed op t r run rest = by_order (order t r) (pair op t run) run (pair op r rest)
 
@@ -166,9 +166,12 @@ abbrev pub normal_run : Expression → Formed
 normal_run (Complement r) = part false (normal_run r) >>= λ n. Ok (complement_of n)
 normal_run (Star r) = part false (normal_run r) >>= λ n. Ok (star_of n)
 normal_run (Plus r) = part false (normal_run r) >>= λ n. fitting (star_of n) >>= λ s. Ok (product_of n s)
-normal_run (Product r s) = part (is_product r) (normal_run r) >>= λ n. part (is_product s) (normal_run s) >>= λ m. Ok (product_of n m)
-normal_run (Union r s) = part (is_run Or r) (normal_run r) >>= λ n. part (is_run Or s) (normal_run s) >>= λ m. Ok (combined Or n m)
-normal_run (Intersection r s) = part (is_run And r) (normal_run r) >>= λ n. part (is_run And s) (normal_run s) >>= λ m. Ok (combined And n m)
+normal_run (Product r s) =
+    part (is_product r) (normal_run r) >>= λ n. part (is_product s) (normal_run s) >>= λ m. Ok (product_of n m)
+normal_run (Union r s) =
+    part (is_run Or r) (normal_run r) >>= λ n. part (is_run Or s) (normal_run s) >>= λ m. Ok (combined Or n m)
+normal_run (Intersection r s) =
+    part (is_run And r) (normal_run r) >>= λ n. part (is_run And s) (normal_run s) >>= λ m. Ok (combined And n m)
 normal_run r = Ok r
 
 -- the normal form of a written expression
@@ -196,9 +199,12 @@ derivative_run x (Complement r) = part false (derivative_run x r) >>= λ d. Ok (
 derivative_run x (Star r) = part false (derivative_run x r) >>= λ d. Ok (product_of d (Star r))
 derivative_run x (Plus r) = part false (derivative_run x r) >>= λ d. Ok (product_of d (star_of r))
 derivative_run x (Product r s) = part false (derivative_run x r) >>= λ d.
-    if is_nullable r then (fitting (product_of d s) >>= λ front. part false (derivative_run x s) >>= λ e. Ok (combined Or front e)) else Ok (product_of d s)
-derivative_run x (Union r s) = part false (derivative_run x r) >>= λ d. part (is_run Or s) (derivative_run x s) >>= λ e. Ok (combined Or d e)
-derivative_run x (Intersection r s) = part false (derivative_run x r) >>= λ d. part (is_run And s) (derivative_run x s) >>= λ e. Ok (combined And d e)
+    if is_nullable r then (fitting (product_of d s) >>= λ front. part false (derivative_run x s) >>= λ e. Ok
+    (combined Or front e)) else Ok (product_of d s)
+derivative_run x (Union r s) =
+    part false (derivative_run x r) >>= λ d. part (is_run Or s) (derivative_run x s) >>= λ e. Ok (combined Or d e)
+derivative_run x (Intersection r s) =
+    part false (derivative_run x r) >>= λ d. part (is_run And s) (derivative_run x s) >>= λ e. Ok (combined And d e)
 
 -- the derivative of a normal form by a letter
 abbrev pub derivative : ℕ → Expression → Formed

@@ -32,9 +32,9 @@ first_of op r = r
 abbrev pub Rises : Operator → Expression → Expression → Type 0
 Rises op r s = IsProper r × IsProper s × (is_run op r ≡ false) × (order r (first_of op s) ≡ Less)
 
--- Each operator stands over normal forms. There is no `~~r`, and no star of `empty`, `epsilon` or a star. Juxtapositions
--- are nested to the right, without `empty` and `epsilon`. Runs of `|` and of `&` are nested to the right, without `empty`
--- and `~empty`, and rise strictly: they are sorted, and have no doubles.
+-- Each operator stands over normal forms. There is no `~~r`, and no star of `empty`, `epsilon` or a star.
+-- Juxtapositions are nested to the right, without `empty` and `epsilon`. Runs of `|` and of `&` are nested to the
+-- right, without `empty` and `~empty`, and rise strictly: they are sorted, and have no doubles.
 abbrev pub IsNormal : Expression → Type 0
 IsNormal (Symbol x) = Unit {0}
 IsNormal EmptyWord = Unit {0}

@@ -11,58 +11,25 @@ use Rattle.jm_reading.specs.Events.{reserved_event_fault, letter_said}
 use Rattle.jm_reading.specs.Nesting.{is_too_deep}
 use Rattle.jm_reading.specs.Formulas.{IsReadWithin, IsRefusedWithin}
 use Rattle.jm_events.specs.Events.{EventDefinitions, event_names}
-use Rattle.jm_ere.specs.declared.reader.Atom.{Atom}
-use Rattle.jm_ere.specs.declared.reader.Atom.TheVariants.{Name, Epsilon, Empty}
-use Rattle.jm_ere.specs.declared.reader.Unary.{Unary}
-use Rattle.jm_ere.specs.declared.reader.Unary.TheVariants.{Not, Any, Many}
-use Rattle.jm_ere.specs.declared.reader.Binary.{Binary}
-use Rattle.jm_ere.specs.declared.reader.Binary.TheVariants.{Then, Either, Both}
+use Rattle.jm_ere.specs.declared.formula.Atom.{Atom}
+use Rattle.jm_ere.specs.declared.formula.Atom.TheVariants.{Name, Epsilon, Empty}
+use Rattle.jm_ere.specs.declared.formula.Unary.{Unary}
+use Rattle.jm_ere.specs.declared.formula.Unary.TheVariants.{Not, Any, Many}
+use Rattle.jm_ere.specs.declared.formula.Binary.{Binary}
+use Rattle.jm_ere.specs.declared.formula.Binary.TheVariants.{Then, Either, Both}
 use Rattle.jm_ere.specs.Expressions.{Expression, Symbol, EmptyWord, NoWord, Complement, Star, Plus, Product, Union, Intersection}
 use Rattle.jm_ere.specs.Formulas.{Formula, Leaf, Over, Between, node_count}
 use Rattle.jm_ere.specs.Spelling.{Spells}
-
--- there are at most 256 nodes
-abbrev pub nodes_fault : ℕ → Option SpecFault
-nodes_fault count = if nat_lt 256 count then Some (TooMany Nodes) else None
-
--- the words of the grammar
-abbrev pub is_grammar_word : List ℕ → Bool
-is_grammar_word name = bytes_eq name (codes "epsilon") || bytes_eq name (codes "empty")
-
--- what an operator makes
-abbrev pub over : Unary → Expression → Expression
-over Not r = Complement r
-over Any r = Star r
-over Many r = Plus r
-
-abbrev pub between : Binary → Expression → Expression → Expression
-between Then r s = Product r s
-between Either r s = Union r s
-between Both r s = Intersection r s
-
--- the expression that a formula says among these events, or its first name that isn't there
-abbrev pub atom_said : List ℕ → List (List ℕ) → Atom → Result Expression SpecFault
-atom_said bytes events (Name token) = letter_said bytes events token >>> λ letter. Ok (Symbol letter.0)
-atom_said bytes events Epsilon = Ok EmptyWord
-atom_said bytes events Empty = Ok NoWord
-
-abbrev pub expression_said : List ℕ → List (List ℕ) → Formula → Result Expression SpecFault
-expression_said bytes events (Leaf atom) = atom_said bytes events atom
-expression_said bytes events (Over operator f) = expression_said bytes events f >>> λ r. Ok (over operator r)
-expression_said bytes events (Between operator f g) = expression_said bytes events f >>> λ r. expression_said bytes events g >>> λ s. Ok (between operator r s)
-
--- the fault of the first step that has one: too many nodes, reserved names of events, unknown names
-abbrev pub first_fault : List ℕ → EventDefinitions → Formula → Option SpecFault
-first_fault bytes table f =
-    or_else (nodes_fault (node_count f))
-    (or_else (reserved_event_fault is_grammar_word table.events)
-    (fault_of (expression_said bytes (event_names table) f)))
+use Rattle.jm_ere.specs.Faults.{expression_said, first_fault}
 
 -- no 65th parenthesis is open at once, and the tokens spell a formula without a fault, which says this expression
 abbrev pub IsReadFrom : List ℕ → List Token → EventDefinitions → Expression → Type 0
 IsReadFrom bytes tokens table =
-    IsReadWithin (Spells bytes tokens) (first_fault bytes table) (is_too_deep bytes 0 tokens) (expression_said bytes (event_names table))
+    IsReadWithin (Spells bytes tokens) (first_fault bytes table) (is_too_deep bytes 0 tokens)
+    (expression_said bytes (event_names table))
 
--- a 65th parenthesis is open at once; or else the tokens spell no formula, or one with this first fault; or memory is short
+-- a 65th parenthesis is open at once; or else the tokens spell no formula, or one with this first fault; or memory is
+-- short
 abbrev pub IsRefused : List ℕ → List Token → EventDefinitions → SpecError → Type 0
-IsRefused bytes tokens table = IsRefusedWithin (Spells bytes tokens) (first_fault bytes table) (is_too_deep bytes 0 tokens)
+IsRefused bytes tokens table =
+    IsRefusedWithin (Spells bytes tokens) (first_fault bytes table) (is_too_deep bytes 0 tokens)

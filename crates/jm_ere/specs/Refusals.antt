@@ -18,4 +18,5 @@ FindsFault e letters fault = IsExplored (forms_of e) letters (Err fault)
 -- by some word a form or a part of it is found that has more than 4,096 nodes, or 1,025 normal forms are found
 abbrev pub IsCause : Expression → ℕ → SpecFault → Type 0
 IsCause e letters fault =
-    ((fault ≡ TooMany Term) × IsMet (forms_of e) letters fault) ⊎ ((fault ≡ TooManyStates) × IsCrowded (forms_of e) letters)
+    ((fault ≡ TooMany Term) × IsMet (forms_of e) letters fault)
+    ⊎ ((fault ≡ TooManyStates) × IsCrowded (forms_of e) letters)

@@ -1,16 +1,16 @@
--- How a reader goes over the tokens of a formula: what a token means, and what was read so far after it. The nodes of the
--- formula are written with each operator behind its operands.
+-- How a reader goes over the tokens of a formula: what a token means, and what was read so far after it. The nodes of
+-- the formula are written with each operator behind its operands.
 use Rattle.std.specs.Prelude.{ℕ, zero, suc, ◌≡◌, Bool, true, false, List, [], ◌∷◌, ◌++◌, Option, Some, None, Result, Ok, Err, option_and_then, codes, if◌then◌else◌}
 use Rattle.jm_model.specs.declared.fault.SpecError.{SpecError}
 use Rattle.jm_text.specs.declared.token.Token.{Token}
 use Rattle.jm_text.specs.Texts.{is_name, is_word, is_mark}
 use Rattle.jm_reading.specs.Answers.{FailsAt}
-use Rattle.jm_ere.specs.declared.reader.Atom.TheVariants.{Name, Epsilon, Empty}
-use Rattle.jm_ere.specs.declared.reader.Unary.TheVariants.{Not, Any, Many}
-use Rattle.jm_ere.specs.declared.reader.Binary.{Binary}
-use Rattle.jm_ere.specs.declared.reader.Binary.TheVariants.{Then, Either, Both}
-use Rattle.jm_ere.specs.declared.reader.Node.{Node}
-use Rattle.jm_ere.specs.declared.reader.Node.TheVariants.{Push, Wrap, Join}
+use Rattle.jm_ere.specs.declared.formula.Atom.TheVariants.{Name, Epsilon, Empty}
+use Rattle.jm_ere.specs.declared.formula.Unary.TheVariants.{Not, Any, Many}
+use Rattle.jm_ere.specs.declared.formula.Binary.{Binary}
+use Rattle.jm_ere.specs.declared.formula.Binary.TheVariants.{Then, Either, Both}
+use Rattle.jm_ere.specs.declared.formula.Node.{Node}
+use Rattle.jm_ere.specs.declared.formula.Node.TheVariants.{Push, Wrap, Join}
 use Rattle.jm_ere.specs.declared.reader.Sign.{Sign}
 use Rattle.jm_ere.specs.declared.reader.Sign.TheVariants.{Operand, Opening, Closing, Tilde, Asterisk, PlusSign, Bar, Ampersand, Other}
 use Rattle.jm_ere.specs.declared.reader.Pending.{Pending}
@@ -78,16 +78,19 @@ with_pending p f = record p { pending = f }
 
 -- another operand begins behind the last
 abbrev pub juxtaposed : Parser → Parser
-juxtaposed p = with_pending (with_nodes p (end_sequence p.pending)) (record p.pending { has_then = true; nots = 0; ready = false })
+juxtaposed p =
+    with_pending (with_nodes p (end_sequence p.pending)) (record p.pending { has_then = true; nots = 0; ready = false })
 
 -- the innermost parenthesis is closed
 abbrev pub closed : List Pending → Parser → Option Parser
 closed [] p = None
-closed (f ∷ fs) p = Some (record { nodes = p.nodes ++ end_either p.pending; pending = record f { ready = true }; outer = fs })
+closed (f ∷ fs) p =
+    Some (record { nodes = p.nodes ++ end_either p.pending; pending = record f { ready = true }; outer = fs })
 
 -- after a token where an operand is to come
 abbrev pub before_operand : Parser → Sign → Option Parser
-before_operand p (Operand atom) = Some (with_pending (with_nodes p (Push atom ∷ [])) (record p.pending { ready = true }))
+before_operand p (Operand atom) =
+    Some (with_pending (with_nodes p (Push atom ∷ [])) (record p.pending { ready = true }))
 before_operand p Opening = Some (record p { pending = fresh; outer = p.pending ∷ p.outer })
 before_operand p Tilde = Some (with_pending p (record p.pending { nots = suc p.pending.nots }))
 before_operand p _ = None
@@ -96,8 +99,11 @@ before_operand p _ = None
 abbrev pub behind_operand : Parser → Sign → Option Parser
 behind_operand p Asterisk = Some (with_nodes p (Wrap Any ∷ []))
 behind_operand p PlusSign = Some (with_nodes p (Wrap Many ∷ []))
-behind_operand p Ampersand = Some (with_pending (with_nodes p (end_both p.pending)) (record p.pending { has_both = true; has_then = false; nots = 0; ready = false }))
-behind_operand p Bar = Some (with_pending (with_nodes p (end_either p.pending)) (record p.pending { has_either = true; has_both = false; has_then = false; nots = 0; ready = false }))
+behind_operand p Ampersand = Some
+    (with_pending (with_nodes p (end_both p.pending))
+    (record p.pending { has_both = true; has_then = false; nots = 0; ready = false }))
+behind_operand p Bar = Some (with_pending (with_nodes p (end_either p.pending))
+    (record p.pending { has_either = true; has_both = false; has_then = false; nots = 0; ready = false }))
 behind_operand p Closing = closed p.outer p
 behind_operand p Other = None
 behind_operand p sign = before_operand (juxtaposed p) sign

@@ -4,12 +4,12 @@ use Rattle.jm_model.specs.declared.fault.SpecFault.{SpecFault}
 use Rattle.jm_reading.specs.Faults.{or_else, ◌>>>◌, fault_of}
 use Rattle.jm_reading.specs.Events.{reserved_event_fault}
 use Rattle.jm_events.specs.Events.{EventDefinitions, event_names}
-use Rattle.jm_ere.specs.declared.reader.Unary.{Unary}
-use Rattle.jm_ere.specs.declared.reader.Binary.{Binary}
-use Rattle.jm_ere.specs.declared.reader.Node.{Node}
-use Rattle.jm_ere.specs.declared.reader.Node.TheVariants.{Push, Wrap, Join}
+use Rattle.jm_ere.specs.declared.formula.Unary.{Unary}
+use Rattle.jm_ere.specs.declared.formula.Binary.{Binary}
+use Rattle.jm_ere.specs.declared.formula.Node.{Node}
+use Rattle.jm_ere.specs.declared.formula.Node.TheVariants.{Push, Wrap, Join}
 use Rattle.jm_ere.specs.Expressions.{Expression}
-use Rattle.jm_ere.specs.Readings.{over, between, atom_said, nodes_fault, is_grammar_word}
+use Rattle.jm_ere.specs.Faults.{over, between, atom_said, nodes_fault, is_grammar_word}
 
 -- of the nodes of a formula none lacks its operands
 abbrev pub wrapped : Unary → List Expression → List Expression

@@ -31,18 +31,20 @@ impl Ere {
     /// of the language, and `fail`, those from which no state of `match` is reached.
     ///
     /// The fault is `TooManyStates` where a 1,025th normal form is found, and `TooMany` term where one is found that
-    /// has more than 4,096 nodes, or a part of one while it is made; whichever comes first, breadth first and letters in
-    /// order.
+    /// has more than 4,096 nodes, or a part of one while it is made; whichever comes first, breadth first and letters
+    /// in order.
     pub fn compile(&self, alloc: Global, events: &EventTable) -> Result<Table, SpecError>
         ensures letters { IfOk result (λ table. table.letters ≡ length events.now.events) }
         ensures groups { IfOk result (λ table. length table.groups ≡ 2) }
         ensures compiled { IfOk result (λ table. IsCompiled self.now table) }
-        ensures states { IfOk result (λ table. (found : List Expression) × FindsForms self.now table.letters found × (length found ≡ table.states)) }
+        ensures states { IfOk result (λ table. (found : List Expression) × FindsForms self.now table.letters found
+            × (length found ≡ table.states)) }
         ensures fault { IfErr result (λ e. IfBad e (λ fault. FindsFault self.now (length events.now.events) fault)) }
         ensures cause { IfErr result (λ e. IfBad e (λ fault. IsCause self.now (length events.now.events) fault)) }
         ensures refused { (fault : SpecFault) → FindsFault self.now (length events.now.events) fault →
             (result ≡ Err (SpecError.Bad fault)) ⊎ (result ≡ Err SpecError.NoMemory) }
-        ensures accepted { (found : List Expression) → FindsForms self.now (length events.now.events) found → IsOkUnless result SpecError.NoMemory }
+        ensures accepted { (found : List Expression) → FindsForms self.now (length events.now.events) found
+            → IsOkUnless result SpecError.NoMemory }
     {
         let ere = Ere::new(copy(alloc, &self.tree)?);
         let forms = Forms { alloc, ere };

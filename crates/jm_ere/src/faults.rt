@@ -1,9 +1,9 @@
 //! What can be wrong with a formula, step by step.
 ghost use Rattle.std.specs.Prelude.{◌≡◌, length};
 ghost use Rattle.jm_reading.specs.Faults.{Checks};
-ghost use Rattle.jm_ere.specs.Readings.{nodes_fault, is_grammar_word};
+ghost use Rattle.jm_ere.specs.Faults.{nodes_fault, is_grammar_word};
 
-use crate::reader::Node;
+use crate::formula::Node;
 use jm_model::{Counted, SpecError, SpecFault};
 use jm_reading::GrammarWords;
 

@@ -16,10 +16,12 @@ ghost use Rattle.jm_ere.specs.Readings.{IsReadFrom, IsRefused};
 /// One reading: no tokens spell two formulas, so none have two expressions, and none have both an expression and a
 /// fault.
 pub fn one_reading()
-    ensures formulas { (bytes : List ℕ) (tokens : List Token) (f g : Formula) → Spells bytes tokens f → Spells bytes tokens g → f ≡ g }
+    ensures formulas { (bytes : List ℕ) (tokens : List Token) (f g : Formula) → Spells bytes tokens f
+        → Spells bytes tokens g → f ≡ g }
     ensures expressions { (bytes : List ℕ) (tokens : List Token) (table : EventDefinitions) (d e : Expression) →
         IsReadFrom bytes tokens table d → IsReadFrom bytes tokens table e → d ≡ e }
-    ensures never_both { (bytes : List ℕ) (tokens : List Token) (table : EventDefinitions) (e : Expression) (fault : SpecFault) →
+    ensures never_both { (bytes : List ℕ) (tokens : List Token) (table : EventDefinitions) (e : Expression)
+        (fault : SpecFault) →
         IsReadFrom bytes tokens table e → IsRefused bytes tokens table (Bad fault) → ⊥ }
 {}
 

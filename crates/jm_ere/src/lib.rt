@@ -1,15 +1,17 @@
 //! Extended regular expressions, one of the four logics.
 //!
-//! `read` reads an expression, an `Ere`, from the tokens of a formula. What the tokens spell stands in `specs`, apart from
-//! the reader: the grammar as a relation. `Ere::compile` makes a table of states with a group for each category: the
-//! states are the normal forms of the expression's derivatives. What an expression means stands in `specs`, apart from
-//! any derivative: its words, by cases on the expression.
+//! `read` reads an expression, an `Ere`, from the tokens of a formula. What the tokens spell stands in `specs`, apart
+//! from the reader: the grammar as a relation. `Ere::compile` makes a table of states with a group for each category:
+//! the states are the normal forms of the expression's derivatives. What an expression means stands in `specs`, apart
+//! from any derivative: its words, by cases on the expression.
 #![tactic(auto)]
 
+mod build;
 mod compile;
 mod derivative;
 mod faults;
 mod forms;
+mod formula;
 mod graph;
 mod keys;
 mod laws;
@@ -21,7 +23,6 @@ mod reading;
 mod sizes;
 mod stack;
 mod tree;
-mod value;
 mod written;
 
 pub use laws::{forms_are_normal, one_order, one_reading};

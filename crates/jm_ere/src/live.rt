@@ -58,7 +58,8 @@ fn next_live(table: &Table, live: &[bool]) -> Option<u16>
 #[tactic(auto, using(crate::proofs::LiveLemmas::dead_less, crate::proofs::LiveLemmas::live_more, crate::proofs::LiveLemmas::length_set_flag))]
 pub(crate) fn spread(table: &Table, live: &mut Vec<bool>)
     requires many { vec_len live.old ≡ table.now.states }
-    ensures live { (forms : List Expression) → AreLive table.now forms live.old.items → AreLive table.now forms live.new.items }
+    ensures live { (forms : List Expression) → AreLive table.now forms live.old.items
+        → AreLive table.now forms live.new.items }
     ensures closed { IsClosed table.now live.new.items }
 {
     while let Some(state) = next_live(table, live.as_slice()) {

@@ -14,7 +14,8 @@ pub(crate) fn complement_of_part(
     alloc: Global,
     inner: Result<Tree, SpecError>,
 ) -> Result<Tree, SpecError>
-    ensures { (n : Formed) → Answers expression_of n inner → Answers expression_of (n >>> λ n. Ok (complement_of n)) result }
+    ensures { (n : Formed) → Answers expression_of n inner
+        → Answers expression_of (n >>> λ n. Ok (complement_of n)) result }
 {
     let inner = inner?;
     complement_of(alloc, inner)

@@ -4,43 +4,12 @@ ghost use Rattle.jm_text.specs.Spans.{LiesWithin, LieWithin};
 ghost use Rattle.jm_reading.specs.Answers.{Gives, IsSyntax};
 ghost use Rattle.jm_ere.specs.Rules.{sign_of, fresh, beginning, flag, complements, end_not, end_sequence, end_both, end_either, with_nodes, juxtaposed, closed, before_operand, behind_operand, after_sign, after_all, finished, parsed, Takes};
 
+use crate::formula::{Atom, Binary, Node, Unary};
 use crate::stack::Stack;
 use jm_model::{SpecError, SpecFault};
 use jm_reading::Items;
 use jm_text::{Token, is_mark, is_name, is_word};
 use std::alloc::Global;
-
-/// An operand.
-#[derive(Clone, Copy)]
-pub enum Atom {
-    Name(Token),
-    Epsilon,
-    Empty,
-}
-
-/// An operator of one operand: `~`, `*` and `+`.
-#[derive(Clone, Copy)]
-pub enum Unary {
-    Not,
-    Any,
-    Many,
-}
-
-/// An operator of two operands: juxtaposition, `|` and `&`.
-#[derive(Clone, Copy)]
-pub enum Binary {
-    Then,
-    Either,
-    Both,
-}
-
-/// A node of a formula. An operator stands behind its operands.
-#[derive(Clone, Copy)]
-pub enum Node {
-    Push(Atom),
-    Wrap(Unary),
-    Join(Binary),
-}
 
 /// What a token means.
 #[derive(Clone, Copy)]
@@ -218,7 +187,8 @@ impl Parser {
 
     /// A `)` stands behind the last operand. It answers whether a parenthesis was open.
     fn close(&mut self) -> Result<bool, SpecError>
-        ensures ok { IfOk result (λ goes. MatchBool goes (closed self.old.outer self.old ≡ Some self.new) (closed self.old.outer self.old ≡ None)) }
+        ensures ok { IfOk result (λ goes. MatchBool goes (closed self.old.outer self.old ≡ Some self.new)
+            (closed self.old.outer self.old ≡ None)) }
         ensures err { IfErr result (λ e. e ≡ SpecError.NoMemory) }
     {
         self.end_either()?;
@@ -233,7 +203,8 @@ impl Parser {
     /// A token where an operand is to come. It answers whether the token can stand here.
     fn before_operand(&mut self, sign: Sign) -> Result<bool, SpecError>
         requires { self.old.pending.nots < 2 ^ 64 - 1 }
-        ensures ok { IfOk result (λ goes. MatchBool goes (before_operand self.old sign ≡ Some self.new) (before_operand self.old sign ≡ None)) }
+        ensures ok { IfOk result (λ goes. MatchBool goes (before_operand self.old sign ≡ Some self.new)
+            (before_operand self.old sign ≡ None)) }
         ensures err { IfErr result (λ e. e ≡ SpecError.NoMemory) }
     {
         match sign {
@@ -257,7 +228,8 @@ impl Parser {
 
     /// A token behind an operand. It answers whether the token can stand here.
     fn behind_operand(&mut self, sign: Sign) -> Result<bool, SpecError>
-        ensures ok { IfOk result (λ goes. MatchBool goes (behind_operand self.old sign ≡ Some self.new) (behind_operand self.old sign ≡ None)) }
+        ensures ok { IfOk result (λ goes. MatchBool goes (behind_operand self.old sign ≡ Some self.new)
+            (behind_operand self.old sign ≡ None)) }
         ensures err { IfErr result (λ e. e ≡ SpecError.NoMemory) }
     {
         match sign {
@@ -289,7 +261,8 @@ impl Parser {
     /// A token. It answers whether the token can stand here.
     fn follow(&mut self, sign: Sign) -> Result<bool, SpecError>
         requires { self.old.pending.nots < 2 ^ 64 - 1 }
-        ensures ok { IfOk result (λ goes. MatchBool goes (after_sign self.old sign ≡ Some self.new) (after_sign self.old sign ≡ None)) }
+        ensures ok { IfOk result (λ goes. MatchBool goes (after_sign self.old sign ≡ Some self.new)
+            (after_sign self.old sign ≡ None)) }
         ensures err { IfErr result (λ e. e ≡ SpecError.NoMemory) }
     {
         if self.pending.ready {

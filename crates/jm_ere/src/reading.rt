@@ -3,9 +3,9 @@ ghost use Rattle.std.specs.Prelude.{IfOk, IfErr};
 ghost use Rattle.jm_text.specs.Spans.{LieWithin};
 ghost use Rattle.jm_ere.specs.Readings.{IsReadFrom, IsRefused};
 
+use crate::build::expression_of;
 use crate::reader::parse;
 use crate::tree::Ere;
-use crate::value::expression_of;
 use jm_events::EventTable;
 use jm_model::SpecError;
 use jm_reading::few_nested;
@@ -14,10 +14,10 @@ use std::alloc::Global;
 
 /// The regular expression of a formula, whose tokens these are. The token before them is on the line.
 ///
-/// `TooMany` nesting comes exactly where a 65th parenthesis is open at once, and `Syntax` exactly where that isn't so and
-/// the grammar doesn't spell the tokens. Its line is that of the first token that can't go on, or of the last token at the
-/// end, and the given one in an empty formula. Each other fault is that of the first step that has one: `TooMany` nodes,
-/// `ReservedName`, `UnknownName`. Within a step the first token that offends gives the line.
+/// `TooMany` nesting comes exactly where a 65th parenthesis is open at once, and `Syntax` exactly where that isn't so
+/// and the grammar doesn't spell the tokens. Its line is that of the first token that can't go on, or of the last token
+/// at the end, and the given one in an empty formula. Each other fault is that of the first step that has one:
+/// `TooMany` nodes, `ReservedName`, `UnknownName`. Within a step the first token that offends gives the line.
 ///
 /// The tokens are read in one pass without recursion, in the manner of operator precedence (Floyd 1963).
 pub fn read(

@@ -5,7 +5,10 @@ use Rattle.jm_table.specs.Graphs.{GraphMeaning, step_from, reached_by}
 use Rattle.jm_table.specs.Tables.{Transitions, IsWord, state_after_of, Follows}
 use Rattle.jm_fsm.specs.declared.machine.Destination.{Destination}
 use Rattle.jm_fsm.specs.declared.machine.Destination.TheVariants.{State}
-use Rattle.jm_fsm.specs.Machines.{StateMachine, IsMember, HasGroups, HasStates, IsCompiled, category_count, next_destination, fsm_state_after}
+use Rattle.jm_fsm.specs.Machines.{StateMachine}
+use Rattle.jm_fsm.specs.Tables.{HasGroups, HasStates, IsCompiled}
+use Rattle.jm_fsm.specs.Categories.{IsMember, category_count}
+use Rattle.jm_fsm.specs.Meanings.{next_destination, fsm_state_after}
 
 -- a machine as a graph
 abbrev pub graph_of : StateMachine → GraphMeaning Destination

@@ -19,7 +19,9 @@ use Rattle.jm_table.specs.Explorations.{IsWithoutRepeats, IfBad, IsMet, IsCrowde
 use Rattle.jm_fsm.specs.declared.machine.Destination.{Destination}
 use Rattle.jm_fsm.specs.declared.machine.Destination.TheVariants.{State, Fail}
 use Rattle.jm_fsm.specs.declared.machine.Transition.{Transition}
-use Rattle.jm_fsm.specs.Machines.{StateDefinition, StateMachine, IsDestination, IsMachine, destination_of, next_destination, fsm_state_after}
+use Rattle.jm_fsm.specs.Machines.{StateDefinition, StateMachine}
+use Rattle.jm_fsm.specs.WellFormed.{IsDestination, IsMachine}
+use Rattle.jm_fsm.specs.Meanings.{destination_of, next_destination, fsm_state_after}
 use Rattle.jm_fsm.proofs.CompileLemmas.{graph_of, reached_is}
 
 -- ---- what a machine reaches is one of its states, or `fail`

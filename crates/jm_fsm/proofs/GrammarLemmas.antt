@@ -10,7 +10,7 @@ use Rattle.jm_fsm.specs.declared.formula.Part.TheVariants.{Declaration, Alias}
 use Rattle.jm_reading.specs.Reading.{is_mark_at, is_left, mark_at, name_at, word_at}
 use Rattle.jm_fsm.specs.Rules.{fallback_at, listed_at, begins_fallback, transition_at, comma_at, entry_at, is_inside, entries_at, declaration_at, more_member_at, begins_more_member, more_members_at, alias_at, begins_alias, one_part_at, part_at, parts_at, with_a_state, formula_at}
 use Rattle.jm_reading.specs.Tokens.{IsName, IsMark, IsWord, SpellsEach}
-use Rattle.jm_fsm.specs.Formulas.{SpellsTransition, SpellsComma, SpellsEntry, SpellsMoreMember, SpellsMembers, SpellsPart, is_state, Spells}
+use Rattle.jm_fsm.specs.Spelling.{SpellsTransition, SpellsComma, SpellsEntry, SpellsMoreMember, SpellsMembers, SpellsPart, is_state, Spells}
 use Rattle.jm_reading.proofs.TokenLemmas.{name_no_mark, word_no_mark, mark_is, name_is, word_is, if_some, mark_read, name_read, word_read, step_of, one_of, and_true, and_false, not_true, not_false, first_of_two, second_of_two, other_mark}
 use Rattle.jm_reading.proofs.GrammarLemmas.{IsSound, Spelled, each_read, IsComplete, read_each}
 

@@ -3,7 +3,8 @@ use Rattle.std.proofs.lemmas.Option.{slice_get_within}
 use Rattle.jm_table.proofs.MemberLemmas.{holds_at, from_holds, within_holds}
 use Rattle.jm_fsm.specs.declared.machine.Destination.{Destination}
 use Rattle.jm_fsm.specs.declared.machine.Destination.TheVariants.{Fail}
-use Rattle.jm_fsm.specs.Machines.{StateMachine, AliasDefinition, IsMember, category_count}
+use Rattle.jm_fsm.specs.Machines.{StateMachine, AliasDefinition}
+use Rattle.jm_fsm.specs.Categories.{IsMember, category_count}
 
 module _ (m : StateMachine) (category : ℕ) (destination : Destination) where
   -- a category past the states is that of an alias

@@ -20,8 +20,10 @@ use Rattle.jm_fsm.specs.declared.formula.TransitionText.{TransitionText}
 use Rattle.jm_fsm.specs.declared.formula.TransitionText.TheVariants.{On, Fallback}
 use Rattle.jm_fsm.specs.declared.formula.Part.{Part}
 use Rattle.jm_fsm.specs.declared.formula.Part.TheVariants.{Declaration, Alias}
-use Rattle.jm_fsm.specs.Machines.{StateDefinition, AliasDefinition, StateMachine, IsDestination, IsMachine, AreDistinct, category_names}
-use Rattle.jm_fsm.specs.Formulas.{is_state}
+use Rattle.jm_fsm.specs.Machines.{StateDefinition, AliasDefinition, StateMachine}
+use Rattle.jm_fsm.specs.WellFormed.{IsDestination, IsMachine}
+use Rattle.jm_fsm.specs.Categories.{AreDistinct, category_names}
+use Rattle.jm_fsm.specs.Spelling.{is_state}
 use Rattle.jm_fsm.specs.Names.{is_among}
 use Rattle.jm_reading.specs.Tokens.{name_of}
 use Rattle.jm_reading.specs.Events.{letter_said}

@@ -16,12 +16,12 @@ use Rattle.jm_reading.specs.Tokens.{name_of}
 use Rattle.jm_reading.specs.Events.{letter_said}
 use Rattle.jm_reading.proofs.ReadLemmas.{IsOther, FailsOther, other_or, other_if, other_event, other_then, other_name, other_of}
 use Rattle.jm_fsm.specs.Faults.{name_token, is_grammar_word, part_name_fault, duplicate_state_fault, duplicate_transition_fault, part_transitions_fault, transitions_fault, destination_said, with_transition, with_transitions, with_member, with_members, with_part, with_parts, state_names, machine_of, first_fault}
-use Rattle.jm_fsm.specs.Formulas.{Spells}
+use Rattle.jm_fsm.specs.Spelling.{Spells}
 use Rattle.jm_fsm.specs.Rules.{formula_at}
 use Rattle.jm_reading.specs.Answers.{FailsAt}
 use Rattle.jm_reading.specs.Faults.{Checks}
 use Rattle.jm_reading.proofs.FormulaLemmas as reading
-use Rattle.jm_fsm.specs.Trees.{IsReadFrom, IsRefused}
+use Rattle.jm_fsm.specs.Readings.{IsReadFrom, IsRefused}
 use Rattle.jm_fsm.proofs.GrammarLemmas.{formula_sound, formula_none, one_formula}
 
 other_part : (bytes : List ℕ) (ps : List Part) → IsOther (part_name_fault bytes ps)

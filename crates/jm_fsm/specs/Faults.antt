@@ -18,7 +18,7 @@ use Rattle.jm_fsm.specs.declared.formula.TransitionText.{TransitionText}
 use Rattle.jm_fsm.specs.declared.formula.TransitionText.TheVariants.{On, Fallback}
 use Rattle.jm_fsm.specs.declared.formula.Part.{Part}
 use Rattle.jm_fsm.specs.declared.formula.Part.TheVariants.{Declaration, Alias}
-use Rattle.jm_fsm.specs.Formulas.{is_state}
+use Rattle.jm_fsm.specs.Spelling.{is_state}
 use Rattle.jm_fsm.specs.Names.{is_among}
 use Rattle.jm_fsm.specs.Machines.{StateDefinition, AliasDefinition, StateMachine}
 
@@ -45,7 +45,8 @@ is_reserved name = bytes_eq name (codes "fail") || is_grammar_word name
 
 abbrev pub part_name_fault : List ℕ → List Part → Option SpecFault
 part_name_fault bytes [] = None
-part_name_fault bytes (p ∷ ps) = if is_reserved (name_of bytes (name_token p)) then Some (ReservedName (name_token p).line) else part_name_fault bytes ps
+part_name_fault bytes (p ∷ ps) = if is_reserved (name_of bytes (name_token p))
+    then Some (ReservedName (name_token p).line) else part_name_fault bytes ps
 
 -- no state or alias has the name of an earlier one, or one of these
 abbrev pub duplicate_state_fault : List ℕ → List (List ℕ) → List Part → Option SpecFault
@@ -83,7 +84,8 @@ state_names bytes (Alias name members ∷ ps) = state_names bytes ps
 
 -- the state of a name, or `fail`
 abbrev pub destination_named : List (List ℕ) → List ℕ → Option Destination
-destination_named states name = if bytes_eq name (codes "fail") then Some Fail else option_map (λ k. State k) (number_of states name)
+destination_named states name =
+    if bytes_eq name (codes "fail") then Some Fail else option_map (λ k. State k) (number_of states name)
 
 -- where a name leads
 abbrev pub destination_said : List ℕ → List (List ℕ) → Token → Result Destination SpecFault
@@ -92,40 +94,55 @@ destination_said bytes states token = ok_or (destination_named states (name_of b
 -- The machine that a formula says, among these events and states: what it says is added one after the other, and the
 -- first name that isn't there is the fault.
 abbrev pub with_listed : StateDefinition → Letter → Destination → StateDefinition
-with_listed s letter destination = record s { transitions = s.transitions ++ record { letter = letter; destination = destination } ∷ [] }
+with_listed s letter destination =
+    record s { transitions = s.transitions ++ record { letter = letter; destination = destination } ∷ [] }
 
-abbrev pub with_transition : List ℕ → List (List ℕ) → List (List ℕ) → StateDefinition → TransitionText → Result StateDefinition SpecFault
+abbrev pub with_transition : List ℕ → List (List ℕ) → List (List ℕ) → StateDefinition → TransitionText
+    → Result StateDefinition SpecFault
 with_transition bytes events states s (On event destination) =
-    letter_said bytes events event >>> λ letter. destination_said bytes states destination >>> λ to. Ok (with_listed s letter to)
-with_transition bytes events states s (Fallback word destination) = destination_said bytes states destination >>> λ to. Ok (record s { fallback = Some to })
+    letter_said bytes events event >>> λ letter. destination_said bytes states destination
+    >>> λ to. Ok (with_listed s letter to)
+with_transition bytes events states s (Fallback word destination) =
+    destination_said bytes states destination >>> λ to. Ok (record s { fallback = Some to })
 
-abbrev pub with_transitions : List ℕ → List (List ℕ) → List (List ℕ) → StateDefinition → List TransitionText → Result StateDefinition SpecFault
+abbrev pub with_transitions : List ℕ → List (List ℕ) → List (List ℕ) → StateDefinition → List TransitionText
+    → Result StateDefinition SpecFault
 with_transitions bytes events states s [] = Ok s
-with_transitions bytes events states s (t ∷ ts) = with_transition bytes events states s t >>> λ more. with_transitions bytes events states more ts
+with_transitions bytes events states s (t ∷ ts) =
+    with_transition bytes events states s t >>> λ more. with_transitions bytes events states more ts
 
-abbrev pub state_said : List ℕ → List (List ℕ) → List (List ℕ) → Token → List TransitionText → Result StateDefinition SpecFault
-state_said bytes events states name transitions = with_transitions bytes events states (record { name = name_of bytes name; transitions = []; fallback = None }) transitions
+abbrev pub state_said : List ℕ → List (List ℕ) → List (List ℕ) → Token → List TransitionText
+    → Result StateDefinition SpecFault
+state_said bytes events states name transitions = with_transitions bytes events states
+    (record { name = name_of bytes name; transitions = []; fallback = None }) transitions
 
 abbrev pub with_member : List ℕ → List (List ℕ) → AliasDefinition → Token → Result AliasDefinition SpecFault
-with_member bytes states a member = destination_said bytes states member >>> λ to. Ok (record a { members = a.members ++ to ∷ [] })
+with_member bytes states a member =
+    destination_said bytes states member >>> λ to. Ok (record a { members = a.members ++ to ∷ [] })
 
 abbrev pub with_members : List ℕ → List (List ℕ) → AliasDefinition → List Token → Result AliasDefinition SpecFault
 with_members bytes states a [] = Ok a
 with_members bytes states a (t ∷ ts) = with_member bytes states a t >>> λ more. with_members bytes states more ts
 
 abbrev pub alias_said : List ℕ → List (List ℕ) → Token → List Token → Result AliasDefinition SpecFault
-alias_said bytes states name members = with_members bytes states (record { name = name_of bytes name; members = [] }) members
+alias_said bytes states name members =
+    with_members bytes states (record { name = name_of bytes name; members = [] }) members
 
 abbrev pub with_part : List ℕ → List (List ℕ) → List (List ℕ) → StateMachine → Part → Result StateMachine SpecFault
-with_part bytes events states m (Declaration name transitions) = state_said bytes events states name transitions >>> λ s. Ok (record m { states = m.states ++ s ∷ [] })
-with_part bytes events states m (Alias name members) = alias_said bytes states name members >>> λ a. Ok (record m { aliases = m.aliases ++ a ∷ [] })
+with_part bytes events states m (Declaration name transitions) =
+    state_said bytes events states name transitions >>> λ s. Ok (record m { states = m.states ++ s ∷ [] })
+with_part bytes events states m (Alias name members) =
+    alias_said bytes states name members >>> λ a. Ok (record m { aliases = m.aliases ++ a ∷ [] })
 
-abbrev pub with_parts : List ℕ → List (List ℕ) → List (List ℕ) → StateMachine → List Part → Result StateMachine SpecFault
+abbrev pub with_parts : List ℕ → List (List ℕ) → List (List ℕ) → StateMachine → List Part
+    → Result StateMachine SpecFault
 with_parts bytes events states m [] = Ok m
-with_parts bytes events states m (p ∷ ps) = with_part bytes events states m p >>> λ more. with_parts bytes events states more ps
+with_parts bytes events states m (p ∷ ps) =
+    with_part bytes events states m p >>> λ more. with_parts bytes events states more ps
 
 unfoldable pub machine_of : List ℕ → EventDefinitions → List Part → Result StateMachine SpecFault
-machine_of bytes table parts = with_parts bytes (event_names table) (state_names bytes parts) (record { states = []; aliases = [] }) parts
+machine_of bytes table parts =
+    with_parts bytes (event_names table) (state_names bytes parts) (record { states = []; aliases = [] }) parts
 
 -- the fault of the first step that has one: too many aliases, reserved names of events and then of states and aliases,
 -- duplicate states and aliases, duplicate transitions, too many states, unknown names

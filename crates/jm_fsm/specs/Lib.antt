@@ -1,8 +1,12 @@
 pub mod Names
 pub mod Machines
 pub mod Keys
-pub mod Formulas
+pub mod Spelling
 pub mod Rules
 pub mod Faults
-pub mod Trees
+pub mod Readings
 pub mod Written
+pub mod Meanings
+pub mod Categories
+pub mod WellFormed
+pub mod Tables

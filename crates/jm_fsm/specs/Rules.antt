@@ -6,7 +6,7 @@ use Rattle.jm_fsm.specs.declared.formula.TransitionText.{TransitionText}
 use Rattle.jm_fsm.specs.declared.formula.TransitionText.TheVariants.{On, Fallback}
 use Rattle.jm_fsm.specs.declared.formula.Part.{Part}
 use Rattle.jm_fsm.specs.declared.formula.Part.TheVariants.{Declaration, Alias}
-use Rattle.jm_fsm.specs.Formulas.{is_state}
+use Rattle.jm_fsm.specs.Spelling.{is_state}
 use Rattle.jm_reading.specs.Reading.{◌>>=◌, is_mark_at, is_word_at, is_left, mark_at, name_at, word_at, at_most}
 
 -- "default" NAME
@@ -26,7 +26,8 @@ listed_at bytes tokens = do
 
 -- `default` begins a default, if no `->` stands behind it
 abbrev pub begins_fallback : List ℕ → List Token → Bool
-begins_fallback bytes tokens = is_word_at bytes tokens 0 (codes "default") && not (is_mark_at bytes tokens 1 (codes "->"))
+begins_fallback bytes tokens =
+    is_word_at bytes tokens 0 (codes "default") && not (is_mark_at bytes tokens 1 (codes "->"))
 
 unfoldable pub transition_at : List ℕ → List Token → Option (TransitionText × List Token)
 transition_at bytes tokens = if begins_fallback bytes tokens then fallback_at bytes tokens else listed_at bytes tokens
@@ -68,7 +69,8 @@ abbrev pub begins_more_member : List ℕ → List Token → Bool
 begins_more_member bytes tokens = is_mark_at bytes tokens 0 (codes ",")
 
 unfoldable pub more_members_at : List ℕ → List Token → List Token → Option (List Token × List Token)
-more_members_at bytes members tokens = at_most (begins_more_member bytes) (more_member_at bytes) (length tokens) members tokens
+more_members_at bytes members tokens =
+    at_most (begins_more_member bytes) (more_member_at bytes) (length tokens) members tokens
 
 -- Alias = "alias" NAME "=" NAME { "," NAME }
 unfoldable pub alias_at : List ℕ → List Token → Option (Part × List Token)

@@ -10,13 +10,15 @@ use Rattle.jm_fsm.specs.declared.formula.TransitionText.TheVariants.{On, Fallbac
 use Rattle.jm_fsm.specs.declared.formula.Part.{Part}
 use Rattle.jm_fsm.specs.declared.formula.Part.TheVariants.{Declaration, Alias}
 use Rattle.jm_fsm.specs.Faults.{destination_named}
-use Rattle.jm_fsm.specs.Machines.{StateDefinition, destination_of}
+use Rattle.jm_fsm.specs.Machines.{StateDefinition}
+use Rattle.jm_fsm.specs.Meanings.{destination_of}
 
 -- the name behind the arrow of the event that has the letter, if it is written
 abbrev pub arrow_of : List ℕ → List (List ℕ) → List TransitionText → ℕ → Option Token
 arrow_of bytes events [] letter = None
 arrow_of bytes events (On event destination ∷ ts) letter =
-    if unwrap_or (option_map (λ (k : ℕ). k == letter) (number_of events (name_of bytes event))) false then Some destination else arrow_of bytes events ts letter
+    if unwrap_or (option_map (λ (k : ℕ). k == letter) (number_of events (name_of bytes event))) false
+    then Some destination else arrow_of bytes events ts letter
 arrow_of bytes events (Fallback word destination ∷ ts) letter = arrow_of bytes events ts letter
 
 -- the name behind `default`, if it is written
@@ -25,13 +27,15 @@ default_of [] = None
 default_of (On event destination ∷ ts) = default_of ts
 default_of (Fallback word destination ∷ ts) = option_or (default_of ts) (Some destination)
 
--- A state is as it is written: it has this name, and each letter leads to the state whose name is behind the arrow of its
--- event; without an arrow, to the state whose name is behind `default`; and without that, to `fail`.
-pub record IsAsWritten (bytes : List ℕ) (events states : List (List ℕ)) (name : Token) (ts : List TransitionText) (s : StateDefinition) : Type 0 where
+-- A state is as it is written: it has this name, and each letter leads to the state whose name is behind the arrow of
+-- its event; without an arrow, to the state whose name is behind `default`; and without that, to `fail`.
+pub record IsAsWritten (bytes : List ℕ) (events states : List (List ℕ)) (name : Token) (ts : List TransitionText)
+    (s : StateDefinition) : Type 0 where
   pub named : s.name ≡ name_of bytes name
   pub leads : (letter : ℕ)
       → MatchOption (arrow_of bytes events ts letter)
-      (MatchOption (default_of ts) (destination_of s letter ≡ Fail) (λ destination. destination_named states (name_of bytes destination) ≡ Some (destination_of s letter)))
+      (MatchOption (default_of ts) (destination_of s letter ≡ Fail)
+      (λ destination. destination_named states (name_of bytes destination) ≡ Some (destination_of s letter)))
       (λ destination. destination_named states (name_of bytes destination) ≡ Some (destination_of s letter))
 
 -- the states are those that are declared, in their order, each as it is written

@@ -2,9 +2,9 @@
 ghost use Rattle.std.specs.Prelude.{◌≡◌, ◌≤◌, [], ◌∷◌, ◌++◌, length, true, OnOk, IfErr, IfOk, None};
 ghost use Rattle.std.specs.List.{list_any};
 ghost use Rattle.jm_events.specs.Events.{event_names};
-ghost use Rattle.jm_fsm.specs.Formulas.{is_state};
+ghost use Rattle.jm_fsm.specs.Spelling.{is_state};
 ghost use Rattle.jm_fsm.specs.Faults.{state_names, destination_said, with_transition, with_transitions, with_member, with_members, state_said, alias_said, with_part, with_parts, machine_of, aliases_fault, part_name_fault, duplicate_state_fault, states_fault, first_fault};
-ghost use Rattle.jm_fsm.specs.Machines.{AreDistinct};
+ghost use Rattle.jm_fsm.specs.Categories.{AreDistinct};
 ghost use Rattle.jm_reading.specs.Faults.{Checks, Makes, Answers};
 
 use crate::faults::{self, Words};
@@ -43,7 +43,8 @@ fn add_transition(
     transition: TransitionText,
 ) -> Result<(), SpecError>
     requires { length states.now ≤ 1023 }
-    ensures { Makes result state.new (with_transition bytes.now (event_names table.now) states.now state.old transition) }
+    ensures { Makes result state.new
+        (with_transition bytes.now (event_names table.now) states.now state.old transition) }
 {
     match transition {
         TransitionText::On { event, destination } => {
@@ -70,7 +71,8 @@ fn add_transitions(
     transitions: &[TransitionText],
 ) -> Result<(), SpecError>
     requires { length states.now ≤ 1023 }
-    ensures { Makes result state.new (with_transitions bytes.now (event_names table.now) states.now state.old transitions.now) }
+    ensures { Makes result state.new
+        (with_transitions bytes.now (event_names table.now) states.now state.old transitions.now) }
 {
     for transition in transitions {
         add_transition(bytes, table, states, state, *transition)?;

@@ -1,5 +1,6 @@
 ghost use Rattle.std.specs.Prelude.{◌≡◌, ◌<◌, ◌≤◌, [], IfOk, IfErr, OnOk, length};
-ghost use Rattle.jm_fsm.specs.Machines.{HasGroups, HasStates, IsCompiled, category_count};
+ghost use Rattle.jm_fsm.specs.Tables.{HasGroups, HasStates, IsCompiled};
+ghost use Rattle.jm_fsm.specs.Categories.{category_count};
 
 use crate::machine::{Destination, Fsm};
 use jm_events::EventTable;

@@ -1,6 +1,6 @@
 //! What is wrong with a formula, step by step.
 ghost use Rattle.std.specs.Prelude.{◌≡◌, [], ◌∷◌, ◌++◌, false, List, count_by, OnOk, IfOk, IfErr};
-ghost use Rattle.jm_fsm.specs.Formulas.{is_state};
+ghost use Rattle.jm_fsm.specs.Spelling.{is_state};
 ghost use Rattle.jm_fsm.specs.Names.{is_among};
 ghost use Rattle.jm_fsm.specs.Faults.{is_alias, name_token, aliases_fault, is_grammar_word, is_reserved, part_name_fault, duplicate_state_fault, duplicate_transition_fault, part_transitions_fault, transitions_fault, states_fault};
 ghost use Rattle.jm_reading.specs.Faults.{Checks, Refuses};
@@ -127,8 +127,11 @@ fn new_transition(
     fallen: bool,
     transition: TransitionText,
 ) -> Result<bool, SpecError>
-    ensures ok { (rest : List TransitionText) → IfOk result (λ next. duplicate_transition_fault bytes.now events.old fallen (transition ∷ rest) ≡ duplicate_transition_fault bytes.now events.new next rest) }
-    ensures err { (rest : List TransitionText) → IfErr result (Refuses (duplicate_transition_fault bytes.now events.old fallen (transition ∷ rest))) }
+    ensures ok { (rest : List TransitionText)
+        → IfOk result (λ next. duplicate_transition_fault bytes.now events.old fallen (transition ∷ rest)
+        ≡ duplicate_transition_fault bytes.now events.new next rest) }
+    ensures err { (rest : List TransitionText)
+        → IfErr result (Refuses (duplicate_transition_fault bytes.now events.old fallen (transition ∷ rest))) }
 {
     match transition {
         TransitionText::On { event, .. } => {

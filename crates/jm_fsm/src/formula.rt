@@ -1,6 +1,6 @@
 //! What a formula says, as it is written.
 ghost use Rattle.std.specs.Prelude.{◌≡◌};
-ghost use Rattle.jm_fsm.specs.Formulas.{is_state};
+ghost use Rattle.jm_fsm.specs.Spelling.{is_state};
 ghost use Rattle.jm_fsm.specs.Faults.{is_alias, name_token};
 
 use jm_reading::Items;

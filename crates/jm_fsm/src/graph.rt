@@ -1,5 +1,5 @@
 ghost use Rattle.std.specs.Prelude.{Ok};
-ghost use Rattle.jm_fsm.specs.Machines.{next_destination};
+ghost use Rattle.jm_fsm.specs.Meanings.{next_destination};
 ghost use Rattle.jm_fsm.specs.Keys.{key_of};
 ghost use Rattle.jm_fsm.specs.declared.machine.Destination.TheVariants.{State};
 
@@ -15,7 +15,11 @@ impl Graph for Fsm {
 
     ghost data_of = { λ m destination. destination };
 
-    ghost meaning = { λ m. record { start = Ok (State 0); step = λ destination letter. Ok (next_destination m destination letter) } };
+    ghost meaning = { λ m. record {
+      start = Ok (State 0);
+      step = λ destination letter. Ok
+          (next_destination m destination letter);
+    } };
 
     ghost key_of = { λ m destination. key_of destination };
 

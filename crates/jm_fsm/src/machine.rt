@@ -1,5 +1,7 @@
 ghost use Rattle.std.specs.Prelude.{ℕ, ◌≡◌, ◌<◌, ◌≤◌, ◌+◌, ◌-◌, ◌^◌, ◌↔◌, false, [], ◌∷◌, ◌++◌, length, map, IsTrue, Contains, OnOk, IfOk, IfErr, string_bytes};
-ghost use Rattle.jm_fsm.specs.Machines.{destination_of, next_destination, IsMember, IsMachine, AreDistinct, category_names, category_count};
+ghost use Rattle.jm_fsm.specs.WellFormed.{IsMachine};
+ghost use Rattle.jm_fsm.specs.Categories.{IsMember, AreDistinct, category_names, category_count};
+ghost use Rattle.jm_fsm.specs.Meanings.{destination_of, next_destination};
 ghost use Rattle.jm_fsm.specs.Names.{is_among};
 
 use jm_events::Names;
@@ -73,7 +75,8 @@ impl State {
 
     /// Lists one more transition.
     pub(crate) fn list(&mut self, transition: Transition) -> Result<(), SpecError>
-        ensures ok { OnOk result (self.new ≡ record self.old { transitions = self.old.transitions ++ transition ∷ [] }) }
+        ensures ok { OnOk result (self.new
+            ≡ record self.old { transitions = self.old.transitions ++ transition ∷ [] }) }
         ensures err { IfErr result (λ e. e ≡ SpecError.NoMemory) }
     {
         self.transitions.push(transition)?;
@@ -219,7 +222,8 @@ pub struct Fsm {
 }
 
 impl Model for Fsm {
-    ghost use Rattle.jm_fsm.specs.Machines.{StateMachine, IsMachine};
+    ghost use Rattle.jm_fsm.specs.Machines.{StateMachine};
+    ghost use Rattle.jm_fsm.specs.WellFormed.{IsMachine};
 
     ghost Value = { StateMachine };
 
@@ -229,8 +233,8 @@ impl Model for Fsm {
 }
 
 impl Fsm {
-    /// The names of the categories, at most 1,280: of the states, of the aliases, and `fail`. The number of a name is the
-    /// category's group in the compiled table.
+    /// The names of the categories, at most 1,280: of the states, of the aliases, and `fail`. The number of a name is
+    /// the category's group in the compiled table.
     pub fn categories(&self, alloc: Global) -> Result<Names, NoMemory>
         ensures value { IfOk result (λ names. names ≡ category_names self.now) }
         ensures count { IfOk result (λ names. length names ≡ category_count self.now) }

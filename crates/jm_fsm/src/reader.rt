@@ -2,7 +2,7 @@
 ghost use Rattle.std.specs.Prelude.{◌≡◌, ◌<◌, ◌≤◌, length, true, OnOk, IfOk};
 ghost use Rattle.std.specs.List.{list_any};
 ghost use Rattle.jm_reading.specs.Answers.{Gives, Reads, Leaves, Fills};
-ghost use Rattle.jm_fsm.specs.Formulas.{is_state};
+ghost use Rattle.jm_fsm.specs.Spelling.{is_state};
 ghost use Rattle.jm_fsm.specs.Rules.{fallback_at, listed_at, begins_fallback, transition_at, comma_at, entry_at, is_inside, entries_at, declaration_at, more_member_at, begins_more_member, more_members_at, alias_at, begins_alias, one_part_at, part_at, parts_at, formula_at};
 
 use crate::formula::{Part, TransitionText};
@@ -69,7 +69,8 @@ fn comma(cursor: &mut Cursor<'_>) -> Result<(), SpecError>
 
 #[tactic(auto, unfolding(crate::specs::Rules::entry_at))]
 fn entry(cursor: &mut Cursor<'_>, transitions: &mut Items<TransitionText>) -> Result<(), SpecError>
-    ensures reads { Fills result transitions.new cursor.new.rest.now (entry_at cursor.old.bytes.now transitions.old cursor.old.rest.now) }
+    ensures reads { Fills result transitions.new cursor.new.rest.now
+        (entry_at cursor.old.bytes.now transitions.old cursor.old.rest.now) }
     ensures bytes { cursor.new.bytes.now ≡ cursor.old.bytes.now }
     ensures left { OnOk result (length cursor.new.rest.now < length cursor.old.rest.now) }
 {
@@ -90,7 +91,8 @@ fn entries(
     cursor: &mut Cursor<'_>,
     transitions: &mut Items<TransitionText>,
 ) -> Result<(), SpecError>
-    ensures reads { Fills result transitions.new cursor.new.rest.now (entries_at cursor.old.bytes.now transitions.old cursor.old.rest.now) }
+    ensures reads { Fills result transitions.new cursor.new.rest.now
+        (entries_at cursor.old.bytes.now transitions.old cursor.old.rest.now) }
     ensures bytes { cursor.new.bytes.now ≡ cursor.old.bytes.now }
     ensures left { OnOk result (length cursor.new.rest.now ≤ length cursor.old.rest.now) }
 {
@@ -117,7 +119,8 @@ fn declaration(cursor: &mut Cursor<'_>) -> Result<Part, SpecError>
 
 #[tactic(auto, unfolding(crate::specs::Rules::more_member_at))]
 fn more_member(cursor: &mut Cursor<'_>, members: &mut Items<Token>) -> Result<(), SpecError>
-    ensures reads { Fills result members.new cursor.new.rest.now (more_member_at cursor.old.bytes.now members.old cursor.old.rest.now) }
+    ensures reads { Fills result members.new cursor.new.rest.now
+        (more_member_at cursor.old.bytes.now members.old cursor.old.rest.now) }
     ensures bytes { cursor.new.bytes.now ≡ cursor.old.bytes.now }
     ensures left { OnOk result (length cursor.new.rest.now < length cursor.old.rest.now) }
 {
@@ -135,7 +138,8 @@ fn begins_more_member(cursor: &Cursor<'_>) -> bool
 /// The members behind the first. They are added to those that are there.
 #[tactic(auto, unfolding(crate::specs::Rules::more_members_at))]
 fn more_members(cursor: &mut Cursor<'_>, members: &mut Items<Token>) -> Result<(), SpecError>
-    ensures reads { Fills result members.new cursor.new.rest.now (more_members_at cursor.old.bytes.now members.old cursor.old.rest.now) }
+    ensures reads { Fills result members.new cursor.new.rest.now
+        (more_members_at cursor.old.bytes.now members.old cursor.old.rest.now) }
     ensures bytes { cursor.new.bytes.now ≡ cursor.old.bytes.now }
     ensures left { OnOk result (length cursor.new.rest.now ≤ length cursor.old.rest.now) }
 {
@@ -183,7 +187,8 @@ fn one_part(cursor: &mut Cursor<'_>) -> Result<Part, SpecError>
 
 #[tactic(auto, unfolding(crate::specs::Rules::part_at))]
 fn part(cursor: &mut Cursor<'_>, parts: &mut Items<Part>) -> Result<(), SpecError>
-    ensures reads { Fills result parts.new cursor.new.rest.now (part_at cursor.old.bytes.now parts.old cursor.old.rest.now) }
+    ensures reads { Fills result parts.new cursor.new.rest.now
+        (part_at cursor.old.bytes.now parts.old cursor.old.rest.now) }
     ensures bytes { cursor.new.bytes.now ≡ cursor.old.bytes.now }
     ensures left { OnOk result (length cursor.new.rest.now < length cursor.old.rest.now) }
 {
@@ -194,7 +199,8 @@ fn part(cursor: &mut Cursor<'_>, parts: &mut Items<Part>) -> Result<(), SpecErro
 /// The states and aliases up to the end. They are added to those that are there.
 #[tactic(auto, unfolding(crate::specs::Rules::parts_at))]
 fn parts(cursor: &mut Cursor<'_>, parts: &mut Items<Part>) -> Result<(), SpecError>
-    ensures reads { Fills result parts.new cursor.new.rest.now (parts_at cursor.old.bytes.now parts.old cursor.old.rest.now) }
+    ensures reads { Fills result parts.new cursor.new.rest.now
+        (parts_at cursor.old.bytes.now parts.old cursor.old.rest.now) }
     ensures bytes { cursor.new.bytes.now ≡ cursor.old.bytes.now }
 {
     while cursor.is_left() {

@@ -1,7 +1,7 @@
 //! The reader of a state machine.
 ghost use Rattle.std.specs.Prelude.{IfOk, IfErr};
 ghost use Rattle.jm_text.specs.Spans.{LieWithin};
-ghost use Rattle.jm_fsm.specs.Trees.{IsReadFrom, IsRefused};
+ghost use Rattle.jm_fsm.specs.Readings.{IsReadFrom, IsRefused};
 
 use crate::build::machine_of;
 use crate::machine::Fsm;
@@ -15,8 +15,8 @@ use std::alloc::Global;
 /// The state machine of a formula, whose tokens these are. The token before them is on the line.
 ///
 /// `Syntax` comes exactly where the grammar doesn't spell the tokens. Its line is that of the first token that can't go
-/// on, or of the last token at the end, and the given one in an empty formula. Each other fault is that of the first step
-/// that has one: `TooMany` aliases, `ReservedName`, `DuplicateState`, `DuplicateTransition`, `TooManyStates`,
+/// on, or of the last token at the end, and the given one in an empty formula. Each other fault is that of the first
+/// step that has one: `TooMany` aliases, `ReservedName`, `DuplicateState`, `DuplicateTransition`, `TooManyStates`,
 /// `UnknownName`. Within a step the first token that offends gives the line.
 pub fn read(
     alloc: Global,

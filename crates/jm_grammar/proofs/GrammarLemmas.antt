@@ -13,7 +13,7 @@ use Rattle.jm_reading.specs.Tokens.{IsName, IsMark, IsWord, SpellsEach}
 use Rattle.jm_reading.proofs.TokenLemmas.{mark_is, name_is, mark_read, name_read, step_of, other_mark}
 use Rattle.jm_reading.proofs.GrammarLemmas.{IsSound, each_read, IsComplete, read_each}
 use Rattle.jm_grammar.specs.declared.formula.Part.{Part}
-use Rattle.jm_grammar.specs.Formulas.{SpellsParted, SpellsSymbol, SpellsAlternative, SpellsPart, Spells}
+use Rattle.jm_grammar.specs.Spelling.{SpellsParted, SpellsSymbol, SpellsAlternative, SpellsPart, Spells}
 use Rattle.jm_grammar.specs.Rules.{symbol_at, begins_symbol, symbols_at, alternative_at, one_alternative_at, more_alternative_at, begins_more_alternative, more_alternatives_at, alternatives_at, part_at, one_part_at, more_part_at, more_parts_at, formula_at}
 use Rattle.jm_grammar.proofs.PartedLemmas.{parted_sound, parted_complete}
 

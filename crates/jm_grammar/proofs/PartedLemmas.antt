@@ -5,7 +5,7 @@ use Rattle.jm_reading.specs.Reading.{◌>>=◌, mark_at, at_most}
 use Rattle.jm_reading.specs.Tokens.{IsMark}
 use Rattle.jm_reading.proofs.TokenLemmas.{mark_is, mark_read, step_of}
 use Rattle.jm_reading.proofs.GrammarLemmas.{IsSound, each_read, IsComplete, after_each, read_each}
-use Rattle.jm_grammar.specs.Formulas.{SpellsMore, SpellsParted}
+use Rattle.jm_grammar.specs.Spelling.{SpellsMore, SpellsParted}
 
 module _ {X : Type 0} (bytes mark : List ℕ) (SpellsOne : List Token → X → Type 0) (goes_on : List Token → Bool) (one : List X → List Token → Option (List X × List Token)) where
   -- a mark, and one more item behind it

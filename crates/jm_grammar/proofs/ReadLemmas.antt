@@ -23,10 +23,10 @@ use Rattle.jm_grammar.specs.declared.formula.Part.{Part}
 use Rattle.jm_grammar.specs.declared.grammar.GrammarSymbol.{GrammarSymbol}
 use Rattle.jm_grammar.specs.declared.grammar.Production.{Production}
 use Rattle.jm_grammar.specs.Grammars.{GrammarDefinition}
-use Rattle.jm_grammar.specs.Formulas.{Spells}
+use Rattle.jm_grammar.specs.Spelling.{Spells}
 use Rattle.jm_grammar.specs.Rules.{formula_at}
 use Rattle.jm_grammar.specs.Faults.{nonterminals, nonterminals_fault, production_count, productions_fault, has_long, symbols_fault, is_epsilon, left_name_fault, clash_fault, nonterminal_said, letter_or, symbol_said, with_symbol, with_symbols, with_alternative, with_alternatives, with_part, with_parts, grammar_of, first_fault}
-use Rattle.jm_grammar.specs.Trees.{IsReadFrom, IsRefused}
+use Rattle.jm_grammar.specs.Readings.{IsReadFrom, IsRefused}
 use Rattle.jm_grammar.proofs.GrammarLemmas.{formula_sound, formula_none, one_formula}
 use Rattle.jm_grammar.proofs.MadeLemmas.{made_is, letter_there}
 

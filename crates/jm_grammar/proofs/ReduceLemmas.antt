@@ -10,7 +10,7 @@ use Rattle.jm_grammar.specs.declared.grammar.GrammarSymbol.{GrammarSymbol}
 use Rattle.jm_grammar.specs.declared.grammar.GrammarSymbol.TheVariants.{Letter, Nonterminal}
 use Rattle.jm_grammar.specs.declared.grammar.Production.{Production}
 use Rattle.jm_grammar.specs.Grammars.{IsSmallSymbol, IsSmallProduction, IsSmall}
-use Rattle.jm_grammar.specs.Derivations.{Trees, no_tree, leaf, node, Derives, DerivesOf, DerivesSome, IsIn}
+use Rattle.jm_grammar.specs.Meanings.{Trees, no_tree, leaf, node, Derives, DerivesOf, DerivesSome, IsIn}
 use Rattle.jm_grammar.specs.Rounds.{is_known, are_known}
 use Rattle.jm_grammar.proofs.RoundLemmas.{bit_of, of_bit, IsSound, IsClosed, known_spell, production_spells, trees_known}
 

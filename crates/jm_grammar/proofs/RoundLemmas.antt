@@ -11,7 +11,7 @@ use Rattle.jm_grammar.specs.declared.grammar.GrammarSymbol.{GrammarSymbol}
 use Rattle.jm_grammar.specs.declared.grammar.GrammarSymbol.TheVariants.{Letter, Nonterminal}
 use Rattle.jm_grammar.specs.declared.grammar.Production.{Production}
 use Rattle.jm_grammar.specs.Grammars.{IsSmallProduction}
-use Rattle.jm_grammar.specs.Derivations.{Trees, no_tree, leaf, node, DerivesOf}
+use Rattle.jm_grammar.specs.Meanings.{Trees, no_tree, leaf, node, DerivesOf}
 use Rattle.jm_grammar.specs.Rounds.{has_bit, are_known, with_production, round}
 
 -- ---- bits

@@ -1,7 +1,7 @@
 -- The categories of a grammar.
 use Rattle.std.specs.Prelude.{ℕ, zero, suc, List, [], ◌∷◌, codes}
 use Rattle.jm_grammar.specs.Grammars.{GrammarDefinition}
-use Rattle.jm_grammar.specs.Derivations.{IsWord, IsHopeless}
+use Rattle.jm_grammar.specs.Meanings.{IsWord, IsHopeless}
 
 -- the names of the categories, in the order of their numbers
 abbrev pub category_names : List (List ℕ)

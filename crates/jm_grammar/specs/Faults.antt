@@ -24,7 +24,8 @@ nonterminals bytes parts = fold (λ names part. with_name names (name_of bytes p
 
 -- there are at most 64
 abbrev pub nonterminals_fault : List ℕ → List Part → Option SpecFault
-nonterminals_fault bytes parts = if nat_lt 64 (length (nonterminals bytes parts)) then Some (TooMany Nonterminals) else None
+nonterminals_fault bytes parts =
+    if nat_lt 64 (length (nonterminals bytes parts)) then Some (TooMany Nonterminals) else None
 
 -- there are at most 256 productions, which are the alternatives
 abbrev pub production_count : List Part → ℕ
@@ -53,7 +54,8 @@ symbols_fault bytes parts = if list_any (has_long bytes) parts then Some (TooMan
 -- and no nonterminal
 abbrev pub left_name_fault : List ℕ → List Part → Option SpecFault
 left_name_fault bytes [] = None
-left_name_fault bytes (p ∷ ps) = if is_epsilon (name_of bytes p.left) then Some (ReservedName p.left.line) else left_name_fault bytes ps
+left_name_fault bytes (p ∷ ps) =
+    if is_epsilon (name_of bytes p.left) then Some (ReservedName p.left.line) else left_name_fault bytes ps
 
 -- the name is among others
 abbrev pub is_among : List (List ℕ) → List ℕ → Bool
@@ -62,7 +64,8 @@ is_among names name = list_any (bytes_eq name) names
 -- no nonterminal has the name of an event
 abbrev pub clash_fault : List ℕ → List (List ℕ) → List Part → Option SpecFault
 clash_fault bytes events [] = None
-clash_fault bytes events (p ∷ ps) = if is_among events (name_of bytes p.left) then Some (NameClash p.left.line) else clash_fault bytes events ps
+clash_fault bytes events (p ∷ ps) =
+    if is_among events (name_of bytes p.left) then Some (NameClash p.left.line) else clash_fault bytes events ps
 
 -- The number of a nonterminal, and the symbol of a name: an event's letter, or a nonterminal. The left side of a
 -- production is always there.
@@ -74,42 +77,56 @@ letter_or (Some letter) nonterminal = Ok (Letter (record { 0 = letter }))
 letter_or None nonterminal = nonterminal >>> λ n. Ok (Nonterminal n)
 
 abbrev pub symbol_said : List ℕ → List (List ℕ) → List (List ℕ) → Token → Result GrammarSymbol SpecFault
-symbol_said bytes events known token = letter_or (number_of events (name_of bytes token)) (nonterminal_said bytes known token)
+symbol_said bytes events known token =
+    letter_or (number_of events (name_of bytes token)) (nonterminal_said bytes known token)
 
 -- The productions that a formula says, among these events and nonterminals: they are added one after the other, without
 -- `epsilon`, and the first name that isn't there is the fault.
-abbrev pub with_symbol : List ℕ → List (List ℕ) → List (List ℕ) → List GrammarSymbol → Token → Result (List GrammarSymbol) SpecFault
+abbrev pub with_symbol : List ℕ → List (List ℕ) → List (List ℕ) → List GrammarSymbol → Token
+    → Result (List GrammarSymbol) SpecFault
 with_symbol bytes events known symbols token =
-    if is_epsilon (name_of bytes token) then Ok symbols else (symbol_said bytes events known token >>> λ symbol. Ok (symbols ++ symbol ∷ []))
+    if is_epsilon (name_of bytes token) then Ok symbols
+    else (symbol_said bytes events known token >>> λ symbol. Ok (symbols ++ symbol ∷ []))
 
-abbrev pub with_symbols : List ℕ → List (List ℕ) → List (List ℕ) → List GrammarSymbol → List Token → Result (List GrammarSymbol) SpecFault
+abbrev pub with_symbols : List ℕ → List (List ℕ) → List (List ℕ) → List GrammarSymbol → List Token
+    → Result (List GrammarSymbol) SpecFault
 with_symbols bytes events known symbols [] = Ok symbols
-with_symbols bytes events known symbols (t ∷ ts) = with_symbol bytes events known symbols t >>> λ more. with_symbols bytes events known more ts
+with_symbols bytes events known symbols (t ∷ ts) =
+    with_symbol bytes events known symbols t >>> λ more. with_symbols bytes events known more ts
 
-abbrev pub with_alternative : List ℕ → List (List ℕ) → List (List ℕ) → ℕ → List Production → List Token → Result (List Production) SpecFault
+abbrev pub with_alternative : List ℕ → List (List ℕ) → List (List ℕ) → ℕ → List Production → List Token
+    → Result (List Production) SpecFault
 with_alternative bytes events known left productions alternative =
-    with_symbols bytes events known [] alternative >>> λ symbols. Ok (productions ++ record { left = left; symbols = symbols } ∷ [])
+    with_symbols bytes events known [] alternative
+    >>> λ symbols. Ok (productions ++ record { left = left; symbols = symbols } ∷ [])
 
-abbrev pub with_alternatives : List ℕ → List (List ℕ) → List (List ℕ) → ℕ → List Production → List (List Token) → Result (List Production) SpecFault
+abbrev pub with_alternatives : List ℕ → List (List ℕ) → List (List ℕ) → ℕ → List Production → List (List Token)
+    → Result (List Production) SpecFault
 with_alternatives bytes events known left productions [] = Ok productions
 with_alternatives bytes events known left productions (a ∷ rest) =
-    with_alternative bytes events known left productions a >>> λ more. with_alternatives bytes events known left more rest
+    with_alternative bytes events known left productions a
+    >>> λ more. with_alternatives bytes events known left more rest
 
-abbrev pub with_part : List ℕ → List (List ℕ) → List (List ℕ) → List Production → Part → Result (List Production) SpecFault
+abbrev pub with_part : List ℕ → List (List ℕ) → List (List ℕ) → List Production → Part
+    → Result (List Production) SpecFault
 with_part bytes events known productions part =
-    nonterminal_said bytes known part.left >>> λ left. with_alternatives bytes events known left productions part.alternatives
+    nonterminal_said bytes known part.left
+    >>> λ left. with_alternatives bytes events known left productions part.alternatives
 
-abbrev pub with_parts : List ℕ → List (List ℕ) → List (List ℕ) → List Production → List Part → Result (List Production) SpecFault
+abbrev pub with_parts : List ℕ → List (List ℕ) → List (List ℕ) → List Production → List Part
+    → Result (List Production) SpecFault
 with_parts bytes events known productions [] = Ok productions
-with_parts bytes events known productions (p ∷ ps) = with_part bytes events known productions p >>> λ more. with_parts bytes events known more ps
+with_parts bytes events known productions (p ∷ ps) =
+    with_part bytes events known productions p >>> λ more. with_parts bytes events known more ps
 
 -- the grammar that a formula says; its start is the first left side
 unfoldable pub grammar_of : List ℕ → EventDefinitions → List Part → Result GrammarDefinition SpecFault
 grammar_of bytes table parts =
-    with_parts bytes (event_names table) (nonterminals bytes parts) [] parts >>> λ productions. Ok (record { productions = productions; start = 0 })
+    with_parts bytes (event_names table) (nonterminals bytes parts) [] parts
+    >>> λ productions. Ok (record { productions = productions; start = 0 })
 
--- the fault of the first step that has one: too many nonterminals, productions, symbols, reserved names of events and then
--- of nonterminals, nonterminals named as events, unknown names
+-- the fault of the first step that has one: too many nonterminals, productions, symbols, reserved names of events and
+-- then of nonterminals, nonterminals named as events, unknown names
 unfoldable pub first_fault : List ℕ → EventDefinitions → List Part → Option SpecFault
 first_fault bytes table parts =
     or_else (nonterminals_fault bytes parts)

@@ -1,9 +1,9 @@
 pub mod Grammars
-pub mod Derivations
+pub mod Meanings
 pub mod Categories
 pub mod Rounds
-pub mod Formulas
+pub mod Spelling
 pub mod Rules
 pub mod Faults
-pub mod Trees
+pub mod Readings
 pub mod Written

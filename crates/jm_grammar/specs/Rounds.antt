@@ -19,7 +19,8 @@ are_known letters known symbols = list_all (is_known letters known) symbols
 
 -- the nonterminals with the left side of a production, where its symbols are known
 abbrev pub with_production : ℕ → ℕ → Production → ℕ
-with_production letters known p = if are_known letters known p.symbols then bit_or known (1 * 2 ^ p.left % 2 ^ 64) else known
+with_production letters known p =
+    if are_known letters known p.symbols then bit_or known (1 * 2 ^ p.left % 2 ^ 64) else known
 
 abbrev pub round : List Production → ℕ → ℕ → ℕ
 round productions letters known = fold (with_production letters) known productions

@@ -38,7 +38,8 @@ abbrev pub begins_more_alternative : List ℕ → List Token → Bool
 begins_more_alternative bytes tokens = is_mark_at bytes tokens 0 (codes "|")
 
 unfoldable pub more_alternatives_at : List ℕ → List (List Token) → List Token → Option (List (List Token) × List Token)
-more_alternatives_at bytes alternatives tokens = at_most (begins_more_alternative bytes) (more_alternative_at bytes) (length tokens) alternatives tokens
+more_alternatives_at bytes alternatives tokens =
+    at_most (begins_more_alternative bytes) (more_alternative_at bytes) (length tokens) alternatives tokens
 
 -- Alternative { "|" Alternative }
 unfoldable pub alternatives_at : List ℕ → List Token → Option (List (List Token) × List Token)

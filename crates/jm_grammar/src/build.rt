@@ -72,7 +72,8 @@ fn add_symbols(
     alternative: &[Token],
 ) -> Result<(), SpecError>
     requires { length known.now ≤ 64 }
-    ensures { Makes result symbols.new (with_symbols bytes.now (event_names table.now) known.now symbols.old alternative.now) }
+    ensures { Makes result symbols.new
+        (with_symbols bytes.now (event_names table.now) known.now symbols.old alternative.now) }
 {
     for token in alternative {
         add_symbol(bytes, table, known, symbols, *token)?;
@@ -91,7 +92,8 @@ fn add_alternative(
     alternative: &[Token],
 ) -> Result<(), SpecError>
     requires { length known.now ≤ 64 }
-    ensures { Makes result productions.new (with_alternative bytes.now (event_names table.now) known.now left productions.old alternative.now) }
+    ensures { Makes result productions.new
+        (with_alternative bytes.now (event_names table.now) known.now left productions.old alternative.now) }
 {
     let mut symbols = Items::new(alloc);
     add_symbols(bytes, table, known, &mut symbols, alternative)?;
@@ -108,7 +110,8 @@ fn add_alternatives(
     alternatives: &[Items<Token>],
 ) -> Result<(), SpecError>
     requires { length known.now ≤ 64 }
-    ensures { Makes result productions.new (with_alternatives bytes.now (event_names table.now) known.now left productions.old alternatives.now) }
+    ensures { Makes result productions.new
+        (with_alternatives bytes.now (event_names table.now) known.now left productions.old alternatives.now) }
 {
     for alternative in alternatives {
         let alternative = alternative.as_slice();
@@ -127,7 +130,8 @@ fn add_part(
     part: &Part,
 ) -> Result<(), SpecError>
     requires { length known.now ≤ 64 }
-    ensures { Makes result productions.new (with_part bytes.now (event_names table.now) known.now productions.old part.now) }
+    ensures { Makes result productions.new
+        (with_part bytes.now (event_names table.now) known.now productions.old part.now) }
 {
     let left = nonterminal_of(bytes, known, part.left)?;
     let alternatives = part.alternatives.as_slice();
@@ -143,7 +147,8 @@ fn add_parts(
     parts: &[Part],
 ) -> Result<(), SpecError>
     requires { length known.now ≤ 64 }
-    ensures { Makes result productions.new (with_parts bytes.now (event_names table.now) known.now productions.old parts.now) }
+    ensures { Makes result productions.new
+        (with_parts bytes.now (event_names table.now) known.now productions.old parts.now) }
 {
     for part in parts {
         add_part(alloc, bytes, table, known, productions, part)?;

@@ -51,8 +51,8 @@ impl Grammar {
         Grammar { productions, start }
     }
 
-    /// The grammar of these productions and this start, if it is within the limits: the start and each nonterminal below
-    /// 64, letters below 32, at most 256 productions, and at most 32 symbols in each.
+    /// The grammar of these productions and this start, if it is within the limits: the start and each nonterminal
+    /// below 64, letters below 32, at most 256 productions, and at most 32 symbols in each.
     pub fn of(productions: Vec<Production>, start: u8) -> Option<Grammar>
         ensures some { IfSome result (λ g. g ≡ record { productions = productions.items; start = start }) }
         ensures none { result ≡ None → IsSmall productions.items start → ⊥ }

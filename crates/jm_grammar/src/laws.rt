@@ -9,29 +9,34 @@ ghost use Rattle.jm_grammar.specs.declared.formula.Part.{Part};
 ghost use Rattle.jm_grammar.specs.declared.grammar.GrammarSymbol.TheVariants.{Letter};
 ghost use Rattle.jm_grammar.specs.declared.grammar.Production.{Production};
 ghost use Rattle.jm_grammar.specs.Grammars.{GrammarDefinition};
-ghost use Rattle.jm_grammar.specs.Formulas.{Spells};
+ghost use Rattle.jm_grammar.specs.Spelling.{Spells};
 ghost use Rattle.jm_grammar.specs.Faults.{nonterminals};
-ghost use Rattle.jm_grammar.specs.Trees.{IsReadFrom, IsRefused};
+ghost use Rattle.jm_grammar.specs.Readings.{IsReadFrom, IsRefused};
 ghost use Rattle.jm_grammar.specs.Written.{AreAsWritten};
 
 /// One reading: no tokens spell two formulas, so none have two grammars, and none have both a grammar and a fault.
 pub fn one_reading()
-    ensures formulas { (bytes : List ℕ) (tokens : List Token) (parts other : List Part) → Spells bytes tokens parts → Spells bytes tokens other → parts ≡ other }
+    ensures formulas { (bytes : List ℕ) (tokens : List Token) (parts other : List Part) → Spells bytes tokens parts
+        → Spells bytes tokens other → parts ≡ other }
     ensures grammars { (bytes : List ℕ) (tokens : List Token) (table : EventDefinitions) (g h : GrammarDefinition) →
         IsReadFrom bytes tokens table g → IsReadFrom bytes tokens table h → g ≡ h }
-    ensures never_both { (bytes : List ℕ) (tokens : List Token) (table : EventDefinitions) (g : GrammarDefinition) (fault : SpecFault) →
+    ensures never_both { (bytes : List ℕ) (tokens : List Token) (table : EventDefinitions) (g : GrammarDefinition)
+        (fault : SpecFault) →
         IsReadFrom bytes tokens table g → IsRefused bytes tokens table (Bad fault) → ⊥ }
 {}
 
 /// Each letter of a grammar that was read is that of an event.
 pub fn letters_are_events()
-    ensures { (bytes : List ℕ) (tokens : List Token) (table : EventDefinitions) (g : GrammarDefinition) → IsReadFrom bytes tokens table g →
-        (p : Production) → Contains g.productions p → (letter : LetterType) → Contains p.symbols (Letter letter) → letter.0 < length table.events }
+    ensures { (bytes : List ℕ) (tokens : List Token) (table : EventDefinitions) (g : GrammarDefinition)
+        → IsReadFrom bytes tokens table g →
+        (p : Production) → Contains g.productions p → (letter : LetterType) → Contains p.symbols (Letter letter)
+        → letter.0 < length table.events }
 {}
 
-/// A grammar that was read is as it is written: its productions are the alternatives of the formula, in order, each with the
-/// letters and nonterminals that its names say.
+/// A grammar that was read is as it is written: its productions are the alternatives of the formula, in order, each
+/// with the letters and nonterminals that its names say.
 pub fn productions_as_written()
-    ensures { (bytes : List ℕ) (tokens : List Token) (table : EventDefinitions) (g : GrammarDefinition) → IsReadFrom bytes tokens table g →
+    ensures { (bytes : List ℕ) (tokens : List Token) (table : EventDefinitions) (g : GrammarDefinition)
+        → IsReadFrom bytes tokens table g →
         (parts : List Part) × Spells bytes tokens parts × AreAsWritten bytes (event_names table) (nonterminals bytes parts) parts g.productions }
 {}

@@ -1,7 +1,7 @@
 //! Which nonterminals spell a word of some letters: a set of them grows by what the productions add, until it stays.
 ghost use Rattle.std.specs.Prelude.{ℕ, ◌≡◌, ◌↔◌, ◌<◌, ◌≤◌, All, IsBitSet, true};
 ghost use Rattle.jm_grammar.specs.Grammars.{IsSmallSymbol, IsSmallProduction};
-ghost use Rattle.jm_grammar.specs.Derivations.{DerivesOf};
+ghost use Rattle.jm_grammar.specs.Meanings.{DerivesOf};
 ghost use Rattle.jm_grammar.specs.Rounds.{has_bit, is_known, are_known, with_production, round};
 
 use crate::grammar::{Grammar, GrammarSymbol, Production};

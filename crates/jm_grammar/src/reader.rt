@@ -11,7 +11,8 @@ use jm_text::Token;
 /// NAME | "epsilon". It is added to the symbols that are there.
 #[tactic(auto, unfolding(crate::specs::Rules::symbol_at))]
 fn symbol(cursor: &mut Cursor<'_>, symbols: &mut Items<Token>) -> Result<(), SpecError>
-    ensures reads { Fills result symbols.new cursor.new.rest.now (symbol_at cursor.old.bytes.now symbols.old cursor.old.rest.now) }
+    ensures reads { Fills result symbols.new cursor.new.rest.now
+        (symbol_at cursor.old.bytes.now symbols.old cursor.old.rest.now) }
     ensures bytes { cursor.new.bytes.now ≡ cursor.old.bytes.now }
     ensures left { OnOk result (length cursor.new.rest.now < length cursor.old.rest.now) }
 {
@@ -28,7 +29,8 @@ fn begins_symbol(cursor: &Cursor<'_>) -> bool
 /// { Symbol }. They are added to those that are there.
 #[tactic(auto, unfolding(crate::specs::Rules::symbols_at))]
 fn symbols(cursor: &mut Cursor<'_>, symbols: &mut Items<Token>) -> Result<(), SpecError>
-    ensures reads { Fills result symbols.new cursor.new.rest.now (symbols_at cursor.old.bytes.now symbols.old cursor.old.rest.now) }
+    ensures reads { Fills result symbols.new cursor.new.rest.now
+        (symbols_at cursor.old.bytes.now symbols.old cursor.old.rest.now) }
     ensures bytes { cursor.new.bytes.now ≡ cursor.old.bytes.now }
     ensures left { OnOk result (length cursor.new.rest.now ≤ length cursor.old.rest.now) }
 {
@@ -57,7 +59,8 @@ fn one_alternative(
     cursor: &mut Cursor<'_>,
     alternatives: &mut Items<Items<Token>>,
 ) -> Result<(), SpecError>
-    ensures reads { Fills result alternatives.new cursor.new.rest.now (one_alternative_at cursor.old.bytes.now alternatives.old cursor.old.rest.now) }
+    ensures reads { Fills result alternatives.new cursor.new.rest.now
+        (one_alternative_at cursor.old.bytes.now alternatives.old cursor.old.rest.now) }
     ensures bytes { cursor.new.bytes.now ≡ cursor.old.bytes.now }
     ensures left { OnOk result (length cursor.new.rest.now < length cursor.old.rest.now) }
 {
@@ -71,7 +74,8 @@ fn more_alternative(
     cursor: &mut Cursor<'_>,
     alternatives: &mut Items<Items<Token>>,
 ) -> Result<(), SpecError>
-    ensures reads { Fills result alternatives.new cursor.new.rest.now (more_alternative_at cursor.old.bytes.now alternatives.old cursor.old.rest.now) }
+    ensures reads { Fills result alternatives.new cursor.new.rest.now
+        (more_alternative_at cursor.old.bytes.now alternatives.old cursor.old.rest.now) }
     ensures bytes { cursor.new.bytes.now ≡ cursor.old.bytes.now }
     ensures left { OnOk result (length cursor.new.rest.now < length cursor.old.rest.now) }
 {
@@ -91,7 +95,8 @@ fn more_alternatives(
     cursor: &mut Cursor<'_>,
     alternatives: &mut Items<Items<Token>>,
 ) -> Result<(), SpecError>
-    ensures reads { Fills result alternatives.new cursor.new.rest.now (more_alternatives_at cursor.old.bytes.now alternatives.old cursor.old.rest.now) }
+    ensures reads { Fills result alternatives.new cursor.new.rest.now
+        (more_alternatives_at cursor.old.bytes.now alternatives.old cursor.old.rest.now) }
     ensures bytes { cursor.new.bytes.now ≡ cursor.old.bytes.now }
     ensures left { OnOk result (length cursor.new.rest.now ≤ length cursor.old.rest.now) }
 {
@@ -130,7 +135,8 @@ fn part(cursor: &mut Cursor<'_>) -> Result<Part, SpecError>
 /// A production. It is added to those that are there.
 #[tactic(auto, unfolding(crate::specs::Rules::one_part_at))]
 fn one_part(cursor: &mut Cursor<'_>, parts: &mut Items<Part>) -> Result<(), SpecError>
-    ensures reads { Fills result parts.new cursor.new.rest.now (one_part_at cursor.old.bytes.now parts.old cursor.old.rest.now) }
+    ensures reads { Fills result parts.new cursor.new.rest.now
+        (one_part_at cursor.old.bytes.now parts.old cursor.old.rest.now) }
     ensures bytes { cursor.new.bytes.now ≡ cursor.old.bytes.now }
     ensures left { OnOk result (length cursor.new.rest.now < length cursor.old.rest.now) }
 {
@@ -141,7 +147,8 @@ fn one_part(cursor: &mut Cursor<'_>, parts: &mut Items<Part>) -> Result<(), Spec
 /// "," Production
 #[tactic(auto, unfolding(crate::specs::Rules::more_part_at))]
 fn more_part(cursor: &mut Cursor<'_>, parts: &mut Items<Part>) -> Result<(), SpecError>
-    ensures reads { Fills result parts.new cursor.new.rest.now (more_part_at cursor.old.bytes.now parts.old cursor.old.rest.now) }
+    ensures reads { Fills result parts.new cursor.new.rest.now
+        (more_part_at cursor.old.bytes.now parts.old cursor.old.rest.now) }
     ensures bytes { cursor.new.bytes.now ≡ cursor.old.bytes.now }
     ensures left { OnOk result (length cursor.new.rest.now < length cursor.old.rest.now) }
 {
@@ -152,7 +159,8 @@ fn more_part(cursor: &mut Cursor<'_>, parts: &mut Items<Part>) -> Result<(), Spe
 /// { "," Production } up to the end. They are added to those that are there.
 #[tactic(auto, unfolding(crate::specs::Rules::more_parts_at))]
 fn more_parts(cursor: &mut Cursor<'_>, parts: &mut Items<Part>) -> Result<(), SpecError>
-    ensures reads { Fills result parts.new cursor.new.rest.now (more_parts_at cursor.old.bytes.now parts.old cursor.old.rest.now) }
+    ensures reads { Fills result parts.new cursor.new.rest.now
+        (more_parts_at cursor.old.bytes.now parts.old cursor.old.rest.now) }
     ensures bytes { cursor.new.bytes.now ≡ cursor.old.bytes.now }
 {
     while cursor.is_left() {

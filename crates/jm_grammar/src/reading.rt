@@ -1,7 +1,7 @@
 //! The reader of a grammar.
 ghost use Rattle.std.specs.Prelude.{IfOk, IfErr};
 ghost use Rattle.jm_text.specs.Spans.{LieWithin};
-ghost use Rattle.jm_grammar.specs.Trees.{IsReadFrom, IsRefused};
+ghost use Rattle.jm_grammar.specs.Readings.{IsReadFrom, IsRefused};
 
 use crate::build::grammar_of;
 use crate::grammar::Grammar;
@@ -14,13 +14,14 @@ use std::alloc::Global;
 
 /// The grammar of a formula, whose tokens these are. The token before them is on the line.
 ///
-/// Nonterminals are numbered from 0 by their first left side, and the start is 0. The productions are the alternatives in
-/// order, each without its `epsilon`.
+/// Nonterminals are numbered from 0 by their first left side, and the start is 0. The productions are the alternatives
+/// in order, each without its `epsilon`.
 ///
-/// `Syntax` comes exactly where the grammar of formulas doesn't spell the tokens. Its line is that of the first token that
-/// can't go on, or of the last token at the end, and the given one in an empty formula. Each other fault is that of the
-/// first step that has one: `TooMany` nonterminals, productions, symbols of one production, `ReservedName`, `NameClash`,
-/// `UnknownName`. Within a step the first token that offends gives the line, and events stand before the formula.
+/// `Syntax` comes exactly where the grammar of formulas doesn't spell the tokens. Its line is that of the first token
+/// that can't go on, or of the last token at the end, and the given one in an empty formula. Each other fault is that
+/// of the first step that has one: `TooMany` nonterminals, productions, symbols of one production, `ReservedName`,
+/// `NameClash`, `UnknownName`. Within a step the first token that offends gives the line, and events stand before the
+/// formula.
 pub fn read(
     alloc: Global,
     bytes: &[u8],

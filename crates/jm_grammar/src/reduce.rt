@@ -2,7 +2,7 @@
 ghost use Rattle.std.specs.Prelude.{ℕ, ◌≡◌, ◌↔◌, ◌⊎◌, List, All, Contains, IfOk, filter};
 ghost use Rattle.jm_grammar.specs.Grammars.{IsSmallProduction};
 ghost use Rattle.jm_grammar.specs.declared.grammar.Production.{Production};
-ghost use Rattle.jm_grammar.specs.Derivations.{IsWord, IsIn, DerivesSome};
+ghost use Rattle.jm_grammar.specs.Meanings.{IsWord, IsIn, DerivesSome};
 ghost use Rattle.jm_grammar.specs.Rounds.{are_known};
 
 use crate::grammar::{Grammar, Production};
@@ -17,7 +17,8 @@ impl Grammar {
         ensures words { IfOk result (λ g. (word : List ℕ) → IsWord g word ↔ IsWord self.now word) }
         ensures spell { IfOk result (λ g. (n : ℕ) → IsIn g.productions n → DerivesSome g.productions n) }
         ensures start { IfOk result (λ g. g.start ≡ self.now.start) }
-        ensures kept { IfOk result (λ g. (p : Production) → Contains g.productions p → Contains self.now.productions p) }
+        ensures kept { IfOk result (λ g. (p : Production) → Contains g.productions p
+            → Contains self.now.productions p) }
     {
         let known = self.productive(u32::MAX);
         let kept = kept(self.allocator(), self.productions(), known)?;

@@ -11,7 +11,7 @@ use Rattle.jm_model.specs.Meanings.{Meaning, IsAvailable, IsHit, CanHit, IsCutWo
 use Rattle.jm_events.specs.Names.{number_of}
 use Rattle.jm_events.proofs.NameLemmas.{same_name, list_any-place}
 use Rattle.jm_goal.specs.Goals.{GoalDefinition}
-use Rattle.jm_grammar.specs.Derivations as grammar
+use Rattle.jm_grammar.specs.Meanings as grammar
 use Rattle.jm_grammar.specs.Categories as categories
 use Rattle.jm_grammar.specs.Categories.{GrammarHolds}
 use Rattle.jm_earley.specs.Charts.{ChartsDefinition}

@@ -1,5 +1,5 @@
--- Which rules the tree of a specification says, and which fault it has: the steps of the formula, of the handlers, and of the
--- formula's table.
+-- Which rules the tree of a specification says, and which fault it has: the steps of the formula, of the handlers, and
+-- of the formula's table.
 use Rattle.std.specs.Prelude.{ℕ, ◌≡◌, List, length, Some, None, slice_range}
 use Rattle.jm_model.specs.declared.fault.SpecFault.{SpecFault}
 use Rattle.jm_model.specs.declared.fault.SpecError.{SpecError}
@@ -28,7 +28,8 @@ pub record IsCompiledFrom (bytes : List ℕ) (tokens : List Token) (tree : SpecT
 
 -- the first fault: that of the formula, that of the handlers, or that of the making of the formula's table
 pub data IsFaultyTree (bytes : List ℕ) (tokens : List Token) (tree : SpecTree) (fault : SpecFault) : Type 0 where
-  in_formula : IsRefusedIn bytes (formula_of tokens tree) tree.table tree.logic fault → IsFaultyTree bytes tokens tree fault
+  in_formula : IsRefusedIn bytes (formula_of tokens tree) tree.table tree.logic fault
+      → IsFaultyTree bytes tokens tree fault
   in_handlers : (formula : Formula)
       → IsFormula bytes tokens tree formula
       → handlers_fault bytes tokens (category_names formula) tree.handlers.items ≡ Some fault

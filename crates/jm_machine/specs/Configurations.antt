@@ -15,8 +15,8 @@ IsBegun r w = (w ≢ []) × IsCreated (rules_meaning r.definition) w
 abbrev pub IsBarren : CompiledRules → List ℕ → Type 0
 IsBarren r w = (w ≢ []) × (IsCreated (rules_meaning r.definition) w → ⊥)
 
--- the configuration of a word: that of the empty word, that of words that can't begin so, and those of the states and charts that the
--- others lead to
+-- the configuration of a word: that of the empty word, that of words that can't begin so, and those of the states and
+-- charts that the others lead to
 abbrev pub IsConfigurationOf : CompiledRules → Configuration → List ℕ → Type 0
 IsConfigurationOf r Start w = w ≡ []
 IsConfigurationOf r Barren w = IsBarren r w

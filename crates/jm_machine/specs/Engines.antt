@@ -3,7 +3,7 @@ use Rattle.std.specs.Prelude.{ℕ, ◌≡◌, ◌<◌, ◌↔◌, Bool, true, fa
 use Rattle.jm_table.specs.Tables.{IsWord, IsInGroup, state_after_of}
 use Rattle.jm_table.specs.Minimal.{IsReduced}
 use Rattle.jm_grammar.specs.Grammars.{GrammarDefinition}
-use Rattle.jm_grammar.specs.Derivations as grammar
+use Rattle.jm_grammar.specs.Meanings as grammar
 use Rattle.jm_grammar.specs.Categories.{GrammarHolds}
 use Rattle.jm_earley.specs.Charts.{ChartDefinition, AreBelow, IsChartOf}
 use Rattle.jm_machine.specs.declared.engine.Engine.{Engine}
@@ -61,11 +61,14 @@ HasLetters letters _ = Unit {0}
 
 -- the charts are those of a grammar with the words of this one, over so many letters
 abbrev pub IsParserOf : GrammarDefinition → ℕ → Engine → Type 0
-IsParserOf g letters (Parses c) = ((word : List ℕ) → grammar.IsWord c.grammar word ↔ grammar.IsWord g word) × (length c.params ≡ letters)
+IsParserOf g letters (Parses c) =
+    ((word : List ℕ) → grammar.IsWord c.grammar word ↔ grammar.IsWord g word) × (length c.params ≡ letters)
 IsParserOf g letters (States t) = ⊥
 
--- after each word of its letters that isn't empty, the categories hold by what runs the property where they hold of the word
+-- after each word of its letters that isn't empty, the categories hold by what runs the property where they hold of the
+-- word
 abbrev pub IsCompiled : Formula → Engine → Type 0
 IsCompiled formula engine =
-    (word : List ℕ) → All (λ letter. letter < letters_of_engine engine) word → 0 < length word → (category : ℕ) → category < length (category_names formula)
+    (word : List ℕ) → All (λ letter. letter < letters_of_engine engine) word → 0 < length word → (category : ℕ)
+    → category < length (category_names formula)
     → EngineHolds engine category word ↔ CategoryHolds formula (letters_of_engine engine) category word

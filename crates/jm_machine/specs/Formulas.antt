@@ -1,4 +1,5 @@
--- The property of a specification, in whichever logic: its categories, when one holds of a word, and what tokens spell it.
+-- The property of a specification, in whichever logic: its categories, when one holds of a word, and what tokens spell
+-- it.
 use Rattle.std.specs.Prelude.{ℕ, Bool, true, false, ◌≡◌, List}
 use Rattle.jm_model.specs.declared.fault.SpecFault.{SpecFault}
 use Rattle.jm_model.specs.declared.fault.SpecFault.TheVariants.{TooManyStates}
@@ -10,7 +11,7 @@ use Rattle.jm_spec.specs.declared.tree.Logic.TheVariants.{Fsm, Ere, Cfg, Ptltl}
 use Rattle.jm_machine.specs.declared.formula.Formula.{Formula}
 use Rattle.jm_machine.specs.declared.formula.Formula.TheVariants.{Machine, Regular, Temporal, Grammatical}
 use Rattle.jm_fsm.specs.Machines as fsm
-use Rattle.jm_fsm.specs.Trees as fsm_trees
+use Rattle.jm_fsm.specs.Readings as fsm_trees
 use Rattle.jm_ere.specs.Categories as ere
 use Rattle.jm_ere.specs.Readings as ere_readings
 use Rattle.jm_ere.specs.Refusals.{FindsFault}
@@ -18,7 +19,7 @@ use Rattle.jm_ptltl.specs.Categories as past
 use Rattle.jm_ptltl.specs.Readings as past_readings
 use Rattle.jm_ptltl.specs.Tables.{IsCrowded}
 use Rattle.jm_grammar.specs.Categories as grammar
-use Rattle.jm_grammar.specs.Trees as grammar_readings
+use Rattle.jm_grammar.specs.Readings as grammar_readings
 
 abbrev pub is_grammar : Formula → Bool
 is_grammar (Grammatical g) = true

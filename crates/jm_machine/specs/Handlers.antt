@@ -40,11 +40,13 @@ category_fault bytes categories (h ∷ hs) =
 -- the first word `__RESET` of a block, and of all blocks
 abbrev pub reset_in : List ℕ → List Token → Option SpecFault
 reset_in bytes [] = None
-reset_in bytes (t ∷ ts) = if is_word bytes t (codes "__RESET") then Some (UnsupportedHandler t.line) else reset_in bytes ts
+reset_in bytes (t ∷ ts) =
+    if is_word bytes t (codes "__RESET") then Some (UnsupportedHandler t.line) else reset_in bytes ts
 
 abbrev pub reset_fault : List ℕ → List Token → List HandlerText → Option SpecFault
 reset_fault bytes tokens [] = None
-reset_fault bytes tokens (h ∷ hs) = or_else (reset_in bytes (slice_range tokens h.first h.last)) (reset_fault bytes tokens hs)
+reset_fault bytes tokens (h ∷ hs) =
+    or_else (reset_in bytes (slice_range tokens h.first h.last)) (reset_fault bytes tokens hs)
 
 -- the fault of the first step that has one, where the property has these categories
 unfoldable pub handlers_fault : List ℕ → List Token → List (List ℕ) → List HandlerText → Option SpecFault

@@ -9,8 +9,8 @@ use Rattle.jm_events.specs.Events.{EventDefinitions}
 use Rattle.jm_machine.specs.declared.formula.Formula.{Formula}
 use Rattle.jm_machine.specs.Formulas.{category_names, is_grammar, CategoryHolds}
 
--- The rules of a specification: the parameters of each letter, as a mask; the creation letters; the parameters that a reported
--- instance has to bind, as a mask; the property; and the name of the category that each handler is for.
+-- The rules of a specification: the parameters of each letter, as a mask; the creation letters; the parameters that a
+-- reported instance has to bind, as a mask; the property; and the name of the category that each handler is for.
 pub record RuleDefinition : Type 0 where
   pub masks : List ℕ
   pub creation : List ℕ
@@ -20,7 +20,8 @@ pub record RuleDefinition : Type 0 where
 
 -- the category of this name holds of the word
 abbrev pub IsNamedCategory : RuleDefinition → List ℕ → List ℕ → Type 0
-IsNamedCategory r word name = IsSomeAnd (number_of (category_names r.formula) name) (λ category. CategoryHolds r.formula (length r.masks) category word)
+IsNamedCategory r word name = IsSomeAnd (number_of (category_names r.formula) name)
+    (λ category. CategoryHolds r.formula (length r.masks) category word)
 
 -- the property is a grammar, and `fail` is handled
 abbrev pub is_failing_grammar : RuleDefinition → Bool

@@ -4,7 +4,7 @@ use Rattle.jm_events.specs.Events.{EventDefinitions}
 use Rattle.jm_goal.specs.Goals.{GoalDefinition}
 use Rattle.jm_table.specs.Tables.{Transitions, IsTable, next_of}
 use Rattle.jm_coenable.specs.Needs.{NeedSets, AreNeedsOf, IsAlive, IsNeededFrom, IsNeededAtStart}
-use Rattle.jm_grammar.specs.Derivations.{IsWord}
+use Rattle.jm_grammar.specs.Meanings.{IsWord}
 use Rattle.jm_earley.specs.Charts.{ChartsDefinition, ChartDefinition, IsChartOf}
 use Rattle.jm_earley.specs.DeadSets.{IsAvailable}
 use Rattle.jm_earley.specs.Places.{IsAliveFor}
@@ -17,8 +17,8 @@ use Rattle.jm_machine.specs.RuleSets.{may_begin}
 
 -- ---- of a table
 
--- For each state the handlers that it hits, the letters that leave it as it is, and those that end an instance, each as a mask;
--- the letters that end an instance of the empty word; and what is needed.
+-- For each state the handlers that it hits, the letters that leave it as it is, and those that end an instance, each as
+-- a mask; the letters that end an instance of the empty word; and what is needed.
 pub record StateFacts : Type 0 where
   pub hits : List ℕ
   pub idle : List ℕ
@@ -42,21 +42,24 @@ pub record IsIdleLetter (t : Transitions) (hits : List ℕ) (state e : ℕ) : Ty
 pub record IsEndingLetter (t : Transitions) (hits : List ℕ) (needs : NeedSets) (state e : ℕ) : Type 0 where
   pub letter : e < t.letters
   pub quiet : slice_index hits (next_of t state e) ≡ 0
-  pub ends : (u : Transitions) (g : GoalDefinition) (v : EventDefinitions) → AreNeedsOf u g v needs → IsAlive (IsNeededFrom u g v (next_of t state e)) 0 → ⊥
+  pub ends : (u : Transitions) (g : GoalDefinition) (v : EventDefinitions) → AreNeedsOf u g v needs
+      → IsAlive (IsNeededFrom u g v (next_of t state e)) 0 → ⊥
 
 -- words can't begin with the letter, or it leads from the start to such a state
 abbrev pub IsFirstEnding : Transitions → GoalDefinition → List ℕ → NeedSets → ℕ → Type 0
 IsFirstEnding t goal hits needs e = (e < t.letters) × ((may_begin goal e → ⊥) ⊎ IsEndingLetter t hits needs 0 e)
 
 abbrev pub AreIdle : Transitions → List ℕ → List ℕ → Type 0
-AreIdle t hits idle = (state e : ℕ) → state < t.states → IsBitSet (slice_index idle state) e → IsIdleLetter t hits state e
+AreIdle t hits idle =
+    (state e : ℕ) → state < t.states → IsBitSet (slice_index idle state) e → IsIdleLetter t hits state e
 
 abbrev pub AreEnding : Transitions → List ℕ → NeedSets → List ℕ → Type 0
 AreEnding t hits needs ending =
     (state e : ℕ) → state < t.states → IsBitSet (slice_index ending state) e → IsEndingLetter t hits needs state e
 
 -- the facts of a table for this goal, whose letters are the events
-pub record AreFactsOf (t : Transitions) (goal : GoalDefinition) (events : EventDefinitions) (f : StateFacts) : Type 0 where
+pub record AreFactsOf (t : Transitions) (goal : GoalDefinition) (events : EventDefinitions)
+    (f : StateFacts) : Type 0 where
   pub table : IsTable t
   pub count : length f.hits ≡ t.states
   pub hits : AreHandlerMasks (States t) goal f.hits
@@ -65,8 +68,8 @@ pub record AreFactsOf (t : Transitions) (goal : GoalDefinition) (events : EventD
   pub first_ending : (e : ℕ) → IsBitSet f.first_ending e → IsFirstEnding t goal f.hits f.needs e
   pub needs : AreNeedsOf t goal events f.needs
 
--- some word of one or more letters without a dead parameter leads from the configuration's state to a handled one; from the empty word it
--- is one that may begin so
+-- some word of one or more letters without a dead parameter leads from the configuration's state to a handled one; from
+-- the empty word it is one that may begin so
 abbrev pub CanHitFrom : Transitions → GoalDefinition → EventDefinitions → Configuration → ℕ → Type 0
 CanHitFrom t g v Start dead = IsAlive (IsNeededAtStart t g v) dead
 CanHitFrom t g v (State s) dead = (s < t.states) × IsAlive (IsNeededFrom t g v s) dead
@@ -97,8 +100,8 @@ abbrev pub IsParseOf : ChartsDefinition → Configuration → List ℕ → Type 
 IsParseOf c (Parse chart) word = IsChartOf c word chart.value
 IsParseOf c _ word = Unit {0}
 
--- some word of one or more letters without a dead parameter, put after the configuration's word, is in the language; after the empty word
--- it is one that may begin so
+-- some word of one or more letters without a dead parameter, put after the configuration's word, is in the language;
+-- after the empty word it is one that may begin so
 abbrev pub CanMatch : ChartsDefinition → GoalDefinition → Configuration → List ℕ → ℕ → Type 0
 CanMatch c goal Start word dead = (e : ℕ) × BeginsWith c goal dead e
 CanMatch c goal (Parse chart) word dead = IsAliveFor c.grammar c.params dead word

@@ -40,8 +40,10 @@ definition_of masks formula handlers goal = record {
   handlers = handlers;
 }
 
--- there are at most 32 letters, the creation letters are some of them, and the group of each handler is the number of its category
-pub record IsGoalOf (masks : List ℕ) (formula : Formula) (handlers : List (List ℕ)) (goal : GoalDefinition) : Type 0 where
+-- there are at most 32 letters, the creation letters are some of them, and the group of each handler is the number of
+-- its category
+pub record IsGoalOf (masks : List ℕ) (formula : Formula) (handlers : List (List ℕ))
+    (goal : GoalDefinition) : Type 0 where
   pub few : length masks ≤ 32
   pub creation : (letter : ℕ) → IsBitSet goal.creation letter → letter < length masks
   pub groups : map Some goal.groups ≡ map (number_of (category_names formula)) handlers
@@ -56,4 +58,5 @@ may_begin goal letter = (goal.creation ≡ 0) ⊎ IsBitSet goal.creation letter
 abbrev pub IsHandledBy : CompiledRules → List ℕ → ℕ → Type 0
 IsHandledBy r word k =
     IsSomeAnd (slice_get r.definition.handlers k)
-    (λ name. IsSomeAnd (number_of (category_names r.definition.formula) name) (λ category. EngineHolds r.engine category word))
+    (λ name. IsSomeAnd (number_of (category_names r.definition.formula) name)
+    (λ category. EngineHolds r.engine category word))

@@ -28,7 +28,8 @@ impl Engine {
         alloc: Global,
         configuration: &Configuration,
     ) -> Result<Configuration, NoMemory>
-        ensures { IfOk result (λ copy. (word : List ℕ) → IsPlaceOf self.now configuration.now word → IsPlaceOf self.now copy word) }
+        ensures { IfOk result (λ copy. (word : List ℕ) → IsPlaceOf self.now configuration.now word
+            → IsPlaceOf self.now copy word) }
     {
         match (self, configuration) {
             (_, Configuration::State(state)) => Ok(Configuration::State(*state)),
@@ -49,7 +50,8 @@ impl Engine {
     ) -> Result<Configuration, NoMemory>
         requires { letter.0 < letters_of_engine self.now }
         ensures { IfOk result (λ next.
-            (word : List ℕ) → IsPlaceOf self.now configuration.now word → IsPlaceOf self.now next (word ++ letter.0 ∷ [])) }
+            (word : List ℕ) → IsPlaceOf self.now configuration.now word
+            → IsPlaceOf self.now next (word ++ letter.0 ∷ [])) }
     {
         match (self, configuration) {
             (Engine::States(table), Configuration::State(state)) => {
@@ -65,7 +67,8 @@ impl Engine {
     /// Whether the category of this number holds of the words of the configuration.
     pub(crate) fn holds(&self, configuration: &Configuration, category: u16) -> bool
         requires { category < categories_of_engine self.now }
-        ensures { (word : List ℕ) → IsPlaceOf self.now configuration.now word → IsTrue result ↔ EngineHolds self.now category word }
+        ensures { (word : List ℕ) → IsPlaceOf self.now configuration.now word
+            → IsTrue result ↔ EngineHolds self.now category word }
     {
         match (self, configuration) {
             (Engine::States(table), Configuration::State(state)) => is_in_group(

@@ -93,7 +93,8 @@ impl Formula {
         ensures minimal { IfOk result IsMinimal }
         ensures kind { IfOk result (λ engine. is_parsing engine ≡ is_grammar self.now) }
         ensures params { IfOk result (HasParams (map (λ e. e.mask) events.now.events)) }
-        ensures settled { IfOk result (λ _. (fault : SpecFault) → IsTableFault self.now (length events.now.events) fault → ⊥) }
+        ensures settled { IfOk result (λ _. (fault : SpecFault) → IsTableFault self.now (length events.now.events) fault
+            → ⊥) }
         ensures err { IfErr result (λ e. IfBad e (IsTableFault self.now (length events.now.events))) }
     {
         match self {

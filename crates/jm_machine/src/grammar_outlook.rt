@@ -70,8 +70,8 @@ impl GrammarOutlook {
         configuration_of(alloc, chart)
     }
 
-    /// Whether an instance with this configuration can never fire again. Where `fail` is handled that is so only where no letter is without
-    /// a dead parameter. The masks are the parameters of the letters.
+    /// Whether an instance with this configuration can never fire again. Where `fail` is handled that is so only where
+    /// no letter is without a dead parameter. The masks are the parameters of the letters.
     #[inline(never)]
     pub(crate) fn is_cut(
         &self,
@@ -96,8 +96,8 @@ impl GrammarOutlook {
         }
     }
 
-    /// Whether some word of one or more letters without a dead parameter, put after the word of the configuration, is in the language.
-    /// After the empty word it is one that may begin so. The masks are the parameters of the letters.
+    /// Whether some word of one or more letters without a dead parameter, put after the word of the configuration, is
+    /// in the language. After the empty word it is one that may begin so. The masks are the parameters of the letters.
     pub(crate) fn can_match(
         &self,
         charts: &Charts,
@@ -134,7 +134,8 @@ impl GrammarOutlook {
         false
     }
 
-    /// Whether some word of letters without a dead parameter, which may begin so and begins with the letter, is in the language.
+    /// Whether some word of letters without a dead parameter, which may begin so and begins with the letter, is in the
+    /// language.
     fn begins_with(
         &self,
         charts: &Charts,
@@ -154,7 +155,8 @@ impl GrammarOutlook {
             && self.goes_on(charts, letter, dead)
     }
 
-    /// Whether the word of the letter alone is in the language, or one that goes on with letters without a dead parameter.
+    /// Whether the word of the letter alone is in the language, or one that goes on with letters without a dead
+    /// parameter.
     fn goes_on(&self, charts: &Charts, letter: Letter, dead: u8) -> bool
         requires firsts { AreFirstCharts charts.now self.now.firsts }
         requires letter { letter.0 < length self.now.firsts }

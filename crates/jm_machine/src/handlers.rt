@@ -16,8 +16,8 @@ use std::alloc::Global;
 const MAX_HANDLERS: usize = 16;
 
 /// The names of the categories that are handled, or what is wrong with the handlers, where the property has these
-/// categories. Each of these steps is done for all handlers before the next: how many there are, whether two are for one
-/// category, whether each category is there, and what stands in the blocks.
+/// categories. Each of these steps is done for all handlers before the next: how many there are, whether two are for
+/// one category, whether each category is there, and what stands in the blocks.
 #[tactic(auto, unfolding(crate::specs::Handlers::handlers_fault))]
 pub(crate) fn handled(
     alloc: Global,

@@ -1,9 +1,9 @@
-//! The rules of a specification: its property, whatever its logic, with its handlers, creation events and full bindings, as a
-//! monitor.
+//! The rules of a specification: its property, whatever its logic, with its handlers, creation events and full
+//! bindings, as a monitor.
 //!
-//! `Rules::compile` makes them of the tree of a specification. What they mean stands in `specs`, apart from any table and any chart: the
-//! category of a handler holds of a word by the meaning of the logic, and a word hits nothing where it is empty or where creation
-//! events exist and its first letter isn't one.
+//! `Rules::compile` makes them of the tree of a specification. What they mean stands in `specs`, apart from any table
+//! and any chart: the category of a handler holds of a word by the meaning of the logic, and a word hits nothing where
+//! it is empty or where creation events exist and its first letter isn't one.
 #![tactic(auto)]
 
 mod configuration;

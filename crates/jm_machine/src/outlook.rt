@@ -21,8 +21,8 @@ pub(crate) enum Outlook {
 }
 
 impl Outlook {
-    /// The outlook of what runs a property, for this goal. `failing` says that the property is a grammar with a handler for
-    /// `fail`.
+    /// The outlook of what runs a property, for this goal. `failing` says that the property is a grammar with a handler
+    /// for `fail`.
     pub(crate) fn new(
         alloc: Global,
         engine: &Engine,

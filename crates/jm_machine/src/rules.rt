@@ -29,8 +29,8 @@ use jm_text::Token;
 use std::alloc::Global;
 use std::marker::Model;
 
-/// The rules of a specification: the parameters of its events, its property, the categories that are handled, what it is run
-/// for, what runs its property, and what may still follow. Contracts see them as `CompiledRules`.
+/// The rules of a specification: the parameters of its events, its property, the categories that are handled, what it
+/// is run for, what runs its property, and what may still follow. Contracts see them as `CompiledRules`.
 pub struct Rules {
     masks: Vec<u8>,
     formula: Formula,
@@ -69,7 +69,8 @@ impl Model for Rules {
     ghost view = { λ r. record { definition = definition_of r.masks.items r.formula r.handlers r.goal; engine = r.engine } };
 
     ghost invariant = { λ r. let d = definition_of r.masks.items r.formula r.handlers r.goal in
-        IsGoalOf r.masks.items r.formula r.handlers r.goal × IsRuleSet (record { definition = d; engine = r.engine }) × IsKnown d r.goal r.engine r.outlook };
+        IsGoalOf r.masks.items r.formula r.handlers r.goal × IsRuleSet (record { definition = d; engine = r.engine })
+        × IsKnown d r.goal r.engine r.outlook };
 }
 
 impl Rules {
@@ -119,7 +120,8 @@ impl Rules {
         requires minimal { IsMinimal engine }
         requires kind { is_parsing engine ≡ is_grammar formula }
         requires params { HasParams (map (λ e. e.mask) tree.now.table.events) engine }
-        ensures rules { IfOk result (λ r. r.definition ≡ rules_of tree.now.table tree.now.full_binding formula handlers) }
+        ensures rules { IfOk result (λ r. r.definition
+            ≡ rules_of tree.now.table tree.now.full_binding formula handlers) }
         ensures fit { IfOk result (λ r. All (λ mask. mask < 2 ^ length tree.now.table.parameters) r.definition.masks) }
         ensures err { IfErr result (λ e. e ≡ SpecError.NoMemory) }
     {
@@ -152,8 +154,8 @@ impl Rules {
         self.handlers.name(handler as u32)
     }
 
-    /// The table that runs the property. No two of its states agree in groups after all words, and after a word that isn't empty
-    /// the groups are the categories that hold of it. There is none for a grammar.
+    /// The table that runs the property. No two of its states agree in groups after all words, and after a word that
+    /// isn't empty the groups are the categories that hold of it. There is none for a grammar.
     pub fn table(&self) -> Option<&Table>
         ensures none { IsNone result ↔ (is_grammar self.now.definition.formula ≡ true) }
         ensures table { IfSome result (λ t. self.now.engine ≡ Engine.States t.now) }
@@ -168,8 +170,8 @@ impl Rules {
         }
     }
 
-    /// The coenable family of a letter: the sets of parameters of the words that lead to a handled category from some word that
-    /// ends in the letter, in rising order. There is none for a grammar.
+    /// The coenable family of a letter: the sets of parameters of the words that lead to a handled category from some
+    /// word that ends in the letter, in rising order. There is none for a grammar.
     pub fn family(&self, letter: Letter) -> Result<Option<Vec<u8>>, NoMemory>
         requires { letter.0 < length self.now.definition.masks }
         ensures family { is_grammar self.now.definition.formula ≡ false →
@@ -185,7 +187,8 @@ impl Rules {
     /// Whether a word may begin with the letter.
     fn may_begin(&self, letter: Letter) -> bool
         requires { letter.0 < length self.now.definition.masks }
-        ensures { IsTrue result ↔ ((self.now.definition.creation ≡ []) ⊎ Contains self.now.definition.creation letter.0) }
+        ensures { IsTrue result ↔ ((self.now.definition.creation ≡ [])
+            ⊎ Contains self.now.definition.creation letter.0) }
     {
         may_begin(&self.goal, letter)
     }

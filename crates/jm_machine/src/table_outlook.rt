@@ -21,8 +21,8 @@ use jm_table::Table;
 use std::alloc::Global;
 use std::marker::Model;
 
-/// For each state the handlers that it hits, the letters that leave it as it is, those that end an instance, and what is needed
-/// to be hit again. Contracts see it as its `StateFacts`.
+/// For each state the handlers that it hits, the letters that leave it as it is, those that end an instance, and what
+/// is needed to be hit again. Contracts see it as its `StateFacts`.
 pub(crate) struct TableOutlook {
     hits: Vec<u16>,
     idle: Vec<u32>,
@@ -126,7 +126,8 @@ impl TableOutlook {
         self.first_ending
     }
 
-    /// Whether some word of one or more letters without a dead parameter, put after the words of the configuration, hits a handler.
+    /// Whether some word of one or more letters without a dead parameter, put after the words of the configuration,
+    /// hits a handler.
     pub(crate) fn can_hit(&self, configuration: &Configuration, dead: u8) -> bool
         ensures { (t : Transitions) (g : GoalDefinition) (v : EventDefinitions) → AreNeedsOf t g v self.now.needs →
             IsTrue result ↔ CanHitFrom t g v configuration.now dead }
@@ -150,8 +151,10 @@ impl TableOutlook {
     pub(crate) fn family(&self, letter: Letter) -> Result<Vec<u8>, NoMemory>
         requires { letter.0 < length self.now.needs.families }
         ensures rising { IfOk result (λ masks. IsStrictlySortedBy nat_cmp masks.items) }
-        ensures exact { (t : Transitions) (g : GoalDefinition) (v : EventDefinitions) → AreNeedsOf t g v self.now.needs →
-            IfOk result (λ masks. (mask : ℕ) → mask < 256 → Contains masks.items mask ↔ IsInFamily t g v letter.0 mask) }
+        ensures exact { (t : Transitions) (g : GoalDefinition) (v : EventDefinitions)
+            → AreNeedsOf t g v self.now.needs →
+            IfOk result (λ masks. (mask : ℕ) → mask < 256
+            → Contains masks.items mask ↔ IsInFamily t g v letter.0 mask) }
         ensures few { IfOk result (λ masks. (mask : ℕ) → Contains masks.items mask → mask < 256) }
     {
         self.needs.family(letter)

@@ -8,7 +8,7 @@ use Rattle.jm_model.specs.declared.step.Letter.{Letter}
 use Rattle.jm_model.specs.declared.fault.SpecFault.{SpecFault}
 use Rattle.jm_table.specs.Graphs.{step_from, reached_by}
 use Rattle.jm_table.specs.Tables.{Transitions, IsInGroup, IsWord, state_after_of, Follows}
-use Rattle.jm_ptltl.specs.declared.node.Node.TheVariants.{Prefix, Infix}
+use Rattle.jm_ptltl.specs.declared.formula.Node.TheVariants.{Prefix, Infix}
 use Rattle.jm_ptltl.specs.Formulas.{Formula, event, constant, unary, binary, postfix, subformulas}
 use Rattle.jm_ptltl.specs.Meanings.{Holds, HoldsLast}
 use Rattle.jm_ptltl.specs.Vectors.{has_bit, vector_from, next_vector, graph_of, Says, HasGroup}

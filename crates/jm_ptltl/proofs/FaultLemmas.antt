@@ -15,13 +15,13 @@ use Rattle.jm_reading.specs.Events.{reserved_event_fault, letter_said}
 use Rattle.jm_reading.specs.Nesting.{is_too_deep}
 use Rattle.jm_reading.proofs.ReadLemmas.{then_then, then_same, then_ok, IsOther, FailsOther, other_or, other_if, other_event, other_then, other_name, other_of}
 use Rattle.jm_reading.proofs.FormulaLemmas as reading
-use Rattle.jm_ptltl.specs.declared.node.Binary.{Binary}
-use Rattle.jm_ptltl.specs.declared.node.Node.{Node}
-use Rattle.jm_ptltl.specs.declared.node.Node.TheVariants.{Event, Prefix, Infix}
+use Rattle.jm_ptltl.specs.declared.formula.Binary.{Binary}
+use Rattle.jm_ptltl.specs.declared.formula.Node.{Node}
+use Rattle.jm_ptltl.specs.declared.formula.Node.TheVariants.{Event, Prefix, Infix}
 use Rattle.jm_ptltl.specs.Formulas.{Formula, event, constant, unary, binary, subformulas, postfix, formula_of}
 use Rattle.jm_ptltl.specs.Codes.{formula_of-postfix}
 use Rattle.jm_ptltl.specs.Lexicon.{is_grammar_word}
-use Rattle.jm_ptltl.specs.Grammar.{Spells}
+use Rattle.jm_ptltl.specs.Spelling.{Spells}
 use Rattle.jm_ptltl.specs.Rules.{formula_at}
 use Rattle.jm_ptltl.specs.Faults.{subformulas_fault, formula_said, first_fault, with_nodes}
 use Rattle.jm_ptltl.specs.Readings.{IsReadFrom, IsRefused}

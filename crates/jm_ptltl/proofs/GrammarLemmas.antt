@@ -5,14 +5,14 @@ use Rattle.std.proofs.lemmas.Bool.Decides.{eqb_tells}
 use Rattle.jm_text.specs.declared.token.Token.{Token}
 use Rattle.jm_reading.specs.Reading.{◌>>=◌, at_most}
 use Rattle.jm_reading.proofs.TokenLemmas.{step_of, one_of}
-use Rattle.jm_ptltl.specs.declared.node.Unary.{Unary}
-use Rattle.jm_ptltl.specs.declared.node.Binary.{Binary}
-use Rattle.jm_ptltl.specs.declared.node.Binary.TheVariants.{Equivalent, Implies, Or, Xor, And, Since}
+use Rattle.jm_ptltl.specs.declared.formula.Unary.{Unary}
+use Rattle.jm_ptltl.specs.declared.formula.Binary.{Binary}
+use Rattle.jm_ptltl.specs.declared.formula.Binary.TheVariants.{Equivalent, Implies, Or, Xor, And, Since}
 use Rattle.jm_ptltl.specs.declared.lexicon.Class.{Class}
 use Rattle.jm_ptltl.specs.declared.lexicon.Class.TheVariants.{Prefix, Infix, Constant, Name, Open, Close, Other}
 use Rattle.jm_ptltl.specs.Formulas.{Formula, event, constant, unary, binary}
 use Rattle.jm_ptltl.specs.Lexicon.{class_of, rank_of}
-use Rattle.jm_ptltl.specs.Grammar.{SpellsAt, alone, joined, implied, prefixed, named, truth, nested, Spells}
+use Rattle.jm_ptltl.specs.Spelling.{SpellsAt, alone, joined, implied, prefixed, named, truth, nested, Spells}
 use Rattle.jm_ptltl.specs.Rules.{Read, Chain, is_infix, begins, closed_by, closed_at, nested_at, atom_by, atom_at, over, operand_by, operand_at, join_by, join_at, more_at, grouped, imply_at, group, implied_at, part_at, formula_from, at_end, formula_at}
 
 grouped-push : (fs : List (Formula Token)) (f g : Formula Token) → grouped (fs ++ f ∷ []) g ≡ grouped fs (binary Implies f g)

@@ -2,8 +2,8 @@
 use Rattle.std.proofs.Common.{ℕ, suc, ◌≡◌, ◌<◌, ◌-◌, ◌↔◌, ◌⊎◌, inl, inr, Bool, true, false, not, cond, ◌&&◌, ◌||◌, Decides, refl, sym, subst, arith}
 use Rattle.std.proofs.lemmas.Bool.{cases_lt}
 use Rattle.std.proofs.lemmas.Bool.Decides.{Decides-and, Decides-or, Decides-like}
-use Rattle.jm_ptltl.specs.declared.node.Unary.TheVariants.{Historically, Once, Previously}
-use Rattle.jm_ptltl.specs.declared.node.Binary.TheVariants.{Since}
+use Rattle.jm_ptltl.specs.declared.formula.Unary.TheVariants.{Historically, Once, Previously}
+use Rattle.jm_ptltl.specs.declared.formula.Binary.TheVariants.{Since}
 use Rattle.jm_ptltl.specs.Meanings.{HoldsUnary, HoldsBinary}
 
 -- ---- connectives

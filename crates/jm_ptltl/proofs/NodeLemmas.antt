@@ -1,10 +1,10 @@
 -- Lists of nodes, as the reader makes them.
 use Rattle.std.proofs.Common.{ℕ, ◌≡◌, ◌+◌, ◌-◌, List, [], ◌∷◌, ◌++◌, length, refl, sym, ap, ◌∙◌, arith, append_assoc, append-nil, length-append}
 use Rattle.jm_text.specs.declared.token.Token.{Token}
-use Rattle.jm_ptltl.specs.declared.node.Unary.{Unary}
-use Rattle.jm_ptltl.specs.declared.node.Binary.TheVariants.{Implies}
-use Rattle.jm_ptltl.specs.declared.node.Node.{Node}
-use Rattle.jm_ptltl.specs.declared.node.Node.TheVariants.{Prefix, Infix}
+use Rattle.jm_ptltl.specs.declared.formula.Unary.{Unary}
+use Rattle.jm_ptltl.specs.declared.formula.Binary.TheVariants.{Implies}
+use Rattle.jm_ptltl.specs.declared.formula.Node.{Node}
+use Rattle.jm_ptltl.specs.declared.formula.Node.TheVariants.{Prefix, Infix}
 use Rattle.jm_ptltl.specs.Formulas.{Formula, unary, postfix}
 use Rattle.jm_ptltl.specs.Rules.{behind_all, closing, grouped, postfix_all, ends_of}
 

@@ -8,9 +8,9 @@ use Rattle.jm_text.specs.declared.token.Token.{Token}
 use Rattle.jm_reading.specs.Reading.{◌>>=◌}
 use Rattle.jm_reading.specs.Answers.{FailsAt, IsSyntax}
 use Rattle.jm_reading.proofs.LoopLemmas.{ItemsLeft, items_begin, items_more, items_end, items_fail, fails_too}
-use Rattle.jm_ptltl.specs.declared.node.Unary.{Unary}
-use Rattle.jm_ptltl.specs.declared.node.Node.{Node}
-use Rattle.jm_ptltl.specs.declared.node.Node.TheVariants as node
+use Rattle.jm_ptltl.specs.declared.formula.Unary.{Unary}
+use Rattle.jm_ptltl.specs.declared.formula.Node.{Node}
+use Rattle.jm_ptltl.specs.declared.formula.Node.TheVariants as node
 use Rattle.jm_ptltl.specs.declared.lexicon.Class.{Class}
 use Rattle.jm_ptltl.specs.declared.lexicon.Class.TheVariants.{Prefix, Infix, Constant, Name, Open, Close, Other}
 use Rattle.jm_ptltl.specs.Formulas.{Formula, event, constant, postfix}

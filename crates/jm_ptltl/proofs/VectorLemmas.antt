@@ -2,12 +2,12 @@
 use Rattle.std.proofs.Common.{ℕ, suc, ◌≡◌, ◌==◌, ◌<◌, ◌≤◌, ◌+◌, ◌-◌, Bool, true, false, Decides, List, [], ◌∷◌, ◌++◌, Option, Some, None, length, slice_get, refl, sym, ap, subst, ◌∙◌, arith, length-append, append_assoc}
 use Rattle.std.proofs.lemmas.Bool.Decides.{Decides-not, Decides-and, Decides-or, Decides-eqb, Decides-like}
 use Rattle.jm_model.specs.declared.step.Letter.{Letter}
-use Rattle.jm_ptltl.specs.declared.node.Unary.{Unary}
-use Rattle.jm_ptltl.specs.declared.node.Unary.TheVariants.{Not, Historically, Once, Previously}
-use Rattle.jm_ptltl.specs.declared.node.Binary.{Binary}
-use Rattle.jm_ptltl.specs.declared.node.Binary.TheVariants.{Equivalent, Implies, Or, Xor, And, Since}
-use Rattle.jm_ptltl.specs.declared.node.Node.{Node}
-use Rattle.jm_ptltl.specs.declared.node.Node.TheVariants.{Prefix, Infix}
+use Rattle.jm_ptltl.specs.declared.formula.Unary.{Unary}
+use Rattle.jm_ptltl.specs.declared.formula.Unary.TheVariants.{Not, Historically, Once, Previously}
+use Rattle.jm_ptltl.specs.declared.formula.Binary.{Binary}
+use Rattle.jm_ptltl.specs.declared.formula.Binary.TheVariants.{Equivalent, Implies, Or, Xor, And, Since}
+use Rattle.jm_ptltl.specs.declared.formula.Node.{Node}
+use Rattle.jm_ptltl.specs.declared.formula.Node.TheVariants.{Prefix, Infix}
 use Rattle.jm_ptltl.specs.Formulas.{Formula, event, constant, unary, binary, postfix}
 use Rattle.jm_ptltl.specs.Meanings.{HoldsUnary, HoldsBinary, Holds}
 use Rattle.jm_ptltl.specs.Vectors.{has_bit, with_bit, unary_truth, binary_truth, node_truth, vector_from}

@@ -3,7 +3,7 @@ use Rattle.std.specs.Prelude.{ℕ, ◌≡◌, ◌≤◌, ◌++◌, List, Option,
 use Rattle.jm_model.specs.declared.fault.SpecError.{SpecError}
 use Rattle.jm_reading.specs.Answers.{FailsAt}
 use Rattle.jm_text.specs.declared.token.Token.{Token}
-use Rattle.jm_ptltl.specs.declared.node.Node.{Node}
+use Rattle.jm_ptltl.specs.declared.formula.Node.{Node}
 use Rattle.jm_ptltl.specs.Formulas.{Formula, postfix}
 use Rattle.jm_ptltl.specs.Rules.{Read, formula_from}
 
@@ -12,7 +12,8 @@ abbrev pub AddsNodes : List (Node Token) → List (Node Token) → List Token �
 AddsNodes before after left read = (f : Formula Token) × (read ≡ Some (f, left)) × (after ≡ before ++ postfix f)
 
 -- it adds the nodes of what the grammar reads behind these, and leaves these tokens
-abbrev pub Adds : {X : Type 0} → Result X SpecError → List (Node Token) → List (Node Token) → List Token → Option Read → Type 0
+abbrev pub Adds : {X : Type 0} → Result X SpecError → List (Node Token) → List (Node Token) → List Token → Option Read
+    → Type 0
 Adds (Ok x) before after left read = AddsNodes before after left read
 Adds (Err e) before after left read = FailsAt e read
 
@@ -23,5 +24,7 @@ Gives (Err e) read = FailsAt e read
 
 -- The same, where `rule` is given a reader for what stands in parentheses: for each limit on their number that these
 -- tokens can't reach.
-abbrev pub AddsBy : {X : Type 0} → List ℕ → ((List Token → Option Read) → List Token → Option Read) → Result X SpecError → List (Node Token) → List (Node Token) → List Token → List Token → Type 0
-AddsBy bytes rule r before after tokens left = (n : ℕ) → length tokens ≤ n → Adds r before after left (rule (formula_from bytes n) tokens)
+abbrev pub AddsBy : {X : Type 0} → List ℕ → ((List Token → Option Read) → List Token → Option Read) → Result X SpecError
+    → List (Node Token) → List (Node Token) → List Token → List Token → Type 0
+AddsBy bytes rule r before after tokens left =
+    (n : ℕ) → length tokens ≤ n → Adds r before after left (rule (formula_from bytes n) tokens)

@@ -8,8 +8,8 @@ use Rattle.jm_text.specs.declared.token.Token.{Token}
 use Rattle.jm_reading.specs.Faults.{or_else, ◌>>>◌, fault_of}
 use Rattle.jm_reading.specs.Events.{reserved_event_fault, letter_said}
 use Rattle.jm_events.specs.Events.{EventDefinitions, event_names}
-use Rattle.jm_ptltl.specs.declared.node.Node.{Node}
-use Rattle.jm_ptltl.specs.declared.node.Node.TheVariants.{Event, Constant, Prefix, Infix}
+use Rattle.jm_ptltl.specs.declared.formula.Node.{Node}
+use Rattle.jm_ptltl.specs.declared.formula.Node.TheVariants.{Event, Constant, Prefix, Infix}
 use Rattle.jm_ptltl.specs.Formulas.{Formula, event, constant, unary, binary, subformulas}
 use Rattle.jm_ptltl.specs.Lexicon.{is_grammar_word}
 
@@ -22,12 +22,14 @@ abbrev pub formula_said : List ℕ → List (List ℕ) → Formula Token → Res
 formula_said bytes events (event t) = letter_said bytes events t >>> λ letter. Ok (event letter)
 formula_said bytes events (constant b) = Ok (constant b)
 formula_said bytes events (unary op f) = formula_said bytes events f >>> λ part. Ok (unary op part)
-formula_said bytes events (binary op f g) = formula_said bytes events f >>> λ left. formula_said bytes events g >>> λ right. Ok (binary op left right)
+formula_said bytes events (binary op f g) =
+    formula_said bytes events f >>> λ left. formula_said bytes events g >>> λ right. Ok (binary op left right)
 
 -- the fault of the first step that has one: too many subformulas, reserved names of events, unknown names
 unfoldable pub first_fault : List ℕ → EventDefinitions → Formula Token → Option SpecFault
 first_fault bytes table f =
-    or_else (subformulas_fault f) (or_else (reserved_event_fault is_grammar_word table.events) (fault_of (formula_said bytes (event_names table) f)))
+    or_else (subformulas_fault f) (or_else (reserved_event_fault is_grammar_word table.events)
+    (fault_of (formula_said bytes (event_names table) f)))
 
 -- The same over a list of nodes: those that were said before, and one after the other.
 abbrev pub node_said : List ℕ → List (List ℕ) → Node Token → Result (Node Letter) SpecFault
@@ -36,6 +38,8 @@ node_said bytes events (Constant b) = Ok (Constant b)
 node_said bytes events (Prefix op) = Ok (Prefix op)
 node_said bytes events (Infix op right) = Ok (Infix op right)
 
-abbrev pub with_nodes : List ℕ → List (List ℕ) → List (Node Letter) → List (Node Token) → Result (List (Node Letter)) SpecFault
+abbrev pub with_nodes : List ℕ → List (List ℕ) → List (Node Letter) → List (Node Token)
+    → Result (List (Node Letter)) SpecFault
 with_nodes bytes events nodes [] = Ok nodes
-with_nodes bytes events nodes (n ∷ ns) = node_said bytes events n >>> λ node. with_nodes bytes events (nodes ++ node ∷ []) ns
+with_nodes bytes events nodes (n ∷ ns) =
+    node_said bytes events n >>> λ node. with_nodes bytes events (nodes ++ node ∷ []) ns

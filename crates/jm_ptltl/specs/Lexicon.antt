@@ -6,9 +6,9 @@ use Rattle.jm_text.specs.declared.token.TokenKind.{TokenKind}
 use Rattle.jm_text.specs.declared.token.TokenKind.TheVariants.{Word, Text, Mark}
 use Rattle.jm_text.specs.Spans.{text_of}
 use Rattle.jm_text.specs.Texts.{is_name_text}
-use Rattle.jm_ptltl.specs.declared.node.Unary.TheVariants.{Not, Historically, Once, Previously}
-use Rattle.jm_ptltl.specs.declared.node.Binary.{Binary}
-use Rattle.jm_ptltl.specs.declared.node.Binary.TheVariants.{Equivalent, Implies, Or, Xor, And, Since}
+use Rattle.jm_ptltl.specs.declared.formula.Unary.TheVariants.{Not, Historically, Once, Previously}
+use Rattle.jm_ptltl.specs.declared.formula.Binary.{Binary}
+use Rattle.jm_ptltl.specs.declared.formula.Binary.TheVariants.{Equivalent, Implies, Or, Xor, And, Since}
 use Rattle.jm_ptltl.specs.declared.lexicon.Class.{Class}
 use Rattle.jm_ptltl.specs.declared.lexicon.Class.TheVariants.{Prefix, Infix, Constant, Name, Open, Close, Other}
 
@@ -59,5 +59,6 @@ rank_of Equivalent = 6
 -- the words of the grammar
 abbrev pub is_grammar_word : List ℕ → Bool
 is_grammar_word name =
-    bytes_eq name (codes "S") || bytes_eq name (codes "not") || bytes_eq name (codes "and") || bytes_eq name (codes "or") || bytes_eq name (codes "xor")
+    bytes_eq name (codes "S") || bytes_eq name (codes "not") || bytes_eq name (codes "and") || bytes_eq name
+    (codes "or") || bytes_eq name (codes "xor")
     || bytes_eq name (codes "true") || bytes_eq name (codes "false")

@@ -5,7 +5,7 @@ pub mod Categories
 pub mod Vectors
 pub mod Tables
 pub mod Lexicon
-pub mod Grammar
+pub mod Spelling
 pub mod Rules
 pub mod Answers
 pub mod Faults

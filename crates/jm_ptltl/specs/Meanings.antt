@@ -1,10 +1,10 @@
 -- What a past-time formula means: where it is true. Positions of a word are counted from 1.
 use Rattle.std.specs.Prelude.{ℕ, ◌≡◌, ◌<◌, ◌≤◌, ◌-◌, ◌⊎◌, ◌↔◌, List, Some, IsTrue, length, slice_get}
 use Rattle.jm_model.specs.declared.step.Letter.{Letter}
-use Rattle.jm_ptltl.specs.declared.node.Unary.{Unary}
-use Rattle.jm_ptltl.specs.declared.node.Unary.TheVariants.{Not, Historically, Once, Previously}
-use Rattle.jm_ptltl.specs.declared.node.Binary.{Binary}
-use Rattle.jm_ptltl.specs.declared.node.Binary.TheVariants.{Equivalent, Implies, Or, Xor, And, Since}
+use Rattle.jm_ptltl.specs.declared.formula.Unary.{Unary}
+use Rattle.jm_ptltl.specs.declared.formula.Unary.TheVariants.{Not, Historically, Once, Previously}
+use Rattle.jm_ptltl.specs.declared.formula.Binary.{Binary}
+use Rattle.jm_ptltl.specs.declared.formula.Binary.TheVariants.{Equivalent, Implies, Or, Xor, And, Since}
 use Rattle.jm_ptltl.specs.Formulas.{Formula, event, constant, unary, binary}
 
 -- letter n of the word

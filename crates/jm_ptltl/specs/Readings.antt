@@ -7,14 +7,17 @@ use Rattle.jm_events.specs.Events.{EventDefinitions, event_names}
 use Rattle.jm_reading.specs.Nesting.{is_too_deep}
 use Rattle.jm_reading.specs.Formulas.{IsReadWithin, IsRefusedWithin}
 use Rattle.jm_ptltl.specs.Formulas.{Formula}
-use Rattle.jm_ptltl.specs.Grammar.{Spells}
+use Rattle.jm_ptltl.specs.Spelling.{Spells}
 use Rattle.jm_ptltl.specs.Faults.{first_fault, formula_said}
 
 -- no 65th parenthesis is open at once, and the tokens spell a formula without a fault, which says this one over letters
 abbrev pub IsReadFrom : List ℕ → List Token → EventDefinitions → Formula Letter → Type 0
 IsReadFrom bytes tokens table =
-    IsReadWithin (Spells bytes tokens) (first_fault bytes table) (is_too_deep bytes 0 tokens) (formula_said bytes (event_names table))
+    IsReadWithin (Spells bytes tokens) (first_fault bytes table) (is_too_deep bytes 0 tokens)
+    (formula_said bytes (event_names table))
 
--- a 65th parenthesis is open at once; else the tokens spell no formula, or one with this first fault; unless memory is short
+-- a 65th parenthesis is open at once; else the tokens spell no formula, or one with this first fault; unless memory is
+-- short
 abbrev pub IsRefused : List ℕ → List Token → EventDefinitions → SpecError → Type 0
-IsRefused bytes tokens table = IsRefusedWithin (Spells bytes tokens) (first_fault bytes table) (is_too_deep bytes 0 tokens)
+IsRefused bytes tokens table =
+    IsRefusedWithin (Spells bytes tokens) (first_fault bytes table) (is_too_deep bytes 0 tokens)

@@ -1,10 +1,10 @@
 -- What each rule of the grammar reads at the front of a list of tokens, where the next token decides.
 use Rattle.std.specs.Prelude.{ℕ, zero, suc, ◌+◌, ◌-◌, ◌==◌, Bool, true, false, List, [], ◌∷◌, ◌++◌, length, Option, Some, None, if◌then◌else◌}
 use Rattle.jm_text.specs.declared.token.Token.{Token}
-use Rattle.jm_ptltl.specs.declared.node.Unary.{Unary}
-use Rattle.jm_ptltl.specs.declared.node.Binary.TheVariants.{Implies}
-use Rattle.jm_ptltl.specs.declared.node.Node.{Node}
-use Rattle.jm_ptltl.specs.declared.node.Node.TheVariants as node
+use Rattle.jm_ptltl.specs.declared.formula.Unary.{Unary}
+use Rattle.jm_ptltl.specs.declared.formula.Binary.TheVariants.{Implies}
+use Rattle.jm_ptltl.specs.declared.formula.Node.{Node}
+use Rattle.jm_ptltl.specs.declared.formula.Node.TheVariants as node
 use Rattle.jm_ptltl.specs.declared.lexicon.Class.{Class}
 use Rattle.jm_ptltl.specs.declared.lexicon.Class.TheVariants.{Prefix, Infix, Constant, Name, Open, Close, Other}
 use Rattle.jm_ptltl.specs.Formulas.{Formula, event, constant, unary, binary, postfix}
@@ -71,7 +71,8 @@ operand_by _ behind here = here
 
 abbrev pub operand_at : List ℕ → (List Token → Option Read) → List Token → Option Read
 operand_at bytes inner [] = None
-operand_at bytes inner (t ∷ ts) = operand_by (class_of bytes t) (operand_at bytes inner ts) (atom_at bytes inner (t ∷ ts))
+operand_at bytes inner (t ∷ ts) =
+    operand_by (class_of bytes t) (operand_at bytes inner ts) (atom_at bytes inner (t ∷ ts))
 
 -- an operator and its right part
 abbrev pub join_by : Class → Formula Token → Option Read → Option Read
@@ -111,7 +112,8 @@ implied_at bytes part f tokens = group (at_most (begins bytes 5) (imply_at part)
 -- a formula of this rank, where `inner` reads those in parentheses
 abbrev pub part_at : List ℕ → (List Token → Option Read) → ℕ → List Token → Option Read
 part_at bytes inner zero tokens = operand_at bytes inner tokens
-part_at bytes inner (suc k) tokens = part_at bytes inner k tokens >>= λ r. if k == 4 then implied_at bytes (part_at bytes inner k) r.0 r.1 else more_at bytes (part_at bytes inner k) (suc k) r.0 r.1
+part_at bytes inner (suc k) tokens = part_at bytes inner k tokens >>= λ r. if k == 4
+    then implied_at bytes (part_at bytes inner k) r.0 r.1 else more_at bytes (part_at bytes inner k) (suc k) r.0 r.1
 
 -- Formula ")"
 abbrev pub inside_at : List ℕ → (List Token → Option Read) → List Token → Option Read

@@ -6,11 +6,14 @@ use Rattle.jm_table.specs.Explorations.{IsWithoutRepeats}
 use Rattle.jm_ptltl.specs.Formulas.{Formula, subformulas}
 use Rattle.jm_ptltl.specs.Meanings.{HoldsLast}
 
--- After each word that isn't empty the state is in the first group, the validations, exactly where the formula is true at
--- the last position, and in the second, the violations, exactly where it is false. After the empty word it is in neither.
+-- After each word that isn't empty the state is in the first group, the validations, exactly where the formula is true
+-- at the last position, and in the second, the violations, exactly where it is false. After the empty word it is in
+-- neither.
 pub record IsCompiled (f : Formula Letter) (t : Transitions) : Type 0 where
-  pub validation : (word : List ℕ) → IsWord t word → 0 < length word → IsInGroup t (state_after_of t word) 0 ↔ HoldsLast f word
-  pub violation : (word : List ℕ) → IsWord t word → 0 < length word → IsInGroup t (state_after_of t word) 1 ↔ (¬ HoldsLast f word)
+  pub validation : (word : List ℕ) → IsWord t word → 0 < length word
+      → IsInGroup t (state_after_of t word) 0 ↔ HoldsLast f word
+  pub violation : (word : List ℕ) → IsWord t word → 0 < length word
+      → IsInGroup t (state_after_of t word) 1 ↔ (¬ HoldsLast f word)
   pub start : (group : ℕ) → ¬ IsInGroup t 0 group
 
 -- The vector of truth of all subformulas at the last position of the word: bit k is set exactly where subformula k is
@@ -20,7 +23,8 @@ IsVector f word vector = (k : ℕ) → IsBitSet vector k ↔ IsSomeAnd (slice_ge
 
 -- the vector is that of some word of letters below this number that isn't empty
 abbrev pub IsReachedVector : Formula Letter → ℕ → ℕ → Type 0
-IsReachedVector f letters vector = (word : List ℕ) × (0 < length word) × All (λ letter. letter < letters) word × IsVector f word vector
+IsReachedVector f letters vector =
+    (word : List ℕ) × (0 < length word) × All (λ letter. letter < letters) word × IsVector f word vector
 
 -- with the start there are more states than a table may have: at least 1,024 vectors are reached
 pub record IsCrowded (f : Formula Letter) (letters : ℕ) : Type 0 where

@@ -4,12 +4,12 @@ use Rattle.std.specs.Int.{bit_at}
 use Rattle.jm_model.specs.declared.step.Letter.{Letter}
 use Rattle.jm_table.specs.Graphs.{GraphMeaning}
 use Rattle.jm_table.specs.Tables.{Transitions}
-use Rattle.jm_ptltl.specs.declared.node.Unary.{Unary}
-use Rattle.jm_ptltl.specs.declared.node.Unary.TheVariants.{Not, Historically, Once, Previously}
-use Rattle.jm_ptltl.specs.declared.node.Binary.{Binary}
-use Rattle.jm_ptltl.specs.declared.node.Binary.TheVariants.{Equivalent, Implies, Or, Xor, And, Since}
-use Rattle.jm_ptltl.specs.declared.node.Node.{Node}
-use Rattle.jm_ptltl.specs.declared.node.Node.TheVariants.{Event, Constant, Prefix, Infix}
+use Rattle.jm_ptltl.specs.declared.formula.Unary.{Unary}
+use Rattle.jm_ptltl.specs.declared.formula.Unary.TheVariants.{Not, Historically, Once, Previously}
+use Rattle.jm_ptltl.specs.declared.formula.Binary.{Binary}
+use Rattle.jm_ptltl.specs.declared.formula.Binary.TheVariants.{Equivalent, Implies, Or, Xor, And, Since}
+use Rattle.jm_ptltl.specs.declared.formula.Node.{Node}
+use Rattle.jm_ptltl.specs.declared.formula.Node.TheVariants.{Event, Constant, Prefix, Infix}
 use Rattle.jm_ptltl.specs.Formulas.{Formula, postfix}
 
 -- the bit of a place is set
@@ -45,12 +45,14 @@ abbrev pub node_truth : Option ℕ → ℕ → ℕ → ℕ → Node Letter → B
 node_truth last letter place next (Event e) = e.0 == letter
 node_truth last letter place next (Constant b) = b
 node_truth last letter place next (Prefix op) = unary_truth op last place (has_bit next (place - 1))
-node_truth last letter place next (Infix op right) = binary_truth op last place (has_bit next (place - 1 - right)) (has_bit next (place - 1))
+node_truth last letter place next (Infix op right) =
+    binary_truth op last place (has_bit next (place - 1 - right)) (has_bit next (place - 1))
 
 -- the next vector, from the inside out: these nodes from this place on are left
 abbrev pub vector_from : Option ℕ → ℕ → ℕ → ℕ → List (Node Letter) → ℕ
 vector_from last letter place next [] = next
-vector_from last letter place next (x ∷ xs) = vector_from last letter (place + 1) (with_bit next place (node_truth last letter place next x)) xs
+vector_from last letter place next (x ∷ xs) =
+    vector_from last letter (place + 1) (with_bit next place (node_truth last letter place next x)) xs
 
 abbrev pub next_vector : Formula Letter → Option ℕ → ℕ → ℕ
 next_vector f last letter = vector_from last letter 0 0 (postfix f)

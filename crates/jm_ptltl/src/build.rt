@@ -7,7 +7,7 @@ ghost use Rattle.jm_ptltl.specs.Faults.{formula_said, node_said, with_nodes, fir
 ghost use Rattle.jm_reading.specs.Faults.{Answers, Checks};
 
 use crate::faults::Words;
-use crate::node::Node;
+use crate::formula::Node;
 use crate::past::Past;
 use jm_events::EventTable;
 use jm_model::{Counted, Letter, SpecError, SpecFault};
@@ -56,7 +56,8 @@ pub fn past_of(
     table: &EventTable,
 ) -> Result<Past, SpecError>
     requires { (f : Formula Token) × (nodes.now ≡ postfix f) }
-    ensures said { (f : Formula Token) → nodes.now ≡ postfix f → IfOk result (λ past. formula_said bytes.now (event_names table.now) f ≡ Ok past) }
+    ensures said { (f : Formula Token) → nodes.now ≡ postfix f
+        → IfOk result (λ past. formula_said bytes.now (event_names table.now) f ≡ Ok past) }
     ensures checked { (f : Formula Token) → nodes.now ≡ postfix f → Checks result (first_fault bytes.now table.now f) }
 {
     if nodes.len() > MAX_SUBFORMULAS {

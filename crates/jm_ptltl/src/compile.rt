@@ -11,8 +11,8 @@ use jm_table::{Table, build, places};
 use std::alloc::Global;
 
 impl Past {
-    /// A table of the start and the vectors of truth of all subformulas that words reach, with two groups: the states at
-    /// which the formula is true, and those at which it is false.
+    /// A table of the start and the vectors of truth of all subformulas that words reach, with two groups: the states
+    /// at which the formula is true, and those at which it is false.
     ///
     /// The fault is `TooManyStates` exactly where these are more than 1,024.
     pub fn compile(&self, alloc: Global, events: &EventTable) -> Result<Table, SpecError>
@@ -20,8 +20,10 @@ impl Past {
         ensures groups { IfOk result (λ table. length table.groups ≡ 2) }
         ensures states { IfOk result (λ table. HasStates self.now table) }
         ensures compiled { IfOk result (λ table. IsCompiled self.now table) }
-        ensures fault { IfErr result (λ e. (e ≡ SpecError.NoMemory) ⊎ ((e ≡ SpecError.Bad SpecFault.TooManyStates) × IsCrowded self.now (length events.now.events))) }
-        ensures refused { IsCrowded self.now (length events.now.events) → (result ≡ Err (SpecError.Bad SpecFault.TooManyStates)) ⊎ (result ≡ Err SpecError.NoMemory) }
+        ensures fault { IfErr result (λ e. (e ≡ SpecError.NoMemory)
+            ⊎ ((e ≡ SpecError.Bad SpecFault.TooManyStates) × IsCrowded self.now (length events.now.events))) }
+        ensures refused { IsCrowded self.now (length events.now.events)
+            → (result ≡ Err (SpecError.Bad SpecFault.TooManyStates)) ⊎ (result ≡ Err SpecError.NoMemory) }
     {
         let root = self.nodes().len().saturating_sub(1);
         let (mut table, nodes) = build(alloc, self, events.letters())?;

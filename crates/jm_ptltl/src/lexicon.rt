@@ -5,7 +5,7 @@ ghost use Rattle.jm_text.specs.Spans.{LiesWithin};
 ghost use Rattle.jm_text.specs.Texts.{is_name_text};
 ghost use Rattle.jm_ptltl.specs.Lexicon.{class_of_mark, class_of_word, class_of, rank_of};
 
-use crate::node::{Binary, Unary};
+use crate::formula::{Binary, Unary};
 use jm_text::{Token, TokenKind, is_name, text};
 
 /// What a token is in a formula.

@@ -2,18 +2,18 @@
 //!
 //! `read` reads a formula, a `Past`, from its tokens. `Past::categories` names what handlers may be written for, and
 //! `Past::compile` makes a table whose states are the truths of all subformulas at the last position, with a group for
-//! each category. What the tokens spell and where a formula is true stands in `specs`, apart from the reader and from any
-//! table: the grammar as a relation, and truth at a position of a word. That a state is known by the truths of all
+//! each category. What the tokens spell and where a formula is true stands in `specs`, apart from the reader and from
+//! any table: the grammar as a relation, and truth at a position of a word. That a state is known by the truths of all
 //! subformulas alone is the method of Havelund and Rosu (2002).
 #![tactic(auto)]
 
 mod build;
 mod compile;
 mod faults;
+mod formula;
 mod graph;
 mod laws;
 mod lexicon;
-mod node;
 mod past;
 mod reader;
 mod reading;

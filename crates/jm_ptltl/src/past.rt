@@ -2,7 +2,7 @@ ghost use Rattle.std.specs.Prelude.{◌≡◌, ◌≤◌, length, IfOk};
 ghost use Rattle.jm_ptltl.specs.Categories.{category_names};
 ghost use Rattle.jm_ptltl.specs.Formulas.{postfix, formula_of};
 
-use crate::node::Node;
+use crate::formula::Node;
 use jm_events::Names;
 use jm_model::{Letter, NoMemory};
 use std::alloc::Global;

@@ -2,13 +2,13 @@
 //! spells from the front of those that are left, and adds the formula's nodes to a list.
 ghost use Rattle.std.specs.Prelude.{ℕ, ◌≡◌, ◌≢◌, ◌<◌, ◌≤◌, ◌+◌, ◌-◌, ◌++◌, ◌∷◌, [], List, length, drop, false, OnOk, IfOk, IfErr, Option};
 ghost use Rattle.jm_text.specs.declared.token.Token.{Token};
-ghost use Rattle.jm_ptltl.specs.declared.node.Node.{Node};
+ghost use Rattle.jm_ptltl.specs.declared.formula.Node.{Node};
 ghost use Rattle.jm_ptltl.specs.Formulas.{Formula, postfix};
 ghost use Rattle.jm_ptltl.specs.Answers.{AddsBy, Gives};
 ghost use Rattle.jm_ptltl.specs.Rules.{Read, class_at, is_prefix, begins, operand_at, atom_at, over_all, join_at, skip_at, part_at, inside_at, formula_at, behind_all, closing};
 
+use crate::formula::{Binary, Node, Unary};
 use crate::lexicon::{Class, class_of};
-use crate::node::{Binary, Node, Unary};
 use jm_model::SpecError;
 use jm_reading::{Cursor, Items};
 use jm_text::Token;
@@ -49,7 +49,9 @@ fn begins(cursor: &Cursor, rank: u8) -> bool
 
 /// All operators of one part that stand here, in order.
 fn prefixes(cursor: &mut Cursor) -> Result<Vec<Unary>, SpecError>
-    ensures reads { (inner : List Token → Option Read) → IfOk result (λ ops. operand_at cursor.old.bytes.now inner cursor.old.rest.now ≡ over_all ops.items (operand_at cursor.old.bytes.now inner cursor.new.rest.now)) }
+    ensures reads { (inner : List Token → Option Read)
+        → IfOk result (λ ops. operand_at cursor.old.bytes.now inner cursor.old.rest.now
+        ≡ over_all ops.items (operand_at cursor.old.bytes.now inner cursor.new.rest.now)) }
     ensures end { OnOk result (is_prefix (class_at cursor.new.bytes.now cursor.new.rest.now) ≡ false) }
     ensures bytes { cursor.new.bytes.now ≡ cursor.old.bytes.now }
     ensures left { length cursor.new.rest.now ≤ length cursor.old.rest.now }

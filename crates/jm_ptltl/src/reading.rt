@@ -15,9 +15,9 @@ use std::alloc::Global;
 /// The past-time formula that these tokens spell. The token before them is on the line.
 ///
 /// The faults come in this order. `TooMany` nesting: a 65th parenthesis is open at once, which is asked of the tokens
-/// alone. `Syntax`: the grammar doesn't spell the tokens; its line is that of the first token that can't go on, or of the
-/// last token at the end, and the given one in an empty formula. `TooMany` subformulas: there are more than 64, each
-/// occurrence counted. `ReservedName`: an event has the name of a word of the grammar; its line is the event's.
+/// alone. `Syntax`: the grammar doesn't spell the tokens; its line is that of the first token that can't go on, or of
+/// the last token at the end, and the given one in an empty formula. `TooMany` subformulas: there are more than 64,
+/// each occurrence counted. `ReservedName`: an event has the name of a word of the grammar; its line is the event's.
 /// `UnknownName`: a name in the formula is no event's; its line is that of the first one.
 pub fn read(
     alloc: Global,

@@ -2,7 +2,7 @@
 ghost use Rattle.std.specs.Prelude.{◌≡◌, ◌<◌, ◌≤◌, ◌+◌, ◌-◌, length};
 ghost use Rattle.jm_ptltl.specs.Vectors.{has_bit, with_bit, was, unary_truth, binary_truth, node_truth, vector_from};
 
-use crate::node::{Binary, Node, Unary};
+use crate::formula::{Binary, Node, Unary};
 use jm_model::Letter;
 
 /// Whether the bit of a place is set.
@@ -84,8 +84,8 @@ fn node_truth(
     }
 }
 
-/// The next vector of these nodes, from the inside out. Bit k is the truth of node k; `last` is the last vector, or None
-/// at the start.
+/// The next vector of these nodes, from the inside out. Bit k is the truth of node k; `last` is the last vector, or
+/// None at the start.
 pub fn next_vector(nodes: &[Node<Letter>], last: Option<u64>, letter: Letter) -> u64
     requires { length nodes.now ≤ 64 }
     ensures { result ≡ vector_from last letter.0 0 0 nodes.now }

@@ -12,8 +12,10 @@ use Rattle.jm_reading.specs.Tokens.{name_of}
 -- no event is named by a word of the grammar
 abbrev pub reserved_event_fault : (List ℕ → Bool) → List EventDefinition → Option SpecFault
 reserved_event_fault is_word [] = None
-reserved_event_fault is_word (e ∷ es) = if is_word e.name then Some (ReservedName e.line) else reserved_event_fault is_word es
+reserved_event_fault is_word (e ∷ es) =
+    if is_word e.name then Some (ReservedName e.line) else reserved_event_fault is_word es
 
 -- the letter of an event's name
 abbrev pub letter_said : List ℕ → List (List ℕ) → Token → Result Letter SpecFault
-letter_said bytes events token = ok_or (option_map (λ k. record { 0 = k }) (number_of events (name_of bytes token))) (UnknownName token.line)
+letter_said bytes events token =
+    ok_or (option_map (λ k. record { 0 = k }) (number_of events (name_of bytes token))) (UnknownName token.line)

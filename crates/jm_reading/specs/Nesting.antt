@@ -5,9 +5,11 @@ use Rattle.jm_text.specs.Texts.{is_mark}
 
 -- how many parentheses are open behind a token; one that closes nothing counts for nothing
 abbrev pub depth_after : List ℕ → ℕ → Token → ℕ
-depth_after bytes depth t = if is_mark bytes t (codes "(") then depth + 1 else if is_mark bytes t (codes ")") then depth - 1 else depth
+depth_after bytes depth t =
+    if is_mark bytes t (codes "(") then depth + 1 else if is_mark bytes t (codes ")") then depth - 1 else depth
 
 -- a 65th parenthesis is open at once, where so many are open before the tokens
 abbrev pub is_too_deep : List ℕ → ℕ → List Token → Bool
 is_too_deep bytes depth [] = false
-is_too_deep bytes depth (t ∷ ts) = if nat_lt 64 (depth_after bytes depth t) then true else is_too_deep bytes (depth_after bytes depth t) ts
+is_too_deep bytes depth (t ∷ ts) =
+    if nat_lt 64 (depth_after bytes depth t) then true else is_too_deep bytes (depth_after bytes depth t) ts

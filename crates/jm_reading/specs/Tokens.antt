@@ -18,8 +18,10 @@ IsWord bytes word t = is_word bytes t word ≡ true
 module _ {X : Type 0} (SpellsOne : List Token → X → Type 0) where
   abbrev pub SpellsEach : List Token → List X → Type 0
   SpellsEach tokens [] = tokens ≡ []
-  SpellsEach tokens (x ∷ xs) = (first : List Token) × (rest : List Token) × (tokens ≡ first ++ rest) × SpellsOne first x × SpellsEach rest xs
+  SpellsEach tokens (x ∷ xs) =
+      (first : List Token) × (rest : List Token) × (tokens ≡ first ++ rest) × SpellsOne first x × SpellsEach rest xs
 
 -- the name that a token says, if it says one
 unfoldable pub name_of : List ℕ → Token → List ℕ
-name_of bytes token = if nat_le token.start token.end && nat_le token.end (length bytes) && is_name bytes token then text_of bytes token else []
+name_of bytes token = if nat_le token.start token.end && nat_le token.end (length bytes) && is_name bytes token
+    then text_of bytes token else []

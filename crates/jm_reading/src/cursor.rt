@@ -10,8 +10,8 @@ use jm_model::{SpecError, SpecFault};
 use jm_text::{Token, is_mark, is_name, is_word};
 use std::alloc::Global;
 
-/// The tokens that are left. A call that reads takes what it reads from their front; where it can't, it answers `Syntax`
-/// with the line of the next token, or of the last at the end, and leaves the tokens as they are.
+/// The tokens that are left. A call that reads takes what it reads from their front; where it can't, it answers
+/// `Syntax` with the line of the next token, or of the last at the end, and leaves the tokens as they are.
 #[derive(Drop)]
 pub struct Cursor<'a> {
     pub alloc: Global,

@@ -19,21 +19,21 @@ use Rattle.jm_spec.specs.Faults.{frame_fault}
 use Rattle.jm_spec.specs.Spelling.{Spells}
 use Rattle.jm_spec.specs.Trees.{IsFaultOfTokens}
 use Rattle.jm_table.proofs.ExplorationLemmas.{explored_one}
-use Rattle.jm_fsm.specs.Formulas as fsm_spelling
+use Rattle.jm_fsm.specs.Spelling as fsm_spelling
 use Rattle.jm_fsm.specs.Faults as fsm_faults
-use Rattle.jm_fsm.specs.Trees as fsm_trees
+use Rattle.jm_fsm.specs.Readings as fsm_trees
 use Rattle.jm_fsm.proofs.GrammarLemmas as fsm_grammar
 use Rattle.jm_ere.specs.NormalForms.{forms_of}
 use Rattle.jm_ere.specs.Spelling as ere_spelling
 use Rattle.jm_ere.specs.Readings as ere
 use Rattle.jm_ere.proofs.FormulaLemmas as ere_grammar
-use Rattle.jm_ptltl.specs.Grammar as past_spelling
+use Rattle.jm_ptltl.specs.Spelling as past_spelling
 use Rattle.jm_ptltl.specs.Faults as past_faults
 use Rattle.jm_ptltl.specs.Readings as past_readings
 use Rattle.jm_ptltl.proofs.GrammarLemmas as past_grammar
-use Rattle.jm_grammar.specs.Formulas as grammar_spelling
+use Rattle.jm_grammar.specs.Spelling as grammar_spelling
 use Rattle.jm_grammar.specs.Faults as grammar_faults
-use Rattle.jm_grammar.specs.Trees as grammar_trees
+use Rattle.jm_grammar.specs.Readings as grammar_trees
 use Rattle.jm_grammar.proofs.GrammarLemmas as grammar
 use Rattle.jm_machine.specs.declared.formula.Formula.{Formula}
 use Rattle.jm_machine.specs.declared.formula.Formula.TheVariants.{Machine, Regular, Temporal, Grammatical}

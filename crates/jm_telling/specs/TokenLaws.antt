@@ -1,5 +1,5 @@
--- What holds of the tokens of a file, told of its bytes: with what is dropped they tile them, a word goes as far as it can, and
--- a mark is the longest that stands there.
+-- What holds of the tokens of a file, told of its bytes: with what is dropped they tile them, a word goes as far as it
+-- can, and a mark is the longest that stands there.
 use Rattle.std.specs.Prelude.{ℕ, ◌+◌, ◌<◌, ◌≤◌, ◌≡◌, ◌==◌, ◌⊎◌, Bool, true, false, not, nat_eq, List, [], ◌∷◌, ◌++◌, length, codes, All, Contains}
 use Rattle.std.specs.List.{list_all, starts_with}
 use Rattle.jm_text.specs.declared.token.Token.{Token}
@@ -21,15 +21,18 @@ EndsLine (b ∷ bs) = b ≡ line_feed
 -- with these bytes behind it: a byte of white space, a comment up to the end of its line, or one up to the first `*/`
 pub data IsDropped : List ℕ → List ℕ → Type 0 where
   white : (b : ℕ) (behind : List ℕ) → is_white b ≡ true → IsDropped (b ∷ []) behind
-  line_comment : (text behind : List ℕ) → list_all (λ b. not (b == line_feed)) text ≡ true → EndsLine behind → IsDropped (codes "//" ++ text) behind
+  line_comment : (text behind : List ℕ) → list_all (λ b. not (b == line_feed)) text ≡ true → EndsLine behind
+      → IsDropped (codes "//" ++ text) behind
   comment : (text behind : List ℕ) → HasNoEnd text → IsDropped (codes "/*" ++ text ++ codes "*/") behind
 
 -- any number of these, one behind the other
 pub data AreDropped : List ℕ → List ℕ → Type 0 where
   nothing : (behind : List ℕ) → AreDropped [] behind
-  more : (first rest behind : List ℕ) → IsDropped first (rest ++ behind) → AreDropped rest behind → AreDropped (first ++ rest) behind
+  more : (first rest behind : List ℕ) → IsDropped first (rest ++ behind) → AreDropped rest behind
+      → AreDropped (first ++ rest) behind
 
--- From this place on the bytes are, in turn, what is dropped and the text of a token, which isn't empty; and last what is dropped.
+-- From this place on the bytes are, in turn, what is dropped and the text of a token, which isn't empty; and last what
+-- is dropped.
 abbrev pub TileFrom : ℕ → List ℕ → List Token → Type 0
 TileFrom place bytes [] = AreDropped bytes []
 TileFrom place bytes (token ∷ tokens) =
@@ -68,13 +71,15 @@ pub record IsWholeWord (bytes : List ℕ) (token : Token) : Type 0 where
 
 -- a word goes as far as it can, to both sides
 abbrev pub WordsAreMaximal : Type 0
-WordsAreMaximal = (bytes : List ℕ) (tokens : List Token) → AreTokensOf bytes tokens → All (λ token. token.kind ≡ Word → IsWholeWord bytes token) tokens
+WordsAreMaximal = (bytes : List ℕ) (tokens : List Token) → AreTokensOf bytes tokens
+    → All (λ token. token.kind ≡ Word → IsWholeWord bytes token) tokens
 
 -- ---- marks
 
 -- the marks of several characters
 abbrev pub long_marks : List (List ℕ)
-long_marks = codes "<=>" ∷ codes "[*]" ∷ codes "<*>" ∷ codes "(*)" ∷ codes "->" ∷ codes "=>" ∷ codes "&&" ∷ codes "||" ∷ []
+long_marks =
+    codes "<=>" ∷ codes "[*]" ∷ codes "<*>" ∷ codes "(*)" ∷ codes "->" ∷ codes "=>" ∷ codes "&&" ∷ codes "||" ∷ []
 
 -- the token is one of these or one byte, and none of these that stands there too is longer
 pub record IsLongestMark (bytes : List ℕ) (token : Token) : Type 0 where
@@ -89,4 +94,5 @@ pub record IsLongestMark (bytes : List ℕ) (token : Token) : Type 0 where
 
 -- a mark is the longest that stands there
 abbrev pub MarksAreLongest : Type 0
-MarksAreLongest = (bytes : List ℕ) (tokens : List Token) → AreTokensOf bytes tokens → All (λ token. token.kind ≡ Mark → IsLongestMark bytes token) tokens
+MarksAreLongest = (bytes : List ℕ) (tokens : List Token) → AreTokensOf bytes tokens
+    → All (λ token. token.kind ≡ Mark → IsLongestMark bytes token) tokens

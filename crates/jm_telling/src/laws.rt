@@ -14,8 +14,8 @@ ghost use Rattle.jm_top.specs.Jobs.{IsJob, Accepted};
 ghost use Rattle.jm_telling.specs.FirstFaults.{IsSameFault};
 ghost use Rattle.jm_telling.specs.TokenLaws.{TokensTile, WordsAreMaximal, MarksAreLongest};
 
-/// The names of an accepted command are fit to be printed: in each of its specifications the parameters, the events
-/// and the handlers each have names of their own, and so have the objects; and none of these holds a line feed, a space,
+/// The names of an accepted command are fit to be printed: in each of its specifications the parameters, the events and
+/// the handlers each have names of their own, and so have the objects; and none of these holds a line feed, a space,
 /// `,` or `=`.
 pub fn inputs_have_names()
     ensures { (words : List (List ℕ)) (contents : List ℕ → Option (List ℕ)) (command : CommandWords)
@@ -45,20 +45,21 @@ pub fn text_tells_histories()
 
 /// The first fault of a script is one, over the same specifications and behind the same scripts.
 pub fn one_script_fault()
-    ensures { (specs : List Specification) (count : ℕ) (names : List (List ℕ)) (bytes : List ℕ) (fault other : ScriptFault)
+    ensures { (specs : List Specification) (count : ℕ) (names : List (List ℕ)) (bytes : List ℕ)
+        (fault other : ScriptFault)
         → IsScriptFault specs count names bytes fault → IsScriptFault specs count names bytes other → fault ≡ other }
 {}
 
-/// The first fault of a specification is one, but for the line of `Syntax`: where bytes have two, they are equal, or both
-/// are `Syntax`.
+/// The first fault of a specification is one, but for the line of `Syntax`: where bytes have two, they are equal, or
+/// both are `Syntax`.
 pub fn one_spec_fault()
     ensures { (bytes : List ℕ) (fault other : SpecFault)
         → IsSpecFault bytes fault → IsSpecFault bytes other → IsSameFault fault other }
 {}
 
-/// The tokens of a specification and what is dropped between them tile its bytes: in order, without overlap, and from the
-/// first byte to the last. What is dropped is white space, comments up to the end of their line, and comments up to the
-/// first `*/`.
+/// The tokens of a specification and what is dropped between them tile its bytes: in order, without overlap, and from
+/// the first byte to the last. What is dropped is white space, comments up to the end of their line, and comments up to
+/// the first `*/`.
 pub fn tokens_tile()
     ensures { TokensTile }
 {}

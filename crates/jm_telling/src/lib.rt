@@ -2,8 +2,8 @@
 //!
 //! Nothing is asked of names here: those that an accepted command reads hold no byte that parts the pieces of a printed
 //! line, and no two of one kind are the same in one text. And a file has one first fault, but for the line of `Syntax`.
-//! Of a specification's bytes it is told how the tokens cut them: what a token covers, how far a word goes, and which mark
-//! a mark is.
+//! Of a specification's bytes it is told how the tokens cut them: what a token covers, how far a word goes, and which
+//! mark a mark is.
 #![tactic(auto)]
 
 mod laws;

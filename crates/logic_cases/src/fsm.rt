@@ -1,7 +1,7 @@
 //! State machines.
 
 ghost use Rattle.std.specs.Prelude.{◌≡◌, length};
-ghost use Rattle.jm_fsm.specs.Machines.{category_count};
+ghost use Rattle.jm_fsm.specs.Categories.{category_count};
 
 use case_events::{events_of, names_text, or_fault, tokens_of, words_text};
 use cases::Case;

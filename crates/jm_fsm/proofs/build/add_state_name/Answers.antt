@@ -1,6 +1,6 @@
 use Rattle.std.proofs.Common.{List, ℕ, ◌≡◌, false, [], ◌∷◌, ◌++◌, sym, subst}
 use Rattle.jm_fsm.specs.declared.formula.Part.{Part}
-use Rattle.jm_fsm.specs.Machines.{AreDistinct}
+use Rattle.jm_fsm.specs.Categories.{AreDistinct}
 use Rattle.jm_fsm.specs.Names.{is_among}
 use Rattle.jm_reading.specs.Tokens.{name_of}
 use Rattle.jm_fsm.specs.Faults.{state_names}

@@ -4,7 +4,7 @@ use Rattle.jm_model.specs.declared.step.Letter.{Letter}
 use Rattle.jm_text.specs.declared.token.Token.{Token}
 use Rattle.jm_events.specs.Events.{event_names}
 use Rattle.jm_reading.specs.Faults.{Answers}
-use Rattle.jm_ptltl.specs.declared.node.Node.{Node}
+use Rattle.jm_ptltl.specs.declared.formula.Node.{Node}
 use Rattle.jm_ptltl.specs.Formulas.{Formula, postfix, formula_of}
 use Rattle.jm_ptltl.specs.Faults.{with_nodes}
 use Rattle.jm_ptltl.specs.Codes.{formula_of-postfix}

@@ -1,7 +1,7 @@
 use Rattle.std.proofs.Common.{List, ◌++◌, sym, ap, ◌∙◌}
 use Rattle.jm_text.specs.declared.token.Token.{Token}
-use Rattle.jm_ptltl.specs.declared.node.Node.{Node}
-use Rattle.jm_ptltl.specs.declared.node.Unary.{Unary}
+use Rattle.jm_ptltl.specs.declared.formula.Node.{Node}
+use Rattle.jm_ptltl.specs.declared.formula.Unary.{Unary}
 use Rattle.jm_ptltl.specs.Rules.{behind_all}
 use Rattle.jm_ptltl.proofs.NodeLemmas.{apply_more}
 use Rattle.jm_ptltl.proofs.reader.apply.Goals as goal

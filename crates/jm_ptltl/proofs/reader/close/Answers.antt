@@ -1,6 +1,6 @@
 use Rattle.std.proofs.Common.{List, ℕ, ◌++◌, length, sym, ap, ◌∙◌, arith}
 use Rattle.jm_text.specs.declared.token.Token.{Token}
-use Rattle.jm_ptltl.specs.declared.node.Node.{Node}
+use Rattle.jm_ptltl.specs.declared.formula.Node.{Node}
 use Rattle.jm_ptltl.specs.Rules.{closing}
 use Rattle.jm_ptltl.proofs.NodeLemmas.{close_more}
 use Rattle.jm_ptltl.proofs.reader.close.Goals as goal

@@ -1,6 +1,6 @@
 use Rattle.std.proofs.Common.{List, [], ◌∷◌, ◌++◌, drop, length, sym, ap, ◌∙◌, arith}
 use Rattle.jm_text.specs.declared.token.Token.{Token}
-use Rattle.jm_ptltl.specs.declared.node.Unary.{Unary}
+use Rattle.jm_ptltl.specs.declared.formula.Unary.{Unary}
 use Rattle.jm_ptltl.specs.Rules.{class_at, operand_at, over_all}
 use Rattle.jm_ptltl.proofs.ReaderLemmas.{prefix_more, over_all-push, drop_within}
 use Rattle.jm_ptltl.proofs.reader.prefixes.Goals as goal

@@ -1,6 +1,7 @@
 use Rattle.std.proofs.Common.{List, ℕ, [], ◌∷◌, ◌++◌, map, sym, subst, append_assoc}
 use Rattle.std.specs.Prelude.{codes}
-use Rattle.jm_fsm.specs.Machines.{StateDefinition, AliasDefinition, AreDistinct}
+use Rattle.jm_fsm.specs.Machines.{StateDefinition, AliasDefinition}
+use Rattle.jm_fsm.specs.Categories.{AreDistinct}
 use Rattle.jm_fsm.proofs.MadeLemmas.{fresh, distinct_front}
 use Rattle.jm_fsm.proofs.machine.Fsm.categories.Goals as goal
 

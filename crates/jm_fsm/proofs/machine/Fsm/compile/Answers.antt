@@ -2,7 +2,8 @@ use Rattle.std.proofs.Common.{List, subst}
 use Rattle.std.proofs.lemmas.Result.{err_from_is_err_and}
 use Rattle.jm_table.specs.Tables.{Follows}
 use Rattle.jm_fsm.specs.declared.machine.Destination.{Destination}
-use Rattle.jm_fsm.specs.Machines.{HasGroups, category_count}
+use Rattle.jm_fsm.specs.Tables.{HasGroups}
+use Rattle.jm_fsm.specs.Categories.{category_count}
 use Rattle.jm_fsm.proofs.CompileLemmas.{graph_of, map_same, has_states, is_compiled}
 use Rattle.jm_fsm.proofs.FaultLemmas.{no_fault}
 use Rattle.jm_fsm.proofs.machine.Fsm.compile.Goals as goal

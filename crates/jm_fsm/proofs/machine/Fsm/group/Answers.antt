@@ -1,5 +1,5 @@
 use Rattle.std.proofs.Common.{ℕ, ◌↔◌, List, Contains, subst, ◌∙◌, rules}
-use Rattle.jm_fsm.specs.Machines.{IsMember}
+use Rattle.jm_fsm.specs.Categories.{IsMember}
 use Rattle.jm_table.proofs.MemberLemmas.{members_are, members_within}
 use Rattle.jm_fsm.proofs.CompileLemmas.{group_more}
 use Rattle.jm_fsm.proofs.machine.Fsm.group.Goals as goal

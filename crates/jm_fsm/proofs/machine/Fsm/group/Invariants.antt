@@ -1,4 +1,4 @@
-use Rattle.jm_fsm.specs.Machines.{HasGroups}
+use Rattle.jm_fsm.specs.Tables.{HasGroups}
 use Rattle.jm_fsm.proofs.machine.Fsm.group.Given as goal
 
 abbrev pub invariant-loop-category : goal.invariant-loop-category

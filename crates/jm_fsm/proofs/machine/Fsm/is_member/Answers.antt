@@ -1,6 +1,7 @@
 use Rattle.std.proofs.Common.{◌<◌, ◌-◌, sym, subst, ◌∙◌, arith}
 use Rattle.std.proofs.lemmas.Option.{slice_get_read}
-use Rattle.jm_fsm.specs.Machines.{StateMachine, category_count}
+use Rattle.jm_fsm.specs.Machines.{StateMachine}
+use Rattle.jm_fsm.specs.Categories.{category_count}
 use Rattle.jm_fsm.proofs.MachineLemmas.{member_of_alias, member_of_fail}
 use Rattle.jm_fsm.proofs.machine.Fsm.is_member.Goals as goal
 

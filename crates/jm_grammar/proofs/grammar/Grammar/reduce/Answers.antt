@@ -1,7 +1,7 @@
 use Rattle.std.proofs.Common.{ℕ, List, ◌↔◌, Contains, filter, sym, ap, subst, ◌∙◌}
 use Rattle.jm_grammar.specs.declared.grammar.Production.{Production}
 use Rattle.jm_grammar.specs.Grammars.{GrammarDefinition, IsSmall}
-use Rattle.jm_grammar.specs.Derivations.{Derives, IsWord, IsIn, DerivesSome}
+use Rattle.jm_grammar.specs.Meanings.{Derives, IsWord, IsIn, DerivesSome}
 use Rattle.jm_grammar.specs.Rounds.{are_known}
 use Rattle.jm_grammar.proofs.ReduceLemmas.{same_words, kept_derive, kept_are_there, kept_small}
 use Rattle.jm_grammar.proofs.grammar.Grammar.reduce.Goals as goal

@@ -13,16 +13,19 @@ use Rattle.jm_grammar.specs.declared.formula.Part.{Part}
 module _ {X : Type 0} (bytes mark : List ℕ) (SpellsOne : List Token → X → Type 0) where
   -- mark One
   abbrev pub SpellsMore : List Token → X → Type 0
-  SpellsMore tokens x = (between : Token) × (inner : List Token) × (tokens ≡ between ∷ inner) × IsMark bytes mark between × SpellsOne inner x
+  SpellsMore tokens x = (between : Token) × (inner : List Token) × (tokens ≡ between ∷ inner)
+      × IsMark bytes mark between × SpellsOne inner x
 
   abbrev pub SpellsParted : List Token → List X → Type 0
   SpellsParted tokens [] = ⊥
-  SpellsParted tokens (x ∷ xs) = (first : List Token) × (rest : List Token) × (tokens ≡ first ++ rest) × SpellsOne first x × SpellsEach SpellsMore rest xs
+  SpellsParted tokens (x ∷ xs) = (first : List Token) × (rest : List Token) × (tokens ≡ first ++ rest)
+      × SpellsOne first x × SpellsEach SpellsMore rest xs
 
 -- NAME | "epsilon"
 abbrev pub SpellsSymbol : List ℕ → List Token → Token → Type 0
 SpellsSymbol bytes tokens symbol =
-    (tokens ≡ symbol ∷ []) × ((IsName bytes symbol × (IsWord bytes (codes "epsilon") symbol → ⊥)) ⊎ IsWord bytes (codes "epsilon") symbol)
+    (tokens ≡ symbol ∷ []) × ((IsName bytes symbol × (IsWord bytes (codes "epsilon") symbol → ⊥))
+    ⊎ IsWord bytes (codes "epsilon") symbol)
 
 -- Symbol { Symbol }
 abbrev pub SpellsAlternative : List ℕ → List Token → List Token → Type 0
@@ -33,7 +36,8 @@ SpellsAlternative bytes tokens (symbol ∷ symbols) = SpellsEach (SpellsSymbol b
 abbrev pub SpellsPart : List ℕ → List Token → Part → Type 0
 SpellsPart bytes tokens part =
     (arrow : Token) × (inner : List Token) × (tokens ≡ part.left ∷ arrow ∷ inner)
-    × IsName bytes part.left × IsMark bytes (codes "->") arrow × SpellsParted bytes (codes "|") (SpellsAlternative bytes) inner part.alternatives
+    × IsName bytes part.left × IsMark bytes (codes "->") arrow
+    × SpellsParted bytes (codes "|") (SpellsAlternative bytes) inner part.alternatives
 
 -- the tokens spell the formula
 unfoldable pub Spells : List ℕ → List Token → List Part → Type 0

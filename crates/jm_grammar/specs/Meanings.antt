@@ -6,13 +6,16 @@ use Rattle.jm_grammar.specs.declared.grammar.GrammarSymbol.TheVariants.{Letter, 
 use Rattle.jm_grammar.specs.declared.grammar.Production.{Production}
 use Rattle.jm_grammar.specs.Grammars.{GrammarDefinition}
 
--- Derivation trees that stand side by side, one for each of these symbols in order; their leaves spell the word. A tree of
--- a letter is a leaf. A tree of a nonterminal has below it the trees of the symbols of one of its productions.
+-- Derivation trees that stand side by side, one for each of these symbols in order; their leaves spell the word. A tree
+-- of a letter is a leaf. A tree of a nonterminal has below it the trees of the symbols of one of its productions.
 pub data Trees (productions : List Production) : List GrammarSymbol → List ℕ → Type 0 where
   no_tree : Trees productions [] []
-  leaf : {symbols : List GrammarSymbol} {word : List ℕ} (letter : LetterType) → Trees productions symbols word → Trees productions (Letter letter ∷ symbols) (letter.0 ∷ word)
-  node : {symbols : List GrammarSymbol} {word : List ℕ} (n : ℕ) (below : List GrammarSymbol) (first rest : List ℕ) → Contains productions (record { left = n; symbols = below })
-      → word ≡ first ++ rest → Trees productions below first → Trees productions symbols rest → Trees productions (Nonterminal n ∷ symbols) word
+  leaf : {symbols : List GrammarSymbol} {word : List ℕ} (letter : LetterType) → Trees productions symbols word
+      → Trees productions (Letter letter ∷ symbols) (letter.0 ∷ word)
+  node : {symbols : List GrammarSymbol} {word : List ℕ} (n : ℕ) (below : List GrammarSymbol) (first rest : List ℕ)
+      → Contains productions (record { left = n; symbols = below })
+      → word ≡ first ++ rest → Trees productions below first → Trees productions symbols rest
+      → Trees productions (Nonterminal n ∷ symbols) word
 
 -- a derivation tree of the nonterminal has leaves that spell the word
 abbrev pub Derives : List Production → ℕ → List ℕ → Type 0

@@ -3,13 +3,13 @@ ghost use Rattle.std.specs.Prelude.{◌≡◌, [], ◌∷◌, List, OnOk, IfOk, 
 ghost use Rattle.jm_reading.specs.Faults.{Makes, Answers, Checks, fault_of};
 ghost use Rattle.jm_events.specs.Events.{event_names};
 ghost use Rattle.jm_ere.specs.Expressions.{Expression};
-ghost use Rattle.jm_ere.specs.Readings.{over, between, atom_said};
+ghost use Rattle.jm_ere.specs.Faults.{over, between, atom_said};
 ghost use Rattle.jm_ere.specs.Rules.{IsWritten};
 ghost use Rattle.jm_ere.specs.Values.{wrapped, joined, with_node, with_nodes, fault_of_nodes};
 
 use crate::faults::{Words, few_nodes};
 use crate::forms::boxed;
-use crate::reader::{Atom, Binary, Node, Unary};
+use crate::formula::{Atom, Binary, Node, Unary};
 use crate::stack::Stack;
 use crate::tree::{Ere, Tree};
 use jm_events::EventTable;
@@ -122,7 +122,8 @@ fn known_expression(
     table: &EventTable,
 ) -> Result<Ere, SpecError>
     requires { IsWritten nodes.now }
-    ensures ok { IfOk result (λ e. (rest : List Expression) × (with_nodes bytes.now (event_names table.now) [] nodes.now ≡ Ok (e ∷ rest))) }
+    ensures ok { IfOk result (λ e. (rest : List Expression)
+        × (with_nodes bytes.now (event_names table.now) [] nodes.now ≡ Ok (e ∷ rest))) }
     ensures checked { Checks result (fault_of (with_nodes bytes.now (event_names table.now) [] nodes.now)) }
 {
     let mut stack = Stack::new(alloc);
@@ -142,7 +143,8 @@ pub(crate) fn expression_of(
     table: &EventTable,
 ) -> Result<Ere, SpecError>
     requires { IsWritten nodes.now }
-    ensures ok { IfOk result (λ e. (rest : List Expression) × (with_nodes bytes.now (event_names table.now) [] nodes.now ≡ Ok (e ∷ rest))) }
+    ensures ok { IfOk result (λ e. (rest : List Expression)
+        × (with_nodes bytes.now (event_names table.now) [] nodes.now ≡ Ok (e ∷ rest))) }
     ensures checked { Checks result (fault_of_nodes bytes.now table.now nodes.now) }
 {
     few_nodes(nodes)?;

@@ -4,13 +4,13 @@ use Rattle.jm_model.specs.declared.fault.SpecError.{SpecError}
 use Rattle.jm_text.specs.declared.token.Token.{Token}
 use Rattle.jm_events.specs.Events.{EventDefinitions}
 use Rattle.jm_reading.specs.Formulas.{IsReadBy, IsRefusedBy}
-use Rattle.jm_fsm.specs.Machines.{StateMachine}
-use Rattle.jm_fsm.specs.Formulas.{Spells}
-use Rattle.jm_fsm.specs.Faults.{machine_of, first_fault}
+use Rattle.jm_grammar.specs.Grammars.{GrammarDefinition}
+use Rattle.jm_grammar.specs.Spelling.{Spells}
+use Rattle.jm_grammar.specs.Faults.{grammar_of, first_fault}
 
--- the tokens spell a formula without a fault, which says this machine
-abbrev pub IsReadFrom : List ℕ → List Token → EventDefinitions → StateMachine → Type 0
-IsReadFrom bytes tokens table = IsReadBy (Spells bytes tokens) (first_fault bytes table) (machine_of bytes table)
+-- the tokens spell a formula without a fault, which says this grammar
+abbrev pub IsReadFrom : List ℕ → List Token → EventDefinitions → GrammarDefinition → Type 0
+IsReadFrom bytes tokens table = IsReadBy (Spells bytes tokens) (first_fault bytes table) (grammar_of bytes table)
 
 -- the tokens spell no formula, or one with this first fault, unless memory is short
 abbrev pub IsRefused : List ℕ → List Token → EventDefinitions → SpecError → Type 0

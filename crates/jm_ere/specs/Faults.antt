@@ -1,0 +1,60 @@
+-- What is wrong with a formula, step by step, and what one says.
+use Rattle.std.specs.Prelude.{ℕ, Bool, ◌||◌, List, Option, Some, None, Result, Ok, codes, nat_lt, if◌then◌else◌}
+use Rattle.std.specs.Str.{bytes_eq}
+use Rattle.jm_model.specs.declared.fault.Counted.TheVariants.{Nodes}
+use Rattle.jm_model.specs.declared.fault.SpecFault.{SpecFault}
+use Rattle.jm_model.specs.declared.fault.SpecFault.TheVariants.{TooMany}
+use Rattle.jm_model.specs.declared.fault.SpecError.{SpecError}
+use Rattle.jm_text.specs.declared.token.Token.{Token}
+use Rattle.jm_reading.specs.Faults.{or_else, ◌>>>◌, fault_of}
+use Rattle.jm_reading.specs.Events.{reserved_event_fault, letter_said}
+use Rattle.jm_reading.specs.Nesting.{is_too_deep}
+use Rattle.jm_reading.specs.Formulas.{IsReadWithin, IsRefusedWithin}
+use Rattle.jm_events.specs.Events.{EventDefinitions, event_names}
+use Rattle.jm_ere.specs.declared.formula.Atom.{Atom}
+use Rattle.jm_ere.specs.declared.formula.Atom.TheVariants.{Name, Epsilon, Empty}
+use Rattle.jm_ere.specs.declared.formula.Unary.{Unary}
+use Rattle.jm_ere.specs.declared.formula.Unary.TheVariants.{Not, Any, Many}
+use Rattle.jm_ere.specs.declared.formula.Binary.{Binary}
+use Rattle.jm_ere.specs.declared.formula.Binary.TheVariants.{Then, Either, Both}
+use Rattle.jm_ere.specs.Expressions.{Expression, Symbol, EmptyWord, NoWord, Complement, Star, Plus, Product, Union, Intersection}
+use Rattle.jm_ere.specs.Formulas.{Formula, Leaf, Over, Between, node_count}
+use Rattle.jm_ere.specs.Spelling.{Spells}
+
+-- there are at most 256 nodes
+abbrev pub nodes_fault : ℕ → Option SpecFault
+nodes_fault count = if nat_lt 256 count then Some (TooMany Nodes) else None
+
+-- the words of the grammar
+abbrev pub is_grammar_word : List ℕ → Bool
+is_grammar_word name = bytes_eq name (codes "epsilon") || bytes_eq name (codes "empty")
+
+-- what an operator makes
+abbrev pub over : Unary → Expression → Expression
+over Not r = Complement r
+over Any r = Star r
+over Many r = Plus r
+
+abbrev pub between : Binary → Expression → Expression → Expression
+between Then r s = Product r s
+between Either r s = Union r s
+between Both r s = Intersection r s
+
+-- the expression that a formula says among these events, or its first name that isn't there
+abbrev pub atom_said : List ℕ → List (List ℕ) → Atom → Result Expression SpecFault
+atom_said bytes events (Name token) = letter_said bytes events token >>> λ letter. Ok (Symbol letter.0)
+atom_said bytes events Epsilon = Ok EmptyWord
+atom_said bytes events Empty = Ok NoWord
+
+abbrev pub expression_said : List ℕ → List (List ℕ) → Formula → Result Expression SpecFault
+expression_said bytes events (Leaf atom) = atom_said bytes events atom
+expression_said bytes events (Over operator f) = expression_said bytes events f >>> λ r. Ok (over operator r)
+expression_said bytes events (Between operator f g) =
+    expression_said bytes events f >>> λ r. expression_said bytes events g >>> λ s. Ok (between operator r s)
+
+-- the fault of the first step that has one: too many nodes, reserved names of events, unknown names
+abbrev pub first_fault : List ℕ → EventDefinitions → Formula → Option SpecFault
+first_fault bytes table f =
+    or_else (nodes_fault (node_count f))
+    (or_else (reserved_event_fault is_grammar_word table.events)
+    (fault_of (expression_said bytes (event_names table) f)))
