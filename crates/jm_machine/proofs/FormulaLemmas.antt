@@ -9,6 +9,8 @@ use Rattle.jm_text.specs.declared.token.Token.{Token}
 use Rattle.jm_events.specs.Events.{EventDefinitions}
 use Rattle.jm_table.specs.Tables.{Transitions, IsWord, IsInGroup, state_after_of}
 use Rattle.jm_fsm.specs.Machines as fsm
+use Rattle.jm_fsm.specs.Categories as fsm_categories
+use Rattle.jm_fsm.specs.Tables as fsm_tables
 use Rattle.jm_ere.specs.Expressions.{Expression}
 use Rattle.jm_ere.specs.Categories.{ExpressionHolds}
 use Rattle.jm_ere.specs.Groups as ere
@@ -31,7 +33,7 @@ use Rattle.jm_machine.specs.declared.engine.Engine.TheVariants.{States}
 use Rattle.jm_machine.specs.Formulas.{IsReadAs, CategoryHolds}
 use Rattle.jm_machine.specs.Engines.{letters_of_engine, EngineHolds, HasLetters, IsCompiled}
 
-pub machine_count : (m : fsm.StateMachine) → length (fsm.category_names m) ≡ fsm.category_count m
+pub machine_count : (m : fsm.StateMachine) → length (fsm_categories.category_names m) ≡ fsm_categories.category_count m
 machine_count m =
     let states = map (λ (s : fsm.StateDefinition). s.name) m.states in
     let aliases = map (λ (a : fsm.AliasDefinition). a.name) m.aliases in
@@ -43,7 +45,7 @@ machine_count m =
       length-map m.aliases (λ (a : fsm.AliasDefinition). a.name),
     )
 
-pub machine_compiled : (m : fsm.StateMachine) (t : Transitions) → length (fsm.category_names m) ≡ fsm.category_count m → fsm.IsCompiled m t → IsCompiled (Machine m) (States t)
+pub machine_compiled : (m : fsm.StateMachine) (t : Transitions) → length (fsm_categories.category_names m) ≡ fsm_categories.category_count m → fsm_tables.IsCompiled m t → IsCompiled (Machine m) (States t)
 machine_compiled m t count h = λ word below some category less. h word below category (subst (λ n. category < n) count less)
 
 regular_at : (e : Expression) (t : Transitions) (word : List ℕ) (category : ℕ) → ere.IsCompiled e t → IsWord t word → category < 2 → IsInGroup t (state_after_of t word) category ↔ ExpressionHolds e t.letters category word

@@ -10,8 +10,8 @@ use Rattle.jm_spec.specs.declared.tree.Logic.{Logic}
 use Rattle.jm_spec.specs.declared.tree.Logic.TheVariants.{Fsm, Ere, Cfg, Ptltl}
 use Rattle.jm_machine.specs.declared.formula.Formula.{Formula}
 use Rattle.jm_machine.specs.declared.formula.Formula.TheVariants.{Machine, Regular, Temporal, Grammatical}
-use Rattle.jm_fsm.specs.Machines as fsm
-use Rattle.jm_fsm.specs.Readings as fsm_trees
+use Rattle.jm_fsm.specs.Categories as fsm
+use Rattle.jm_fsm.specs.Readings as fsm_readings
 use Rattle.jm_ere.specs.Categories as ere
 use Rattle.jm_ere.specs.Readings as ere_readings
 use Rattle.jm_ere.specs.Refusals.{FindsFault}
@@ -41,7 +41,7 @@ CategoryHolds (Grammatical g) letters category word = grammar.GrammarHolds g cat
 
 -- the tokens spell this formula of the logic, without a fault
 abbrev pub IsReadAs : List ℕ → List Token → EventDefinitions → Logic → Formula → Type 0
-IsReadAs bytes tokens table Fsm (Machine m) = fsm_trees.IsReadFrom bytes tokens table m
+IsReadAs bytes tokens table Fsm (Machine m) = fsm_readings.IsReadFrom bytes tokens table m
 IsReadAs bytes tokens table Ere (Regular e) = ere_readings.IsReadFrom bytes tokens table e
 IsReadAs bytes tokens table Ptltl (Temporal f) = past_readings.IsReadFrom bytes tokens table f
 IsReadAs bytes tokens table Cfg (Grammatical g) = grammar_readings.IsReadFrom bytes tokens table g
@@ -49,7 +49,7 @@ IsReadAs bytes tokens table _ _ = ⊥
 
 -- the tokens spell no formula of the logic, or one with this first fault
 abbrev pub IsRefusedIn : List ℕ → List Token → EventDefinitions → Logic → SpecFault → Type 0
-IsRefusedIn bytes tokens table Fsm fault = fsm_trees.IsRefused bytes tokens table (Bad fault)
+IsRefusedIn bytes tokens table Fsm fault = fsm_readings.IsRefused bytes tokens table (Bad fault)
 IsRefusedIn bytes tokens table Ere fault = ere_readings.IsRefused bytes tokens table (Bad fault)
 IsRefusedIn bytes tokens table Ptltl fault = past_readings.IsRefused bytes tokens table (Bad fault)
 IsRefusedIn bytes tokens table Cfg fault = grammar_readings.IsRefused bytes tokens table (Bad fault)

@@ -1,5 +1,5 @@
 -- The first fault of a script is one, and that of a specification is one but for the line of `Syntax`.
-use Rattle.std.proofs.Common.{◌≡◌, ℕ, ◌⊎◌, inl, inr, Bool, List, length, Option, Some, None, Err, refl, sym, ap, subst, ◌∙◌, arith}
+use Rattle.std.proofs.Common.{◌≡◌, ℕ, ◌⊎◌, inl, inr, Bool, List, length, Option, Some, Err, refl, sym, ap, subst, ◌∙◌, arith}
 use Rattle.std.proofs.lemmas.Bool.{false≢true}
 use Rattle.std.specs.Prelude.{true, false, IsUtf8}
 use Rattle.jm_model.specs.declared.fault.Counted.TheVariants.{Nesting}
@@ -11,7 +11,7 @@ use Rattle.jm_text.specs.declared.token.Token.{Token}
 use Rattle.jm_text.specs.Tokens.{IsFaultOf, IsOpenOn}
 use Rattle.jm_events.specs.Events.{EventDefinitions}
 use Rattle.jm_reading.specs.Nesting.{is_too_deep}
-use Rattle.jm_spec.specs.declared.frame.Frame.{Frame}
+use Rattle.jm_reading.specs.Formulas.{IsRefusedBy, IsRefusedWithin}
 use Rattle.jm_spec.specs.declared.tree.Logic.{Logic}
 use Rattle.jm_spec.specs.declared.tree.Logic.TheVariants.{Fsm, Ere, Cfg, Ptltl}
 use Rattle.jm_spec.specs.declared.tree.SpecTree.{SpecTree}
@@ -21,19 +21,16 @@ use Rattle.jm_spec.specs.Trees.{IsFaultOfTokens}
 use Rattle.jm_table.proofs.ExplorationLemmas.{explored_one}
 use Rattle.jm_fsm.specs.Spelling as fsm_spelling
 use Rattle.jm_fsm.specs.Faults as fsm_faults
-use Rattle.jm_fsm.specs.Readings as fsm_trees
 use Rattle.jm_fsm.proofs.GrammarLemmas as fsm_grammar
 use Rattle.jm_ere.specs.NormalForms.{forms_of}
 use Rattle.jm_ere.specs.Spelling as ere_spelling
-use Rattle.jm_ere.specs.Readings as ere
+use Rattle.jm_ere.specs.Faults as ere_faults
 use Rattle.jm_ere.proofs.FormulaLemmas as ere_grammar
 use Rattle.jm_ptltl.specs.Spelling as past_spelling
 use Rattle.jm_ptltl.specs.Faults as past_faults
-use Rattle.jm_ptltl.specs.Readings as past_readings
 use Rattle.jm_ptltl.proofs.GrammarLemmas as past_grammar
 use Rattle.jm_grammar.specs.Spelling as grammar_spelling
 use Rattle.jm_grammar.specs.Faults as grammar_faults
-use Rattle.jm_grammar.specs.Readings as grammar_trees
 use Rattle.jm_grammar.proofs.GrammarLemmas as grammar
 use Rattle.jm_machine.specs.declared.formula.Formula.{Formula}
 use Rattle.jm_machine.specs.declared.formula.Formula.TheVariants.{Machine, Regular, Temporal, Grammatical}
@@ -55,64 +52,54 @@ one_script_fault specs count names bytes _ _ (script_too_long more) (in_line oth
 one_script_fault specs count names bytes _ _ (in_line fault small has) (script_too_long more) = absurd (omega (arith, more, small))
 one_script_fault specs count names bytes _ _ (in_line fault small has) (in_line other less also) = same_some (sym has ∙ also)
 
--- ---- what is read, with a fault
+-- ---- what is refused
 
--- nothing is spelled, or what is spelled has the fault
-module _ {X : Type 0} (IsSpelled : X → Type 0) (first : X → Option SpecFault) where
+module _ {X : Type 0} (IsSpelled : X → Type 0) (first : X → Option SpecFault) (one : (x y : X) → IsSpelled x → IsSpelled y → x ≡ y) where
+  -- nothing is spelled, or what is spelled has the fault
   abbrev IsBad : SpecFault → Type 0
   IsBad fault = (IsSyntax fault × ((x : X) → IsSpelled x → ⊥)) ⊎ ((x : X) × IsSpelled x × (first x ≡ Some fault))
 
-  one_bad : ((x y : X) → IsSpelled x → IsSpelled y → x ≡ y) → (fault other : SpecFault) → IsBad fault → IsBad other → IsSameFault fault other
-  one_bad one fault other (inl a) (inl b) = inr (a.0, b.0)
-  one_bad one fault other (inl a) (inr b) = absurd (a.1 b.0 b.1)
-  one_bad one fault other (inr a) (inl b) = absurd (b.1 a.0 a.1)
-  one_bad one fault other (inr a) (inr b) = inl (same_some (sym a.2 ∙ ap first (one a.0 b.0 a.1 b.1) ∙ b.2))
+  bad_of : (fault : SpecFault) → IsRefusedBy IsSpelled first (Bad fault) → IsBad fault
+  bad_of (Syntax line) h = inl (tt, h)
+  bad_of _ h = inr h
 
-  -- or else it is nested too deeply, which is looked at first
-  abbrev IsDeepOrBad : Bool → SpecFault → Type 0
-  IsDeepOrBad deep fault = ((deep ≡ true) × (fault ≡ TooMany Nesting)) ⊎ ((deep ≡ false) × IsBad fault)
+  one_bad : (fault other : SpecFault) → IsBad fault → IsBad other → IsSameFault fault other
+  one_bad fault other (inl a) (inl b) = inr (a.0, b.0)
+  one_bad fault other (inl a) (inr b) = absurd (a.1 b.0 b.1)
+  one_bad fault other (inr a) (inl b) = absurd (b.1 a.0 a.1)
+  one_bad fault other (inr a) (inr b) = inl (same_some (sym a.2 ∙ ap first (one a.0 b.0 a.1 b.1) ∙ b.2))
 
-  one_deep_or_bad : (deep : Bool) → ((x y : X) → IsSpelled x → IsSpelled y → x ≡ y) → (fault other : SpecFault)
-      → IsDeepOrBad deep fault → IsDeepOrBad deep other → IsSameFault fault other
-  one_deep_or_bad deep one fault other (inl a) (inl b) = inl (a.1 ∙ sym b.1)
-  one_deep_or_bad deep one fault other (inl a) (inr b) = absurd (false≢true (sym b.0 ∙ a.0))
-  one_deep_or_bad deep one fault other (inr a) (inl b) = absurd (false≢true (sym a.0 ∙ b.0))
-  one_deep_or_bad deep one fault other (inr a) (inr b) = one_bad one fault other a.1 b.1
+  one_refused : (fault other : SpecFault) → IsRefusedBy IsSpelled first (Bad fault) → IsRefusedBy IsSpelled first (Bad other) → IsSameFault fault other
+  one_refused fault other a b = one_bad fault other (bad_of fault a) (bad_of other b)
+
+  module _ (deep : Bool) where
+    -- it is nested too deeply, or else is bad
+    abbrev IsDeepOrBad : SpecFault → Type 0
+    IsDeepOrBad fault = ((deep ≡ true) × (fault ≡ TooMany Nesting)) ⊎ ((deep ≡ false) × IsBad fault)
+
+    deep_or_bad : (fault : SpecFault) → IsRefusedWithin IsSpelled first deep (Bad fault) → IsDeepOrBad fault
+    deep_or_bad (TooMany Nesting) h = inl (h, refl)
+    deep_or_bad fault h = inr (h.0, bad_of fault h.1)
+
+    one_deep_or_bad : (fault other : SpecFault) → IsDeepOrBad fault → IsDeepOrBad other → IsSameFault fault other
+    one_deep_or_bad fault other (inl a) (inl b) = inl (a.1 ∙ sym b.1)
+    one_deep_or_bad fault other (inl a) (inr b) = absurd (false≢true (sym b.0 ∙ a.0))
+    one_deep_or_bad fault other (inr a) (inl b) = absurd (false≢true (sym a.0 ∙ b.0))
+    one_deep_or_bad fault other (inr a) (inr b) = one_bad fault other a.1 b.1
+
+    one_within : (fault other : SpecFault) → IsRefusedWithin IsSpelled first deep (Bad fault) → IsRefusedWithin IsSpelled first deep (Bad other) → IsSameFault fault other
+    one_within fault other a b = one_deep_or_bad fault other (deep_or_bad fault a) (deep_or_bad other b)
 
 -- ---- formulas
 
 module _ (bytes : List ℕ) (tokens : List Token) (table : EventDefinitions) where
-  bad_machine : (fault : SpecFault) → fsm_trees.IsRefused bytes tokens table (Bad fault) → IsBad (fsm_spelling.Spells bytes tokens) (fsm_faults.first_fault bytes table) fault
-  bad_machine (Syntax line) h = inl (tt, h)
-  bad_machine _ h = inr h
-
-  bad_expression : (fault : SpecFault) → ere.IsRefused bytes tokens table (Bad fault)
-      → IsDeepOrBad (ere_spelling.Spells bytes tokens) (ere.first_fault bytes table) (is_too_deep bytes 0 tokens) fault
-  bad_expression (TooMany Nesting) h = inl (h, refl)
-  bad_expression (Syntax line) h = inr (h.0, inl (tt, h.1))
-  bad_expression _ h = inr (h.0, inr h.1)
-
-  bad_past : (fault : SpecFault) → past_readings.IsRefused bytes tokens table (Bad fault)
-      → IsDeepOrBad (past_spelling.Spells bytes tokens) (past_faults.first_fault bytes table) (is_too_deep bytes 0 tokens) fault
-  bad_past (TooMany Nesting) h = inl (h, refl)
-  bad_past (Syntax line) h = inr (h.0, inl (tt, h.1))
-  bad_past _ h = inr (h.0, inr h.1)
-
-  bad_grammar : (fault : SpecFault) → grammar_trees.IsRefused bytes tokens table (Bad fault) → IsBad (grammar_spelling.Spells bytes tokens) (grammar_faults.first_fault bytes table) fault
-  bad_grammar (Syntax line) h = inl (tt, h)
-  bad_grammar _ h = inr h
-
   one_formula_fault : (logic : Logic) (fault other : SpecFault) → IsRefusedIn bytes tokens table logic fault → IsRefusedIn bytes tokens table logic other → IsSameFault fault other
-  one_formula_fault Fsm fault other a b =
-      one_bad (fsm_spelling.Spells bytes tokens) (fsm_faults.first_fault bytes table) (fsm_grammar.one_formula bytes tokens) fault other (bad_machine fault a) (bad_machine other b)
+  one_formula_fault Fsm fault other a b = one_refused (fsm_spelling.Spells bytes tokens) (fsm_faults.first_fault bytes table) (fsm_grammar.one_formula bytes tokens) fault other a b
   one_formula_fault Ere fault other a b =
-      one_deep_or_bad (ere_spelling.Spells bytes tokens) (ere.first_fault bytes table) (is_too_deep bytes 0 tokens) (ere_grammar.one_formula bytes tokens) fault other
-      (bad_expression fault a) (bad_expression other b)
+      one_within (ere_spelling.Spells bytes tokens) (ere_faults.first_fault bytes table) (ere_grammar.one_formula bytes tokens) (is_too_deep bytes 0 tokens) fault other a b
   one_formula_fault Ptltl fault other a b =
-      one_deep_or_bad (past_spelling.Spells bytes tokens) (past_faults.first_fault bytes table) (is_too_deep bytes 0 tokens) (past_grammar.one_formula bytes tokens) fault other
-      (bad_past fault a) (bad_past other b)
-  one_formula_fault Cfg fault other a b =
-      one_bad (grammar_spelling.Spells bytes tokens) (grammar_faults.first_fault bytes table) (grammar.one_formula bytes tokens) fault other (bad_grammar fault a) (bad_grammar other b)
+      one_within (past_spelling.Spells bytes tokens) (past_faults.first_fault bytes table) (past_grammar.one_formula bytes tokens) (is_too_deep bytes 0 tokens) fault other a b
+  one_formula_fault Cfg fault other a b = one_refused (grammar_spelling.Spells bytes tokens) (grammar_faults.first_fault bytes table) (grammar.one_formula bytes tokens) fault other a b
 
 -- ---- tables
 
@@ -146,13 +133,8 @@ module _ (bytes : List ℕ) (tokens : List Token) (tree : SpecTree) where
 
 -- ---- frames
 
-bad_frame : (bytes : List ℕ) (tokens : List Token) (fault : SpecFault) → IsFaultOfTokens bytes tokens (Bad fault) → IsBad (Spells bytes tokens) (frame_fault bytes) fault
-bad_frame bytes tokens (Syntax line) h = inl (tt, h)
-bad_frame bytes tokens _ h = inr h
-
 one_frame_fault : (bytes : List ℕ) (tokens : List Token) (fault other : SpecFault) → IsFaultOfTokens bytes tokens (Bad fault) → IsFaultOfTokens bytes tokens (Bad other) → IsSameFault fault other
-one_frame_fault bytes tokens fault other a b =
-    one_bad (Spells bytes tokens) (frame_fault bytes) (λ f g. one_frame bytes tokens tokens f g refl) fault other (bad_frame bytes tokens fault a) (bad_frame bytes tokens other b)
+one_frame_fault bytes tokens = one_refused (Spells bytes tokens) (frame_fault bytes) (λ f g. one_frame bytes tokens tokens f g refl)
 
 -- ---- tokens
 

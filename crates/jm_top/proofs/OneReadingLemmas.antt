@@ -1,11 +1,12 @@
 -- No bytes say two specifications, or a specification and a fault; and no command has two jobs.
 use Rattle.std.proofs.Common.{◌≡◌, ℕ, List, [], ◌∷◌, length, Some, None, Result, Ok, Err, refl, sym, ap, subst, ◌∙◌, arith}
 use Rattle.jm_model.specs.declared.fault.SpecFault.{SpecFault}
-use Rattle.jm_model.specs.declared.fault.SpecFault.TheVariants.{Syntax, NotUtf8, OpenText}
+use Rattle.jm_model.specs.declared.fault.SpecFault.TheVariants.{NotUtf8, OpenText}
 use Rattle.jm_model.specs.declared.fault.SpecError.TheVariants.{Bad}
 use Rattle.jm_text.specs.declared.token.Token.{Token}
 use Rattle.jm_text.specs.Tokens.{AreTokensOf, IsFaultOf}
 use Rattle.jm_reading.specs.Tokens.{name_of}
+use Rattle.jm_reading.proofs.FormulaLemmas.{never_refused}
 use Rattle.jm_events.specs.Events.{EventDefinitions}
 use Rattle.std.specs.Prelude.{slice_range}
 use Rattle.jm_handler.specs.declared.term.Term.{Term}
@@ -128,8 +129,7 @@ module _ (bytes : List ℕ) (ts us : List Token) (a b : SpecTree) (same : IsSame
   }
 
 pub tree_has_no_fault : (bytes : List ℕ) (tokens : List Token) (tree : SpecTree) (fault : SpecFault) → IsTreeOfTokens bytes tokens tree → IsFaultOfTokens bytes tokens (Bad fault) → ⊥
-tree_has_no_fault bytes tokens tree (Syntax line) h k = k h.0 h.1
-tree_has_no_fault bytes tokens tree _ h k = never_some (sym h.2 ∙ ap (frame_fault bytes) (one_frame bytes tokens tokens h.0 k.0 refl h.1 k.1) ∙ k.2)
+tree_has_no_fault bytes tokens tree fault h k = never_refused (Spells bytes tokens) (frame_fault bytes) (λ f g. one_frame bytes tokens tokens f g refl) h.0 h.1 h.2 fault k
 
 pub cut_has_no_fault : (bytes : List ℕ) (tokens : List Token) (fault : SpecFault) → AreTokensOf bytes tokens → IsFaultOf bytes (Bad fault) → ⊥
 cut_has_no_fault bytes tokens NotUtf8 cut h = h cut.utf8
