@@ -18,7 +18,7 @@ use Rattle.jm_ptltl.specs.Categories.{PastHolds}
 use Rattle.jm_ptltl.specs.Formulas as past
 use Rattle.jm_ptltl.specs.Tables as past_tables
 use Rattle.jm_grammar.specs.Grammars.{GrammarDefinition}
-use Rattle.jm_grammar.specs.Readings as grammar_trees
+use Rattle.jm_grammar.specs.Readings as grammar_readings
 use Rattle.jm_grammar.specs.declared.grammar.Production.{Production}
 use Rattle.jm_grammar.specs.declared.grammar.GrammarSymbol.{GrammarSymbol}
 use Rattle.jm_grammar.specs.declared.grammar.GrammarSymbol.TheVariants.{Letter, Nonterminal}
@@ -81,7 +81,7 @@ all_of : {X : Type 0} (P : X → Type 0) (xs : List X) → ((x : X) → Contains
 all_of P xs each = All-weaker (Contains xs) P each xs (All-contains_itself xs)
 
 module _ (bytes : List ℕ) (tokens : List Token) (table : EventDefinitions) where
-  symbol_below : (g : GrammarDefinition) → grammar_trees.IsReadFrom bytes tokens table g → (p : Production) → Contains g.productions p → (s : GrammarSymbol) → Contains p.symbols s → IsBelow (length table.events) s
+  symbol_below : (g : GrammarDefinition) → grammar_readings.IsReadFrom bytes tokens table g → (p : Production) → Contains g.productions p → (s : GrammarSymbol) → Contains p.symbols s → IsBelow (length table.events) s
   symbol_below g read p has (Letter a) at = grammar_reading.letters_there bytes tokens table g read p has a at
   symbol_below g read p has (Nonterminal n) at = tt
 
