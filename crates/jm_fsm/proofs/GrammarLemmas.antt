@@ -8,11 +8,12 @@ use Rattle.jm_fsm.specs.declared.formula.TransitionText.TheVariants.{On, Fallbac
 use Rattle.jm_fsm.specs.declared.formula.Part.{Part}
 use Rattle.jm_fsm.specs.declared.formula.Part.TheVariants.{Declaration, Alias}
 use Rattle.jm_reading.specs.Reading.{is_mark_at, is_left, mark_at, name_at, word_at}
-use Rattle.jm_fsm.specs.Rules.{fallback_at, listed_at, begins_fallback, transition_at, comma_at, entry_at, is_inside, entries_at, declaration_at, more_member_at, begins_more_member, more_members_at, alias_at, begins_alias, one_part_at, part_at, parts_at, with_a_state, formula_at}
+use Rattle.jm_reading.specs.Taking.{many_at}
+use Rattle.jm_fsm.specs.Rules.{fallback_at, listed_at, begins_fallback, transition_at, comma_at, entry_at, is_inside, declaration_at, more_member_at, begins_more_member, alias_at, begins_alias, part_at, with_a_state, formula_at}
 use Rattle.jm_reading.specs.Tokens.{IsName, IsMark, IsWord, SpellsEach}
 use Rattle.jm_fsm.specs.Spelling.{SpellsTransition, SpellsComma, SpellsEntry, SpellsMoreMember, SpellsMembers, SpellsPart, is_state, Spells}
 use Rattle.jm_reading.proofs.TokenLemmas.{name_no_mark, word_no_mark, mark_is, name_is, word_is, if_some, mark_read, name_read, word_read, step_of, one_of, and_true, and_false, not_true, not_false, first_of_two, second_of_two, other_mark}
-use Rattle.jm_reading.proofs.GrammarLemmas.{IsSound, Spelled, each_read, IsComplete, read_each}
+use Rattle.jm_reading.proofs.ManyLemmas.{many_sound, IsCompleteRule, many_complete}
 
 module _ (bytes : List ℕ) where
   -- ---- what a rule reads, its tokens spell
@@ -59,25 +60,18 @@ module _ (bytes : List ℕ) where
     | inr none ↦ ([], cc (none.1), inl refl)
   ]
 
-  entry_sound : IsSound (is_inside bytes) (entry_at bytes) (SpellsEntry bytes)
+  entry_sound : (tokens behind : List Token) (t : TransitionText) → entry_at bytes tokens ≡ Some (t, behind) → (first : List Token) × (tokens ≡ first ++ behind) × SpellsEntry bytes first t
   unfolding entry_at
-  entry_sound xs ys tokens behind h =
+  entry_sound tokens behind t h =
       let a = step_of (transition_at bytes tokens) _ _ h in
-      let t = transition_sound tokens a.0.1 a.0.0 a.1 in
+      let one = transition_sound tokens a.0.1 a.0.0 a.1 in
       let b = step_of (comma_at bytes a.0.1) _ _ a.2 in
       let c = comma_sound a.0.1 b.0 b.1 in
-      let e : ◌≡◌ {A = List TransitionText × List Token} (xs ++ a.0.0 ∷ [], b.0) (ys, behind) = cc (b.2) in
-      let f : b.0 ≡ behind = ap (λ (x : List TransitionText × List Token). x.1) e in (
-        t.0 ++ c.0,
-        a.0.0,
-        t.1 ∙ ap (λ (l : List Token). t.0 ++ l) c.1 ∙ sym (append_assoc t.0 c.0 b.0) ∙ ap (λ (l : List Token). (t.0 ++ c.0) ++ l) f,
-        sym (ap (λ (x : List TransitionText × List Token). x.0) e),
-        (t.0, c.0, refl, t.2, c.2),
+      let e : ◌≡◌ {A = TransitionText × List Token} (a.0.0, b.0) (t, behind) = cc (b.2) in (
+        one.0 ++ c.0,
+        one.1 ∙ ap (λ (l : List Token). one.0 ++ l) c.1 ∙ sym (append_assoc one.0 c.0 b.0) ∙ ap (λ (x : TransitionText × List Token). (one.0 ++ c.0) ++ x.1) e,
+        subst (λ (x : TransitionText). SpellsEntry bytes (one.0 ++ c.0) x) (ap (λ (x : TransitionText × List Token). x.0) e) (one.0, c.0, refl, one.2, c.2),
       )
-
-  entries_sound : (xs ys : List TransitionText) (tokens behind : List Token) → entries_at bytes xs tokens ≡ Some (ys, behind) → Spelled (is_inside bytes) (entry_at bytes) (SpellsEntry bytes) xs ys tokens behind
-  unfolding entries_at
-  entries_sound xs ys tokens behind h = each_read (is_inside bytes) (entry_at bytes) (SpellsEntry bytes) entry_sound (length tokens) xs ys tokens behind h
 
   declaration_sound : (tokens behind : List Token) (p : Part) → declaration_at bytes tokens ≡ Some (p, behind) → (first : List Token) × (tokens ≡ first ++ behind) × SpellsPart bytes first p
   unfolding declaration_at
@@ -86,8 +80,8 @@ module _ (bytes : List ℕ) where
       let name = name_read bytes tokens a.0.1 a.0.0 a.1 in
       let b = step_of (mark_at bytes (codes "[") a.0.1) _ _ a.2 in
       let opening = mark_read bytes (codes "[") a.0.1 b.0 b.1 in
-      let d = step_of (entries_at bytes [] b.0) _ _ b.2 in
-      let inner = entries_sound [] d.0.0 b.0 d.0.1 d.1 in
+      let d = step_of (many_at is_inside entry_at [] bytes b.0) _ _ b.2 in
+      let inner = many_sound is_inside entry_at bytes (SpellsEntry bytes) entry_sound [] d.0.0 b.0 d.0.1 d.1 in
       let k = step_of (mark_at bytes (codes "]") d.0.1) _ _ d.2 in
       let closing = mark_read bytes (codes "]") d.0.1 k.0 k.1 in
       let e : ◌≡◌ {A = Part × List Token} (Declaration a.0.0 d.0.0, k.0) (p, behind) = cc (k.2) in
@@ -99,25 +93,13 @@ module _ (bytes : List ℕ) where
             (opening.token, closing.token, inner.inner, refl, name.1, opening.is, subst (λ (l : List TransitionText). SpellsEach (SpellsEntry bytes) inner.inner l) (sym inner.added) inner.spelled, closing.is),
       )
 
-  more_member_sound : IsSound (begins_more_member bytes) (more_member_at bytes) (SpellsMoreMember bytes)
+  more_member_sound : (tokens behind : List Token) (name : Token) → more_member_at bytes tokens ≡ Some (name, behind) → (first : List Token) × (tokens ≡ first ++ behind) × SpellsMoreMember bytes first name
   unfolding more_member_at
-  more_member_sound xs ys tokens behind h =
+  more_member_sound tokens behind name h =
       let a = step_of (mark_at bytes (codes ",") tokens) _ _ h in
       let comma = mark_read bytes (codes ",") tokens a.0 a.1 in
-      let b = step_of (name_at bytes a.0) _ _ a.2 in
-      let name = name_read bytes a.0 b.0.1 b.0.0 b.1 in
-      let e : ◌≡◌ {A = List Token × List Token} (xs ++ b.0.0 ∷ [], b.0.1) (ys, behind) = cc (b.2) in
-      let f : b.0.1 ≡ behind = ap (λ (x : List Token × List Token). x.1) e in (
-        comma.token ∷ b.0.0 ∷ [],
-        b.0.0,
-        comma.cut ∙ ap (λ (l : List Token). comma.token ∷ l) name.0 ∙ ap (λ (l : List Token). comma.token ∷ b.0.0 ∷ l) f,
-        sym (ap (λ (x : List Token × List Token). x.0) e),
-        (comma.token, refl, comma.is, name.1),
-      )
-
-  more_members_sound : (xs ys tokens behind : List Token) → more_members_at bytes xs tokens ≡ Some (ys, behind) → Spelled (begins_more_member bytes) (more_member_at bytes) (SpellsMoreMember bytes) xs ys tokens behind
-  unfolding more_members_at
-  more_members_sound xs ys tokens behind h = each_read (begins_more_member bytes) (more_member_at bytes) (SpellsMoreMember bytes) more_member_sound (length tokens) xs ys tokens behind h
+      let read = name_read bytes a.0 behind name a.2 in
+      (comma.token ∷ name ∷ [], comma.cut ∙ ap (λ (l : List Token). comma.token ∷ l) read.0, (comma.token, refl, comma.is, read.1))
 
   alias_sound : (tokens behind : List Token) (p : Part) → alias_at bytes tokens ≡ Some (p, behind) → (first : List Token) × (tokens ≡ first ++ behind) × SpellsPart bytes first p
   unfolding alias_at
@@ -130,8 +112,8 @@ module _ (bytes : List ℕ) where
       let equals = mark_read bytes (codes "=") b.0.1 d.0 d.1 in
       let g = step_of (name_at bytes d.0) _ _ d.2 in
       let first = name_read bytes d.0 g.0.1 g.0.0 g.1 in
-      let k = step_of (more_members_at bytes ([] ++ g.0.0 ∷ []) g.0.1) _ _ g.2 in
-      let more = more_members_sound ([] ++ g.0.0 ∷ []) k.0.0 g.0.1 k.0.1 k.1 in
+      let k = step_of (many_at begins_more_member more_member_at (g.0.0 ∷ []) bytes g.0.1) _ _ g.2 in
+      let more = many_sound begins_more_member more_member_at bytes (SpellsMoreMember bytes) more_member_sound (g.0.0 ∷ []) k.0.0 g.0.1 k.0.1 k.1 in
       let e : ◌≡◌ {A = Part × List Token} (Alias b.0.0 k.0.0, k.0.1) (p, behind) = cc (k.2) in
       let f : k.0.1 ≡ behind = ap (λ (x : Part × List Token). x.1) e in
       let whole = a.0.0 ∷ b.0.0 ∷ equals.token ∷ g.0.0 ∷ more.inner in (
@@ -142,16 +124,12 @@ module _ (bytes : List ℕ) where
             (a.0.0, equals.token, g.0.0 ∷ more.inner, refl, word.1, name.1, equals.is, subst (λ (l : List Token). SpellsMembers bytes (g.0.0 ∷ more.inner) l) (sym more.added) (more.inner, refl, first.1, more.spelled)),
       )
 
-  part_sound : IsSound (is_left bytes) (part_at bytes) (SpellsPart bytes)
-  unfolding part_at one_part_at
-  part_sound xs ys tokens behind h =
-      let a = step_of (one_part_at bytes tokens) _ _ h in
-      let one : (first : List Token) × (tokens ≡ first ++ a.0.1) × SpellsPart bytes first a.0.0 = elim (one_of (begins_alias bytes tokens) (alias_at bytes tokens) (declaration_at bytes tokens) a.0 a.1) [
-        | inl alias ↦ alias_sound tokens a.0.1 a.0.0 alias.1
-        | inr state ↦ declaration_sound tokens a.0.1 a.0.0 state.1
-      ] in
-      let e : ◌≡◌ {A = List Part × List Token} (xs ++ a.0.0 ∷ [], a.0.1) (ys, behind) = cc (a.2) in
-      (one.0, a.0.0, one.1 ∙ ap (λ (x : List Part × List Token). one.0 ++ x.1) e, sym (ap (λ (x : List Part × List Token). x.0) e), one.2)
+  part_sound : (tokens behind : List Token) (p : Part) → part_at bytes tokens ≡ Some (p, behind) → (first : List Token) × (tokens ≡ first ++ behind) × SpellsPart bytes first p
+  unfolding part_at
+  part_sound tokens behind p h = elim (one_of (begins_alias bytes tokens) (alias_at bytes tokens) (declaration_at bytes tokens) (p, behind) h) [
+    | inl alias ↦ alias_sound tokens behind p alias.1
+    | inr state ↦ declaration_sound tokens behind p state.1
+  ]
 
   nothing_left : (tokens : List Token) → is_left bytes tokens ≡ false → tokens ≡ []
   nothing_left [] h = refl
@@ -162,10 +140,10 @@ module _ (bytes : List ℕ) where
 
   -- what is read of a whole formula, its tokens spell
   pub formula_sound : (tokens : List Token) (parts : List Part) → formula_at bytes tokens ≡ Some parts → Spells bytes tokens parts
-  unfolding formula_at parts_at Spells
+  unfolding formula_at Spells
   formula_sound tokens parts h =
-      let a = step_of (parts_at bytes [] tokens) _ _ h in
-      let all = each_read (is_left bytes) (part_at bytes) (SpellsPart bytes) part_sound (length tokens) [] a.0.0 tokens a.0.1 a.1 in
+      let a = step_of (many_at is_left part_at [] bytes tokens) _ _ h in
+      let all = many_sound is_left part_at bytes (SpellsPart bytes) part_sound [] a.0.0 tokens a.0.1 a.1 in
       let with_state = with_state_read a.0.0 parts a.2 in
       let cut : tokens ≡ all.inner = all.cut ∙ ap (λ (l : List Token). all.inner ++ l) (nothing_left a.0.1 all.ended) ∙ append-nil all.inner in
       let is : all.more ≡ parts = sym all.added ∙ with_state.0 in
@@ -202,9 +180,9 @@ module _ (bytes : List ℕ) where
       subst (λ (l : List Token). comma_at bytes (l ++ behind) ≡ Some behind) (sym some.1)
       (first_of_two _ _ _ some.2 ∙ mark_is bytes (codes ",") some.0 behind some.2)
 
-  entry_reads : (xs : List TransitionText) (tokens rest behind : List Token) (t : TransitionText) → transition_at bytes tokens ≡ Some (t, rest) → comma_at bytes rest ≡ Some behind → entry_at bytes xs tokens ≡ Some (xs ++ t ∷ [], behind)
+  entry_reads : (tokens rest behind : List Token) (t : TransitionText) → transition_at bytes tokens ≡ Some (t, rest) → comma_at bytes rest ≡ Some behind → entry_at bytes tokens ≡ Some (t, behind)
   unfolding entry_at
-  entry_reads xs tokens rest behind t h k = rw (h, k) refl
+  entry_reads tokens rest behind t h k = rw (h, k) refl
 
   no_mark_first : (first behind : List Token) (t : TransitionText) (mark : List ℕ) → SpellsTransition bytes first t → is_mark_at bytes (first ++ behind) 0 mark ≡ false
   no_mark_first first behind (On event destination) mark h = subst (λ (l : List Token). is_mark_at bytes (l ++ behind) 0 mark ≡ false) (sym h.1) (name_no_mark bytes mark event h.2)
@@ -219,63 +197,51 @@ module _ (bytes : List ℕ) where
       let whole : first ++ behind ≡ h.0 ++ (h.1 ++ behind) = ap (λ (l : List Token). l ++ behind) h.2 ∙ append_assoc h.0 h.1 behind in
       subst (λ (l : List Token). is_mark_at bytes l 0 mark ≡ false) (sym whole) (no_mark_first h.0 (h.1 ++ behind) t mark h.3)
 
-  entry_complete : IsComplete (is_inside bytes) (entry_at bytes) (SpellsEntry bytes) NoComma
+  entry_complete : IsCompleteRule is_inside entry_at bytes (SpellsEntry bytes) NoComma
   entry_complete = record {
-    reads = λ xs first behind t h follows.
+    reads = λ first behind t h follows.
         let whole : first ++ behind ≡ h.0 ++ (h.1 ++ behind) = ap (λ (l : List Token). l ++ behind) h.2 ∙ append_assoc h.0 h.1 behind in
-        subst (λ (l : List Token). entry_at bytes xs l ≡ Some (xs ++ t ∷ [], behind)) (sym whole)
-        (entry_reads xs (h.0 ++ (h.1 ++ behind)) (h.1 ++ behind) behind t (transition_complete h.0 (h.1 ++ behind) t h.3) (comma_complete h.1 behind h.4 follows));
-    goes = λ first behind t h. not_false _ (no_mark_entry first behind t (codes "]") h);
-    follows = λ first behind t h follows. no_mark_entry first behind t (codes ",") h;
+        subst (λ (l : List Token). entry_at bytes l ≡ Some (t, behind)) (sym whole)
+        (entry_reads (h.0 ++ (h.1 ++ behind)) (h.1 ++ behind) behind t (transition_complete h.0 (h.1 ++ behind) t h.3) (comma_complete h.1 behind h.4 follows));
+    begins = λ first behind t h. not_false _ (no_mark_entry first behind t (codes "]") h);
+    follows = λ first behind t h. no_mark_entry first behind t (codes ",") h;
     some = λ first t h. omega (arith, ap (λ (l : List Token). length l) h.2, length-append h.0 h.1, some_tokens h.0 t h.3);
   }
 
-  entries_complete : (inner behind : List Token) (ts : List TransitionText) → SpellsEach (SpellsEntry bytes) inner ts → NoComma behind → is_inside bytes behind ≡ false → entries_at bytes [] (inner ++ behind) ≡ Some (ts, behind)
-  unfolding entries_at
-  entries_complete inner behind ts h follows end = read_each (is_inside bytes) (entry_at bytes) (SpellsEntry bytes) NoComma entry_complete (length (inner ++ behind)) [] inner behind ts h follows end (omega arith)
-
-  declaration_reads : (name opening closing : Token) (tokens behind : List Token) (ts : List TransitionText) → IsName bytes name → IsMark bytes (codes "[") opening → IsMark bytes (codes "]") closing → entries_at bytes [] tokens ≡ Some (ts, closing ∷ behind) → declaration_at bytes (name ∷ opening ∷ tokens) ≡ Some (Declaration name ts, behind)
+  declaration_reads : (name opening closing : Token) (tokens behind : List Token) (ts : List TransitionText) → IsName bytes name → IsMark bytes (codes "[") opening → IsMark bytes (codes "]") closing → many_at is_inside entry_at [] bytes tokens ≡ Some (ts, closing ∷ behind) → declaration_at bytes (name ∷ opening ∷ tokens) ≡ Some (Declaration name ts, behind)
   unfolding declaration_at
   declaration_reads name opening closing tokens behind ts n o c e = rw (name_is bytes name (opening ∷ tokens) n, mark_is bytes (codes "[") opening tokens o, e, mark_is bytes (codes "]") closing behind c) refl
 
-  more_member_is : (xs : List Token) (comma name : Token) (behind : List Token) → IsMark bytes (codes ",") comma → IsName bytes name → more_member_at bytes xs (comma ∷ name ∷ behind) ≡ Some (xs ++ name ∷ [], behind)
+  more_member_is : (comma name : Token) (behind : List Token) → IsMark bytes (codes ",") comma → IsName bytes name → more_member_at bytes (comma ∷ name ∷ behind) ≡ Some (name, behind)
   unfolding more_member_at
-  more_member_is xs comma name behind c n = rw (mark_is bytes (codes ",") comma (name ∷ behind) c, name_is bytes name behind n) refl
+  more_member_is comma name behind c n = rw (mark_is bytes (codes ",") comma (name ∷ behind) c, name_is bytes name behind n) refl
 
-  more_member_complete : IsComplete (begins_more_member bytes) (more_member_at bytes) (SpellsMoreMember bytes) (λ _. Unit {0})
+  more_member_complete : IsCompleteRule begins_more_member more_member_at bytes (SpellsMoreMember bytes) (λ _. Unit {0})
   more_member_complete = record {
-    reads = λ xs first behind name h follows. subst (λ (l : List Token). more_member_at bytes xs (l ++ behind) ≡ Some (xs ++ name ∷ [], behind)) (sym h.1) (more_member_is xs h.0 name behind h.2 h.3);
-    goes = λ first behind name h. subst (λ (l : List Token). begins_more_member bytes (l ++ behind) ≡ true) (sym h.1) h.2;
-    follows = λ first behind name h follows. tt;
+    reads = λ first behind name h follows. subst (λ (l : List Token). more_member_at bytes (l ++ behind) ≡ Some (name, behind)) (sym h.1) (more_member_is h.0 name behind h.2 h.3);
+    begins = λ first behind name h. subst (λ (l : List Token). begins_more_member bytes (l ++ behind) ≡ true) (sym h.1) h.2;
+    follows = λ first behind name h. tt;
     some = λ first name h. omega (arith, ap (λ (l : List Token). length l) h.1);
   }
 
-  more_members_complete : (xs inner behind names : List Token) → SpellsEach (SpellsMoreMember bytes) inner names → NoComma behind → more_members_at bytes xs (inner ++ behind) ≡ Some (xs ++ names, behind)
-  unfolding more_members_at
-  more_members_complete xs inner behind names h end = read_each (begins_more_member bytes) (more_member_at bytes) (SpellsMoreMember bytes) (λ _. Unit {0}) more_member_complete (length (inner ++ behind)) xs inner behind names h tt end (omega arith)
-
-  alias_reads : (word name equals first : Token) (tokens behind members : List Token) → IsWord bytes (codes "alias") word → IsName bytes name → IsMark bytes (codes "=") equals → IsName bytes first → more_members_at bytes ([] ++ first ∷ []) tokens ≡ Some (members, behind) → alias_at bytes (word ∷ name ∷ equals ∷ first ∷ tokens) ≡ Some (Alias name members, behind)
+  alias_reads : (word name equals first : Token) (tokens behind members : List Token) → IsWord bytes (codes "alias") word → IsName bytes name → IsMark bytes (codes "=") equals → IsName bytes first → many_at begins_more_member more_member_at (first ∷ []) bytes tokens ≡ Some (members, behind) → alias_at bytes (word ∷ name ∷ equals ∷ first ∷ tokens) ≡ Some (Alias name members, behind)
   unfolding alias_at
   alias_reads word name equals first tokens behind members w n e f m = rw (word_is bytes (codes "alias") word (name ∷ equals ∷ first ∷ tokens) w, name_is bytes name (equals ∷ first ∷ tokens) n, mark_is bytes (codes "=") equals (first ∷ tokens) e, name_is bytes first tokens f, m) refl
 
-  one_part_complete : (first behind : List Token) (p : Part) → SpellsPart bytes first p → NoComma behind → one_part_at bytes (first ++ behind) ≡ Some (p, behind)
-  unfolding one_part_at
-  one_part_complete first behind (Declaration name ts) h follows =
+  part_reads : (first behind : List Token) (p : Part) → SpellsPart bytes first p → NoComma behind → part_at bytes (first ++ behind) ≡ Some (p, behind)
+  unfolding part_at
+  part_reads first behind (Declaration name ts) h follows =
       let whole : first ++ behind ≡ name ∷ h.0 ∷ (h.2 ++ h.1 ∷ behind) = ap (λ (l : List Token). l ++ behind) h.3 ∙ ap (λ (l : List Token). name ∷ h.0 ∷ l) (append_assoc h.2 (h.1 ∷ []) behind) in
-      let entries = entries_complete h.2 (h.1 ∷ behind) ts h.6 (other_mark bytes (codes "]") (codes ",") h.1 h.7 refl) (not_true _ h.7) in
-      subst (λ (l : List Token). one_part_at bytes l ≡ Some (Declaration name ts, behind)) (sym whole)
+      let entries = many_complete is_inside entry_at bytes (SpellsEntry bytes) NoComma entry_complete [] h.2 (h.1 ∷ behind) ts h.6 (other_mark bytes (codes "]") (codes ",") h.1 h.7 refl) (not_true _ h.7) in
+      subst (λ (l : List Token). part_at bytes l ≡ Some (Declaration name ts, behind)) (sym whole)
       (second_of_two _ _ _ (and_false _ _ (not_true _ h.5)) ∙ declaration_reads name h.0 h.1 (h.2 ++ h.1 ∷ behind) behind ts h.4 h.5 h.7 entries)
-  one_part_complete first behind (Alias name []) h follows = absurd h.7
-  one_part_complete first behind (Alias name (m ∷ ms)) h follows =
+  part_reads first behind (Alias name []) h follows = absurd h.7
+  part_reads first behind (Alias name (m ∷ ms)) h follows =
       let members = h.7 in
       let whole : first ++ behind ≡ h.0 ∷ name ∷ h.1 ∷ m ∷ (members.0 ++ behind) = ap (λ (l : List Token). l ++ behind) (h.3 ∙ ap (λ (l : List Token). h.0 ∷ name ∷ h.1 ∷ l) members.1) in
-      subst (λ (l : List Token). one_part_at bytes l ≡ Some (Alias name (m ∷ ms), behind)) (sym whole)
+      subst (λ (l : List Token). part_at bytes l ≡ Some (Alias name (m ∷ ms), behind)) (sym whole)
       (first_of_two _ _ _ (and_true _ _ h.4 (not_false _ (name_no_mark bytes (codes "[") name h.5)))
-      ∙ alias_reads h.0 name h.1 m (members.0 ++ behind) behind (m ∷ ms) h.4 h.5 h.6 members.2 (more_members_complete ([] ++ m ∷ []) members.0 behind ms members.3 follows))
-
-  part_reads : (xs : List Part) (tokens behind : List Token) (p : Part) → one_part_at bytes tokens ≡ Some (p, behind) → part_at bytes xs tokens ≡ Some (xs ++ p ∷ [], behind)
-  unfolding part_at
-  part_reads xs tokens behind p h = rw h refl
+      ∙ alias_reads h.0 name h.1 m (members.0 ++ behind) behind (m ∷ ms) h.4 h.5 h.6 members.2 (many_complete begins_more_member more_member_at bytes (SpellsMoreMember bytes) (λ _. Unit {0}) more_member_complete (m ∷ []) members.0 behind ms members.3 tt follows))
 
   no_comma_part : (first behind : List Token) (p : Part) → SpellsPart bytes first p → NoComma (first ++ behind)
   no_comma_part first behind (Declaration name ts) h = subst (λ (l : List Token). NoComma (l ++ behind)) (sym h.3) (name_no_mark bytes (codes ",") name h.4)
@@ -289,21 +255,14 @@ module _ (bytes : List ℕ) where
   part_tokens first (Declaration name ts) h = omega (arith, ap (λ (l : List Token). length l) h.3)
   part_tokens first (Alias name members) h = omega (arith, ap (λ (l : List Token). length l) h.3)
 
-  part_complete : IsComplete (is_left bytes) (part_at bytes) (SpellsPart bytes) NoComma
-  part_complete = record {
-    reads = λ xs first behind p h follows. part_reads xs (first ++ behind) behind p (one_part_complete first behind p h follows);
-    goes = part_left;
-    follows = λ first behind p h follows. no_comma_part first behind p h;
-    some = part_tokens;
-  }
+  part_complete : IsCompleteRule is_left part_at bytes (SpellsPart bytes) NoComma
+  part_complete = record { reads = part_reads; begins = part_left; follows = no_comma_part; some = part_tokens }
 
-  parts_complete : (tokens : List Token) (parts : List Part) → SpellsEach (SpellsPart bytes) tokens parts → parts_at bytes [] tokens ≡ Some (parts, [])
-  unfolding parts_at
+  parts_complete : (tokens : List Token) (parts : List Part) → SpellsEach (SpellsPart bytes) tokens parts → many_at is_left part_at [] bytes tokens ≡ Some (parts, [])
   parts_complete tokens parts h =
-      subst (λ (l : List Token). parts_at bytes [] l ≡ Some (parts, [])) (append-nil tokens)
-      (read_each (is_left bytes) (part_at bytes) (SpellsPart bytes) NoComma part_complete (length (tokens ++ [])) [] tokens [] parts h refl refl (omega arith))
+      subst (λ (l : List Token). many_at is_left part_at [] bytes l ≡ Some (parts, [])) (append-nil tokens) (many_complete is_left part_at bytes (SpellsPart bytes) NoComma part_complete [] tokens [] parts h refl refl)
 
-  formula_reads : (tokens : List Token) (parts : List Part) → parts_at bytes [] tokens ≡ Some (parts, []) → list_any is_state parts ≡ true → formula_at bytes tokens ≡ Some parts
+  formula_reads : (tokens : List Token) (parts : List Part) → many_at is_left part_at [] bytes tokens ≡ Some (parts, []) → list_any is_state parts ≡ true → formula_at bytes tokens ≡ Some parts
   unfolding formula_at
   formula_reads tokens parts h k = rw (h, k) refl
 

@@ -1,5 +1,5 @@
 -- What each rule of the grammar reads at the front of a list of tokens, where the next token or two decide.
-use Rattle.std.specs.Prelude.{ℕ, Bool, not, ◌&&◌, List, [], ◌∷◌, ◌++◌, length, Option, Some, None, codes, if◌then◌else◌}
+use Rattle.std.specs.Prelude.{ℕ, Bool, not, ◌&&◌, List, [], ◌∷◌, Option, Some, None, codes, if◌then◌else◌}
 use Rattle.std.specs.List.{list_any}
 use Rattle.jm_text.specs.declared.token.Token.{Token}
 use Rattle.jm_fsm.specs.declared.formula.TransitionText.{TransitionText}
@@ -7,17 +7,18 @@ use Rattle.jm_fsm.specs.declared.formula.TransitionText.TheVariants.{On, Fallbac
 use Rattle.jm_fsm.specs.declared.formula.Part.{Part}
 use Rattle.jm_fsm.specs.declared.formula.Part.TheVariants.{Declaration, Alias}
 use Rattle.jm_fsm.specs.Spelling.{is_state}
-use Rattle.jm_reading.specs.Reading.{◌>>=◌, is_mark_at, is_word_at, is_left, mark_at, name_at, word_at, at_most}
+use Rattle.jm_reading.specs.Reading.{◌>>=◌, is_mark_at, is_word_at, is_left, mark_at, name_at, word_at}
+use Rattle.jm_reading.specs.Taking.{Rule, many_at}
 
 -- "default" NAME
-unfoldable pub fallback_at : List ℕ → List Token → Option (TransitionText × List Token)
+unfoldable pub fallback_at : Rule TransitionText
 fallback_at bytes tokens = do
   word ← word_at bytes (codes "default") tokens
   destination ← name_at bytes word.1
   Some (Fallback word.0 destination.0, destination.1)
 
 -- NAME "->" NAME
-unfoldable pub listed_at : List ℕ → List Token → Option (TransitionText × List Token)
+unfoldable pub listed_at : Rule TransitionText
 listed_at bytes tokens = do
   event ← name_at bytes tokens
   arrow ← mark_at bytes (codes "->") event.1
@@ -29,74 +30,59 @@ abbrev pub begins_fallback : List ℕ → List Token → Bool
 begins_fallback bytes tokens =
     is_word_at bytes tokens 0 (codes "default") && not (is_mark_at bytes tokens 1 (codes "->"))
 
-unfoldable pub transition_at : List ℕ → List Token → Option (TransitionText × List Token)
+unfoldable pub transition_at : Rule TransitionText
 transition_at bytes tokens = if begins_fallback bytes tokens then fallback_at bytes tokens else listed_at bytes tokens
 
 -- [ "," ]
 unfoldable pub comma_at : List ℕ → List Token → Option (List Token)
 comma_at bytes tokens = if is_mark_at bytes tokens 0 (codes ",") then mark_at bytes (codes ",") tokens else Some tokens
 
--- { Transition [ "," ] } up to a `]`
-unfoldable pub entry_at : List ℕ → List TransitionText → List Token → Option (List TransitionText × List Token)
-entry_at bytes transitions tokens = do
+-- Transition [ "," ]
+unfoldable pub entry_at : Rule TransitionText
+entry_at bytes tokens = do
   transition ← transition_at bytes tokens
   rest ← comma_at bytes transition.1
-  Some (transitions ++ transition.0 ∷ [], rest)
+  Some (transition.0, rest)
 
+-- a `]` ends them
 abbrev pub is_inside : List ℕ → List Token → Bool
 is_inside bytes tokens = not (is_mark_at bytes tokens 0 (codes "]"))
 
-unfoldable pub entries_at : List ℕ → List TransitionText → List Token → Option (List TransitionText × List Token)
-entries_at bytes transitions tokens = at_most (is_inside bytes) (entry_at bytes) (length tokens) transitions tokens
-
 -- State = NAME "[" { Transition [ "," ] } "]"
-unfoldable pub declaration_at : List ℕ → List Token → Option (Part × List Token)
+unfoldable pub declaration_at : Rule Part
 declaration_at bytes tokens = do
   name ← name_at bytes tokens
   inner ← mark_at bytes (codes "[") name.1
-  entries ← entries_at bytes [] inner
+  entries ← many_at is_inside entry_at [] bytes inner
   rest ← mark_at bytes (codes "]") entries.1
   Some (Declaration name.0 entries.0, rest)
 
--- { "," NAME }
-unfoldable pub more_member_at : List ℕ → List Token → List Token → Option (List Token × List Token)
-more_member_at bytes members tokens = do
+-- "," NAME
+unfoldable pub more_member_at : Rule Token
+more_member_at bytes tokens = do
   head ← mark_at bytes (codes ",") tokens
-  name ← name_at bytes head
-  Some (members ++ name.0 ∷ [], name.1)
+  name_at bytes head
 
 abbrev pub begins_more_member : List ℕ → List Token → Bool
 begins_more_member bytes tokens = is_mark_at bytes tokens 0 (codes ",")
 
-unfoldable pub more_members_at : List ℕ → List Token → List Token → Option (List Token × List Token)
-more_members_at bytes members tokens =
-    at_most (begins_more_member bytes) (more_member_at bytes) (length tokens) members tokens
-
 -- Alias = "alias" NAME "=" NAME { "," NAME }
-unfoldable pub alias_at : List ℕ → List Token → Option (Part × List Token)
+unfoldable pub alias_at : Rule Part
 alias_at bytes tokens = do
   word ← word_at bytes (codes "alias") tokens
   name ← name_at bytes word.1
   inner ← mark_at bytes (codes "=") name.1
   first ← name_at bytes inner
-  members ← more_members_at bytes ([] ++ first.0 ∷ []) first.1
+  members ← many_at begins_more_member more_member_at (first.0 ∷ []) bytes first.1
   Some (Alias name.0 members.0, members.1)
 
 -- `alias` begins an alias, if no `[` stands behind it
 abbrev pub begins_alias : List ℕ → List Token → Bool
 begins_alias bytes tokens = is_word_at bytes tokens 0 (codes "alias") && not (is_mark_at bytes tokens 1 (codes "["))
 
-unfoldable pub one_part_at : List ℕ → List Token → Option (Part × List Token)
-one_part_at bytes tokens = if begins_alias bytes tokens then alias_at bytes tokens else declaration_at bytes tokens
-
--- { State | Alias } up to the end
-unfoldable pub part_at : List ℕ → List Part → List Token → Option (List Part × List Token)
-part_at bytes parts tokens = do
-  part ← one_part_at bytes tokens
-  Some (parts ++ part.0 ∷ [], part.1)
-
-unfoldable pub parts_at : List ℕ → List Part → List Token → Option (List Part × List Token)
-parts_at bytes parts tokens = at_most (is_left bytes) (part_at bytes) (length tokens) parts tokens
+-- State | Alias
+unfoldable pub part_at : Rule Part
+part_at bytes tokens = if begins_alias bytes tokens then alias_at bytes tokens else declaration_at bytes tokens
 
 -- Formula = { State | Alias }, with at least one State
 abbrev pub with_a_state : List Part → Option (List Part)
@@ -104,5 +90,5 @@ with_a_state parts = if list_any is_state parts then Some parts else None
 
 unfoldable pub formula_at : List ℕ → List Token → Option (List Part)
 formula_at bytes tokens = do
-  parts ← parts_at bytes [] tokens
+  parts ← many_at is_left part_at [] bytes tokens
   with_a_state parts.0

@@ -8,15 +8,15 @@ use Rattle.jm_reading.specs.Answers.{FailsAt}
 use Rattle.jm_reading.specs.Reading.{at_most}
 
 module _ {X : Type 0} (goes_on : List Token → Bool) (item : X → List Token → Option (X × List Token)) where
-  items_stop : (n : ℕ) (xs : X) (tokens : List Token) → goes_on tokens ≡ false → at_most goes_on item n xs tokens ≡ Some (xs, tokens)
+  pub items_stop : (n : ℕ) (xs : X) (tokens : List Token) → goes_on tokens ≡ false → at_most goes_on item n xs tokens ≡ Some (xs, tokens)
   items_stop zero xs tokens h = rw h refl
   items_stop (suc n) xs tokens h = rw h refl
 
-  items_break : (n : ℕ) (xs : X) (tokens : List Token) → goes_on tokens ≡ true → item xs tokens ≡ None → at_most goes_on item n xs tokens ≡ None
+  pub items_break : (n : ℕ) (xs : X) (tokens : List Token) → goes_on tokens ≡ true → item xs tokens ≡ None → at_most goes_on item n xs tokens ≡ None
   items_break zero xs tokens h none = rw h refl
   items_break (suc n) xs tokens h none = rw (h, none) refl
 
-  items_go : (n : ℕ) (xs ys : X) (tokens behind : List Token) → goes_on tokens ≡ true → item xs tokens ≡ Some (ys, behind) → at_most goes_on item (suc n) xs tokens ≡ at_most goes_on item n ys behind
+  pub items_go : (n : ℕ) (xs ys : X) (tokens behind : List Token) → goes_on tokens ≡ true → item xs tokens ≡ Some (ys, behind) → at_most goes_on item (suc n) xs tokens ≡ at_most goes_on item n ys behind
   items_go n xs ys tokens behind h some = rw (h, some) refl
 
 -- what is left to read is what the loop began with, where the items so far are these, and no more items are than tokens

@@ -1,3 +1,4 @@
+pub mod Taking
 pub mod Tokens
 pub mod Reading
 pub mod Answers
