@@ -22,7 +22,7 @@ impl Stingy {
 impl Monitor for Stingy {
     ghost use Rattle.std.specs.Prelude.{◌≡◌};
     ghost use Rattle.jm_machine.specs.Meanings.{rules_meaning};
-    ghost use Rattle.jm_machine.specs.Runs.{IsRunOf};
+    ghost use Rattle.jm_machine.specs.Configurations.{IsConfigurationOf};
 
     type State = Configuration;
 
@@ -32,7 +32,7 @@ impl Monitor for Stingy {
 
     ghost meaning = { λ r. rules_meaning r.definition };
 
-    ghost StandsFor = { λ s r w. IsRunOf s.rules r w };
+    ghost StandsFor = { λ s r w. IsConfigurationOf s.rules r w };
 
     fn letters(&self) -> u8 {
         self.rules.letters()
