@@ -1,9 +1,5 @@
-use Rattle.std.specs.Prelude.{ℕ, ◌≡◌, ◌==◌, ◌<◌, ◌≤◌, ◌+◌, ◌⊎◌, ◌↔◌, List, [], ◌∷◌, ◌++◌, length, map, fold, find, All, Contains, Option, Some, IsSomeAnd, option_map, unwrap_or, slice_get, codes, count_by}
-use Rattle.std.specs.Str.{bytes_eq}
-use Rattle.jm_table.specs.Explorations.{IsWithoutRepeats}
-use Rattle.jm_table.specs.Tables.{Transitions, IsInGroup, IsWord, state_after_of}
+use Rattle.std.specs.Prelude.{ℕ, List, Option}
 use Rattle.jm_fsm.specs.declared.machine.Destination.{Destination}
-use Rattle.jm_fsm.specs.declared.machine.Destination.TheVariants.{State, Fail}
 use Rattle.jm_fsm.specs.declared.machine.Transition.{Transition}
 
 -- a state: its name, the transitions that it lists, and where the letters lead that it doesn't list

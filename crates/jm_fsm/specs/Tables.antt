@@ -1,11 +1,8 @@
 -- The table that a state machine is compiled to.
-use Rattle.std.specs.Prelude.{ℕ, ◌≡◌, ◌==◌, ◌<◌, ◌≤◌, ◌+◌, ◌⊎◌, ◌↔◌, List, [], ◌∷◌, ◌++◌, length, map, fold, find, All, Contains, Option, Some, IsSomeAnd, option_map, unwrap_or, slice_get, codes, count_by}
-use Rattle.std.specs.Str.{bytes_eq}
+use Rattle.std.specs.Prelude.{ℕ, ◌≡◌, ◌<◌, ◌↔◌, List, length, Some, IsSomeAnd, slice_get}
 use Rattle.jm_table.specs.Explorations.{IsWithoutRepeats}
 use Rattle.jm_table.specs.Tables.{Transitions, IsInGroup, IsWord, state_after_of}
 use Rattle.jm_fsm.specs.declared.machine.Destination.{Destination}
-use Rattle.jm_fsm.specs.declared.machine.Destination.TheVariants.{State, Fail}
-use Rattle.jm_fsm.specs.declared.machine.Transition.{Transition}
 use Rattle.jm_fsm.specs.Machines.{StateMachine}
 use Rattle.jm_fsm.specs.Meanings.{fsm_state_after}
 use Rattle.jm_fsm.specs.Categories.{category_count, IsMember, FsmHolds}

@@ -1,11 +1,7 @@
 -- What every state machine that is read meets.
-use Rattle.std.specs.Prelude.{ℕ, ◌≡◌, ◌==◌, ◌<◌, ◌≤◌, ◌+◌, ◌⊎◌, ◌↔◌, List, [], ◌∷◌, ◌++◌, length, map, fold, find, All, Contains, Option, Some, IsSomeAnd, option_map, unwrap_or, slice_get, codes, count_by}
-use Rattle.std.specs.Str.{bytes_eq}
-use Rattle.jm_table.specs.Explorations.{IsWithoutRepeats}
-use Rattle.jm_table.specs.Tables.{Transitions, IsInGroup, IsWord, state_after_of}
+use Rattle.std.specs.Prelude.{ℕ, ◌≡◌, ◌<◌, ◌≤◌, length, All, Some}
 use Rattle.jm_fsm.specs.declared.machine.Destination.{Destination}
 use Rattle.jm_fsm.specs.declared.machine.Destination.TheVariants.{State, Fail}
-use Rattle.jm_fsm.specs.declared.machine.Transition.{Transition}
 use Rattle.jm_fsm.specs.Machines.{StateMachine}
 use Rattle.jm_fsm.specs.Categories.{category_names, AreDistinct}
 

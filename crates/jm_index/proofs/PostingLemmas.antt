@@ -96,10 +96,6 @@ pub IsThinned-live : (test : ℕ → Bool) (items value new : List ℕ) → item
 IsThinned-live test items value new is (inl same) x pass there = subst (λ (v : List ℕ). Contains v x) (sym (same ∙ is)) there
 IsThinned-live test items value new is (inr kept) x pass there = thinned_live test items value new is kept x pass there
 
--- one position that fails the test
-pub IsThinned-one : (test : ℕ → Bool) (k : ℕ) → test k ≡ false → IsThinned test (k ∷ []) []
-IsThinned-one test k fails = inr (rw fails refl)
-
 -- a number more, at the end
 pub filed_last : (k : ℕ) (items value new : List ℕ) → items ≡ value → new ≡ items ++ k ∷ [] → IsFiled k value new
 filed_last k items value new is pushed =
