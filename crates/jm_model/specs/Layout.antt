@@ -4,14 +4,15 @@ use Rattle.std.specs.Prelude.{◌≡◌, ℕ, ◌+◌, ◌*◌, ◌/◌, ◌%◌
 use Rattle.std.specs.Cmp.Lexicographic.{pointwise}
 use Rattle.std.proofs.Common.{pow-suc, sym, subst, arith}
 use Rattle.std.proofs.lemmas.Bool.{eqb-true, eq-eqb}
+use Rattle.jm_model.specs.Words.{Mask}
 
 -- the optional objects that a mask and a list of objects stand for
-abbrev pub options_of : ℕ → List ℕ → List (Option ℕ)
+abbrev pub options_of : Mask → List ℕ → List (Option ℕ)
 options_of mask [] = []
 options_of mask (o ∷ os) = cond (mask % 2 == 1) (Some o) None ∷ options_of (mask / 2) os
 
 -- the mask of a list of optional objects
-abbrev pub mask_bits : List (Option ℕ) → ℕ
+abbrev pub mask_bits : List (Option ℕ) → Mask
 mask_bits [] = 0
 mask_bits (None ∷ b) = 2 * mask_bits b
 mask_bits (Some o ∷ b) = 1 + 2 * mask_bits b
@@ -25,7 +26,7 @@ abbrev pub binding_eq : List (Option ℕ) → List (Option ℕ) → Bool
 binding_eq a b = nat_eq (mask_bits a) (mask_bits b) && pointwise nat_eq (stored_of a) (stored_of b)
 
 -- a mask of at most as many bits as there are objects, and 0 for each parameter that isn't bound
-pub record IsStored (mask : ℕ) (os : List ℕ) : Type 0 where
+pub record IsStored (mask : Mask) (os : List ℕ) : Type 0 where
   pub eight : length os ≡ 8
   pub mask_fits : mask < 256
   pub unbound : stored_of (options_of mask os) ≡ os

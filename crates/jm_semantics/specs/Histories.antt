@@ -1,5 +1,6 @@
 use Rattle.std.specs.Prelude.{length, ◌%◌, ◌^◌, ℕ, ◌==◌, Bool, List, Option, Some, None, filter_map, find}
 use Rattle.std.specs.List.{list_any}
+use Rattle.jm_model.specs.Words.{Mask}
 use Rattle.jm_model.specs.Bindings.{mask_where}
 use Rattle.jm_model.specs.declared.binding.Binding.{Binding}
 use Rattle.jm_model.specs.declared.step.Entry.{Entry}
@@ -32,7 +33,7 @@ abbrev pub is_dead : List Entry → ℕ → Bool
 is_dead h o = list_any (λ q. q == o) (dead_of h)
 
 -- the parameters that t binds to dead objects, as a mask
-abbrev pub dead_mask : List Entry → Binding → ℕ
+abbrev pub dead_mask : List Entry → Binding → Mask
 dead_mask h t = mask_where (is_dead h) t
 
 -- the first dead object that b binds, in the order of the parameters

@@ -1,4 +1,5 @@
 use Rattle.std.specs.Prelude.{ℕ, List, map, filter}
+use Rattle.jm_model.specs.Words.{Word}
 use Rattle.jm_model.specs.Bindings.{is_below}
 use Rattle.jm_model.specs.declared.binding.Binding.{Binding}
 
@@ -12,5 +13,5 @@ abbrev pub seen_of : List ParametricEvent → List Binding
 seen_of trace = map (λ a. a.binding) trace
 
 -- the trace slice of t: the letters, in order, of the events whose binding lies below t
-abbrev pub slice_of : List ParametricEvent → Binding → List ℕ
+abbrev pub slice_of : List ParametricEvent → Binding → Word
 slice_of trace t = map (λ a. a.letter) (filter (λ a. is_below a.binding t) trace)
