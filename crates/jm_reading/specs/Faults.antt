@@ -1,5 +1,5 @@
 -- Faults of a formula that was read, one step after the other.
-use Rattle.std.specs.Prelude.{◌≡◌, Option, Some, None, Result, Ok, Err}
+use Rattle.std.specs.Prelude.{◌≡◌, List, [], ◌∷◌, Option, Some, None, Result, Ok, Err}
 use Rattle.jm_model.specs.declared.fault.SpecError.{SpecError}
 use Rattle.jm_model.specs.declared.fault.SpecError.TheVariants.{Bad, NoMemory}
 use Rattle.jm_model.specs.declared.fault.SpecFault.{SpecFault}
@@ -14,6 +14,12 @@ infixl 10 ◌>>>◌
 abbrev pub ◌>>>◌ : {A B : Type 0} → Result A SpecFault → (A → Result B SpecFault) → Result B SpecFault
 (Ok x) >>> f = f x
 (Err fault) >>> f = Err fault
+
+-- what a value becomes as the items of a list are added to it one after the other, or the first fault
+module _ {A B : Type 0} (with_one : B → A → Result B SpecFault) where
+  abbrev pub with_each : B → List A → Result B SpecFault
+  with_each b [] = Ok b
+  with_each b (x ∷ xs) = with_one b x >>> λ more. with_each more xs
 
 -- the fault in the place of a value, if there is one
 abbrev pub fault_of : {X : Type 0} → Result X SpecFault → Option SpecFault
