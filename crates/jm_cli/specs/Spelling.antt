@@ -1,16 +1,17 @@
 -- What words spell each command, as a table.
-use Rattle.std.specs.Prelude.{ℕ, ◌≡◌, ◌≤◌, true, List, [], ◌∷◌, ◌++◌, length, codes, decimal}
+use Rattle.std.specs.Prelude.{◌≡◌, ◌≤◌, true, List, [], ◌∷◌, ◌++◌, length, codes, decimal}
 use Rattle.std.specs.List.{list_all}
+use Rattle.jm_model.specs.Words.{Text}
 use Rattle.jm_cli.specs.Words.{CommandWords, is_name}
 use Rattle.jm_cli.specs.Words.CommandWords.{Replay, Run, Check, Coenable, Gen}
 
 -- 1 to 16 words, each of which may name a file
-pub record AreNames (words : List (List ℕ)) : Type 0 where
+pub record AreNames (words : List Text) : Type 0 where
   pub some : 1 ≤ length words
   pub few : length words ≤ 16
   pub each : list_all is_name words ≡ true
 
-abbrev pub Spells : List (List ℕ) → CommandWords → Type 0
+abbrev pub Spells : List Text → CommandWords → Type 0
 Spells words (Replay spec script) =
     (words ≡ codes "replay" ∷ spec ∷ script ∷ []) × (is_name spec ≡ true) × (is_name script ≡ true)
 Spells words (Run specs scripts) =

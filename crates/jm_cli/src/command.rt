@@ -6,7 +6,7 @@ ghost use Rattle.jm_cli.specs.Views.{command_words, Reads};
 use crate::words::{are_names, copies, copy, is_name, rounds, separator};
 use std::alloc::{AllocError, AllocFailed, Global};
 
-/// A command.
+/// What the words of a command line ask for. Names of files are as they were given, and none begins with `-`.
 #[derive(Debug, Drop)]
 pub enum Command {
     /// Replays a script over a specification.

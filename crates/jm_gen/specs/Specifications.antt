@@ -1,8 +1,9 @@
 -- The two specifications of a workload.
-use Rattle.std.specs.Prelude.{ℕ, List, codes, ◌++◌}
+use Rattle.std.specs.Prelude.{codes, ◌++◌}
+use Rattle.jm_model.specs.Words.{Text}
 
 -- an iterator is used after its collection was changed
-abbrev pub unsafe_iter : List ℕ
+abbrev pub unsafe_iter : Text
 unsafe_iter =
     codes "UnsafeIter(Collection c, Iterator i) {\n"
     ++ codes "  event create after(Collection c) returning(Iterator i) :\n"
@@ -14,7 +15,7 @@ unsafe_iter =
     ++ codes "}\n"
 
 -- `next` is called on an iterator that wasn't asked whether it has one
-abbrev pub has_next : List ℕ
+abbrev pub has_next : Text
 has_next =
     codes "HasNext(Iterator i) {\n"
     ++ codes "  event hasnext after(Iterator i) : call(* Iterator.hasNext()) && target(i) {}\n"

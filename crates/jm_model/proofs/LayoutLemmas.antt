@@ -1,5 +1,5 @@
 -- What a mask and eight objects stand for, place by place.
-use Rattle.std.proofs.Common.{◌≡◌, ◌≢◌, ℕ, zero, suc, ◌+◌, ◌*◌, ◌/◌, ◌%◌, ◌^◌, ◌<◌, ◌≤◌, true, false, cond, List, [], ◌∷◌, length, get_or, set, drop, pow-suc, refl, sym, ◌∙◌, ap, inl, inr, arith}
+use Rattle.std.proofs.Common.{◌≡◌, ◌≢◌, ℕ, zero, suc, ◌+◌, ◌*◌, ◌/◌, ◌%◌, ◌^◌, ◌<◌, true, false, cond, List, [], ◌∷◌, length, get_or, set, drop, pow-suc, refl, sym, ◌∙◌, ap, inl, inr, arith}
 use Rattle.std.specs.Prelude.{Option, Some, None, ◌==◌, ◌&&◌, bit_and, min, max, unwrap_or}
 use Rattle.std.specs.Int.RustNames.{bit_or}
 use Rattle.std.specs.Int.{bit_at}
@@ -12,7 +12,7 @@ use Rattle.std.specs.Int.Bits.{and_step, or_step}
 use lib.Bits.{or_zero_r}
 use borrow.Author.Count.{below_more}
 use Rattle.std.proofs.lemmas.Bool.{eq-eqb, ne_eqb, eqb-true, and_parts, cases_Bool}
-use Rattle.std.proofs.lemmas.List.{drop_more, drop_all, map-set, get_or-set_same, get_or-set_other}
+use Rattle.std.proofs.lemmas.List.{drop_more, map-set, get_or-set_same, get_or-set_other}
 use Rattle.std.proofs.lemmas.Nat.{shr-shr}
 use Rattle.std.proofs.lemmas.Nat.Bits.{bit_at-suc, bit_at_and, bit_at_or, bit_at-lt}
 use Rattle.jm_model.specs.Layout.{options_of, stored_of, mask_bits, by_lowest_bit, IsStored, mask_bits-stored}
@@ -30,14 +30,8 @@ length-options_of m (o ∷ os) = ap suc (length-options_of (m / 2) os)
 abbrev pub options_from : ℕ → ℕ → List ℕ → List (Option ℕ)
 options_from m p os = options_of (m / 2 ^ p) (drop p os)
 
-pub options_from-start : (m : ℕ) (os : List ℕ) → options_from m 0 os ≡ options_of m os
-options_from-start m os = let whole : m / 2 ^ 0 ≡ m = omega arith in ap (λ n. options_of n os) whole
-
 pub options_from-step : (m p : ℕ) (os : List ℕ) → p < length os → options_from m p os ≡ option_at m p os ∷ options_from m (p + 1) os
 options_from-step m p os h = ap (options_of (m / 2 ^ p)) (drop_more os p 0 h) ∙ ap (λ n. option_at m p os ∷ options_of n (drop (p + 1) os)) (shr-shr m p 1)
-
-pub options_from-end : (m p : ℕ) (os : List ℕ) → length os ≤ p → options_from m p os ≡ []
-options_from-end m p os h = ap (options_of (m / 2 ^ p)) (drop_all p os h)
 
 pub object_at-options_of : (m p : ℕ) (os : List ℕ) → p < length os → object_at (options_of m os) p ≡ option_at m p os
 object_at-options_of m zero (o ∷ os) h = let whole : m / 2 ^ 0 ≡ m = omega arith in ap (λ n. cond (n % 2 == 1) (Some o) None) (sym whole)

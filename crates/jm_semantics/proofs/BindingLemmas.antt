@@ -20,9 +20,6 @@ keeps-from_Some (Some q) y h = rw (h q refl) (eq-eqb q q refl)
 pub keeps-refl : (x : Option ℕ) → keeps x x ≡ true
 keeps-refl x = keeps-from_Some x x (λ o e. e)
 
-pub keeps-trans : (x y z : Option ℕ) → keeps x y ≡ true → keeps y z ≡ true → keeps x z ≡ true
-keeps-trans x y z h k = keeps-from_Some x z (λ o e. keeps-Some y z o k (keeps-Some x y o h e))
-
 pub keeps-antisym : (x y : Option ℕ) → keeps x y ≡ true → keeps y x ≡ true → x ≡ y
 keeps-antisym None None h k = refl
 keeps-antisym None (Some q) h k = absurd (false≢true k)

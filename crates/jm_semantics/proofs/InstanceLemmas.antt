@@ -94,13 +94,6 @@ module _ (trace : List ParametricEvent) (t : Binding) (l : length t ≡ 8) where
 pub slice_of_any_binding-lem : SliceOfAnyBinding
 slice_of_any_binding-lem trace t l = (join_below-instance trace t l, slice-join_below trace t l)
 
--- the largest instance below t is the join of the seen bindings below t
-pub largest-join_below : (trace : List ParametricEvent) (s t : Binding) → IsInstance trace s → length t ≡ 8 → is_below s t ≡ true
-    → ((r : Binding) → IsInstance trace r → is_below r t ≡ true → is_below r s ≡ true) → s ≡ join_below trace t
-largest-join_below trace s t i l below largest =
-    below-antisym s (join_below trace t) (instance-below_join trace s t i l below)
-    (largest (join_below trace t) (join_below-instance trace t l) (join_below-below trace t l))
-
 -- ---- the instances after one event more
 -- an instance stays one
 pub instance-append : (trace more : List ParametricEvent) (t : Binding) → IsInstance trace t → IsInstance (trace ++ more) t
