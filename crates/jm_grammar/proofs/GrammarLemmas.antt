@@ -9,13 +9,13 @@ use Rattle.jm_text.specs.declared.token.TokenKind.TheVariants.{Word, Text, Mark}
 use Rattle.jm_text.specs.Spans.{text_of}
 use Rattle.jm_text.specs.Texts.{is_name, is_word, is_name_text, is_word_kind, is_mark_kind}
 use Rattle.jm_reading.specs.Reading.{is_left, mark_at, name_at}
-use Rattle.jm_reading.specs.Tokens.{IsName, IsMark, IsWord, SpellsEach}
+use Rattle.jm_reading.specs.Taking.{parted_at}
+use Rattle.jm_reading.specs.Tokens.{IsName, IsMark, IsWord, SpellsParted}
 use Rattle.jm_reading.proofs.TokenLemmas.{mark_is, name_is, mark_read, name_read, step_of, other_mark}
-use Rattle.jm_reading.proofs.GrammarLemmas.{IsSound, each_read, IsComplete, read_each}
+use Rattle.jm_reading.proofs.ManyLemmas.{IsSoundRule, many_sound, IsCompleteRule, many_complete, parted_sound, parted_complete}
 use Rattle.jm_grammar.specs.declared.formula.Part.{Part}
-use Rattle.jm_grammar.specs.Spelling.{SpellsParted, SpellsSymbol, SpellsAlternative, SpellsPart, Spells}
-use Rattle.jm_grammar.specs.Rules.{symbol_at, begins_symbol, symbols_at, alternative_at, one_alternative_at, more_alternative_at, begins_more_alternative, more_alternatives_at, alternatives_at, part_at, one_part_at, more_part_at, more_parts_at, formula_at}
-use Rattle.jm_grammar.proofs.PartedLemmas.{parted_sound, parted_complete}
+use Rattle.jm_grammar.specs.Spelling.{SpellsSymbol, SpellsAlternative, SpellsPart, Spells}
+use Rattle.jm_grammar.specs.Rules.{begins_symbol, alternative_at, begins_more_alternative, part_at, formula_at}
 
 -- ---- kinds of tokens
 
@@ -50,53 +50,29 @@ module _ (bytes : List ℕ) where
 
   -- ---- what a rule reads, its tokens spell
 
-  symbol_sound : IsSound (begins_symbol bytes) (symbol_at bytes) (SpellsSymbol bytes)
-  unfolding symbol_at
-  symbol_sound xs ys tokens behind h =
-      let a = step_of (name_at bytes tokens) _ _ h in
-      let name = name_read bytes tokens a.0.1 a.0.0 a.1 in
-      let e : ◌≡◌ {A = List Token × List Token} (xs ++ a.0.0 ∷ [], a.0.1) (ys, behind) = cc (a.2) in (
-        a.0.0 ∷ [],
-        a.0.0,
-        name.0 ∙ ap (λ (x : List Token × List Token). a.0.0 ∷ x.1) e,
-        sym (ap (λ (x : List Token × List Token). x.0) e),
-        (refl, symbol_of a.0.0 _ refl name.1),
-      )
+  symbol_sound : IsSoundRule begins_symbol name_at bytes (SpellsSymbol bytes)
+  symbol_sound tokens behind t h = let name = name_read bytes tokens behind t h in (t ∷ [], name.0, (refl, symbol_of t _ refl name.1))
 
-  alternative_sound : (tokens behind symbols : List Token) → alternative_at bytes tokens ≡ Some (symbols, behind) → (first : List Token) × (tokens ≡ first ++ behind) × SpellsAlternative bytes first symbols
-  unfolding alternative_at symbols_at
+  alternative_sound : IsSoundRule begins_more_alternative alternative_at bytes (SpellsAlternative bytes)
+  unfolding alternative_at
   alternative_sound tokens behind symbols h =
-      let a = step_of (symbol_at bytes [] tokens) _ _ h in
-      let first = symbol_sound [] a.0.0 tokens a.0.1 a.1 in
-      let rest = each_read (begins_symbol bytes) (symbol_at bytes) (SpellsSymbol bytes) symbol_sound (length a.0.1) a.0.0 symbols a.0.1 behind a.2 in
-      let is : first.1 ∷ rest.more ≡ symbols = sym (rest.added ∙ ap (λ (l : List Token). l ++ rest.more) first.3) in (
+      let a = step_of (name_at bytes tokens) _ _ h in
+      let first = symbol_sound tokens a.0.1 a.0.0 a.1 in
+      let rest = many_sound begins_symbol name_at bytes (SpellsSymbol bytes) symbol_sound (a.0.0 ∷ []) symbols a.0.1 behind a.2 in (
         first.0 ++ rest.inner,
-        first.2 ∙ ap (λ (l : List Token). first.0 ++ l) rest.cut ∙ sym (append_assoc first.0 rest.inner behind),
-        subst (λ (l : List Token). SpellsAlternative bytes (first.0 ++ rest.inner) l) is (first.0, rest.inner, refl, first.4, rest.spelled),
+        first.1 ∙ ap (λ (l : List Token). first.0 ++ l) rest.cut ∙ sym (append_assoc first.0 rest.inner behind),
+        subst (λ (l : List Token). SpellsAlternative bytes (first.0 ++ rest.inner) l) (sym rest.added) (first.0, rest.inner, refl, first.2, rest.spelled),
       )
 
-  one_alternative_sound : IsSound (begins_more_alternative bytes) (one_alternative_at bytes) (SpellsAlternative bytes)
-  unfolding one_alternative_at
-  one_alternative_sound xs ys tokens behind h =
-      let a = step_of (alternative_at bytes tokens) _ _ h in
-      let one = alternative_sound tokens a.0.1 a.0.0 a.1 in
-      let e : ◌≡◌ {A = List (List Token) × List Token} (xs ++ a.0.0 ∷ [], a.0.1) (ys, behind) = cc (a.2) in
-      (one.0, a.0.0, one.1 ∙ ap (λ (x : List (List Token) × List Token). one.0 ++ x.1) e, sym (ap (λ (x : List (List Token) × List Token). x.0) e), one.2)
-
-  alternatives_sound : (tokens behind : List Token) (ys : List (List Token)) → alternatives_at bytes tokens ≡ Some (ys, behind)
-      → (inner : List Token) × (tokens ≡ inner ++ behind) × SpellsParted bytes (codes "|") (SpellsAlternative bytes) inner ys × (begins_more_alternative bytes behind ≡ false)
-  unfolding alternatives_at more_alternatives_at more_alternative_at
-  alternatives_sound tokens behind ys h = parted_sound bytes (codes "|") (SpellsAlternative bytes) (begins_more_alternative bytes) (one_alternative_at bytes) one_alternative_sound tokens behind ys h
-
-  part_sound : (tokens behind : List Token) (p : Part) → part_at bytes tokens ≡ Some (p, behind) → (first : List Token) × (tokens ≡ first ++ behind) × SpellsPart bytes first p
+  part_sound : IsSoundRule is_left part_at bytes (SpellsPart bytes)
   unfolding part_at
   part_sound tokens behind p h =
       let a = step_of (name_at bytes tokens) _ _ h in
       let left = name_read bytes tokens a.0.1 a.0.0 a.1 in
       let b = step_of (mark_at bytes (codes "->") a.0.1) _ _ a.2 in
       let arrow = mark_read bytes (codes "->") a.0.1 b.0 b.1 in
-      let d = step_of (alternatives_at bytes b.0) _ _ b.2 in
-      let inner = alternatives_sound b.0 d.0.1 d.0.0 d.1 in
+      let d = step_of (parted_at (codes "|") alternative_at begins_more_alternative bytes b.0) _ _ b.2 in
+      let inner = parted_sound (codes "|") begins_more_alternative alternative_at bytes (SpellsAlternative bytes) alternative_sound b.0 d.0.1 d.0.0 d.1 in
       let e : ◌≡◌ {A = Part × List Token} (record { left = a.0.0; alternatives = d.0.0 }, d.0.1) (p, behind) = cc (d.2) in
       let whole = a.0.0 ∷ arrow.token ∷ inner.0 in (
         whole,
@@ -104,37 +80,25 @@ module _ (bytes : List ℕ) where
         subst (λ (x : Part). SpellsPart bytes whole x) (ap (λ (x : Part × List Token). x.0) e) (arrow.token, inner.0, refl, left.1, arrow.is, inner.2),
       )
 
-  one_part_sound : IsSound (is_left bytes) (one_part_at bytes) (SpellsPart bytes)
-  unfolding one_part_at
-  one_part_sound xs ys tokens behind h =
-      let a = step_of (part_at bytes tokens) _ _ h in
-      let one = part_sound tokens a.0.1 a.0.0 a.1 in
-      let e : ◌≡◌ {A = List Part × List Token} (xs ++ a.0.0 ∷ [], a.0.1) (ys, behind) = cc (a.2) in
-      (one.0, a.0.0, one.1 ∙ ap (λ (x : List Part × List Token). one.0 ++ x.1) e, sym (ap (λ (x : List Part × List Token). x.0) e), one.2)
-
   nothing_left : (tokens : List Token) → is_left bytes tokens ≡ false → tokens ≡ []
   nothing_left [] h = refl
   nothing_left (t ∷ ts) h = absurd (cc)
 
   -- what is read of a whole formula, its tokens spell
   pub formula_sound : (tokens behind : List Token) (parts : List Part) → formula_at bytes tokens ≡ Some (parts, behind) → Spells bytes tokens parts
-  unfolding formula_at more_parts_at more_part_at Spells
+  unfolding Spells
   formula_sound tokens behind parts h =
-      let all = parted_sound bytes (codes ",") (SpellsPart bytes) (is_left bytes) (one_part_at bytes) one_part_sound tokens behind parts h in
+      let all = parted_sound (codes ",") is_left part_at bytes (SpellsPart bytes) part_sound tokens behind parts h in
       let cut : tokens ≡ all.0 = all.1 ∙ ap (λ (l : List Token). all.0 ++ l) (nothing_left behind all.3) ∙ append-nil all.0 in
       subst (λ (l : List Token). SpellsParted bytes (codes ",") (SpellsPart bytes) l parts) (sym cut) all.2
 
   -- ---- and what the grammar spells, the rules read
 
-  symbol_is : (xs : List Token) (t : Token) (behind : List Token) → IsName bytes t → symbol_at bytes xs (t ∷ behind) ≡ Some (xs ++ t ∷ [], behind)
-  unfolding symbol_at
-  symbol_is xs t behind h = rw (name_is bytes t behind h) refl
-
-  symbol_complete : IsComplete (begins_symbol bytes) (symbol_at bytes) (SpellsSymbol bytes) (λ _. Unit {0})
+  symbol_complete : IsCompleteRule begins_symbol name_at bytes (SpellsSymbol bytes) (λ _. Unit {0})
   symbol_complete = record {
-    reads = λ xs first behind t h follows. subst (λ (l : List Token). symbol_at bytes xs (l ++ behind) ≡ Some (xs ++ t ∷ [], behind)) (sym h.0) (symbol_is xs t behind (symbol_name t h.1));
-    goes = λ first behind t h. subst (λ (l : List Token). begins_symbol bytes (l ++ behind) ≡ true) (sym h.0) (symbol_name t h.1);
-    follows = λ first behind t h follows. tt;
+    reads = λ first behind t h follows. subst (λ (l : List Token). name_at bytes (l ++ behind) ≡ Some (t, behind)) (sym h.0) (name_is bytes t behind (symbol_name t h.1));
+    begins = λ first behind t h. subst (λ (l : List Token). begins_symbol bytes (l ++ behind) ≡ true) (sym h.0) (symbol_name t h.1);
+    follows = λ first behind t h. tt;
     some = λ first t h. omega (arith, ap (λ (l : List Token). length l) h.0);
   }
 
@@ -142,33 +106,14 @@ module _ (bytes : List ℕ) where
   abbrev NoSymbol : List Token → Type 0
   NoSymbol tokens = begins_symbol bytes tokens ≡ false
 
-  alternative_is : (tokens rest behind symbols xs : List Token) → symbol_at bytes [] tokens ≡ Some (xs, rest) → symbols_at bytes xs rest ≡ Some (symbols, behind) → alternative_at bytes tokens ≡ Some (symbols, behind)
-  unfolding alternative_at
-  alternative_is tokens rest behind symbols xs h k = rw h k
-
-  symbols_complete : (xs inner behind symbols : List Token) → SpellsEach (SpellsSymbol bytes) inner symbols → NoSymbol behind → symbols_at bytes xs (inner ++ behind) ≡ Some (xs ++ symbols, behind)
-  unfolding symbols_at
-  symbols_complete xs inner behind symbols h end = read_each (begins_symbol bytes) (symbol_at bytes) (SpellsSymbol bytes) (λ _. Unit {0}) symbol_complete (length (inner ++ behind)) xs inner behind symbols h tt end (omega arith)
-
   alternative_complete : (first behind symbols : List Token) → SpellsAlternative bytes first symbols → NoSymbol behind → alternative_at bytes (first ++ behind) ≡ Some (symbols, behind)
+  unfolding alternative_at
   alternative_complete first behind [] h follows = absurd h
   alternative_complete first behind (t ∷ ts) h follows =
       let whole : first ++ behind ≡ t ∷ (h.1 ++ behind) = ap (λ (l : List Token). l ++ behind) (h.2 ∙ ap (λ (l : List Token). l ++ h.1) h.3.0) in
-      subst (λ (l : List Token). alternative_at bytes l ≡ Some (t ∷ ts, behind)) (sym whole)
-      (alternative_is (t ∷ (h.1 ++ behind)) (h.1 ++ behind) behind (t ∷ ts) (t ∷ []) (symbol_is [] t (h.1 ++ behind) (symbol_name t h.3.1)) (symbols_complete (t ∷ []) h.1 behind ts h.4 follows))
+      rw (whole, name_is bytes t (h.1 ++ behind) (symbol_name t h.3.1)) (many_complete begins_symbol name_at bytes (SpellsSymbol bytes) (λ _. Unit {0}) symbol_complete (t ∷ []) h.1 behind ts h.4 tt follows)
 
-  one_alternative_is : (xs : List (List Token)) (tokens behind symbols : List Token) → alternative_at bytes tokens ≡ Some (symbols, behind) → one_alternative_at bytes xs tokens ≡ Some (xs ++ symbols ∷ [], behind)
-  unfolding one_alternative_at
-  one_alternative_is xs tokens behind symbols h = rw h refl
-
-  alternatives_complete : (inner behind : List Token) (ys : List (List Token)) → SpellsParted bytes (codes "|") (SpellsAlternative bytes) inner ys → NoSymbol behind → begins_more_alternative bytes behind ≡ false → alternatives_at bytes (inner ++ behind) ≡ Some (ys, behind)
-  unfolding alternatives_at more_alternatives_at more_alternative_at
-  alternatives_complete inner behind ys h follows end =
-      parted_complete bytes (codes "|") (SpellsAlternative bytes) (begins_more_alternative bytes) (one_alternative_at bytes) NoSymbol
-      (λ xs first rest symbols k f. one_alternative_is xs (first ++ rest) rest symbols (alternative_complete first rest symbols k f))
-      (λ between ts k. mark_no_name bytes (codes "|") between k) (λ between ts k. k) inner behind ys h follows end
-
-  part_is : (left arrow : Token) (tokens behind : List Token) (ys : List (List Token)) → IsName bytes left → IsMark bytes (codes "->") arrow → alternatives_at bytes tokens ≡ Some (ys, behind) → part_at bytes (left ∷ arrow ∷ tokens) ≡ Some (record { left = left; alternatives = ys }, behind)
+  part_is : (left arrow : Token) (tokens behind : List Token) (ys : List (List Token)) → IsName bytes left → IsMark bytes (codes "->") arrow → parted_at (codes "|") alternative_at begins_more_alternative bytes tokens ≡ Some (ys, behind) → part_at bytes (left ∷ arrow ∷ tokens) ≡ Some (record { left = left; alternatives = ys }, behind)
   unfolding part_at
   part_is left arrow tokens behind ys n a h = rw (name_is bytes left (arrow ∷ tokens) n, mark_is bytes (codes "->") arrow tokens a, h) refl
 
@@ -179,19 +124,16 @@ module _ (bytes : List ℕ) where
   part_complete : (first behind : List Token) (p : Part) → SpellsPart bytes first p → NoMore behind → part_at bytes (first ++ behind) ≡ Some (p, behind)
   part_complete first behind p h follows =
       subst (λ (l : List Token). part_at bytes (l ++ behind) ≡ Some (p, behind)) (sym h.2)
-      (part_is p.left h.0 (h.1 ++ behind) behind p.alternatives h.3 h.4 (alternatives_complete h.1 behind p.alternatives h.5 follows.0 follows.1))
-
-  one_part_is : (xs : List Part) (tokens behind : List Token) (p : Part) → part_at bytes tokens ≡ Some (p, behind) → one_part_at bytes xs tokens ≡ Some (xs ++ p ∷ [], behind)
-  unfolding one_part_at
-  one_part_is xs tokens behind p h = rw h refl
+      (part_is p.left h.0 (h.1 ++ behind) behind p.alternatives h.3 h.4
+      (parted_complete (codes "|") begins_more_alternative alternative_at bytes (SpellsAlternative bytes) NoSymbol alternative_complete
+      (λ between ts k. mark_no_name bytes (codes "|") between k) (λ between ts k. k) h.1 behind p.alternatives h.5 follows.0 follows.1))
 
   -- the formula that the tokens spell is read
   pub formula_complete : (tokens : List Token) (parts : List Part) → Spells bytes tokens parts → formula_at bytes tokens ≡ Some (parts, [])
-  unfolding formula_at more_parts_at more_part_at Spells
+  unfolding Spells
   formula_complete tokens parts h =
       subst (λ (l : List Token). formula_at bytes l ≡ Some (parts, [])) (append-nil tokens)
-      (parted_complete bytes (codes ",") (SpellsPart bytes) (is_left bytes) (one_part_at bytes) NoMore
-      (λ xs first rest p k f. one_part_is xs (first ++ rest) rest p (part_complete first rest p k f))
+      (parted_complete (codes ",") is_left part_at bytes (SpellsPart bytes) NoMore part_complete
       (λ between ts k. (mark_no_name bytes (codes ",") between k, other_mark bytes (codes ",") (codes "|") between k refl)) (λ between ts k. refl) tokens [] parts h (refl, refl) refl)
 
   -- where nothing is read, nothing is spelled

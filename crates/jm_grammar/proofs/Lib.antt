@@ -1,6 +1,5 @@
 pub mod RoundLemmas
 pub mod ReduceLemmas
-pub mod PartedLemmas
 pub mod GrammarLemmas
 pub mod MadeLemmas
 pub mod ReadLemmas

@@ -4,41 +4,31 @@
 --   Production  = NAME "->" Alternative { "|" Alternative }
 --   Alternative = Symbol { Symbol }
 --   Symbol      = NAME | "epsilon", where the NAME isn't `epsilon`
-use Rattle.std.specs.Prelude.{ℕ, ◌≡◌, ◌⊎◌, List, [], ◌∷◌, ◌++◌, codes}
+use Rattle.std.specs.Prelude.{◌≡◌, ◌⊎◌, List, [], ◌∷◌, ◌++◌, codes}
+use Rattle.jm_model.specs.Words.{Text}
 use Rattle.jm_text.specs.declared.token.Token.{Token}
-use Rattle.jm_reading.specs.Tokens.{IsName, IsMark, IsWord, SpellsEach}
+use Rattle.jm_reading.specs.Tokens.{IsName, IsMark, IsWord, SpellsEach, SpellsParted}
 use Rattle.jm_grammar.specs.declared.formula.Part.{Part}
 
--- items with a mark between each two, at least one item: One { mark One }
-module _ {X : Type 0} (bytes mark : List ℕ) (SpellsOne : List Token → X → Type 0) where
-  -- mark One
-  abbrev pub SpellsMore : List Token → X → Type 0
-  SpellsMore tokens x = (between : Token) × (inner : List Token) × (tokens ≡ between ∷ inner)
-      × IsMark bytes mark between × SpellsOne inner x
+module _ (bytes : Text) where
+  -- NAME | "epsilon"
+  abbrev pub SpellsSymbol : List Token → Token → Type 0
+  SpellsSymbol tokens symbol =
+      (tokens ≡ symbol ∷ []) × ((IsName bytes symbol × (IsWord bytes (codes "epsilon") symbol → ⊥))
+      ⊎ IsWord bytes (codes "epsilon") symbol)
 
-  abbrev pub SpellsParted : List Token → List X → Type 0
-  SpellsParted tokens [] = ⊥
-  SpellsParted tokens (x ∷ xs) = (first : List Token) × (rest : List Token) × (tokens ≡ first ++ rest)
-      × SpellsOne first x × SpellsEach SpellsMore rest xs
+  -- Symbol { Symbol }
+  abbrev pub SpellsAlternative : List Token → List Token → Type 0
+  SpellsAlternative tokens [] = ⊥
+  SpellsAlternative tokens (symbol ∷ symbols) = SpellsEach SpellsSymbol tokens (symbol ∷ symbols)
 
--- NAME | "epsilon"
-abbrev pub SpellsSymbol : List ℕ → List Token → Token → Type 0
-SpellsSymbol bytes tokens symbol =
-    (tokens ≡ symbol ∷ []) × ((IsName bytes symbol × (IsWord bytes (codes "epsilon") symbol → ⊥))
-    ⊎ IsWord bytes (codes "epsilon") symbol)
+  -- NAME "->" Alternative { "|" Alternative }
+  abbrev pub SpellsPart : List Token → Part → Type 0
+  SpellsPart tokens part =
+      (arrow : Token) × (inner : List Token) × (tokens ≡ part.left ∷ arrow ∷ inner)
+      × IsName bytes part.left × IsMark bytes (codes "->") arrow
+      × SpellsParted bytes (codes "|") SpellsAlternative inner part.alternatives
 
--- Symbol { Symbol }
-abbrev pub SpellsAlternative : List ℕ → List Token → List Token → Type 0
-SpellsAlternative bytes tokens [] = ⊥
-SpellsAlternative bytes tokens (symbol ∷ symbols) = SpellsEach (SpellsSymbol bytes) tokens (symbol ∷ symbols)
-
--- NAME "->" Alternative { "|" Alternative }
-abbrev pub SpellsPart : List ℕ → List Token → Part → Type 0
-SpellsPart bytes tokens part =
-    (arrow : Token) × (inner : List Token) × (tokens ≡ part.left ∷ arrow ∷ inner)
-    × IsName bytes part.left × IsMark bytes (codes "->") arrow
-    × SpellsParted bytes (codes "|") (SpellsAlternative bytes) inner part.alternatives
-
--- the tokens spell the formula
-unfoldable pub Spells : List ℕ → List Token → List Part → Type 0
-Spells bytes tokens parts = SpellsParted bytes (codes ",") (SpellsPart bytes) tokens parts
+  -- the tokens spell the formula
+  unfoldable pub Spells : List Token → List Part → Type 0
+  Spells tokens parts = SpellsParted bytes (codes ",") SpellsPart tokens parts

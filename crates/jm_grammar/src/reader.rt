@@ -1,181 +1,101 @@
-//! The rules of the grammar: each reads from the front of the tokens that are left what it spells.
-ghost use Rattle.std.specs.Prelude.{◌≡◌, ◌<◌, ◌≤◌, [], length, OnOk};
-ghost use Rattle.jm_reading.specs.Answers.{Gives, Reads, Fills};
-ghost use Rattle.jm_grammar.specs.Rules.{begins_symbol, symbol_at, symbols_at, alternative_at, one_alternative_at, begins_more_alternative, more_alternative_at, more_alternatives_at, alternatives_at, part_at, one_part_at, more_part_at, more_parts_at, formula_at};
+//! The rules of the grammar: each takes from the front of the tokens that are left what it spells.
+ghost use Rattle.jm_reading.specs.Reading.{is_left, name_at};
+ghost use Rattle.jm_reading.specs.Taking.{Takes};
+ghost use Rattle.jm_grammar.specs.Rules.{begins_symbol, alternative_at, begins_more_alternative, more_alternative_at, part_at, more_part_at, formula_at};
 
 use crate::formula::Part;
 use jm_model::SpecError;
-use jm_reading::{Cursor, Items};
+use jm_reading::{Cursor, Items, Repeated, many};
 use jm_text::Token;
 
-/// NAME | "epsilon". It is added to the symbols that are there.
-#[tactic(auto, unfolding(crate::specs::Rules::symbol_at))]
-fn symbol(cursor: &mut Cursor<'_>, symbols: &mut Items<Token>) -> Result<(), SpecError>
-    ensures reads { Fills result symbols.new cursor.new.rest.now
-        (symbol_at cursor.old.bytes.now symbols.old cursor.old.rest.now) }
-    ensures bytes { cursor.new.bytes.now ≡ cursor.old.bytes.now }
-    ensures left { OnOk result (length cursor.new.rest.now < length cursor.old.rest.now) }
-{
-    let symbol = cursor.name()?;
-    symbols.push(symbol)
-}
+/// NAME | "epsilon"
+struct Symbol;
 
-fn begins_symbol(cursor: &Cursor<'_>) -> bool
-    ensures { result ≡ begins_symbol cursor.now.bytes.now cursor.now.rest.now }
-{
-    cursor.is_name_at(0)
-}
+impl Repeated for Symbol {
+    type Item = Token;
 
-/// { Symbol }. They are added to those that are there.
-#[tactic(auto, unfolding(crate::specs::Rules::symbols_at))]
-fn symbols(cursor: &mut Cursor<'_>, symbols: &mut Items<Token>) -> Result<(), SpecError>
-    ensures reads { Fills result symbols.new cursor.new.rest.now
-        (symbols_at cursor.old.bytes.now symbols.old cursor.old.rest.now) }
-    ensures bytes { cursor.new.bytes.now ≡ cursor.old.bytes.now }
-    ensures left { OnOk result (length cursor.new.rest.now ≤ length cursor.old.rest.now) }
-{
-    while begins_symbol(cursor) {
-        symbol(cursor, symbols)?;
+    ghost goes_on = { begins_symbol };
+
+    ghost item = { name_at };
+
+    fn is_next(cursor: &Cursor<'_>) -> bool {
+        cursor.is_name_at(0)
     }
-    Ok(())
+
+    fn take(cursor: &mut Cursor<'_>) -> Result<Token, SpecError> {
+        cursor.name()
+    }
 }
 
 /// Symbol { Symbol }
 #[tactic(auto, unfolding(crate::specs::Rules::alternative_at))]
 fn alternative(cursor: &mut Cursor<'_>) -> Result<Items<Token>, SpecError>
-    ensures reads { Reads result cursor.new.rest.now (alternative_at cursor.old.bytes.now cursor.old.rest.now) }
-    ensures bytes { cursor.new.bytes.now ≡ cursor.old.bytes.now }
-    ensures left { OnOk result (length cursor.new.rest.now < length cursor.old.rest.now) }
+    ensures { Takes cursor.old result cursor.new alternative_at }
 {
-    let mut all = Items::new(cursor.alloc);
-    symbol(cursor, &mut all)?;
-    symbols(cursor, &mut all)?;
-    Ok(all)
-}
-
-/// An alternative. It is added to those that are there.
-#[tactic(auto, unfolding(crate::specs::Rules::one_alternative_at))]
-fn one_alternative(
-    cursor: &mut Cursor<'_>,
-    alternatives: &mut Items<Items<Token>>,
-) -> Result<(), SpecError>
-    ensures reads { Fills result alternatives.new cursor.new.rest.now
-        (one_alternative_at cursor.old.bytes.now alternatives.old cursor.old.rest.now) }
-    ensures bytes { cursor.new.bytes.now ≡ cursor.old.bytes.now }
-    ensures left { OnOk result (length cursor.new.rest.now < length cursor.old.rest.now) }
-{
-    let alternative = alternative(cursor)?;
-    alternatives.push(alternative)
+    let mut first = Items::new(cursor.alloc);
+    first.push(cursor.name()?)?;
+    many::<Symbol>(first, cursor)
 }
 
 /// "|" Alternative
-#[tactic(auto, unfolding(crate::specs::Rules::more_alternative_at))]
-fn more_alternative(
-    cursor: &mut Cursor<'_>,
-    alternatives: &mut Items<Items<Token>>,
-) -> Result<(), SpecError>
-    ensures reads { Fills result alternatives.new cursor.new.rest.now
-        (more_alternative_at cursor.old.bytes.now alternatives.old cursor.old.rest.now) }
-    ensures bytes { cursor.new.bytes.now ≡ cursor.old.bytes.now }
-    ensures left { OnOk result (length cursor.new.rest.now < length cursor.old.rest.now) }
-{
-    cursor.mark(b"|")?;
-    one_alternative(cursor, alternatives)
-}
+struct MoreAlternative;
 
-fn begins_more_alternative(cursor: &Cursor<'_>) -> bool
-    ensures { result ≡ begins_more_alternative cursor.now.bytes.now cursor.now.rest.now }
-{
-    cursor.is_mark_at(0, b"|")
-}
+impl Repeated for MoreAlternative {
+    type Item = Items<Token>;
 
-/// { "|" Alternative }. They are added to those that are there.
-#[tactic(auto, unfolding(crate::specs::Rules::more_alternatives_at))]
-fn more_alternatives(
-    cursor: &mut Cursor<'_>,
-    alternatives: &mut Items<Items<Token>>,
-) -> Result<(), SpecError>
-    ensures reads { Fills result alternatives.new cursor.new.rest.now
-        (more_alternatives_at cursor.old.bytes.now alternatives.old cursor.old.rest.now) }
-    ensures bytes { cursor.new.bytes.now ≡ cursor.old.bytes.now }
-    ensures left { OnOk result (length cursor.new.rest.now ≤ length cursor.old.rest.now) }
-{
-    while begins_more_alternative(cursor) {
-        more_alternative(cursor, alternatives)?;
+    ghost goes_on = { begins_more_alternative };
+
+    ghost item = { more_alternative_at };
+
+    fn is_next(cursor: &Cursor<'_>) -> bool {
+        cursor.is_mark_at(0, b"|")
     }
-    Ok(())
-}
 
-/// Alternative { "|" Alternative }
-#[tactic(auto, unfolding(crate::specs::Rules::alternatives_at))]
-fn alternatives(cursor: &mut Cursor<'_>) -> Result<Items<Items<Token>>, SpecError>
-    ensures reads { Reads result cursor.new.rest.now (alternatives_at cursor.old.bytes.now cursor.old.rest.now) }
-    ensures bytes { cursor.new.bytes.now ≡ cursor.old.bytes.now }
-    ensures left { OnOk result (length cursor.new.rest.now < length cursor.old.rest.now) }
-{
-    let mut all = Items::new(cursor.alloc);
-    one_alternative(cursor, &mut all)?;
-    more_alternatives(cursor, &mut all)?;
-    Ok(all)
+    fn take(cursor: &mut Cursor<'_>) -> Result<Items<Token>, SpecError> {
+        cursor.mark(b"|")?;
+        alternative(cursor)
+    }
 }
 
 /// NAME "->" Alternative { "|" Alternative }
-#[tactic(auto, unfolding(crate::specs::Rules::part_at))]
+#[tactic(auto, unfolding(crate::specs::Rules::part_at, jm_reading::specs::Taking::parted_at))]
 fn part(cursor: &mut Cursor<'_>) -> Result<Part, SpecError>
-    ensures reads { Reads result cursor.new.rest.now (part_at cursor.old.bytes.now cursor.old.rest.now) }
-    ensures bytes { cursor.new.bytes.now ≡ cursor.old.bytes.now }
-    ensures left { OnOk result (length cursor.new.rest.now < length cursor.old.rest.now) }
+    ensures { Takes cursor.old result cursor.new part_at }
 {
+    let mut first = Items::new(cursor.alloc);
     let left = cursor.name()?;
     cursor.mark(b"->")?;
-    let alternatives = alternatives(cursor)?;
+    first.push(alternative(cursor)?)?;
+    let alternatives = many::<MoreAlternative>(first, cursor)?;
     Ok(Part { left, alternatives })
 }
 
-/// A production. It is added to those that are there.
-#[tactic(auto, unfolding(crate::specs::Rules::one_part_at))]
-fn one_part(cursor: &mut Cursor<'_>, parts: &mut Items<Part>) -> Result<(), SpecError>
-    ensures reads { Fills result parts.new cursor.new.rest.now
-        (one_part_at cursor.old.bytes.now parts.old cursor.old.rest.now) }
-    ensures bytes { cursor.new.bytes.now ≡ cursor.old.bytes.now }
-    ensures left { OnOk result (length cursor.new.rest.now < length cursor.old.rest.now) }
-{
-    let part = part(cursor)?;
-    parts.push(part)
-}
+/// "," Production, up to the end
+struct MorePart;
 
-/// "," Production
-#[tactic(auto, unfolding(crate::specs::Rules::more_part_at))]
-fn more_part(cursor: &mut Cursor<'_>, parts: &mut Items<Part>) -> Result<(), SpecError>
-    ensures reads { Fills result parts.new cursor.new.rest.now
-        (more_part_at cursor.old.bytes.now parts.old cursor.old.rest.now) }
-    ensures bytes { cursor.new.bytes.now ≡ cursor.old.bytes.now }
-    ensures left { OnOk result (length cursor.new.rest.now < length cursor.old.rest.now) }
-{
-    cursor.mark(b",")?;
-    one_part(cursor, parts)
-}
+impl Repeated for MorePart {
+    type Item = Part;
 
-/// { "," Production } up to the end. They are added to those that are there.
-#[tactic(auto, unfolding(crate::specs::Rules::more_parts_at))]
-fn more_parts(cursor: &mut Cursor<'_>, parts: &mut Items<Part>) -> Result<(), SpecError>
-    ensures reads { Fills result parts.new cursor.new.rest.now
-        (more_parts_at cursor.old.bytes.now parts.old cursor.old.rest.now) }
-    ensures bytes { cursor.new.bytes.now ≡ cursor.old.bytes.now }
-{
-    while cursor.is_left() {
-        more_part(cursor, parts)?;
+    ghost goes_on = { is_left };
+
+    ghost item = { more_part_at };
+
+    fn is_next(cursor: &Cursor<'_>) -> bool {
+        cursor.is_left()
     }
-    Ok(())
+
+    fn take(cursor: &mut Cursor<'_>) -> Result<Part, SpecError> {
+        cursor.mark(b",")?;
+        part(cursor)
+    }
 }
 
 /// A whole formula.
-#[tactic(auto, unfolding(crate::specs::Rules::formula_at))]
+#[tactic(auto, unfolding(jm_reading::specs::Taking::parted_at))]
 pub fn formula(cursor: &mut Cursor<'_>) -> Result<Items<Part>, SpecError>
-    ensures { Reads result cursor.new.rest.now (formula_at cursor.old.bytes.now cursor.old.rest.now) }
+    ensures { Takes cursor.old result cursor.new formula_at }
 {
-    let mut all = Items::new(cursor.alloc);
-    one_part(cursor, &mut all)?;
-    more_parts(cursor, &mut all)?;
-    Ok(all)
+    let mut first = Items::new(cursor.alloc);
+    first.push(part(cursor)?)?;
+    many::<MorePart>(first, cursor)
 }

@@ -1,7 +1,6 @@
 pub mod TokenLemmas
 pub mod LoopLemmas
 pub mod ManyLemmas
-pub mod GrammarLemmas
 pub mod EventLemmas
 pub mod ReadLemmas
 pub mod FormulaLemmas

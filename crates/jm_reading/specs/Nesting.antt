@@ -1,15 +1,17 @@
 -- How many parentheses of a formula are open at once.
 use Rattle.std.specs.Prelude.{ℕ, ◌+◌, ◌-◌, Bool, true, false, List, [], ◌∷◌, codes, nat_lt, if◌then◌else◌}
+use Rattle.jm_model.specs.Words.{Text}
 use Rattle.jm_text.specs.declared.token.Token.{Token}
 use Rattle.jm_text.specs.Texts.{is_mark}
 
--- how many parentheses are open behind a token; one that closes nothing counts for nothing
-abbrev pub depth_after : List ℕ → ℕ → Token → ℕ
-depth_after bytes depth t =
-    if is_mark bytes t (codes "(") then depth + 1 else if is_mark bytes t (codes ")") then depth - 1 else depth
+module _ (bytes : Text) where
+  -- how many parentheses are open behind a token; one that closes nothing counts for nothing
+  abbrev pub depth_after : ℕ → Token → ℕ
+  depth_after depth t =
+      if is_mark bytes t (codes "(") then depth + 1 else if is_mark bytes t (codes ")") then depth - 1 else depth
 
--- a 65th parenthesis is open at once, where so many are open before the tokens
-abbrev pub is_too_deep : List ℕ → ℕ → List Token → Bool
-is_too_deep bytes depth [] = false
-is_too_deep bytes depth (t ∷ ts) =
-    if nat_lt 64 (depth_after bytes depth t) then true else is_too_deep bytes (depth_after bytes depth t) ts
+  -- a 65th parenthesis is open at once, where so many are open before the tokens
+  abbrev pub is_too_deep : ℕ → List Token → Bool
+  is_too_deep depth [] = false
+  is_too_deep depth (t ∷ ts) =
+      if nat_lt 64 (depth_after depth t) then true else is_too_deep (depth_after depth t) ts

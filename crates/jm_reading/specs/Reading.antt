@@ -1,6 +1,7 @@
 -- Reading from the front of a list of tokens: a rule gives what it reads and the tokens behind it, or nothing.
 use Rattle.std.specs.Prelude.{ℕ, zero, suc, ◌-◌, Bool, true, false, List, [], ◌∷◌, length, Option, Some, None, option_and_then, slice_get, if◌then◌else◌}
 use Rattle.std.specs.Option.{option_map_or}
+use Rattle.jm_model.specs.Words.{Text}
 use Rattle.jm_text.specs.declared.token.Token.{Token}
 use Rattle.jm_text.specs.Texts.{is_name, is_word, is_mark}
 
@@ -8,20 +9,36 @@ infixl 10 ◌>>=◌
 abbrev pub ◌>>=◌ : {A B : Type 0} → Option A → (A → Option B) → Option B
 o >>= f = option_and_then f o
 
--- the token so far on is this mark, this word, or a name
-abbrev pub is_mark_at : List ℕ → List Token → ℕ → List ℕ → Bool
-is_mark_at bytes tokens k mark = option_map_or (λ t. is_mark bytes t mark) (slice_get tokens k) false
+module _ (bytes : Text) where
+  -- the token so far on is this mark, this word, or a name
+  abbrev pub is_mark_at : List Token → ℕ → Text → Bool
+  is_mark_at tokens k mark = option_map_or (λ t. is_mark bytes t mark) (slice_get tokens k) false
 
-abbrev pub is_word_at : List ℕ → List Token → ℕ → List ℕ → Bool
-is_word_at bytes tokens k word = option_map_or (λ t. is_word bytes t word) (slice_get tokens k) false
+  abbrev pub is_word_at : List Token → ℕ → Text → Bool
+  is_word_at tokens k word = option_map_or (λ t. is_word bytes t word) (slice_get tokens k) false
 
-abbrev pub is_name_at : List ℕ → List Token → ℕ → Bool
-is_name_at bytes tokens k = option_map_or (λ t. is_name bytes t) (slice_get tokens k) false
+  abbrev pub is_name_at : List Token → ℕ → Bool
+  is_name_at tokens k = option_map_or (λ t. is_name bytes t) (slice_get tokens k) false
 
--- a token is left
-abbrev pub is_left : List ℕ → List Token → Bool
-is_left bytes [] = false
-is_left bytes (t ∷ ts) = true
+  -- a token is left
+  abbrev pub is_left : List Token → Bool
+  is_left [] = false
+  is_left (t ∷ ts) = true
+
+  -- a mark
+  unfoldable pub mark_at : Text → List Token → Option (List Token)
+  mark_at mark [] = None
+  mark_at mark (t ∷ ts) = if is_mark bytes t mark then Some ts else None
+
+  -- a name
+  unfoldable pub name_at : List Token → Option (Token × List Token)
+  name_at [] = None
+  name_at (t ∷ ts) = if is_name bytes t then Some (t, ts) else None
+
+  -- a word
+  unfoldable pub word_at : Text → List Token → Option (Token × List Token)
+  word_at word [] = None
+  word_at word (t ∷ ts) = if is_word bytes t word then Some (t, ts) else None
 
 -- the line of the next token, or the last line at the end
 abbrev pub line_of : ℕ → List Token → ℕ
@@ -31,21 +48,6 @@ line_of last_line (t ∷ ts) = t.line
 -- the line of the last token, or this one where there is none
 abbrev pub last_line_of : ℕ → List Token → ℕ
 last_line_of line tokens = option_map_or (λ t. t.line) (slice_get tokens (length tokens - 1)) line
-
--- a mark
-unfoldable pub mark_at : List ℕ → List ℕ → List Token → Option (List Token)
-mark_at bytes mark [] = None
-mark_at bytes mark (t ∷ ts) = if is_mark bytes t mark then Some ts else None
-
--- a name
-unfoldable pub name_at : List ℕ → List Token → Option (Token × List Token)
-name_at bytes [] = None
-name_at bytes (t ∷ ts) = if is_name bytes t then Some (t, ts) else None
-
--- a word
-unfoldable pub word_at : List ℕ → List ℕ → List Token → Option (Token × List Token)
-word_at bytes word [] = None
-word_at bytes word (t ∷ ts) = if is_word bytes t word then Some (t, ts) else None
 
 -- The items of a rule one after the other, as long as the tokens go on so: each adds to what was read before, at first
 -- these. There are at most so many.

@@ -11,9 +11,10 @@ use jm_text::Token;
 
 /// The words that a grammar keeps for itself.
 pub trait GrammarWords {
-    ghost use Rattle.std.specs.Prelude.{ℕ, List, Bool};
+    ghost use Rattle.std.specs.Prelude.{Bool};
+    ghost use Rattle.jm_model.specs.Words.{Text};
 
-    ghost reserved: { List ℕ → Bool };
+    ghost reserved: { Text → Bool };
 
     /// Whether a name is one of these words.
     fn is_reserved(name: &str) -> bool

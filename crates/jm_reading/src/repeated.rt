@@ -1,5 +1,6 @@
 //! Items one after the other.
-ghost use Rattle.std.specs.Prelude.{◌≡◌, ℕ, List, Bool};
+ghost use Rattle.std.specs.Prelude.{◌≡◌, List, Bool};
+ghost use Rattle.jm_model.specs.Words.{Text};
 ghost use Rattle.jm_text.specs.declared.token.Token.{Token};
 ghost use Rattle.jm_reading.specs.Taking.{Rule, Takes, many_at};
 
@@ -13,7 +14,7 @@ pub trait Repeated {
     type Item: Drop;
 
     /// Whether the tokens go on with an item.
-    ghost goes_on: { List ℕ → List Token → Bool };
+    ghost goes_on: { Text → List Token → Bool };
 
     /// What an item is, at the front of tokens.
     ghost item: { Rule Self.Item };

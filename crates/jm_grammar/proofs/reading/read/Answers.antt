@@ -9,11 +9,11 @@ returns-in_err-parts-clause-err c =
 
 pub returns-clause-ok : goal.returns-clause-ok
 returns-clause-ok c =
-    let spelled = rw (c.new-cursor.ensures.bytes, c.new-cursor.ensures.rest) at c.in_ok-parts.ensures in
+    let spelled = rw (c.new-cursor.ensures.bytes, c.new-cursor.ensures.rest) at c.in_ok-parts.ensures.1 in
     read_ok c.args.bytes.now c.args.tokens.now _ c.args.table.now c.in_ok-parts.parts spelled c.grammar_of.result
     (rw c.as_slice.ensures at c.grammar_of.ensures.ok) (rw c.as_slice.ensures at c.grammar_of.ensures.checked)
 
 pub returns-clause-err : goal.returns-clause-err
 returns-clause-err c =
-    let spelled = rw (c.new-cursor.ensures.bytes, c.new-cursor.ensures.rest) at c.in_ok-parts.ensures in
+    let spelled = rw (c.new-cursor.ensures.bytes, c.new-cursor.ensures.rest) at c.in_ok-parts.ensures.1 in
     read_err c.args.bytes.now c.args.tokens.now _ c.args.table.now c.in_ok-parts.parts spelled c.grammar_of.result (rw c.as_slice.ensures at c.grammar_of.ensures.checked)
