@@ -1,5 +1,5 @@
 -- The flags of spots, by the words that they were set by.
-use Rattle.std.proofs.Common.{◌≡◌, ℕ, zero, suc, ◌+◌, ◌-◌, ◌*◌, ◌/◌, ◌%◌, ◌^◌, ◌<◌, ◌≤◌, ◌==◌, ◌⊎◌, inl, inr, Bool, false, List, Some, length, get_or, refl, ap, sym, ◌∙◌, arith}
+use Rattle.std.proofs.Common.{◌≡◌, ℕ, ◌+◌, ◌-◌, ◌*◌, ◌/◌, ◌%◌, ◌^◌, ◌<◌, ◌≤◌, ◌==◌, ◌⊎◌, inl, inr, Bool, false, List, Some, length, get_or, refl, ap, sym, ◌∙◌, arith}
 use Rattle.std.proofs.Math.ListN.{set, length-set}
 use Rattle.std.specs.Prelude.{slice_get, bit_and, bit_or, bit_xor}
 use Rattle.std.specs.List.{swap_remove}
@@ -10,7 +10,7 @@ use Rattle.std.proofs.lemmas.Nat.{le_or_l, le_or_r}
 use Rattle.std.proofs.lemmas.Nat.Bits.{bit_at_xor, bit_at-lt, bit_at-zero, bit_at_clear_other}
 use Rattle.std.proofs.lemmas.Option.{same_Some, slice_get-get_or}
 use Rattle.jm_marks.specs.Marks.{is_dead_object}
-use Rattle.jm_marks.specs.Watch.{IsQuiet, IsSetBy, AreFresh, AreFlags, AreSpots}
+use Rattle.jm_marks.specs.Watch.{IsQuiet, IsSetBy, AreFlags, AreSpots}
 use Rattle.jm_marks.proofs.WatchLemmas.{other_default, removed_length}
 
 -- an object whose bit is 0 is alive, or isn't in the table
@@ -103,15 +103,6 @@ known_same dead words i word before known was none is o low bit = elim (cases_eq
         let no_bits : bit_xor word before ≡ 0 = omega (arith, none) in
         let no_bit : bit_at (bit_xor word before) k ≡ 0 = ap (λ (w : ℕ). bit_at w k) no_bits ∙ bit_at-zero k in
         omega (arith, no_bit, old, bit_at_xor word before k, bit_at-lt word k)
-
--- where all words are known, the flags are fresh
-pub known_fresh : (dead : List Bool) (flags words : List ℕ) (n : ℕ) → AreFlags flags words → AreKnown dead words n → length words ≤ n → AreFresh dead flags
-known_fresh dead flags words n are known all zero quiet = absurd (are.first quiet)
-known_fresh dead flags words n are known all (suc o) quiet =
-    let next : suc o ≡ o + 1 = omega arith in
-    let here = are.each o (rw next at quiet) in
-    let same : suc o - 1 ≡ o = omega arith in
-    (omega arith, rw same (known o (omega (arith, here.0, all)) here.1))
 
 -- no flag of a stretch is more than those of the stretch together
 pub together : (flags spots : List ℕ) (from at loud flag : ℕ) → ((k : ℕ) → from ≤ k → k < at → get_or flags (get_or spots k 0) 1 ≤ loud) → get_or flags (get_or spots at 0) 1 ≡ flag

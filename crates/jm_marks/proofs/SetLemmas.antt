@@ -6,7 +6,7 @@ use Rattle.std.specs.Prelude.{filter, Contains}
 use Rattle.std.specs.List.{list_any, IsDistinct}
 use Rattle.jm_model.specs.Layout.{binding_eq}
 use Rattle.jm_model.specs.Bindings.{mask_of}
-use Rattle.jm_model.proofs.EqLemmas.{found-Contains, Contains-found}
+use Rattle.jm_model.proofs.EqLemmas.{found-Contains}
 use Rattle.jm_marks.specs.Objects.{IsWithin}
 use Rattle.jm_marks.specs.Layout.{AreMarks}
 
@@ -34,10 +34,6 @@ AreMarks-add ks new masks listed limit raised b mask are more fits kept there is
 
     all_within : (x : List (Option ℕ)) → Contains new x → IsWithin raised x
     all_within x h = within_at (list_any (binding_eq b) ks) x (subst (λ (w : List (List (Option ℕ))). Contains w x) keys h)
-
--- what an add leaves of the list
-pub added-known : (ks : List (List (Option ℕ))) (b : List (Option ℕ)) → Contains ks b → insert_key binding_eq ks b ≡ ks
-added-known ks b h = rw (Contains-found ks b h)
 
 pub added-unknown : (ks : List (List (Option ℕ))) (b : List (Option ℕ)) → (Contains ks b → ⊥) → insert_key binding_eq ks b ≡ ks ++ b ∷ []
 added-unknown ks b h = at (list_any (binding_eq b) ks) (found-Contains ks b)

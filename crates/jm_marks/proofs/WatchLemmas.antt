@@ -154,9 +154,6 @@ watched_dropped bindings new watched i o w are within there removed =
     got d (x ∷ xs) zero low = refl
     got d (x ∷ xs) (suc k) low = got d xs k (omega (arith, low))
 
-pub watched_none : AreWatched [] []
-watched_none = record { size = refl; each = λ k low. absurd (omega (arith, low)) }
-
 -- an addition, which is one where the binding wasn't there
 insert_new : (ks : List (List (Option ℕ))) (b : List (Option ℕ)) (v : Bool) → true ≡ not v → cond v ks (ks ++ b ∷ []) ≡ ks ++ b ∷ []
 insert_new ks b true is = absurd (false≢true (sym is))

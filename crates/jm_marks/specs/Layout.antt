@@ -3,12 +3,13 @@
 use Rattle.std.specs.Prelude.{◌≡◌, ℕ, ◌+◌, ◌<◌, ◌⊎◌, List, [], Option, Some, Contains, length, slice_index, slice_index_or}
 use Rattle.std.specs.List.{IsDistinct}
 use Rattle.jm_model.specs.declared.binding.Binding.{Binding}
+use Rattle.jm_model.specs.Words.{Mask}
 use Rattle.jm_model.specs.Bindings.{mask_of, object_at}
 use Rattle.jm_model.specs.Layout.{binding_eq}
 use Rattle.jm_marks.specs.Objects.{IsWithin}
 
 -- the bindings are distinct, each one's set of parameters is among those of the list, and its objects below the limit
-pub record AreMarks (bindings : List Binding) (masks : List ℕ) (limit : ℕ) : Type 0 where
+pub record AreMarks (bindings : List Binding) (masks : List Mask) (limit : ℕ) : Type 0 where
   pub distinct : IsDistinct binding_eq bindings
   pub listed : (b : Binding) → Contains bindings b → Contains masks (mask_of b)
   pub within : (b : Binding) → Contains bindings b → IsWithin limit b

@@ -1,6 +1,7 @@
 use Rattle.std.specs.Prelude.{◌≡◌, ℕ, Bool, false, not, List, Option, Some, None, Contains, IsTrue, slice_index_or}
 use Rattle.std.specs.List.{list_any}
 use Rattle.jm_model.specs.declared.binding.Binding.{Binding}
+use Rattle.jm_model.specs.Words.{Mask}
 use Rattle.jm_model.specs.Bindings.{is_below, mask_of, mask_where, objects_of}
 
 -- what contracts see of the marks: their list, and how many can be added with no memory
@@ -23,7 +24,7 @@ is_at_live flags None = false
 is_at_live flags (Some o) = not (is_dead_object flags o)
 
 -- the set of the parameters that b binds to dead objects
-abbrev pub dead_mask_of : List Bool → Binding → ℕ
+abbrev pub dead_mask_of : List Bool → Binding → Mask
 dead_mask_of flags b = mask_where (is_dead_object flags) b
 
 -- b binds a live object
@@ -35,6 +36,6 @@ abbrev pub IsCovered : List Binding → Binding → Binding → Type 0
 IsCovered marks above below = (m : Binding) → Contains marks m → IsTrue (is_below m above) → IsTrue (is_below m below)
 
 -- the same of the marks with one set of parameters
-abbrev pub IsCoveredAt : List Binding → Binding → Binding → ℕ → Type 0
+abbrev pub IsCoveredAt : List Binding → Binding → Binding → Mask → Type 0
 IsCoveredAt marks above below mask =
     (m : Binding) → Contains marks m → mask_of m ≡ mask → IsTrue (is_below m above) → IsTrue (is_below m below)

@@ -40,7 +40,12 @@ impl Model for Watch {
 
     ghost Value = { Watching };
 
-    ghost view = { λ w. record { spots = w.spots.items; flags = w.flags.items; room = w.room; spare = vec_capacity w.spots - vec_len w.spots } };
+    ghost view = { λ w. record {
+      spots = w.spots.items;
+      flags = w.flags.items;
+      room = w.room;
+      spare = vec_capacity w.spots - vec_len w.spots;
+    } };
 
     ghost invariant = { λ w. AreFlags w.flags.items w.words.items × AreSpots w.spots.items w.flags.items
         × w.room ≤ length w.flags.items - 1 };

@@ -8,7 +8,7 @@ use Rattle.jm_machine.specs.contracts.formula.Formula as Formula
 use Rattle.jm_machine.specs.contracts.engine.Engine as Engine
 use Rattle.jm_machine.specs.contracts.outlook.Outlook as Outlook
 use Rattle.jm_events.specs.contracts.names.Names as Names
-use Rattle.jm_goal.specs.contracts.Goal as Goal
+use Rattle.jm_goal.specs.contracts.goal.Goal as Goal
 use Rattle.jm_machine.specs.contracts.table_outlook.TableOutlook as TableOutlook
 use Rattle.jm_machine.specs.contracts.grammar_outlook.GrammarOutlook as GrammarOutlook
 use Rattle.jm_earley.specs.contracts.chart.Chart as Chart

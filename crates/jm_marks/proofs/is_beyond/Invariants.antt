@@ -1,6 +1,0 @@
-use Rattle.std.proofs.Common.{◌≡◌, ℕ, ◌<◌, Some}
-use Rattle.jm_model.specs.Bindings.{object_at}
-use Rattle.jm_marks.proofs.is_beyond.Given as goal
-
-abbrev pub invariant-loop-p : goal.invariant-loop-p
-invariant-loop-p l = (q o : ℕ) → q < l.p → object_at l.binding q ≡ Some o → o < l.limit

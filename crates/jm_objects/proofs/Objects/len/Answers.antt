@@ -1,6 +1,0 @@
-use Rattle.std.proofs.Common.{sym}
-use Rattle.jm_objects.proofs.FlagLemmas.{length-flags_of}
-use Rattle.jm_objects.proofs.Objects.len.Goals as goal
-
-pub returns : goal.returns
-returns c = rw (← c.self.view_is) (sym (length-flags_of _ _))
