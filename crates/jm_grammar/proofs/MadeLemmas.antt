@@ -1,25 +1,23 @@
 -- The grammar of a formula without a fault is within the limits, and its symbols are there.
 use Rattle.std.proofs.Common.{ℕ, ◌≡◌, ◌+◌, ◌<◌, ◌≤◌, Bool, true, false, not, cond, ◌||◌, List, [], ◌∷◌, ◌++◌, Option, Some, None, Ok, All, Contains, length, refl, sym, subst, arith, length-append}
 use Rattle.std.specs.List.{list_any}
-use Rattle.std.specs.Option.{ok_or}
 use Rattle.std.specs.Str.{bytes_eq}
 use Rattle.std.proofs.lemmas.Bool.{ltb-false}
 use Rattle.std.proofs.lemmas.List.Sums.{sum_by-cons}
 use Rattle.std.proofs.lemmas.List.Elements.{All-push, All-weaker, All-contains}
 use Rattle.std.proofs.lemmas.List.Quantifiers.{position-Some}
-use Rattle.jm_model.specs.declared.fault.SpecFault.{SpecFault}
 use Rattle.jm_model.specs.declared.step.Letter.{Letter as LetterType}
 use Rattle.jm_text.specs.declared.token.Token.{Token}
 use Rattle.jm_reading.specs.Tokens.{name_of}
-use Rattle.jm_reading.specs.Faults.{◌>>>◌}
-use Rattle.jm_reading.proofs.ReadLemmas.{then_ok}
+use Rattle.jm_reading.specs.Faults.{◌>>>◌, with_each}
+use Rattle.jm_reading.proofs.ReadLemmas.{then_ok, said_is}
 use Rattle.jm_events.specs.Names.{number_of}
 use Rattle.jm_grammar.specs.declared.formula.Part.{Part}
 use Rattle.jm_grammar.specs.declared.grammar.GrammarSymbol.{GrammarSymbol}
 use Rattle.jm_grammar.specs.declared.grammar.GrammarSymbol.TheVariants.{Letter, Nonterminal}
 use Rattle.jm_grammar.specs.declared.grammar.Production.{Production}
 use Rattle.jm_grammar.specs.Grammars.{IsSmallSymbol, IsSmallProduction, IsSmall}
-use Rattle.jm_grammar.specs.Faults.{nonterminals, nonterminals_fault, production_count, productions_fault, is_epsilon, symbol_count, is_long, has_long, symbols_fault, nonterminal_said, letter_or, symbol_said, with_symbol, with_symbols, with_alternative, with_alternatives, with_part, with_parts}
+use Rattle.jm_grammar.specs.Faults.{nonterminals, nonterminals_fault, production_count, productions_fault, is_epsilon, symbol_count, is_long, has_long, symbols_fault, nonterminal_said, letter_or, symbol_said, with_symbol, with_alternative, with_part}
 
 -- ---- small steps
 
@@ -31,10 +29,6 @@ either_false : (a b : Bool) → (a || b) ≡ false → (a ≡ false) × (b ≡ f
 either_false true b h = absurd (cc)
 either_false false b h = (refl, h)
 
-ok_is_some : {X : Type 0} (o : Option X) (e : SpecFault) (x : X) → ok_or o e ≡ Ok x → o ≡ Some x
-ok_is_some None e x h = absurd (cc)
-ok_is_some (Some y) e x h = cc
-
 none_all : {X : Type 0} (P : X → Type 0) → All P []
 none_all P = λ k d lt. absurd (omega arith)
 
@@ -42,7 +36,7 @@ none_all P = λ k d lt. absurd (omega arith)
 
 module _ (bytes : List ℕ) (events known : List (List ℕ)) where
   nonterminal_is : (t : Token) (n : ℕ) → nonterminal_said bytes known t ≡ Ok n → n < length known
-  nonterminal_is t n h = (position-Some (bytes_eq (name_of bytes t)) known n [] (ok_is_some (number_of known (name_of bytes t)) _ n h)).0
+  nonterminal_is t n h = (position-Some (bytes_eq (name_of bytes t)) known n [] (said_is (number_of known (name_of bytes t)) _ n h)).0
 
   -- a letter or a nonterminal that is there
   abbrev IsThere : GrammarSymbol → Type 0
@@ -79,7 +73,7 @@ module _ (bytes : List ℕ) (events known : List (List ℕ)) where
       subst (λ (l : List GrammarSymbol). AreSymbols (n + 1) l) e
       (All-push IsThere symbols a.0 are.0 (symbol_is t a.0 a.1), omega (arith, are.1, length-append symbols (a.0 ∷ [])))
 
-  all_symbols : (n : ℕ) (symbols made : List GrammarSymbol) (ts : List Token) → with_symbols bytes events known symbols ts ≡ Ok made → AreSymbols n symbols → AreSymbols (n + symbol_count bytes ts) made
+  all_symbols : (n : ℕ) (symbols made : List GrammarSymbol) (ts : List Token) → with_each (with_symbol bytes events known) symbols ts ≡ Ok made → AreSymbols n symbols → AreSymbols (n + symbol_count bytes ts) made
   all_symbols n symbols made [] h are =
       let e : symbols ≡ made = cc in
       subst (λ (l : List GrammarSymbol). AreSymbols (n + 0) l) e (are.0, omega (arith, are.1))
@@ -101,14 +95,14 @@ module _ (bytes : List ℕ) (events known : List (List ℕ)) where
 
   one_alternative : (n left : ℕ) (productions made : List Production) (a : List Token) → left < length known → is_long bytes a ≡ false → with_alternative bytes events known left productions a ≡ Ok made → AreProductions n productions → AreProductions (n + 1) made
   one_alternative n left productions made a first short h are =
-      let s = then_ok (with_symbols bytes events known [] a) _ made h in
+      let s = then_ok (with_each (with_symbol bytes events known) [] a) _ made h in
       let there = all_symbols 0 [] s.0 a s.1 (none_all IsThere, refl) in
       let p : Production = record { left = left; symbols = s.0 } in
       let e : productions ++ p ∷ [] ≡ made = cc (s.2) in
       subst (λ (l : List Production). AreProductions (n + 1) l) e
       (All-push IsMade productions p are.0 (record { left = first; symbols = there.0; few = omega (arith, there.1, ltb-false 32 (symbol_count bytes a) short) }), omega (arith, are.1, length-append productions (p ∷ [])))
 
-  all_alternatives : (n left : ℕ) (productions made : List Production) (ys : List (List Token)) → left < length known → list_any (is_long bytes) ys ≡ false → with_alternatives bytes events known left productions ys ≡ Ok made → AreProductions n productions → AreProductions (n + length ys) made
+  all_alternatives : (n left : ℕ) (productions made : List Production) (ys : List (List Token)) → left < length known → list_any (is_long bytes) ys ≡ false → with_each (with_alternative bytes events known left) productions ys ≡ Ok made → AreProductions n productions → AreProductions (n + length ys) made
   all_alternatives n left productions made [] first short h are =
       let e : productions ≡ made = cc in
       subst (λ (l : List Production). AreProductions (n + 0) l) e (are.0, omega (arith, are.1))
@@ -118,7 +112,7 @@ module _ (bytes : List ℕ) (events known : List (List ℕ)) where
       let rest = all_alternatives (n + 1) left a.0 made ys first shorts.1 a.2 (one_alternative n left productions a.0 y first shorts.0 a.1 are) in
       (rest.0, omega (arith, rest.1))
 
-  all_parts : (n : ℕ) (productions made : List Production) (parts : List Part) → list_any (has_long bytes) parts ≡ false → with_parts bytes events known productions parts ≡ Ok made → AreProductions n productions → AreProductions (n + production_count parts) made
+  all_parts : (n : ℕ) (productions made : List Production) (parts : List Part) → list_any (has_long bytes) parts ≡ false → with_each (with_part bytes events known) productions parts ≡ Ok made → AreProductions n productions → AreProductions (n + production_count parts) made
   all_parts n productions made [] short h are =
       let e : productions ≡ made = cc in
       subst (λ (l : List Production). AreProductions (n + 0) l) e (are.0, omega (arith, are.1))
@@ -131,7 +125,7 @@ module _ (bytes : List ℕ) (events known : List (List ℕ)) where
       (rest.0, omega (arith, rest.1, sum_by-cons (λ (x : Part). length x.alternatives) p ps))
 
   -- the productions of a formula whose alternatives are short
-  pub made_is : (parts : List Part) (made : List Production) → symbols_fault bytes parts ≡ None → with_parts bytes events known [] parts ≡ Ok made → AreProductions (production_count parts) made
+  pub made_is : (parts : List Part) (made : List Production) → symbols_fault bytes parts ≡ None → with_each (with_part bytes events known) [] parts ≡ Ok made → AreProductions (production_count parts) made
   made_is parts made short h =
       let all = all_parts 0 [] made parts (if_none _ _ short) h (none_all IsMade, refl) in
       (all.0, omega (arith, all.1))
@@ -140,7 +134,7 @@ module _ (bytes : List ℕ) (events known : List (List ℕ)) where
   symbol_small few_events few_known (Letter letter) h = omega (arith, h)
   symbol_small few_events few_known (Nonterminal n) h = omega (arith, h)
 
-  pub is_small : (parts : List Part) (made : List Production) → length events ≤ 32 → length known ≤ 64 → productions_fault parts ≡ None → symbols_fault bytes parts ≡ None → with_parts bytes events known [] parts ≡ Ok made → IsSmall made 0
+  pub is_small : (parts : List Part) (made : List Production) → length events ≤ 32 → length known ≤ 64 → productions_fault parts ≡ None → symbols_fault bytes parts ≡ None → with_each (with_part bytes events known) [] parts ≡ Ok made → IsSmall made 0
   is_small parts made few_events few_known few short h =
       let all = made_is parts made short h in
       record {

@@ -15,9 +15,9 @@ use Rattle.jm_events.specs.Names.{number_of}
 use Rattle.jm_events.specs.Events.{EventDefinitions, EventDefinition, event_names}
 use Rattle.jm_reading.specs.Tokens.{name_of}
 use Rattle.jm_reading.specs.Answers.{FailsAt}
-use Rattle.jm_reading.specs.Faults.{or_else, Checks}
+use Rattle.jm_reading.specs.Faults.{or_else, Checks, with_each}
 use Rattle.jm_reading.specs.Events.{reserved_event_fault}
-use Rattle.jm_reading.proofs.ReadLemmas.{then_ok, IsOther, FailsOther, other_or, other_if, other_event, other_then, other_name, other_of}
+use Rattle.jm_reading.proofs.ReadLemmas.{then_ok, IsOther, FailsOther, other_or, other_if, other_event, other_then, other_name, other_of, other_each}
 use Rattle.jm_reading.proofs.FormulaLemmas as reading
 use Rattle.jm_grammar.specs.declared.formula.Part.{Part}
 use Rattle.jm_grammar.specs.declared.grammar.GrammarSymbol.{GrammarSymbol}
@@ -25,7 +25,7 @@ use Rattle.jm_grammar.specs.declared.grammar.Production.{Production}
 use Rattle.jm_grammar.specs.Grammars.{GrammarDefinition}
 use Rattle.jm_grammar.specs.Spelling.{Spells}
 use Rattle.jm_grammar.specs.Rules.{formula_at}
-use Rattle.jm_grammar.specs.Faults.{nonterminals, nonterminals_fault, production_count, productions_fault, has_long, symbols_fault, is_epsilon, left_name_fault, clash_fault, nonterminal_said, letter_or, symbol_said, with_symbol, with_symbols, with_alternative, with_alternatives, with_part, with_parts, grammar_of, first_fault}
+use Rattle.jm_grammar.specs.Faults.{nonterminals, nonterminals_fault, production_count, productions_fault, has_long, symbols_fault, is_epsilon, left_name_fault, clash_fault, nonterminal_said, letter_or, symbol_said, with_symbol, with_alternative, with_part, grammar_of, first_fault}
 use Rattle.jm_grammar.specs.Readings.{IsReadFrom, IsRefused}
 use Rattle.jm_grammar.proofs.GrammarLemmas.{formula_sound, formula_none, one_formula}
 use Rattle.jm_grammar.proofs.MadeLemmas.{made_is, letter_there}
@@ -50,27 +50,19 @@ module _ (bytes : List ℕ) (events known : List (List ℕ)) where
   other_symbol : (symbols : List GrammarSymbol) (t : Token) → FailsOther (with_symbol bytes events known symbols t)
   other_symbol symbols t = other_choice (is_epsilon (name_of bytes t)) _ _ tt (other_then (symbol_said bytes events known t) _ (other_letter (number_of events (name_of bytes t)) t) (λ s. tt))
 
-  other_symbols : (symbols : List GrammarSymbol) (ts : List Token) → FailsOther (with_symbols bytes events known symbols ts)
-  other_symbols symbols [] = tt
-  other_symbols symbols (t ∷ ts) = other_then (with_symbol bytes events known symbols t) _ (other_symbol symbols t) (λ more. other_symbols more ts)
-
-  other_alternatives : (left : ℕ) (productions : List Production) (ys : List (List Token)) → FailsOther (with_alternatives bytes events known left productions ys)
-  other_alternatives left productions [] = tt
-  other_alternatives left productions (y ∷ ys) =
-      other_then (with_alternative bytes events known left productions y) _ (other_then (with_symbols bytes events known [] y) _ (other_symbols [] y) (λ symbols. tt)) (λ more. other_alternatives left more ys)
+  other_alternative : (left : ℕ) (productions : List Production) (y : List Token) → FailsOther (with_alternative bytes events known left productions y)
+  other_alternative left productions y = other_then (with_each (with_symbol bytes events known) [] y) _ (other_each (with_symbol bytes events known) other_symbol [] y) (λ symbols. tt)
 
   other_part : (productions : List Production) (p : Part) → FailsOther (with_part bytes events known productions p)
-  other_part productions p = other_then (nonterminal_said bytes known p.left) _ (other_name (number_of known (name_of bytes p.left)) p.left.line) (λ left. other_alternatives left productions p.alternatives)
-
-  other_parts : (productions : List Production) (ps : List Part) → FailsOther (with_parts bytes events known productions ps)
-  other_parts productions [] = tt
-  other_parts productions (p ∷ ps) = other_then (with_part bytes events known productions p) _ (other_part productions p) (λ more. other_parts more ps)
+  other_part productions p =
+      other_then (nonterminal_said bytes known p.left) _ (other_name (number_of known (name_of bytes p.left)) p.left.line)
+      (λ left. other_each (with_alternative bytes events known left) (other_alternative left) productions p.alternatives)
 
 other_made : (bytes : List ℕ) (table : EventDefinitions) (parts : List Part) → FailsOther (grammar_of bytes table parts)
 unfolding grammar_of
 other_made bytes table parts =
     let known = nonterminals bytes parts in
-    other_then {B = GrammarDefinition} (with_parts bytes (event_names table) known [] parts) (λ productions. Ok (record { productions = productions; start = 0 })) (other_parts bytes (event_names table) known [] parts) (λ productions. tt)
+    other_then {B = GrammarDefinition} (with_each (with_part bytes (event_names table) known) [] parts) (λ productions. Ok (record { productions = productions; start = 0 })) (other_each (with_part bytes (event_names table) known) (other_part bytes (event_names table) known) [] parts) (λ productions. tt)
 
 other_fault : (bytes : List ℕ) (table : EventDefinitions) (parts : List Part) → IsOther (first_fault bytes table parts)
 unfolding first_fault
@@ -118,10 +110,10 @@ all_short : (bytes : List ℕ) (table : EventDefinitions) (parts : List Part) �
 unfolding first_fault
 all_short bytes table parts h = (none_of_both (symbols_fault bytes parts) _ (none_of_both (productions_fault parts) _ (none_of_both (nonterminals_fault bytes parts) _ h).1).1).0
 
-made_of : (bytes : List ℕ) (table : EventDefinitions) (parts : List Part) (g : GrammarDefinition) → grammar_of bytes table parts ≡ Ok g → with_parts bytes (event_names table) (nonterminals bytes parts) [] parts ≡ Ok g.productions
+made_of : (bytes : List ℕ) (table : EventDefinitions) (parts : List Part) (g : GrammarDefinition) → grammar_of bytes table parts ≡ Ok g → with_each (with_part bytes (event_names table) (nonterminals bytes parts)) [] parts ≡ Ok g.productions
 unfolding grammar_of
 made_of bytes table parts g h =
-    let a = then_ok (with_parts bytes (event_names table) (nonterminals bytes parts) [] parts) _ g h in
+    let a = then_ok (with_each (with_part bytes (event_names table) (nonterminals bytes parts)) [] parts) _ g h in
     let e : ◌≡◌ {A = GrammarDefinition} (record { productions = a.0; start = 0 }) g = cc (a.2) in
     a.1 ∙ ap (λ (x : GrammarDefinition). Ok x.productions) e
 

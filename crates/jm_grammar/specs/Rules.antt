@@ -1,5 +1,5 @@
 -- What each rule of the grammar reads at the front of a list of tokens, where the next token decides.
-use Rattle.std.specs.Prelude.{Bool, List, [], ◌∷◌, Option, Some, codes}
+use Rattle.std.specs.Prelude.{Bool, List, [], ◌∷◌, Some, codes}
 use Rattle.jm_model.specs.Words.{Text}
 use Rattle.jm_text.specs.declared.token.Token.{Token}
 use Rattle.jm_grammar.specs.declared.formula.Part.{Part}

@@ -4,7 +4,7 @@
 --   Production  = NAME "->" Alternative { "|" Alternative }
 --   Alternative = Symbol { Symbol }
 --   Symbol      = NAME | "epsilon", where the NAME isn't `epsilon`
-use Rattle.std.specs.Prelude.{◌≡◌, ◌⊎◌, List, [], ◌∷◌, ◌++◌, codes}
+use Rattle.std.specs.Prelude.{◌≡◌, ◌⊎◌, List, [], ◌∷◌, codes}
 use Rattle.jm_model.specs.Words.{Text}
 use Rattle.jm_text.specs.declared.token.Token.{Token}
 use Rattle.jm_reading.specs.Tokens.{IsName, IsMark, IsWord, SpellsEach, SpellsParted}

@@ -1,5 +1,6 @@
 -- The productions of a grammar by what is written in the formula, with no word of how they are made.
 use Rattle.std.specs.Prelude.{ℕ, ◌≡◌, List, [], ◌∷◌, ◌++◌, Some, Ok, MatchBool}
+use Rattle.jm_model.specs.Words.{Text}
 use Rattle.jm_text.specs.declared.token.Token.{Token}
 use Rattle.jm_reading.specs.Tokens.{name_of}
 use Rattle.jm_events.specs.Names.{number_of}
@@ -8,7 +9,7 @@ use Rattle.jm_grammar.specs.declared.grammar.GrammarSymbol.{GrammarSymbol}
 use Rattle.jm_grammar.specs.declared.grammar.Production.{Production}
 use Rattle.jm_grammar.specs.Faults.{is_epsilon, symbol_said}
 
-module _ (bytes : List ℕ) (events known : List (List ℕ)) where
+module _ (bytes : Text) (events known : List Text) where
   -- the symbols are those that the names say, in order: an event's letter or a nonterminal's number, and none for
   -- `epsilon`
   abbrev pub AreSymbols : List Token → List GrammarSymbol → Type 0

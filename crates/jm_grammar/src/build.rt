@@ -1,8 +1,8 @@
 //! The grammar that a formula says.
 ghost use Rattle.std.specs.Prelude.{◌≡◌, ◌≤◌, [], length, IfOk, None};
 ghost use Rattle.jm_events.specs.Events.{event_names};
-ghost use Rattle.jm_reading.specs.Faults.{Checks, Makes, Answers};
-ghost use Rattle.jm_grammar.specs.Faults.{nonterminals, nonterminals_fault, productions_fault, symbols_fault, nonterminal_said, symbol_said, with_symbol, with_symbols, with_alternative, with_alternatives, with_part, with_parts, grammar_of, first_fault};
+ghost use Rattle.jm_reading.specs.Faults.{Checks, Makes, Answers, with_each};
+ghost use Rattle.jm_grammar.specs.Faults.{nonterminals, nonterminals_fault, productions_fault, symbols_fault, nonterminal_said, symbol_said, with_symbol, with_alternative, with_part, grammar_of, first_fault};
 
 use crate::faults::{self, Words};
 use crate::formula::Part;
@@ -73,7 +73,7 @@ fn add_symbols(
 ) -> Result<(), SpecError>
     requires { length known.now ≤ 64 }
     ensures { Makes result symbols.new
-        (with_symbols bytes.now (event_names table.now) known.now symbols.old alternative.now) }
+        (with_each (with_symbol bytes.now (event_names table.now) known.now) symbols.old alternative.now) }
 {
     for token in alternative {
         add_symbol(bytes, table, known, symbols, *token)?;
@@ -110,8 +110,8 @@ fn add_alternatives(
     alternatives: &[Items<Token>],
 ) -> Result<(), SpecError>
     requires { length known.now ≤ 64 }
-    ensures { Makes result productions.new
-        (with_alternatives bytes.now (event_names table.now) known.now left productions.old alternatives.now) }
+    ensures { Makes result productions.new (with_each
+        (with_alternative bytes.now (event_names table.now) known.now left) productions.old alternatives.now) }
 {
     for alternative in alternatives {
         let alternative = alternative.as_slice();
@@ -148,7 +148,7 @@ fn add_parts(
 ) -> Result<(), SpecError>
     requires { length known.now ≤ 64 }
     ensures { Makes result productions.new
-        (with_parts bytes.now (event_names table.now) known.now productions.old parts.now) }
+        (with_each (with_part bytes.now (event_names table.now) known.now) productions.old parts.now) }
 {
     for part in parts {
         add_part(alloc, bytes, table, known, productions, part)?;

@@ -72,7 +72,7 @@ impl Grammar {
         self.productions.as_slice()
     }
 
-    /// The start.
+    /// The nonterminal that spells the words of the language, below 64.
     pub fn start(&self) -> u8
         ensures value { result ≡ self.now.start }
         ensures small { IsSmall self.now.productions self.now.start }

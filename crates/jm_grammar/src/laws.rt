@@ -38,5 +38,6 @@ pub fn letters_are_events()
 pub fn productions_as_written()
     ensures { (bytes : List ℕ) (tokens : List Token) (table : EventDefinitions) (g : GrammarDefinition)
         → IsReadFrom bytes tokens table g →
-        (parts : List Part) × Spells bytes tokens parts × AreAsWritten bytes (event_names table) (nonterminals bytes parts) parts g.productions }
+        (parts : List Part) × Spells bytes tokens parts
+        × AreAsWritten bytes (event_names table) (nonterminals bytes parts) parts g.productions }
 {}
