@@ -1,5 +1,5 @@
 //! A place in a list of tokens, from which a reader goes on.
-ghost use Rattle.std.specs.Prelude.{◌≡◌, ◌<◌, length, OnOk, IfErr};
+ghost use Rattle.std.specs.Prelude.{◌≡◌, ◌<◌, ◌≤◌, length, drop, OnOk, IfErr};
 ghost use Rattle.jm_model.specs.declared.fault.SpecError.TheVariants.{Bad};
 ghost use Rattle.jm_model.specs.declared.fault.SpecFault.TheVariants.{Syntax};
 ghost use Rattle.jm_text.specs.Spans.{LieWithin};
@@ -156,5 +156,15 @@ impl<'a> Cursor<'a> {
             }
             _ => Err(self.syntax()),
         }
+    }
+
+    /// Passes over so many tokens.
+    pub fn advance(&mut self, n: usize)
+        requires { n ≤ length self.old.rest.now }
+        ensures rest { self.new.rest.now ≡ drop n self.old.rest.now }
+        ensures bytes { self.new.bytes.now ≡ self.old.bytes.now }
+        ensures last_line { self.new.last_line ≡ self.old.last_line }
+    {
+        self.rest = &self.rest[n..];
     }
 }

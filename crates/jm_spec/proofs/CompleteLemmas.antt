@@ -19,9 +19,9 @@ use Rattle.jm_spec.specs.declared.property.Property.{Property}
 use Rattle.jm_spec.specs.declared.frame.Frame.{Frame}
 use Rattle.jm_spec.specs.Brackets.{sign_of, after_sign, without_angles}
 use Rattle.jm_spec.specs.Runs.{may_end, parts, clause_length, parameter_length, begins_property, formula_length}
-use Rattle.jm_reading.specs.Reading.{◌>>=◌, is_mark_at, is_word_at, is_name_at, name_at}
-use Rattle.jm_spec.specs.Reading.{place, mark_at, word_at, passed}
-use Rattle.jm_spec.specs.Rules.{begins_clause, clause_at, clauses_at, more_word_at, begins_more_word, more_words_at, modifier_of, modifier_at, begins_modifier, modifiers_at, named_at, param_at, more_param_at, begins_more_param, more_params_at, params_at, inner_params_at, list_at, run_at, pointcut_at, before_at, optional_list_at, outcome_at, after_at, other_at, advice_at, creation_at, begins_event, event_at, member_at, begins_member, members_at, block_at, handler_at, begins_handler, handlers_at, property_at, goes_on, properties_at, frame_at, frame_of}
+use Rattle.jm_reading.specs.Reading.{◌>>=◌, is_mark_at, is_word_at, is_name_at, mark_at, name_at}
+use Rattle.jm_spec.specs.Reading.{place, any_word_at, passed, gathered_at}
+use Rattle.jm_spec.specs.Rules.{begins_clause, clause_at, clauses_at, more_word_at, begins_more_word, more_words_at, modifier_of, modifier_at, begins_modifier, modifiers_at, named_at, param_at, more_param_at, begins_more_param, more_params_at, params_at, list_at, run_at, pointcut_at, before_at, optional_list_at, outcome_at, after_at, other_at, advice_at, creation_at, begins_event, event_at, member_at, begins_member, members_at, block_at, handler_at, begins_handler, handlers_at, property_at, goes_on, properties_at, frame_at, frame_of}
 use Rattle.jm_spec.specs.Balance.{member_sign, open_after}
 use Rattle.jm_reading.specs.Tokens.{IsMark, IsWord, IsName}
 use Rattle.jm_spec.specs.Spelling.{IsAnyWord, Repeats, nothing, one_more as another, Spelled, SpelledAnywhere, BeginsClause, SpellsClause, clause, SpellsMoreWord, more_word, SpellsModifier, modifier, open_in_list, Holds, IsType, SpellsParam, param, SpellsMoreParam, more_param, SpellsParams, no_params, some_params, SpellsList, list, RunsToEnd, SpellsOutcome, missing, alone, with_list, BeginsOther, SpellsAdvice, before, after, other, SpellsEvent, event, creation_event, SpellsMember, declaration, an_event, SpellsHandler, handler, SpellsProperty, property, BeginsNoClause, SpellsHead, head, SpellsBody, body, Spells, file}
@@ -39,8 +39,8 @@ name_read : (bytes : List ℕ) (t : Token) (rest : List Token) → IsName bytes 
 unfolding name_at
 name_read bytes t rest h = rw h refl
 
-word_read : (t : Token) (rest : List Token) → IsAnyWord t → word_at (t ∷ rest) ≡ Some rest
-unfolding word_at
+word_read : (t : Token) (rest : List Token) → IsAnyWord t → any_word_at (t ∷ rest) ≡ Some rest
+unfolding any_word_at
 word_read t rest h = rw h refl
 
 -- the clauses
@@ -63,10 +63,10 @@ clause_read bytes front behind (clause word run semicolon begins none ends) u =
     let tail : clause_length bytes ((run ++ semicolon ∷ []) ++ behind) ≡ Some (length (run ++ semicolon ∷ [])) = ap (clause_length bytes) (append_assoc run (semicolon ∷ []) behind) ∙ clause_complete bytes run semicolon behind none ends in
     (b.0, passed_complete (word ∷ run ++ semicolon ∷ []) behind _ (clause_goes_on bytes word ((run ++ semicolon ∷ []) ++ behind) _ (no_mark bytes word (codes ";") b.1) tail), tt)
 
-clauses_read : (bytes : List ℕ) (front behind : List Token) → Repeats (SpellsClause bytes) front → begins_clause bytes behind ≡ false → clauses_at bytes (front ++ behind) ≡ Some behind
-unfolding clauses_at
+clauses_read : (bytes : List ℕ) (front behind : List Token) → Repeats (SpellsClause bytes) front → begins_clause bytes behind ≡ false → clauses_at bytes (front ++ behind) ≡ Some (tt, behind)
+unfolding gathered_at
 clauses_read bytes front behind r stop =
-    (steps_complete (SpellsClause bytes) (begins_clause bytes) (clause_at bytes) (λ _. Unit {0}) (clause_filled bytes) (clause_read bytes) (length (front ++ behind)) front behind r tt stop (omega arith)).0
+    (steps_complete (SpellsClause bytes) (begins_clause bytes) (clause_at bytes) (λ _. Unit {0}) (clause_filled bytes) (clause_read bytes) (length (front ++ behind)) tt front behind r tt stop (omega arith)).0
 
 -- the modifiers
 
@@ -80,16 +80,16 @@ more_word_filled bytes front (more_word dash word d w) = omega arith
 more_word_read : (bytes : List ℕ) (front behind : List Token) → SpellsMoreWord bytes front → Unit {0} → (begins_more_word bytes (front ++ behind) ≡ true) × (more_word_at bytes (front ++ behind) ≡ Some behind) × Unit {0}
 unfolding more_word_at
 more_word_read bytes front behind (more_word dash word d w) u =
-    (d, both_give (mark_at bytes (codes "-") (dash ∷ word ∷ behind)) word_at (word ∷ behind) _ (mark_read bytes (codes "-") dash (word ∷ behind) d) (word_read word behind w), tt)
+    (d, both_give (mark_at bytes (codes "-") (dash ∷ word ∷ behind)) any_word_at (word ∷ behind) _ (mark_read bytes (codes "-") dash (word ∷ behind) d) (word_read word behind w), tt)
 
 word_is_no_dash : (bytes : List ℕ) (rest : List Token) → BeginsWord rest → begins_more_word bytes rest ≡ false
 word_is_no_dash bytes [] b = absurd b
 word_is_no_dash bytes (t ∷ ts) b = no_mark bytes t (codes "-") b
 
-more_words_read : (bytes : List ℕ) (front behind : List Token) → Repeats (SpellsMoreWord bytes) front → BeginsWord behind → more_words_at bytes (front ++ behind) ≡ Some behind
-unfolding more_words_at
+more_words_read : (bytes : List ℕ) (front behind : List Token) → Repeats (SpellsMoreWord bytes) front → BeginsWord behind → more_words_at bytes (front ++ behind) ≡ Some (tt, behind)
+unfolding gathered_at
 more_words_read bytes front behind r b =
-    (steps_complete (SpellsMoreWord bytes) (begins_more_word bytes) (more_word_at bytes) (λ _. Unit {0}) (more_word_filled bytes) (more_word_read bytes) (length (front ++ behind)) front behind r tt (word_is_no_dash bytes behind b) (omega arith)).0
+    (steps_complete (SpellsMoreWord bytes) (begins_more_word bytes) (more_word_at bytes) (λ _. Unit {0}) (more_word_filled bytes) (more_word_read bytes) (length (front ++ behind)) tt front behind r tt (word_is_no_dash bytes behind b) (omega arith)).0
 
 modifier_filled : (bytes : List ℕ) (at : ℕ) (front : List Token) (xs : List Modifier) → SpellsModifier bytes front xs → 0 < length front
 modifier_filled bytes at front xs (modifier word more w r) = omega arith
@@ -108,20 +108,20 @@ front_of front rest =
     let n : length (front ++ rest) - length rest ≡ length front = omega (arith, length-append front rest) in
     ap (λ k. take k (front ++ rest)) n ∙ take-append_seam front rest
 
-modifier_read : (bytes : List ℕ) (front : List Token) (xs had : List Modifier) (behind : List Token) → SpellsModifier bytes front xs → BeginsWord behind → (begins_modifier bytes (front ++ behind) ≡ true) × (modifier_at bytes had (front ++ behind) ≡ Some (had ++ xs, behind)) × BeginsWord (front ++ behind)
+modifier_read : (bytes : List ℕ) (front : List Token) (xs had : List Modifier) (behind : List Token) → SpellsModifier bytes front xs → BeginsWord behind → (begins_modifier bytes (front ++ behind) ≡ true) × (modifier_at had bytes (front ++ behind) ≡ Some (had ++ xs, behind)) × BeginsWord (front ++ behind)
 unfolding modifier_at
 modifier_read bytes front xs had behind (modifier word more w r) b = (
   ap (λ g. not g) (no_list_behind bytes more behind r b),
-  both_give (word_at (word ∷ more ++ behind)) _ (more ++ behind) _ (word_read word (more ++ behind) w)
-      (both_give (more_words_at bytes (more ++ behind)) _ behind _ (more_words_read bytes more behind r b)
+  both_give (any_word_at (word ∷ more ++ behind)) _ (more ++ behind) _ (word_read word (more ++ behind) w)
+      (both_give (more_words_at bytes (more ++ behind)) _ (tt, behind) _ (more_words_read bytes more behind r b)
       (ap (λ ts. Some (had ++ modifier_of bytes ts ∷ [], behind)) (front_of (word ∷ more) behind))),
   w,
 )
 
-modifiers_read : (bytes : List ℕ) (front : List Token) (xs : List Modifier) (behind : List Token) → SpelledAnywhere (SpellsModifier bytes) front xs → BeginsWord behind → begins_modifier bytes behind ≡ false → (modifiers_at bytes [] (front ++ behind) ≡ Some (xs, behind)) × BeginsWord (front ++ behind)
-unfolding modifiers_at
+modifiers_read : (bytes : List ℕ) (front : List Token) (xs : List Modifier) (behind : List Token) → SpelledAnywhere (SpellsModifier bytes) front xs → BeginsWord behind → begins_modifier bytes behind ≡ false → (modifiers_at bytes (front ++ behind) ≡ Some (xs, behind)) × BeginsWord (front ++ behind)
+unfolding gathered_at
 modifiers_read bytes front xs behind r b stop =
-    items_complete (length (front ++ behind)) (λ _. SpellsModifier bytes) (begins_modifier bytes) (modifier_at bytes) BeginsWord (modifier_filled bytes) (λ at ts ys zs us x p _. modifier_read bytes ts ys zs us x p) (length (front ++ behind)) 0 front xs [] behind r b stop (omega arith) (omega arith)
+    items_complete (length (front ++ behind)) (λ _. SpellsModifier bytes) (begins_modifier bytes) (λ x. modifier_at x bytes) BeginsWord (modifier_filled bytes) (λ at ts ys zs us x p _. modifier_read bytes ts ys zs us x p) (length (front ++ behind)) 0 front xs [] behind r b stop (omega arith) (omega arith)
 
 -- lists of parameters
 
@@ -179,7 +179,7 @@ filled_length : (ts : List Token) → ts ≢ [] → 1 ≤ length ts
 filled_length [] h = absurd (h refl)
 filled_length (t ∷ ts) h = omega arith
 
-named_read : (bytes : List ℕ) (names type : List Token) (name : Token) (rest : List Token) → type ≢ [] → IsName bytes name → named_at bytes names ((type ++ name ∷ []) ++ rest) (length (type ++ name ∷ [])) ≡ Some (names ++ name ∷ [], rest)
+named_read : (bytes : List ℕ) (names type : List Token) (name : Token) (rest : List Token) → type ≢ [] → IsName bytes name → named_at names bytes ((type ++ name ∷ []) ++ rest) (length (type ++ name ∷ [])) ≡ Some (names ++ name ∷ [], rest)
 named_read bytes names type name rest filled n = passes (nat_lt (length (type ++ name ∷ [])) 2) (is_name_at bytes ((type ++ name ∷ []) ++ rest) (length (type ++ name ∷ []) - 1)) (enough _ two) named
   where
     two : 2 ≤ length (type ++ name ∷ [])
@@ -199,26 +199,26 @@ named_read bytes names type name rest filled n = passes (nat_lt (length (type ++
     passes false true h k =
         ap (option_and_then {U = List Token × List Token} (λ t. Some (names ++ t ∷ [], drop (length (type ++ name ∷ [])) ((type ++ name ∷ []) ++ rest)))) here ∙ ap (λ r. Some (names ++ name ∷ [], r)) (drop-append_seam (type ++ name ∷ []) rest)
 
-param_read : (bytes : List ℕ) (names front added behind : List Token) → SpellsParam bytes front added → BeginsPart bytes behind → param_at bytes names (front ++ behind) ≡ Some (names ++ added, behind)
+param_read : (bytes : List ℕ) (names front added behind : List Token) → SpellsParam bytes front added → BeginsPart bytes behind → param_at names bytes (front ++ behind) ≡ Some (names ++ added, behind)
 unfolding param_at
 param_read bytes names front added [] x b = absurd b
 param_read bytes names front added (t ∷ rest) (param type name is_type is_name) b =
-    both_give (parameter_length bytes ((type ++ name ∷ []) ++ t ∷ rest)) (named_at bytes names ((type ++ name ∷ []) ++ t ∷ rest)) (length (type ++ name ∷ [])) _
+    both_give (parameter_length bytes ((type ++ name ∷ []) ++ t ∷ rest)) (named_at names bytes ((type ++ name ∷ []) ++ t ∷ rest)) (length (type ++ name ∷ [])) _
     (parameter_complete bytes (type ++ name ∷ []) [] t rest (balanced_with_name bytes type name is_type is_name) (held_with_name bytes type name is_type is_name) b)
     (named_read bytes names type name (t ∷ rest) is_type.filled is_name)
 
 more_param_filled : (bytes : List ℕ) (at : ℕ) (front xs : List Token) → SpellsMoreParam bytes front xs → 0 < length front
 more_param_filled bytes at front xs (more_param comma run names c p) = omega arith
 
-more_param_read : (bytes : List ℕ) (front xs had behind : List Token) → SpellsMoreParam bytes front xs → BeginsPart bytes behind → (begins_more_param bytes (front ++ behind) ≡ true) × (more_param_at bytes had (front ++ behind) ≡ Some (had ++ xs, behind)) × BeginsPart bytes (front ++ behind)
+more_param_read : (bytes : List ℕ) (front xs had behind : List Token) → SpellsMoreParam bytes front xs → BeginsPart bytes behind → (begins_more_param bytes (front ++ behind) ≡ true) × (more_param_at had bytes (front ++ behind) ≡ Some (had ++ xs, behind)) × BeginsPart bytes (front ++ behind)
 unfolding more_param_at
 more_param_read bytes front xs had behind (more_param comma run names c p) b =
-    (c, both_give (mark_at bytes (codes ",") (comma ∷ run ++ behind)) (param_at bytes had) (run ++ behind) _ (mark_read bytes (codes ",") comma (run ++ behind) c) (param_read bytes had run names behind p b), comma_parts bytes comma c)
+    (c, both_give (mark_at bytes (codes ",") (comma ∷ run ++ behind)) (param_at had bytes) (run ++ behind) _ (mark_read bytes (codes ",") comma (run ++ behind) c) (param_read bytes had run names behind p b), comma_parts bytes comma c)
 
-more_params_read : (bytes : List ℕ) (had front xs behind : List Token) → SpelledAnywhere (SpellsMoreParam bytes) front xs → BeginsPart bytes behind → begins_more_param bytes behind ≡ false → (more_params_at bytes had (front ++ behind) ≡ Some (had ++ xs, behind)) × BeginsPart bytes (front ++ behind)
-unfolding more_params_at
+more_params_read : (bytes : List ℕ) (had front xs behind : List Token) → SpelledAnywhere (SpellsMoreParam bytes) front xs → BeginsPart bytes behind → begins_more_param bytes behind ≡ false → (more_params_at had bytes (front ++ behind) ≡ Some (had ++ xs, behind)) × BeginsPart bytes (front ++ behind)
+unfolding gathered_at
 more_params_read bytes had front xs behind r b stop =
-    items_complete (length (front ++ behind)) (λ _. SpellsMoreParam bytes) (begins_more_param bytes) (more_param_at bytes) (BeginsPart bytes) (more_param_filled bytes) (λ at ts ys zs us x p _. more_param_read bytes ts ys zs us x p) (length (front ++ behind)) 0 front xs had behind r b stop (omega arith) (omega arith)
+    items_complete (length (front ++ behind)) (λ _. SpellsMoreParam bytes) (begins_more_param bytes) (λ x. more_param_at x bytes) (BeginsPart bytes) (more_param_filled bytes) (λ at ts ys zs us x p _. more_param_read bytes ts ys zs us x p) (length (front ++ behind)) 0 front xs had behind r b stop (omega arith) (omega arith)
 
 -- no parameter begins with a `)`
 no_round : (bytes : List ℕ) (front added behind : List Token) → SpellsParam bytes front added → is_mark_at bytes (front ++ behind) 0 (codes ")") ≡ false
@@ -232,21 +232,21 @@ no_round bytes front added behind (param type name is_type is_name) = first type
     first [] is = absurd (is.filled refl)
     first (t ∷ ts) is = unbalanced t ts (is_mark bytes t (codes ")")) refl is.balanced
 
-params_read : (bytes : List ℕ) (had front xs : List Token) (closing : Token) (rest : List Token) → SpellsParams bytes front xs → IsMark bytes (codes ")") closing → inner_params_at bytes had (front ++ closing ∷ rest) ≡ Some (had ++ xs, closing ∷ rest)
-unfolding inner_params_at params_at
-params_read bytes had front xs closing rest no_params c = ap (λ g. cond {A = Option (List Token × List Token)} g (Some (had, closing ∷ rest)) (params_at bytes had (closing ∷ rest))) c ∙ ap (λ ys. Some (ys, closing ∷ rest)) (sym (append-nil had))
+params_read : (bytes : List ℕ) (had front xs : List Token) (closing : Token) (rest : List Token) → SpellsParams bytes front xs → IsMark bytes (codes ")") closing → params_at had bytes (front ++ closing ∷ rest) ≡ Some (had ++ xs, closing ∷ rest)
+unfolding params_at
+params_read bytes had front xs closing rest no_params c = ap (λ g. cond {A = Option (List Token × List Token)} g (Some (had, closing ∷ rest)) (param_at had bytes (closing ∷ rest) >>= λ first. more_params_at first.0 bytes first.1)) c ∙ ap (λ ys. Some (ys, closing ∷ rest)) (sym (append-nil had))
 params_read bytes had front xs closing rest (some_params first more names others p q) c =
     let m = more_params_read bytes (had ++ names) more others (closing ∷ rest) q (round_parts bytes closing c) (no_other_mark bytes closing (codes ")") (codes ",") c refl) in
     let e = append_assoc first more (closing ∷ rest) in
-    ap (λ g. cond {A = Option (List Token × List Token)} g (Some (had, (first ++ more) ++ closing ∷ rest)) (params_at bytes had ((first ++ more) ++ closing ∷ rest))) (ap (λ ts. is_mark_at bytes ts 0 (codes ")")) e ∙ no_round bytes first names (more ++ closing ∷ rest) p)
-    ∙ ap (params_at bytes had) e
-    ∙ both_give (param_at bytes had (first ++ (more ++ closing ∷ rest))) _ (had ++ names, more ++ closing ∷ rest) _ (param_read bytes had first names (more ++ closing ∷ rest) p m.1) (m.0 ∙ ap (λ ys. Some (ys, closing ∷ rest)) (append_assoc had names others))
+    ap (λ g. cond {A = Option (List Token × List Token)} g (Some (had, (first ++ more) ++ closing ∷ rest)) (param_at had bytes ((first ++ more) ++ closing ∷ rest) >>= λ first. more_params_at first.0 bytes first.1)) (ap (λ ts. is_mark_at bytes ts 0 (codes ")")) e ∙ no_round bytes first names (more ++ closing ∷ rest) p)
+    ∙ ap (λ ts. param_at had bytes ts >>= λ first. more_params_at first.0 bytes first.1) e
+    ∙ both_give (param_at had bytes (first ++ (more ++ closing ∷ rest))) _ (had ++ names, more ++ closing ∷ rest) _ (param_read bytes had first names (more ++ closing ∷ rest) p m.1) (m.0 ∙ ap (λ ys. Some (ys, closing ∷ rest)) (append_assoc had names others))
 
-list_read : (bytes : List ℕ) (had front xs rest : List Token) → SpellsList bytes front xs → list_at bytes had (front ++ rest) ≡ Some (had ++ xs, rest)
+list_read : (bytes : List ℕ) (had front xs rest : List Token) → SpellsList bytes front xs → list_at had bytes (front ++ rest) ≡ Some (had ++ xs, rest)
 unfolding list_at
 list_read bytes had front xs rest (list opening params closing names o p c) =
     both_give (mark_at bytes (codes "(") (opening ∷ (params ++ closing ∷ []) ++ rest)) _ ((params ++ closing ∷ []) ++ rest) _ (mark_read bytes (codes "(") opening ((params ++ closing ∷ []) ++ rest) o)
-    (both_give (inner_params_at bytes had ((params ++ closing ∷ []) ++ rest)) _ (had ++ names, closing ∷ rest) _ (ap (inner_params_at bytes had) (append_assoc params (closing ∷ []) rest) ∙ params_read bytes had params names closing rest p c)
+    (both_give (params_at had bytes ((params ++ closing ∷ []) ++ rest)) _ (had ++ names, closing ∷ rest) _ (ap (params_at had bytes) (append_assoc params (closing ∷ []) rest) ∙ params_read bytes had params names closing rest p c)
     (both_give (mark_at bytes (codes ")") (closing ∷ rest)) _ rest _ (mark_read bytes (codes ")") closing rest c) refl))
 
 list_begins : (bytes : List ℕ) (front xs rest : List Token) → SpellsList bytes front xs → is_mark_at bytes (front ++ rest) 0 (codes "(") ≡ true
@@ -262,18 +262,18 @@ pointcut_read : (bytes : List ℕ) (colon : Token) (run rest : List Token) → I
 unfolding pointcut_at
 pointcut_read bytes colon run rest c r = both_give (mark_at bytes (codes ":") (colon ∷ run ++ rest)) (run_at bytes) (run ++ rest) _ (mark_read bytes (codes ":") colon (run ++ rest) c) (run_read bytes run rest r)
 
-outcome_read : (bytes word : List ℕ) (had front xs rest : List Token) → SpellsOutcome bytes word front xs → is_word_at bytes rest 0 word ≡ false → is_mark_at bytes rest 0 (codes "(") ≡ false → outcome_at bytes word had (front ++ rest) ≡ Some (had ++ xs, rest)
+outcome_read : (bytes word : List ℕ) (had front xs rest : List Token) → SpellsOutcome bytes word front xs → is_word_at bytes rest 0 word ≡ false → is_mark_at bytes rest 0 (codes "(") ≡ false → outcome_at word had bytes (front ++ rest) ≡ Some (had ++ xs, rest)
 unfolding outcome_at optional_list_at
 outcome_read bytes word had front xs rest missing no_word no_list =
-    ap (λ g. cond {A = Option (List Token × List Token)} g (word_at rest >>= optional_list_at bytes had) (Some (had, rest))) no_word ∙ ap (λ ys. Some (ys, rest)) (sym (append-nil had))
+    ap (λ g. cond {A = Option (List Token × List Token)} g (any_word_at rest >>= optional_list_at had bytes) (Some (had, rest))) no_word ∙ ap (λ ys. Some (ys, rest)) (sym (append-nil had))
 outcome_read bytes word had front xs rest (alone t w) no_word no_list =
-    ap (λ g. cond {A = Option (List Token × List Token)} g (word_at (t ∷ rest) >>= optional_list_at bytes had) (Some (had, t ∷ rest))) w
-    ∙ both_give (word_at (t ∷ rest)) (optional_list_at bytes had) rest _ (word_read t rest (word_kind bytes t word w))
-    (ap (λ g. cond {A = Option (List Token × List Token)} g (list_at bytes had rest) (Some (had, rest))) no_list ∙ ap (λ ys. Some (ys, rest)) (sym (append-nil had)))
+    ap (λ g. cond {A = Option (List Token × List Token)} g (any_word_at (t ∷ rest) >>= optional_list_at had bytes) (Some (had, t ∷ rest))) w
+    ∙ both_give (any_word_at (t ∷ rest)) (optional_list_at had bytes) rest _ (word_read t rest (word_kind bytes t word w))
+    (ap (λ g. cond {A = Option (List Token × List Token)} g (list_at had bytes rest) (Some (had, rest))) no_list ∙ ap (λ ys. Some (ys, rest)) (sym (append-nil had)))
 outcome_read bytes word had front xs rest (with_list t params names w l) no_word no_list =
-    ap (λ g. cond {A = Option (List Token × List Token)} g (word_at (t ∷ params ++ rest) >>= optional_list_at bytes had) (Some (had, t ∷ params ++ rest))) w
-    ∙ both_give (word_at (t ∷ params ++ rest)) (optional_list_at bytes had) (params ++ rest) _ (word_read t (params ++ rest) (word_kind bytes t word w))
-    (ap (λ g. cond {A = Option (List Token × List Token)} g (list_at bytes had (params ++ rest)) (Some (had, params ++ rest))) (list_begins bytes params names rest l) ∙ list_read bytes had params names rest l)
+    ap (λ g. cond {A = Option (List Token × List Token)} g (any_word_at (t ∷ params ++ rest) >>= optional_list_at had bytes) (Some (had, t ∷ params ++ rest))) w
+    ∙ both_give (any_word_at (t ∷ params ++ rest)) (optional_list_at had bytes) (params ++ rest) _ (word_read t (params ++ rest) (word_kind bytes t word w))
+    (ap (λ g. cond {A = Option (List Token × List Token)} g (list_at had bytes (params ++ rest)) (Some (had, params ++ rest))) (list_begins bytes params names rest l) ∙ list_read bytes had params names rest l)
 
 -- what stands behind the names of an advice begins no list and no `returning`
 errors_begin : (bytes : List ℕ) (thrown errors : List Token) (colon : Token) (rest : List Token) → SpellsOutcome bytes (codes "throwing") thrown errors → IsMark bytes (codes ":") colon → (is_word_at bytes (thrown ++ colon ∷ rest) 0 (codes "returning") ≡ false) × (is_mark_at bytes (thrown ++ colon ∷ rest) 0 (codes "(") ≡ false)
@@ -286,12 +286,12 @@ unfolding before_at
 before_read bytes word params names colon run rest w l c r =
     let e = append_assoc params (colon ∷ run) rest in
     ap (λ ts. before_at bytes (word ∷ ts)) e
-    ∙ both_give (word_at (word ∷ (params ++ (colon ∷ run ++ rest)))) _ (params ++ (colon ∷ run ++ rest)) _ (word_read word _ (word_kind bytes word (codes "before") w))
-    (both_give (list_at bytes [] (params ++ (colon ∷ run ++ rest))) _ (names, colon ∷ run ++ rest) _ (list_read bytes [] params names (colon ∷ run ++ rest) l)
+    ∙ both_give (any_word_at (word ∷ (params ++ (colon ∷ run ++ rest)))) _ (params ++ (colon ∷ run ++ rest)) _ (word_read word _ (word_kind bytes word (codes "before") w))
+    (both_give (list_at [] bytes (params ++ (colon ∷ run ++ rest))) _ (names, colon ∷ run ++ rest) _ (list_read bytes [] params names (colon ∷ run ++ rest) l)
     (both_give (pointcut_at bytes (colon ∷ run ++ rest)) _ rest _ (pointcut_read bytes colon run rest c r) refl))
 
 -- where an `after` goes on behind its list
-after_tail : (bytes : List ℕ) (names returned results thrown errors : List Token) (colon : Token) (run rest : List Token) → SpellsOutcome bytes (codes "returning") returned results → SpellsOutcome bytes (codes "throwing") thrown errors → IsMark bytes (codes ":") colon → RunsToEnd bytes run → (outcome_at bytes (codes "returning") names (returned ++ (thrown ++ (colon ∷ run ++ rest))) ≡ Some (names ++ results, thrown ++ (colon ∷ run ++ rest))) × (outcome_at bytes (codes "throwing") (names ++ results) (thrown ++ (colon ∷ run ++ rest)) ≡ Some (names ++ results ++ errors, colon ∷ run ++ rest)) × (pointcut_at bytes (colon ∷ run ++ rest) ≡ Some rest)
+after_tail : (bytes : List ℕ) (names returned results thrown errors : List Token) (colon : Token) (run rest : List Token) → SpellsOutcome bytes (codes "returning") returned results → SpellsOutcome bytes (codes "throwing") thrown errors → IsMark bytes (codes ":") colon → RunsToEnd bytes run → (outcome_at (codes "returning") names bytes (returned ++ (thrown ++ (colon ∷ run ++ rest))) ≡ Some (names ++ results, thrown ++ (colon ∷ run ++ rest))) × (outcome_at (codes "throwing") (names ++ results) bytes (thrown ++ (colon ∷ run ++ rest)) ≡ Some (names ++ results ++ errors, colon ∷ run ++ rest)) × (pointcut_at bytes (colon ∷ run ++ rest) ≡ Some rest)
 after_tail bytes names returned results thrown errors colon run rest u v c r =
     let b = errors_begin bytes thrown errors colon (run ++ rest) v c in (
       outcome_read bytes (codes "returning") names returned results (thrown ++ (colon ∷ run ++ rest)) u b.0 b.1,
@@ -308,10 +308,10 @@ after_read bytes word params names returned results thrown errors colon run rest
     let tail : List Token = returned ++ (thrown ++ (colon ∷ run ++ rest)) in
     let t = after_tail bytes names returned results thrown errors colon run rest u v c r in
     ap (λ ts. after_at bytes (word ∷ ts)) (regrouped params returned thrown (colon ∷ run) rest)
-    ∙ both_give (word_at (word ∷ (params ++ (returned ++ (thrown ++ (colon ∷ run ++ rest)))))) _ (params ++ (returned ++ (thrown ++ (colon ∷ run ++ rest)))) _ (word_read word _ (word_kind bytes word (codes "after") w))
-    (both_give (list_at bytes [] (params ++ (returned ++ (thrown ++ (colon ∷ run ++ rest))))) _ (names, returned ++ (thrown ++ (colon ∷ run ++ rest))) _ (list_read bytes [] params names (returned ++ (thrown ++ (colon ∷ run ++ rest))) l)
-    (both_give (outcome_at bytes (codes "returning") names (returned ++ (thrown ++ (colon ∷ run ++ rest)))) _ (names ++ results, thrown ++ (colon ∷ run ++ rest)) _ t.0
-    (both_give (outcome_at bytes (codes "throwing") (names ++ results) (thrown ++ (colon ∷ run ++ rest))) _ (names ++ results ++ errors, colon ∷ run ++ rest) _ t.1
+    ∙ both_give (any_word_at (word ∷ (params ++ (returned ++ (thrown ++ (colon ∷ run ++ rest)))))) _ (params ++ (returned ++ (thrown ++ (colon ∷ run ++ rest)))) _ (word_read word _ (word_kind bytes word (codes "after") w))
+    (both_give (list_at [] bytes (params ++ (returned ++ (thrown ++ (colon ∷ run ++ rest))))) _ (names, returned ++ (thrown ++ (colon ∷ run ++ rest))) _ (list_read bytes [] params names (returned ++ (thrown ++ (colon ∷ run ++ rest))) l)
+    (both_give (outcome_at (codes "returning") names bytes (returned ++ (thrown ++ (colon ∷ run ++ rest)))) _ (names ++ results, thrown ++ (colon ∷ run ++ rest)) _ t.0
+    (both_give (outcome_at (codes "throwing") (names ++ results) bytes (thrown ++ (colon ∷ run ++ rest))) _ (names ++ results ++ errors, colon ∷ run ++ rest) _ t.1
     (both_give (pointcut_at bytes (colon ∷ run ++ rest)) _ rest _ t.2 refl))))
 
 advice_choice : (bytes : List ℕ) (tokens : List Token) (g k : Bool) → is_word_at bytes tokens 0 (codes "before") ≡ g → is_word_at bytes tokens 0 (codes "after") ≡ k → advice_at bytes tokens ≡ cond {A = Option (Advice × List Token)} g (before_at bytes tokens) (cond {A = Option (Advice × List Token)} k (after_at bytes tokens) (other_at bytes tokens))
@@ -334,16 +334,16 @@ advice_read bytes front a rest (other first more b r) =
 
 -- events and declarations
 
-event_read : (bytes : List ℕ) (had : List Mention) (front : List Token) (e : Mention) (rest : List Token) → SpellsEvent bytes front e → event_at bytes had (front ++ rest) ≡ Some (had ++ e ∷ [], rest)
+event_read : (bytes : List ℕ) (had : List Mention) (front : List Token) (e : Mention) (rest : List Token) → SpellsEvent bytes front e → event_at had bytes (front ++ rest) ≡ Some (had ++ e ∷ [], rest)
 unfolding event_at creation_at
 event_read bytes had front e rest (event word name said a w n s) =
-    both_give (cond {A = Option (Bool × List Token)} (is_word bytes word (codes "creation")) _ (Some (false, word ∷ name ∷ said ++ rest))) _ (false, word ∷ name ∷ said ++ rest) _ (ap (λ g. cond {A = Option (Bool × List Token)} g (word_at (word ∷ name ∷ said ++ rest) >>= λ behind. Some (true, behind)) (Some (false, word ∷ name ∷ said ++ rest))) (no_other_word bytes word (codes "event") (codes "creation") w refl))
-    (both_give (word_at (word ∷ name ∷ said ++ rest)) _ (name ∷ said ++ rest) _ (word_read word (name ∷ said ++ rest) (word_kind bytes word (codes "event") w))
+    both_give (cond {A = Option (Bool × List Token)} (is_word bytes word (codes "creation")) _ (Some (false, word ∷ name ∷ said ++ rest))) _ (false, word ∷ name ∷ said ++ rest) _ (ap (λ g. cond {A = Option (Bool × List Token)} g (any_word_at (word ∷ name ∷ said ++ rest) >>= λ behind. Some (true, behind)) (Some (false, word ∷ name ∷ said ++ rest))) (no_other_word bytes word (codes "event") (codes "creation") w refl))
+    (both_give (any_word_at (word ∷ name ∷ said ++ rest)) _ (name ∷ said ++ rest) _ (word_read word (name ∷ said ++ rest) (word_kind bytes word (codes "event") w))
     (both_give (name_at bytes (name ∷ said ++ rest)) _ (name, said ++ rest) _ (name_read bytes name (said ++ rest) n)
     (both_give (advice_at bytes (said ++ rest)) _ (a, rest) _ (advice_read bytes said a rest s) refl)))
 event_read bytes had front e rest (creation_event creates word name said a k w n s) =
-    both_give (cond {A = Option (Bool × List Token)} (is_word bytes creates (codes "creation")) (word_at (creates ∷ word ∷ name ∷ said ++ rest) >>= λ behind. Some (true, behind)) (Some (false, creates ∷ word ∷ name ∷ said ++ rest))) _ (true, word ∷ name ∷ said ++ rest) _ (ap (λ g. cond {A = Option (Bool × List Token)} g (word_at (creates ∷ word ∷ name ∷ said ++ rest) >>= λ behind. Some (true, behind)) (Some (false, creates ∷ word ∷ name ∷ said ++ rest))) k ∙ both_give (word_at (creates ∷ word ∷ name ∷ said ++ rest)) _ (word ∷ name ∷ said ++ rest) _ (word_read creates (word ∷ name ∷ said ++ rest) (word_kind bytes creates (codes "creation") k)) refl)
-    (both_give (word_at (word ∷ name ∷ said ++ rest)) _ (name ∷ said ++ rest) _ (word_read word (name ∷ said ++ rest) (word_kind bytes word (codes "event") w))
+    both_give (cond {A = Option (Bool × List Token)} (is_word bytes creates (codes "creation")) (any_word_at (creates ∷ word ∷ name ∷ said ++ rest) >>= λ behind. Some (true, behind)) (Some (false, creates ∷ word ∷ name ∷ said ++ rest))) _ (true, word ∷ name ∷ said ++ rest) _ (ap (λ g. cond {A = Option (Bool × List Token)} g (any_word_at (creates ∷ word ∷ name ∷ said ++ rest) >>= λ behind. Some (true, behind)) (Some (false, creates ∷ word ∷ name ∷ said ++ rest))) k ∙ both_give (any_word_at (creates ∷ word ∷ name ∷ said ++ rest)) _ (word ∷ name ∷ said ++ rest) _ (word_read creates (word ∷ name ∷ said ++ rest) (word_kind bytes creates (codes "creation") k)) refl)
+    (both_give (any_word_at (word ∷ name ∷ said ++ rest)) _ (name ∷ said ++ rest) _ (word_read word (name ∷ said ++ rest) (word_kind bytes word (codes "event") w))
     (both_give (name_at bytes (name ∷ said ++ rest)) _ (name, said ++ rest) _ (name_read bytes name (said ++ rest) n)
     (both_give (advice_at bytes (said ++ rest)) _ (a, rest) _ (advice_read bytes said a rest s) refl)))
 
@@ -426,26 +426,26 @@ member_filled bytes at front xs (an_event tokens e s) = event_filled tokens e s
     event_filled ts m (event word name said a w n s) = omega arith
     event_filled ts m (creation_event creates word name said a k w n s) = omega arith
 
-member_read : (bytes : List ℕ) (front : List Token) (xs had : List Mention) (rest : List Token) → SpellsMember bytes front xs → Unit {0} → (begins_member bytes (front ++ rest) ≡ true) × (member_at bytes had (front ++ rest) ≡ Some (had ++ xs, rest)) × Unit {0}
+member_read : (bytes : List ℕ) (front : List Token) (xs had : List Mention) (rest : List Token) → SpellsMember bytes front xs → Unit {0} → (begins_member bytes (front ++ rest) ≡ true) × (member_at had bytes (front ++ rest) ≡ Some (had ++ xs, rest)) × Unit {0}
 unfolding member_at
 member_read bytes front xs had rest (declaration run r e p) u = (
   (λ i. not (no_closing bytes run rest r i || no_property_whole bytes run rest r p i)),
-  ap (λ g. cond {A = Option (List Mention × List Token)} g (event_at bytes had (run ++ rest)) (run_at bytes (run ++ rest) >>= λ behind. Some (had, behind))) (no_event_whole bytes run rest r e)
+  ap (λ g. cond {A = Option (List Mention × List Token)} g (event_at had bytes (run ++ rest)) (run_at bytes (run ++ rest) >>= λ behind. Some (had, behind))) (no_event_whole bytes run rest r e)
       ∙ both_give (run_at bytes (run ++ rest)) _ rest _ (run_read bytes run rest r) (ap (λ ys. Some (ys, rest)) (sym (append-nil had))),
   tt,
 )
 member_read bytes front xs had rest (an_event tokens e s) u =
     let b = event_begins bytes tokens e rest s in
-    (b.1, ap (λ g. cond {A = Option (List Mention × List Token)} g (event_at bytes had (tokens ++ rest)) (run_at bytes (tokens ++ rest) >>= λ behind. Some (had, behind))) b.0 ∙ event_read bytes had tokens e rest s, tt)
+    (b.1, ap (λ g. cond {A = Option (List Mention × List Token)} g (event_at had bytes (tokens ++ rest)) (run_at bytes (tokens ++ rest) >>= λ behind. Some (had, behind))) b.0 ∙ event_read bytes had tokens e rest s, tt)
 
-members_read : (bytes : List ℕ) (front : List Token) (xs : List Mention) (rest : List Token) → SpelledAnywhere (SpellsMember bytes) front xs → begins_member bytes rest ≡ false → members_at bytes [] (front ++ rest) ≡ Some (xs, rest)
-unfolding members_at
+members_read : (bytes : List ℕ) (front : List Token) (xs : List Mention) (rest : List Token) → SpelledAnywhere (SpellsMember bytes) front xs → begins_member bytes rest ≡ false → members_at bytes (front ++ rest) ≡ Some (xs, rest)
+unfolding gathered_at
 members_read bytes front xs rest r stop =
-    (items_complete (length (front ++ rest)) (λ _. SpellsMember bytes) (begins_member bytes) (member_at bytes) (λ _. Unit {0}) (member_filled bytes) (λ at ts ys zs us x p _. member_read bytes ts ys zs us x p) (length (front ++ rest)) 0 front xs [] rest r tt stop (omega arith) (omega arith)).0
+    (items_complete (length (front ++ rest)) (λ _. SpellsMember bytes) (begins_member bytes) (λ x. member_at x bytes) (λ _. Unit {0}) (member_filled bytes) (λ at ts ys zs us x p _. member_read bytes ts ys zs us x p) (length (front ++ rest)) 0 front xs [] rest r tt stop (omega arith) (omega arith)).0
 
 -- properties
 
-block_read : (bytes : List ℕ) (total at : ℕ) (opening : Token) (inside : List Token) (closing : Token) (rest : List Token) → IsMark bytes (codes "{") opening → open_after bytes [] inside ≡ Some [] → IsMark bytes (codes "}") closing → at + length ((opening ∷ inside ++ closing ∷ []) ++ rest) ≡ total → block_at bytes total ((opening ∷ inside ++ closing ∷ []) ++ rest) ≡ Some ((at + 1, at + 1 + length inside), rest)
+block_read : (bytes : List ℕ) (total at : ℕ) (opening : Token) (inside : List Token) (closing : Token) (rest : List Token) → IsMark bytes (codes "{") opening → open_after bytes [] inside ≡ Some [] → IsMark bytes (codes "}") closing → at + length ((opening ∷ inside ++ closing ∷ []) ++ rest) ≡ total → block_at total bytes ((opening ∷ inside ++ closing ∷ []) ++ rest) ≡ Some ((at + 1, at + 1 + length inside), rest)
 unfolding block_at
 block_read bytes total at opening inside closing rest o b c same =
     let counted = length-append (opening ∷ inside ++ closing ∷ []) rest in
@@ -468,7 +468,7 @@ sign_stops bytes sign rest s = record {
     and_none true = refl
     and_none false = refl
 
-handler_read : (bytes : List ℕ) (total at : ℕ) (front : List Token) (xs had : List HandlerText) (rest : List Token) → SpellsHandler bytes at front xs → StopsFormula bytes rest → at + length (front ++ rest) ≡ total → (begins_handler bytes (front ++ rest) ≡ true) × (handler_at bytes total had (front ++ rest) ≡ Some (had ++ xs, rest)) × StopsFormula bytes (front ++ rest)
+handler_read : (bytes : List ℕ) (total at : ℕ) (front : List Token) (xs had : List HandlerText) (rest : List Token) → SpellsHandler bytes at front xs → StopsFormula bytes rest → at + length (front ++ rest) ≡ total → (begins_handler bytes (front ++ rest) ≡ true) × (handler_at total had bytes (front ++ rest) ≡ Some (had ++ xs, rest)) × StopsFormula bytes (front ++ rest)
 unfolding handler_at
 handler_read bytes total at front xs had rest (handler sign category opening inside closing s n o b c) p same =
     let there : at + 2 + length ((opening ∷ inside ++ closing ∷ []) ++ rest) ≡ total = omega arith in
@@ -477,15 +477,15 @@ handler_read bytes total at front xs had rest (handler sign category opening ins
       s,
       both_give (mark_at bytes (codes "@") (sign ∷ category ∷ (opening ∷ inside ++ closing ∷ []) ++ rest)) _ (category ∷ (opening ∷ inside ++ closing ∷ []) ++ rest) _ (mark_read bytes (codes "@") sign _ s)
           (both_give (name_at bytes (category ∷ (opening ∷ inside ++ closing ∷ []) ++ rest)) _ (category, (opening ∷ inside ++ closing ∷ []) ++ rest) _ (name_read bytes category _ n)
-          (both_give (block_at bytes total ((opening ∷ inside ++ closing ∷ []) ++ rest)) _ ((at + 2 + 1, at + 2 + 1 + length inside), rest) _ (block_read bytes total (at + 2) opening inside closing rest o b c there)
+          (both_give (block_at total bytes ((opening ∷ inside ++ closing ∷ []) ++ rest)) _ ((at + 2 + 1, at + 2 + 1 + length inside), rest) _ (block_read bytes total (at + 2) opening inside closing rest o b c there)
           (λ i. Some (had ++ record { category = category; first = first i; last = last i } ∷ [], rest)))),
       sign_stops bytes sign (category ∷ (opening ∷ inside ++ closing ∷ []) ++ rest) s,
     )
 
-handlers_read : (bytes : List ℕ) (total at : ℕ) (front : List Token) (xs : List HandlerText) (rest : List Token) → Spelled (SpellsHandler bytes) at front xs → StopsFormula bytes rest → begins_handler bytes rest ≡ false → at + length (front ++ rest) ≡ total → (handlers_at bytes total [] (front ++ rest) ≡ Some (xs, rest)) × StopsFormula bytes (front ++ rest)
-unfolding handlers_at
+handlers_read : (bytes : List ℕ) (total at : ℕ) (front : List Token) (xs : List HandlerText) (rest : List Token) → Spelled (SpellsHandler bytes) at front xs → StopsFormula bytes rest → begins_handler bytes rest ≡ false → at + length (front ++ rest) ≡ total → (handlers_at total bytes (front ++ rest) ≡ Some (xs, rest)) × StopsFormula bytes (front ++ rest)
+unfolding gathered_at
 handlers_read bytes total at front xs rest r p stop same =
-    items_complete total (SpellsHandler bytes) (begins_handler bytes) (handler_at bytes total) (StopsFormula bytes) (handler_filled bytes) (handler_read bytes total) (length (front ++ rest)) at front xs [] rest r p stop same (omega arith)
+    items_complete total (SpellsHandler bytes) (begins_handler bytes) (λ x. handler_at total x bytes) (StopsFormula bytes) (handler_filled bytes) (handler_read bytes total) (length (front ++ rest)) at front xs [] rest r p stop same (omega arith)
 
 -- a property ends before these tokens
 record StopsProperty (bytes : List ℕ) (rest : List Token) : Type 0 where
@@ -529,7 +529,7 @@ closing_stops bytes closing rest c = record {
     or_true true k = refl
     or_true false k = refl
 
-property_read : (bytes : List ℕ) (total at : ℕ) (front : List Token) (xs had : List Property) (rest : List Token) → SpellsProperty bytes at front xs → StopsProperty bytes rest → at + length (front ++ rest) ≡ total → (goes_on bytes (front ++ rest) ≡ true) × (property_at bytes total had (front ++ rest) ≡ Some (had ++ xs, rest)) × StopsProperty bytes (front ++ rest)
+property_read : (bytes : List ℕ) (total at : ℕ) (front : List Token) (xs had : List Property) (rest : List Token) → SpellsProperty bytes at front xs → StopsProperty bytes rest → at + length (front ++ rest) ≡ total → (goes_on bytes (front ++ rest) ≡ true) × (property_at total had bytes (front ++ rest) ≡ Some (had ++ xs, rest)) × StopsProperty bytes (front ++ rest)
 unfolding property_at
 property_read bytes total at front xs had rest (property logic colon formula handling handlers n c f hs) p same =
     let counted = length-append (formula ++ handling) rest in
@@ -545,15 +545,15 @@ property_read bytes total at front xs had rest (property logic colon formula han
           (both_give (mark_at bytes (codes ":") (colon ∷ (formula ++ handling) ++ rest)) _ ((formula ++ handling) ++ rest) _ (mark_read bytes (codes ":") colon _ c)
           (both_give (passed ((formula ++ handling) ++ rest) (formula_length bytes ((formula ++ handling) ++ rest))) _ (handling ++ rest) _
           (ap (λ ts. passed ts (formula_length bytes ts)) e ∙ passed_complete formula (handling ++ rest) _ (formula_complete bytes formula (handling ++ rest) f h.1))
-          (both_give (handlers_at bytes total [] (handling ++ rest)) _ (handlers, rest) _ h.0
+          (both_give (handlers_at total bytes (handling ++ rest)) _ (handlers, rest) _ h.0
           (λ i. Some (had ++ record { logic = logic; first = first i; last = last i; handlers = handlers } ∷ [], rest))))),
       property_stops bytes logic colon ((formula ++ handling) ++ rest) n c,
     )
 
-properties_read : (bytes : List ℕ) (total at : ℕ) (front : List Token) (xs : List Property) (closing : Token) → Spelled (SpellsProperty bytes) at front xs → IsMark bytes (codes "}") closing → at + length (front ++ closing ∷ []) ≡ total → (properties_at bytes total [] (front ++ closing ∷ []) ≡ Some (xs, closing ∷ [])) × StopsProperty bytes (front ++ closing ∷ [])
-unfolding properties_at
+properties_read : (bytes : List ℕ) (total at : ℕ) (front : List Token) (xs : List Property) (closing : Token) → Spelled (SpellsProperty bytes) at front xs → IsMark bytes (codes "}") closing → at + length (front ++ closing ∷ []) ≡ total → (properties_at total bytes (front ++ closing ∷ []) ≡ Some (xs, closing ∷ [])) × StopsProperty bytes (front ++ closing ∷ [])
+unfolding gathered_at
 properties_read bytes total at front xs closing r c same =
-    items_complete total (SpellsProperty bytes) (goes_on bytes) (property_at bytes total) (StopsProperty bytes) (property_filled bytes) (property_read bytes total) (length (front ++ closing ∷ [])) at front xs [] (closing ∷ []) r (closing_stops bytes closing [] c) (ap (λ g. not g) c) same (omega arith)
+    items_complete total (SpellsProperty bytes) (goes_on bytes) (λ x. property_at total x bytes) (StopsProperty bytes) (property_filled bytes) (property_read bytes total) (length (front ++ closing ∷ [])) at front xs [] (closing ∷ []) r (closing_stops bytes closing [] c) (ap (λ g. not g) c) same (omega arith)
 
 -- the file
 
@@ -574,8 +574,8 @@ body_read bytes total at ms name names within es ps (body opening members events
     let there : at + 1 + length members + length (stating ++ closing ∷ []) ≡ total = omega arith in
     let r = properties_read bytes total (at + 1 + length members) stating properties closing p c there in
     both_give (mark_at bytes (codes "{") (opening ∷ members ++ stating ++ closing ∷ [])) _ (members ++ stating ++ closing ∷ []) _ (mark_read bytes (codes "{") opening _ o)
-    (both_give (members_at bytes [] (members ++ stating ++ closing ∷ [])) _ (events, stating ++ closing ∷ []) _ (ap (members_at bytes []) e ∙ members_read bytes members events (stating ++ closing ∷ []) m (stops_members bytes (stating ++ closing ∷ []) r.1))
-    (both_give (properties_at bytes total [] (stating ++ closing ∷ [])) _ (properties, closing ∷ []) _ r.0
+    (both_give (members_at bytes (members ++ stating ++ closing ∷ [])) _ (events, stating ++ closing ∷ []) _ (ap (members_at bytes) e ∙ members_read bytes members events (stating ++ closing ∷ []) m (stops_members bytes (stating ++ closing ∷ []) r.1))
+    (both_give (properties_at total bytes (stating ++ closing ∷ [])) _ (properties, closing ∷ []) _ r.0
     (both_give (mark_at bytes (codes "}") (closing ∷ [])) _ [] _ (mark_read bytes (codes "}") closing [] c) refl)))
 
 no_clause_begins : (bytes : List ℕ) (front : List Token) (name : Token) (more : List Token) → BeginsNoClause bytes (front ++ name ∷ []) → begins_clause bytes (front ++ name ∷ more) ≡ false
@@ -590,21 +590,21 @@ no_clause_begins bytes front name more h = first front h
     first [] h = neither name (is_word bytes name (codes "package")) (is_word bytes name (codes "import")) refl refl h
     first (x ∷ xs) h = neither x (is_word bytes x (codes "package")) (is_word bytes x (codes "import")) refl refl h
 
-head_read : (bytes : List ℕ) (total : ℕ) (clauses heading : List Token) (ms : List Modifier) (name : Token) (names d : List Token) → Repeats (SpellsClause bytes) clauses → SpellsHead bytes heading ms name names → frame_at bytes total (clauses ++ (heading ++ d)) ≡ file_tail bytes total ms name names d
+head_read : (bytes : List ℕ) (total : ℕ) (clauses heading : List Token) (ms : List Modifier) (name : Token) (names d : List Token) → Repeats (SpellsClause bytes) clauses → SpellsHead bytes heading ms name names → frame_at total bytes (clauses ++ (heading ++ d)) ≡ file_tail bytes total ms name names d
 unfolding frame_at
 head_read bytes total clauses heading ms name names d cs (head modifying modifiers title params titles m n l no_clause) =
     let e = append_assoc modifying (title ∷ params) d in
     let r = modifiers_read bytes modifying modifiers (title ∷ params ++ d) m (name_kind bytes title n) (ap (λ g. not g) (list_begins bytes params titles d l)) in
-    both_give (clauses_at bytes (clauses ++ ((modifying ++ title ∷ params) ++ d))) _ ((modifying ++ title ∷ params) ++ d) _ (clauses_read bytes clauses ((modifying ++ title ∷ params) ++ d) cs (ap (begins_clause bytes) e ∙ no_clause_begins bytes modifying title (params ++ d) no_clause))
-    (both_give (modifiers_at bytes [] ((modifying ++ title ∷ params) ++ d)) _ (modifiers, title ∷ params ++ d) _ (ap (modifiers_at bytes []) e ∙ r.0)
+    both_give (clauses_at bytes (clauses ++ ((modifying ++ title ∷ params) ++ d))) _ (tt, (modifying ++ title ∷ params) ++ d) _ (clauses_read bytes clauses ((modifying ++ title ∷ params) ++ d) cs (ap (begins_clause bytes) e ∙ no_clause_begins bytes modifying title (params ++ d) no_clause))
+    (both_give (modifiers_at bytes ((modifying ++ title ∷ params) ++ d)) _ (modifiers, title ∷ params ++ d) _ (ap (modifiers_at bytes) e ∙ r.0)
     (both_give (name_at bytes (title ∷ params ++ d)) _ (title, params ++ d) _ (name_read bytes title (params ++ d) n)
-    (both_give (list_at bytes [] (params ++ d)) _ (titles, d) _ (list_read bytes [] params titles d l) refl)))
+    (both_give (list_at [] bytes (params ++ d)) _ (titles, d) _ (list_read bytes [] params titles d l) refl)))
 
 pub spelled_is_frame : (bytes : List ℕ) (tokens : List Token) (frame : Frame) → Spells bytes tokens frame → frame_of bytes tokens ≡ Some frame
 spelled_is_frame bytes tokens frame (file clauses heading modifiers name params within events properties cs h b) =
     let e = append_assoc clauses heading within in
     let counted = length-append (clauses ++ heading) within in
     let both = length-append clauses heading in
-    ap (frame_at bytes (length (clauses ++ heading ++ within))) e
+    ap (frame_at (length (clauses ++ heading ++ within)) bytes) e
     ∙ head_read bytes (length (clauses ++ heading ++ within)) clauses heading modifiers name params within cs h
     ∙ body_read bytes (length (clauses ++ heading ++ within)) (length clauses + length heading) modifiers name params within events properties b (omega arith)

@@ -2,7 +2,6 @@
 use Rattle.std.proofs.Common.{◌≡◌, ℕ, zero, suc, ◌+◌, ◌<◌, ◌≤◌, Bool, true, false, cond, List, [], ◌∷◌, ◌++◌, length, Option, Some, None, refl, sym, ap, ◌∙◌, subst, arith, append_assoc, length-append}
 use Rattle.jm_text.specs.declared.token.Token.{Token}
 use Rattle.jm_reading.specs.Reading.{◌>>=◌, at_most}
-use Rattle.jm_spec.specs.Reading.{step_at_most}
 use Rattle.jm_spec.specs.Spelling.{Repeats, nothing, one_more, Spelled}
 
 pub append-nil : {X : Type 0} (xs : List X) → xs ++ [] ≡ xs
@@ -37,10 +36,16 @@ pub record Adds {V : Type 0} (X : List Token → List V → Type 0) (tokens : Li
   pub all : out ≡ before ++ values
   pub said : X front values
 
+-- a rule of which nothing is kept
+abbrev once : (List Token → Option (List Token)) → Unit {0} → List Token → Option (Unit {0} × List Token)
+once step u tokens = step tokens >>= λ rest. Some (u, rest)
+
 module _ (X : List Token → Type 0) (goes_on : List Token → Bool) (step : List Token → Option (List Token)) (sound : (tokens rest : List Token) → goes_on tokens ≡ true → step tokens ≡ Some rest → Fronts X tokens rest) where
-  stays : (g : Bool) (tokens rest : List Token) → goes_on tokens ≡ g → cond g None (Some tokens) ≡ Some rest → Fronts (Repeats X) tokens rest × (goes_on rest ≡ false)
-  stays true tokens rest g h = absurd (never_some h)
-  stays false tokens rest g h = (record { front = []; split = same_some h; said = nothing }, ap goes_on (sym (same_some h)) ∙ g)
+  stays : (g : Bool) (tokens rest : List Token) (u v : Unit {0}) → goes_on tokens ≡ g → cond {A = Option (Unit {0} × List Token)} g None (Some (u, tokens)) ≡ Some (v, rest) → Fronts (Repeats X) tokens rest × (goes_on rest ≡ false)
+  stays true tokens rest u v g h = absurd (never_some h)
+  stays false tokens rest u v g h =
+      let e = same_some h in
+      (record { front = []; split = ap (λ p. p.1) e; said = nothing }, ap (λ p. goes_on p.1) (sym e) ∙ g)
 
   joined : (tokens mid rest : List Token) → Fronts X tokens mid → Fronts (Repeats X) mid rest → Fronts (Repeats X) tokens rest
   joined tokens mid rest a b = record {
@@ -49,16 +54,18 @@ module _ (X : List Token → Type 0) (goes_on : List Token → Bool) (step : Lis
     said = one_more a.front b.front a.said b.said;
   }
 
-  goes : (n : ℕ) (g : Bool) (tokens rest : List Token) → ((mid : List Token) → step_at_most goes_on step n mid ≡ Some rest → Fronts (Repeats X) mid rest × (goes_on rest ≡ false)) → goes_on tokens ≡ g → cond g (step tokens >>= step_at_most goes_on step n) (Some tokens) ≡ Some rest → Fronts (Repeats X) tokens rest × (goes_on rest ≡ false)
-  goes n false tokens rest more g h = stays false tokens rest g h
-  goes n true tokens rest more g h =
-      let p = first_gives (step tokens) (step_at_most goes_on step n) rest h in
-      let r = more p.0 p.2 in
-      (joined tokens p.0 rest (sound tokens p.0 g p.1) r.0, r.1)
+  goes : (n : ℕ) (g : Bool) (tokens rest : List Token) (u v : Unit {0}) → ((w : Unit {0}) (mid : List Token) → at_most goes_on (once step) n w mid ≡ Some (v, rest) → Fronts (Repeats X) mid rest × (goes_on rest ≡ false)) → goes_on tokens ≡ g → cond {A = Option (Unit {0} × List Token)} g (once step u tokens >>= λ x. at_most goes_on (once step) n x.0 x.1) (Some (u, tokens)) ≡ Some (v, rest) → Fronts (Repeats X) tokens rest × (goes_on rest ≡ false)
+  goes n false tokens rest u v more g h = stays false tokens rest u v g h
+  goes n true tokens rest u v more g h =
+      let p = first_gives (once step u tokens) (λ x. at_most goes_on (once step) n x.0 x.1) (v, rest) h in
+      let q = first_gives (step tokens) (λ rest. Some (u, rest)) p.0 p.1 in
+      let here = sound tokens p.0.1 g (q.1 ∙ ap (λ x. Some x.1) (same_some q.2)) in
+      let r = more p.0.0 p.0.1 p.2 in
+      (joined tokens p.0.1 rest here r.0, r.1)
 
-  pub steps_sound : (n : ℕ) (tokens rest : List Token) → step_at_most goes_on step n tokens ≡ Some rest → Fronts (Repeats X) tokens rest × (goes_on rest ≡ false)
-  steps_sound zero tokens rest h = stays (goes_on tokens) tokens rest refl h
-  steps_sound (suc n) tokens rest h = goes n (goes_on tokens) tokens rest (λ mid. steps_sound n mid rest) refl h
+  pub steps_sound : (n : ℕ) (tokens rest : List Token) (u v : Unit {0}) → at_most goes_on (once step) n u tokens ≡ Some (v, rest) → Fronts (Repeats X) tokens rest × (goes_on rest ≡ false)
+  steps_sound zero tokens rest u v h = stays (goes_on tokens) tokens rest u v refl h
+  steps_sound (suc n) tokens rest u v h = goes n (goes_on tokens) tokens rest u v (λ w mid. steps_sound n mid rest w v) refl h
 
 module _ {V : Type 0} (total : ℕ) (X : ℕ → List Token → List V → Type 0) (goes_on : List Token → Bool) (item : List V → List Token → Option (List V × List Token)) (sound : (at : ℕ) (xs : List V) (tokens : List Token) (out : List V) (rest : List Token) → at + length tokens ≡ total → goes_on tokens ≡ true → item xs tokens ≡ Some (out, rest) → Adds (X at) tokens xs out rest) where
   item_stays : (at : ℕ) (g : Bool) (xs : List V) (tokens : List Token) (out : List V) (rest : List Token) → goes_on tokens ≡ g → cond {A = Option (List V × List Token)} g None (Some (xs, tokens)) ≡ Some (out, rest) → Adds (Spelled X at) tokens xs out rest × (goes_on rest ≡ false)
@@ -93,26 +100,26 @@ module _ {V : Type 0} (total : ℕ) (X : ℕ → List Token → List V → Type 
 
 -- The other way. What stands behind the last item meets `next`, and so does what stands before it; each item is read there.
 module _ (X : List Token → Type 0) (goes_on : List Token → Bool) (step : List Token → Option (List Token)) (next : List Token → Type 0) (filled : (front : List Token) → X front → 0 < length front) (each : (front behind : List Token) → X front → next behind → (goes_on (front ++ behind) ≡ true) × (step (front ++ behind) ≡ Some behind) × next (front ++ behind)) where
-  steps_stop : (n : ℕ) (rest : List Token) → goes_on rest ≡ false → step_at_most goes_on step n rest ≡ Some rest
-  steps_stop zero rest h = rw h refl
-  steps_stop (suc n) rest h = rw h refl
+  steps_stop : (n : ℕ) (u : Unit {0}) (rest : List Token) → goes_on rest ≡ false → at_most goes_on (once step) n u rest ≡ Some (u, rest)
+  steps_stop zero u rest h = rw h refl
+  steps_stop (suc n) u rest h = rw h refl
 
-  steps_go : (n : ℕ) (front behind rest : List Token) → X front → next behind → step_at_most goes_on step n behind ≡ Some rest → (step_at_most goes_on step (suc n) (front ++ behind) ≡ Some rest) × next (front ++ behind)
-  steps_go n front behind rest x p more =
+  steps_go : (n : ℕ) (u : Unit {0}) (front behind rest : List Token) → X front → next behind → at_most goes_on (once step) n u behind ≡ Some (u, rest) → (at_most goes_on (once step) (suc n) u (front ++ behind) ≡ Some (u, rest)) × next (front ++ behind)
+  steps_go n u front behind rest x p more =
       let e = each front behind x p in
       (rw (e.0, e.1) more, e.2)
 
-  pub steps_complete : (n : ℕ) (tokens rest : List Token) → Repeats X tokens → next rest → goes_on rest ≡ false → length (tokens ++ rest) ≤ n → (step_at_most goes_on step n (tokens ++ rest) ≡ Some rest) × next (tokens ++ rest)
-  steps_complete n tokens rest nothing p stop enough = (steps_stop n rest stop, p)
-  steps_complete zero tokens rest (one_more front behind x more) p stop enough =
+  pub steps_complete : (n : ℕ) (u : Unit {0}) (tokens rest : List Token) → Repeats X tokens → next rest → goes_on rest ≡ false → length (tokens ++ rest) ≤ n → (at_most goes_on (once step) n u (tokens ++ rest) ≡ Some (u, rest)) × next (tokens ++ rest)
+  steps_complete n u tokens rest nothing p stop enough = (steps_stop n u rest stop, p)
+  steps_complete zero u tokens rest (one_more front behind x more) p stop enough =
       let f = filled front x in
       absurd (omega (arith, length-append (front ++ behind) rest, length-append front behind))
-  steps_complete (suc n) tokens rest (one_more front behind x more) p stop enough =
+  steps_complete (suc n) u tokens rest (one_more front behind x more) p stop enough =
       let f = filled front x in
       let shorter : length (behind ++ rest) ≤ n = omega (arith, length-append (front ++ behind) rest, length-append front behind, length-append behind rest) in
-      let r = steps_complete n behind rest more p stop shorter in
+      let r = steps_complete n u behind rest more p stop shorter in
       let e = append_assoc front behind rest in
-      subst (λ ts. (step_at_most goes_on step (suc n) ts ≡ Some rest) × next ts) (sym e) (steps_go n front (behind ++ rest) rest x r.1 r.0)
+      subst (λ ts. (at_most goes_on (once step) (suc n) u ts ≡ Some (u, rest)) × next ts) (sym e) (steps_go n u front (behind ++ rest) rest x r.1 r.0)
 
 module _ {V : Type 0} (total : ℕ) (X : ℕ → List Token → List V → Type 0) (goes_on : List Token → Bool) (item : List V → List Token → Option (List V × List Token)) (next : List Token → Type 0) (filled : (at : ℕ) (front : List Token) (xs : List V) → X at front xs → 0 < length front) (each : (at : ℕ) (front : List Token) (xs before : List V) (behind : List Token) → X at front xs → next behind → at + length (front ++ behind) ≡ total → (goes_on (front ++ behind) ≡ true) × (item before (front ++ behind) ≡ Some (before ++ xs, behind)) × next (front ++ behind)) where
   items_stop : (n : ℕ) (before : List V) (rest : List Token) → goes_on rest ≡ false → at_most goes_on item n before rest ≡ Some (before ++ [], rest)

@@ -16,9 +16,9 @@ use Rattle.jm_spec.specs.declared.property.HandlerText.{HandlerText}
 use Rattle.jm_spec.specs.declared.property.Property.{Property}
 use Rattle.jm_spec.specs.declared.frame.Frame.{Frame}
 use Rattle.jm_spec.specs.Runs.{clause_length, member_length, parameter_length, begins_property, formula_length}
-use Rattle.jm_reading.specs.Reading.{◌>>=◌, is_mark_at, is_word_at, is_name_at, name_at}
-use Rattle.jm_spec.specs.Reading.{place, mark_at, word_at, passed}
-use Rattle.jm_spec.specs.Rules.{begins_clause, clause_at, clauses_at, more_word_at, begins_more_word, more_words_at, modifier_of, modifier_at, begins_modifier, modifiers_at, named_at, param_at, more_param_at, begins_more_param, more_params_at, params_at, inner_params_at, list_at, run_at, pointcut_at, before_at, optional_list_at, outcome_at, after_at, other_at, advice_at, creation_at, begins_event, event_at, member_at, begins_member, members_at, block_at, handler_at, begins_handler, handlers_at, property_at, goes_on, properties_at, at_end, frame_at, frame_of}
+use Rattle.jm_reading.specs.Reading.{◌>>=◌, is_mark_at, is_word_at, is_name_at, mark_at, name_at}
+use Rattle.jm_spec.specs.Reading.{place, any_word_at, passed, gathered_at}
+use Rattle.jm_spec.specs.Rules.{begins_clause, clause_at, clauses_at, more_word_at, begins_more_word, more_words_at, modifier_of, modifier_at, begins_modifier, modifiers_at, named_at, param_at, more_param_at, begins_more_param, more_params_at, params_at, list_at, run_at, pointcut_at, before_at, optional_list_at, outcome_at, after_at, other_at, advice_at, creation_at, begins_event, event_at, member_at, begins_member, members_at, block_at, handler_at, begins_handler, handlers_at, property_at, goes_on, properties_at, at_end, frame_at, frame_of}
 use Rattle.jm_spec.specs.Balance.{open_after}
 use Rattle.jm_reading.specs.Tokens.{IsMark, IsWord, IsName}
 use Rattle.jm_spec.specs.Spelling.{IsAnyWord, Repeats, Spelled, SpelledAnywhere, BeginsClause, SpellsClause, clause, SpellsMoreWord, more_word, SpellsModifier, modifier, open_in_list, IsType, SpellsParam, param, SpellsMoreParam, more_param, SpellsParams, no_params, some_params, SpellsList, list, RunsToEnd, SpellsOutcome, missing, alone, with_list, BeginsOther, SpellsAdvice, before, after, other, SpellsEvent, event, creation_event, SpellsMember, declaration, an_event, SpellsHandler, handler, SpellsProperty, property, BeginsNoClause, SpellsHead, head, SpellsBody, body, Spells, file}
@@ -46,8 +46,8 @@ name_sound bytes (t ∷ ts) name rest h = found (is_name bytes t) refl h
     found true g h = let e = same_some h in (λ i. (e i).0 ∷ (e i).1, sym (ap (λ p. is_name bytes p.0) e) ∙ g)
     found false g h = absurd (never_some h)
 
-pub word_sound : (tokens rest : List Token) → word_at tokens ≡ Some rest → (t : Token) × (tokens ≡ t ∷ rest) × IsAnyWord t
-unfolding word_at
+pub word_sound : (tokens rest : List Token) → any_word_at tokens ≡ Some rest → (t : Token) × (tokens ≡ t ∷ rest) × IsAnyWord t
+unfolding any_word_at
 word_sound [] rest h = absurd (never_some h)
 word_sound (t ∷ ts) rest h = found (is_word_kind t.kind) refl h
   where
@@ -75,22 +75,22 @@ clause_is bytes (t ∷ ts) rest begins h =
     let whole : take p.0 (t ∷ ts) ≡ t ∷ c.run ++ c.semicolon ∷ [] = ap (λ k. take k (t ∷ ts)) q.2 ∙ ap (λ xs. t ∷ xs) c.split in
     record { front = t ∷ c.run ++ c.semicolon ∷ []; split = p.2 ∙ ap (λ xs. xs ++ rest) whole; said = clause t c.run c.semicolon b c.none c.ends }
 
-clauses_are : (bytes : List ℕ) (tokens rest : List Token) → clauses_at bytes tokens ≡ Some rest → Fronts (Repeats (SpellsClause bytes)) tokens rest × (begins_clause bytes rest ≡ false)
-unfolding clauses_at
-clauses_are bytes tokens rest h = steps_sound (SpellsClause bytes) (begins_clause bytes) (clause_at bytes) (λ ts r. clause_is bytes ts r) (length tokens) tokens rest h
+clauses_are : (bytes : List ℕ) (tokens rest : List Token) (u : Unit {0}) → clauses_at bytes tokens ≡ Some (u, rest) → Fronts (Repeats (SpellsClause bytes)) tokens rest × (begins_clause bytes rest ≡ false)
+unfolding gathered_at
+clauses_are bytes tokens rest u h = steps_sound (SpellsClause bytes) (begins_clause bytes) (clause_at bytes) (λ ts r. clause_is bytes ts r) (length tokens) tokens rest tt u h
 
 -- the modifiers
 more_word_is : (bytes : List ℕ) (tokens rest : List Token) → more_word_at bytes tokens ≡ Some rest → Fronts (SpellsMoreWord bytes) tokens rest
 unfolding more_word_at
 more_word_is bytes tokens rest h =
-    let p = first_gives (mark_at bytes (codes "-") tokens) word_at rest h in
+    let p = first_gives (mark_at bytes (codes "-") tokens) any_word_at rest h in
     let m = mark_sound bytes (codes "-") tokens p.0 p.1 in
     let w = word_sound p.0 rest p.2 in
     record { front = m.0 ∷ w.0 ∷ []; split = m.1 ∙ ap (λ r. m.0 ∷ r) w.1; said = more_word m.0 w.0 m.2 w.2 }
 
-more_words_are : (bytes : List ℕ) (tokens rest : List Token) → more_words_at bytes tokens ≡ Some rest → Fronts (Repeats (SpellsMoreWord bytes)) tokens rest
-unfolding more_words_at
-more_words_are bytes tokens rest h = (steps_sound (SpellsMoreWord bytes) (begins_more_word bytes) (more_word_at bytes) (λ ts r _. more_word_is bytes ts r) (length tokens) tokens rest h).0
+more_words_are : (bytes : List ℕ) (tokens rest : List Token) (u : Unit {0}) → more_words_at bytes tokens ≡ Some (u, rest) → Fronts (Repeats (SpellsMoreWord bytes)) tokens rest
+unfolding gathered_at
+more_words_are bytes tokens rest u h = (steps_sound (SpellsMoreWord bytes) (begins_more_word bytes) (more_word_at bytes) (λ ts r _. more_word_is bytes ts r) (length tokens) tokens rest tt u h).0
 
 regrouped : (a b c d rest : List Token) → (a ++ b ++ c ++ d) ++ rest ≡ a ++ (b ++ (c ++ (d ++ rest)))
 regrouped a b c d rest = simp append_assoc
@@ -100,27 +100,27 @@ front_of tokens front rest split =
     let n : length tokens - length rest ≡ length front = omega (arith, ap length split, length-append front rest) in
     (λ i. take (n i) (split i)) ∙ take-append_seam front rest
 
-modifier_is : (bytes : List ℕ) (ms : List Modifier) (tokens : List Token) (out : List Modifier) (rest : List Token) → modifier_at bytes ms tokens ≡ Some (out, rest) → Adds (SpellsModifier bytes) tokens ms out rest
+modifier_is : (bytes : List ℕ) (ms : List Modifier) (tokens : List Token) (out : List Modifier) (rest : List Token) → modifier_at ms bytes tokens ≡ Some (out, rest) → Adds (SpellsModifier bytes) tokens ms out rest
 unfolding modifier_at
 modifier_is bytes ms tokens out rest h =
-    let p = first_gives (word_at tokens) _ (out, rest) h in
+    let p = first_gives (any_word_at tokens) _ (out, rest) h in
     let q = first_gives (more_words_at bytes p.0) _ (out, rest) p.2 in
     let w = word_sound tokens p.0 p.1 in
-    let m = more_words_are bytes p.0 q.0 q.1 in
+    let m = more_words_are bytes p.0 q.0.1 q.0.0 q.1 in
     let e = same_some q.2 in
-    let split : tokens ≡ (w.0 ∷ m.front) ++ q.0 = w.1 ∙ ap (λ r. w.0 ∷ r) m.split in
+    let split : tokens ≡ (w.0 ∷ m.front) ++ q.0.1 = w.1 ∙ ap (λ r. w.0 ∷ r) m.split in
     record {
       front = w.0 ∷ m.front;
       values = modifier_of bytes (w.0 ∷ m.front) ∷ [];
       split = split ∙ ap (λ x. (w.0 ∷ m.front) ++ x.1) e;
-      all = sym (ap (λ x. x.0) e) ∙ ap (λ ts. ms ++ modifier_of bytes ts ∷ []) (front_of tokens (w.0 ∷ m.front) q.0 split);
+      all = sym (ap (λ x. x.0) e) ∙ ap (λ ts. ms ++ modifier_of bytes ts ∷ []) (front_of tokens (w.0 ∷ m.front) q.0.1 split);
       said = modifier w.0 m.front w.2 m.said;
     }
 
-modifiers_are : (bytes : List ℕ) (tokens : List Token) (out : List Modifier) (rest : List Token) → modifiers_at bytes [] tokens ≡ Some (out, rest) → Adds (SpelledAnywhere (SpellsModifier bytes)) tokens [] out rest
-unfolding modifiers_at
+modifiers_are : (bytes : List ℕ) (tokens : List Token) (out : List Modifier) (rest : List Token) → modifiers_at bytes tokens ≡ Some (out, rest) → Adds (SpelledAnywhere (SpellsModifier bytes)) tokens [] out rest
+unfolding gathered_at
 modifiers_are bytes tokens out rest h =
-    (items_sound (length tokens) (λ _. SpellsModifier bytes) (begins_modifier bytes) (modifier_at bytes) (λ at xs ts ys r _ _. modifier_is bytes xs ts ys r) (length tokens) 0 [] tokens out rest (omega arith) h).0
+    (items_sound (length tokens) (λ _. SpellsModifier bytes) (begins_modifier bytes) (λ x. modifier_at x bytes) (λ at xs ts ys r _ _. modifier_is bytes xs ts ys r) (length tokens) 0 [] tokens out rest (omega arith) h).0
 
 -- lists of parameters
 record HasLast (front : List Token) : Type 0 where
@@ -182,36 +182,35 @@ param_named bytes names (t ∷ ts) behind rest' out rest enough balanced held na
           said = subst (λ xs. SpellsParam bytes xs (l.last ∷ [])) (sym l.split) (param l.before l.last (type_of bytes l.before l.last is_name filled (ap (open_in_list bytes []) (sym l.split) ∙ balanced) (subst (IsHeld bytes []) l.split held)) is_name);
         }
 
-param_is : (bytes : List ℕ) (names tokens out rest : List Token) → param_at bytes names tokens ≡ Some (out, rest) → Adds (SpellsParam bytes) tokens names out rest
+param_is : (bytes : List ℕ) (names tokens out rest : List Token) → param_at names bytes tokens ≡ Some (out, rest) → Adds (SpellsParam bytes) tokens names out rest
 unfolding param_at
 param_is bytes names tokens out rest h = given (parameter_sound bytes tokens [] p.0 p.1)
   where
-    p : (n : ℕ) × (parameter_length bytes tokens ≡ Some n) × (named_at bytes names tokens n ≡ Some (out, rest))
-    p = first_gives (parameter_length bytes tokens) (named_at bytes names tokens) (out, rest) h
+    p : (n : ℕ) × (parameter_length bytes tokens ≡ Some n) × (named_at names bytes tokens n ≡ Some (out, rest))
+    p = first_gives (parameter_length bytes tokens) (named_at names bytes tokens) (out, rest) h
 
     given : TakesParameter bytes [] tokens p.0 → Adds (SpellsParam bytes) tokens names out rest
     given r =
-        let read : named_at bytes names (r.front ++ r.behind ∷ r.rest) (length r.front) ≡ Some (out, rest) = (λ i. named_at bytes names (sym r.split i) (sym r.count i)) ∙ p.2 in
+        let read : named_at names bytes (r.front ++ r.behind ∷ r.rest) (length r.front) ≡ Some (out, rest) = (λ i. named_at names bytes (sym r.split i) (sym r.count i)) ∙ p.2 in
         let q = named_if (nat_lt (length r.front) 2) (is_name_at bytes (r.front ++ r.behind ∷ r.rest) (length r.front - 1)) _ _ read (out, rest) refl in
         subst (λ ts. Adds (SpellsParam bytes) ts names out rest) (sym r.split) (param_named bytes names r.front r.behind r.rest out rest (not_less (length r.front) q.0) r.balanced r.held q.1 q.2)
 
-more_param_is : (bytes : List ℕ) (names tokens out rest : List Token) → more_param_at bytes names tokens ≡ Some (out, rest) → Adds (SpellsMoreParam bytes) tokens names out rest
+more_param_is : (bytes : List ℕ) (names tokens out rest : List Token) → more_param_at names bytes tokens ≡ Some (out, rest) → Adds (SpellsMoreParam bytes) tokens names out rest
 unfolding more_param_at
 more_param_is bytes names tokens out rest h =
-    let p = first_gives (mark_at bytes (codes ",") tokens) (param_at bytes names) (out, rest) h in
+    let p = first_gives (mark_at bytes (codes ",") tokens) (param_at names bytes) (out, rest) h in
     let m = mark_sound bytes (codes ",") tokens p.0 p.1 in
     let r = param_is bytes names p.0 out rest p.2 in
     record { front = m.0 ∷ r.front; values = r.values; split = m.1 ∙ ap (λ xs. m.0 ∷ xs) r.split; all = r.all; said = more_param m.0 r.front r.values m.2 r.said }
 
-more_params_are : (bytes : List ℕ) (names tokens out rest : List Token) → more_params_at bytes names tokens ≡ Some (out, rest) → Adds (SpelledAnywhere (SpellsMoreParam bytes)) tokens names out rest
-unfolding more_params_at
+more_params_are : (bytes : List ℕ) (names tokens out rest : List Token) → more_params_at names bytes tokens ≡ Some (out, rest) → Adds (SpelledAnywhere (SpellsMoreParam bytes)) tokens names out rest
+unfolding gathered_at
 more_params_are bytes names tokens out rest h =
-    (items_sound (length tokens) (λ _. SpellsMoreParam bytes) (begins_more_param bytes) (more_param_at bytes) (λ at xs ts ys r _ _. more_param_is bytes xs ts ys r) (length tokens) 0 names tokens out rest (omega arith) h).0
+    (items_sound (length tokens) (λ _. SpellsMoreParam bytes) (begins_more_param bytes) (λ x. more_param_at x bytes) (λ at xs ts ys r _ _. more_param_is bytes xs ts ys r) (length tokens) 0 names tokens out rest (omega arith) h).0
 
-params_are : (bytes : List ℕ) (names tokens out rest : List Token) → params_at bytes names tokens ≡ Some (out, rest) → Adds (SpellsParams bytes) tokens names out rest
-unfolding params_at
-params_are bytes names tokens out rest h =
-    let p = first_gives (param_at bytes names tokens) (λ first. more_params_at bytes first.0 first.1) (out, rest) h in
+some_are : (bytes : List ℕ) (names tokens out rest : List Token) → (param_at names bytes tokens >>= λ first. more_params_at first.0 bytes first.1) ≡ Some (out, rest) → Adds (SpellsParams bytes) tokens names out rest
+some_are bytes names tokens out rest h =
+    let p = first_gives (param_at names bytes tokens) (λ first. more_params_at first.0 bytes first.1) (out, rest) h in
     let a = param_is bytes names tokens p.0.0 p.0.1 p.1 in
     let b = more_params_are bytes p.0.0 p.0.1 out rest p.2 in
     record {
@@ -222,22 +221,22 @@ params_are bytes names tokens out rest h =
       said = some_params a.front b.front a.values b.values a.said b.said;
     }
 
-inner_params_are : (bytes : List ℕ) (names tokens out rest : List Token) → inner_params_at bytes names tokens ≡ Some (out, rest) → Adds (SpellsParams bytes) tokens names out rest
-unfolding inner_params_at
-inner_params_are bytes names tokens out rest h = given (is_mark_at bytes tokens 0 (codes ")")) h
+params_are : (bytes : List ℕ) (names tokens out rest : List Token) → params_at names bytes tokens ≡ Some (out, rest) → Adds (SpellsParams bytes) tokens names out rest
+unfolding params_at
+params_are bytes names tokens out rest h = given (is_mark_at bytes tokens 0 (codes ")")) h
   where
-    given : (g : Bool) → cond {A = Option (List Token × List Token)} g (Some (names, tokens)) (params_at bytes names tokens) ≡ Some (out, rest) → Adds (SpellsParams bytes) tokens names out rest
+    given : (g : Bool) → cond {A = Option (List Token × List Token)} g (Some (names, tokens)) (param_at names bytes tokens >>= λ first. more_params_at first.0 bytes first.1) ≡ Some (out, rest) → Adds (SpellsParams bytes) tokens names out rest
     given true h = let e = same_some h in record { front = []; values = []; split = ap (λ x. x.1) e; all = sym (ap (λ x. x.0) e) ∙ sym (append-nil names); said = no_params }
-    given false h = params_are bytes names tokens out rest h
+    given false h = some_are bytes names tokens out rest h
 
-list_is : (bytes : List ℕ) (names tokens out rest : List Token) → list_at bytes names tokens ≡ Some (out, rest) → Adds (SpellsList bytes) tokens names out rest
+list_is : (bytes : List ℕ) (names tokens out rest : List Token) → list_at names bytes tokens ≡ Some (out, rest) → Adds (SpellsList bytes) tokens names out rest
 unfolding list_at
 list_is bytes names tokens out rest h =
     let p = first_gives (mark_at bytes (codes "(") tokens) _ (out, rest) h in
-    let q = first_gives (inner_params_at bytes names p.0) _ (out, rest) p.2 in
+    let q = first_gives (params_at names bytes p.0) _ (out, rest) p.2 in
     let r = first_gives (mark_at bytes (codes ")") q.0.1) _ (out, rest) q.2 in
     let m = mark_sound bytes (codes "(") tokens p.0 p.1 in
-    let a = inner_params_are bytes names p.0 q.0.0 q.0.1 q.1 in
+    let a = params_are bytes names p.0 q.0.0 q.0.1 q.1 in
     let c = mark_sound bytes (codes ")") q.0.1 r.0 r.1 in
     let e = same_some r.2 in
     record {
@@ -284,8 +283,8 @@ seen bytes word tokens t rest h split = sym (ap (λ ts. is_word_at bytes ts 0 wo
 before_is : (bytes : List ℕ) (tokens : List Token) (a : Advice) (rest : List Token) → is_word_at bytes tokens 0 (codes "before") ≡ true → before_at bytes tokens ≡ Some (a, rest) → Says (SpellsAdvice bytes) tokens a rest
 unfolding before_at
 before_is bytes tokens a rest begins h =
-    let p = first_gives (word_at tokens) _ (a, rest) h in
-    let q = first_gives (list_at bytes [] p.0) _ (a, rest) p.2 in
+    let p = first_gives (any_word_at tokens) _ (a, rest) h in
+    let q = first_gives (list_at [] bytes p.0) _ (a, rest) p.2 in
     let r = first_gives (pointcut_at bytes q.0.1) _ (a, rest) q.2 in
     let w = word_sound tokens p.0 p.1 in
     let l = list_is bytes [] p.0 q.0.0 q.0.1 q.1 in
@@ -298,28 +297,28 @@ before_is bytes tokens a rest begins h =
       said = subst (SpellsAdvice bytes (w.0 ∷ l.front ++ c.colon ∷ c.run)) value (before w.0 l.front l.values c.colon c.run (seen bytes (codes "before") tokens w.0 p.0 begins w.1) l.said c.is_colon c.ends);
     }
 
-outcome_is : (bytes word : List ℕ) (names tokens out rest : List Token) → outcome_at bytes word names tokens ≡ Some (out, rest) → Adds (SpellsOutcome bytes word) tokens names out rest
+outcome_is : (bytes word : List ℕ) (names tokens out rest : List Token) → outcome_at word names bytes tokens ≡ Some (out, rest) → Adds (SpellsOutcome bytes word) tokens names out rest
 unfolding outcome_at optional_list_at
 outcome_is bytes word names tokens out rest h = given (is_word_at bytes tokens 0 word) refl h
   where
-    optional : (t : Token) (mid : List Token) (g : Bool) → IsWord bytes word t → cond {A = Option (List Token × List Token)} g (list_at bytes names mid) (Some (names, mid)) ≡ Some (out, rest) → Adds (SpellsOutcome bytes word) (t ∷ mid) names out rest
+    optional : (t : Token) (mid : List Token) (g : Bool) → IsWord bytes word t → cond {A = Option (List Token × List Token)} g (list_at names bytes mid) (Some (names, mid)) ≡ Some (out, rest) → Adds (SpellsOutcome bytes word) (t ∷ mid) names out rest
     optional t mid true is h = let l = list_is bytes names mid out rest h in record { front = t ∷ l.front; values = l.values; split = ap (λ xs. t ∷ xs) l.split; all = l.all; said = with_list t l.front l.values is l.said }
     optional t mid false is h = let e = same_some h in record { front = t ∷ []; values = []; split = ap (λ x. t ∷ x.1) e; all = sym (ap (λ x. x.0) e) ∙ sym (append-nil names); said = alone t is }
 
-    given : (g : Bool) → is_word_at bytes tokens 0 word ≡ g → cond {A = Option (List Token × List Token)} g (word_at tokens >>= optional_list_at bytes names) (Some (names, tokens)) ≡ Some (out, rest) → Adds (SpellsOutcome bytes word) tokens names out rest
+    given : (g : Bool) → is_word_at bytes tokens 0 word ≡ g → cond {A = Option (List Token × List Token)} g (any_word_at tokens >>= optional_list_at names bytes) (Some (names, tokens)) ≡ Some (out, rest) → Adds (SpellsOutcome bytes word) tokens names out rest
     given false g h = let e = same_some h in record { front = []; values = []; split = ap (λ x. x.1) e; all = sym (ap (λ x. x.0) e) ∙ sym (append-nil names); said = missing }
     given true g h =
-        let p = first_gives (word_at tokens) (optional_list_at bytes names) (out, rest) h in
+        let p = first_gives (any_word_at tokens) (optional_list_at names bytes) (out, rest) h in
         let w = word_sound tokens p.0 p.1 in
         subst (λ ts. Adds (SpellsOutcome bytes word) ts names out rest) (sym w.1) (optional w.0 p.0 (is_mark_at bytes p.0 0 (codes "(")) (seen bytes word tokens w.0 p.0 g w.1) p.2)
 
 after_is : (bytes : List ℕ) (tokens : List Token) (a : Advice) (rest : List Token) → is_word_at bytes tokens 0 (codes "after") ≡ true → after_at bytes tokens ≡ Some (a, rest) → Says (SpellsAdvice bytes) tokens a rest
 unfolding after_at
 after_is bytes tokens a rest begins h =
-    let p = first_gives (word_at tokens) _ (a, rest) h in
-    let q = first_gives (list_at bytes [] p.0) _ (a, rest) p.2 in
-    let u = first_gives (outcome_at bytes (codes "returning") q.0.0 q.0.1) _ (a, rest) q.2 in
-    let v = first_gives (outcome_at bytes (codes "throwing") u.0.0 u.0.1) _ (a, rest) u.2 in
+    let p = first_gives (any_word_at tokens) _ (a, rest) h in
+    let q = first_gives (list_at [] bytes p.0) _ (a, rest) p.2 in
+    let u = first_gives (outcome_at (codes "returning") q.0.0 bytes q.0.1) _ (a, rest) q.2 in
+    let v = first_gives (outcome_at (codes "throwing") u.0.0 bytes u.0.1) _ (a, rest) u.2 in
     let r = first_gives (pointcut_at bytes v.0.1) _ (a, rest) v.2 in
     let w = word_sound tokens p.0 p.1 in
     let l = list_is bytes [] p.0 q.0.0 q.0.1 q.1 in
@@ -372,7 +371,7 @@ advice_is bytes tokens a rest h = given (is_word_at bytes tokens 0 (codes "befor
 abbrev event_tail : List ℕ → List Mention → Bool → List Token → Option (List Mention × List Token)
 event_tail bytes events creation mid = name_at bytes mid >>= λ name. advice_at bytes name.1 >>= λ advice. Some (events ++ record { creation = creation; name = name.0; advice = advice.0 } ∷ [], advice.1)
 
-event_is : (bytes : List ℕ) (events : List Mention) (tokens : List Token) (out : List Mention) (rest : List Token) → begins_event bytes tokens ≡ true → event_at bytes events tokens ≡ Some (out, rest) → Adds (SpellsMember bytes) tokens events out rest
+event_is : (bytes : List ℕ) (events : List Mention) (tokens : List Token) (out : List Mention) (rest : List Token) → begins_event bytes tokens ≡ true → event_at events bytes tokens ≡ Some (out, rest) → Adds (SpellsMember bytes) tokens events out rest
 unfolding event_at creation_at
 event_is bytes events tokens out rest begins h = given (is_word_at bytes tokens 0 (codes "creation")) refl h
   where
@@ -405,17 +404,17 @@ event_is bytes events tokens out rest begins h = given (is_word_at bytes tokens 
         second true n w m g h = absurd (never_both true refl g)
         second false n w m g h = and_right _ _ (and_left _ _ h)
 
-    given : (g : Bool) → is_word_at bytes tokens 0 (codes "creation") ≡ g → ((cond {A = Option (Bool × List Token)} g (word_at tokens >>= λ rest. Some (true, rest)) (Some (false, tokens))) >>= λ creation. word_at creation.1 >>= λ mid. event_tail bytes events creation.0 mid) ≡ Some (out, rest) → Adds (SpellsMember bytes) tokens events out rest
+    given : (g : Bool) → is_word_at bytes tokens 0 (codes "creation") ≡ g → ((cond {A = Option (Bool × List Token)} g (any_word_at tokens >>= λ rest. Some (true, rest)) (Some (false, tokens))) >>= λ creation. any_word_at creation.1 >>= λ mid. event_tail bytes events creation.0 mid) ≡ Some (out, rest) → Adds (SpellsMember bytes) tokens events out rest
     given false g h =
-        let p = first_gives (word_at tokens) _ (out, rest) h in
+        let p = first_gives (any_word_at tokens) _ (out, rest) h in
         let w = word_sound tokens p.0 p.1 in
         tail false (w.0 ∷ []) p.0 w.1 (λ name said a. event w.0 name said a (seen bytes (codes "event") tokens w.0 p.0 (plain_word tokens begins g) w.1)) p.2
     given true g h =
-        let o = first_gives (word_at tokens >>= λ rest. Some (true, rest)) _ (out, rest) h in
-        let k = first_gives (word_at tokens) _ o.0 o.1 in
+        let o = first_gives (any_word_at tokens >>= λ rest. Some (true, rest)) _ (out, rest) h in
+        let k = first_gives (any_word_at tokens) _ o.0 o.1 in
         let c = word_sound tokens k.0 k.1 in
         let same = same_some k.2 in
-        let p = first_gives (word_at o.0.1) _ (out, rest) o.2 in
+        let p = first_gives (any_word_at o.0.1) _ (out, rest) o.2 in
         let w = word_sound o.0.1 p.0 p.1 in
         let is = seen bytes (codes "creation") tokens c.0 k.0 g c.1 in
         let second : k.0 ≡ w.0 ∷ p.0 = ap (λ x. x.1) same ∙ w.1 in
@@ -445,7 +444,7 @@ property_front bytes [] rest h = refl
 property_front bytes (a ∷ []) rest h = refl
 property_front bytes (a ∷ b ∷ more) rest h = h
 
-member_is : (bytes : List ℕ) (events : List Mention) (tokens : List Token) (out : List Mention) (rest : List Token) → begins_member bytes tokens ≡ true → member_at bytes events tokens ≡ Some (out, rest) → Adds (SpellsMember bytes) tokens events out rest
+member_is : (bytes : List ℕ) (events : List Mention) (tokens : List Token) (out : List Mention) (rest : List Token) → begins_member bytes tokens ≡ true → member_at events bytes tokens ≡ Some (out, rest) → Adds (SpellsMember bytes) tokens events out rest
 unfolding member_at
 member_is bytes events tokens out rest begins h = given (begins_event bytes tokens) refl h
   where
@@ -454,7 +453,7 @@ member_is bytes events tokens out rest begins h = given (begins_event bytes toke
     no_property false true h = absurd (never_both false h refl)
     no_property false false h = refl
 
-    given : (g : Bool) → begins_event bytes tokens ≡ g → cond {A = Option (List Mention × List Token)} g (event_at bytes events tokens) (run_at bytes tokens >>= λ rest. Some (events, rest)) ≡ Some (out, rest) → Adds (SpellsMember bytes) tokens events out rest
+    given : (g : Bool) → begins_event bytes tokens ≡ g → cond {A = Option (List Mention × List Token)} g (event_at events bytes tokens) (run_at bytes tokens >>= λ rest. Some (events, rest)) ≡ Some (out, rest) → Adds (SpellsMember bytes) tokens events out rest
     given true g h = event_is bytes events tokens out rest g h
     given false g h =
         let p = first_gives (run_at bytes tokens) _ (out, rest) h in
@@ -468,10 +467,10 @@ member_is bytes events tokens out rest begins h = given (begins_event bytes toke
           said = declaration r.front r.said (event_front bytes r.front p.0 (ap (begins_event bytes) (sym r.split) ∙ g)) (property_front bytes r.front p.0 (ap (begins_property bytes) (sym r.split) ∙ no_property (is_mark_at bytes tokens 0 (codes "}")) _ begins));
         }
 
-members_are : (bytes : List ℕ) (tokens : List Token) (out : List Mention) (rest : List Token) → members_at bytes [] tokens ≡ Some (out, rest) → Adds (SpelledAnywhere (SpellsMember bytes)) tokens [] out rest
-unfolding members_at
+members_are : (bytes : List ℕ) (tokens : List Token) (out : List Mention) (rest : List Token) → members_at bytes tokens ≡ Some (out, rest) → Adds (SpelledAnywhere (SpellsMember bytes)) tokens [] out rest
+unfolding gathered_at
 members_are bytes tokens out rest h =
-    (items_sound (length tokens) (λ _. SpellsMember bytes) (begins_member bytes) (member_at bytes) (λ at xs ts ys r _ begins. member_is bytes xs ts ys r begins) (length tokens) 0 [] tokens out rest (omega arith) h).0
+    (items_sound (length tokens) (λ _. SpellsMember bytes) (begins_member bytes) (λ x. member_at x bytes) (λ at xs ts ys r _ begins. member_is bytes xs ts ys r begins) (length tokens) 0 [] tokens out rest (omega arith) h).0
 
 -- properties
 
@@ -486,7 +485,7 @@ record HasBlock (bytes : List ℕ) (total : ℕ) (tokens : List Token) (range : 
   first : range.0 ≡ place total tokens + 1
   last : range.1 ≡ place total rest - 1
 
-block_is : (bytes : List ℕ) (total : ℕ) (tokens : List Token) (range : ℕ × ℕ) (rest : List Token) → block_at bytes total tokens ≡ Some (range, rest) → HasBlock bytes total tokens range rest
+block_is : (bytes : List ℕ) (total : ℕ) (tokens : List Token) (range : ℕ × ℕ) (rest : List Token) → block_at total bytes tokens ≡ Some (range, rest) → HasBlock bytes total tokens range rest
 unfolding block_at
 block_is bytes total tokens range rest h = given (is_mark_at bytes tokens 0 (codes "{")) refl h
   where
@@ -514,12 +513,12 @@ block_is bytes total tokens range rest h = given (is_mark_at bytes tokens 0 (cod
         let r = run_is bytes tokens p.0 p.1 in
         begun r.front p.0 g r.split r.said (same_some p.2)
 
-handler_is : (bytes : List ℕ) (total at : ℕ) (handlers : List HandlerText) (tokens : List Token) (out : List HandlerText) (rest : List Token) → at + length tokens ≡ total → handler_at bytes total handlers tokens ≡ Some (out, rest) → Adds (SpellsHandler bytes at) tokens handlers out rest
+handler_is : (bytes : List ℕ) (total at : ℕ) (handlers : List HandlerText) (tokens : List Token) (out : List HandlerText) (rest : List Token) → at + length tokens ≡ total → handler_at total handlers bytes tokens ≡ Some (out, rest) → Adds (SpellsHandler bytes at) tokens handlers out rest
 unfolding handler_at
 handler_is bytes total at handlers tokens out rest same h =
     let p = first_gives (mark_at bytes (codes "@") tokens) _ (out, rest) h in
     let q = first_gives (name_at bytes p.0) _ (out, rest) p.2 in
-    let r = first_gives (block_at bytes total q.0.1) _ (out, rest) q.2 in
+    let r = first_gives (block_at total bytes q.0.1) _ (out, rest) q.2 in
     let m = mark_sound bytes (codes "@") tokens p.0 p.1 in
     let n = name_sound bytes p.0 q.0.0 q.0.1 q.1 in
     let b = block_is bytes total q.0.1 r.0.0 r.0.1 r.1 in
@@ -538,18 +537,18 @@ handler_is bytes total at handlers tokens out rest same h =
       said = handler m.0 q.0.0 b.opening b.inside b.closing m.2 n.1 b.opens b.balanced b.closes;
     }
 
-handlers_are : (bytes : List ℕ) (total at : ℕ) (tokens : List Token) (out : List HandlerText) (rest : List Token) → at + length tokens ≡ total → handlers_at bytes total [] tokens ≡ Some (out, rest) → Adds (Spelled (SpellsHandler bytes) at) tokens [] out rest
-unfolding handlers_at
+handlers_are : (bytes : List ℕ) (total at : ℕ) (tokens : List Token) (out : List HandlerText) (rest : List Token) → at + length tokens ≡ total → handlers_at total bytes tokens ≡ Some (out, rest) → Adds (Spelled (SpellsHandler bytes) at) tokens [] out rest
+unfolding gathered_at
 handlers_are bytes total at tokens out rest same h =
-    (items_sound total (SpellsHandler bytes) (begins_handler bytes) (handler_at bytes total) (λ there xs ts ys r s _. handler_is bytes total there xs ts ys r s) (length tokens) at [] tokens out rest same h).0
+    (items_sound total (SpellsHandler bytes) (begins_handler bytes) (λ x. handler_at total x bytes) (λ there xs ts ys r s _. handler_is bytes total there xs ts ys r s) (length tokens) at [] tokens out rest same h).0
 
-property_is : (bytes : List ℕ) (total at : ℕ) (properties : List Property) (tokens : List Token) (out : List Property) (rest : List Token) → at + length tokens ≡ total → property_at bytes total properties tokens ≡ Some (out, rest) → Adds (SpellsProperty bytes at) tokens properties out rest
+property_is : (bytes : List ℕ) (total at : ℕ) (properties : List Property) (tokens : List Token) (out : List Property) (rest : List Token) → at + length tokens ≡ total → property_at total properties bytes tokens ≡ Some (out, rest) → Adds (SpellsProperty bytes at) tokens properties out rest
 unfolding property_at
 property_is bytes total at properties tokens out rest same h =
     let p = first_gives (name_at bytes tokens) _ (out, rest) h in
     let q = first_gives (mark_at bytes (codes ":") p.0.1) _ (out, rest) p.2 in
     let r = first_gives (passed q.0 (formula_length bytes q.0)) _ (out, rest) q.2 in
-    let s = first_gives (handlers_at bytes total [] r.0) _ (out, rest) r.2 in
+    let s = first_gives (handlers_at total bytes r.0) _ (out, rest) r.2 in
     let n = name_sound bytes tokens p.0.0 p.0.1 p.1 in
     let m = mark_sound bytes (codes ":") p.0.1 q.0 q.1 in
     let k = passed_sound q.0 (formula_length bytes q.0) r.0 r.1 in
@@ -570,10 +569,10 @@ property_is bytes total at properties tokens out rest same h =
       said = property p.0.0 m.0 (take k.0 q.0) hs.front hs.values n.1 m.2 (formula_sound bytes q.0 k.0 k.1) hs.said;
     }
 
-properties_are : (bytes : List ℕ) (total at : ℕ) (tokens : List Token) (out : List Property) (rest : List Token) → at + length tokens ≡ total → properties_at bytes total [] tokens ≡ Some (out, rest) → Adds (Spelled (SpellsProperty bytes) at) tokens [] out rest
-unfolding properties_at
+properties_are : (bytes : List ℕ) (total at : ℕ) (tokens : List Token) (out : List Property) (rest : List Token) → at + length tokens ≡ total → properties_at total bytes tokens ≡ Some (out, rest) → Adds (Spelled (SpellsProperty bytes) at) tokens [] out rest
+unfolding gathered_at
 properties_are bytes total at tokens out rest same h =
-    (items_sound total (SpellsProperty bytes) (goes_on bytes) (property_at bytes total) (λ there xs ts ys r s _. property_is bytes total there xs ts ys r s) (length tokens) at [] tokens out rest same h).0
+    (items_sound total (SpellsProperty bytes) (goes_on bytes) (λ x. property_at total x bytes) (λ there xs ts ys r s _. property_is bytes total there xs ts ys r s) (length tokens) at [] tokens out rest same h).0
 
 -- the file
 
@@ -628,7 +627,7 @@ counted bytes tokens a d f g ms name ps es opening cs h o m =
     let four : length f ≡ length m.front + length g = ap length m.split ∙ length-append m.front g in
     omega arith
 
-frame_body : (bytes : List ℕ) (tokens a d f g : List Token) (ms : List Modifier) (name : Token) (ps : List Token) (es : List Mention) (opening : Token) (qs : List Property) (k : List Token) (closing : Token) → Fronts (Repeats (SpellsClause bytes)) tokens a → HasHead bytes a ms name ps d → d ≡ opening ∷ f → IsMark bytes (codes "{") opening → Adds (SpelledAnywhere (SpellsMember bytes)) f [] es g → properties_at bytes (length tokens) [] g ≡ Some (qs, k) → k ≡ closing ∷ [] → IsMark bytes (codes "}") closing → Spells bytes tokens (record { modifiers = ms; name = name; params = ps; events = es; properties = qs })
+frame_body : (bytes : List ℕ) (tokens a d f g : List Token) (ms : List Modifier) (name : Token) (ps : List Token) (es : List Mention) (opening : Token) (qs : List Property) (k : List Token) (closing : Token) → Fronts (Repeats (SpellsClause bytes)) tokens a → HasHead bytes a ms name ps d → d ≡ opening ∷ f → IsMark bytes (codes "{") opening → Adds (SpelledAnywhere (SpellsMember bytes)) f [] es g → properties_at (length tokens) bytes g ≡ Some (qs, k) → k ≡ closing ∷ [] → IsMark bytes (codes "}") closing → Spells bytes tokens (record { modifiers = ms; name = name; params = ps; events = es; properties = qs })
 frame_body bytes tokens a d f g ms name ps es opening qs k closing cs h o opens m q c closes =
     joins bytes tokens a d ms name ps es qs cs h
     (body_of bytes (length cs.front + length h.front) d f opening es g k closing qs m o opens
@@ -638,13 +637,13 @@ frame_body bytes tokens a d f g ms name ps es opening qs k closing cs h o opens 
 -- the rule of the file, step by step
 abbrev pub file_tail : List ℕ → ℕ → List Modifier → Token → List Token → List Token → Option Frame
 file_tail bytes total ms name ps d =
-    mark_at bytes (codes "{") d >>= λ body. members_at bytes [] body >>= λ events. properties_at bytes total [] events.1 >>= λ properties. mark_at bytes (codes "}") properties.1 >>= λ behind. at_end (record { modifiers = ms; name = name; params = ps; events = events.0; properties = properties.0 }) behind
+    mark_at bytes (codes "{") d >>= λ body. members_at bytes body >>= λ events. properties_at total bytes events.1 >>= λ properties. mark_at bytes (codes "}") properties.1 >>= λ behind. at_end (record { modifiers = ms; name = name; params = ps; events = events.0; properties = properties.0 }) behind
 
 tail_is_spelled : (bytes : List ℕ) (tokens a d : List Token) (ms : List Modifier) (name : Token) (ps : List Token) (frame : Frame) → Fronts (Repeats (SpellsClause bytes)) tokens a → HasHead bytes a ms name ps d → file_tail bytes (length tokens) ms name ps d ≡ Some frame → Spells bytes tokens frame
 tail_is_spelled bytes tokens a d ms name ps frame cs h is =
     let f = first_gives (mark_at bytes (codes "{") d) _ frame is in
-    let g = first_gives (members_at bytes [] f.0) _ frame f.2 in
-    let k = first_gives (properties_at bytes (length tokens) [] g.0.1) _ frame g.2 in
+    let g = first_gives (members_at bytes f.0) _ frame f.2 in
+    let k = first_gives (properties_at (length tokens) bytes g.0.1) _ frame g.2 in
     let l = first_gives (mark_at bytes (codes "}") k.0.1) _ frame k.2 in
     let z = at_end_sound _ frame l.0 l.2 in
     let o = mark_sound bytes (codes "{") d f.0 f.1 in
@@ -656,11 +655,11 @@ pub frame_is_spelled : (bytes : List ℕ) (tokens : List Token) (frame : Frame) 
 unfolding frame_at
 frame_is_spelled bytes tokens frame is =
     let a = first_gives (clauses_at bytes tokens) _ frame is in
-    let b = first_gives (modifiers_at bytes [] a.0) _ frame a.2 in
+    let b = first_gives (modifiers_at bytes a.0.1) _ frame a.2 in
     let c = first_gives (name_at bytes b.0.1) _ frame b.2 in
-    let d = first_gives (list_at bytes [] c.0.1) _ frame c.2 in
-    let cs = clauses_are bytes tokens a.0 a.1 in
+    let d = first_gives (list_at [] bytes c.0.1) _ frame c.2 in
+    let cs = clauses_are bytes tokens a.0.1 a.0.0 a.1 in
     let n = name_sound bytes b.0.1 c.0.0 c.0.1 c.1 in
-    tail_is_spelled bytes tokens a.0 d.0.1 b.0.0 c.0.0 d.0.0 frame cs.0
-    (head_of bytes a.0 b.0.0 b.0.1 c.0.0 c.0.1 d.0.0 d.0.1 cs.1 (modifiers_are bytes a.0 b.0.0 b.0.1 b.1) n.0 n.1 (list_is bytes [] c.0.1 d.0.0 d.0.1 d.1))
+    tail_is_spelled bytes tokens a.0.1 d.0.1 b.0.0 c.0.0 d.0.0 frame cs.0
+    (head_of bytes a.0.1 b.0.0 b.0.1 c.0.0 c.0.1 d.0.0 d.0.1 cs.1 (modifiers_are bytes a.0.1 b.0.0 b.0.1 b.1) n.0 n.1 (list_is bytes [] c.0.1 d.0.0 d.0.1 d.1))
     d.2

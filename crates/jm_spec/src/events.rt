@@ -1,12 +1,14 @@
 //! The members of a body before its properties: declarations and events.
-ghost use Rattle.std.specs.Prelude.{◌≡◌, ◌<◌, ◌≤◌, length, OnOk};
-ghost use Rattle.jm_reading.specs.Answers.{Reads, Leaves, Fills};
-ghost use Rattle.jm_spec.specs.Rules.{begins_event, begins_member, members_at, member_at, run_at, creation_at, event_at, advice_at, before_at, after_at, pointcut_at, outcome_at, optional_list_at, other_at};
+ghost use Rattle.std.specs.Prelude.{◌≡◌};
+ghost use Rattle.jm_reading.specs.Answers.{Leaves};
+ghost use Rattle.jm_reading.specs.Taking.{Takes};
+ghost use Rattle.jm_spec.specs.Rules.{begins_event, begins_member, member_at, run_at, creation_at, event_at, advice_at, before_at, after_at, pointcut_at, outcome_at, optional_list_at, other_at};
 
-use crate::reader::Reader;
+use crate::head::list;
+use crate::reader::{Gathered, any_word};
 use crate::runs;
 use jm_model::SpecError;
-use jm_reading::Items;
+use jm_reading::{Cursor, Items};
 use jm_text::{Token, is_mark};
 
 /// What an event is advised by.
@@ -26,202 +28,169 @@ pub struct Mention {
     pub advice: Advice,
 }
 
-impl Reader<'_> {
-    /// The members before the first property. The events are added to those that are there.
-    #[tactic(auto, unfolding(crate::specs::Rules::members_at))]
-    pub fn members(&mut self, events: &mut Items<Mention>) -> Result<(), SpecError>
-        ensures reads { Fills result events.new self.new.rest.now
-            (members_at self.old.bytes.now events.old self.old.rest.now) }
-        ensures bytes { self.new.bytes.now ≡ self.old.bytes.now }
-        ensures total { self.new.total ≡ self.old.total }
-        ensures left { OnOk result (length self.new.rest.now ≤ length self.old.rest.now) }
-    {
-        while self.begins_member() {
-            self.member(events)?;
-        }
-        Ok(())
-    }
+/// An event, which is kept, or a declaration, up to the first property or the end of the body
+pub struct Member;
 
-    fn begins_member(&self) -> bool
-        ensures { result ≡ begins_member self.now.bytes.now self.now.rest.now }
-    {
-        !(self.is_mark_at(0, b"}") || runs::begins_property(self.bytes, self.rest))
+impl Gathered for Member {
+    type Whole = Items<Mention>;
+
+    ghost goes_on = { begins_member };
+
+    ghost more = { λ rule. member_at };
+
+    fn is_next(cursor: &Cursor<'_>) -> bool {
+        !(cursor.is_mark_at(0, b"}") || runs::begins_property(cursor.bytes, cursor.rest))
     }
 
     #[tactic(auto, unfolding(crate::specs::Rules::member_at))]
-    fn member(&mut self, events: &mut Items<Mention>) -> Result<(), SpecError>
-        ensures reads { Fills result events.new self.new.rest.now
-            (member_at self.old.bytes.now events.old self.old.rest.now) }
-        ensures bytes { self.new.bytes.now ≡ self.old.bytes.now }
-        ensures total { self.new.total ≡ self.old.total }
-        ensures left { OnOk result (length self.new.rest.now < length self.old.rest.now) }
-    {
-        if self.begins_event() {
-            self.event(events)
+    fn add(
+        &self,
+        whole: Items<Mention>,
+        cursor: &mut Cursor<'_>,
+    ) -> Result<Items<Mention>, SpecError> {
+        if begins_event(cursor) {
+            event(whole, cursor)
         } else {
-            self.run()
+            run(cursor)?;
+            Ok(whole)
         }
     }
+}
 
-    fn begins_event(&self) -> bool
-        ensures { result ≡ begins_event self.now.bytes.now self.now.rest.now }
-    {
-        (self.is_word_at(0, b"event") && self.is_name_at(1))
-            || (self.is_word_at(0, b"creation")
-                && self.is_word_at(1, b"event")
-                && self.is_name_at(2))
-    }
+fn begins_event(cursor: &Cursor<'_>) -> bool
+    ensures { result ≡ begins_event cursor.now.bytes.now cursor.now.rest.now }
+{
+    (cursor.is_word_at(0, b"event") && cursor.is_name_at(1))
+        || (cursor.is_word_at(0, b"creation")
+            && cursor.is_word_at(1, b"event")
+            && cursor.is_name_at(2))
+}
 
-    /// The tokens up to and with the first `;` or the first block outside brackets: a declaration, or the rest of an
-    /// event.
-    #[tactic(auto, unfolding(crate::specs::Rules::run_at))]
-    pub fn run(&mut self) -> Result<(), SpecError>
-        ensures reads { Leaves result self.new.rest.now (run_at self.old.bytes.now self.old.rest.now) }
-        ensures bytes { self.new.bytes.now ≡ self.old.bytes.now }
-        ensures total { self.new.total ≡ self.old.total }
-        ensures left { OnOk result (length self.new.rest.now < length self.old.rest.now) }
-    {
-        let n = runs::member_length(self.alloc, self.bytes, self.rest, self.last_line)?;
-        self.advance(n);
-        Ok(())
-    }
+/// The tokens up to and with the first `;` or the first block outside brackets: a declaration, or the rest of an event.
+#[tactic(auto, unfolding(crate::specs::Rules::run_at))]
+pub fn run(cursor: &mut Cursor<'_>) -> Result<(), SpecError>
+    ensures reads { Leaves result cursor.new.rest.now (run_at cursor.old.bytes.now cursor.old.rest.now) }
+    ensures bytes { cursor.new.bytes.now ≡ cursor.old.bytes.now }
+{
+    let n = runs::member_length(cursor.alloc, cursor.bytes, cursor.rest, cursor.last_line)?;
+    cursor.advance(n);
+    Ok(())
+}
 
-    #[tactic(auto, unfolding(crate::specs::Rules::event_at))]
-    fn event(&mut self, events: &mut Items<Mention>) -> Result<(), SpecError>
-        ensures reads { Fills result events.new self.new.rest.now
-            (event_at self.old.bytes.now events.old self.old.rest.now) }
-        ensures bytes { self.new.bytes.now ≡ self.old.bytes.now }
-        ensures total { self.new.total ≡ self.old.total }
-        ensures left { OnOk result (length self.new.rest.now < length self.old.rest.now) }
-    {
-        let creation = self.creation()?;
-        self.word()?;
-        let name = self.name()?;
-        let advice = self.advice()?;
-        events.push(Mention {
-            creation,
-            name,
-            advice,
-        })
-    }
+/// [ "creation" ] "event" NAME Advice, which is added to these
+#[tactic(auto, unfolding(crate::specs::Rules::event_at))]
+fn event(events: Items<Mention>, cursor: &mut Cursor<'_>) -> Result<Items<Mention>, SpecError>
+    ensures { Takes cursor.old result cursor.new (event_at events) }
+{
+    let mut events = events;
+    let creation = creation(cursor)?;
+    any_word(cursor)?;
+    let name = cursor.name()?;
+    let advice = advised(cursor)?;
+    events.push(Mention {
+        creation,
+        name,
+        advice,
+    })?;
+    Ok(events)
+}
 
-    #[tactic(auto, unfolding(crate::specs::Rules::creation_at))]
-    fn creation(&mut self) -> Result<bool, SpecError>
-        ensures reads { Reads result self.new.rest.now (creation_at self.old.bytes.now self.old.rest.now) }
-        ensures bytes { self.new.bytes.now ≡ self.old.bytes.now }
-        ensures total { self.new.total ≡ self.old.total }
-        ensures left { OnOk result (length self.new.rest.now ≤ length self.old.rest.now) }
-    {
-        if !self.is_word_at(0, b"creation") {
-            return Ok(false);
-        }
-        self.word()?;
-        Ok(true)
+/// Whether the word is there.
+#[tactic(auto, unfolding(crate::specs::Rules::creation_at))]
+fn creation(cursor: &mut Cursor<'_>) -> Result<bool, SpecError>
+    ensures { Takes cursor.old result cursor.new creation_at }
+{
+    if !cursor.is_word_at(0, b"creation") {
+        return Ok(false);
     }
+    any_word(cursor)?;
+    Ok(true)
+}
 
-    #[tactic(auto, unfolding(crate::specs::Rules::advice_at))]
-    fn advice(&mut self) -> Result<Advice, SpecError>
-        ensures reads { Reads result self.new.rest.now (advice_at self.old.bytes.now self.old.rest.now) }
-        ensures bytes { self.new.bytes.now ≡ self.old.bytes.now }
-        ensures total { self.new.total ≡ self.old.total }
-        ensures left { OnOk result (length self.new.rest.now < length self.old.rest.now) }
-    {
-        if self.is_word_at(0, b"before") {
-            self.before()
-        } else if self.is_word_at(0, b"after") {
-            self.after()
-        } else {
-            self.other()
-        }
+#[tactic(auto, unfolding(crate::specs::Rules::advice_at))]
+fn advised(cursor: &mut Cursor<'_>) -> Result<Advice, SpecError>
+    ensures { Takes cursor.old result cursor.new advice_at }
+{
+    if cursor.is_word_at(0, b"before") {
+        before(cursor)
+    } else if cursor.is_word_at(0, b"after") {
+        after(cursor)
+    } else {
+        other(cursor)
     }
+}
 
-    #[tactic(auto, unfolding(crate::specs::Rules::before_at))]
-    fn before(&mut self) -> Result<Advice, SpecError>
-        ensures reads { Reads result self.new.rest.now (before_at self.old.bytes.now self.old.rest.now) }
-        ensures bytes { self.new.bytes.now ≡ self.old.bytes.now }
-        ensures total { self.new.total ≡ self.old.total }
-        ensures left { OnOk result (length self.new.rest.now < length self.old.rest.now) }
-    {
-        let mut names = Items::new(self.alloc);
-        self.word()?;
-        self.list(&mut names)?;
-        self.pointcut()?;
-        Ok(Advice::Known(names))
-    }
+/// "before" List ":" Pointcut End
+#[tactic(auto, unfolding(crate::specs::Rules::before_at))]
+fn before(cursor: &mut Cursor<'_>) -> Result<Advice, SpecError>
+    ensures { Takes cursor.old result cursor.new before_at }
+{
+    any_word(cursor)?;
+    let names = list(Items::new(cursor.alloc), cursor)?;
+    pointcut(cursor)?;
+    Ok(Advice::Known(names))
+}
 
-    #[tactic(auto, unfolding(crate::specs::Rules::after_at))]
-    fn after(&mut self) -> Result<Advice, SpecError>
-        ensures reads { Reads result self.new.rest.now (after_at self.old.bytes.now self.old.rest.now) }
-        ensures bytes { self.new.bytes.now ≡ self.old.bytes.now }
-        ensures total { self.new.total ≡ self.old.total }
-        ensures left { OnOk result (length self.new.rest.now < length self.old.rest.now) }
-    {
-        let mut names = Items::new(self.alloc);
-        self.word()?;
-        self.list(&mut names)?;
-        self.outcome(b"returning", &mut names)?;
-        self.outcome(b"throwing", &mut names)?;
-        self.pointcut()?;
-        Ok(Advice::Known(names))
-    }
+/// "after" List [ "returning" [ List ] ] [ "throwing" [ List ] ] ":" Pointcut End
+#[tactic(auto, unfolding(crate::specs::Rules::after_at))]
+fn after(cursor: &mut Cursor<'_>) -> Result<Advice, SpecError>
+    ensures { Takes cursor.old result cursor.new after_at }
+{
+    any_word(cursor)?;
+    let names = list(Items::new(cursor.alloc), cursor)?;
+    let returned = outcome(b"returning", names, cursor)?;
+    let thrown = outcome(b"throwing", returned, cursor)?;
+    pointcut(cursor)?;
+    Ok(Advice::Known(thrown))
+}
 
-    #[tactic(auto, unfolding(crate::specs::Rules::pointcut_at))]
-    fn pointcut(&mut self) -> Result<(), SpecError>
-        ensures reads { Leaves result self.new.rest.now (pointcut_at self.old.bytes.now self.old.rest.now) }
-        ensures bytes { self.new.bytes.now ≡ self.old.bytes.now }
-        ensures total { self.new.total ≡ self.old.total }
-        ensures left { OnOk result (length self.new.rest.now < length self.old.rest.now) }
-    {
-        self.mark(b":")?;
-        self.run()
-    }
+#[tactic(auto, unfolding(crate::specs::Rules::pointcut_at))]
+fn pointcut(cursor: &mut Cursor<'_>) -> Result<(), SpecError>
+    ensures reads { Leaves result cursor.new.rest.now (pointcut_at cursor.old.bytes.now cursor.old.rest.now) }
+    ensures bytes { cursor.new.bytes.now ≡ cursor.old.bytes.now }
+{
+    cursor.mark(b":")?;
+    run(cursor)
+}
 
-    /// The word and its list, which may both be missing.
-    #[tactic(auto, unfolding(crate::specs::Rules::outcome_at))]
-    fn outcome(&mut self, word: &[u8], names: &mut Items<Token>) -> Result<(), SpecError>
-        ensures reads { Fills result names.new self.new.rest.now
-            (outcome_at self.old.bytes.now word.now names.old self.old.rest.now) }
-        ensures bytes { self.new.bytes.now ≡ self.old.bytes.now }
-        ensures total { self.new.total ≡ self.old.total }
-        ensures left { OnOk result (length self.new.rest.now ≤ length self.old.rest.now) }
-    {
-        if !self.is_word_at(0, word) {
-            return Ok(());
-        }
-        self.word()?;
-        self.optional_list(names)
+/// The word and its list, which may both be missing.
+#[tactic(auto, unfolding(crate::specs::Rules::outcome_at))]
+fn outcome(
+    word: &[u8],
+    names: Items<Token>,
+    cursor: &mut Cursor<'_>,
+) -> Result<Items<Token>, SpecError>
+    ensures { Takes cursor.old result cursor.new (outcome_at word.now names) }
+{
+    if !cursor.is_word_at(0, word) {
+        return Ok(names);
     }
+    any_word(cursor)?;
+    optional_list(names, cursor)
+}
 
-    #[tactic(auto, unfolding(crate::specs::Rules::optional_list_at))]
-    fn optional_list(&mut self, names: &mut Items<Token>) -> Result<(), SpecError>
-        ensures reads { Fills result names.new self.new.rest.now
-            (optional_list_at self.old.bytes.now names.old self.old.rest.now) }
-        ensures bytes { self.new.bytes.now ≡ self.old.bytes.now }
-        ensures total { self.new.total ≡ self.old.total }
-        ensures left { OnOk result (length self.new.rest.now ≤ length self.old.rest.now) }
-    {
-        if !self.is_mark_at(0, b"(") {
-            return Ok(());
-        }
-        self.list(names)
+#[tactic(auto, unfolding(crate::specs::Rules::optional_list_at))]
+fn optional_list(names: Items<Token>, cursor: &mut Cursor<'_>) -> Result<Items<Token>, SpecError>
+    ensures { Takes cursor.old result cursor.new (optional_list_at names) }
+{
+    if !cursor.is_mark_at(0, b"(") {
+        return Ok(names);
     }
+    list(names, cursor)
+}
 
-    /// An advice that isn't empty and begins otherwise.
-    #[tactic(auto, unfolding(crate::specs::Rules::other_at))]
-    fn other(&mut self) -> Result<Advice, SpecError>
-        ensures reads { Reads result self.new.rest.now (other_at self.old.bytes.now self.old.rest.now) }
-        ensures bytes { self.new.bytes.now ≡ self.old.bytes.now }
-        ensures total { self.new.total ≡ self.old.total }
-        ensures left { OnOk result (length self.new.rest.now < length self.old.rest.now) }
-    {
-        let [first, ..] = self.rest else {
-            return Err(self.syntax());
-        };
-        let line = first.line;
-        if is_mark(self.bytes, *first, b";") || is_mark(self.bytes, *first, b"{") {
-            return Err(self.syntax());
-        }
-        self.run()?;
-        Ok(Advice::Other(line))
+/// An advice that isn't empty and begins otherwise.
+#[tactic(auto, unfolding(crate::specs::Rules::other_at))]
+fn other(cursor: &mut Cursor<'_>) -> Result<Advice, SpecError>
+    ensures { Takes cursor.old result cursor.new other_at }
+{
+    let [first, ..] = cursor.rest else {
+        return Err(cursor.syntax());
+    };
+    let line = first.line;
+    if is_mark(cursor.bytes, *first, b";") || is_mark(cursor.bytes, *first, b"{") {
+        return Err(cursor.syntax());
     }
+    run(cursor)?;
+    Ok(Advice::Other(line))
 }

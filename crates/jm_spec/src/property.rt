@@ -1,12 +1,13 @@
 //! The properties of a body, with their handlers.
-ghost use Rattle.std.specs.Prelude.{◌≡◌, ◌<◌, ◌≤◌, length, OnOk};
-ghost use Rattle.jm_reading.specs.Answers.{Reads, Fills};
-ghost use Rattle.jm_spec.specs.Rules.{block_at, begins_handler, handler_at, handlers_at, goes_on, property_at, properties_at};
+ghost use Rattle.std.specs.Prelude.{◌≡◌};
+ghost use Rattle.jm_reading.specs.Taking.{Takes};
+ghost use Rattle.jm_spec.specs.Rules.{block_at, begins_handler, handler_at, goes_on, property_at};
 
-use crate::reader::Reader;
+use crate::events::run;
+use crate::reader::{Gathered, gather, place};
 use crate::runs;
 use jm_model::SpecError;
-use jm_reading::Items;
+use jm_reading::{Cursor, Items};
 use jm_text::Token;
 
 /// A handler: its category, and the range of the tokens inside its block.
@@ -26,103 +27,93 @@ pub struct Property {
     pub handlers: Items<HandlerText>,
 }
 
-impl Reader<'_> {
-    /// The properties up to the end of the body. They are added to those that are there.
-    #[tactic(auto, unfolding(crate::specs::Rules::properties_at))]
-    pub fn properties(&mut self, properties: &mut Items<Property>) -> Result<(), SpecError>
-        ensures reads { Fills result properties.new self.new.rest.now
-            (properties_at self.old.bytes.now self.old.total properties.old self.old.rest.now) }
-        ensures bytes { self.new.bytes.now ≡ self.old.bytes.now }
-        ensures total { self.new.total ≡ self.old.total }
-        ensures left { OnOk result (length self.new.rest.now ≤ length self.old.rest.now) }
-    {
-        while self.goes_on() {
-            self.property(properties)?;
-        }
-        Ok(())
-    }
+/// NAME ":" Formula, and its handlers, in a file of so many tokens, up to the end of the body
+#[derive(Clone, Copy)]
+pub struct OneProperty {
+    pub total: u32,
+}
 
-    fn goes_on(&self) -> bool
-        ensures { result ≡ goes_on self.now.bytes.now self.now.rest.now }
-    {
-        !self.is_mark_at(0, b"}")
+impl Gathered for OneProperty {
+    type Whole = Items<Property>;
+
+    ghost goes_on = { goes_on };
+
+    ghost more = { λ rule. property_at rule.total };
+
+    fn is_next(cursor: &Cursor<'_>) -> bool {
+        !cursor.is_mark_at(0, b"}")
     }
 
     #[tactic(auto, unfolding(crate::specs::Rules::property_at))]
-    fn property(&mut self, properties: &mut Items<Property>) -> Result<(), SpecError>
-        ensures reads { Fills result properties.new self.new.rest.now
-            (property_at self.old.bytes.now self.old.total properties.old self.old.rest.now) }
-        ensures bytes { self.new.bytes.now ≡ self.old.bytes.now }
-        ensures total { self.new.total ≡ self.old.total }
-        ensures left { OnOk result (length self.new.rest.now < length self.old.rest.now) }
-    {
-        let logic = self.name()?;
-        self.mark(b":")?;
-        let first = self.place();
-        let n = runs::formula_length(self.bytes, self.rest, self.last_line)?;
-        self.advance(n);
-        let last = self.place();
-        let mut handlers = Items::new(self.alloc);
-        self.handlers(&mut handlers)?;
+    fn add(
+        &self,
+        whole: Items<Property>,
+        cursor: &mut Cursor<'_>,
+    ) -> Result<Items<Property>, SpecError> {
+        let mut properties = whole;
+        let logic = cursor.name()?;
+        cursor.mark(b":")?;
+        let first = place(self.total, cursor);
+        let n = runs::formula_length(cursor.bytes, cursor.rest, cursor.last_line)?;
+        cursor.advance(n);
+        let last = place(self.total, cursor);
+        let rule = Handler { total: self.total };
+        let handlers = gather(&rule, Items::new(cursor.alloc), cursor)?;
         properties.push(Property {
             logic,
             first,
             last,
             handlers,
-        })
+        })?;
+        Ok(properties)
     }
+}
 
-    #[tactic(auto, unfolding(crate::specs::Rules::handlers_at))]
-    fn handlers(&mut self, handlers: &mut Items<HandlerText>) -> Result<(), SpecError>
-        ensures reads { Fills result handlers.new self.new.rest.now
-            (handlers_at self.old.bytes.now self.old.total handlers.old self.old.rest.now) }
-        ensures bytes { self.new.bytes.now ≡ self.old.bytes.now }
-        ensures total { self.new.total ≡ self.old.total }
-        ensures left { OnOk result (length self.new.rest.now ≤ length self.old.rest.now) }
-    {
-        while self.begins_handler() {
-            self.handler(handlers)?;
-        }
-        Ok(())
-    }
+/// "@" NAME Block, in a file of so many tokens
+#[derive(Clone, Copy)]
+struct Handler {
+    total: u32,
+}
 
-    fn begins_handler(&self) -> bool
-        ensures { result ≡ begins_handler self.now.bytes.now self.now.rest.now }
-    {
-        self.is_mark_at(0, b"@")
+impl Gathered for Handler {
+    type Whole = Items<HandlerText>;
+
+    ghost goes_on = { begins_handler };
+
+    ghost more = { λ rule. handler_at rule.total };
+
+    fn is_next(cursor: &Cursor<'_>) -> bool {
+        cursor.is_mark_at(0, b"@")
     }
 
     #[tactic(auto, unfolding(crate::specs::Rules::handler_at))]
-    fn handler(&mut self, handlers: &mut Items<HandlerText>) -> Result<(), SpecError>
-        ensures reads { Fills result handlers.new self.new.rest.now
-            (handler_at self.old.bytes.now self.old.total handlers.old self.old.rest.now) }
-        ensures bytes { self.new.bytes.now ≡ self.old.bytes.now }
-        ensures total { self.new.total ≡ self.old.total }
-        ensures left { OnOk result (length self.new.rest.now < length self.old.rest.now) }
-    {
-        self.mark(b"@")?;
-        let category = self.name()?;
-        let (first, last) = self.block()?;
+    fn add(
+        &self,
+        whole: Items<HandlerText>,
+        cursor: &mut Cursor<'_>,
+    ) -> Result<Items<HandlerText>, SpecError> {
+        let mut handlers = whole;
+        cursor.mark(b"@")?;
+        let category = cursor.name()?;
+        let (first, last) = block(self.total, cursor)?;
         handlers.push(HandlerText {
             category,
             first,
             last,
-        })
+        })?;
+        Ok(handlers)
     }
+}
 
-    /// The range of the tokens inside a block.
-    #[tactic(auto, unfolding(crate::specs::Rules::block_at))]
-    fn block(&mut self) -> Result<(u32, u32), SpecError>
-        ensures reads { Reads result self.new.rest.now (block_at self.old.bytes.now self.old.total self.old.rest.now) }
-        ensures bytes { self.new.bytes.now ≡ self.old.bytes.now }
-        ensures total { self.new.total ≡ self.old.total }
-        ensures left { OnOk result (length self.new.rest.now < length self.old.rest.now) }
-    {
-        if !self.is_mark_at(0, b"{") {
-            return Err(self.syntax());
-        }
-        let first = self.place() + 1;
-        self.run()?;
-        Ok((first, self.place() - 1))
+/// The range of the tokens inside a block, in a file of so many tokens.
+#[tactic(auto, unfolding(crate::specs::Rules::block_at))]
+fn block(total: u32, cursor: &mut Cursor<'_>) -> Result<(u32, u32), SpecError>
+    ensures { Takes cursor.old result cursor.new (block_at total) }
+{
+    if !cursor.is_mark_at(0, b"{") {
+        return Err(cursor.syntax());
     }
+    let first = place(total, cursor) + 1;
+    run(cursor)?;
+    Ok((first, place(total, cursor).saturating_sub(1)))
 }

@@ -4,10 +4,10 @@ ghost use Rattle.jm_text.specs.Spans.{LieWithin};
 ghost use Rattle.jm_spec.specs.Spelling.{Spells};
 ghost use Rattle.jm_spec.specs.Trees.{IsTreeOfTokens, IsFaultOfTokens, IsUnspelled, HasRange};
 
-use crate::frame::Frame;
-use crate::reader::Reader;
+use crate::frame::{Frame, file};
 use crate::tree::{SpecTree, tree_of};
 use jm_model::SpecError;
+use jm_reading::Cursor;
 use jm_text::Token;
 use std::alloc::Global;
 
@@ -36,6 +36,6 @@ pub fn read_frame(alloc: Global, bytes: &[u8], tokens: &[Token]) -> Result<Frame
     ensures ranges { IfOk result (λ frame. All (HasRange (length tokens.now)) frame.properties) }
     ensures err { IfErr result (IsUnspelled bytes.now tokens.now) }
 {
-    let mut reader = Reader::new(alloc, bytes, tokens);
-    reader.file()
+    let mut cursor = Cursor::new(alloc, bytes, tokens, 1);
+    file(tokens.len() as u32, &mut cursor)
 }

@@ -1,4 +1,4 @@
-use Rattle.std.proofs.Common.{◌≡◌, List, ℕ, Result, Ok, Err, IfOk, IfErr, sym, ◌∙◌, subst, length}
+use Rattle.std.proofs.Common.{◌≡◌, List, ℕ, Result, Ok, Err, IfOk, IfErr, refl, sym, ◌∙◌, subst, length}
 use Rattle.std.specs.Prelude.{All}
 use Rattle.jm_model.specs.declared.fault.SpecError.{SpecError}
 use Rattle.jm_model.specs.declared.fault.SpecError.TheVariants.{Bad, NoMemory}
@@ -21,8 +21,8 @@ fails_where bytes tokens (Bad (Syntax line)) h = λ frame said. never_some (sym 
 fails_where bytes tokens (Bad _) h = absurd h
 
 -- what the reader answers, as it names the values
-given_as : (bytes here : List ℕ) (tokens rest : List Token) (total : ℕ) (r : Result Frame SpecError) → here ≡ bytes → rest ≡ tokens → total ≡ length tokens → Gives r (frame_at here total rest) → Gives r (frame_of bytes tokens)
-given_as bytes here tokens rest total r same all count h = subst (Gives r) (λ i. frame_at (same i) (count i) (all i)) h
+given_as : (bytes here : List ℕ) (tokens rest : List Token) (total : ℕ) (r : Result Frame SpecError) → here ≡ bytes → rest ≡ tokens → total ≡ length tokens → Gives r (frame_at total here rest) → Gives r (frame_of bytes tokens)
+given_as bytes here tokens rest total r same all count h = subst (Gives r) (λ i. frame_at (count i) (same i) (all i)) h
 
 spelled : (bytes : List ℕ) (tokens : List Token) (r : Result Frame SpecError) → Gives r (frame_of bytes tokens) → IfOk r (Spells bytes tokens)
 spelled bytes tokens (Ok frame) h = frame_is_spelled bytes tokens frame h
@@ -37,10 +37,10 @@ unspelled bytes tokens (Ok frame) h = tt
 unspelled bytes tokens (Err e) h = fails_where bytes tokens e h
 
 pub returns-clause-ok : goal.returns-clause-ok
-returns-clause-ok c = spelled _ _ _ (given_as c.args.bytes.now _ c.args.tokens.now _ _ _ c.new-reader.ensures.bytes c.new-reader.ensures.rest c.new-reader.ensures.total c.file.ensures.reads)
+returns-clause-ok c = spelled _ _ _ (given_as c.args.bytes.now _ c.args.tokens.now _ _ _ c.new-cursor.ensures.bytes c.new-cursor.ensures.rest refl c.file.ensures)
 
 pub returns-clause-ranges : goal.returns-clause-ranges
-returns-clause-ranges c = ranged _ _ _ (given_as c.args.bytes.now _ c.args.tokens.now _ _ _ c.new-reader.ensures.bytes c.new-reader.ensures.rest c.new-reader.ensures.total c.file.ensures.reads)
+returns-clause-ranges c = ranged _ _ _ (given_as c.args.bytes.now _ c.args.tokens.now _ _ _ c.new-cursor.ensures.bytes c.new-cursor.ensures.rest refl c.file.ensures)
 
 pub returns-clause-err : goal.returns-clause-err
-returns-clause-err c = unspelled _ _ _ (given_as c.args.bytes.now _ c.args.tokens.now _ _ _ c.new-reader.ensures.bytes c.new-reader.ensures.rest c.new-reader.ensures.total c.file.ensures.reads)
+returns-clause-err c = unspelled _ _ _ (given_as c.args.bytes.now _ c.args.tokens.now _ _ _ c.new-cursor.ensures.bytes c.new-cursor.ensures.rest refl c.file.ensures)
