@@ -1,5 +1,5 @@
 -- What is spelled is read so.
-use Rattle.std.proofs.Common.{◌≡◌, ◌≢◌, ℕ, ◌+◌, ◌-◌, ◌<◌, ◌≤◌, Bool, true, false, cond, List, [], ◌∷◌, ◌++◌, length, take, drop, Option, Some, None, ◌⊎◌, inl, inr, refl, sym, ap, ◌∙◌, arith, append_assoc, length-append}
+use Rattle.std.proofs.Common.{◌≡◌, ◌≢◌, ℕ, ◌+◌, ◌-◌, ◌<◌, ◌≤◌, Bool, true, false, cond, List, [], ◌∷◌, ◌++◌, length, take, drop, Option, Some, None, ◌⊎◌, inl, inr, refl, sym, ap, ◌∙◌, arith, append_assoc, append-nil, length-append}
 use Rattle.std.proofs.Math.Seq.{take-append_seam, drop-append_seam}
 use Rattle.std.proofs.lemmas.Bool.Decides.{nat_tests}
 use Rattle.std.specs.Prelude.{not, ◌&&◌, ◌||◌, nat_lt, codes, slice_get, option_and_then}
@@ -25,19 +25,12 @@ use Rattle.jm_spec.specs.Rules.{begins_clause, clause_at, clauses_at, more_word_
 use Rattle.jm_spec.specs.Balance.{member_sign, open_after}
 use Rattle.jm_reading.specs.Tokens.{IsMark, IsWord, IsName}
 use Rattle.jm_spec.specs.Spelling.{IsAnyWord, Repeats, nothing, one_more as another, Spelled, SpelledAnywhere, BeginsClause, SpellsClause, clause, SpellsMoreWord, more_word, SpellsModifier, modifier, open_in_list, Holds, IsType, SpellsParam, param, SpellsMoreParam, more_param, SpellsParams, no_params, some_params, SpellsList, list, RunsToEnd, SpellsOutcome, missing, alone, with_list, BeginsOther, SpellsAdvice, before, after, other, SpellsEvent, event, creation_event, SpellsMember, declaration, an_event, SpellsHandler, handler, SpellsProperty, property, BeginsNoClause, SpellsHead, head, SpellsBody, body, Spells, file}
+use Rattle.jm_reading.proofs.TokenLemmas.{mark_is, name_is, step_of}
 use Rattle.jm_spec.proofs.TokenLemmas.{never_both, no_mark, no_word, no_other_word, no_other_mark, word_kind, name_kind, word_sign, mark_sign}
-use Rattle.jm_spec.proofs.RepeatLemmas.{append-nil, never_some, same_some, first_gives, both_give, steps_complete, items_complete}
+use Rattle.jm_spec.proofs.RepeatLemmas.{never_some, same_some, both_give, steps_complete, items_complete}
 use Rattle.jm_spec.proofs.BalanceLemmas.{nothing_ends}
 use Rattle.jm_spec.proofs.SoundLemmas.{file_tail}
 use Rattle.jm_spec.proofs.EndLemmas.{passed_complete, clause_complete, clause_goes_on, member_complete, formula_complete, StopsFormula, IsHeld, parameter_complete, block_complete}
-
-pub mark_read : (bytes mark : List ℕ) (t : Token) (rest : List Token) → IsMark bytes mark t → mark_at bytes mark (t ∷ rest) ≡ Some rest
-unfolding mark_at
-mark_read bytes mark t rest h = rw h refl
-
-name_read : (bytes : List ℕ) (t : Token) (rest : List Token) → IsName bytes t → name_at bytes (t ∷ rest) ≡ Some (t, rest)
-unfolding name_at
-name_read bytes t rest h = rw h refl
 
 word_read : (t : Token) (rest : List Token) → IsAnyWord t → any_word_at (t ∷ rest) ≡ Some rest
 unfolding any_word_at
@@ -80,7 +73,7 @@ more_word_filled bytes front (more_word dash word d w) = omega arith
 more_word_read : (bytes : List ℕ) (front behind : List Token) → SpellsMoreWord bytes front → Unit {0} → (begins_more_word bytes (front ++ behind) ≡ true) × (more_word_at bytes (front ++ behind) ≡ Some behind) × Unit {0}
 unfolding more_word_at
 more_word_read bytes front behind (more_word dash word d w) u =
-    (d, both_give (mark_at bytes (codes "-") (dash ∷ word ∷ behind)) any_word_at (word ∷ behind) _ (mark_read bytes (codes "-") dash (word ∷ behind) d) (word_read word behind w), tt)
+    (d, both_give (mark_at bytes (codes "-") (dash ∷ word ∷ behind)) any_word_at (word ∷ behind) _ (mark_is bytes (codes "-") dash (word ∷ behind) d) (word_read word behind w), tt)
 
 word_is_no_dash : (bytes : List ℕ) (rest : List Token) → BeginsWord rest → begins_more_word bytes rest ≡ false
 word_is_no_dash bytes [] b = absurd b
@@ -138,7 +131,7 @@ round_parts bytes t h = ap (parts []) (mark_sign bytes t 41 h)
 open_joined : (bytes : List ℕ) (a b : List Token) (stack s : List Bracket) → open_in_list bytes stack a ≡ Some s → open_in_list bytes stack (a ++ b) ≡ open_in_list bytes s b
 open_joined bytes [] b stack s h = ap (λ x. open_in_list bytes x b) (same_some h)
 open_joined bytes (t ∷ a) b stack s h =
-    let p = first_gives (after_sign stack (sign_of bytes t)) (λ next. open_in_list bytes next a) s h in
+    let p = step_of (after_sign stack (sign_of bytes t)) (λ next. open_in_list bytes next a) s h in
     both_give (after_sign stack (sign_of bytes t)) (λ next. open_in_list bytes next (a ++ b)) p.0 _ p.1 (open_joined bytes a b p.0 s p.2)
 
 -- where a run of a type and a name is parted, the name is passed or behind
@@ -213,7 +206,7 @@ more_param_filled bytes at front xs (more_param comma run names c p) = omega ari
 more_param_read : (bytes : List ℕ) (front xs had behind : List Token) → SpellsMoreParam bytes front xs → BeginsPart bytes behind → (begins_more_param bytes (front ++ behind) ≡ true) × (more_param_at had bytes (front ++ behind) ≡ Some (had ++ xs, behind)) × BeginsPart bytes (front ++ behind)
 unfolding more_param_at
 more_param_read bytes front xs had behind (more_param comma run names c p) b =
-    (c, both_give (mark_at bytes (codes ",") (comma ∷ run ++ behind)) (param_at had bytes) (run ++ behind) _ (mark_read bytes (codes ",") comma (run ++ behind) c) (param_read bytes had run names behind p b), comma_parts bytes comma c)
+    (c, both_give (mark_at bytes (codes ",") (comma ∷ run ++ behind)) (param_at had bytes) (run ++ behind) _ (mark_is bytes (codes ",") comma (run ++ behind) c) (param_read bytes had run names behind p b), comma_parts bytes comma c)
 
 more_params_read : (bytes : List ℕ) (had front xs behind : List Token) → SpelledAnywhere (SpellsMoreParam bytes) front xs → BeginsPart bytes behind → begins_more_param bytes behind ≡ false → (more_params_at had bytes (front ++ behind) ≡ Some (had ++ xs, behind)) × BeginsPart bytes (front ++ behind)
 unfolding gathered_at
@@ -245,9 +238,9 @@ params_read bytes had front xs closing rest (some_params first more names others
 list_read : (bytes : List ℕ) (had front xs rest : List Token) → SpellsList bytes front xs → list_at had bytes (front ++ rest) ≡ Some (had ++ xs, rest)
 unfolding list_at
 list_read bytes had front xs rest (list opening params closing names o p c) =
-    both_give (mark_at bytes (codes "(") (opening ∷ (params ++ closing ∷ []) ++ rest)) _ ((params ++ closing ∷ []) ++ rest) _ (mark_read bytes (codes "(") opening ((params ++ closing ∷ []) ++ rest) o)
+    both_give (mark_at bytes (codes "(") (opening ∷ (params ++ closing ∷ []) ++ rest)) _ ((params ++ closing ∷ []) ++ rest) _ (mark_is bytes (codes "(") opening ((params ++ closing ∷ []) ++ rest) o)
     (both_give (params_at had bytes ((params ++ closing ∷ []) ++ rest)) _ (had ++ names, closing ∷ rest) _ (ap (params_at had bytes) (append_assoc params (closing ∷ []) rest) ∙ params_read bytes had params names closing rest p c)
-    (both_give (mark_at bytes (codes ")") (closing ∷ rest)) _ rest _ (mark_read bytes (codes ")") closing rest c) refl))
+    (both_give (mark_at bytes (codes ")") (closing ∷ rest)) _ rest _ (mark_is bytes (codes ")") closing rest c) refl))
 
 list_begins : (bytes : List ℕ) (front xs rest : List Token) → SpellsList bytes front xs → is_mark_at bytes (front ++ rest) 0 (codes "(") ≡ true
 list_begins bytes front xs rest (list opening params closing names o p c) = o
@@ -260,7 +253,7 @@ run_read bytes run rest r = passed_complete run rest _ (member_complete bytes ru
 
 pointcut_read : (bytes : List ℕ) (colon : Token) (run rest : List Token) → IsMark bytes (codes ":") colon → RunsToEnd bytes run → pointcut_at bytes (colon ∷ run ++ rest) ≡ Some rest
 unfolding pointcut_at
-pointcut_read bytes colon run rest c r = both_give (mark_at bytes (codes ":") (colon ∷ run ++ rest)) (run_at bytes) (run ++ rest) _ (mark_read bytes (codes ":") colon (run ++ rest) c) (run_read bytes run rest r)
+pointcut_read bytes colon run rest c r = both_give (mark_at bytes (codes ":") (colon ∷ run ++ rest)) (run_at bytes) (run ++ rest) _ (mark_is bytes (codes ":") colon (run ++ rest) c) (run_read bytes run rest r)
 
 outcome_read : (bytes word : List ℕ) (had front xs rest : List Token) → SpellsOutcome bytes word front xs → is_word_at bytes rest 0 word ≡ false → is_mark_at bytes rest 0 (codes "(") ≡ false → outcome_at word had bytes (front ++ rest) ≡ Some (had ++ xs, rest)
 unfolding outcome_at optional_list_at
@@ -339,12 +332,12 @@ unfolding event_at creation_at
 event_read bytes had front e rest (event word name said a w n s) =
     both_give (cond {A = Option (Bool × List Token)} (is_word bytes word (codes "creation")) _ (Some (false, word ∷ name ∷ said ++ rest))) _ (false, word ∷ name ∷ said ++ rest) _ (ap (λ g. cond {A = Option (Bool × List Token)} g (any_word_at (word ∷ name ∷ said ++ rest) >>= λ behind. Some (true, behind)) (Some (false, word ∷ name ∷ said ++ rest))) (no_other_word bytes word (codes "event") (codes "creation") w refl))
     (both_give (any_word_at (word ∷ name ∷ said ++ rest)) _ (name ∷ said ++ rest) _ (word_read word (name ∷ said ++ rest) (word_kind bytes word (codes "event") w))
-    (both_give (name_at bytes (name ∷ said ++ rest)) _ (name, said ++ rest) _ (name_read bytes name (said ++ rest) n)
+    (both_give (name_at bytes (name ∷ said ++ rest)) _ (name, said ++ rest) _ (name_is bytes name (said ++ rest) n)
     (both_give (advice_at bytes (said ++ rest)) _ (a, rest) _ (advice_read bytes said a rest s) refl)))
 event_read bytes had front e rest (creation_event creates word name said a k w n s) =
     both_give (cond {A = Option (Bool × List Token)} (is_word bytes creates (codes "creation")) (any_word_at (creates ∷ word ∷ name ∷ said ++ rest) >>= λ behind. Some (true, behind)) (Some (false, creates ∷ word ∷ name ∷ said ++ rest))) _ (true, word ∷ name ∷ said ++ rest) _ (ap (λ g. cond {A = Option (Bool × List Token)} g (any_word_at (creates ∷ word ∷ name ∷ said ++ rest) >>= λ behind. Some (true, behind)) (Some (false, creates ∷ word ∷ name ∷ said ++ rest))) k ∙ both_give (any_word_at (creates ∷ word ∷ name ∷ said ++ rest)) _ (word ∷ name ∷ said ++ rest) _ (word_read creates (word ∷ name ∷ said ++ rest) (word_kind bytes creates (codes "creation") k)) refl)
     (both_give (any_word_at (word ∷ name ∷ said ++ rest)) _ (name ∷ said ++ rest) _ (word_read word (name ∷ said ++ rest) (word_kind bytes word (codes "event") w))
-    (both_give (name_at bytes (name ∷ said ++ rest)) _ (name, said ++ rest) _ (name_read bytes name (said ++ rest) n)
+    (both_give (name_at bytes (name ∷ said ++ rest)) _ (name, said ++ rest) _ (name_is bytes name (said ++ rest) n)
     (both_give (advice_at bytes (said ++ rest)) _ (a, rest) _ (advice_read bytes said a rest s) refl)))
 
 -- the last token of a member is no word
@@ -475,8 +468,8 @@ handler_read bytes total at front xs had rest (handler sign category opening ins
     let first : at + 2 + 1 ≡ at + 3 = omega arith in
     let last : at + 2 + 1 + length inside ≡ at + 3 + length inside = omega arith in (
       s,
-      both_give (mark_at bytes (codes "@") (sign ∷ category ∷ (opening ∷ inside ++ closing ∷ []) ++ rest)) _ (category ∷ (opening ∷ inside ++ closing ∷ []) ++ rest) _ (mark_read bytes (codes "@") sign _ s)
-          (both_give (name_at bytes (category ∷ (opening ∷ inside ++ closing ∷ []) ++ rest)) _ (category, (opening ∷ inside ++ closing ∷ []) ++ rest) _ (name_read bytes category _ n)
+      both_give (mark_at bytes (codes "@") (sign ∷ category ∷ (opening ∷ inside ++ closing ∷ []) ++ rest)) _ (category ∷ (opening ∷ inside ++ closing ∷ []) ++ rest) _ (mark_is bytes (codes "@") sign _ s)
+          (both_give (name_at bytes (category ∷ (opening ∷ inside ++ closing ∷ []) ++ rest)) _ (category, (opening ∷ inside ++ closing ∷ []) ++ rest) _ (name_is bytes category _ n)
           (both_give (block_at total bytes ((opening ∷ inside ++ closing ∷ []) ++ rest)) _ ((at + 2 + 1, at + 2 + 1 + length inside), rest) _ (block_read bytes total (at + 2) opening inside closing rest o b c there)
           (λ i. Some (had ++ record { category = category; first = first i; last = last i } ∷ [], rest)))),
       sign_stops bytes sign (category ∷ (opening ∷ inside ++ closing ∷ []) ++ rest) s,
@@ -541,8 +534,8 @@ property_read bytes total at front xs had rest (property logic colon formula han
     let first : place total ((formula ++ handling) ++ rest) ≡ at + 2 = omega arith in
     let last : place total (handling ++ rest) ≡ at + 2 + length formula = omega arith in (
       ap (λ g. not g) (no_mark bytes logic (codes "}") (name_kind bytes logic n)),
-      both_give (name_at bytes (logic ∷ colon ∷ (formula ++ handling) ++ rest)) _ (logic, colon ∷ (formula ++ handling) ++ rest) _ (name_read bytes logic _ n)
-          (both_give (mark_at bytes (codes ":") (colon ∷ (formula ++ handling) ++ rest)) _ ((formula ++ handling) ++ rest) _ (mark_read bytes (codes ":") colon _ c)
+      both_give (name_at bytes (logic ∷ colon ∷ (formula ++ handling) ++ rest)) _ (logic, colon ∷ (formula ++ handling) ++ rest) _ (name_is bytes logic _ n)
+          (both_give (mark_at bytes (codes ":") (colon ∷ (formula ++ handling) ++ rest)) _ ((formula ++ handling) ++ rest) _ (mark_is bytes (codes ":") colon _ c)
           (both_give (passed ((formula ++ handling) ++ rest) (formula_length bytes ((formula ++ handling) ++ rest))) _ (handling ++ rest) _
           (ap (λ ts. passed ts (formula_length bytes ts)) e ∙ passed_complete formula (handling ++ rest) _ (formula_complete bytes formula (handling ++ rest) f h.1))
           (both_give (handlers_at total bytes (handling ++ rest)) _ (handlers, rest) _ h.0
@@ -573,10 +566,10 @@ body_read bytes total at ms name names within es ps (body opening members events
     let behind = length-append stating (closing ∷ []) in
     let there : at + 1 + length members + length (stating ++ closing ∷ []) ≡ total = omega arith in
     let r = properties_read bytes total (at + 1 + length members) stating properties closing p c there in
-    both_give (mark_at bytes (codes "{") (opening ∷ members ++ stating ++ closing ∷ [])) _ (members ++ stating ++ closing ∷ []) _ (mark_read bytes (codes "{") opening _ o)
+    both_give (mark_at bytes (codes "{") (opening ∷ members ++ stating ++ closing ∷ [])) _ (members ++ stating ++ closing ∷ []) _ (mark_is bytes (codes "{") opening _ o)
     (both_give (members_at bytes (members ++ stating ++ closing ∷ [])) _ (events, stating ++ closing ∷ []) _ (ap (members_at bytes) e ∙ members_read bytes members events (stating ++ closing ∷ []) m (stops_members bytes (stating ++ closing ∷ []) r.1))
     (both_give (properties_at total bytes (stating ++ closing ∷ [])) _ (properties, closing ∷ []) _ r.0
-    (both_give (mark_at bytes (codes "}") (closing ∷ [])) _ [] _ (mark_read bytes (codes "}") closing [] c) refl)))
+    (both_give (mark_at bytes (codes "}") (closing ∷ [])) _ [] _ (mark_is bytes (codes "}") closing [] c) refl)))
 
 no_clause_begins : (bytes : List ℕ) (front : List Token) (name : Token) (more : List Token) → BeginsNoClause bytes (front ++ name ∷ []) → begins_clause bytes (front ++ name ∷ more) ≡ false
 no_clause_begins bytes front name more h = first front h
@@ -597,7 +590,7 @@ head_read bytes total clauses heading ms name names d cs (head modifying modifie
     let r = modifiers_read bytes modifying modifiers (title ∷ params ++ d) m (name_kind bytes title n) (ap (λ g. not g) (list_begins bytes params titles d l)) in
     both_give (clauses_at bytes (clauses ++ ((modifying ++ title ∷ params) ++ d))) _ (tt, (modifying ++ title ∷ params) ++ d) _ (clauses_read bytes clauses ((modifying ++ title ∷ params) ++ d) cs (ap (begins_clause bytes) e ∙ no_clause_begins bytes modifying title (params ++ d) no_clause))
     (both_give (modifiers_at bytes ((modifying ++ title ∷ params) ++ d)) _ (modifiers, title ∷ params ++ d) _ (ap (modifiers_at bytes) e ∙ r.0)
-    (both_give (name_at bytes (title ∷ params ++ d)) _ (title, params ++ d) _ (name_read bytes title (params ++ d) n)
+    (both_give (name_at bytes (title ∷ params ++ d)) _ (title, params ++ d) _ (name_is bytes title (params ++ d) n)
     (both_give (list_at [] bytes (params ++ d)) _ (titles, d) _ (list_read bytes [] params titles d l) refl)))
 
 pub spelled_is_frame : (bytes : List ℕ) (tokens : List Token) (frame : Frame) → Spells bytes tokens frame → frame_of bytes tokens ≡ Some frame

@@ -16,9 +16,10 @@ use Rattle.jm_spec.specs.Reading.{passed}
 use Rattle.jm_spec.specs.Balance.{member_sign, open_after, may_end_after, EndsFrom, EndsMember}
 use Rattle.jm_reading.specs.Tokens.{IsMark}
 use Rattle.jm_spec.specs.Spelling.{RunsToEnd, IsFormula, open_in_list, Holds}
+use Rattle.jm_reading.proofs.TokenLemmas.{step_of}
 use Rattle.jm_spec.proofs.BalanceLemmas.{member_found, member_none, nothing_ends, longer_end, behind}
 use Rattle.jm_spec.proofs.TokenLemmas.{never_both, mark_sign, curly_mark}
-use Rattle.jm_spec.proofs.RepeatLemmas.{never_some, same_some, first_gives, both_give}
+use Rattle.jm_spec.proofs.RepeatLemmas.{never_some, same_some, both_give}
 
 pub passed_sound : (tokens : List Token) (o : Option ℕ) (rest : List Token) → passed tokens o ≡ Some rest → (n : ℕ) × (o ≡ Some n) × (tokens ≡ take n tokens ++ rest)
 passed_sound tokens None rest h = absurd (never_some h)
@@ -281,13 +282,13 @@ after_sign-deeper o stack inner Plain h = ap (deeper o) h
 pub open_after-deeper : (bytes : List ℕ) (o : Bracket) (run : List Token) (stack inner : List Bracket) → open_after bytes stack run ≡ Some inner → open_after bytes (o ∷ stack) run ≡ Some (o ∷ inner)
 open_after-deeper bytes o [] stack inner h = ap (deeper o) h
 open_after-deeper bytes o (t ∷ ts) stack inner h =
-    let p = first_gives (after_sign stack (member_sign bytes t)) (λ next. open_after bytes next ts) inner h in
+    let p = step_of (after_sign stack (member_sign bytes t)) (λ next. open_after bytes next ts) inner h in
     both_give (after_sign (o ∷ stack) (member_sign bytes t)) (λ next. open_after bytes next ts) (o ∷ p.0) _ (after_sign-deeper o stack p.0 (member_sign bytes t) p.1) (open_after-deeper bytes o ts p.0 inner p.2)
 
 open_after-append : (bytes : List ℕ) (a b : List Token) (stack inner : List Bracket) → open_after bytes stack a ≡ Some inner → open_after bytes stack (a ++ b) ≡ open_after bytes inner b
 open_after-append bytes [] b stack inner h = ap (λ s. open_after bytes s b) (same_some h)
 open_after-append bytes (t ∷ ts) b stack inner h =
-    let p = first_gives (after_sign stack (member_sign bytes t)) (λ next. open_after bytes next ts) inner h in
+    let p = step_of (after_sign stack (member_sign bytes t)) (λ next. open_after bytes next ts) inner h in
     both_give (after_sign stack (member_sign bytes t)) (λ next. open_after bytes next (ts ++ b)) p.0 _ p.1 (open_after-append bytes ts b p.0 inner p.2)
 
 -- brackets that match match over each front
@@ -295,7 +296,7 @@ open_front : (bytes : List ℕ) (run : List Token) (stack inner : List Bracket) 
 open_front bytes run stack inner zero h = (stack, refl)
 open_front bytes [] stack inner (suc k) h = (stack, refl)
 open_front bytes (t ∷ ts) stack inner (suc k) h =
-    let p = first_gives (after_sign stack (member_sign bytes t)) (λ next. open_after bytes next ts) inner h in
+    let p = step_of (after_sign stack (member_sign bytes t)) (λ next. open_after bytes next ts) inner h in
     let r = open_front bytes ts p.0 inner k p.2 in
     (r.0, both_give (after_sign stack (member_sign bytes t)) (λ next. open_after bytes next (take k ts)) p.0 _ p.1 r.1)
 
@@ -393,7 +394,7 @@ block_decide bytes ts t stack inner more is h first (inr b) = block_closed bytes
 block_inside : (bytes : List ℕ) (ts : List Token) (stack : List Bracket) → open_after bytes (Curly ∷ stack) ts ≡ Some [] → EndsFirst bytes (Curly ∷ stack) ts → TakesBlock bytes stack ts
 block_inside bytes [] stack h first = absurd (let e : Some (Curly ∷ stack) ≡ Some [] = h in cc)
 block_inside bytes (t ∷ ts) stack h first =
-    let p = first_gives (after_sign (Curly ∷ stack) (member_sign bytes t)) (λ next. open_after bytes next ts) [] h in
+    let p = step_of (after_sign (Curly ∷ stack) (member_sign bytes t)) (λ next. open_after bytes next ts) [] h in
     block_decide bytes ts t stack p.0 (λ left. block_inside bytes ts left) p.1 p.2 first (below stack (member_sign bytes t) p.0 p.1)
 
 curly_sign : (sign : Sign) → without_angles sign ≡ Close Curly → sign ≡ Close Curly

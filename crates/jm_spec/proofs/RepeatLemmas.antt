@@ -1,23 +1,15 @@
 -- A rule that is read as often as it goes on reads what its repetition spells, and nothing else.
-use Rattle.std.proofs.Common.{◌≡◌, ℕ, zero, suc, ◌+◌, ◌<◌, ◌≤◌, Bool, true, false, cond, List, [], ◌∷◌, ◌++◌, length, Option, Some, None, refl, sym, ap, ◌∙◌, subst, arith, append_assoc, length-append}
+use Rattle.std.proofs.Common.{◌≡◌, ℕ, zero, suc, ◌+◌, ◌<◌, ◌≤◌, Bool, true, false, cond, List, [], ◌∷◌, ◌++◌, length, Option, Some, None, refl, sym, ap, ◌∙◌, subst, arith, append_assoc, append-nil, length-append}
 use Rattle.jm_text.specs.declared.token.Token.{Token}
+use Rattle.jm_reading.proofs.TokenLemmas.{step_of}
 use Rattle.jm_reading.specs.Reading.{◌>>=◌, at_most}
 use Rattle.jm_spec.specs.Spelling.{Repeats, nothing, one_more, Spelled}
-
-pub append-nil : {X : Type 0} (xs : List X) → xs ++ [] ≡ xs
-append-nil [] = refl
-append-nil (x ∷ xs) = ap (λ ys. x ∷ ys) (append-nil xs)
 
 pub never_some : {A : Type 0} {x : A} → None ≡ Some x → ⊥
 never_some h = cc
 
 pub same_some : {A : Type 0} {x y : A} → Some x ≡ Some y → x ≡ y
 same_some h = cc
-
--- what comes first gives something, if both do
-pub first_gives : {A B : Type 0} (o : Option A) (f : A → Option B) (y : B) → o >>= f ≡ Some y → (x : A) × (o ≡ Some x) × (f x ≡ Some y)
-first_gives None f y h = absurd (never_some h)
-first_gives (Some x) f y h = (x, refl, h)
 
 pub both_give : {A B : Type 0} (o : Option A) (f : A → Option B) (x : A) (y : Option B) → o ≡ Some x → f x ≡ y → o >>= f ≡ y
 both_give o f x y h k = ap (λ p. p >>= f) h ∙ k
@@ -57,8 +49,8 @@ module _ (X : List Token → Type 0) (goes_on : List Token → Bool) (step : Lis
   goes : (n : ℕ) (g : Bool) (tokens rest : List Token) (u v : Unit {0}) → ((w : Unit {0}) (mid : List Token) → at_most goes_on (once step) n w mid ≡ Some (v, rest) → Fronts (Repeats X) mid rest × (goes_on rest ≡ false)) → goes_on tokens ≡ g → cond {A = Option (Unit {0} × List Token)} g (once step u tokens >>= λ x. at_most goes_on (once step) n x.0 x.1) (Some (u, tokens)) ≡ Some (v, rest) → Fronts (Repeats X) tokens rest × (goes_on rest ≡ false)
   goes n false tokens rest u v more g h = stays false tokens rest u v g h
   goes n true tokens rest u v more g h =
-      let p = first_gives (once step u tokens) (λ x. at_most goes_on (once step) n x.0 x.1) (v, rest) h in
-      let q = first_gives (step tokens) (λ rest. Some (u, rest)) p.0 p.1 in
+      let p = step_of (once step u tokens) (λ x. at_most goes_on (once step) n x.0 x.1) (v, rest) h in
+      let q = step_of (step tokens) (λ rest. Some (u, rest)) p.0 p.1 in
       let here = sound tokens p.0.1 g (q.1 ∙ ap (λ x. Some x.1) (same_some q.2)) in
       let r = more p.0.0 p.0.1 p.2 in
       (joined tokens p.0.1 rest here r.0, r.1)
@@ -89,7 +81,7 @@ module _ {V : Type 0} (total : ℕ) (X : ℕ → List Token → List V → Type 
   item_goes : (n at : ℕ) (g : Bool) (xs : List V) (tokens : List Token) (out : List V) (rest : List Token) → at + length tokens ≡ total → ((there : ℕ) (ys : List V) (mid : List Token) → there + length mid ≡ total → at_most goes_on item n ys mid ≡ Some (out, rest) → Adds (Spelled X there) mid ys out rest × (goes_on rest ≡ false)) → goes_on tokens ≡ g → cond {A = Option (List V × List Token)} g (item xs tokens >>= λ x. at_most goes_on item n x.0 x.1) (Some (xs, tokens)) ≡ Some (out, rest) → Adds (Spelled X at) tokens xs out rest × (goes_on rest ≡ false)
   item_goes n at false xs tokens out rest same more g h = item_stays at false xs tokens out rest g h
   item_goes n at true xs tokens out rest same more g h =
-      let p = first_gives (item xs tokens) (λ x. at_most goes_on item n x.0 x.1) (out, rest) h in
+      let p = step_of (item xs tokens) (λ x. at_most goes_on item n x.0 x.1) (out, rest) h in
       let a = sound at xs tokens p.0.0 p.0.1 same g p.1 in
       let r = more (at + length a.front) p.0.0 p.0.1 (moved at tokens a.front p.0.1 same a.split) p.2 in
       (item_joined at xs tokens p.0.0 p.0.1 out rest a r.0, r.1)

@@ -1,5 +1,5 @@
 -- What the rules read is spelled so.
-use Rattle.std.proofs.Common.{◌≡◌, ◌≢◌, ℕ, suc, ◌+◌, ◌-◌, ◌≤◌, Bool, true, false, cond, List, [], ◌∷◌, ◌++◌, length, take, drop, Option, Some, None, ◌⊎◌, inl, inr, refl, sym, ap, ◌∙◌, subst, arith, append_assoc, length-append}
+use Rattle.std.proofs.Common.{◌≡◌, ◌≢◌, ℕ, suc, ◌+◌, ◌-◌, ◌≤◌, Bool, true, false, cond, List, [], ◌∷◌, ◌++◌, length, take, drop, Option, Some, None, ◌⊎◌, inl, inr, refl, sym, ap, ◌∙◌, subst, arith, append_assoc, append-nil, length-append}
 use Rattle.std.proofs.Math.Seq.{take-append_seam, drop-append_seam}
 use Rattle.std.specs.Prelude.{not, ◌&&◌, ◌||◌, nat_lt, codes, slice_get, option_and_then}
 use Rattle.jm_text.specs.declared.token.Token.{Token}
@@ -22,30 +22,13 @@ use Rattle.jm_spec.specs.Rules.{begins_clause, clause_at, clauses_at, more_word_
 use Rattle.jm_spec.specs.Balance.{open_after}
 use Rattle.jm_reading.specs.Tokens.{IsMark, IsWord, IsName}
 use Rattle.jm_spec.specs.Spelling.{IsAnyWord, Repeats, Spelled, SpelledAnywhere, BeginsClause, SpellsClause, clause, SpellsMoreWord, more_word, SpellsModifier, modifier, open_in_list, IsType, SpellsParam, param, SpellsMoreParam, more_param, SpellsParams, no_params, some_params, SpellsList, list, RunsToEnd, SpellsOutcome, missing, alone, with_list, BeginsOther, SpellsAdvice, before, after, other, SpellsEvent, event, creation_event, SpellsMember, declaration, an_event, SpellsHandler, handler, SpellsProperty, property, BeginsNoClause, SpellsHead, head, SpellsBody, body, Spells, file}
+use Rattle.jm_reading.proofs.TokenLemmas.{mark_read, name_read, step_of}
 use Rattle.jm_spec.proofs.TokenLemmas.{never_both, and_left, and_right, no_mark, no_other_word, word_kind, name_kind, word_sign}
-use Rattle.jm_spec.proofs.RepeatLemmas.{append-nil, never_some, same_some, first_gives, both_give, Fronts, Adds, steps_sound, items_sound}
+use Rattle.jm_spec.proofs.RepeatLemmas.{never_some, same_some, both_give, Fronts, Adds, steps_sound, items_sound}
 use Rattle.jm_spec.proofs.BalanceLemmas.{nothing_ends}
 use Rattle.jm_spec.proofs.EndLemmas.{passed_sound, clause_sound, clause_word_sound, member_sound, formula_sound, IsHeld, TakesParameter, parameter_sound, block_sound}
 
 -- one token and the rest
-pub mark_sound : (bytes mark : List ℕ) (tokens rest : List Token) → mark_at bytes mark tokens ≡ Some rest → (t : Token) × (tokens ≡ t ∷ rest) × IsMark bytes mark t
-unfolding mark_at
-mark_sound bytes mark [] rest h = absurd (never_some h)
-mark_sound bytes mark (t ∷ ts) rest h = found (is_mark bytes t mark) refl h
-  where
-    found : (g : Bool) → is_mark bytes t mark ≡ g → cond g (Some ts) None ≡ Some rest → (u : Token) × (t ∷ ts ≡ u ∷ rest) × IsMark bytes mark u
-    found true g h = (t, ap (λ r. t ∷ r) (same_some h), g)
-    found false g h = absurd (never_some h)
-
-pub name_sound : (bytes : List ℕ) (tokens : List Token) (name : Token) (rest : List Token) → name_at bytes tokens ≡ Some (name, rest) → (tokens ≡ name ∷ rest) × IsName bytes name
-unfolding name_at
-name_sound bytes [] name rest h = absurd (never_some h)
-name_sound bytes (t ∷ ts) name rest h = found (is_name bytes t) refl h
-  where
-    found : (g : Bool) → is_name bytes t ≡ g → cond {A = Option (Token × List Token)} g (Some (t, ts)) None ≡ Some (name, rest) → (t ∷ ts ≡ name ∷ rest) × IsName bytes name
-    found true g h = let e = same_some h in (λ i. (e i).0 ∷ (e i).1, sym (ap (λ p. is_name bytes p.0) e) ∙ g)
-    found false g h = absurd (never_some h)
-
 pub word_sound : (tokens rest : List Token) → any_word_at tokens ≡ Some rest → (t : Token) × (tokens ≡ t ∷ rest) × IsAnyWord t
 unfolding any_word_at
 word_sound [] rest h = absurd (never_some h)
@@ -83,10 +66,10 @@ clauses_are bytes tokens rest u h = steps_sound (SpellsClause bytes) (begins_cla
 more_word_is : (bytes : List ℕ) (tokens rest : List Token) → more_word_at bytes tokens ≡ Some rest → Fronts (SpellsMoreWord bytes) tokens rest
 unfolding more_word_at
 more_word_is bytes tokens rest h =
-    let p = first_gives (mark_at bytes (codes "-") tokens) any_word_at rest h in
-    let m = mark_sound bytes (codes "-") tokens p.0 p.1 in
+    let p = step_of (mark_at bytes (codes "-") tokens) any_word_at rest h in
+    let m = mark_read bytes (codes "-") tokens p.0 p.1 in
     let w = word_sound p.0 rest p.2 in
-    record { front = m.0 ∷ w.0 ∷ []; split = m.1 ∙ ap (λ r. m.0 ∷ r) w.1; said = more_word m.0 w.0 m.2 w.2 }
+    record { front = m.token ∷ w.0 ∷ []; split = m.cut ∙ ap (λ r. m.token ∷ r) w.1; said = more_word m.token w.0 m.is w.2 }
 
 more_words_are : (bytes : List ℕ) (tokens rest : List Token) (u : Unit {0}) → more_words_at bytes tokens ≡ Some (u, rest) → Fronts (Repeats (SpellsMoreWord bytes)) tokens rest
 unfolding gathered_at
@@ -103,8 +86,8 @@ front_of tokens front rest split =
 modifier_is : (bytes : List ℕ) (ms : List Modifier) (tokens : List Token) (out : List Modifier) (rest : List Token) → modifier_at ms bytes tokens ≡ Some (out, rest) → Adds (SpellsModifier bytes) tokens ms out rest
 unfolding modifier_at
 modifier_is bytes ms tokens out rest h =
-    let p = first_gives (any_word_at tokens) _ (out, rest) h in
-    let q = first_gives (more_words_at bytes p.0) _ (out, rest) p.2 in
+    let p = step_of (any_word_at tokens) _ (out, rest) h in
+    let q = step_of (more_words_at bytes p.0) _ (out, rest) p.2 in
     let w = word_sound tokens p.0 p.1 in
     let m = more_words_are bytes p.0 q.0.1 q.0.0 q.1 in
     let e = same_some q.2 in
@@ -139,7 +122,7 @@ got (x ∷ a) t b = got a t b
 open_parts : (bytes : List ℕ) (a b : List Token) (stack : List Bracket) (inner : List Bracket) → open_in_list bytes stack (a ++ b) ≡ Some inner → (s : List Bracket) × (open_in_list bytes stack a ≡ Some s) × (open_in_list bytes s b ≡ Some inner)
 open_parts bytes [] b stack inner h = (stack, refl, h)
 open_parts bytes (t ∷ a) b stack inner h =
-    let p = first_gives (after_sign stack (sign_of bytes t)) (λ next. open_in_list bytes next (a ++ b)) inner h in
+    let p = step_of (after_sign stack (sign_of bytes t)) (λ next. open_in_list bytes next (a ++ b)) inner h in
     let r = open_parts bytes a b p.0 inner p.2 in
     (r.0, both_give (after_sign stack (sign_of bytes t)) (λ next. open_in_list bytes next a) p.0 _ p.1 r.1, r.2)
 
@@ -187,7 +170,7 @@ unfolding param_at
 param_is bytes names tokens out rest h = given (parameter_sound bytes tokens [] p.0 p.1)
   where
     p : (n : ℕ) × (parameter_length bytes tokens ≡ Some n) × (named_at names bytes tokens n ≡ Some (out, rest))
-    p = first_gives (parameter_length bytes tokens) (named_at names bytes tokens) (out, rest) h
+    p = step_of (parameter_length bytes tokens) (named_at names bytes tokens) (out, rest) h
 
     given : TakesParameter bytes [] tokens p.0 → Adds (SpellsParam bytes) tokens names out rest
     given r =
@@ -198,10 +181,10 @@ param_is bytes names tokens out rest h = given (parameter_sound bytes tokens [] 
 more_param_is : (bytes : List ℕ) (names tokens out rest : List Token) → more_param_at names bytes tokens ≡ Some (out, rest) → Adds (SpellsMoreParam bytes) tokens names out rest
 unfolding more_param_at
 more_param_is bytes names tokens out rest h =
-    let p = first_gives (mark_at bytes (codes ",") tokens) (param_at names bytes) (out, rest) h in
-    let m = mark_sound bytes (codes ",") tokens p.0 p.1 in
+    let p = step_of (mark_at bytes (codes ",") tokens) (param_at names bytes) (out, rest) h in
+    let m = mark_read bytes (codes ",") tokens p.0 p.1 in
     let r = param_is bytes names p.0 out rest p.2 in
-    record { front = m.0 ∷ r.front; values = r.values; split = m.1 ∙ ap (λ xs. m.0 ∷ xs) r.split; all = r.all; said = more_param m.0 r.front r.values m.2 r.said }
+    record { front = m.token ∷ r.front; values = r.values; split = m.cut ∙ ap (λ xs. m.token ∷ xs) r.split; all = r.all; said = more_param m.token r.front r.values m.is r.said }
 
 more_params_are : (bytes : List ℕ) (names tokens out rest : List Token) → more_params_at names bytes tokens ≡ Some (out, rest) → Adds (SpelledAnywhere (SpellsMoreParam bytes)) tokens names out rest
 unfolding gathered_at
@@ -210,7 +193,7 @@ more_params_are bytes names tokens out rest h =
 
 some_are : (bytes : List ℕ) (names tokens out rest : List Token) → (param_at names bytes tokens >>= λ first. more_params_at first.0 bytes first.1) ≡ Some (out, rest) → Adds (SpellsParams bytes) tokens names out rest
 some_are bytes names tokens out rest h =
-    let p = first_gives (param_at names bytes tokens) (λ first. more_params_at first.0 bytes first.1) (out, rest) h in
+    let p = step_of (param_at names bytes tokens) (λ first. more_params_at first.0 bytes first.1) (out, rest) h in
     let a = param_is bytes names tokens p.0.0 p.0.1 p.1 in
     let b = more_params_are bytes p.0.0 p.0.1 out rest p.2 in
     record {
@@ -232,19 +215,19 @@ params_are bytes names tokens out rest h = given (is_mark_at bytes tokens 0 (cod
 list_is : (bytes : List ℕ) (names tokens out rest : List Token) → list_at names bytes tokens ≡ Some (out, rest) → Adds (SpellsList bytes) tokens names out rest
 unfolding list_at
 list_is bytes names tokens out rest h =
-    let p = first_gives (mark_at bytes (codes "(") tokens) _ (out, rest) h in
-    let q = first_gives (params_at names bytes p.0) _ (out, rest) p.2 in
-    let r = first_gives (mark_at bytes (codes ")") q.0.1) _ (out, rest) q.2 in
-    let m = mark_sound bytes (codes "(") tokens p.0 p.1 in
+    let p = step_of (mark_at bytes (codes "(") tokens) _ (out, rest) h in
+    let q = step_of (params_at names bytes p.0) _ (out, rest) p.2 in
+    let r = step_of (mark_at bytes (codes ")") q.0.1) _ (out, rest) q.2 in
+    let m = mark_read bytes (codes "(") tokens p.0 p.1 in
     let a = params_are bytes names p.0 q.0.0 q.0.1 q.1 in
-    let c = mark_sound bytes (codes ")") q.0.1 r.0 r.1 in
+    let c = mark_read bytes (codes ")") q.0.1 r.0 r.1 in
     let e = same_some r.2 in
     record {
-      front = m.0 ∷ a.front ++ c.0 ∷ [];
+      front = m.token ∷ a.front ++ c.token ∷ [];
       values = a.values;
-      split = m.1 ∙ ap (λ xs. m.0 ∷ xs) (a.split ∙ ap (λ xs. a.front ++ xs) (c.1 ∙ ap (λ x. c.0 ∷ x.1) e) ∙ sym (append_assoc a.front (c.0 ∷ []) rest));
+      split = m.cut ∙ ap (λ xs. m.token ∷ xs) (a.split ∙ ap (λ xs. a.front ++ xs) (c.cut ∙ ap (λ x. c.token ∷ x.1) e) ∙ sym (append_assoc a.front (c.token ∷ []) rest));
       all = sym (ap (λ x. x.0) e) ∙ a.all;
-      said = list m.0 a.front c.0 a.values m.2 a.said c.2;
+      said = list m.token a.front c.token a.values m.is a.said c.is;
     }
 
 -- advice
@@ -265,10 +248,10 @@ record HasPointcut (bytes : List ℕ) (tokens rest : List Token) : Type 0 where
 pointcut_is : (bytes : List ℕ) (tokens rest : List Token) → pointcut_at bytes tokens ≡ Some rest → HasPointcut bytes tokens rest
 unfolding pointcut_at
 pointcut_is bytes tokens rest h =
-    let p = first_gives (mark_at bytes (codes ":") tokens) (run_at bytes) rest h in
-    let m = mark_sound bytes (codes ":") tokens p.0 p.1 in
+    let p = step_of (mark_at bytes (codes ":") tokens) (run_at bytes) rest h in
+    let m = mark_read bytes (codes ":") tokens p.0 p.1 in
     let r = run_is bytes p.0 rest p.2 in
-    record { colon = m.0; run = r.front; split = m.1 ∙ ap (λ xs. m.0 ∷ xs) r.split; is_colon = m.2; ends = r.said }
+    record { colon = m.token; run = r.front; split = m.cut ∙ ap (λ xs. m.token ∷ xs) r.split; is_colon = m.is; ends = r.said }
 
 -- a rule spells a front of the tokens, which says this
 record Says {V : Type 0} (X : List Token → V → Type 0) (tokens : List Token) (value : V) (rest : List Token) : Type 0 where
@@ -283,9 +266,9 @@ seen bytes word tokens t rest h split = sym (ap (λ ts. is_word_at bytes ts 0 wo
 before_is : (bytes : List ℕ) (tokens : List Token) (a : Advice) (rest : List Token) → is_word_at bytes tokens 0 (codes "before") ≡ true → before_at bytes tokens ≡ Some (a, rest) → Says (SpellsAdvice bytes) tokens a rest
 unfolding before_at
 before_is bytes tokens a rest begins h =
-    let p = first_gives (any_word_at tokens) _ (a, rest) h in
-    let q = first_gives (list_at [] bytes p.0) _ (a, rest) p.2 in
-    let r = first_gives (pointcut_at bytes q.0.1) _ (a, rest) q.2 in
+    let p = step_of (any_word_at tokens) _ (a, rest) h in
+    let q = step_of (list_at [] bytes p.0) _ (a, rest) p.2 in
+    let r = step_of (pointcut_at bytes q.0.1) _ (a, rest) q.2 in
     let w = word_sound tokens p.0 p.1 in
     let l = list_is bytes [] p.0 q.0.0 q.0.1 q.1 in
     let c = pointcut_is bytes q.0.1 r.0 r.1 in
@@ -308,18 +291,18 @@ outcome_is bytes word names tokens out rest h = given (is_word_at bytes tokens 0
     given : (g : Bool) → is_word_at bytes tokens 0 word ≡ g → cond {A = Option (List Token × List Token)} g (any_word_at tokens >>= optional_list_at names bytes) (Some (names, tokens)) ≡ Some (out, rest) → Adds (SpellsOutcome bytes word) tokens names out rest
     given false g h = let e = same_some h in record { front = []; values = []; split = ap (λ x. x.1) e; all = sym (ap (λ x. x.0) e) ∙ sym (append-nil names); said = missing }
     given true g h =
-        let p = first_gives (any_word_at tokens) (optional_list_at names bytes) (out, rest) h in
+        let p = step_of (any_word_at tokens) (optional_list_at names bytes) (out, rest) h in
         let w = word_sound tokens p.0 p.1 in
         subst (λ ts. Adds (SpellsOutcome bytes word) ts names out rest) (sym w.1) (optional w.0 p.0 (is_mark_at bytes p.0 0 (codes "(")) (seen bytes word tokens w.0 p.0 g w.1) p.2)
 
 after_is : (bytes : List ℕ) (tokens : List Token) (a : Advice) (rest : List Token) → is_word_at bytes tokens 0 (codes "after") ≡ true → after_at bytes tokens ≡ Some (a, rest) → Says (SpellsAdvice bytes) tokens a rest
 unfolding after_at
 after_is bytes tokens a rest begins h =
-    let p = first_gives (any_word_at tokens) _ (a, rest) h in
-    let q = first_gives (list_at [] bytes p.0) _ (a, rest) p.2 in
-    let u = first_gives (outcome_at (codes "returning") q.0.0 bytes q.0.1) _ (a, rest) q.2 in
-    let v = first_gives (outcome_at (codes "throwing") u.0.0 bytes u.0.1) _ (a, rest) u.2 in
-    let r = first_gives (pointcut_at bytes v.0.1) _ (a, rest) v.2 in
+    let p = step_of (any_word_at tokens) _ (a, rest) h in
+    let q = step_of (list_at [] bytes p.0) _ (a, rest) p.2 in
+    let u = step_of (outcome_at (codes "returning") q.0.0 bytes q.0.1) _ (a, rest) q.2 in
+    let v = step_of (outcome_at (codes "throwing") u.0.0 bytes u.0.1) _ (a, rest) u.2 in
+    let r = step_of (pointcut_at bytes v.0.1) _ (a, rest) v.2 in
     let w = word_sound tokens p.0 p.1 in
     let l = list_is bytes [] p.0 q.0.0 q.0.1 q.1 in
     let m = outcome_is bytes (codes "returning") q.0.0 q.0.1 u.0.0 u.0.1 u.1 in
@@ -351,7 +334,7 @@ other_is bytes (t ∷ ts) a rest not_before not_after h = given (is_mark bytes t
     given true k g e h = absurd (never_some h)
     given false true g e h = absurd (never_some h)
     given false false g e h =
-        let p = first_gives (run_at bytes (t ∷ ts)) _ (a, rest) h in
+        let p = step_of (run_at bytes (t ∷ ts)) _ (a, rest) h in
         let r = run_is bytes (t ∷ ts) p.0 p.1 in
         let s = same_some p.2 in
         subst (λ x. Says (SpellsAdvice bytes) (t ∷ ts) x rest) (ap (λ x. x.0) s) (first r.front true (r.split ∙ ap (λ x. r.front ++ x.1) s) (record { not_before = not_before; not_after = not_after; no_end = g; no_block = e }) r.said)
@@ -377,9 +360,9 @@ event_is bytes events tokens out rest begins h = given (is_word_at bytes tokens 
   where
     tail : (creation : Bool) (fronts : List Token) (mid : List Token) → tokens ≡ fronts ++ mid → ((name : Token) (said : List Token) (a : Advice) → IsName bytes name → SpellsAdvice bytes said a → SpellsEvent bytes (fronts ++ name ∷ said) (record { creation = creation; name = name; advice = a })) → event_tail bytes events creation mid ≡ Some (out, rest) → Adds (SpellsMember bytes) tokens events out rest
     tail creation fronts mid split said h =
-        let q = first_gives (name_at bytes mid) _ (out, rest) h in
-        let r = first_gives (advice_at bytes q.0.1) _ (out, rest) q.2 in
-        let n = name_sound bytes mid q.0.0 q.0.1 q.1 in
+        let q = step_of (name_at bytes mid) _ (out, rest) h in
+        let r = step_of (advice_at bytes q.0.1) _ (out, rest) q.2 in
+        let n = name_read bytes mid q.0.1 q.0.0 q.1 in
         let a = advice_is bytes q.0.1 r.0.0 r.0.1 r.1 in
         let e = same_some r.2 in
         record {
@@ -406,15 +389,15 @@ event_is bytes events tokens out rest begins h = given (is_word_at bytes tokens 
 
     given : (g : Bool) → is_word_at bytes tokens 0 (codes "creation") ≡ g → ((cond {A = Option (Bool × List Token)} g (any_word_at tokens >>= λ rest. Some (true, rest)) (Some (false, tokens))) >>= λ creation. any_word_at creation.1 >>= λ mid. event_tail bytes events creation.0 mid) ≡ Some (out, rest) → Adds (SpellsMember bytes) tokens events out rest
     given false g h =
-        let p = first_gives (any_word_at tokens) _ (out, rest) h in
+        let p = step_of (any_word_at tokens) _ (out, rest) h in
         let w = word_sound tokens p.0 p.1 in
         tail false (w.0 ∷ []) p.0 w.1 (λ name said a. event w.0 name said a (seen bytes (codes "event") tokens w.0 p.0 (plain_word tokens begins g) w.1)) p.2
     given true g h =
-        let o = first_gives (any_word_at tokens >>= λ rest. Some (true, rest)) _ (out, rest) h in
-        let k = first_gives (any_word_at tokens) _ o.0 o.1 in
+        let o = step_of (any_word_at tokens >>= λ rest. Some (true, rest)) _ (out, rest) h in
+        let k = step_of (any_word_at tokens) _ o.0 o.1 in
         let c = word_sound tokens k.0 k.1 in
         let same = same_some k.2 in
-        let p = first_gives (any_word_at o.0.1) _ (out, rest) o.2 in
+        let p = step_of (any_word_at o.0.1) _ (out, rest) o.2 in
         let w = word_sound o.0.1 p.0 p.1 in
         let is = seen bytes (codes "creation") tokens c.0 k.0 g c.1 in
         let second : k.0 ≡ w.0 ∷ p.0 = ap (λ x. x.1) same ∙ w.1 in
@@ -456,7 +439,7 @@ member_is bytes events tokens out rest begins h = given (begins_event bytes toke
     given : (g : Bool) → begins_event bytes tokens ≡ g → cond {A = Option (List Mention × List Token)} g (event_at events bytes tokens) (run_at bytes tokens >>= λ rest. Some (events, rest)) ≡ Some (out, rest) → Adds (SpellsMember bytes) tokens events out rest
     given true g h = event_is bytes events tokens out rest g h
     given false g h =
-        let p = first_gives (run_at bytes tokens) _ (out, rest) h in
+        let p = step_of (run_at bytes tokens) _ (out, rest) h in
         let r = run_is bytes tokens p.0 p.1 in
         let e = same_some p.2 in
         record {
@@ -509,32 +492,32 @@ block_is bytes total tokens range rest h = given (is_mark_at bytes tokens 0 (cod
     given : (g : Bool) → is_mark_at bytes tokens 0 (codes "{") ≡ g → cond {A = Option ((ℕ × ℕ) × List Token)} g (run_at bytes tokens >>= λ rest. Some ((place total tokens + 1, place total rest - 1), rest)) None ≡ Some (range, rest) → HasBlock bytes total tokens range rest
     given false g h = absurd (never_some h)
     given true g h =
-        let p = first_gives (run_at bytes tokens) _ (range, rest) h in
+        let p = step_of (run_at bytes tokens) _ (range, rest) h in
         let r = run_is bytes tokens p.0 p.1 in
         begun r.front p.0 g r.split r.said (same_some p.2)
 
 handler_is : (bytes : List ℕ) (total at : ℕ) (handlers : List HandlerText) (tokens : List Token) (out : List HandlerText) (rest : List Token) → at + length tokens ≡ total → handler_at total handlers bytes tokens ≡ Some (out, rest) → Adds (SpellsHandler bytes at) tokens handlers out rest
 unfolding handler_at
 handler_is bytes total at handlers tokens out rest same h =
-    let p = first_gives (mark_at bytes (codes "@") tokens) _ (out, rest) h in
-    let q = first_gives (name_at bytes p.0) _ (out, rest) p.2 in
-    let r = first_gives (block_at total bytes q.0.1) _ (out, rest) q.2 in
-    let m = mark_sound bytes (codes "@") tokens p.0 p.1 in
-    let n = name_sound bytes p.0 q.0.0 q.0.1 q.1 in
+    let p = step_of (mark_at bytes (codes "@") tokens) _ (out, rest) h in
+    let q = step_of (name_at bytes p.0) _ (out, rest) p.2 in
+    let r = step_of (block_at total bytes q.0.1) _ (out, rest) q.2 in
+    let m = mark_read bytes (codes "@") tokens p.0 p.1 in
+    let n = name_read bytes p.0 q.0.1 q.0.0 q.1 in
     let b = block_is bytes total q.0.1 r.0.0 r.0.1 r.1 in
     let e = same_some r.2 in
-    let behind : tokens ≡ m.0 ∷ q.0.0 ∷ q.0.1 = m.1 ∙ ap (λ xs. m.0 ∷ xs) n.0 in
-    let whole : tokens ≡ (m.0 ∷ q.0.0 ∷ b.opening ∷ b.inside ++ b.closing ∷ []) ++ r.0.1 = behind ∙ ap (λ xs. m.0 ∷ q.0.0 ∷ xs) b.split in
-    let counted : length tokens ≡ length b.inside + 4 + length r.0.1 = omega (arith, ap length whole, length-append (m.0 ∷ q.0.0 ∷ b.opening ∷ b.inside ++ b.closing ∷ []) r.0.1, length-append b.inside (b.closing ∷ [])) in
+    let behind : tokens ≡ m.token ∷ q.0.0 ∷ q.0.1 = m.cut ∙ ap (λ xs. m.token ∷ xs) n.0 in
+    let whole : tokens ≡ (m.token ∷ q.0.0 ∷ b.opening ∷ b.inside ++ b.closing ∷ []) ++ r.0.1 = behind ∙ ap (λ xs. m.token ∷ q.0.0 ∷ xs) b.split in
+    let counted : length tokens ≡ length b.inside + 4 + length r.0.1 = omega (arith, ap length whole, length-append (m.token ∷ q.0.0 ∷ b.opening ∷ b.inside ++ b.closing ∷ []) r.0.1, length-append b.inside (b.closing ∷ [])) in
     let two : length tokens ≡ length q.0.1 + 2 = omega (arith, ap length behind) in
     let first : r.0.0.0 ≡ at + 3 = b.first ∙ omega arith in
     let last : r.0.0.1 ≡ at + 3 + length b.inside = b.last ∙ omega arith in
     record {
-      front = m.0 ∷ q.0.0 ∷ b.opening ∷ b.inside ++ b.closing ∷ [];
+      front = m.token ∷ q.0.0 ∷ b.opening ∷ b.inside ++ b.closing ∷ [];
       values = record { category = q.0.0; first = at + 3; last = at + 3 + length b.inside } ∷ [];
-      split = whole ∙ ap (λ x. (m.0 ∷ q.0.0 ∷ b.opening ∷ b.inside ++ b.closing ∷ []) ++ x.1) e;
+      split = whole ∙ ap (λ x. (m.token ∷ q.0.0 ∷ b.opening ∷ b.inside ++ b.closing ∷ []) ++ x.1) e;
       all = sym (ap (λ x. x.0) e) ∙ (λ i. handlers ++ record { category = q.0.0; first = first i; last = last i } ∷ []);
-      said = handler m.0 q.0.0 b.opening b.inside b.closing m.2 n.1 b.opens b.balanced b.closes;
+      said = handler m.token q.0.0 b.opening b.inside b.closing m.is n.1 b.opens b.balanced b.closes;
     }
 
 handlers_are : (bytes : List ℕ) (total at : ℕ) (tokens : List Token) (out : List HandlerText) (rest : List Token) → at + length tokens ≡ total → handlers_at total bytes tokens ≡ Some (out, rest) → Adds (Spelled (SpellsHandler bytes) at) tokens [] out rest
@@ -545,15 +528,15 @@ handlers_are bytes total at tokens out rest same h =
 property_is : (bytes : List ℕ) (total at : ℕ) (properties : List Property) (tokens : List Token) (out : List Property) (rest : List Token) → at + length tokens ≡ total → property_at total properties bytes tokens ≡ Some (out, rest) → Adds (SpellsProperty bytes at) tokens properties out rest
 unfolding property_at
 property_is bytes total at properties tokens out rest same h =
-    let p = first_gives (name_at bytes tokens) _ (out, rest) h in
-    let q = first_gives (mark_at bytes (codes ":") p.0.1) _ (out, rest) p.2 in
-    let r = first_gives (passed q.0 (formula_length bytes q.0)) _ (out, rest) q.2 in
-    let s = first_gives (handlers_at total bytes r.0) _ (out, rest) r.2 in
-    let n = name_sound bytes tokens p.0.0 p.0.1 p.1 in
-    let m = mark_sound bytes (codes ":") p.0.1 q.0 q.1 in
+    let p = step_of (name_at bytes tokens) _ (out, rest) h in
+    let q = step_of (mark_at bytes (codes ":") p.0.1) _ (out, rest) p.2 in
+    let r = step_of (passed q.0 (formula_length bytes q.0)) _ (out, rest) q.2 in
+    let s = step_of (handlers_at total bytes r.0) _ (out, rest) r.2 in
+    let n = name_read bytes tokens p.0.1 p.0.0 p.1 in
+    let m = mark_read bytes (codes ":") p.0.1 q.0 q.1 in
     let k = passed_sound q.0 (formula_length bytes q.0) r.0 r.1 in
     let formula : List Token = take k.0 q.0 in
-    let behind : tokens ≡ p.0.0 ∷ m.0 ∷ q.0 = n.0 ∙ ap (λ xs. p.0.0 ∷ xs) m.1 in
+    let behind : tokens ≡ p.0.0 ∷ m.token ∷ q.0 = n.0 ∙ ap (λ xs. p.0.0 ∷ xs) m.cut in
     let two : length tokens ≡ length q.0 + 2 = omega (arith, ap length behind) in
     let counted : length q.0 ≡ length (take k.0 q.0) + length r.0 = ap length k.2 ∙ length-append (take k.0 q.0) r.0 in
     let there : at + 2 + length (take k.0 q.0) + length r.0 ≡ total = omega arith in
@@ -562,11 +545,11 @@ property_is bytes total at properties tokens out rest same h =
     let first : place total q.0 ≡ at + 2 = omega arith in
     let last : place total r.0 ≡ at + 2 + length (take k.0 q.0) = omega arith in
     record {
-      front = p.0.0 ∷ m.0 ∷ take k.0 q.0 ++ hs.front;
+      front = p.0.0 ∷ m.token ∷ take k.0 q.0 ++ hs.front;
       values = record { logic = p.0.0; first = at + 2; last = at + 2 + length (take k.0 q.0); handlers = hs.values } ∷ [];
-      split = behind ∙ ap (λ xs. p.0.0 ∷ m.0 ∷ xs) (k.2 ∙ ap (λ xs. take k.0 q.0 ++ xs) (hs.split ∙ ap (λ x. hs.front ++ x.1) e) ∙ sym (append_assoc (take k.0 q.0) hs.front rest));
+      split = behind ∙ ap (λ xs. p.0.0 ∷ m.token ∷ xs) (k.2 ∙ ap (λ xs. take k.0 q.0 ++ xs) (hs.split ∙ ap (λ x. hs.front ++ x.1) e) ∙ sym (append_assoc (take k.0 q.0) hs.front rest));
       all = sym (ap (λ x. x.0) e) ∙ (λ i. properties ++ record { logic = p.0.0; first = first i; last = last i; handlers = hs.all i } ∷ []);
-      said = property p.0.0 m.0 (take k.0 q.0) hs.front hs.values n.1 m.2 (formula_sound bytes q.0 k.0 k.1) hs.said;
+      said = property p.0.0 m.token (take k.0 q.0) hs.front hs.values n.1 m.is (formula_sound bytes q.0 k.0 k.1) hs.said;
     }
 
 properties_are : (bytes : List ℕ) (total at : ℕ) (tokens : List Token) (out : List Property) (rest : List Token) → at + length tokens ≡ total → properties_at total bytes tokens ≡ Some (out, rest) → Adds (Spelled (SpellsProperty bytes) at) tokens [] out rest
@@ -641,25 +624,25 @@ file_tail bytes total ms name ps d =
 
 tail_is_spelled : (bytes : List ℕ) (tokens a d : List Token) (ms : List Modifier) (name : Token) (ps : List Token) (frame : Frame) → Fronts (Repeats (SpellsClause bytes)) tokens a → HasHead bytes a ms name ps d → file_tail bytes (length tokens) ms name ps d ≡ Some frame → Spells bytes tokens frame
 tail_is_spelled bytes tokens a d ms name ps frame cs h is =
-    let f = first_gives (mark_at bytes (codes "{") d) _ frame is in
-    let g = first_gives (members_at bytes f.0) _ frame f.2 in
-    let k = first_gives (properties_at (length tokens) bytes g.0.1) _ frame g.2 in
-    let l = first_gives (mark_at bytes (codes "}") k.0.1) _ frame k.2 in
+    let f = step_of (mark_at bytes (codes "{") d) _ frame is in
+    let g = step_of (members_at bytes f.0) _ frame f.2 in
+    let k = step_of (properties_at (length tokens) bytes g.0.1) _ frame g.2 in
+    let l = step_of (mark_at bytes (codes "}") k.0.1) _ frame k.2 in
     let z = at_end_sound _ frame l.0 l.2 in
-    let o = mark_sound bytes (codes "{") d f.0 f.1 in
-    let c = mark_sound bytes (codes "}") k.0.1 l.0 l.1 in
+    let o = mark_read bytes (codes "{") d f.0 f.1 in
+    let c = mark_read bytes (codes "}") k.0.1 l.0 l.1 in
     subst (λ x. Spells bytes tokens x) z.1
-    (frame_body bytes tokens a d f.0 g.0.1 ms name ps g.0.0 o.0 k.0.0 k.0.1 c.0 cs h o.1 o.2 (members_are bytes f.0 g.0.0 g.0.1 g.1) k.1 (c.1 ∙ ap (λ xs. c.0 ∷ xs) z.0) c.2)
+    (frame_body bytes tokens a d f.0 g.0.1 ms name ps g.0.0 o.token k.0.0 k.0.1 c.token cs h o.cut o.is (members_are bytes f.0 g.0.0 g.0.1 g.1) k.1 (c.cut ∙ ap (λ xs. c.token ∷ xs) z.0) c.is)
 
 pub frame_is_spelled : (bytes : List ℕ) (tokens : List Token) (frame : Frame) → frame_of bytes tokens ≡ Some frame → Spells bytes tokens frame
 unfolding frame_at
 frame_is_spelled bytes tokens frame is =
-    let a = first_gives (clauses_at bytes tokens) _ frame is in
-    let b = first_gives (modifiers_at bytes a.0.1) _ frame a.2 in
-    let c = first_gives (name_at bytes b.0.1) _ frame b.2 in
-    let d = first_gives (list_at [] bytes c.0.1) _ frame c.2 in
+    let a = step_of (clauses_at bytes tokens) _ frame is in
+    let b = step_of (modifiers_at bytes a.0.1) _ frame a.2 in
+    let c = step_of (name_at bytes b.0.1) _ frame b.2 in
+    let d = step_of (list_at [] bytes c.0.1) _ frame c.2 in
     let cs = clauses_are bytes tokens a.0.1 a.0.0 a.1 in
-    let n = name_sound bytes b.0.1 c.0.0 c.0.1 c.1 in
+    let n = name_read bytes b.0.1 c.0.1 c.0.0 c.1 in
     tail_is_spelled bytes tokens a.0.1 d.0.1 b.0.0 c.0.0 d.0.0 frame cs.0
     (head_of bytes a.0.1 b.0.0 b.0.1 c.0.0 c.0.1 d.0.0 d.0.1 cs.1 (modifiers_are bytes a.0.1 b.0.0 b.0.1 b.1) n.0 n.1 (list_is bytes [] c.0.1 d.0.0 d.0.1 d.1))
     d.2

@@ -6,7 +6,7 @@ use Rattle.jm_model.specs.declared.fault.SpecFault.TheVariants.{UnsupportedModif
 use Rattle.jm_text.specs.declared.token.Token.{Token}
 use Rattle.jm_text.specs.Spans.{text_of}
 use Rattle.jm_text.specs.Texts.{is_name}
-use Rattle.jm_reading.specs.Faults.{or_else, ◌>>>◌, fault_of}
+use Rattle.jm_reading.specs.Faults.{or_else, ◌>>>◌, with_each, fault_of}
 use Rattle.jm_events.specs.Names.{number_of}
 use Rattle.jm_events.specs.Events.{EventDefinitions, EventDefinition, parameter_fault, with_parameter, event_fault, with_event}
 use Rattle.jm_spec.specs.declared.head.Modifier.{Modifier}
@@ -83,8 +83,7 @@ with_param t (Some name) line = unless (parameter_fault t name line) (with_param
 
 -- the table with the parameters of the head, one after the other (each of them is a name)
 abbrev pub with_params : List ℕ → EventDefinitions → List Token → Result EventDefinitions SpecFault
-with_params bytes t [] = Ok t
-with_params bytes t (p ∷ ps) = with_param t (name_of bytes p) p.line >>> λ more. with_params bytes more ps
+with_params bytes = with_each (λ t p. with_param t (name_of bytes p) p.line)
 
 -- a set of parameters with a parameter more, if there is one
 abbrev pub with_bit : ℕ → Option ℕ → ℕ
@@ -115,8 +114,7 @@ with_advice bytes t e (Other line) = Ok t
 
 -- the table with the events, one mention after the other
 abbrev pub with_events : List ℕ → EventDefinitions → List Mention → Result EventDefinitions SpecFault
-with_events bytes t [] = Ok t
-with_events bytes t (e ∷ es) = with_advice bytes t e e.advice >>> λ more. with_events bytes more es
+with_events bytes = with_each (λ t e. with_advice bytes t e e.advice)
 
 -- the table of a frame: first its parameters, then its events
 abbrev pub table_of : List ℕ → List Token → List Mention → Result EventDefinitions SpecFault

@@ -72,7 +72,7 @@ pub fn run(cursor: &mut Cursor<'_>) -> Result<(), SpecError>
     ensures reads { Leaves result cursor.new.rest.now (run_at cursor.old.bytes.now cursor.old.rest.now) }
     ensures bytes { cursor.new.bytes.now ≡ cursor.old.bytes.now }
 {
-    let n = runs::member_length(cursor.alloc, cursor.bytes, cursor.rest, cursor.last_line)?;
+    let n = runs::member_length(cursor)?;
     cursor.advance(n);
     Ok(())
 }

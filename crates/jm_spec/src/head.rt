@@ -39,7 +39,7 @@ impl Gathered for Clause {
 
     #[tactic(auto, unfolding(crate::specs::Rules::clause_at))]
     fn add(&self, whole: (), cursor: &mut Cursor<'_>) -> Result<(), SpecError> {
-        let n = runs::clause_length(cursor.bytes, cursor.rest, cursor.last_line)?;
+        let n = runs::clause_length(cursor)?;
         cursor.advance(n);
         Ok(whole)
     }
@@ -137,7 +137,7 @@ fn param(names: Items<Token>, cursor: &mut Cursor<'_>) -> Result<Items<Token>, S
     ensures { Takes cursor.old result cursor.new (param_at names) }
 {
     let mut names = names;
-    let n = runs::parameter_length(cursor.alloc, cursor.bytes, cursor.rest, cursor.last_line)?;
+    let n = runs::parameter_length(cursor)?;
     if n < 2 || !cursor.is_name_at(n - 1) {
         cursor.advance(n);
         return Err(cursor.syntax());

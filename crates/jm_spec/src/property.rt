@@ -54,7 +54,7 @@ impl Gathered for OneProperty {
         let logic = cursor.name()?;
         cursor.mark(b":")?;
         let first = place(self.total, cursor);
-        let n = runs::formula_length(cursor.bytes, cursor.rest, cursor.last_line)?;
+        let n = runs::formula_length(cursor)?;
         cursor.advance(n);
         let last = place(self.total, cursor);
         let rule = Handler { total: self.total };

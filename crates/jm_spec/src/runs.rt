@@ -1,5 +1,5 @@
-//! How far the runs of the grammar go. Each call that meets a token that can't go on names that token's line, and at
-//! the end of the file the last line that it is given.
+//! How far the runs of the grammar go over the tokens that are left. Each call that meets a token that can't go on names
+//! that token's line, and at the end of the file the last line.
 ghost use Rattle.std.specs.Prelude.{◌≡◌, ◌<◌, ◌≤◌, length, IfOk};
 ghost use Rattle.jm_text.specs.Spans.{LieWithin};
 ghost use Rattle.jm_reading.specs.Answers.{Gives};
@@ -7,37 +7,33 @@ ghost use Rattle.jm_spec.specs.Runs.{clause_length, member_length, may_end, para
 
 use crate::brackets::{Bracket, Brackets, Sign, sign_of, without_angles};
 use jm_model::{SpecError, SpecFault};
+use jm_reading::Cursor;
 use jm_text::{Token, is_mark, is_name};
-use std::alloc::Global;
 
 /// How many tokens stand up to and with the first `;`.
-pub fn clause_length(bytes: &[u8], tokens: &[Token], last_line: u32) -> Result<usize, SpecError>
-    requires { LieWithin bytes.now tokens.now }
-    ensures value { Gives result (clause_length bytes.now tokens.now) }
+pub fn clause_length(cursor: &Cursor<'_>) -> Result<usize, SpecError>
+    ensures value { Gives result (clause_length cursor.now.bytes.now cursor.now.rest.now) }
     ensures some { IfOk result (λ n. 0 < n) }
-    ensures fits { IfOk result (λ n. n ≤ length tokens.now) }
+    ensures fits { IfOk result (λ n. n ≤ length cursor.now.rest.now) }
 {
+    let (bytes, tokens) = (cursor.bytes, cursor.rest);
     for (i, token) in tokens.iter().enumerate() {
         if is_mark(bytes, *token, b";") {
             return Ok(i + 1);
         }
     }
-    Err(SpecError::Bad(SpecFault::Syntax { line: last_line }))
+    let line = cursor.last_line;
+    Err(SpecError::Bad(SpecFault::Syntax { line }))
 }
 
 /// How many tokens stand up to and with the first `;` or the first block outside brackets.
-pub fn member_length(
-    alloc: Global,
-    bytes: &[u8],
-    tokens: &[Token],
-    last_line: u32,
-) -> Result<usize, SpecError>
-    requires { LieWithin bytes.now tokens.now }
-    ensures value { Gives result (member_length bytes.now tokens.now) }
+pub fn member_length(cursor: &Cursor<'_>) -> Result<usize, SpecError>
+    ensures value { Gives result (member_length cursor.now.bytes.now cursor.now.rest.now) }
     ensures some { IfOk result (λ n. 0 < n) }
-    ensures fits { IfOk result (λ n. n ≤ length tokens.now) }
+    ensures fits { IfOk result (λ n. n ≤ length cursor.now.rest.now) }
 {
-    let mut brackets = Brackets::new(alloc);
+    let (bytes, tokens) = (cursor.bytes, cursor.rest);
+    let mut brackets = Brackets::new(cursor.alloc);
     for (i, token) in tokens.iter().enumerate() {
         let sign = without_angles(sign_of(bytes, *token));
         if !brackets.follow(sign)? {
@@ -47,7 +43,8 @@ pub fn member_length(
             return Ok(i + 1);
         }
     }
-    Err(SpecError::Bad(SpecFault::Syntax { line: last_line }))
+    let line = cursor.last_line;
+    Err(SpecError::Bad(SpecFault::Syntax { line }))
 }
 
 /// Whether a member may end with the token.
@@ -61,17 +58,12 @@ fn may_end(sign: Sign) -> bool
 }
 
 /// How many tokens stand before the next comma that parts parameters or the `)` that ends them.
-pub fn parameter_length(
-    alloc: Global,
-    bytes: &[u8],
-    tokens: &[Token],
-    last_line: u32,
-) -> Result<usize, SpecError>
-    requires { LieWithin bytes.now tokens.now }
-    ensures value { Gives result (parameter_length bytes.now tokens.now) }
-    ensures fits { IfOk result (λ n. n < length tokens.now) }
+pub fn parameter_length(cursor: &Cursor<'_>) -> Result<usize, SpecError>
+    ensures value { Gives result (parameter_length cursor.now.bytes.now cursor.now.rest.now) }
+    ensures fits { IfOk result (λ n. n < length cursor.now.rest.now) }
 {
-    let mut brackets = Brackets::new(alloc);
+    let (bytes, tokens) = (cursor.bytes, cursor.rest);
+    let mut brackets = Brackets::new(cursor.alloc);
     for (i, token) in tokens.iter().enumerate() {
         let sign = sign_of(bytes, *token);
         if parts(&brackets, sign) {
@@ -84,7 +76,8 @@ pub fn parameter_length(
             return Err(SpecError::Bad(SpecFault::Syntax { line: token.line }));
         }
     }
-    Err(SpecError::Bad(SpecFault::Syntax { line: last_line }))
+    let line = cursor.last_line;
+    Err(SpecError::Bad(SpecFault::Syntax { line }))
 }
 
 /// Whether a parameter can't go on over the token.
@@ -99,17 +92,18 @@ fn parts(brackets: &Brackets, sign: Sign) -> bool
 }
 
 /// How many tokens stand before the first `@`, the first `}` or the first name with a colon behind it.
-pub fn formula_length(bytes: &[u8], tokens: &[Token], last_line: u32) -> Result<usize, SpecError>
-    requires { LieWithin bytes.now tokens.now }
-    ensures value { Gives result (formula_length bytes.now tokens.now) }
-    ensures fits { IfOk result (λ n. n < length tokens.now) }
+pub fn formula_length(cursor: &Cursor<'_>) -> Result<usize, SpecError>
+    ensures value { Gives result (formula_length cursor.now.bytes.now cursor.now.rest.now) }
+    ensures fits { IfOk result (λ n. n < length cursor.now.rest.now) }
 {
+    let (bytes, tokens) = (cursor.bytes, cursor.rest);
     for i in 0..tokens.len() {
         if ends_formula(bytes, &tokens[i..]) {
             return Ok(i);
         }
     }
-    Err(SpecError::Bad(SpecFault::Syntax { line: last_line }))
+    let line = cursor.last_line;
+    Err(SpecError::Bad(SpecFault::Syntax { line }))
 }
 
 /// Whether a formula ends before the tokens.
