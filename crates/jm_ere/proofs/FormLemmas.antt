@@ -1,13 +1,13 @@
 use Rattle.std.proofs.Common.{ℕ, nat_le, Bool, true, false, List, [], ◌∷◌, ◌++◌, Ok, Err, if◌then◌else◌, fold}
 use Rattle.jm_model.specs.declared.fault.SpecFault.{SpecFault}
 use Rattle.jm_table.specs.Graphs.{step_from, reached_by}
-use Rattle.jm_ere.specs.declared.order.Operator.{Operator}
-use Rattle.jm_ere.specs.declared.order.Operator.TheVariants.{Or, And}
-use Rattle.jm_ere.specs.Expressions.{Expression, Symbol, EmptyWord, NoWord, Complement, Star, Plus, Product, Union, Intersection}
+use Rattle.jm_ere.specs.declared.tree.Operator.{Operator}
+use Rattle.jm_ere.specs.declared.tree.Operator.TheVariants.{Or, And}
+use Rattle.jm_ere.specs.Expressions.{Expression, Symbol, EmptyWord, NoWord, Complement, Star, Plus, Product, Combination}
 use Rattle.jm_ere.specs.Meanings.{InLanguage, IsSplit}
-use Rattle.jm_ere.specs.NormalForms.{is_product, pair, is_run, complement_of, star_of, product_of, combined, size_of, Formed, fitting, part, ◌>>=◌, normal_run, normal_form, is_nullable, derivative_run, forms_of}
+use Rattle.jm_ere.specs.NormalForms.{is_product, is_run, complement_of, star_of, product_of, combined, size_of, Formed, fitting, part, ◌>>=◌, normal_run, normal_form, is_nullable, derivative_run, forms_of}
 use Rattle.jm_ere.proofs.LanguageLemmas.{Same, itself, through, split_map, chain_map, plain, plain_tells}
-use Rattle.jm_ere.proofs.NormalLemmas.{complement_keeps, star_keeps, product_keeps, pair_keeps, combined_keeps}
+use Rattle.jm_ere.proofs.NormalLemmas.{complement_keeps, star_keeps, product_keeps, combination_keeps, combined_keeps}
 
 -- what is formed has these words, unless it is a fault
 abbrev pub Gives : Formed → (List ℕ → Type 0) → Type 0
@@ -48,8 +48,8 @@ product_gives : (L M : List ℕ → Type 0) (d e : Expression) → Same (InLangu
 product_gives L M d e f g = through (InLanguage (product_of d e)) (InLanguage (Product d e)) (IsSplit L M) (product_keeps d e)
     (λ w. (split_map (InLanguage d) (InLanguage e) L M (λ u. (f u).0) (λ u. (g u).0) w, split_map L M (InLanguage d) (InLanguage e) (λ u. (f u).1) (λ u. (g u).1) w))
 
-combined_gives : (op : Operator) (r s d e : Expression) → Same (InLanguage d) (InLanguage r) → Same (InLanguage e) (InLanguage s) → Same (InLanguage (combined op d e)) (InLanguage (pair op r s))
-combined_gives op r s d e f g = through (InLanguage (combined op d e)) (InLanguage (pair op d e)) (InLanguage (pair op r s)) (combined_keeps op d e) (pair_keeps op d e r s f g)
+combined_gives : (op : Operator) (r s d e : Expression) → Same (InLanguage d) (InLanguage r) → Same (InLanguage e) (InLanguage s) → Same (InLanguage (combined op d e)) (InLanguage (Combination op r s))
+combined_gives op r s d e f g = through (InLanguage (combined op d e)) (InLanguage (Combination op d e)) (InLanguage (Combination op r s)) (combined_keeps op d e) (combination_keeps op d e r s f g)
 
 -- ---- normal forms keep the language
 
@@ -63,12 +63,9 @@ normal_gives (Plus r) =
 normal_gives (Product r s) =
     gives_both (part (is_product r) (normal_run r)) (part (is_product s) (normal_run s)) product_of (InLanguage r) (InLanguage s) (InLanguage (Product r s)) (gives_part (is_product r) (normal_run r) (InLanguage r) (normal_gives r)) (gives_part (is_product s) (normal_run s) (InLanguage s) (normal_gives s))
     (product_gives (InLanguage r) (InLanguage s))
-normal_gives (Union r s) =
-    gives_both (part (is_run Or r) (normal_run r)) (part (is_run Or s) (normal_run s)) (combined Or) (InLanguage r) (InLanguage s) (InLanguage (Union r s)) (gives_part (is_run Or r) (normal_run r) (InLanguage r) (normal_gives r)) (gives_part (is_run Or s) (normal_run s) (InLanguage s) (normal_gives s))
-    (combined_gives Or r s)
-normal_gives (Intersection r s) =
-    gives_both (part (is_run And r) (normal_run r)) (part (is_run And s) (normal_run s)) (combined And) (InLanguage r) (InLanguage s) (InLanguage (Intersection r s)) (gives_part (is_run And r) (normal_run r) (InLanguage r) (normal_gives r)) (gives_part (is_run And s) (normal_run s) (InLanguage s) (normal_gives s))
-    (combined_gives And r s)
+normal_gives (Combination op r s) =
+    gives_both (part (is_run op r) (normal_run r)) (part (is_run op s) (normal_run s)) (combined op) (InLanguage r) (InLanguage s) (InLanguage (Combination op r s)) (gives_part (is_run op r) (normal_run r) (InLanguage r) (normal_gives r)) (gives_part (is_run op s) (normal_run s) (InLanguage s) (normal_gives s))
+    (combined_gives op r s)
 normal_gives (Symbol x) = itself (InLanguage (Symbol x))
 normal_gives EmptyWord = itself (InLanguage EmptyWord)
 normal_gives NoWord = itself (InLanguage NoWord)
@@ -77,9 +74,9 @@ normal_gives NoWord = itself (InLanguage NoWord)
 
 product_derived : (x : ℕ) (r s : Expression) (b : Bool) (d : Expression) → Same (InLanguage d) (InLanguage (plain x r)) → Gives (derivative_run x s) (InLanguage (plain x s))
     → Gives (if b then (fitting (product_of d s) >>= λ front. part false (derivative_run x s) >>= λ e. Ok (combined Or front e)) else Ok (product_of d s))
-    (InLanguage (if b then Union (Product (plain x r) s) (plain x s) else Product (plain x r) s))
+    (InLanguage (if b then Combination Or (Product (plain x r) s) (plain x s) else Product (plain x r) s))
 product_derived x r s true d same second =
-    gives_both (fitting (product_of d s)) (part false (derivative_run x s)) (combined Or) (InLanguage (Product (plain x r) s)) (InLanguage (plain x s)) (InLanguage (Union (Product (plain x r) s) (plain x s))) (gives_fitting (product_of d s) (InLanguage (Product (plain x r) s)) (product_gives (InLanguage (plain x r)) (InLanguage s) d s same (itself (InLanguage s)))) (gives_part false (derivative_run x s) (InLanguage (plain x s)) second)
+    gives_both (fitting (product_of d s)) (part false (derivative_run x s)) (combined Or) (InLanguage (Product (plain x r) s)) (InLanguage (plain x s)) (InLanguage (Combination Or (Product (plain x r) s) (plain x s))) (gives_fitting (product_of d s) (InLanguage (Product (plain x r) s)) (product_gives (InLanguage (plain x r)) (InLanguage s) d s same (itself (InLanguage s)))) (gives_part false (derivative_run x s) (InLanguage (plain x s)) second)
     (combined_gives Or (Product (plain x r) s) (plain x s))
 product_derived x r s false d same second = product_gives (InLanguage (plain x r)) (InLanguage s) d s same (itself (InLanguage s))
 
@@ -99,12 +96,9 @@ derivative_gives x (Product r s) =
     gives_then (part false (derivative_run x r)) (InLanguage (plain x r)) (λ d. if is_nullable r then (fitting (product_of d s) >>= λ front. part false (derivative_run x s) >>= λ e. Ok (combined Or front e)) else Ok (product_of d s))
     (InLanguage (plain x (Product r s))) (gives_part false (derivative_run x r) (InLanguage (plain x r)) (derivative_gives x r))
     (λ d same. product_derived x r s (is_nullable r) d same (derivative_gives x s))
-derivative_gives x (Union r s) =
-    gives_both (part false (derivative_run x r)) (part (is_run Or s) (derivative_run x s)) (combined Or) (InLanguage (plain x r)) (InLanguage (plain x s)) (InLanguage (Union (plain x r) (plain x s))) (gives_part false (derivative_run x r) (InLanguage (plain x r)) (derivative_gives x r)) (gives_part (is_run Or s) (derivative_run x s) (InLanguage (plain x s)) (derivative_gives x s))
-    (combined_gives Or (plain x r) (plain x s))
-derivative_gives x (Intersection r s) =
-    gives_both (part false (derivative_run x r)) (part (is_run And s) (derivative_run x s)) (combined And) (InLanguage (plain x r)) (InLanguage (plain x s)) (InLanguage (Intersection (plain x r) (plain x s))) (gives_part false (derivative_run x r) (InLanguage (plain x r)) (derivative_gives x r)) (gives_part (is_run And s) (derivative_run x s) (InLanguage (plain x s)) (derivative_gives x s))
-    (combined_gives And (plain x r) (plain x s))
+derivative_gives x (Combination op r s) =
+    gives_both (part false (derivative_run x r)) (part (is_run op s) (derivative_run x s)) (combined op) (InLanguage (plain x r)) (InLanguage (plain x s)) (InLanguage (Combination op (plain x r) (plain x s))) (gives_part false (derivative_run x r) (InLanguage (plain x r)) (derivative_gives x r)) (gives_part (is_run op s) (derivative_run x s) (InLanguage (plain x s)) (derivative_gives x s))
+    (combined_gives op (plain x r) (plain x s))
 
 -- ---- along a word
 

@@ -1,7 +1,8 @@
 use Rattle.std.proofs.Common.{ℕ, ◌≡◌, ◌≢◌, ◌↔◌, ◌==◌, ◌&&◌, ◌||◌, not, Bool, true, false, inl, inr, ◌⊎◌, List, [], ◌∷◌, ◌++◌, refl, sym, ap, subst, ◌∙◌, append_assoc, if◌then◌else◌}
 use Rattle.std.specs.List.{AllByRecursion}
 use Rattle.std.proofs.lemmas.Bool.Decides.{eqb_tells}
-use Rattle.jm_ere.specs.Expressions.{Expression, Symbol, EmptyWord, NoWord, Complement, Star, Plus, Product, Union, Intersection}
+use Rattle.jm_ere.specs.declared.tree.Operator.TheVariants.{Or, And}
+use Rattle.jm_ere.specs.Expressions.{Expression, Symbol, EmptyWord, NoWord, Complement, Star, Plus, Product, Combination}
 use Rattle.jm_ere.specs.Meanings.{InLanguage, IsSplit, IsChain, joined}
 use Rattle.jm_ere.specs.NormalForms.{is_nullable}
 
@@ -137,8 +138,8 @@ nullable_tells (Plus r) =
 nullable_tells (Product r s) =
     decided_same (is_nullable r && is_nullable s) (InLanguage r [] × InLanguage s []) (InLanguage (Product r s) []) ((split_empty (InLanguage r) (InLanguage s)).1)
     ((split_empty (InLanguage r) (InLanguage s)).0) (decided_and (is_nullable r) (is_nullable s) (InLanguage r []) (InLanguage s []) (nullable_tells r) (nullable_tells s))
-nullable_tells (Union r s) = decided_or (is_nullable r) (is_nullable s) (InLanguage r []) (InLanguage s []) (nullable_tells r) (nullable_tells s)
-nullable_tells (Intersection r s) = decided_and (is_nullable r) (is_nullable s) (InLanguage r []) (InLanguage s []) (nullable_tells r) (nullable_tells s)
+nullable_tells (Combination Or r s) = decided_or (is_nullable r) (is_nullable s) (InLanguage r []) (InLanguage s []) (nullable_tells r) (nullable_tells s)
+nullable_tells (Combination And r s) = decided_and (is_nullable r) (is_nullable s) (InLanguage r []) (InLanguage s []) (nullable_tells r) (nullable_tells s)
 
 -- ---- derivatives without normal forms
 
@@ -150,9 +151,8 @@ plain x NoWord = NoWord
 plain x (Complement r) = Complement (plain x r)
 plain x (Star r) = Product (plain x r) (Star r)
 plain x (Plus r) = Product (plain x r) (Star r)
-plain x (Product r s) = if is_nullable r then Union (Product (plain x r) s) (plain x s) else Product (plain x r) s
-plain x (Union r s) = Union (plain x r) (plain x s)
-plain x (Intersection r s) = Intersection (plain x r) (plain x s)
+plain x (Product r s) = if is_nullable r then Combination Or (Product (plain x r) s) (plain x s) else Product (plain x r) s
+plain x (Combination op r s) = Combination op (plain x r) (plain x s)
 
 symbol_follows : (x y : ℕ) (w : List ℕ) → InLanguage (Symbol y) (x ∷ w) ↔ InLanguage (plain x (Symbol y)) w
 symbol_follows x y w = elim (eqb_tells x y) [
@@ -175,7 +175,7 @@ module _ (x : ℕ) where
   abbrev Follow : Expression → Expression → Type 0
   Follow r d = Same (λ w. InLanguage r (x ∷ w)) (InLanguage d)
 
-  product_follows : (r s d e : Expression) (b : Bool) → Decided b (InLanguage r []) → Follow r d → Follow s e → Follow (Product r s) (if b then Union (Product d s) e else Product d s)
+  product_follows : (r s d e : Expression) (b : Bool) → Decided b (InLanguage r []) → Follow r d → Follow s e → Follow (Product r s) (if b then Combination Or (Product d s) e else Product d s)
   product_follows r s d e true has follow_r follow_s w =
       let step = split_step (InLanguage r) (InLanguage s) x w in (
         λ h. elim (step.0 h) [
@@ -221,10 +221,10 @@ module _ (x : ℕ) where
   plain_tells (Star r) w = star_follows r (plain x r) (plain_tells r) w
   plain_tells (Plus r) w = plus_follows r (plain x r) (plain_tells r) w
   plain_tells (Product r s) w = product_follows r s (plain x r) (plain x s) (is_nullable r) (nullable_tells r) (plain_tells r) (plain_tells s) w
-  plain_tells (Union r s) w =
+  plain_tells (Combination Or r s) w =
       let t = plain_tells r w in let u = plain_tells s w in
       (elim [ inl h ↦ inl (t.0 h) | inr h ↦ inr (u.0 h) ], elim [ inl h ↦ inl (t.1 h) | inr h ↦ inr (u.1 h) ])
-  plain_tells (Intersection r s) w =
+  plain_tells (Combination And r s) w =
       let t = plain_tells r w in let u = plain_tells s w in
       (λ h. (t.0 h.0, u.0 h.1), λ h. (t.1 h.0, u.1 h.1))
 

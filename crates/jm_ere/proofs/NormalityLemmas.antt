@@ -4,10 +4,10 @@ use Rattle.std.specs.declared.cmp.Ordering.{Ordering}
 use Rattle.std.specs.declared.cmp.Ordering.TheVariants.{Less, Equal, Greater}
 use Rattle.jm_model.specs.declared.fault.SpecFault.{SpecFault}
 use Rattle.jm_table.specs.Graphs.{step_from, reached_by}
-use Rattle.jm_ere.specs.declared.order.Operator.{Operator}
-use Rattle.jm_ere.specs.declared.order.Operator.TheVariants.{Or, And}
-use Rattle.jm_ere.specs.Expressions.{Expression, Symbol, EmptyWord, NoWord, Complement, Star, Plus, Product, Union, Intersection}
-use Rattle.jm_ere.specs.NormalForms.{order, by_order, is_nothing, is_epsilon, is_product, pair, is_run, is_unit, is_zero, complement_of, star_of, before, product_of, placed, put, join, combined, size_of, Formed, fitting, part, ◌>>=◌, normal_run, normal_form, is_nullable, derivative_run, forms_of}
+use Rattle.jm_ere.specs.declared.tree.Operator.{Operator}
+use Rattle.jm_ere.specs.declared.tree.Operator.TheVariants.{Or, And}
+use Rattle.jm_ere.specs.Expressions.{Expression, Symbol, EmptyWord, NoWord, Complement, Star, Plus, Product, Combination}
+use Rattle.jm_ere.specs.NormalForms.{order, by_order, is_nothing, is_epsilon, is_product, is_run, is_unit, is_zero, complement_of, star_of, before, product_of, placed, put, join, combined, size_of, Formed, fitting, part, ◌>>=◌, normal_run, normal_form, is_nullable, derivative_run, forms_of}
 use Rattle.jm_ere.specs.Normality.{IsProper, IsFactor, first_of, Rises, IsNormal}
 use Rattle.jm_ere.proofs.OrderLaws.{order_total}
 
@@ -67,28 +67,28 @@ record IsPut (op : Operator) (t run put : Expression) : Type 0 where
   behind : (c : Expression) → order c t ≡ Less → order c (first_of op run) ≡ Less → order c (first_of op put) ≡ Less
 
 single_first : (op : Operator) (t : Expression) → is_run op t ≡ false → first_of op t ≡ t
-single_first Or (Union r s) e = cc
-single_first And (Intersection r s) e = cc
+single_first Or (Combination Or r s) e = cc
+single_first And (Combination And r s) e = cc
 single_first op t e = refl
 
-pair_first : (op : Operator) (r s : Expression) → first_of op (pair op r s) ≡ r
-pair_first Or r s = refl
-pair_first And r s = refl
+combination_first : (op : Operator) (r s : Expression) → first_of op (Combination op r s) ≡ r
+combination_first Or r s = refl
+combination_first And r s = refl
 
-pair_run : (op : Operator) (r s : Expression) → IsMember op r → IsRun s → order r (first_of op s) ≡ Less → IsRun (pair op r s)
-pair_run Or r s m k e = record { normal = (m.normal, k.normal, (m.proper, k.proper, m.single, e)); proper = (refl, refl) }
-pair_run And r s m k e = record { normal = (m.normal, k.normal, (m.proper, k.proper, m.single, e)); proper = (refl, refl) }
+combination_run : (op : Operator) (r s : Expression) → IsMember op r → IsRun s → order r (first_of op s) ≡ Less → IsRun (Combination op r s)
+combination_run Or r s m k e = record { normal = (m.normal, k.normal, (m.proper, k.proper, m.single, e)); proper = (refl, refl) }
+combination_run And r s m k e = record { normal = (m.normal, k.normal, (m.proper, k.proper, m.single, e)); proper = (refl, refl) }
 
 placed_normal : (op : Operator) (o : Ordering) (t r run rest : Expression) → order t r ≡ o → first_of op run ≡ r → IsMember op t → IsMember op r → IsRun run → IsRun rest
-    → (order r t ≡ Less → order r (first_of op rest) ≡ Less) → IsPut op t run (by_order o (pair op t run) run (pair op r rest))
+    → (order r t ≡ Less → order r (first_of op rest) ≡ Less) → IsPut op t run (by_order o (Combination op t run) run (Combination op r rest))
 placed_normal op Less t r run rest e first m n k more rises = record {
-  run_of = pair_run op t run m k (rw first e);
-  behind = λ c before_t before_r. rw (pair_first op t run) before_t;
+  run_of = combination_run op t run m k (rw first e);
+  behind = λ c before_t before_r. rw (combination_first op t run) before_t;
 }
 placed_normal op Equal t r run rest e first m n k more rises = record { run_of = k; behind = λ c before_t before_r. before_r }
 placed_normal op Greater t r run rest e first m n k more rises = record {
-  run_of = pair_run op r rest n more (rises (greater_less t r e));
-  behind = λ c before_t before_r. rw (pair_first op r rest) (rw first at before_r);
+  run_of = combination_run op r rest n more (rises (greater_less t r e));
+  behind = λ c before_t before_r. rw (combination_first op r rest) (rw first at before_r);
 }
 
 put_before : (op : Operator) (t r s run rest : Expression) → first_of op run ≡ r → IsMember op t → IsRun run → IsNormal r × IsNormal s × Rises op r s → IsPut op t s rest → IsPut op t run (placed op t r run rest)
@@ -96,8 +96,8 @@ put_before op t r s run rest first m k n more =
     placed_normal op (order t r) t r run rest refl first m (record { normal = n.0; proper = n.2.0; single = n.2.2 }) k more.run_of (λ e. more.behind r e n.2.3)
 
 put_normal : (op : Operator) (t run : Expression) → IsMember op t → IsRun run → IsPut op t run (put op t run)
-put_normal Or t (Union r s) m k = put_before Or t r s (Union r s) (put Or t s) refl m k k.normal (put_normal Or t s m (record { normal = k.normal.1; proper = k.normal.2.1 }))
-put_normal And t (Intersection r s) m k = put_before And t r s (Intersection r s) (put And t s) refl m k k.normal (put_normal And t s m (record { normal = k.normal.1; proper = k.normal.2.1 }))
+put_normal Or t (Combination Or r s) m k = put_before Or t r s (Combination Or r s) (put Or t s) refl m k k.normal (put_normal Or t s m (record { normal = k.normal.1; proper = k.normal.2.1 }))
+put_normal And t (Combination And r s) m k = put_before And t r s (Combination And r s) (put And t s) refl m k k.normal (put_normal And t s m (record { normal = k.normal.1; proper = k.normal.2.1 }))
 put_normal op t r m k =
     placed_normal op (order t r) t r r t refl (single_first op r refl) m (record { normal = k.normal; proper = k.proper; single = refl }) k (record { normal = m.normal; proper = m.proper })
     (λ e. rw (single_first op t m.single) e)
@@ -123,8 +123,8 @@ join_normal : (op : Operator) (t run : Expression) → IsNormal t → is_run op 
 join_normal op t run h one k = join_choice op t run (is_unit op t || is_zero op run) (is_zero op t || is_unit op run) refl refl h one k
 
 combined_normal : (op : Operator) (r run : Expression) → IsNormal r → IsNormal run → IsNormal (combined op r run)
-combined_normal Or (Union p q) run h k = combined_normal Or q (combined Or p run) h.1 (combined_normal Or p run h.0 k)
-combined_normal And (Intersection p q) run h k = combined_normal And q (combined And p run) h.1 (combined_normal And p run h.0 k)
+combined_normal Or (Combination Or p q) run h k = combined_normal Or q (combined Or p run) h.1 (combined_normal Or p run h.0 k)
+combined_normal And (Combination And p q) run h k = combined_normal And q (combined And p run) h.1 (combined_normal And p run h.0 k)
 combined_normal op r run h k = join_normal op r run h refl k
 
 -- ---- what is formed
@@ -158,8 +158,7 @@ written_normal (Star r) = then_normal (part false (normal_run r)) (λ n. Ok (sta
 written_normal (Plus r) = then_normal (part false (normal_run r)) (λ n. fitting (star_of n) >>= λ s. Ok (product_of n s)) (part_normal false (normal_run r) (written_normal r))
     (λ n h. then_normal (fitting (star_of n)) (λ s. Ok (product_of n s)) (fitting_normal (star_of n) (star_normal n h)) (λ s k. product_normal n s h k))
 written_normal (Product r s) = both_normal (part (is_product r) (normal_run r)) (part (is_product s) (normal_run s)) product_of (part_normal (is_product r) (normal_run r) (written_normal r)) (part_normal (is_product s) (normal_run s) (written_normal s)) product_normal
-written_normal (Union r s) = both_normal (part (is_run Or r) (normal_run r)) (part (is_run Or s) (normal_run s)) (combined Or) (part_normal (is_run Or r) (normal_run r) (written_normal r)) (part_normal (is_run Or s) (normal_run s) (written_normal s)) (combined_normal Or)
-written_normal (Intersection r s) = both_normal (part (is_run And r) (normal_run r)) (part (is_run And s) (normal_run s)) (combined And) (part_normal (is_run And r) (normal_run r) (written_normal r)) (part_normal (is_run And s) (normal_run s) (written_normal s)) (combined_normal And)
+written_normal (Combination op r s) = both_normal (part (is_run op r) (normal_run r)) (part (is_run op s) (normal_run s)) (combined op) (part_normal (is_run op r) (normal_run r) (written_normal r)) (part_normal (is_run op s) (normal_run s) (written_normal s)) (combined_normal op)
 written_normal (Symbol x) = tt
 written_normal EmptyWord = tt
 written_normal NoWord = tt
@@ -182,8 +181,7 @@ derived_normal x (Star r) n = then_normal (part false (derivative_run x r)) (λ 
 derived_normal x (Plus r) n = absurd n
 derived_normal x (Product r s) n = then_normal (part false (derivative_run x r)) (λ d. if is_nullable r then (fitting (product_of d s) >>= λ front. part false (derivative_run x s) >>= λ e. Ok (combined Or front e)) else Ok (product_of d s))
     (part_normal false (derivative_run x r) (derived_normal x r n.0)) (λ d h. product_derived x s (is_nullable r) d h n.1 (derived_normal x s n.1))
-derived_normal x (Union r s) n = both_normal (part false (derivative_run x r)) (part (is_run Or s) (derivative_run x s)) (combined Or) (part_normal false (derivative_run x r) (derived_normal x r n.0)) (part_normal (is_run Or s) (derivative_run x s) (derived_normal x s n.1)) (combined_normal Or)
-derived_normal x (Intersection r s) n = both_normal (part false (derivative_run x r)) (part (is_run And s) (derivative_run x s)) (combined And) (part_normal false (derivative_run x r) (derived_normal x r n.0)) (part_normal (is_run And s) (derivative_run x s) (derived_normal x s n.1)) (combined_normal And)
+derived_normal x (Combination op r s) n = both_normal (part false (derivative_run x r)) (part (is_run op s) (derivative_run x s)) (combined op) (part_normal false (derivative_run x r) (derived_normal x r n.0)) (part_normal (is_run op s) (derivative_run x s) (derived_normal x s n.1)) (combined_normal op)
 
 step_normal : (e : Expression) (x : ℕ) (F : Formed) → AreNormal F → AreNormal (step_from (forms_of e) F x)
 step_normal e x (Err fault) h = tt

@@ -5,8 +5,8 @@ use Rattle.std.specs.Ordering.{nat_cmp, ordering_then, ordering_reverse}
 use Rattle.std.specs.declared.cmp.Ordering.{Ordering}
 use Rattle.std.specs.declared.cmp.Ordering.TheVariants.{Less, Equal, Greater}
 use Rattle.std.proofs.lemmas.Cmp.{nat_list_cmp_total}
-use Rattle.jm_ere.specs.Expressions.{Expression, Symbol, EmptyWord, NoWord, Complement, Star, Plus, Product, Union, Intersection}
-use Rattle.jm_ere.specs.NormalForms.{order}
+use Rattle.jm_ere.specs.Expressions.{Expression, Symbol, EmptyWord, NoWord, Complement, Star, Plus, Product, Combination}
+use Rattle.jm_ere.specs.NormalForms.{rank_of_operator, order}
 
 -- the kinds and letters of an expression, operators first, before these numbers
 abbrev kinds_of : Expression → List ℕ → List ℕ
@@ -17,8 +17,7 @@ kinds_of (Complement r) rest = 3 ∷ kinds_of r rest
 kinds_of (Star r) rest = 4 ∷ kinds_of r rest
 kinds_of (Plus r) rest = 5 ∷ kinds_of r rest
 kinds_of (Product r s) rest = 6 ∷ kinds_of r (kinds_of s rest)
-kinds_of (Union r s) rest = 7 ∷ kinds_of r (kinds_of s rest)
-kinds_of (Intersection r s) rest = 8 ∷ kinds_of r (kinds_of s rest)
+kinds_of (Combination op r s) rest = 7 ∷ rank_of_operator op ∷ kinds_of r (kinds_of s rest)
 
 then_again : (a b c : Ordering) → ordering_then a (ordering_then b c) ≡ ordering_then (ordering_then a b) c
 then_again Less b c = refl
@@ -35,10 +34,11 @@ kinds_tell (Star r) (Star s) u v = kinds_tell r s u v
 kinds_tell (Plus r) (Plus s) u v = kinds_tell r s u v
 kinds_tell (Product r s) (Product p q) u v =
     kinds_tell r p (kinds_of s u) (kinds_of q v) ∙ ap (λ o. ordering_then (order r p) o) (kinds_tell s q u v) ∙ then_again (order r p) (order s q) (slice_cmp nat_cmp u v)
-kinds_tell (Union r s) (Union p q) u v =
-    kinds_tell r p (kinds_of s u) (kinds_of q v) ∙ ap (λ o. ordering_then (order r p) o) (kinds_tell s q u v) ∙ then_again (order r p) (order s q) (slice_cmp nat_cmp u v)
-kinds_tell (Intersection r s) (Intersection p q) u v =
-    kinds_tell r p (kinds_of s u) (kinds_of q v) ∙ ap (λ o. ordering_then (order r p) o) (kinds_tell s q u v) ∙ then_again (order r p) (order s q) (slice_cmp nat_cmp u v)
+kinds_tell (Combination op r s) (Combination other p q) u v =
+    let operators = nat_cmp (rank_of_operator op) (rank_of_operator other) in
+    let behind = slice_cmp nat_cmp u v in
+    ap (λ o. ordering_then operators o) (kinds_tell r p (kinds_of s u) (kinds_of q v) ∙ ap (λ o. ordering_then (order r p) o) (kinds_tell s q u v))
+    ∙ then_again operators (order r p) (ordering_then (order s q) behind) ∙ then_again (ordering_then operators (order r p)) (order s q) behind
 kinds_tell r s u v = refl
 
 then_equal : (a : Ordering) → ordering_then a Equal ≡ a

@@ -6,8 +6,8 @@ use Rattle.jm_table.specs.Graphs.{step_from}
 use Rattle.jm_model.specs.declared.fault.SpecError.{SpecError}
 use Rattle.jm_model.specs.declared.fault.SpecError.TheVariants.{Bad, NoMemory}
 use Rattle.jm_table.specs.Explorations.{IfBad, IsMet, IsCrowded}
-use Rattle.jm_ere.specs.declared.order.Operator.TheVariants.{Or, And}
-use Rattle.jm_ere.specs.Expressions.{Expression, Symbol, EmptyWord, NoWord, Complement, Star, Plus, Product, Union, Intersection}
+use Rattle.jm_ere.specs.declared.tree.Operator.TheVariants.{Or, And}
+use Rattle.jm_ere.specs.Expressions.{Expression, Symbol, EmptyWord, NoWord, Complement, Star, Plus, Product, Combination}
 use Rattle.jm_ere.specs.NormalForms.{is_product, is_run, complement_of, star_of, product_of, combined, size_of, Formed, fitting, part, ◌>>=◌, normal_run, normal_form, is_nullable, derivative_run, forms_of}
 use Rattle.jm_ere.specs.Refusals.{IsCause}
 
@@ -41,8 +41,7 @@ only_normal (Star r) = only_then (part false (normal_run r)) (λ n. Ok (star_of 
 only_normal (Plus r) = only_then (part false (normal_run r)) (λ n. fitting (star_of n) >>= λ s. Ok (product_of n s)) (only_part false (normal_run r) (only_normal r))
     (λ n. only_then (fitting (star_of n)) (λ s. Ok (product_of n s)) (only_fitting (star_of n)) (λ s. tt))
 only_normal (Product r s) = only_both (part (is_product r) (normal_run r)) (part (is_product s) (normal_run s)) product_of (only_part (is_product r) (normal_run r) (only_normal r)) (only_part (is_product s) (normal_run s) (only_normal s))
-only_normal (Union r s) = only_both (part (is_run Or r) (normal_run r)) (part (is_run Or s) (normal_run s)) (combined Or) (only_part (is_run Or r) (normal_run r) (only_normal r)) (only_part (is_run Or s) (normal_run s) (only_normal s))
-only_normal (Intersection r s) = only_both (part (is_run And r) (normal_run r)) (part (is_run And s) (normal_run s)) (combined And) (only_part (is_run And r) (normal_run r) (only_normal r)) (only_part (is_run And s) (normal_run s) (only_normal s))
+only_normal (Combination op r s) = only_both (part (is_run op r) (normal_run r)) (part (is_run op s) (normal_run s)) (combined op) (only_part (is_run op r) (normal_run r) (only_normal r)) (only_part (is_run op s) (normal_run s) (only_normal s))
 only_normal (Symbol x) = tt
 only_normal EmptyWord = tt
 only_normal NoWord = tt
@@ -60,8 +59,7 @@ only_derivative x (Star r) = only_then (part false (derivative_run x r)) (λ d. 
 only_derivative x (Plus r) = only_then (part false (derivative_run x r)) (λ d. Ok (product_of d (star_of r))) (only_part false (derivative_run x r) (only_derivative x r)) (λ d. tt)
 only_derivative x (Product r s) = only_then (part false (derivative_run x r)) (λ d. if is_nullable r then (fitting (product_of d s) >>= λ front. part false (derivative_run x s) >>= λ e. Ok (combined Or front e)) else Ok (product_of d s))
     (only_part false (derivative_run x r) (only_derivative x r)) (λ d. only_product x s (is_nullable r) d (only_derivative x s))
-only_derivative x (Union r s) = only_both (part false (derivative_run x r)) (part (is_run Or s) (derivative_run x s)) (combined Or) (only_part false (derivative_run x r) (only_derivative x r)) (only_part (is_run Or s) (derivative_run x s) (only_derivative x s))
-only_derivative x (Intersection r s) = only_both (part false (derivative_run x r)) (part (is_run And s) (derivative_run x s)) (combined And) (only_part false (derivative_run x r) (only_derivative x r)) (only_part (is_run And s) (derivative_run x s) (only_derivative x s))
+only_derivative x (Combination op r s) = only_both (part false (derivative_run x r)) (part (is_run op s) (derivative_run x s)) (combined op) (only_part false (derivative_run x r) (only_derivative x r)) (only_part (is_run op s) (derivative_run x s) (only_derivative x s))
 
 only_step : (e : Expression) (x : ℕ) (F : Formed) → OnlyTerm F → OnlyTerm (step_from (forms_of e) F x)
 only_step e x (Err fault) h = h

@@ -1,4 +1,5 @@
 use Rattle.std.specs.Prelude.{ℕ}
+use Rattle.jm_ere.specs.declared.tree.Operator.{Operator}
 
 -- A regular expression over letters, which are numbers.
 pub data Expression : Type 0 where
@@ -9,5 +10,4 @@ pub data Expression : Type 0 where
   Star : (r : Expression) → Expression
   Plus : (r : Expression) → Expression
   Product : (r s : Expression) → Expression
-  Union : (r s : Expression) → Expression
-  Intersection : (r s : Expression) → Expression
+  Combination : (operator : Operator) (r s : Expression) → Expression

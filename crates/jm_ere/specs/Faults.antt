@@ -13,7 +13,8 @@ use Rattle.jm_ere.specs.declared.formula.Unary.{Unary}
 use Rattle.jm_ere.specs.declared.formula.Unary.TheVariants.{Not, Any, Many}
 use Rattle.jm_ere.specs.declared.formula.Binary.{Binary}
 use Rattle.jm_ere.specs.declared.formula.Binary.TheVariants.{Then, Either, Both}
-use Rattle.jm_ere.specs.Expressions.{Expression, Symbol, EmptyWord, NoWord, Complement, Star, Plus, Product, Union, Intersection}
+use Rattle.jm_ere.specs.declared.tree.Operator.TheVariants.{Or, And}
+use Rattle.jm_ere.specs.Expressions.{Expression, Symbol, EmptyWord, NoWord, Complement, Star, Plus, Product, Combination}
 use Rattle.jm_ere.specs.Formulas.{Formula, Leaf, Over, Between, node_count}
 
 -- there are at most 256 nodes
@@ -32,8 +33,8 @@ over Many r = Plus r
 
 abbrev pub between : Binary → Expression → Expression → Expression
 between Then r s = Product r s
-between Either r s = Union r s
-between Both r s = Intersection r s
+between Either r s = Combination Or r s
+between Both r s = Combination And r s
 
 -- the expression that a formula says among these events, or its first name that isn't there
 abbrev pub atom_said : List ℕ → List (List ℕ) → Atom → Result Expression SpecFault

@@ -1,7 +1,8 @@
 -- The words of a regular expression. A word is a list of letters.
 use Rattle.std.specs.Prelude.{ℕ, ◌≡◌, ◌≢◌, ◌<◌, ◌⊎◌, List, [], ◌∷◌, ◌++◌, All}
 use Rattle.std.specs.List.{AllByRecursion}
-use Rattle.jm_ere.specs.Expressions.{Expression, Symbol, EmptyWord, NoWord, Complement, Star, Plus, Product, Union, Intersection}
+use Rattle.jm_ere.specs.declared.tree.Operator.TheVariants.{Or, And}
+use Rattle.jm_ere.specs.Expressions.{Expression, Symbol, EmptyWord, NoWord, Complement, Star, Plus, Product, Combination}
 
 -- a word of the first language, and one of the second behind it
 abbrev pub IsSplit : (List ℕ → Type 0) → (List ℕ → Type 0) → List ℕ → Type 0
@@ -25,8 +26,8 @@ InLanguage (Complement r) word = InLanguage r word → ⊥
 InLanguage (Star r) word = IsChain (InLanguage r) word
 InLanguage (Plus r) word = IsSplit (InLanguage r) (IsChain (InLanguage r)) word
 InLanguage (Product r s) word = IsSplit (InLanguage r) (InLanguage s) word
-InLanguage (Union r s) word = InLanguage r word ⊎ InLanguage s word
-InLanguage (Intersection r s) word = InLanguage r word × InLanguage s word
+InLanguage (Combination Or r s) word = InLanguage r word ⊎ InLanguage s word
+InLanguage (Combination And r s) word = InLanguage r word × InLanguage s word
 
 -- no extension of the word by letters below this number, itself included, is in the language
 abbrev pub IsFailed : Expression → ℕ → List ℕ → Type 0

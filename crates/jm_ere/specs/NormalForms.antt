@@ -8,9 +8,9 @@ use Rattle.jm_model.specs.declared.fault.Counted.TheVariants.{Term}
 use Rattle.jm_model.specs.declared.fault.SpecFault.{SpecFault}
 use Rattle.jm_model.specs.declared.fault.SpecFault.TheVariants.{TooMany}
 use Rattle.jm_table.specs.Graphs.{GraphMeaning}
-use Rattle.jm_ere.specs.declared.order.Operator.{Operator}
-use Rattle.jm_ere.specs.declared.order.Operator.TheVariants.{Or, And}
-use Rattle.jm_ere.specs.Expressions.{Expression, Symbol, EmptyWord, NoWord, Complement, Star, Plus, Product, Union, Intersection}
+use Rattle.jm_ere.specs.declared.tree.Operator.{Operator}
+use Rattle.jm_ere.specs.declared.tree.Operator.TheVariants.{Or, And}
+use Rattle.jm_ere.specs.Expressions.{Expression, Symbol, EmptyWord, NoWord, Complement, Star, Plus, Product, Combination}
 
 -- ---- one fixed order
 
@@ -22,18 +22,22 @@ rank (Complement r) = 3
 rank (Star r) = 4
 rank (Plus r) = 5
 rank (Product r s) = 6
-rank (Union r s) = 7
-rank (Intersection r s) = 8
+rank (Combination op r s) = 7
 
--- by kind, and then part by part
+-- `|` comes before `&`
+abbrev pub rank_of_operator : Operator → ℕ
+rank_of_operator Or = 0
+rank_of_operator And = 1
+
+-- by kind and operator, and then part by part
 abbrev pub order : Expression → Expression → Ordering
 order (Symbol x) (Symbol y) = nat_cmp x y
 order (Complement r) (Complement s) = order r s
 order (Star r) (Star s) = order r s
 order (Plus r) (Plus s) = order r s
 order (Product r s) (Product p q) = ordering_then (order r p) (order s q)
-order (Union r s) (Union p q) = ordering_then (order r p) (order s q)
-order (Intersection r s) (Intersection p q) = ordering_then (order r p) (order s q)
+order (Combination op r s) (Combination other p q) =
+    ordering_then (ordering_then (nat_cmp (rank_of_operator op) (rank_of_operator other)) (order r p)) (order s q)
 order r s = nat_cmp (rank r) (rank s)
 
 abbrev pub by_order : {X : Type 0} → Ordering → X → X → X → X
@@ -64,14 +68,9 @@ is_product r = false
 
 -- ---- `|` and `&`, whose runs are told alike
 
--- `r | s`, or `r & s`
-abbrev pub pair : Operator → Expression → Expression → Expression
-pair Or r s = Union r s
-pair And r s = Intersection r s
-
 abbrev pub is_run : Operator → Expression → Bool
-is_run Or (Union r s) = true
-is_run And (Intersection r s) = true
+is_run Or (Combination Or r s) = true
+is_run And (Combination And r s) = true
 is_run op r = false
 
 -- what is dropped from a run: `empty` from one of `|`, and `~empty` from one of `&`
@@ -112,12 +111,12 @@ product_of r s = if is_nothing s then NoWord else (if is_epsilon s then r else b
 -- A run of an operator is nested to the right, and sorted without doubles. One more member `t` of such a run, whose
 -- first member is `r`; `rest` is what then stands behind `r`, if `t` belongs there:
 abbrev pub placed : Operator → Expression → Expression → Expression → Expression → Expression
-placed op t r run rest = by_order (order t r) (pair op t run) run (pair op r rest)
+placed op t r run rest = by_order (order t r) (Combination op t run) run (Combination op r rest)
 
 -- one more member of such a run, which may be one form
 abbrev pub put : Operator → Expression → Expression → Expression
-put Or t (Union r s) = placed Or t r (Union r s) (put Or t s)
-put And t (Intersection r s) = placed And t r (Intersection r s) (put And t s)
+put Or t (Combination Or r s) = placed Or t r (Combination Or r s) (put Or t s)
+put And t (Combination And r s) = placed And t r (Combination And r s) (put And t s)
 put op t r = placed op t r r t
 
 -- a member of a run, and the rest: a unit is dropped, and with a zero among them the whole is the zero
@@ -127,8 +126,8 @@ join op t run =
 
 -- `r | s`, or `r & s`: the members of `r`, which may be a run itself, are put among those of `s`
 abbrev pub combined : Operator → Expression → Expression → Expression
-combined Or (Union p q) run = combined Or q (combined Or p run)
-combined And (Intersection p q) run = combined And q (combined And p run)
+combined Or (Combination Or p q) run = combined Or q (combined Or p run)
+combined And (Combination And p q) run = combined And q (combined And p run)
 combined op t run = join op t run
 
 -- ---- sizes
@@ -139,8 +138,7 @@ size_of (Complement r) = 1 + size_of r
 size_of (Star r) = 1 + size_of r
 size_of (Plus r) = 1 + size_of r
 size_of (Product r s) = 1 + (size_of r + size_of s)
-size_of (Union r s) = (if is_run Or s then 0 else 1) + (size_of r + size_of s)
-size_of (Intersection r s) = (if is_run And s then 0 else 1) + (size_of r + size_of s)
+size_of (Combination op r s) = (if is_run op s then 0 else 1) + (size_of r + size_of s)
 size_of r = 1
 
 -- a form, or the fault of one with more than 4,096 nodes
@@ -168,10 +166,8 @@ normal_run (Star r) = part false (normal_run r) >>= λ n. Ok (star_of n)
 normal_run (Plus r) = part false (normal_run r) >>= λ n. fitting (star_of n) >>= λ s. Ok (product_of n s)
 normal_run (Product r s) =
     part (is_product r) (normal_run r) >>= λ n. part (is_product s) (normal_run s) >>= λ m. Ok (product_of n m)
-normal_run (Union r s) =
-    part (is_run Or r) (normal_run r) >>= λ n. part (is_run Or s) (normal_run s) >>= λ m. Ok (combined Or n m)
-normal_run (Intersection r s) =
-    part (is_run And r) (normal_run r) >>= λ n. part (is_run And s) (normal_run s) >>= λ m. Ok (combined And n m)
+normal_run (Combination op r s) =
+    part (is_run op r) (normal_run r) >>= λ n. part (is_run op s) (normal_run s) >>= λ m. Ok (combined op n m)
 normal_run r = Ok r
 
 -- the normal form of a written expression
@@ -187,8 +183,8 @@ is_nullable (Complement r) = not (is_nullable r)
 is_nullable (Star r) = true
 is_nullable (Plus r) = is_nullable r
 is_nullable (Product r s) = is_nullable r && is_nullable s
-is_nullable (Union r s) = is_nullable r || is_nullable s
-is_nullable (Intersection r s) = is_nullable r && is_nullable s
+is_nullable (Combination Or r s) = is_nullable r || is_nullable s
+is_nullable (Combination And r s) = is_nullable r && is_nullable s
 
 -- The derivative of a normal form by a letter, whose own size isn't asked yet.
 abbrev pub derivative_run : ℕ → Expression → Formed
@@ -201,10 +197,8 @@ derivative_run x (Plus r) = part false (derivative_run x r) >>= λ d. Ok (produc
 derivative_run x (Product r s) = part false (derivative_run x r) >>= λ d.
     if is_nullable r then (fitting (product_of d s) >>= λ front. part false (derivative_run x s) >>= λ e. Ok
     (combined Or front e)) else Ok (product_of d s)
-derivative_run x (Union r s) =
-    part false (derivative_run x r) >>= λ d. part (is_run Or s) (derivative_run x s) >>= λ e. Ok (combined Or d e)
-derivative_run x (Intersection r s) =
-    part false (derivative_run x r) >>= λ d. part (is_run And s) (derivative_run x s) >>= λ e. Ok (combined And d e)
+derivative_run x (Combination op r s) =
+    part false (derivative_run x r) >>= λ d. part (is_run op s) (derivative_run x s) >>= λ e. Ok (combined op d e)
 
 -- the derivative of a normal form by a letter
 abbrev pub derivative : ℕ → Expression → Formed

@@ -1,9 +1,9 @@
 -- What normal forms look like: no rule is left to apply.
 use Rattle.std.specs.Prelude.{◌≡◌, Bool, true, false}
 use Rattle.std.specs.declared.cmp.Ordering.TheVariants.{Less}
-use Rattle.jm_ere.specs.declared.order.Operator.{Operator}
-use Rattle.jm_ere.specs.declared.order.Operator.TheVariants.{Or, And}
-use Rattle.jm_ere.specs.Expressions.{Expression, Symbol, EmptyWord, NoWord, Complement, Star, Plus, Product, Union, Intersection}
+use Rattle.jm_ere.specs.declared.tree.Operator.{Operator}
+use Rattle.jm_ere.specs.declared.tree.Operator.TheVariants.{Or, And}
+use Rattle.jm_ere.specs.Expressions.{Expression, Symbol, EmptyWord, NoWord, Complement, Star, Plus, Product, Combination}
 use Rattle.jm_ere.specs.NormalForms.{order, is_nothing, is_everything, is_epsilon, is_product, is_run}
 
 abbrev pub is_complement : Expression → Bool
@@ -24,8 +24,8 @@ IsFactor r = (is_nothing r ≡ false) × (is_epsilon r ≡ false)
 
 -- the first member of a run of the operator, or the one form
 abbrev pub first_of : Operator → Expression → Expression
-first_of Or (Union r s) = r
-first_of And (Intersection r s) = r
+first_of Or (Combination Or r s) = r
+first_of And (Combination And r s) = r
 first_of op r = r
 
 -- a member of a run of the operator, and the rest of it
@@ -43,5 +43,4 @@ IsNormal (Complement r) = IsNormal r × (is_complement r ≡ false)
 IsNormal (Star r) = IsNormal r × IsFactor r × (is_star r ≡ false)
 IsNormal (Plus r) = ⊥
 IsNormal (Product r s) = IsNormal r × IsNormal s × IsFactor r × IsFactor s × (is_product r ≡ false)
-IsNormal (Union r s) = IsNormal r × IsNormal s × Rises Or r s
-IsNormal (Intersection r s) = IsNormal r × IsNormal s × Rises And r s
+IsNormal (Combination op r s) = IsNormal r × IsNormal s × Rises op r s

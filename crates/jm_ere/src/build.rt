@@ -11,7 +11,7 @@ use crate::faults::{Words, few_nodes};
 use crate::forms::boxed;
 use crate::formula::{Atom, Binary, Node, Unary};
 use crate::stack::Stack;
-use crate::tree::{Ere, Tree};
+use crate::tree::{Ere, Operator, Tree};
 use jm_events::EventTable;
 use jm_model::SpecError;
 use jm_reading::{event_names, letter_of};
@@ -50,8 +50,8 @@ fn between(alloc: Global, operator: Binary, r: Ere, s: Ere) -> Result<Ere, SpecE
     let s = boxed(alloc, s.tree)?;
     match operator {
         Binary::Then => Ok(Ere::new(Tree::Then(r, s))),
-        Binary::Either => Ok(Ere::new(Tree::Either(r, s))),
-        Binary::Both => Ok(Ere::new(Tree::Both(r, s))),
+        Binary::Either => Ok(Ere::new(Tree::Combined(Operator::Or, r, s))),
+        Binary::Both => Ok(Ere::new(Tree::Combined(Operator::And, r, s))),
     }
 }
 

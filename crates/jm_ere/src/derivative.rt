@@ -3,14 +3,14 @@ ghost use Rattle.std.specs.Prelude.{◌≡◌, ◌==◌, if◌then◌else◌, Ok
 ghost use Rattle.jm_table.specs.Graphs.{Answers};
 ghost use Rattle.jm_ere.specs.Trees.{expression_of};
 ghost use Rattle.jm_ere.specs.Expressions.{EmptyWord, NoWord, Star};
-ghost use Rattle.jm_ere.specs.declared.order.Operator.TheVariants.{Or};
+ghost use Rattle.jm_ere.specs.declared.tree.Operator.TheVariants.{Or};
 ghost use Rattle.jm_ere.specs.NormalForms.{Formed, ◌>>=◌ as ◌>>>◌, fitting, product_of, star_of, combined, derivative_run, derivative};
 
 use crate::forms::{combined, copy, product_of, repeated, star_of};
-use crate::order::{Operator, is_nullable, is_run};
+use crate::order::{is_nullable, is_run};
 use crate::parts::{combined_parts, complement_of_part};
 use crate::sizes::{fitting, part};
-use crate::tree::Tree;
+use crate::tree::{Operator, Tree};
 use jm_model::{Letter, SpecError};
 use std::alloc::Global;
 
@@ -42,15 +42,10 @@ fn derivative_run(alloc: Global, tree: &Tree, letter: Letter) -> Result<Tree, Sp
             let second = part(false, derivative_run(alloc, s, letter));
             before_copy_or(alloc, first, s, second)
         }
-        Tree::Either(r, s) => {
+        Tree::Combined(operator, r, s) => {
             let first = part(false, derivative_run(alloc, r, letter));
-            let rest = part(is_run(Operator::Or, s), derivative_run(alloc, s, letter));
-            combined_parts(alloc, Operator::Or, first, rest)
-        }
-        Tree::Both(r, s) => {
-            let first = part(false, derivative_run(alloc, r, letter));
-            let rest = part(is_run(Operator::And, s), derivative_run(alloc, s, letter));
-            combined_parts(alloc, Operator::And, first, rest)
+            let rest = part(is_run(*operator, s), derivative_run(alloc, s, letter));
+            combined_parts(alloc, *operator, first, rest)
         }
     }
 }

@@ -1,11 +1,11 @@
 //! The operators over normal forms.
 ghost use Rattle.std.specs.Prelude.{◌≡◌, ◌<◌, ◌^◌, IfOk, IfErr};
 ghost use Rattle.jm_ere.specs.Trees.{expression_of};
-ghost use Rattle.jm_ere.specs.Expressions.{Symbol, EmptyWord, NoWord, Complement, Star, Plus, Product};
-ghost use Rattle.jm_ere.specs.NormalForms.{complement_of, star_of, before, product_of, pair, put, join, combined};
+ghost use Rattle.jm_ere.specs.Expressions.{Symbol, EmptyWord, NoWord, Complement, Star, Plus, Product, Combination};
+ghost use Rattle.jm_ere.specs.NormalForms.{complement_of, star_of, before, product_of, put, join, combined};
 
-use crate::order::{Operator, is_epsilon, is_nothing, is_unit, is_zero, order};
-use crate::tree::Tree;
+use crate::order::{is_epsilon, is_nothing, is_unit, is_zero, order};
+use crate::tree::{Operator, Tree};
 use jm_model::SpecError;
 use std::alloc::Global;
 use std::cmp::Ordering;
@@ -30,8 +30,7 @@ pub(crate) fn copy(alloc: Global, tree: &Tree) -> Result<Tree, SpecError>
         Tree::Star(r) => Ok(Tree::Star(boxed(alloc, copy(alloc, r)?)?)),
         Tree::Plus(r) => Ok(Tree::Plus(boxed(alloc, copy(alloc, r)?)?)),
         Tree::Then(r, s) => then(alloc, copy(alloc, r)?, copy(alloc, s)?),
-        Tree::Either(r, s) => pair(alloc, Operator::Or, copy(alloc, r)?, copy(alloc, s)?),
-        Tree::Both(r, s) => pair(alloc, Operator::And, copy(alloc, r)?, copy(alloc, s)?),
+        Tree::Combined(operator, r, s) => pair(alloc, *operator, copy(alloc, r)?, copy(alloc, s)?),
     }
 }
 
@@ -53,23 +52,13 @@ fn then(alloc: Global, r: Tree, s: Tree) -> Result<Tree, SpecError>
 }
 
 /// `r | s`, or `r & s`.
-fn pair_of(operator: Operator, r: Box<Tree>, s: Box<Tree>) -> Tree
-    ensures { expression_of result ≡ pair operator (expression_of r.value) (expression_of s.value) }
-{
-    match operator {
-        Operator::Or => Tree::Either(r, s),
-        Operator::And => Tree::Both(r, s),
-    }
-}
-
-/// The same of parts that are not in boxes yet.
 fn pair(alloc: Global, operator: Operator, r: Tree, s: Tree) -> Result<Tree, SpecError>
-    ensures ok { IfOk result (λ t. expression_of t ≡ pair operator (expression_of r) (expression_of s)) }
+    ensures ok { IfOk result (λ t. expression_of t ≡ Combination operator (expression_of r) (expression_of s)) }
     ensures err { IfErr result (λ e. e ≡ SpecError.NoMemory) }
 {
     let r = boxed(alloc, r)?;
     let s = boxed(alloc, s)?;
-    Ok(pair_of(operator, r, s))
+    Ok(Tree::Combined(operator, r, s))
 }
 
 /// `~r`, where `~~r` is `r`.
@@ -133,15 +122,14 @@ fn put(alloc: Global, operator: Operator, t: Tree, run: Tree) -> Result<Tree, Sp
     ensures err { IfErr result (λ e. e ≡ SpecError.NoMemory) }
 {
     match (operator, run) {
-        (Operator::Or, Tree::Either(r, s)) | (Operator::And, Tree::Both(r, s)) => match order(
-            &t, &r,
-        ) {
-            Ordering::Less => pair(alloc, operator, t, pair_of(operator, r, s)),
-            Ordering::Equal => Ok(pair_of(operator, r, s)),
+        (Operator::Or, Tree::Combined(Operator::Or, r, s))
+        | (Operator::And, Tree::Combined(Operator::And, r, s)) => match order(&t, &r) {
+            Ordering::Less => pair(alloc, operator, t, Tree::Combined(operator, r, s)),
+            Ordering::Equal => Ok(Tree::Combined(operator, r, s)),
             Ordering::Greater => {
                 let rest = put(alloc, operator, t, Box::into_inner(s))?;
                 let rest = boxed(alloc, rest)?;
-                Ok(pair_of(operator, r, rest))
+                Ok(Tree::Combined(operator, r, rest))
             }
         },
         (_, r) => match order(&t, &r) {
@@ -178,7 +166,8 @@ pub(crate) fn combined(
     ensures err { IfErr result (λ e. e ≡ SpecError.NoMemory) }
 {
     match (operator, r) {
-        (Operator::Or, Tree::Either(p, q)) | (Operator::And, Tree::Both(p, q)) => {
+        (Operator::Or, Tree::Combined(Operator::Or, p, q))
+        | (Operator::And, Tree::Combined(Operator::And, p, q)) => {
             let run = combined(alloc, operator, Box::into_inner(p), run)?;
             combined(alloc, operator, Box::into_inner(q), run)
         }

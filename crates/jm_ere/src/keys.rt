@@ -3,7 +3,7 @@ ghost use Rattle.std.specs.Prelude.{◌≡◌, ◌<◌};
 ghost use Rattle.jm_ere.specs.Trees.{expression_of};
 ghost use Rattle.jm_ere.specs.Keys.{mixed, key_of};
 
-use crate::tree::Tree;
+use crate::tree::{Operator, Tree};
 
 /// A key of the keys of two parts and of the number of a kind.
 fn mixed(kind: u64, first: u64, second: u64) -> u64
@@ -28,7 +28,7 @@ pub(crate) fn key_of(tree: &Tree) -> u64
         Tree::Star(r) => mixed(4, key_of(r), 0),
         Tree::Plus(r) => mixed(5, key_of(r), 0),
         Tree::Then(r, s) => mixed(6, key_of(r), key_of(s)),
-        Tree::Either(r, s) => mixed(7, key_of(r), key_of(s)),
-        Tree::Both(r, s) => mixed(9, key_of(r), key_of(s)),
+        Tree::Combined(Operator::Or, r, s) => mixed(7, key_of(r), key_of(s)),
+        Tree::Combined(Operator::And, r, s) => mixed(9, key_of(r), key_of(s)),
     }
 }

@@ -27,4 +27,4 @@ mod written;
 
 pub use laws::{forms_are_normal, one_order, one_reading};
 pub use reading::read;
-pub use tree::{Ere, Tree};
+pub use tree::{Ere, Operator, Tree};

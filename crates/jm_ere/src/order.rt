@@ -1,17 +1,10 @@
 //! The fixed order of expressions, and the kinds that rules ask for.
 ghost use Rattle.std.specs.Prelude.{◌≡◌, ◌↔◌, IsTrue};
 ghost use Rattle.jm_ere.specs.Trees.{expression_of};
-ghost use Rattle.jm_ere.specs.NormalForms.{rank, order, is_nothing, is_everything, is_epsilon, is_product, is_run, is_unit, is_zero, is_nullable};
+ghost use Rattle.jm_ere.specs.NormalForms.{rank, rank_of_operator, order, is_nothing, is_everything, is_epsilon, is_product, is_run, is_unit, is_zero, is_nullable};
 
-use crate::tree::Tree;
+use crate::tree::{Operator, Tree};
 use std::cmp::Ordering;
-
-/// The operators whose runs are sorted: `|` and `&`.
-#[derive(Clone, Copy)]
-pub enum Operator {
-    Or,
-    And,
-}
 
 /// Where the kind of an expression stands in the order.
 fn rank(tree: &Tree) -> u8
@@ -25,12 +18,21 @@ fn rank(tree: &Tree) -> u8
         Tree::Star(_) => 4,
         Tree::Plus(_) => 5,
         Tree::Then(_, _) => 6,
-        Tree::Either(_, _) => 7,
-        Tree::Both(_, _) => 8,
+        Tree::Combined(_, _, _) => 7,
     }
 }
 
-/// By kind, and then part by part.
+/// `|` comes before `&`.
+fn rank_of_operator(operator: Operator) -> u8
+    ensures { result ≡ rank_of_operator operator }
+{
+    match operator {
+        Operator::Or => 0,
+        Operator::And => 1,
+    }
+}
+
+/// By kind and operator, and then part by part.
 pub(crate) fn order(a: &Tree, b: &Tree) -> Ordering
     ensures { result ≡ order (expression_of a.now) (expression_of b.now) }
 {
@@ -40,8 +42,12 @@ pub(crate) fn order(a: &Tree, b: &Tree) -> Ordering
         (Tree::Star(r), Tree::Star(s)) => order(r, s),
         (Tree::Plus(r), Tree::Plus(s)) => order(r, s),
         (Tree::Then(r, s), Tree::Then(p, q)) => order(r, p).then(order(s, q)),
-        (Tree::Either(r, s), Tree::Either(p, q)) => order(r, p).then(order(s, q)),
-        (Tree::Both(r, s), Tree::Both(p, q)) => order(r, p).then(order(s, q)),
+        (Tree::Combined(operator, r, s), Tree::Combined(other, p, q)) => {
+            rank_of_operator(*operator)
+                .cmp(&rank_of_operator(*other))
+                .then(order(r, p))
+                .then(order(s, q))
+        }
         _ => rank(a).cmp(&rank(b)),
     }
 }
@@ -102,7 +108,8 @@ pub(crate) fn is_run(operator: Operator, tree: &Tree) -> bool
     ensures { result ≡ is_run operator (expression_of tree.now) }
 {
     match (operator, tree) {
-        (Operator::Or, Tree::Either(_, _)) | (Operator::And, Tree::Both(_, _)) => true,
+        (Operator::Or, Tree::Combined(Operator::Or, _, _)) => true,
+        (Operator::And, Tree::Combined(Operator::And, _, _)) => true,
         _ => false,
     }
 }
@@ -139,7 +146,7 @@ pub(crate) fn is_nullable(tree: &Tree) -> bool
         Tree::Star(_) => true,
         Tree::Plus(r) => is_nullable(r),
         Tree::Then(r, s) => is_nullable(r) && is_nullable(s),
-        Tree::Either(r, s) => is_nullable(r) || is_nullable(s),
-        Tree::Both(r, s) => is_nullable(r) && is_nullable(s),
+        Tree::Combined(Operator::Or, r, s) => is_nullable(r) || is_nullable(s),
+        Tree::Combined(Operator::And, r, s) => is_nullable(r) && is_nullable(s),
     }
 }

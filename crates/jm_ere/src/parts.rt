@@ -5,8 +5,7 @@ ghost use Rattle.jm_ere.specs.Trees.{expression_of};
 ghost use Rattle.jm_ere.specs.NormalForms.{Formed, ◌>>=◌ as ◌>>>◌, complement_of, combined};
 
 use crate::forms::{combined, complement_of};
-use crate::order::Operator;
-use crate::tree::Tree;
+use crate::tree::{Operator, Tree};
 use jm_model::SpecError;
 use std::alloc::Global;
 

@@ -4,7 +4,7 @@ ghost use Rattle.jm_table.specs.Graphs.{Answers};
 ghost use Rattle.jm_ere.specs.Trees.{expression_of};
 ghost use Rattle.jm_ere.specs.NormalForms.{Formed, size_of, fitting, part};
 
-use crate::order::{Operator, is_run};
+use crate::order::is_run;
 use crate::tree::Tree;
 use jm_model::{Counted, SpecError, SpecFault};
 
@@ -24,12 +24,8 @@ fn room_after(tree: &Tree, room: u16) -> Option<u16>
         Tree::Star(r) => room_after(r, less_one(room)?),
         Tree::Plus(r) => room_after(r, less_one(room)?),
         Tree::Then(r, s) => room_after(s, room_after(r, less_one(room)?)?),
-        Tree::Either(r, s) => {
-            let room = less_one_unless(is_run(Operator::Or, s), room)?;
-            room_after(s, room_after(r, room)?)
-        }
-        Tree::Both(r, s) => {
-            let room = less_one_unless(is_run(Operator::And, s), room)?;
+        Tree::Combined(operator, r, s) => {
+            let room = less_one_unless(is_run(*operator, s), room)?;
             room_after(s, room_after(r, room)?)
         }
     }

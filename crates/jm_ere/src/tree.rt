@@ -6,6 +6,13 @@ ghost use Rattle.jm_ere.specs.Trees.{expression_of};
 use jm_model::Letter;
 use std::marker::Model;
 
+/// `|` and `&`.
+#[derive(Clone, Copy)]
+pub enum Operator {
+    Or,
+    And,
+}
+
 /// A regular expression, or a part of one.
 #[derive(Drop)]
 pub enum Tree {
@@ -23,10 +30,8 @@ pub enum Tree {
     Plus(Box<Tree>),
     /// A word of the first part and then one of the second.
     Then(Box<Tree>, Box<Tree>),
-    /// The words of either part.
-    Either(Box<Tree>, Box<Tree>),
-    /// The words of both parts.
-    Both(Box<Tree>, Box<Tree>),
+    /// The words of either part, or those of both.
+    Combined(Operator, Box<Tree>, Box<Tree>),
 }
 
 /// A regular expression. Contracts see it as its `Expression`.

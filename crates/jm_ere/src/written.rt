@@ -5,7 +5,7 @@ ghost use Rattle.jm_ere.specs.Trees.{expression_of};
 ghost use Rattle.jm_ere.specs.NormalForms.{Formed, ◌>>=◌ as ◌>>>◌, fitting, product_of, star_of, normal_run, normal_form};
 
 use crate::forms::{copy, product_of, star_of};
-use crate::order::{Operator, is_product, is_run};
+use crate::order::{is_product, is_run};
 use crate::parts::{combined_parts, complement_of_part};
 use crate::sizes::{fitting, part};
 use crate::tree::Tree;
@@ -38,15 +38,10 @@ fn normal_run(alloc: Global, tree: &Tree) -> Result<Tree, SpecError>
             let rest = part(is_product(s), normal_run(alloc, s));
             product_of_parts(alloc, first, rest)
         }
-        Tree::Either(r, s) => {
-            let first = part(is_run(Operator::Or, r), normal_run(alloc, r));
-            let rest = part(is_run(Operator::Or, s), normal_run(alloc, s));
-            combined_parts(alloc, Operator::Or, first, rest)
-        }
-        Tree::Both(r, s) => {
-            let first = part(is_run(Operator::And, r), normal_run(alloc, r));
-            let rest = part(is_run(Operator::And, s), normal_run(alloc, s));
-            combined_parts(alloc, Operator::And, first, rest)
+        Tree::Combined(operator, r, s) => {
+            let first = part(is_run(*operator, r), normal_run(alloc, r));
+            let rest = part(is_run(*operator, s), normal_run(alloc, s));
+            combined_parts(alloc, *operator, first, rest)
         }
     }
 }

@@ -45,18 +45,10 @@ returns-else-not-is_nullable t c =
     let is = rw c.deref-in-Then-2.ensures at c.is_nullable.ensures in
     rw c.in-Then.is (with_second _ _ _ _ _ (sym is ∙ grind arith) (rw c.deref-in-Then-4.ensures at (c.before_copy_or.ensures _ _ (c.part-first.ensures _ first) (c.part-second.ensures _ second))))
 
-pub returns-in-Either : goal.returns-in-Either
-returns-in-Either t c =
-    let first = rw c.deref-in-Either.ensures at c.derivative_run-in-Either.ensures in
-    let rest = rw c.deref-in-Either-3.ensures at c.derivative_run-in-Either-2.ensures in
-    let first = c.part-first-in-Either.ensures _ first in
-    let rest = rw (c.is_run.ensures, c.deref-in-Either-2.ensures) at (c.part-rest.ensures _ rest) in
-    rw c.in-Either.is (c.combined_parts.ensures _ _ first rest)
-
-pub returns-in-Both : goal.returns-in-Both
-returns-in-Both t c =
-    let first = rw c.deref-in-Both.ensures at c.derivative_run-in-Both.ensures in
-    let rest = rw c.deref-in-Both-3.ensures at c.derivative_run-in-Both-2.ensures in
-    let first = c.part-first-in-Both.ensures _ first in
-    let rest = rw (c.is_run-in-Both.ensures, c.deref-in-Both-2.ensures) at (c.part-rest-in-Both.ensures _ rest) in
-    rw c.in-Both.is (c.combined_parts-in-Both.ensures _ _ first rest)
+pub returns-in-Combined : goal.returns-in-Combined
+returns-in-Combined t c =
+    let first = rw c.deref-in-Combined.ensures at c.derivative_run-in-Combined.ensures in
+    let rest = rw c.deref-in-Combined-3.ensures at c.derivative_run-in-Combined-2.ensures in
+    let first = c.part-first-in-Combined.ensures _ first in
+    let rest = rw (c.is_run.ensures, c.deref-in-Combined-2.ensures) at (c.part-rest.ensures _ rest) in
+    rw c.in-Combined.is (c.combined_parts.ensures _ _ first rest)

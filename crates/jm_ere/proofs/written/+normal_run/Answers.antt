@@ -23,18 +23,10 @@ returns-in-Then t c =
     let rest = rw (c.is_product-in-Then.ensures, c.deref-in-Then-3.ensures) at (c.part-rest.ensures _ rest) in
     rw c.in-Then.is (c.product_of_parts.ensures _ _ first rest)
 
-pub returns-in-Either : goal.returns-in-Either
-returns-in-Either t c =
-    let first = rw c.deref-in-Either-2.ensures at c.normal_run-in-Either.ensures in
-    let rest = rw c.deref-in-Either-4.ensures at c.normal_run-in-Either-2.ensures in
-    let first = rw (c.is_run.ensures, c.deref-in-Either.ensures) at (c.part-first-in-Either.ensures _ first) in
-    let rest = rw (c.is_run-in-Either.ensures, c.deref-in-Either-3.ensures) at (c.part-rest-in-Either.ensures _ rest) in
-    rw c.in-Either.is (c.combined_parts.ensures _ _ first rest)
-
-pub returns-in-Both : goal.returns-in-Both
-returns-in-Both t c =
-    let first = rw c.deref-in-Both-2.ensures at c.normal_run-in-Both.ensures in
-    let rest = rw c.deref-in-Both-4.ensures at c.normal_run-in-Both-2.ensures in
-    let first = rw (c.is_run-in-Both.ensures, c.deref-in-Both.ensures) at (c.part-first-in-Both.ensures _ first) in
-    let rest = rw (c.is_run-in-Both-2.ensures, c.deref-in-Both-3.ensures) at (c.part-rest-in-Both.ensures _ rest) in
-    rw c.in-Both.is (c.combined_parts-in-Both.ensures _ _ first rest)
+pub returns-in-Combined : goal.returns-in-Combined
+returns-in-Combined t c =
+    let first = rw c.deref-in-Combined-2.ensures at c.normal_run-in-Combined.ensures in
+    let rest = rw c.deref-in-Combined-4.ensures at c.normal_run-in-Combined-2.ensures in
+    let first = rw (c.is_run.ensures, c.deref-in-Combined.ensures) at (c.part-first-in-Combined.ensures _ first) in
+    let rest = rw (c.is_run-in-Combined.ensures, c.deref-in-Combined-3.ensures) at (c.part-rest-in-Combined.ensures _ rest) in
+    rw c.in-Combined.is (c.combined_parts.ensures _ _ first rest)
