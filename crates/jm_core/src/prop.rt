@@ -248,19 +248,29 @@ impl<M: Monitor> Prop<M> {
         &self.history
     }
 
-    /// The history alone: all else that the core has in memory is let go.
-    pub fn into_history(self) -> History
-        ensures value { result ≡ self.entries }
+    /// The rules and the history: all else that the core has in memory is let go.
+    pub fn into_parts(self) -> (M, History)
+        ensures rules { M.definition result.0 ≡ self.definition }
+        ensures history { result.1 ≡ self.entries }
         ensures legal { IsLegal (M.meaning self.definition) self.entries }
     {
         let Prop {
-            rules: _,
+            rules,
             objects: _,
             store: _,
             rest: _,
             history,
             alloc: _,
         } = self;
+        (rules, history)
+    }
+
+    /// The history alone: the rules are let go too.
+    pub fn into_history(self) -> History
+        ensures value { result ≡ self.entries }
+        ensures legal { IsLegal (M.meaning self.definition) self.entries }
+    {
+        let (_, history) = self.into_parts();
         history
     }
 

@@ -36,7 +36,7 @@ impl Rest {
         if self.letter.0 != letter.0 {
             return false;
         }
-        is_same(&self.binding, binding)
+        self.binding.is_same(binding)
     }
 
     /// Forgets the event.
@@ -61,11 +61,4 @@ impl Rest {
             self.is_known = false;
         }
     }
-}
-
-/// Whether two bindings are one.
-fn is_same(one: &Binding, other: &Binding) -> bool
-    ensures { IsTrue result → one.now ≡ other.now }
-{
-    *one == *other
 }
