@@ -119,19 +119,3 @@ flags_after_other-lem h dead x flags e o = ap (list_any (λ q. q == o)) (dead_of
 
 pub flags_at_start-lem : FlagsAtStart
 flags_at_start-lem n o = sym (no_flag n o)
-
--- flags that are right for the objects that they tell of, where no other object has died
-past_flags : (dead : List Bool) (o : ℕ) → length dead ≤ o → is_dead_object dead o ≡ false
-past_flags [] o h = refl
-past_flags (x ∷ dead) zero h = absurd (omega arith)
-past_flags (x ∷ dead) (suc o) h = past_flags dead o (omega arith)
-
-pub flags-from_below : (h : List Entry) (dead : List Bool) → ((o : ℕ) → o < length dead → is_dead h o ≡ is_dead_object dead o) → ((o : ℕ) → is_dead h o ≡ true → o < length dead) → AreFlagsOf h dead
-flags-from_below h dead right within o =
-    elim (cases_lt o (length dead)) [
-      | inl below ↦ right o below
-      | inr past ↦ elim (cases_Bool (is_dead h o)) [
-        | inl is ↦ absurd (let lt = within o is in omega arith)
-        | inr isnt ↦ isnt ∙ sym (past_flags dead o past)
-      ]
-    ]

@@ -1,6 +1,7 @@
 -- Which monitors a store has, and which marks, after a trace and some deaths.
-use Rattle.std.specs.Prelude.{ℕ, ◌≡◌, ◌≢◌, Bool, true, List, Contains}
+use Rattle.std.specs.Prelude.{◌≡◌, ◌≢◌, Bool, true, List, Contains}
 use Rattle.std.specs.List.{AllPairs}
+use Rattle.jm_model.specs.Words.{Word}
 use Rattle.jm_model.specs.Meanings.{Meaning, IsCutWord}
 use Rattle.jm_model.specs.declared.binding.Binding.{Binding}
 use Rattle.jm_semantics.specs.Traces.{ParametricEvent, seen_of, slice_of}
@@ -13,14 +14,13 @@ abbrev pub HasInstance : {S : Type 0} → List (Stored S) → Binding → Type 0
 HasInstance {S} monitors t = (s : Stored S) × Contains monitors s × (s.instance ≡ t)
 
 -- the monitor of an instance of the trace, whose state stands for the slice
-abbrev pub IsMonitorOf : {S : Type 0} → (S → List ℕ → Type 0) → List ParametricEvent → Stored S → Type 0
+abbrev pub IsMonitorOf : {S : Type 0} → (S → Word → Type 0) → List ParametricEvent → Stored S → Type 0
 IsMonitorOf Stands trace s = IsInstance trace s.instance × Stands s.state (slice_of trace s.instance)
 
 -- Stored are distinct instances, with states that stand for their slices, and each instance that isn't stored is cut.
 -- Each mark was seen, and each seen binding with a live object is a mark. Objects are dead by the flags.
-pub record IsStoreOf (m : Meaning) {S : Type 0} (Stands : S → List ℕ
-    → Type 0) (trace : List ParametricEvent) (dead : List Bool) (stored : List (Stored S))
-    (marks : List Binding) : Type 0 where
+pub record IsStoreOf (m : Meaning) {S : Type 0} (Stands : S → Word → Type 0) (trace : List ParametricEvent)
+    (dead : List Bool) (stored : List (Stored S)) (marks : List Binding) : Type 0 where
   pub distinct : AllPairs (λ r s. r.instance ≢ s.instance) stored
   pub each : (s : Stored S) → Contains stored s → IsMonitorOf Stands trace s
   pub cut : (t : Binding) → IsInstance trace t → (HasInstance stored t → ⊥)

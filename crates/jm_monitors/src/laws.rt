@@ -36,21 +36,21 @@ pub fn report_is_answer<M: Monitor>(rules: &M)
     let _rules = rules;
 }
 
-/// An event keeps a store.
+/// After an event there is a store of the trace with it, in which no monitor above its binding is cut.
 pub fn event_keeps_store<M: Monitor>(rules: &M)
     ensures { EventKeepsStore (M.meaning (M.definition rules.now)) (M.StandsFor rules.now) }
 {
     let _rules = rules;
 }
 
-/// A death keeps a store.
+/// With one object more dead it is a store of the same trace: what the death cuts may stay.
 pub fn death_keeps_store<M: Monitor>(rules: &M)
     ensures { DeathKeepsStore (M.meaning (M.definition rules.now)) (M.StandsFor rules.now) }
 {
     let _rules = rules;
 }
 
-/// A pass keeps a store.
+/// After a pass too: exactly the instances that aren't cut are stored then, and the marks have a live object each.
 pub fn pass_keeps_store<M: Monitor>(rules: &M)
     ensures { PassKeepsStore (M.meaning (M.definition rules.now)) (M.StandsFor rules.now) }
 {
