@@ -8,12 +8,12 @@ use Rattle.jm_fsm.specs.declared.formula.TransitionText.TheVariants.{On, Fallbac
 use Rattle.jm_fsm.specs.declared.formula.Part.{Part}
 use Rattle.jm_fsm.specs.declared.formula.Part.TheVariants.{Declaration, Alias}
 use Rattle.jm_reading.specs.Reading.{is_mark_at, is_left, mark_at, name_at, word_at}
-use Rattle.jm_reading.specs.Taking.{many_at}
-use Rattle.jm_fsm.specs.Rules.{fallback_at, listed_at, begins_fallback, transition_at, comma_at, entry_at, is_inside, declaration_at, more_member_at, begins_more_member, alias_at, begins_alias, part_at, with_a_state, formula_at}
+use Rattle.jm_reading.specs.Taking.{many_at, parted_at}
+use Rattle.jm_fsm.specs.Rules.{fallback_at, listed_at, begins_fallback, transition_at, comma_at, entry_at, is_inside, declaration_at, begins_more_member, alias_at, begins_alias, part_at, with_a_state, formula_at}
 use Rattle.jm_reading.specs.Tokens.{IsName, IsMark, IsWord, SpellsEach}
-use Rattle.jm_fsm.specs.Spelling.{SpellsTransition, SpellsComma, SpellsEntry, SpellsMoreMember, SpellsMembers, SpellsPart, is_state, Spells}
+use Rattle.jm_fsm.specs.Spelling.{SpellsTransition, SpellsComma, SpellsEntry, SpellsName, SpellsPart, is_state, Spells}
 use Rattle.jm_reading.proofs.TokenLemmas.{name_no_mark, word_no_mark, mark_is, name_is, word_is, if_some, mark_read, name_read, word_read, step_of, one_of, and_true, and_false, not_true, not_false, first_of_two, second_of_two, other_mark}
-use Rattle.jm_reading.proofs.ManyLemmas.{many_sound, IsCompleteRule, many_complete}
+use Rattle.jm_reading.proofs.ManyLemmas.{IsSoundRule, many_sound, IsCompleteRule, many_complete, parted_sound, parted_complete}
 
 module _ (bytes : List ℕ) where
   -- ---- what a rule reads, its tokens spell
@@ -93,13 +93,8 @@ module _ (bytes : List ℕ) where
             (opening.token, closing.token, inner.inner, refl, name.1, opening.is, subst (λ (l : List TransitionText). SpellsEach (SpellsEntry bytes) inner.inner l) (sym inner.added) inner.spelled, closing.is),
       )
 
-  more_member_sound : (tokens behind : List Token) (name : Token) → more_member_at bytes tokens ≡ Some (name, behind) → (first : List Token) × (tokens ≡ first ++ behind) × SpellsMoreMember bytes first name
-  unfolding more_member_at
-  more_member_sound tokens behind name h =
-      let a = step_of (mark_at bytes (codes ",") tokens) _ _ h in
-      let comma = mark_read bytes (codes ",") tokens a.0 a.1 in
-      let read = name_read bytes a.0 behind name a.2 in
-      (comma.token ∷ name ∷ [], comma.cut ∙ ap (λ (l : List Token). comma.token ∷ l) read.0, (comma.token, refl, comma.is, read.1))
+  name_sound : IsSoundRule begins_more_member name_at bytes (SpellsName bytes)
+  name_sound tokens behind name h = let read = name_read bytes tokens behind name h in (name ∷ [], read.0, (refl, read.1))
 
   alias_sound : (tokens behind : List Token) (p : Part) → alias_at bytes tokens ≡ Some (p, behind) → (first : List Token) × (tokens ≡ first ++ behind) × SpellsPart bytes first p
   unfolding alias_at
@@ -110,18 +105,13 @@ module _ (bytes : List ℕ) where
       let name = name_read bytes a.0.1 b.0.1 b.0.0 b.1 in
       let d = step_of (mark_at bytes (codes "=") b.0.1) _ _ b.2 in
       let equals = mark_read bytes (codes "=") b.0.1 d.0 d.1 in
-      let g = step_of (name_at bytes d.0) _ _ d.2 in
-      let first = name_read bytes d.0 g.0.1 g.0.0 g.1 in
-      let k = step_of (many_at begins_more_member more_member_at (g.0.0 ∷ []) bytes g.0.1) _ _ g.2 in
-      let more = many_sound begins_more_member more_member_at bytes (SpellsMoreMember bytes) more_member_sound (g.0.0 ∷ []) k.0.0 g.0.1 k.0.1 k.1 in
-      let e : ◌≡◌ {A = Part × List Token} (Alias b.0.0 k.0.0, k.0.1) (p, behind) = cc (k.2) in
-      let f : k.0.1 ≡ behind = ap (λ (x : Part × List Token). x.1) e in
-      let whole = a.0.0 ∷ b.0.0 ∷ equals.token ∷ g.0.0 ∷ more.inner in (
+      let g = step_of (parted_at (codes ",") name_at begins_more_member bytes d.0) _ _ d.2 in
+      let inner = parted_sound (codes ",") begins_more_member name_at bytes (SpellsName bytes) name_sound d.0 g.0.1 g.0.0 g.1 in
+      let e : ◌≡◌ {A = Part × List Token} (Alias b.0.0 g.0.0, g.0.1) (p, behind) = cc (g.2) in
+      let whole = a.0.0 ∷ b.0.0 ∷ equals.token ∷ inner.0 in (
         whole,
-        word.0 ∙ ap (λ (l : List Token). a.0.0 ∷ l) name.0 ∙ ap (λ (l : List Token). a.0.0 ∷ b.0.0 ∷ l) equals.cut ∙ ap (λ (l : List Token). a.0.0 ∷ b.0.0 ∷ equals.token ∷ l) first.0
-            ∙ ap (λ (l : List Token). a.0.0 ∷ b.0.0 ∷ equals.token ∷ g.0.0 ∷ l) (more.cut ∙ ap (λ (l : List Token). more.inner ++ l) f),
-        subst (λ (x : Part). SpellsPart bytes whole x) (ap (λ (x : Part × List Token). x.0) e)
-            (a.0.0, equals.token, g.0.0 ∷ more.inner, refl, word.1, name.1, equals.is, subst (λ (l : List Token). SpellsMembers bytes (g.0.0 ∷ more.inner) l) (sym more.added) (more.inner, refl, first.1, more.spelled)),
+        word.0 ∙ ap (λ (l : List Token). a.0.0 ∷ l) name.0 ∙ ap (λ (l : List Token). a.0.0 ∷ b.0.0 ∷ l) equals.cut ∙ ap (λ (l : List Token). a.0.0 ∷ b.0.0 ∷ equals.token ∷ l) inner.1 ∙ ap (λ (x : Part × List Token). whole ++ x.1) e,
+        subst (λ (x : Part). SpellsPart bytes whole x) (ap (λ (x : Part × List Token). x.0) e) (a.0.0, equals.token, inner.0, refl, word.1, name.1, equals.is, inner.2),
       )
 
   part_sound : (tokens behind : List Token) (p : Part) → part_at bytes tokens ≡ Some (p, behind) → (first : List Token) × (tokens ≡ first ++ behind) × SpellsPart bytes first p
@@ -212,21 +202,12 @@ module _ (bytes : List ℕ) where
   unfolding declaration_at
   declaration_reads name opening closing tokens behind ts n o c e = rw (name_is bytes name (opening ∷ tokens) n, mark_is bytes (codes "[") opening tokens o, e, mark_is bytes (codes "]") closing behind c) refl
 
-  more_member_is : (comma name : Token) (behind : List Token) → IsMark bytes (codes ",") comma → IsName bytes name → more_member_at bytes (comma ∷ name ∷ behind) ≡ Some (name, behind)
-  unfolding more_member_at
-  more_member_is comma name behind c n = rw (mark_is bytes (codes ",") comma (name ∷ behind) c, name_is bytes name behind n) refl
+  name_reads : (first behind : List Token) (name : Token) → SpellsName bytes first name → Unit {0} → name_at bytes (first ++ behind) ≡ Some (name, behind)
+  name_reads first behind name h follows = subst (λ (l : List Token). name_at bytes (l ++ behind) ≡ Some (name, behind)) (sym h.0) (name_is bytes name behind h.1)
 
-  more_member_complete : IsCompleteRule begins_more_member more_member_at bytes (SpellsMoreMember bytes) (λ _. Unit {0})
-  more_member_complete = record {
-    reads = λ first behind name h follows. subst (λ (l : List Token). more_member_at bytes (l ++ behind) ≡ Some (name, behind)) (sym h.1) (more_member_is h.0 name behind h.2 h.3);
-    begins = λ first behind name h. subst (λ (l : List Token). begins_more_member bytes (l ++ behind) ≡ true) (sym h.1) h.2;
-    follows = λ first behind name h. tt;
-    some = λ first name h. omega (arith, ap (λ (l : List Token). length l) h.1);
-  }
-
-  alias_reads : (word name equals first : Token) (tokens behind members : List Token) → IsWord bytes (codes "alias") word → IsName bytes name → IsMark bytes (codes "=") equals → IsName bytes first → many_at begins_more_member more_member_at (first ∷ []) bytes tokens ≡ Some (members, behind) → alias_at bytes (word ∷ name ∷ equals ∷ first ∷ tokens) ≡ Some (Alias name members, behind)
+  alias_reads : (word name equals : Token) (tokens behind members : List Token) → IsWord bytes (codes "alias") word → IsName bytes name → IsMark bytes (codes "=") equals → parted_at (codes ",") name_at begins_more_member bytes tokens ≡ Some (members, behind) → alias_at bytes (word ∷ name ∷ equals ∷ tokens) ≡ Some (Alias name members, behind)
   unfolding alias_at
-  alias_reads word name equals first tokens behind members w n e f m = rw (word_is bytes (codes "alias") word (name ∷ equals ∷ first ∷ tokens) w, name_is bytes name (equals ∷ first ∷ tokens) n, mark_is bytes (codes "=") equals (first ∷ tokens) e, name_is bytes first tokens f, m) refl
+  alias_reads word name equals tokens behind members w n e m = rw (word_is bytes (codes "alias") word (name ∷ equals ∷ tokens) w, name_is bytes name (equals ∷ tokens) n, mark_is bytes (codes "=") equals tokens e, m) refl
 
   part_reads : (first behind : List Token) (p : Part) → SpellsPart bytes first p → NoComma behind → part_at bytes (first ++ behind) ≡ Some (p, behind)
   unfolding part_at
@@ -235,13 +216,11 @@ module _ (bytes : List ℕ) where
       let entries = many_complete is_inside entry_at bytes (SpellsEntry bytes) NoComma entry_complete [] h.2 (h.1 ∷ behind) ts h.6 (other_mark bytes (codes "]") (codes ",") h.1 h.7 refl) (not_true _ h.7) in
       subst (λ (l : List Token). part_at bytes l ≡ Some (Declaration name ts, behind)) (sym whole)
       (second_of_two _ _ _ (and_false _ _ (not_true _ h.5)) ∙ declaration_reads name h.0 h.1 (h.2 ++ h.1 ∷ behind) behind ts h.4 h.5 h.7 entries)
-  part_reads first behind (Alias name []) h follows = absurd h.7
-  part_reads first behind (Alias name (m ∷ ms)) h follows =
-      let members = h.7 in
-      let whole : first ++ behind ≡ h.0 ∷ name ∷ h.1 ∷ m ∷ (members.0 ++ behind) = ap (λ (l : List Token). l ++ behind) (h.3 ∙ ap (λ (l : List Token). h.0 ∷ name ∷ h.1 ∷ l) members.1) in
-      subst (λ (l : List Token). part_at bytes l ≡ Some (Alias name (m ∷ ms), behind)) (sym whole)
+  part_reads first behind (Alias name members) h follows =
+      subst (λ (l : List Token). part_at bytes (l ++ behind) ≡ Some (Alias name members, behind)) (sym h.3)
       (first_of_two _ _ _ (and_true _ _ h.4 (not_false _ (name_no_mark bytes (codes "[") name h.5)))
-      ∙ alias_reads h.0 name h.1 m (members.0 ++ behind) behind (m ∷ ms) h.4 h.5 h.6 members.2 (many_complete begins_more_member more_member_at bytes (SpellsMoreMember bytes) (λ _. Unit {0}) more_member_complete (m ∷ []) members.0 behind ms members.3 tt follows))
+      ∙ alias_reads h.0 name h.1 (h.2 ++ behind) behind members h.4 h.5 h.6
+      (parted_complete (codes ",") begins_more_member name_at bytes (SpellsName bytes) (λ _. Unit {0}) name_reads (λ between ts k. tt) (λ between ts k. k) h.2 behind members h.7 tt follows))
 
   no_comma_part : (first behind : List Token) (p : Part) → SpellsPart bytes first p → NoComma (first ++ behind)
   no_comma_part first behind (Declaration name ts) h = subst (λ (l : List Token). NoComma (l ++ behind)) (sym h.3) (name_no_mark bytes (codes ",") name h.4)

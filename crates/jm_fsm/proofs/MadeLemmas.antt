@@ -2,7 +2,6 @@
 use Rattle.std.proofs.Common.{ℕ, suc, ◌≡◌, ◌+◌, ◌<◌, ◌≤◌, Bool, true, false, cond, ◌||◌, List, [], ◌∷◌, ◌++◌, Option, Some, None, Ok, All, map, length, get_or, option_map, refl, sym, ap, subst, ◌∙◌, arith, append_assoc, append-nil, length-append, drop, drop-cons}
 use Rattle.std.specs.Prelude.{codes, count_by}
 use Rattle.std.specs.List.{list_any}
-use Rattle.std.specs.Option.{ok_or}
 use Rattle.std.specs.Str.{bytes_eq}
 use Rattle.std.proofs.lemmas.Bool.{ltb-false}
 use Rattle.std.proofs.lemmas.List.{length-map, map-append}
@@ -10,7 +9,6 @@ use Rattle.std.proofs.lemmas.List.Sums.{sum_by-append}
 use Rattle.std.proofs.lemmas.List.Elements.{All-push}
 use Rattle.std.proofs.lemmas.List.Quantifiers.{position-Some}
 use Rattle.std.proofs.lemmas.Slice.Eq.{bytes_eq-Decides}
-use Rattle.jm_model.specs.declared.fault.SpecFault.{SpecFault}
 use Rattle.jm_text.specs.declared.token.Token.{Token}
 use Rattle.jm_events.specs.Names.{number_of, with_name}
 use Rattle.jm_fsm.specs.declared.machine.Destination.{Destination}
@@ -27,8 +25,9 @@ use Rattle.jm_fsm.specs.Spelling.{is_state}
 use Rattle.jm_fsm.specs.Names.{is_among}
 use Rattle.jm_reading.specs.Tokens.{name_of}
 use Rattle.jm_reading.specs.Events.{letter_said}
-use Rattle.jm_reading.proofs.ReadLemmas.{then_ok}
-use Rattle.jm_fsm.specs.Faults.{is_alias, aliases_fault, is_reserved, part_name_fault, duplicate_state_fault, states_fault, state_names, destination_named, destination_said, with_listed, with_transition, with_transitions, state_said, with_member, with_members, alias_said, with_part, with_parts}
+use Rattle.jm_reading.proofs.ReadLemmas.{then_ok, said_is, kept_by_each}
+use Rattle.jm_reading.specs.Faults.{with_each}
+use Rattle.jm_fsm.specs.Faults.{is_alias, aliases_fault, is_reserved, part_name_fault, duplicate_state_fault, states_fault, state_names, destination_named, destination_said, with_listed, with_transition, state_said, with_member, alias_said, with_part}
 
 -- ---- counts of names
 
@@ -61,10 +60,17 @@ itself : (name : List ℕ) → bytes_eq name name ≡ true
 itself name = (bytes_eq-Decides name name).1 refl
 
 -- names that stand before one in a list without repeats are others
-pub fresh : (before : List (List ℕ)) (name : List ℕ) (after : List (List ℕ)) → AreDistinct (before ++ name ∷ after) → is_among before name ≡ false
+fresh : (before : List (List ℕ)) (name : List ℕ) (after : List (List ℕ)) → AreDistinct (before ++ name ∷ after) → is_among before name ≡ false
 fresh before name after h =
     let here : cond {A = ℕ} (bytes_eq name name) 1 0 ≡ 1 = ap (λ b. cond {A = ℕ} b 1 0) (itself name) in
     none_among name before (omega (arith, h name, count-append name before (name ∷ after), count-cons (bytes_eq name) name after, here))
+
+with_name_new : (names : List (List ℕ)) (n : List ℕ) → is_among names n ≡ false → with_name names n ≡ names ++ n ∷ []
+with_name_new names n h = rw h refl
+
+-- so one is added behind them
+pub new_name : (before : List (List ℕ)) (name : List ℕ) (after : List (List ℕ)) → AreDistinct (before ++ name ∷ after) → with_name before name ≡ before ++ name ∷ []
+new_name before name after h = with_name_new before name (fresh before name after h)
 
 pub distinct_front : (before after : List (List ℕ)) → AreDistinct (before ++ after) → AreDistinct before
 distinct_front before after h name = omega (arith, h name, count-append name before after)
@@ -74,8 +80,10 @@ module _ {X : Type 0} (name : X → List ℕ) (names all : List (List ℕ)) (xs 
   here : names ++ name x ∷ map name (drop (suc i) xs) ≡ all
   here = ap (λ (l : List X). names ++ map name l) (ap (λ (y : X). y ∷ drop (suc i) xs) read ∙ sym (drop-cons xs i x lt)) ∙ is
 
-  pub other_here : AreDistinct all → is_among names (name x) ≡ false
-  other_here distinct = fresh names (name x) (map name (drop (suc i) xs)) (subst AreDistinct (sym here) distinct)
+  pub added_here : AreDistinct all → with_name names (name x) ++ map name (drop (suc i) xs) ≡ all
+  added_here distinct =
+      ap (λ (l : List (List ℕ)). l ++ map name (drop (suc i) xs)) (new_name names (name x) (map name (drop (suc i) xs)) (subst AreDistinct (sym here) distinct))
+      ∙ append_assoc names (name x ∷ []) (map name (drop (suc i) xs)) ∙ here
 
   pub room_here : length names < length all
   room_here = omega (arith, ap (λ (l : List (List ℕ)). length l) here, length-append names (name x ∷ map name (drop (suc i) xs)))
@@ -113,9 +121,6 @@ apart : (x n f : List ℕ) → bytes_eq x f ≡ true → bytes_eq n f ≡ false 
 apart x n f h k = apart_of (bytes_eq x n) x n f refl h k
 
 module _ (bytes : List ℕ) where
-  with_name_new : (names : List (List ℕ)) (n : List ℕ) → is_among names n ≡ false → with_name names n ≡ names ++ n ∷ []
-  with_name_new names n h = rw h refl
-
   -- no name stands twice among the states and aliases
   once : (names : List (List ℕ)) (parts : List Part) → duplicate_state_fault bytes names parts ≡ None → AreDistinct names → (x : List ℕ) → count_by (bytes_eq x) names + count_by (bytes_eq x) (state_names bytes parts) + count_by (bytes_eq x) (alias_names bytes parts) ≤ 1
   once names [] h distinct x = omega (arith, distinct x)
@@ -195,10 +200,6 @@ module _ (bytes : List ℕ) where
 
 -- ---- what a formula's machine has
 
-ok_is_some : {X : Type 0} (o : Option X) (e : SpecFault) (x : X) → ok_or o e ≡ Ok x → o ≡ Some x
-ok_is_some None e x h = absurd (cc)
-ok_is_some (Some y) e x h = cc
-
 destination_of_name : (b : Bool) (o : Option ℕ) (n : ℕ) (to : Destination) → cond b (Some Fail) (option_map (λ k. State k) o) ≡ Some to → ((k : ℕ) → o ≡ Some k → k < n) → IsDestination n to
 destination_of_name true o n to h k = let e : Fail ≡ to = cc in subst (λ (x : Destination). IsDestination n x) e tt
 destination_of_name false None n to h k = absurd (cc)
@@ -216,7 +217,7 @@ AreMembers n a = All (IsDestination n) a.members
 module _ (bytes : List ℕ) (events states : List (List ℕ)) where
   destination_is : (token : Token) (to : Destination) → destination_said bytes states token ≡ Ok to → IsDestination (length states) to
   destination_is token to h =
-      destination_of_name _ (number_of states (name_of bytes token)) (length states) to (ok_is_some (destination_named states (name_of bytes token)) _ to h)
+      destination_of_name _ (number_of states (name_of bytes token)) (length states) to (said_is (destination_named states (name_of bytes token)) _ to h)
       (λ k e. (position-Some (bytes_eq (name_of bytes token)) states k [] e).0)
 
   -- a state of this name, whose destinations are there
@@ -245,31 +246,24 @@ module _ (bytes : List ℕ) (events states : List (List ℕ)) where
         fallen = λ to k. let same : b.0 ≡ to = cc (k) in subst (λ (y : Destination). IsDestination (length states) y) same (destination_is destination b.0 b.1);
       })
 
-  all_transitions : (name : List ℕ) (s made : StateDefinition) (ts : List TransitionText) → with_transitions bytes events states s ts ≡ Ok made → IsState name s → IsState name made
-  all_transitions name s made [] h is = let e : s ≡ made = cc in subst (λ (x : StateDefinition). IsState name x) e is
-  all_transitions name s made (t ∷ ts) h is =
-      let a = then_ok (with_transition bytes events states s t) _ made h in
-      all_transitions name a.0 made ts a.2 (one_transition name s a.0 t a.1 is)
-
   the_state : (name : Token) (made : StateDefinition) (ts : List TransitionText) → state_said bytes events states name ts ≡ Ok made → IsState (name_of bytes name) made
-  the_state name made ts h = all_transitions (name_of bytes name) _ made ts h (record { named = refl; listed = λ k d lt. absurd (omega arith); fallen = λ to k. absurd (cc) })
+  the_state name made ts h =
+      kept_by_each (with_transition bytes events states) (IsState (name_of bytes name)) (one_transition (name_of bytes name)) _ made ts h
+      (record { named = refl; listed = λ k d lt. absurd (omega arith); fallen = λ to k. absurd (cc) })
 
   record IsAlias (name : List ℕ) (a : AliasDefinition) : Type 0 where
     named : a.name ≡ name
     members : AreMembers (length states) a
 
-  all_members : (name : List ℕ) (a made : AliasDefinition) (ts : List Token) → with_members bytes states a ts ≡ Ok made → IsAlias name a → IsAlias name made
-  all_members name a made [] h is = let e : a ≡ made = cc in subst (λ (x : AliasDefinition). IsAlias name x) e is
-  all_members name a made (t ∷ ts) h is =
-      let one = then_ok (with_member bytes states a t) _ made h in
-      let b = then_ok (destination_said bytes states t) _ one.0 one.1 in
+  one_member : (name : List ℕ) (a made : AliasDefinition) (t : Token) → with_member bytes states a t ≡ Ok made → IsAlias name a → IsAlias name made
+  one_member name a made t h is =
+      let b = then_ok (destination_said bytes states t) _ made h in
       let x : AliasDefinition = record a { members = a.members ++ b.0 ∷ [] } in
-      let e : x ≡ one.0 = cc (b.2) in
-      all_members name one.0 made ts one.2
-      (subst (λ (y : AliasDefinition). IsAlias name y) e (record { named = is.named; members = All-push (IsDestination (length states)) a.members b.0 is.members (destination_is t b.0 b.1) }))
+      let e : x ≡ made = cc (b.2) in
+      subst (λ (y : AliasDefinition). IsAlias name y) e (record { named = is.named; members = All-push (IsDestination (length states)) a.members b.0 is.members (destination_is t b.0 b.1) })
 
   the_alias : (name : Token) (made : AliasDefinition) (ts : List Token) → alias_said bytes states name ts ≡ Ok made → IsAlias (name_of bytes name) made
-  the_alias name made ts h = all_members (name_of bytes name) _ made ts h (record { named = refl; members = λ k d lt. absurd (omega arith) })
+  the_alias name made ts h = kept_by_each (with_member bytes states) (IsAlias (name_of bytes name)) (one_member (name_of bytes name)) _ made ts h (record { named = refl; members = λ k d lt. absurd (omega arith) })
 
   -- a machine with these names, whose destinations are there
   record IsMade (m : StateMachine) (named aliased : List (List ℕ)) : Type 0 where
@@ -297,7 +291,7 @@ module _ (bytes : List ℕ) (events states : List (List ℕ)) where
     members = All-push (AreMembers (length states)) m.aliases a made.members is.members;
   }
 
-  all_parts : (m made : StateMachine) (parts : List Part) (named aliased : List (List ℕ)) → with_parts bytes events states m parts ≡ Ok made → IsMade m named aliased → IsMade made (named ++ state_names bytes parts) (aliased ++ alias_names bytes parts)
+  all_parts : (m made : StateMachine) (parts : List Part) (named aliased : List (List ℕ)) → with_each (with_part bytes events states) m parts ≡ Ok made → IsMade m named aliased → IsMade made (named ++ state_names bytes parts) (aliased ++ alias_names bytes parts)
   all_parts m made [] named aliased h is =
       let e : m ≡ made = cc in
       subst (λ (l : List (List ℕ)). IsMade made l (aliased ++ [])) (sym (append-nil named))
@@ -321,7 +315,7 @@ module _ (bytes : List ℕ) (events states : List (List ℕ)) where
 
 -- what a formula without faults says is a machine
 pub is_machine : (bytes : List ℕ) (events : List (List ℕ)) (parts : List Part) (made : StateMachine) → list_any is_state parts ≡ true → aliases_fault parts ≡ None → part_name_fault bytes parts ≡ None → duplicate_state_fault bytes [] parts ≡ None → states_fault parts ≡ None
-    → with_parts bytes events (state_names bytes parts) (record { states = []; aliases = [] }) parts ≡ Ok made → IsMachine made
+    → with_each (with_part bytes events (state_names bytes parts)) (record { states = []; aliases = [] }) parts ≡ Ok made → IsMachine made
 is_machine bytes events parts made some aliases names distinct states h =
     let is = all_parts bytes events (state_names bytes parts) (record { states = []; aliases = [] }) made parts [] [] h
     (record { states_are = refl; aliases_are = refl; listed = λ k d lt. absurd (omega arith); fallen = λ k d lt. absurd (omega arith); members = λ k d lt. absurd (omega arith) }) in

@@ -14,8 +14,8 @@ use Rattle.jm_fsm.specs.declared.formula.Part.TheVariants.{Declaration, Alias}
 use Rattle.jm_fsm.specs.Machines.{StateDefinition, AliasDefinition, StateMachine}
 use Rattle.jm_reading.specs.Tokens.{name_of}
 use Rattle.jm_reading.specs.Events.{letter_said}
-use Rattle.jm_reading.proofs.ReadLemmas.{IsOther, FailsOther, other_or, other_if, other_event, other_then, other_name, other_of}
-use Rattle.jm_fsm.specs.Faults.{name_token, is_grammar_word, part_name_fault, duplicate_state_fault, duplicate_transition_fault, part_transitions_fault, transitions_fault, destination_said, with_transition, with_transitions, with_member, with_members, with_part, with_parts, state_names, machine_of, first_fault}
+use Rattle.jm_reading.proofs.ReadLemmas.{IsOther, FailsOther, other_or, other_if, other_event, other_then, other_name, other_of, other_each}
+use Rattle.jm_fsm.specs.Faults.{name_token, is_grammar_word, part_name_fault, duplicate_state_fault, duplicate_transition_fault, part_transitions_fault, transitions_fault, destination_said, with_transition, state_said, alias_said, with_member, with_part, state_names, machine_of, first_fault}
 use Rattle.jm_fsm.specs.Spelling.{Spells}
 use Rattle.jm_fsm.specs.Rules.{formula_at}
 use Rattle.jm_reading.specs.Answers.{FailsAt}
@@ -50,21 +50,12 @@ module _ (bytes : List ℕ) (events states : List (List ℕ)) where
   other_one s (On event destination) = other_then (letter_said bytes events event) _ (other_name _ event.line) (λ letter. other_then (destination_said bytes states destination) _ (other_name _ destination.line) (λ to. tt))
   other_one s (Fallback word destination) = other_then (destination_said bytes states destination) _ (other_name _ destination.line) (λ to. tt)
 
-  other_all : (s : StateDefinition) (ts : List TransitionText) → FailsOther (with_transitions bytes events states s ts)
-  other_all s [] = tt
-  other_all s (t ∷ ts) = other_then (with_transition bytes events states s t) _ (other_one s t) (λ more. other_all more ts)
-
-  other_members : (a : AliasDefinition) (ts : List Token) → FailsOther (with_members bytes states a ts)
-  other_members a [] = tt
-  other_members a (t ∷ ts) = other_then (with_member bytes states a t) _ (other_then (destination_said bytes states t) _ (other_name _ t.line) (λ to. tt)) (λ more. other_members more ts)
+  other_member : (a : AliasDefinition) (t : Token) → FailsOther (with_member bytes states a t)
+  other_member a t = other_then (destination_said bytes states t) _ (other_name _ t.line) (λ to. tt)
 
   other_in : (m : StateMachine) (p : Part) → FailsOther (with_part bytes events states m p)
-  other_in m (Declaration name ts) = other_then (with_transitions bytes events states _ ts) _ (other_all _ ts) (λ s. tt)
-  other_in m (Alias name ms) = other_then (with_members bytes states _ ms) _ (other_members _ ms) (λ a. tt)
-
-  other_parts : (m : StateMachine) (ps : List Part) → FailsOther (with_parts bytes events states m ps)
-  other_parts m [] = tt
-  other_parts m (p ∷ ps) = other_then (with_part bytes events states m p) _ (other_in m p) (λ more. other_parts more ps)
+  other_in m (Declaration name ts) = other_then (state_said bytes events states name ts) _ (other_each (with_transition bytes events states) other_one _ ts) (λ s. tt)
+  other_in m (Alias name ms) = other_then (alias_said bytes states name ms) _ (other_each (with_member bytes states) other_member _ ms) (λ a. tt)
 
 other_fault : (bytes : List ℕ) (table : EventDefinitions) (parts : List Part) → IsOther (first_fault bytes table parts)
 unfolding first_fault machine_of
@@ -75,7 +66,7 @@ other_fault bytes table parts =
     (other_or _ _ (other_state bytes [] parts)
     (other_or _ _ (other_transitions bytes parts)
     (other_or _ _ (other_if _ _ None tt tt)
-    (other_of _ (other_parts bytes (event_names table) (state_names bytes parts) (record { states = []; aliases = [] }) parts)))))))
+    (other_of _ (other_each (with_part bytes (event_names table) (state_names bytes parts)) (other_in bytes (event_names table) (state_names bytes parts)) (record { states = []; aliases = [] }) parts)))))))
 
 module _ (bytes : List ℕ) (tokens : List Token) (table : EventDefinitions) (parts : List Part) (spelled : formula_at bytes tokens ≡ Some parts) where
   pub read_err : (r : Result StateMachine SpecError) → Checks r (first_fault bytes table parts) → IfErr r (IsRefused bytes tokens table)

@@ -9,7 +9,7 @@ use Rattle.jm_events.specs.Names.{number_of}
 use Rattle.jm_events.specs.Events.{EventDefinitions, event_names}
 use Rattle.jm_reading.specs.Tokens.{name_of}
 use Rattle.jm_reading.specs.Events.{letter_said}
-use Rattle.jm_reading.proofs.ReadLemmas.{then_ok}
+use Rattle.jm_reading.proofs.ReadLemmas.{then_ok, said_is}
 use Rattle.jm_fsm.specs.declared.machine.Destination.{Destination}
 use Rattle.jm_fsm.specs.declared.machine.Destination.TheVariants.{Fail}
 use Rattle.jm_fsm.specs.declared.machine.Transition.{Transition}
@@ -18,7 +18,8 @@ use Rattle.jm_fsm.specs.declared.formula.TransitionText.TheVariants.{On, Fallbac
 use Rattle.jm_fsm.specs.declared.formula.Part.{Part}
 use Rattle.jm_fsm.specs.declared.formula.Part.TheVariants.{Declaration, Alias}
 use Rattle.jm_fsm.specs.Machines.{StateDefinition, StateMachine}
-use Rattle.jm_fsm.specs.Faults.{destination_named, destination_said, with_listed, with_transition, with_transitions, state_said, alias_said, with_part, with_parts, state_names, machine_of}
+use Rattle.jm_reading.specs.Faults.{with_each}
+use Rattle.jm_fsm.specs.Faults.{destination_named, destination_said, with_listed, with_transition, state_said, alias_said, with_part, state_names, machine_of}
 use Rattle.jm_fsm.specs.Written.{arrow_of, default_of, IsAsWritten, AreAsWritten}
 
 module _ {X : Type 0} where
@@ -35,10 +36,6 @@ module _ {X : Type 0} where
   or_one true (Some y) p x = refl
   or_one false None p x = refl
   or_one false (Some y) p x = refl
-
-  some_of : (o : Option X) (e : SpecFault) (x : X) → ok_or o e ≡ Ok x → o ≡ Some x
-  some_of None e x h = absurd (cc)
-  some_of (Some y) e x h = cc
 
 letter_is : (o : Option ℕ) (e : SpecFault) (x : Letter) → ok_or (option_map (λ (k : ℕ). let l : Letter = record { 0 = k } in l) o) e ≡ Ok x → o ≡ Some x.0
 letter_is None e x h = absurd (cc)
@@ -68,7 +65,7 @@ module _ (bytes : List ℕ) (events states : List (List ℕ)) where
     fallen_tells : Tells (λ (y : Destination). y) (default_of ts) fallen
     named : made.name ≡ s.name
 
-  goes : (letter : ℕ) (ts : List TransitionText) (s made : StateDefinition) → with_transitions bytes events states s ts ≡ Ok made → Goes letter s made ts
+  goes : (letter : ℕ) (ts : List TransitionText) (s made : StateDefinition) → with_each (with_transition bytes events states) s ts ≡ Ok made → Goes letter s made ts
   goes letter [] s made h =
       let same : made ≡ s = cc in record {
         listed = None;
@@ -92,7 +89,7 @@ module _ (bytes : List ℕ) (events states : List (List ℕ)) where
         listed = cond (b.0.0 == letter) (Some t) rest.listed;
         listed_is = rest.listed_is ∙ ap (λ (o : Option Transition). option_or o rest.listed) here ∙ or_one (b.0.0 == letter) _ rest.listed t;
         listed_tells = subst (λ (o : Option ℕ). Tells (λ (y : Transition). y.destination) (cond (unwrap_or (option_map (λ (k : ℕ). k == letter) o) false) (Some destination) (arrow_of bytes events ts letter)) (cond (b.0.0 == letter) (Some t) rest.listed)) (sym number)
-            (tells_one (b.0.0 == letter) destination (arrow_of bytes events ts letter) t rest.listed (some_of (destination_named states (name_of bytes destination)) _ c.0 c.1) rest.listed_tells);
+            (tells_one (b.0.0 == letter) destination (arrow_of bytes events ts letter) t rest.listed (said_is (destination_named states (name_of bytes destination)) _ c.0 c.1) rest.listed_tells);
         fallen = rest.fallen;
         fallen_is = rest.fallen_is ∙ ap (λ (x : StateDefinition). option_or rest.fallen x.fallback) same;
         fallen_tells = rest.fallen_tells;
@@ -109,7 +106,7 @@ module _ (bytes : List ℕ) (events states : List (List ℕ)) where
         listed_tells = rest.listed_tells;
         fallen = option_or rest.fallen (Some c.0);
         fallen_is = rest.fallen_is ∙ ap (λ (x : StateDefinition). option_or rest.fallen x.fallback) same ∙ sym (or_some rest.fallen s.fallback c.0);
-        fallen_tells = tells_last (default_of ts) destination c.0 rest.fallen (some_of (destination_named states (name_of bytes destination)) _ c.0 c.1) rest.fallen_tells;
+        fallen_tells = tells_last (default_of ts) destination c.0 rest.fallen (said_is (destination_named states (name_of bytes destination)) _ c.0 c.1) rest.fallen_tells;
         named = rest.named ∙ ap (λ (x : StateDefinition). x.name) same;
       }
 
@@ -130,7 +127,7 @@ module _ (bytes : List ℕ) (events states : List (List ℕ)) where
         leads_so (arrow_of bytes events ts letter) (default_of ts) all.listed _ all.fallen _ all.listed_is (all.fallen_is ∙ or_none all.fallen) all.listed_tells all.fallen_tells;
   }
 
-  parts_written : (parts : List Part) (m made : StateMachine) → with_parts bytes events states m parts ≡ Ok made → (ss : List StateDefinition) × (made.states ≡ m.states ++ ss) × AreAsWritten bytes events states parts ss
+  parts_written : (parts : List Part) (m made : StateMachine) → with_each (with_part bytes events states) m parts ≡ Ok made → (ss : List StateDefinition) × (made.states ≡ m.states ++ ss) × AreAsWritten bytes events states parts ss
   parts_written [] m made h = let same : made ≡ m = cc in ([], ap (λ (x : StateMachine). x.states) same ∙ sym (append-nil m.states), refl)
   parts_written (Declaration name ts ∷ ps) m made h =
       let a = then_ok (with_part bytes events states m (Declaration name ts)) _ made h in
@@ -148,7 +145,7 @@ module _ (bytes : List ℕ) (events states : List (List ℕ)) where
       (rest.0, rest.1 ∙ ap (λ (x : StateMachine). x.states ++ rest.0) same, rest.2)
 
   -- the states of the machine that a formula says
-  states_written : (parts : List Part) (made : StateMachine) → with_parts bytes events states (record { states = []; aliases = [] }) parts ≡ Ok made → AreAsWritten bytes events states parts made.states
+  states_written : (parts : List Part) (made : StateMachine) → with_each (with_part bytes events states) (record { states = []; aliases = [] }) parts ≡ Ok made → AreAsWritten bytes events states parts made.states
   states_written parts made h =
       let all = parts_written parts (record { states = []; aliases = [] }) made h in
       subst (λ (ss : List StateDefinition). AreAsWritten bytes events states parts ss) (sym all.1) all.2

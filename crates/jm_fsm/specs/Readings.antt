@@ -1,5 +1,6 @@
 -- What a reader of a formula answers.
-use Rattle.std.specs.Prelude.{ℕ, List}
+use Rattle.std.specs.Prelude.{List}
+use Rattle.jm_model.specs.Words.{Text}
 use Rattle.jm_model.specs.declared.fault.SpecError.{SpecError}
 use Rattle.jm_text.specs.declared.token.Token.{Token}
 use Rattle.jm_events.specs.Events.{EventDefinitions}
@@ -8,10 +9,11 @@ use Rattle.jm_fsm.specs.Machines.{StateMachine}
 use Rattle.jm_fsm.specs.Spelling.{Spells}
 use Rattle.jm_fsm.specs.Faults.{machine_of, first_fault}
 
--- the tokens spell a formula without a fault, which says this machine
-abbrev pub IsReadFrom : List ℕ → List Token → EventDefinitions → StateMachine → Type 0
-IsReadFrom bytes tokens table = IsReadBy (Spells bytes tokens) (first_fault bytes table) (machine_of bytes table)
+module _ (bytes : Text) (tokens : List Token) (table : EventDefinitions) where
+  -- the tokens spell a formula without a fault, which says this machine
+  abbrev pub IsReadFrom : StateMachine → Type 0
+  IsReadFrom = IsReadBy (Spells bytes tokens) (first_fault bytes table) (machine_of bytes table)
 
--- the tokens spell no formula, or one with this first fault, unless memory is short
-abbrev pub IsRefused : List ℕ → List Token → EventDefinitions → SpecError → Type 0
-IsRefused bytes tokens table = IsRefusedBy (Spells bytes tokens) (first_fault bytes table)
+  -- the tokens spell no formula, or one with this first fault, unless memory is short
+  abbrev pub IsRefused : SpecError → Type 0
+  IsRefused = IsRefusedBy (Spells bytes tokens) (first_fault bytes table)

@@ -1,6 +1,7 @@
 -- What each rule of the grammar reads at the front of a list of tokens, where the next token or two decide.
-use Rattle.std.specs.Prelude.{ℕ, Bool, not, ◌&&◌, List, [], ◌∷◌, Option, Some, None, codes, if◌then◌else◌}
+use Rattle.std.specs.Prelude.{Bool, not, ◌&&◌, List, [], Option, Some, None, codes, if◌then◌else◌}
 use Rattle.std.specs.List.{list_any}
+use Rattle.jm_model.specs.Words.{Text}
 use Rattle.jm_text.specs.declared.token.Token.{Token}
 use Rattle.jm_fsm.specs.declared.formula.TransitionText.{TransitionText}
 use Rattle.jm_fsm.specs.declared.formula.TransitionText.TheVariants.{On, Fallback}
@@ -8,7 +9,7 @@ use Rattle.jm_fsm.specs.declared.formula.Part.{Part}
 use Rattle.jm_fsm.specs.declared.formula.Part.TheVariants.{Declaration, Alias}
 use Rattle.jm_fsm.specs.Spelling.{is_state}
 use Rattle.jm_reading.specs.Reading.{◌>>=◌, is_mark_at, is_word_at, is_left, mark_at, name_at, word_at}
-use Rattle.jm_reading.specs.Taking.{Rule, many_at}
+use Rattle.jm_reading.specs.Taking.{Rule, many_at, more_at, parted_at}
 
 -- "default" NAME
 unfoldable pub fallback_at : Rule TransitionText
@@ -26,7 +27,7 @@ listed_at bytes tokens = do
   Some (On event.0 destination.0, destination.1)
 
 -- `default` begins a default, if no `->` stands behind it
-abbrev pub begins_fallback : List ℕ → List Token → Bool
+abbrev pub begins_fallback : Text → List Token → Bool
 begins_fallback bytes tokens =
     is_word_at bytes tokens 0 (codes "default") && not (is_mark_at bytes tokens 1 (codes "->"))
 
@@ -34,7 +35,7 @@ unfoldable pub transition_at : Rule TransitionText
 transition_at bytes tokens = if begins_fallback bytes tokens then fallback_at bytes tokens else listed_at bytes tokens
 
 -- [ "," ]
-unfoldable pub comma_at : List ℕ → List Token → Option (List Token)
+unfoldable pub comma_at : Text → List Token → Option (List Token)
 comma_at bytes tokens = if is_mark_at bytes tokens 0 (codes ",") then mark_at bytes (codes ",") tokens else Some tokens
 
 -- Transition [ "," ]
@@ -45,7 +46,7 @@ entry_at bytes tokens = do
   Some (transition.0, rest)
 
 -- a `]` ends them
-abbrev pub is_inside : List ℕ → List Token → Bool
+abbrev pub is_inside : Text → List Token → Bool
 is_inside bytes tokens = not (is_mark_at bytes tokens 0 (codes "]"))
 
 -- State = NAME "[" { Transition [ "," ] } "]"
@@ -58,12 +59,10 @@ declaration_at bytes tokens = do
   Some (Declaration name.0 entries.0, rest)
 
 -- "," NAME
-unfoldable pub more_member_at : Rule Token
-more_member_at bytes tokens = do
-  head ← mark_at bytes (codes ",") tokens
-  name_at bytes head
+abbrev pub more_member_at : Rule Token
+more_member_at = more_at (codes ",") name_at
 
-abbrev pub begins_more_member : List ℕ → List Token → Bool
+abbrev pub begins_more_member : Text → List Token → Bool
 begins_more_member bytes tokens = is_mark_at bytes tokens 0 (codes ",")
 
 -- Alias = "alias" NAME "=" NAME { "," NAME }
@@ -72,12 +71,11 @@ alias_at bytes tokens = do
   word ← word_at bytes (codes "alias") tokens
   name ← name_at bytes word.1
   inner ← mark_at bytes (codes "=") name.1
-  first ← name_at bytes inner
-  members ← many_at begins_more_member more_member_at (first.0 ∷ []) bytes first.1
+  members ← parted_at (codes ",") name_at begins_more_member bytes inner
   Some (Alias name.0 members.0, members.1)
 
 -- `alias` begins an alias, if no `[` stands behind it
-abbrev pub begins_alias : List ℕ → List Token → Bool
+abbrev pub begins_alias : Text → List Token → Bool
 begins_alias bytes tokens = is_word_at bytes tokens 0 (codes "alias") && not (is_mark_at bytes tokens 1 (codes "["))
 
 -- State | Alias
@@ -88,7 +86,7 @@ part_at bytes tokens = if begins_alias bytes tokens then alias_at bytes tokens e
 abbrev pub with_a_state : List Part → Option (List Part)
 with_a_state parts = if list_any is_state parts then Some parts else None
 
-unfoldable pub formula_at : List ℕ → List Token → Option (List Part)
+unfoldable pub formula_at : Text → List Token → Option (List Part)
 formula_at bytes tokens = do
   parts ← many_at is_left part_at [] bytes tokens
   with_a_state parts.0

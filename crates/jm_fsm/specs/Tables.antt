@@ -1,5 +1,6 @@
 -- The table that a state machine is compiled to.
 use Rattle.std.specs.Prelude.{ℕ, ◌≡◌, ◌<◌, ◌↔◌, List, length, Some, IsSomeAnd, slice_get}
+use Rattle.jm_model.specs.Words.{Word}
 use Rattle.jm_table.specs.Explorations.{IsWithoutRepeats}
 use Rattle.jm_table.specs.Tables.{Transitions, IsInGroup, IsWord, state_after_of}
 use Rattle.jm_fsm.specs.declared.machine.Destination.{Destination}
@@ -13,9 +14,9 @@ use Rattle.jm_fsm.specs.Categories.{category_count, IsMember, FsmHolds}
 pub record HasStates (m : StateMachine) (t : Transitions) : Type 0 where
   pub destinations : List Destination
   pub count : length destinations ≡ t.states
-  pub stands : (word : List ℕ) → IsWord t word
+  pub stands : (word : Word) → IsWord t word
       → slice_get destinations (state_after_of t word) ≡ Some (fsm_state_after m word)
-  pub reached : (state : ℕ) → state < t.states → (word : List ℕ) × IsWord t word × (state_after_of t word ≡ state)
+  pub reached : (state : ℕ) → state < t.states → (word : Word) × IsWord t word × (state_after_of t word ≡ state)
   pub distinct : IsWithoutRepeats destinations
 
 -- The table after has that many groups more than the table before, which had none: the states of the group of a
@@ -32,5 +33,5 @@ pub record HasGroups (m : StateMachine) (nodes : List Destination) (count : ℕ)
 -- after each word of the table's letters the groups of the state are the categories that hold of the word
 abbrev pub IsCompiled : StateMachine → Transitions → Type 0
 IsCompiled m t =
-    (word : List ℕ) → IsWord t word → (category : ℕ) → category < category_count m
+    (word : Word) → IsWord t word → (category : ℕ) → category < category_count m
     → IsInGroup t (state_after_of t word) category ↔ FsmHolds m category word

@@ -1,6 +1,7 @@
 -- The states of a machine by what is written of them in the formula, with no word of how they are made.
 use Rattle.std.specs.Prelude.{ℕ, ◌≡◌, ◌==◌, false, List, [], ◌∷◌, Option, Some, None, MatchOption, option_map, unwrap_or, if◌then◌else◌}
 use Rattle.std.specs.Option.{option_or}
+use Rattle.jm_model.specs.Words.{Text}
 use Rattle.jm_text.specs.declared.token.Token.{Token}
 use Rattle.jm_reading.specs.Tokens.{name_of}
 use Rattle.jm_events.specs.Names.{number_of}
@@ -13,23 +14,24 @@ use Rattle.jm_fsm.specs.Faults.{destination_named}
 use Rattle.jm_fsm.specs.Machines.{StateDefinition}
 use Rattle.jm_fsm.specs.Meanings.{destination_of}
 
--- the name behind the arrow of the event that has the letter, if it is written
-abbrev pub arrow_of : List ℕ → List (List ℕ) → List TransitionText → ℕ → Option Token
-arrow_of bytes events [] letter = None
-arrow_of bytes events (On event destination ∷ ts) letter =
-    if unwrap_or (option_map (λ (k : ℕ). k == letter) (number_of events (name_of bytes event))) false
-    then Some destination else arrow_of bytes events ts letter
-arrow_of bytes events (Fallback word destination ∷ ts) letter = arrow_of bytes events ts letter
-
 -- the name behind `default`, if it is written
 abbrev pub default_of : List TransitionText → Option Token
 default_of [] = None
 default_of (On event destination ∷ ts) = default_of ts
 default_of (Fallback word destination ∷ ts) = option_or (default_of ts) (Some destination)
 
+module _ (bytes : Text) (events : List Text) where
+  -- the name behind the arrow of the event that has the letter, if it is written
+  abbrev pub arrow_of : List TransitionText → ℕ → Option Token
+  arrow_of [] letter = None
+  arrow_of (On event destination ∷ ts) letter =
+      if unwrap_or (option_map (λ (k : ℕ). k == letter) (number_of events (name_of bytes event))) false
+      then Some destination else arrow_of ts letter
+  arrow_of (Fallback word destination ∷ ts) letter = arrow_of ts letter
+
 -- A state is as it is written: it has this name, and each letter leads to the state whose name is behind the arrow of
 -- its event; without an arrow, to the state whose name is behind `default`; and without that, to `fail`.
-pub record IsAsWritten (bytes : List ℕ) (events states : List (List ℕ)) (name : Token) (ts : List TransitionText)
+pub record IsAsWritten (bytes : Text) (events states : List Text) (name : Token) (ts : List TransitionText)
     (s : StateDefinition) : Type 0 where
   pub named : s.name ≡ name_of bytes name
   pub leads : (letter : ℕ)
@@ -39,7 +41,7 @@ pub record IsAsWritten (bytes : List ℕ) (events states : List (List ℕ)) (nam
       (λ destination. destination_named states (name_of bytes destination) ≡ Some (destination_of s letter))
 
 -- the states are those that are declared, in their order, each as it is written
-module _ (bytes : List ℕ) (events states : List (List ℕ)) where
+module _ (bytes : Text) (events states : List Text) where
   abbrev pub AreAsWritten : List Part → List StateDefinition → Type 0
   AreAsWritten [] ss = ss ≡ []
   AreAsWritten (Declaration name ts ∷ ps) [] = ⊥

@@ -3,16 +3,16 @@ ghost use Rattle.std.specs.Prelude.{◌≡◌, ◌≤◌, [], ◌∷◌, ◌++�
 ghost use Rattle.std.specs.List.{list_any};
 ghost use Rattle.jm_events.specs.Events.{event_names};
 ghost use Rattle.jm_fsm.specs.Spelling.{is_state};
-ghost use Rattle.jm_fsm.specs.Faults.{state_names, destination_said, with_transition, with_transitions, with_member, with_members, state_said, alias_said, with_part, with_parts, machine_of, aliases_fault, part_name_fault, duplicate_state_fault, states_fault, first_fault};
+ghost use Rattle.jm_fsm.specs.Faults.{state_names, destination_said, with_transition, with_member, state_said, alias_said, with_part, machine_of, aliases_fault, part_name_fault, duplicate_state_fault, states_fault, first_fault};
 ghost use Rattle.jm_fsm.specs.Categories.{AreDistinct};
-ghost use Rattle.jm_reading.specs.Faults.{Checks, Makes, Answers};
+ghost use Rattle.jm_reading.specs.Faults.{Checks, Makes, Answers, with_each};
 
 use crate::faults::{self, Words};
 use crate::formula::{Part, TransitionText};
 use crate::machine::{Alias, Destination, Draft, Fsm, State, Transition};
 use jm_events::{EventTable, Names};
 use jm_model::{SpecError, SpecFault};
-use jm_reading::{event_names, letter_of, name_of};
+use jm_reading::{add_name, event_names, letter_of, name_of};
 use jm_text::Token;
 use std::alloc::Global;
 
@@ -72,7 +72,7 @@ fn add_transitions(
 ) -> Result<(), SpecError>
     requires { length states.now ≤ 1023 }
     ensures { Makes result state.new
-        (with_transitions bytes.now (event_names table.now) states.now state.old transitions.now) }
+        (with_each (with_transition bytes.now (event_names table.now) states.now) state.old transitions.now) }
 {
     for transition in transitions {
         add_transition(bytes, table, states, state, *transition)?;
@@ -101,7 +101,7 @@ fn add_members(
     members: &[Token],
 ) -> Result<(), SpecError>
     requires { length states.now ≤ 1023 }
-    ensures { Makes result alias.new (with_members bytes.now states.now alias.old members.now) }
+    ensures { Makes result alias.new (with_each (with_member bytes.now states.now) alias.old members.now) }
 {
     for member in members {
         add_member(bytes, states, alias, *member)?;
@@ -175,7 +175,8 @@ fn add_parts(
     parts: &[Part],
 ) -> Result<(), SpecError>
     requires { length states.now ≤ 1023 }
-    ensures { Makes result draft.new (with_parts bytes.now (event_names table.now) states.now draft.old parts.now) }
+    ensures { Makes result draft.new
+        (with_each (with_part bytes.now (event_names table.now) states.now) draft.old parts.now) }
 {
     for part in parts {
         add_part(alloc, bytes, table, states, draft, part)?;
@@ -190,7 +191,7 @@ fn add_state_name(bytes: &[u8], names: &mut Names, part: &Part) -> Result<(), Sp
     ensures err { IfErr result (λ e. e ≡ SpecError.NoMemory) }
 {
     match part {
-        Part::Declaration { name, .. } => faults::add_new(names, name_of(bytes, *name)),
+        Part::Declaration { name, .. } => add_name(names, name_of(bytes, *name)),
         Part::Alias { .. } => Ok(()),
     }
 }

@@ -77,15 +77,6 @@ fn is_among(names: &Names, name: &str) -> bool
     names.find(name).is_some()
 }
 
-/// Adds a name that isn't among others.
-pub fn add_new(names: &mut Names, name: &str) -> Result<(), SpecError>
-    requires { is_among names.old name.now ≡ false }
-    ensures ok { OnOk result (names.new ≡ names.old ++ name.now ∷ []) }
-    ensures err { IfErr result (λ e. e ≡ SpecError.NoMemory) }
-{
-    add_name(names, name)
-}
-
 /// No state or alias has the name of an earlier one.
 pub fn duplicate_states(alloc: Global, bytes: &[u8], parts: &[Part]) -> Result<(), SpecError>
     ensures { Checks result (duplicate_state_fault bytes.now [] parts.now) }

@@ -28,5 +28,6 @@ pub fn one_reading()
 pub fn states_as_written()
     ensures { (bytes : List ℕ) (tokens : List Token) (table : EventDefinitions) (m : StateMachine)
         → IsReadFrom bytes tokens table m →
-        (parts : List Part) × Spells bytes tokens parts × AreAsWritten bytes (event_names table) (state_names bytes parts) parts m.states }
+        (parts : List Part) × Spells bytes tokens parts
+        × AreAsWritten bytes (event_names table) (state_names bytes parts) parts m.states }
 {}

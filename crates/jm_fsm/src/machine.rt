@@ -2,7 +2,6 @@ ghost use Rattle.std.specs.Prelude.{ℕ, ◌≡◌, ◌<◌, ◌≤◌, ◌+◌,
 ghost use Rattle.jm_fsm.specs.WellFormed.{IsMachine};
 ghost use Rattle.jm_fsm.specs.Categories.{IsMember, AreDistinct, category_names, category_count};
 ghost use Rattle.jm_fsm.specs.Meanings.{destination_of, next_destination};
-ghost use Rattle.jm_fsm.specs.Names.{is_among};
 
 use jm_events::Names;
 use jm_model::{Letter, NoMemory, SpecError};
@@ -50,7 +49,11 @@ impl Model for State {
 
     ghost Value = { StateDefinition };
 
-    ghost view = { λ s. record { name = string_bytes s.name; transitions = s.transitions.items; fallback = s.fallback } };
+    ghost view = { λ s. record {
+      name = string_bytes s.name;
+      transitions = s.transitions.items;
+      fallback = s.fallback;
+    } };
 }
 
 impl State {
@@ -65,12 +68,6 @@ impl State {
             transitions: Vec::new(alloc),
             fallback: None,
         })
-    }
-
-    fn name(&self) -> &str
-        ensures { result.now ≡ self.now.name }
-    {
-        self.name.as_str()
     }
 
     /// Lists one more transition.
@@ -132,12 +129,6 @@ impl Alias {
         })
     }
 
-    fn name(&self) -> &str
-        ensures { result.now ≡ self.now.name }
-    {
-        self.name.as_str()
-    }
-
     /// Adds a member.
     pub(crate) fn add(&mut self, member: Destination) -> Result<(), SpecError>
         ensures ok { OnOk result (self.new ≡ record self.old { members = self.old.members ++ member ∷ [] }) }
@@ -186,7 +177,6 @@ impl Draft {
         }
     }
 
-    /// Adds a state.
     pub(crate) fn add_state(&mut self, state: State) -> Result<(), SpecError>
         ensures ok { OnOk result (self.new ≡ record self.old { states = self.old.states ++ state ∷ [] }) }
         ensures err { IfErr result (λ e. e ≡ SpecError.NoMemory) }
@@ -195,7 +185,6 @@ impl Draft {
         Ok(())
     }
 
-    /// Adds an alias.
     pub(crate) fn add_alias(&mut self, alias: Alias) -> Result<(), SpecError>
         ensures ok { OnOk result (self.new ≡ record self.old { aliases = self.old.aliases ++ alias ∷ [] }) }
         ensures err { IfErr result (λ e. e ≡ SpecError.NoMemory) }
@@ -241,9 +230,9 @@ impl Fsm {
         ensures few { IfOk result (λ names. length names ≤ 1280) }
     {
         let mut names = Names::new(alloc);
-        add_states(&mut names, self.states.as_slice())?;
-        add_aliases(&mut names, self.aliases.as_slice())?;
-        add_name(&mut names, "fail")?;
+        add_names(&mut names, self.states.as_slice())?;
+        add_names(&mut names, self.aliases.as_slice())?;
+        names.add("fail")?;
         Ok(names)
     }
 
@@ -284,36 +273,40 @@ impl Fsm {
     }
 }
 
-/// Adds a name that isn't among others.
-fn add_name(names: &mut Names, name: &str) -> Result<(), NoMemory>
-    requires other { is_among names.old name.now ≡ false }
-    requires room { length names.old < 2 ^ 32 - 1 }
-    ensures { OnOk result (names.new ≡ names.old ++ name.now ∷ []) }
-{
-    names.add(name)?;
-    Ok(())
+/// What has a name.
+trait Named {
+    ghost use Rattle.jm_model.specs.Words.{Text};
+
+    ghost called: { Self → Text };
+
+    fn name(&self) -> &str
+        ensures { result.now ≡ called self.now };
 }
 
-/// Adds the names of states.
-fn add_states(names: &mut Names, states: &[State]) -> Result<(), NoMemory>
-    requires distinct { AreDistinct (names.old ++ map (λ s. s.name) states.now) }
-    requires room { length names.old + length states.now < 2 ^ 32 - 1 }
-    ensures { OnOk result (names.new ≡ names.old ++ map (λ s. s.name) states.now) }
-{
-    for state in states {
-        add_name(names, state.name())?;
+impl Named for State {
+    ghost called = { λ s. s.name };
+
+    fn name(&self) -> &str {
+        self.name.as_str()
     }
-    Ok(())
 }
 
-/// Adds the names of aliases.
-fn add_aliases(names: &mut Names, aliases: &[Alias]) -> Result<(), NoMemory>
-    requires distinct { AreDistinct (names.old ++ map (λ a. a.name) aliases.now) }
-    requires room { length names.old + length aliases.now < 2 ^ 32 - 1 }
-    ensures { OnOk result (names.new ≡ names.old ++ map (λ a. a.name) aliases.now) }
+impl Named for Alias {
+    ghost called = { λ a. a.name };
+
+    fn name(&self) -> &str {
+        self.name.as_str()
+    }
+}
+
+/// Adds the names of these, which no other has.
+fn add_names<T: Named>(names: &mut Names, named: &[T]) -> Result<(), NoMemory>
+    requires distinct { AreDistinct (names.old ++ map T.called named.now) }
+    requires room { length names.old + length named.now < 2 ^ 32 - 1 }
+    ensures { OnOk result (names.new ≡ names.old ++ map T.called named.now) }
 {
-    for alias in aliases {
-        add_name(names, alias.name())?;
+    for one in named {
+        names.add(one.name())?;
     }
     Ok(())
 }

@@ -104,7 +104,6 @@ impl Repeated for MoreMember {
         cursor.is_mark_at(0, b",")
     }
 
-    #[tactic(auto, unfolding(crate::specs::Rules::more_member_at))]
     fn take(cursor: &mut Cursor<'_>) -> Result<Token, SpecError> {
         cursor.mark(b",")?;
         cursor.name()
@@ -112,7 +111,7 @@ impl Repeated for MoreMember {
 }
 
 /// "alias" NAME "=" NAME { "," NAME }
-#[tactic(auto, unfolding(crate::specs::Rules::alias_at))]
+#[tactic(auto, unfolding(crate::specs::Rules::alias_at, jm_reading::specs::Taking::parted_at))]
 fn alias(cursor: &mut Cursor<'_>) -> Result<Part, SpecError>
     ensures { Takes cursor.old result cursor.new alias_at }
 {
