@@ -72,13 +72,13 @@ normal_gives NoWord = itself (InLanguage NoWord)
 
 -- ---- derivatives of normal forms have the words that may follow
 
-product_derived : (x : ℕ) (r s : Expression) (b : Bool) (d : Expression) → Same (InLanguage d) (InLanguage (plain x r)) → Gives (derivative_run x s) (InLanguage (plain x s))
-    → Gives (if b then (fitting (product_of d s) >>= λ front. part false (derivative_run x s) >>= λ e. Ok (combined Or front e)) else Ok (product_of d s))
-    (InLanguage (if b then Combination Or (Product (plain x r) s) (plain x s) else Product (plain x r) s))
-product_derived x r s true d same second =
-    gives_both (fitting (product_of d s)) (part false (derivative_run x s)) (combined Or) (InLanguage (Product (plain x r) s)) (InLanguage (plain x s)) (InLanguage (Combination Or (Product (plain x r) s) (plain x s))) (gives_fitting (product_of d s) (InLanguage (Product (plain x r) s)) (product_gives (InLanguage (plain x r)) (InLanguage s) d s same (itself (InLanguage s)))) (gives_part false (derivative_run x s) (InLanguage (plain x s)) second)
-    (combined_gives Or (Product (plain x r) s) (plain x s))
-product_derived x r s false d same second = product_gives (InLanguage (plain x r)) (InLanguage s) d s same (itself (InLanguage s))
+front_gives : (F : Formed) (L : List ℕ → Type 0) (s : Expression) → Gives F L → Gives (F >>= λ d. Ok (product_of d s)) (IsSplit L (InLanguage s))
+front_gives F L s gives = gives_then F L (λ d. Ok (product_of d s)) (IsSplit L (InLanguage s)) gives (λ d same. product_gives L (InLanguage s) d s same (itself (InLanguage s)))
+
+product_derived : (b : Bool) (F G : Formed) (p q : Expression) → Gives F (InLanguage p) → Gives G (InLanguage q)
+    → Gives (if b then (part false F >>= λ d. G >>= λ e. Ok (combined Or d e)) else F) (InLanguage (if b then Combination Or p q else p))
+product_derived true F G p q front second = gives_both (part false F) G (combined Or) (InLanguage p) (InLanguage q) (InLanguage (Combination Or p q)) (gives_part false F (InLanguage p) front) second (combined_gives Or p q)
+product_derived false F G p q front second = front
 
 pub derivative_gives : (x : ℕ) (r : Expression) → Gives (derivative_run x r) (InLanguage (plain x r))
 derivative_gives x (Symbol y) = itself (InLanguage (plain x (Symbol y)))
@@ -86,16 +86,14 @@ derivative_gives x EmptyWord = itself (InLanguage NoWord)
 derivative_gives x NoWord = itself (InLanguage NoWord)
 derivative_gives x (Complement r) =
     gives_then (part false (derivative_run x r)) (InLanguage (plain x r)) (λ d. Ok (complement_of d)) (InLanguage (Complement (plain x r))) (gives_part false (derivative_run x r) (InLanguage (plain x r)) (derivative_gives x r)) (λ d same. complement_gives d (plain x r) same)
-derivative_gives x (Star r) =
-    gives_then (part false (derivative_run x r)) (InLanguage (plain x r)) (λ d. Ok (product_of d (Star r))) (InLanguage (Product (plain x r) (Star r))) (gives_part false (derivative_run x r) (InLanguage (plain x r)) (derivative_gives x r))
-    (λ d same. product_gives (InLanguage (plain x r)) (InLanguage (Star r)) d (Star r) same (itself (InLanguage (Star r))))
+derivative_gives x (Star r) = front_gives (part false (derivative_run x r)) (InLanguage (plain x r)) (Star r) (gives_part false (derivative_run x r) (InLanguage (plain x r)) (derivative_gives x r))
 derivative_gives x (Plus r) =
     gives_then (part false (derivative_run x r)) (InLanguage (plain x r)) (λ d. Ok (product_of d (star_of r))) (InLanguage (Product (plain x r) (Star r))) (gives_part false (derivative_run x r) (InLanguage (plain x r)) (derivative_gives x r))
     (λ d same. product_gives (InLanguage (plain x r)) (InLanguage (Star r)) d (star_of r) same (star_keeps r))
 derivative_gives x (Product r s) =
-    gives_then (part false (derivative_run x r)) (InLanguage (plain x r)) (λ d. if is_nullable r then (fitting (product_of d s) >>= λ front. part false (derivative_run x s) >>= λ e. Ok (combined Or front e)) else Ok (product_of d s))
-    (InLanguage (plain x (Product r s))) (gives_part false (derivative_run x r) (InLanguage (plain x r)) (derivative_gives x r))
-    (λ d same. product_derived x r s (is_nullable r) d same (derivative_gives x s))
+    product_derived (is_nullable r) (part false (derivative_run x r) >>= λ d. Ok (product_of d s)) (part false (derivative_run x s)) (Product (plain x r) s) (plain x s)
+    (front_gives (part false (derivative_run x r)) (InLanguage (plain x r)) s (gives_part false (derivative_run x r) (InLanguage (plain x r)) (derivative_gives x r)))
+    (gives_part false (derivative_run x s) (InLanguage (plain x s)) (derivative_gives x s))
 derivative_gives x (Combination op r s) =
     gives_both (part false (derivative_run x r)) (part (is_run op s) (derivative_run x s)) (combined op) (InLanguage (plain x r)) (InLanguage (plain x s)) (InLanguage (Combination op (plain x r) (plain x s))) (gives_part false (derivative_run x r) (InLanguage (plain x r)) (derivative_gives x r)) (gives_part (is_run op s) (derivative_run x s) (InLanguage (plain x s)) (derivative_gives x s))
     (combined_gives op (plain x r) (plain x s))

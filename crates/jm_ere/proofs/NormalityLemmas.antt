@@ -167,10 +167,9 @@ letter_normal : (b : Bool) → IsNormal (if b then EmptyWord else NoWord)
 letter_normal true = tt
 letter_normal false = tt
 
-product_derived : (x : ℕ) (s : Expression) (b : Bool) (d : Expression) → IsNormal d → IsNormal s → AreNormal (derivative_run x s)
-    → AreNormal (if b then (fitting (product_of d s) >>= λ front. part false (derivative_run x s) >>= λ e. Ok (combined Or front e)) else Ok (product_of d s))
-product_derived x s true d h k second = both_normal (fitting (product_of d s)) (part false (derivative_run x s)) (combined Or) (fitting_normal (product_of d s) (product_normal d s h k)) (part_normal false (derivative_run x s) second) (combined_normal Or)
-product_derived x s false d h k second = product_normal d s h k
+product_derived : (b : Bool) (F G : Formed) → AreNormal F → AreNormal G → AreNormal (if b then (part false F >>= λ d. G >>= λ e. Ok (combined Or d e)) else F)
+product_derived true F G h k = both_normal (part false F) G (combined Or) (part_normal false F h) k (combined_normal Or)
+product_derived false F G h k = h
 
 derived_normal : (x : ℕ) (r : Expression) → IsNormal r → AreNormal (derivative_run x r)
 derived_normal x (Symbol y) n = letter_normal (x == y)
@@ -179,8 +178,10 @@ derived_normal x NoWord n = tt
 derived_normal x (Complement r) n = then_normal (part false (derivative_run x r)) (λ d. Ok (complement_of d)) (part_normal false (derivative_run x r) (derived_normal x r n.0)) complement_normal
 derived_normal x (Star r) n = then_normal (part false (derivative_run x r)) (λ d. Ok (product_of d (Star r))) (part_normal false (derivative_run x r) (derived_normal x r n.0)) (λ d h. product_normal d (Star r) h n)
 derived_normal x (Plus r) n = absurd n
-derived_normal x (Product r s) n = then_normal (part false (derivative_run x r)) (λ d. if is_nullable r then (fitting (product_of d s) >>= λ front. part false (derivative_run x s) >>= λ e. Ok (combined Or front e)) else Ok (product_of d s))
-    (part_normal false (derivative_run x r) (derived_normal x r n.0)) (λ d h. product_derived x s (is_nullable r) d h n.1 (derived_normal x s n.1))
+derived_normal x (Product r s) n =
+    product_derived (is_nullable r) (part false (derivative_run x r) >>= λ d. Ok (product_of d s)) (part false (derivative_run x s))
+    (then_normal (part false (derivative_run x r)) (λ d. Ok (product_of d s)) (part_normal false (derivative_run x r) (derived_normal x r n.0)) (λ d h. product_normal d s h n.1))
+    (part_normal false (derivative_run x s) (derived_normal x s n.1))
 derived_normal x (Combination op r s) n = both_normal (part false (derivative_run x r)) (part (is_run op s) (derivative_run x s)) (combined op) (part_normal false (derivative_run x r) (derived_normal x r n.0)) (part_normal (is_run op s) (derivative_run x s) (derived_normal x s n.1)) (combined_normal op)
 
 step_normal : (e : Expression) (x : ℕ) (F : Formed) → AreNormal F → AreNormal (step_from (forms_of e) F x)

@@ -6,7 +6,7 @@ use Rattle.jm_model.specs.declared.fault.SpecFault.{SpecFault}
 use Rattle.jm_model.specs.declared.fault.SpecFault.TheVariants.{Syntax}
 use Rattle.jm_text.specs.declared.token.Token.{Token}
 use Rattle.jm_reading.specs.Answers.{FailsAt}
-use Rattle.jm_reading.specs.Faults.{or_else, ◌>>>◌, fault_of, Refuses, Checks}
+use Rattle.jm_reading.specs.Faults.{or_else, ◌>>>◌, with_each, fault_of, Refuses, Checks}
 use Rattle.jm_reading.specs.Events.{reserved_event_fault, letter_said}
 use Rattle.jm_reading.specs.Nesting.{is_too_deep}
 use Rattle.jm_reading.proofs.ReadLemmas.{then_then, then_same, IsOther, FailsOther, other_or, other_if, other_event, other_then, other_name, other_of}
@@ -22,7 +22,7 @@ use Rattle.jm_ere.specs.Spelling.{Spells}
 use Rattle.jm_ere.specs.Rules.{postfix, IsWritten, parsed}
 use Rattle.jm_ere.specs.Readings.{IsReadFrom, IsRefused}
 use Rattle.jm_ere.specs.Faults.{nodes_fault, is_grammar_word, atom_said, over, between, expression_said, first_fault}
-use Rattle.jm_ere.specs.Values.{with_nodes, fault_of_nodes}
+use Rattle.jm_ere.specs.Values.{with_node, stack_of, Leave, fault_of_nodes}
 use Rattle.jm_ere.proofs.CompleteLemmas.{spelled_is_parsed}
 use Rattle.jm_ere.proofs.SoundLemmas.{parsed_is_spelled}
 use Rattle.jm_ere.proofs.FormulaLemmas.{nodes_counted, one_formula}
@@ -30,21 +30,21 @@ use Rattle.jm_ere.proofs.FormulaLemmas.{nodes_counted, one_formula}
 -- ---- the value of a formula's nodes is what the formula says
 
 module _ (bytes : List ℕ) (events : List (List ℕ)) where
-  values : (f : Formula) (stack : List Expression) (rest : List Node) → with_nodes bytes events stack (postfix f ++ rest) ≡ expression_said bytes events f >>> (λ r. with_nodes bytes events (r ∷ stack) rest)
-  values (Leaf atom) stack rest = then_then (atom_said bytes events atom) (λ r. Ok (r ∷ stack)) (λ more. with_nodes bytes events more rest)
+  values : (f : Formula) (stack : List Expression) (rest : List Node) → with_each (with_node bytes events) stack (postfix f ++ rest) ≡ expression_said bytes events f >>> (λ r. with_each (with_node bytes events) (r ∷ stack) rest)
+  values (Leaf atom) stack rest = then_then (atom_said bytes events atom) (λ r. Ok (r ∷ stack)) (λ more. with_each (with_node bytes events) more rest)
   values (Over operator f) stack rest =
-      ap (with_nodes bytes events stack) (append_assoc (postfix f) (Wrap operator ∷ []) rest)
+      ap (with_each (with_node bytes events) stack) (append_assoc (postfix f) (Wrap operator ∷ []) rest)
       ∙ values f stack (Wrap operator ∷ rest)
-      ∙ sym (then_then (expression_said bytes events f) (λ r. Ok (over operator r)) (λ r. with_nodes bytes events (r ∷ stack) rest))
+      ∙ sym (then_then (expression_said bytes events f) (λ r. Ok (over operator r)) (λ r. with_each (with_node bytes events) (r ∷ stack) rest))
   values (Between operator f g) stack rest =
-      ap (with_nodes bytes events stack) (append_assoc (postfix f ++ postfix g) (Join operator ∷ []) rest ∙ append_assoc (postfix f) (postfix g) (Join operator ∷ rest))
+      ap (with_each (with_node bytes events) stack) (append_assoc (postfix f ++ postfix g) (Join operator ∷ []) rest ∙ append_assoc (postfix f) (postfix g) (Join operator ∷ rest))
       ∙ values f stack (postfix g ++ Join operator ∷ rest)
-      ∙ then_same (expression_said bytes events f) (λ r. with_nodes bytes events (r ∷ stack) (postfix g ++ Join operator ∷ rest)) (λ r. (expression_said bytes events g >>> (λ s. Ok (between operator r s))) >>> (λ t. with_nodes bytes events (t ∷ stack) rest))
-      (λ r is. values g (r ∷ stack) (Join operator ∷ rest) ∙ sym (then_then (expression_said bytes events g) (λ s. Ok (between operator r s)) (λ t. with_nodes bytes events (t ∷ stack) rest)))
-      ∙ sym (then_then (expression_said bytes events f) (λ r. expression_said bytes events g >>> (λ s. Ok (between operator r s))) (λ r. with_nodes bytes events (r ∷ stack) rest))
+      ∙ then_same (expression_said bytes events f) (λ r. with_each (with_node bytes events) (r ∷ stack) (postfix g ++ Join operator ∷ rest)) (λ r. (expression_said bytes events g >>> (λ s. Ok (between operator r s))) >>> (λ t. with_each (with_node bytes events) (t ∷ stack) rest))
+      (λ r is. values g (r ∷ stack) (Join operator ∷ rest) ∙ sym (then_then (expression_said bytes events g) (λ s. Ok (between operator r s)) (λ t. with_each (with_node bytes events) (t ∷ stack) rest)))
+      ∙ sym (then_then (expression_said bytes events f) (λ r. expression_said bytes events g >>> (λ s. Ok (between operator r s))) (λ r. with_each (with_node bytes events) (r ∷ stack) rest))
 
-  value_is : (f : Formula) → with_nodes bytes events [] (postfix f) ≡ expression_said bytes events f >>> (λ r. Ok (r ∷ []))
-  value_is f = ap (with_nodes bytes events []) (sym (append-nil (postfix f))) ∙ values f [] []
+  value_is : (f : Formula) → stack_of bytes events (postfix f) ≡ expression_said bytes events f >>> (λ r. Ok (r ∷ []))
+  value_is f = ap (stack_of bytes events) (sym (append-nil (postfix f))) ∙ values f [] []
 
   said_first : (said : Result Expression SpecFault) (e : Expression) (rest : List Expression) → said >>> (λ r. Ok (r ∷ [])) ≡ Ok (e ∷ rest) → said ≡ Ok e
   said_first (Ok r) e rest h = cc
@@ -54,7 +54,7 @@ module _ (bytes : List ℕ) (events : List (List ℕ)) where
   same_fault (Ok r) = refl
   same_fault (Err fault) = refl
 
-  value_said : (f : Formula) (e : Expression) (rest : List Expression) → with_nodes bytes events [] (postfix f) ≡ Ok (e ∷ rest) → expression_said bytes events f ≡ Ok e
+  value_said : (f : Formula) (e : Expression) (rest : List Expression) → stack_of bytes events (postfix f) ≡ Ok (e ∷ rest) → expression_said bytes events f ≡ Ok e
   value_said f e rest h = said_first (expression_said bytes events f) e rest (sym (value_is f) ∙ h)
 
 never_none : (said : Result Expression SpecFault) → said >>> (λ r. Ok (r ∷ [])) ≡ Ok [] → ⊥
@@ -62,16 +62,16 @@ never_none (Ok r) h = absurd (cc)
 never_none (Err fault) h = absurd (cc)
 
 -- the nodes of a formula leave an expression
-pub never_empty : (bytes : List ℕ) (events : List (List ℕ)) (nodes : List Node) → IsWritten nodes → with_nodes bytes events [] nodes ≡ Ok [] → ⊥
+pub never_empty : (bytes : List ℕ) (events : List (List ℕ)) (nodes : List Node) → IsWritten nodes → stack_of bytes events nodes ≡ Ok [] → ⊥
 never_empty bytes events nodes written h =
     let f : Formula = written.0 in
-    never_none (expression_said bytes events f) (sym (value_is bytes events f) ∙ ap (with_nodes bytes events []) (sym written.1) ∙ h)
+    never_none (expression_said bytes events f) (sym (value_is bytes events f) ∙ ap (stack_of bytes events) (sym written.1) ∙ h)
 
 faults_are : (bytes : List ℕ) (table : EventDefinitions) (f : Formula) → fault_of_nodes bytes table (postfix f) ≡ first_fault bytes table f
 unfolding fault_of_nodes
 faults_are bytes table f =
-    let values_too : fault_of (with_nodes bytes (event_names table) [] (postfix f)) ≡ fault_of (expression_said bytes (event_names table) f) = ap fault_of (value_is bytes (event_names table) f) ∙ same_fault bytes (event_names table) (expression_said bytes (event_names table) f) in
-    ap (λ n. or_else (nodes_fault n) (or_else (reserved_event_fault is_grammar_word table.events) (fault_of (with_nodes bytes (event_names table) [] (postfix f))))) (nodes_counted f)
+    let values_too : fault_of (stack_of bytes (event_names table) (postfix f)) ≡ fault_of (expression_said bytes (event_names table) f) = ap fault_of (value_is bytes (event_names table) f) ∙ same_fault bytes (event_names table) (expression_said bytes (event_names table) f) in
+    ap (λ n. or_else (nodes_fault n) (or_else (reserved_event_fault is_grammar_word table.events) (fault_of (stack_of bytes (event_names table) (postfix f))))) (nodes_counted f)
     ∙ ap (λ o. or_else (nodes_fault (node_count f)) (or_else (reserved_event_fault is_grammar_word table.events) o)) values_too
 
 -- ---- a formula's fault is neither of the grammar nor of parentheses
@@ -99,11 +99,11 @@ module _ (bytes : List ℕ) (tokens : List Token) (table : EventDefinitions) (sh
     pub read_written : IsWritten nodes
     read_written = let formula = parsed_is_spelled bytes tokens nodes read in (formula.0, formula.2)
 
-    pub read_ok : (r : Result Expression SpecError) → IfOk r (λ e. (rest : List Expression) × (with_nodes bytes (event_names table) [] nodes ≡ Ok (e ∷ rest))) → Checks r (fault_of_nodes bytes table nodes) → IfOk r (IsReadFrom bytes tokens table)
+    pub read_ok : (r : Result Expression SpecError) → IfOk r (Leave bytes (event_names table) nodes) → Checks r (fault_of_nodes bytes table nodes) → IfOk r (IsReadFrom bytes tokens table)
     read_ok (Ok e) made h =
         let formula = parsed_is_spelled bytes tokens nodes read in
         let f : Formula = formula.0 in
-        (shallow, (f, formula.1, sym (ap (fault_of_nodes bytes table) formula.2 ∙ faults_are bytes table f) ∙ h, value_said bytes (event_names table) f e made.0 (sym (ap (with_nodes bytes (event_names table) []) formula.2) ∙ made.1)))
+        (shallow, (f, formula.1, sym (ap (fault_of_nodes bytes table) formula.2 ∙ faults_are bytes table f) ∙ h, value_said bytes (event_names table) f e made.0 (sym (ap (stack_of bytes (event_names table)) formula.2) ∙ made.1)))
     read_ok (Err e) made h = tt
 
     pub read_err : (r : Result Expression SpecError) → Checks r (fault_of_nodes bytes table nodes) → IfErr r (IsRefused bytes tokens table)

@@ -46,9 +46,9 @@ only_normal (Symbol x) = tt
 only_normal EmptyWord = tt
 only_normal NoWord = tt
 
-only_product : (x : ℕ) (s : Expression) (b : Bool) (d : Expression) → OnlyTerm (derivative_run x s) → OnlyTerm (if b then (fitting (product_of d s) >>= λ front. part false (derivative_run x s) >>= λ e. Ok (combined Or front e)) else Ok (product_of d s))
-only_product x s true d h = only_both (fitting (product_of d s)) (part false (derivative_run x s)) (combined Or) (only_fitting (product_of d s)) (only_part false (derivative_run x s) h)
-only_product x s false d h = tt
+only_product : (b : Bool) (F G : Formed) → OnlyTerm F → OnlyTerm G → OnlyTerm (if b then (part false F >>= λ d. G >>= λ e. Ok (combined Or d e)) else F)
+only_product true F G h k = only_both (part false F) G (combined Or) (only_part false F h) k
+only_product false F G h k = h
 
 only_derivative : (x : ℕ) (r : Expression) → OnlyTerm (derivative_run x r)
 only_derivative x (Symbol y) = tt
@@ -57,8 +57,9 @@ only_derivative x NoWord = tt
 only_derivative x (Complement r) = only_then (part false (derivative_run x r)) (λ d. Ok (complement_of d)) (only_part false (derivative_run x r) (only_derivative x r)) (λ d. tt)
 only_derivative x (Star r) = only_then (part false (derivative_run x r)) (λ d. Ok (product_of d (Star r))) (only_part false (derivative_run x r) (only_derivative x r)) (λ d. tt)
 only_derivative x (Plus r) = only_then (part false (derivative_run x r)) (λ d. Ok (product_of d (star_of r))) (only_part false (derivative_run x r) (only_derivative x r)) (λ d. tt)
-only_derivative x (Product r s) = only_then (part false (derivative_run x r)) (λ d. if is_nullable r then (fitting (product_of d s) >>= λ front. part false (derivative_run x s) >>= λ e. Ok (combined Or front e)) else Ok (product_of d s))
-    (only_part false (derivative_run x r) (only_derivative x r)) (λ d. only_product x s (is_nullable r) d (only_derivative x s))
+only_derivative x (Product r s) =
+    only_product (is_nullable r) (part false (derivative_run x r) >>= λ d. Ok (product_of d s)) (part false (derivative_run x s))
+    (only_then (part false (derivative_run x r)) (λ d. Ok (product_of d s)) (only_part false (derivative_run x r) (only_derivative x r)) (λ d. tt)) (only_part false (derivative_run x s) (only_derivative x s))
 only_derivative x (Combination op r s) = only_both (part false (derivative_run x r)) (part (is_run op s) (derivative_run x s)) (combined op) (only_part false (derivative_run x r) (only_derivative x r)) (only_part (is_run op s) (derivative_run x s) (only_derivative x s))
 
 only_step : (e : Expression) (x : ℕ) (F : Formed) → OnlyTerm F → OnlyTerm (step_from (forms_of e) F x)

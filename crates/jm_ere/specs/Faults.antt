@@ -1,6 +1,7 @@
 -- What is wrong with a formula, step by step, and what one says.
 use Rattle.std.specs.Prelude.{ℕ, Bool, ◌||◌, List, Option, Some, None, Result, Ok, codes, nat_lt, if◌then◌else◌}
 use Rattle.std.specs.Str.{bytes_eq}
+use Rattle.jm_model.specs.Words.{Text}
 use Rattle.jm_model.specs.declared.fault.Counted.TheVariants.{Nodes}
 use Rattle.jm_model.specs.declared.fault.SpecFault.{SpecFault}
 use Rattle.jm_model.specs.declared.fault.SpecFault.TheVariants.{TooMany}
@@ -22,7 +23,7 @@ abbrev pub nodes_fault : ℕ → Option SpecFault
 nodes_fault count = if nat_lt 256 count then Some (TooMany Nodes) else None
 
 -- the words of the grammar
-abbrev pub is_grammar_word : List ℕ → Bool
+abbrev pub is_grammar_word : Text → Bool
 is_grammar_word name = bytes_eq name (codes "epsilon") || bytes_eq name (codes "empty")
 
 -- what an operator makes
@@ -36,20 +37,21 @@ between Then r s = Product r s
 between Either r s = Combination Or r s
 between Both r s = Combination And r s
 
--- the expression that a formula says among these events, or its first name that isn't there
-abbrev pub atom_said : List ℕ → List (List ℕ) → Atom → Result Expression SpecFault
-atom_said bytes events (Name token) = letter_said bytes events token >>> λ letter. Ok (Symbol letter.0)
-atom_said bytes events Epsilon = Ok EmptyWord
-atom_said bytes events Empty = Ok NoWord
+module _ (bytes : Text) (events : List Text) where
+  -- the expression that a formula says among these events, or its first name that isn't there
+  abbrev pub atom_said : Atom → Result Expression SpecFault
+  atom_said (Name token) = letter_said bytes events token >>> λ letter. Ok (Symbol letter.0)
+  atom_said Epsilon = Ok EmptyWord
+  atom_said Empty = Ok NoWord
 
-abbrev pub expression_said : List ℕ → List (List ℕ) → Formula → Result Expression SpecFault
-expression_said bytes events (Leaf atom) = atom_said bytes events atom
-expression_said bytes events (Over operator f) = expression_said bytes events f >>> λ r. Ok (over operator r)
-expression_said bytes events (Between operator f g) =
-    expression_said bytes events f >>> λ r. expression_said bytes events g >>> λ s. Ok (between operator r s)
+  abbrev pub expression_said : Formula → Result Expression SpecFault
+  expression_said (Leaf atom) = atom_said atom
+  expression_said (Over operator f) = expression_said f >>> λ r. Ok (over operator r)
+  expression_said (Between operator f g) =
+      expression_said f >>> λ r. expression_said g >>> λ s. Ok (between operator r s)
 
 -- the fault of the first step that has one: too many nodes, reserved names of events, unknown names
-abbrev pub first_fault : List ℕ → EventDefinitions → Formula → Option SpecFault
+abbrev pub first_fault : Text → EventDefinitions → Formula → Option SpecFault
 first_fault bytes table f =
     or_else (nodes_fault (node_count f))
     (or_else (reserved_event_fault is_grammar_word table.events)

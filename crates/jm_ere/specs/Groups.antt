@@ -1,4 +1,5 @@
 use Rattle.std.specs.Prelude.{ℕ, ◌≡◌, ◌<◌, ◌↔◌, Bool, true, false, List, Some, IsSomeAnd, slice_get, length}
+use Rattle.jm_model.specs.Words.{Word}
 use Rattle.jm_table.specs.Tables.{Transitions, IsWord, IsInGroup, next_of, state_from, state_after_of}
 use Rattle.jm_ere.specs.Expressions.{Expression}
 use Rattle.jm_ere.specs.Meanings.{InLanguage, IsFailed}
@@ -7,8 +8,8 @@ use Rattle.jm_ere.specs.NormalForms.{is_nullable}
 -- After each word of the table's letters its state is in group 0, `match`, exactly where the word is in the language,
 -- and in group 1, `fail`, exactly where no extension of the word, itself included, is.
 pub record IsCompiled (e : Expression) (t : Transitions) : Type 0 where
-  pub matched : (word : List ℕ) → IsWord t word → IsInGroup t (state_after_of t word) 0 ↔ InLanguage e word
-  pub failed : (word : List ℕ) → IsWord t word → IsInGroup t (state_after_of t word) 1 ↔ IsFailed e t.letters word
+  pub matched : (word : Word) → IsWord t word → IsInGroup t (state_after_of t word) 0 ↔ InLanguage e word
+  pub failed : (word : Word) → IsWord t word → IsInGroup t (state_after_of t word) 1 ↔ IsFailed e t.letters word
 
 -- ---- how the groups are found: state k stands for form k
 
@@ -18,7 +19,7 @@ IsMatching forms state = IsSomeAnd (slice_get forms state) (λ r. is_nullable r 
 
 -- a word leads from the state to a matching one
 abbrev pub LeadsToMatch : Transitions → List Expression → ℕ → Type 0
-LeadsToMatch t forms state = (word : List ℕ) × IsWord t word × IsMatching forms (state_from t state word)
+LeadsToMatch t forms state = (word : Word) × IsWord t word × IsMatching forms (state_from t state word)
 
 -- the flags of matching states are set, and others only where a word leads to a matching state
 pub record AreLive (t : Transitions) (forms : List Expression) (live : List Bool) : Type 0 where

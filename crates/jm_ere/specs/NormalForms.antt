@@ -194,9 +194,10 @@ derivative_run x NoWord = Ok NoWord
 derivative_run x (Complement r) = part false (derivative_run x r) >>= λ d. Ok (complement_of d)
 derivative_run x (Star r) = part false (derivative_run x r) >>= λ d. Ok (product_of d (Star r))
 derivative_run x (Plus r) = part false (derivative_run x r) >>= λ d. Ok (product_of d (star_of r))
-derivative_run x (Product r s) = part false (derivative_run x r) >>= λ d.
-    if is_nullable r then (fitting (product_of d s) >>= λ front. part false (derivative_run x s) >>= λ e. Ok
-    (combined Or front e)) else Ok (product_of d s)
+derivative_run x (Product r s) =
+    let front = part false (derivative_run x r) >>= λ d. Ok (product_of d s) in
+    if is_nullable r then (part false front >>= λ d. part false (derivative_run x s) >>= λ e. Ok (combined Or d e))
+    else front
 derivative_run x (Combination op r s) =
     part false (derivative_run x r) >>= λ d. part (is_run op s) (derivative_run x s) >>= λ e. Ok (combined op d e)
 

@@ -1,6 +1,7 @@
 -- How a reader goes over the tokens of a formula: what a token means, and what was read so far after it. The nodes of
 -- the formula are written with each operator behind its operands.
 use Rattle.std.specs.Prelude.{ℕ, zero, suc, ◌≡◌, Bool, true, false, List, [], ◌∷◌, ◌++◌, Option, Some, None, Result, Ok, Err, option_and_then, codes, if◌then◌else◌}
+use Rattle.jm_model.specs.Words.{Text}
 use Rattle.jm_model.specs.declared.fault.SpecError.{SpecError}
 use Rattle.jm_text.specs.declared.token.Token.{Token}
 use Rattle.jm_text.specs.Texts.{is_name, is_word, is_mark}
@@ -18,7 +19,7 @@ use Rattle.jm_ere.specs.declared.reader.Parser.{Parser}
 use Rattle.jm_ere.specs.Formulas.{Formula, Leaf, Over, Between}
 
 -- what a token means
-unfoldable pub sign_of : List ℕ → Token → Sign
+unfoldable pub sign_of : Text → Token → Sign
 sign_of bytes t =
     if is_word bytes t (codes "epsilon") then Operand Epsilon
     else if is_word bytes t (codes "empty") then Operand Empty
@@ -118,7 +119,7 @@ Takes (Ok x) new after = after ≡ Some new
 Takes (Err e) new after = FailsAt e after
 
 -- after all tokens
-abbrev pub after_all : List ℕ → Parser → List Token → Option Parser
+abbrev pub after_all : Text → Parser → List Token → Option Parser
 after_all bytes p [] = Some p
 after_all bytes p (t ∷ ts) = option_and_then (λ next. after_all bytes next ts) (after_sign p (sign_of bytes t))
 
@@ -128,5 +129,5 @@ finished [] true p = Some (p.nodes ++ end_either p.pending)
 finished _ _ p = None
 
 -- the nodes of the formula that the tokens spell, or nothing
-unfoldable pub parsed : List ℕ → List Token → Option (List Node)
+unfoldable pub parsed : Text → List Token → Option (List Node)
 parsed bytes tokens = option_and_then (λ p. finished p.outer p.pending.ready p) (after_all bytes beginning tokens)

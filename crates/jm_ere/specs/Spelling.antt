@@ -9,7 +9,8 @@
 --   Atom    = NAME | "epsilon" | "empty" | "(" Alt ")"
 --
 -- where an Atom's NAME is neither `epsilon` nor `empty`, and operators that repeat group to the left.
-use Rattle.std.specs.Prelude.{ℕ, ◌≡◌, false, List, [], ◌∷◌, ◌++◌, codes}
+use Rattle.std.specs.Prelude.{◌≡◌, false, List, [], ◌∷◌, ◌++◌, codes}
+use Rattle.jm_model.specs.Words.{Text}
 use Rattle.jm_text.specs.declared.token.Token.{Token}
 use Rattle.jm_text.specs.Texts.{is_word}
 use Rattle.jm_reading.specs.Tokens.{IsName, IsWord, IsMark}
@@ -28,7 +29,7 @@ pub data Rule : Type 0 where
   AtomRule : Rule
 
 -- by this rule the tokens spell the formula
-pub data SpellsBy (bytes : List ℕ) : Rule → List Token → Formula → Type 0 where
+pub data SpellsBy (bytes : Text) : Rule → List Token → Formula → Type 0 where
   name : (t : Token) → IsName bytes t → is_word bytes t (codes "epsilon") ≡ false
       → is_word bytes t (codes "empty") ≡ false → SpellsBy bytes AtomRule (t ∷ []) (Leaf (Name t))
   epsilon : (t : Token) → IsWord bytes (codes "epsilon") t → SpellsBy bytes AtomRule (t ∷ []) (Leaf Epsilon)
@@ -57,5 +58,5 @@ pub data SpellsBy (bytes : List ℕ) : Rule → List Token → Formula → Type 
       → SpellsBy bytes AltRule (front ++ mark ∷ behind) (Between Either f g)
 
 -- the tokens spell the formula
-abbrev pub Spells : List ℕ → List Token → Formula → Type 0
+abbrev pub Spells : Text → List Token → Formula → Type 0
 Spells bytes tokens f = SpellsBy bytes AltRule tokens f

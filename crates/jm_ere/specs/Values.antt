@@ -1,7 +1,8 @@
 -- The value of a formula's nodes, operands first: each makes an expression of the topmost ones of a stack.
-use Rattle.std.specs.Prelude.{ℕ, List, [], ◌∷◌, length, Option, Result, Ok}
+use Rattle.std.specs.Prelude.{◌≡◌, List, [], ◌∷◌, length, Option, Result, Ok}
+use Rattle.jm_model.specs.Words.{Text}
 use Rattle.jm_model.specs.declared.fault.SpecFault.{SpecFault}
-use Rattle.jm_reading.specs.Faults.{or_else, ◌>>>◌, fault_of}
+use Rattle.jm_reading.specs.Faults.{or_else, ◌>>>◌, with_each, fault_of}
 use Rattle.jm_reading.specs.Events.{reserved_event_fault}
 use Rattle.jm_events.specs.Events.{EventDefinitions, event_names}
 use Rattle.jm_ere.specs.declared.formula.Unary.{Unary}
@@ -20,18 +21,23 @@ abbrev pub joined : Binary → List Expression → List Expression
 joined operator (s ∷ r ∷ stack) = between operator r s ∷ stack
 joined operator _ = []
 
-abbrev pub with_node : List ℕ → List (List ℕ) → List Expression → Node → Result (List Expression) SpecFault
-with_node bytes events stack (Push atom) = atom_said bytes events atom >>> λ r. Ok (r ∷ stack)
-with_node bytes events stack (Wrap operator) = Ok (wrapped operator stack)
-with_node bytes events stack (Join operator) = Ok (joined operator stack)
+module _ (bytes : Text) (events : List Text) where
+  abbrev pub with_node : List Expression → Node → Result (List Expression) SpecFault
+  with_node stack (Push atom) = atom_said bytes events atom >>> λ r. Ok (r ∷ stack)
+  with_node stack (Wrap operator) = Ok (wrapped operator stack)
+  with_node stack (Join operator) = Ok (joined operator stack)
 
-abbrev pub with_nodes : List ℕ → List (List ℕ) → List Expression → List Node → Result (List Expression) SpecFault
-with_nodes bytes events stack [] = Ok stack
-with_nodes bytes events stack (n ∷ ns) = with_node bytes events stack n >>> λ more. with_nodes bytes events more ns
+  -- what the nodes leave on the stack, or their first fault
+  abbrev pub stack_of : List Node → Result (List Expression) SpecFault
+  stack_of nodes = with_each with_node [] nodes
+
+  -- they leave the expression on top
+  abbrev pub Leave : List Node → Expression → Type 0
+  Leave nodes e = (rest : List Expression) × (stack_of nodes ≡ Ok (e ∷ rest))
 
 -- the first fault of nodes
-unfoldable pub fault_of_nodes : List ℕ → EventDefinitions → List Node → Option SpecFault
+unfoldable pub fault_of_nodes : Text → EventDefinitions → List Node → Option SpecFault
 fault_of_nodes bytes table nodes =
     or_else (nodes_fault (length nodes))
     (or_else (reserved_event_fault is_grammar_word table.events)
-    (fault_of (with_nodes bytes (event_names table) [] nodes)))
+    (fault_of (stack_of bytes (event_names table) nodes)))

@@ -1,11 +1,10 @@
 //! The expression of a formula's nodes.
-ghost use Rattle.std.specs.Prelude.{◌≡◌, [], ◌∷◌, List, OnOk, IfOk, IfErr, Ok};
-ghost use Rattle.jm_reading.specs.Faults.{Makes, Answers, Checks, fault_of};
+ghost use Rattle.std.specs.Prelude.{◌≡◌, [], ◌∷◌, OnOk, IfOk, IfErr};
+ghost use Rattle.jm_reading.specs.Faults.{Makes, Answers, Checks, with_each};
 ghost use Rattle.jm_events.specs.Events.{event_names};
-ghost use Rattle.jm_ere.specs.Expressions.{Expression};
 ghost use Rattle.jm_ere.specs.Faults.{over, between, atom_said};
 ghost use Rattle.jm_ere.specs.Rules.{IsWritten};
-ghost use Rattle.jm_ere.specs.Values.{wrapped, joined, with_node, with_nodes, fault_of_nodes};
+ghost use Rattle.jm_ere.specs.Values.{wrapped, joined, with_node, Leave, fault_of_nodes};
 
 use crate::faults::{Words, few_nodes};
 use crate::forms::boxed;
@@ -106,32 +105,12 @@ fn apply_all(
     stack: &mut Stack<Ere>,
     nodes: &[Node],
 ) -> Result<(), SpecError>
-    ensures { Makes result stack.new (with_nodes bytes.now (event_names table.now) stack.old nodes.now) }
+    ensures { Makes result stack.new (with_each (with_node bytes.now (event_names table.now)) stack.old nodes.now) }
 {
     for node in nodes {
         apply(alloc, bytes, table, stack, *node)?;
     }
     Ok(())
-}
-
-/// The expression of nodes that are a formula's, or the first name that isn't there.
-fn known_expression(
-    alloc: Global,
-    bytes: &[u8],
-    nodes: &[Node],
-    table: &EventTable,
-) -> Result<Ere, SpecError>
-    requires { IsWritten nodes.now }
-    ensures ok { IfOk result (λ e. (rest : List Expression)
-        × (with_nodes bytes.now (event_names table.now) [] nodes.now ≡ Ok (e ∷ rest))) }
-    ensures checked { Checks result (fault_of (with_nodes bytes.now (event_names table.now) [] nodes.now)) }
-{
-    let mut stack = Stack::new(alloc);
-    apply_all(alloc, bytes, table, &mut stack, nodes)?;
-    match stack.pop() {
-        Some(ere) => Ok(ere),
-        None => unreachable!(),
-    }
 }
 
 /// The expression of nodes that are a formula's, or the fault of the first step that has one.
@@ -143,11 +122,15 @@ pub(crate) fn expression_of(
     table: &EventTable,
 ) -> Result<Ere, SpecError>
     requires { IsWritten nodes.now }
-    ensures ok { IfOk result (λ e. (rest : List Expression)
-        × (with_nodes bytes.now (event_names table.now) [] nodes.now ≡ Ok (e ∷ rest))) }
+    ensures ok { IfOk result (Leave bytes.now (event_names table.now) nodes.now) }
     ensures checked { Checks result (fault_of_nodes bytes.now table.now nodes.now) }
 {
     few_nodes(nodes)?;
     event_names::<Words>(table)?;
-    known_expression(alloc, bytes, nodes, table)
+    let mut stack = Stack::new(alloc);
+    apply_all(alloc, bytes, table, &mut stack, nodes)?;
+    match stack.pop() {
+        Some(ere) => Ok(ere),
+        None => unreachable!(),
+    }
 }

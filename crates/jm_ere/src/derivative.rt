@@ -1,14 +1,13 @@
 //! Derivatives of normal forms (Brzozowski 1964; Owens, Reppy and Turon 2009).
-ghost use Rattle.std.specs.Prelude.{◌≡◌, ◌==◌, if◌then◌else◌, Ok};
+ghost use Rattle.std.specs.Prelude.{◌≡◌, ◌==◌, if◌then◌else◌};
 ghost use Rattle.jm_table.specs.Graphs.{Answers};
 ghost use Rattle.jm_ere.specs.Trees.{expression_of};
-ghost use Rattle.jm_ere.specs.Expressions.{EmptyWord, NoWord, Star};
-ghost use Rattle.jm_ere.specs.declared.tree.Operator.TheVariants.{Or};
-ghost use Rattle.jm_ere.specs.NormalForms.{Formed, ◌>>=◌ as ◌>>>◌, fitting, product_of, star_of, combined, derivative_run, derivative};
+ghost use Rattle.jm_ere.specs.Expressions.{EmptyWord, NoWord};
+ghost use Rattle.jm_ere.specs.NormalForms.{derivative_run, derivative};
 
-use crate::forms::{combined, copy, product_of, repeated, star_of};
+use crate::forms::{copy, repeated};
 use crate::order::{is_nullable, is_run};
-use crate::parts::{combined_parts, complement_of_part};
+use crate::parts::{combined_parts, complement_of_part, product_of_parts, star_of_part};
 use crate::sizes::{fitting, part};
 use crate::tree::{Operator, Tree};
 use jm_model::{Letter, SpecError};
@@ -32,15 +31,22 @@ fn derivative_run(alloc: Global, tree: &Tree, letter: Letter) -> Result<Tree, Sp
         Tree::Epsilon => Ok(Tree::Empty),
         Tree::Empty => Ok(Tree::Empty),
         Tree::Not(r) => complement_of_part(alloc, part(false, derivative_run(alloc, r, letter))),
-        Tree::Star(r) => before_star(alloc, part(false, derivative_run(alloc, r, letter)), r),
-        Tree::Plus(r) => before_repeated(alloc, part(false, derivative_run(alloc, r, letter)), r),
+        Tree::Star(r) => {
+            let first = part(false, derivative_run(alloc, r, letter));
+            product_of_parts(alloc, first, repeated(alloc, r))
+        }
+        Tree::Plus(r) => {
+            let first = part(false, derivative_run(alloc, r, letter));
+            product_of_parts(alloc, first, star_of_part(alloc, copy(alloc, r)))
+        }
         Tree::Then(r, s) => {
             let first = part(false, derivative_run(alloc, r, letter));
+            let front = product_of_parts(alloc, first, copy(alloc, s));
             if !is_nullable(r) {
-                return before_copy(alloc, first, s);
+                return front;
             }
             let second = part(false, derivative_run(alloc, s, letter));
-            before_copy_or(alloc, first, s, second)
+            combined_parts(alloc, Operator::Or, part(false, front), second)
         }
         Tree::Combined(operator, r, s) => {
             let first = part(false, derivative_run(alloc, r, letter));
@@ -48,62 +54,6 @@ fn derivative_run(alloc: Global, tree: &Tree, letter: Letter) -> Result<Tree, Sp
             combined_parts(alloc, *operator, first, rest)
         }
     }
-}
-
-/// A part and then any number of words of the expression.
-fn before_star(alloc: Global, first: Result<Tree, SpecError>, r: &Tree) -> Result<Tree, SpecError>
-    ensures { (d : Formed) → Answers expression_of d first →
-        Answers expression_of (d >>> λ d. Ok (product_of d (Star (expression_of r.now)))) result }
-{
-    let first = first?;
-    product_of(alloc, first, repeated(alloc, r)?)
-}
-
-/// The same, where the expression may be a repetition itself.
-fn before_repeated(
-    alloc: Global,
-    first: Result<Tree, SpecError>,
-    r: &Tree,
-) -> Result<Tree, SpecError>
-    ensures { (d : Formed) → Answers expression_of d first →
-        Answers expression_of (d >>> λ d. Ok (product_of d (star_of (expression_of r.now)))) result }
-{
-    let first = first?;
-    product_of(alloc, first, star_of(alloc, copy(alloc, r)?)?)
-}
-
-/// A part and then a word of the expression.
-fn before_copy(alloc: Global, first: Result<Tree, SpecError>, s: &Tree) -> Result<Tree, SpecError>
-    ensures { (d : Formed) → Answers expression_of d first →
-        Answers expression_of (d >>> λ d. Ok (product_of d (expression_of s.now))) result }
-{
-    let first = first?;
-    product_of(alloc, first, copy(alloc, s)?)
-}
-
-/// A part and then a word of the expression, or the second part.
-fn before_copy_or(
-    alloc: Global,
-    first: Result<Tree, SpecError>,
-    s: &Tree,
-    second: Result<Tree, SpecError>,
-) -> Result<Tree, SpecError>
-    ensures { (d e : Formed) → Answers expression_of d first → Answers expression_of e second →
-        Answers expression_of (d >>> λ d. fitting (product_of d (expression_of s.now)) >>> λ front. e >>> λ e. Ok (combined Or front e)) result }
-{
-    let first = first?;
-    let front = fitting_product(alloc, first, s)?;
-    let second = second?;
-    combined(alloc, Operator::Or, front, second)
-}
-
-/// A word of one expression and then of the other.
-fn fitting_product(alloc: Global, first: Tree, s: &Tree) -> Result<Tree, SpecError>
-    ensures { Answers expression_of (fitting (product_of (expression_of first) (expression_of s.now))) result }
-{
-    let second = copy(alloc, s)?;
-    let product = product_of(alloc, first, second)?;
-    fitting(product)
 }
 
 /// The derivative of a letter by another.

@@ -84,7 +84,6 @@ fn is_everything(tree: &Tree) -> bool
     }
 }
 
-/// Whether it is `epsilon`.
 pub(crate) fn is_epsilon(tree: &Tree) -> bool
     ensures { result ≡ is_epsilon (expression_of tree.now) }
 {

@@ -6,7 +6,7 @@ ghost use Rattle.jm_ere.specs.NormalForms.{Formed, ◌>>=◌ as ◌>>>◌, fitti
 
 use crate::forms::{copy, product_of, star_of};
 use crate::order::{is_product, is_run};
-use crate::parts::{combined_parts, complement_of_part};
+use crate::parts::{combined_parts, complement_of_part, product_of_parts, star_of_part};
 use crate::sizes::{fitting, part};
 use crate::tree::Tree;
 use jm_model::SpecError;
@@ -46,13 +46,6 @@ fn normal_run(alloc: Global, tree: &Tree) -> Result<Tree, SpecError>
     }
 }
 
-fn star_of_part(alloc: Global, inner: Result<Tree, SpecError>) -> Result<Tree, SpecError>
-    ensures { (n : Formed) → Answers expression_of n inner → Answers expression_of (n >>> λ n. Ok (star_of n)) result }
-{
-    let inner = inner?;
-    star_of(alloc, inner)
-}
-
 /// `r+` of a part, which is `r r*`.
 fn repeat_of_part(alloc: Global, inner: Result<Tree, SpecError>) -> Result<Tree, SpecError>
     ensures { (n : Formed) → Answers expression_of n inner →
@@ -62,17 +55,4 @@ fn repeat_of_part(alloc: Global, inner: Result<Tree, SpecError>) -> Result<Tree,
     let rest = star_of(alloc, copy(alloc, &inner)?)?;
     let rest = fitting(rest)?;
     product_of(alloc, inner, rest)
-}
-
-fn product_of_parts(
-    alloc: Global,
-    first: Result<Tree, SpecError>,
-    rest: Result<Tree, SpecError>,
-) -> Result<Tree, SpecError>
-    ensures { (n m : Formed) → Answers expression_of n first → Answers expression_of m rest →
-        Answers expression_of (n >>> λ n. m >>> λ m. Ok (product_of n m)) result }
-{
-    let first = first?;
-    let rest = rest?;
-    product_of(alloc, first, rest)
 }

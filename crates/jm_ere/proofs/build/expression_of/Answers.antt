@@ -1,7 +1,7 @@
 use Rattle.std.proofs.Common.{Ok, ◌∙◌, ap}
 use Rattle.jm_events.specs.Events.{event_names}
 use Rattle.jm_ere.proofs.ReadLemmas.{never_empty}
-use Rattle.jm_ere.proofs.build.known_expression.Goals as goal
+use Rattle.jm_ere.proofs.build.expression_of.Goals as goal
 
 pub unreachable-requires : goal.unreachable-requires
 unreachable-requires c =
