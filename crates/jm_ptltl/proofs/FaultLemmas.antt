@@ -10,7 +10,7 @@ use Rattle.jm_model.specs.declared.fault.SpecError.TheVariants.{Bad, NoMemory}
 use Rattle.jm_text.specs.declared.token.Token.{Token}
 use Rattle.jm_events.specs.Events.{EventDefinitions, event_names}
 use Rattle.jm_reading.specs.Answers.{FailsAt}
-use Rattle.jm_reading.specs.Faults.{or_else, ◌>>>◌, fault_of, Refuses, Checks, Answers}
+use Rattle.jm_reading.specs.Faults.{or_else, ◌>>>◌, fault_of, Refuses, Checks, Answers, with_each}
 use Rattle.jm_reading.specs.Events.{reserved_event_fault, letter_said}
 use Rattle.jm_reading.specs.Nesting.{is_too_deep}
 use Rattle.jm_reading.proofs.ReadLemmas.{then_then, then_same, then_ok, IsOther, FailsOther, other_or, other_if, other_event, other_then, other_name, other_of}
@@ -23,7 +23,7 @@ use Rattle.jm_ptltl.specs.Codes.{formula_of-postfix}
 use Rattle.jm_ptltl.specs.Lexicon.{is_grammar_word}
 use Rattle.jm_ptltl.specs.Spelling.{Spells}
 use Rattle.jm_ptltl.specs.Rules.{formula_at}
-use Rattle.jm_ptltl.specs.Faults.{subformulas_fault, formula_said, first_fault, with_nodes}
+use Rattle.jm_ptltl.specs.Faults.{subformulas_fault, formula_said, first_fault, node_said, with_node}
 use Rattle.jm_ptltl.specs.Readings.{IsReadFrom, IsRefused}
 use Rattle.jm_ptltl.proofs.GrammarLemmas.{formula_sound, formula_none, one_formula}
 
@@ -66,38 +66,39 @@ module _ (bytes : List ℕ) (events : List (List ℕ)) where
       ap (λ (x : Formula Letter). length (postfix x)) (sym (ok_same (binary op a.0 b.0) g b.2)) ∙ more
 
   right_said : (op : Binary) (f : Formula Token) (g : Formula Letter) (said left : List (Node Letter)) (ns : List (Node Token)) → formula_said bytes events f ≡ Ok g
-      → with_nodes bytes events (((said ++ left) ++ postfix g) ++ Infix op (length (postfix f)) ∷ []) ns ≡ with_nodes bytes events (said ++ (left ++ (postfix g ++ Infix op (length (postfix g)) ∷ []))) ns
+      → with_each (with_node bytes events) (((said ++ left) ++ postfix g) ++ Infix op (length (postfix f)) ∷ []) ns ≡ with_each (with_node bytes events) (said ++ (left ++ (postfix g ++ Infix op (length (postfix g)) ∷ []))) ns
   right_said op f g said left ns is =
       let node : Node Letter = Infix op (length (postfix g)) in
-      ap (λ k. with_nodes bytes events (((said ++ left) ++ postfix g) ++ Infix op k ∷ []) ns) (sym (same_size f g is))
-      ∙ ap (λ l. with_nodes bytes events l ns) (append_assoc (said ++ left) (postfix g) (node ∷ []) ∙ append_assoc said left (postfix g ++ node ∷ []))
+      ap (λ k. with_each (with_node bytes events) (((said ++ left) ++ postfix g) ++ Infix op k ∷ []) ns) (sym (same_size f g is))
+      ∙ ap (λ l. with_each (with_node bytes events) l ns) (append_assoc (said ++ left) (postfix g) (node ∷ []) ∙ append_assoc said left (postfix g ++ node ∷ []))
 
   -- the nodes of a formula say those of the formula over letters
-  nodes_said : (f : Formula Token) (said : List (Node Letter)) (ns : List (Node Token)) → with_nodes bytes events said (postfix f ++ ns) ≡ (formula_said bytes events f >>> λ g. with_nodes bytes events (said ++ postfix g) ns)
+  nodes_said : (f : Formula Token) (said : List (Node Letter)) (ns : List (Node Token)) → with_each (with_node bytes events) said (postfix f ++ ns) ≡ (formula_said bytes events f >>> λ g. with_each (with_node bytes events) (said ++ postfix g) ns)
   nodes_said (event t) said ns =
-      then_then (letter_said bytes events t) (λ letter. Ok (Event letter)) (λ node. with_nodes bytes events (said ++ node ∷ []) ns)
-      ∙ sym (then_then (letter_said bytes events t) (λ letter. Ok (event letter)) (λ (g : Formula Letter). with_nodes bytes events (said ++ postfix g) ns))
+      then_then (node_said bytes events (Event t)) (λ node. Ok (said ++ node ∷ [])) (λ (more : List (Node Letter)). with_each (with_node bytes events) more ns)
+      ∙ then_then (letter_said bytes events t) (λ letter. Ok (Event letter)) (λ node. with_each (with_node bytes events) (said ++ node ∷ []) ns)
+      ∙ sym (then_then (letter_said bytes events t) (λ letter. Ok (event letter)) (λ (g : Formula Letter). with_each (with_node bytes events) (said ++ postfix g) ns))
   nodes_said (constant b) said ns = refl
   nodes_said (unary op f) said ns =
-      ap (λ l. with_nodes bytes events said l) (append_assoc (postfix f) (Prefix op ∷ []) ns)
+      ap (λ l. with_each (with_node bytes events) said l) (append_assoc (postfix f) (Prefix op ∷ []) ns)
       ∙ nodes_said f said (Prefix op ∷ ns)
-      ∙ then_same (formula_said bytes events f) _ _ (λ g is. ap (λ l. with_nodes bytes events l ns) (append_assoc said (postfix g) (Prefix op ∷ [])))
-      ∙ sym (then_then (formula_said bytes events f) (λ part. Ok (unary op part)) (λ (g : Formula Letter). with_nodes bytes events (said ++ postfix g) ns))
+      ∙ then_same (formula_said bytes events f) _ _ (λ g is. ap (λ l. with_each (with_node bytes events) l ns) (append_assoc said (postfix g) (Prefix op ∷ [])))
+      ∙ sym (then_then (formula_said bytes events f) (λ part. Ok (unary op part)) (λ (g : Formula Letter). with_each (with_node bytes events) (said ++ postfix g) ns))
   nodes_said (binary op f f') said ns =
       let there : Node Token = Infix op (length (postfix f')) in
-      ap (λ l. with_nodes bytes events said l) (append_assoc (postfix f) (postfix f' ++ there ∷ []) ns ∙ ap (λ l. postfix f ++ l) (append_assoc (postfix f') (there ∷ []) ns))
+      ap (λ l. with_each (with_node bytes events) said l) (append_assoc (postfix f) (postfix f' ++ there ∷ []) ns ∙ ap (λ l. postfix f ++ l) (append_assoc (postfix f') (there ∷ []) ns))
       ∙ nodes_said f said (postfix f' ++ there ∷ ns)
       ∙ then_same (formula_said bytes events f) _ _ (λ g is.
       nodes_said f' (said ++ postfix g) (there ∷ ns)
       ∙ then_same (formula_said bytes events f') _ _ (λ g' is'. right_said op f' g' said (postfix g) ns is')
-      ∙ sym (then_then (formula_said bytes events f') (λ right. Ok (binary op g right)) (λ (x : Formula Letter). with_nodes bytes events (said ++ postfix x) ns)))
-      ∙ sym (then_then (formula_said bytes events f) (λ left. formula_said bytes events f' >>> λ right. Ok (binary op left right)) (λ (x : Formula Letter). with_nodes bytes events (said ++ postfix x) ns))
+      ∙ sym (then_then (formula_said bytes events f') (λ right. Ok (binary op g right)) (λ (x : Formula Letter). with_each (with_node bytes events) (said ++ postfix x) ns)))
+      ∙ sym (then_then (formula_said bytes events f) (λ left. formula_said bytes events f' >>> λ right. Ok (binary op left right)) (λ (x : Formula Letter). with_each (with_node bytes events) (said ++ postfix x) ns))
 
-  all_said : (f : Formula Token) → with_nodes bytes events [] (postfix f) ≡ (formula_said bytes events f >>> λ g. Ok (postfix g))
-  all_said f = ap (λ l. with_nodes bytes events [] l) (sym (append-nil (postfix f))) ∙ nodes_said f [] []
+  all_said : (f : Formula Token) → with_each (with_node bytes events) [] (postfix f) ≡ (formula_said bytes events f >>> λ g. Ok (postfix g))
+  all_said f = ap (λ l. with_each (with_node bytes events) [] l) (sym (append-nil (postfix f))) ∙ nodes_said f [] []
 
   -- the nodes that were said are those of the formula over letters
-  pub said_formula : (f : Formula Token) (nodes : List (Node Letter)) → with_nodes bytes events [] (postfix f) ≡ Ok nodes → (g : Formula Letter) × (formula_said bytes events f ≡ Ok g) × (nodes ≡ postfix g)
+  pub said_formula : (f : Formula Token) (nodes : List (Node Letter)) → with_each (with_node bytes events) [] (postfix f) ≡ Ok nodes → (g : Formula Letter) × (formula_said bytes events f ≡ Ok g) × (nodes ≡ postfix g)
   said_formula f nodes h =
       let a = then_ok (formula_said bytes events f) (λ g. Ok (postfix g)) nodes (sym (all_said f) ∙ h) in
       (a.0, a.1, sym (ok_same (postfix a.0) nodes a.2))
@@ -106,7 +107,7 @@ module _ (bytes : List ℕ) (events : List (List ℕ)) where
   said_err (Ok x) g fault h = absurd (cc)
   said_err (Err e) g fault h = cc
 
-  pub said_refused : (f : Formula Token) (e : SpecError) → Answers {Y = List (Node Letter)} (Err e) (with_nodes bytes events [] (postfix f)) → Refuses (fault_of (formula_said bytes events f)) e
+  pub said_refused : (f : Formula Token) (e : SpecError) → Answers {Y = List (Node Letter)} (Err e) (with_each (with_node bytes events) [] (postfix f)) → Refuses (fault_of (formula_said bytes events f)) e
   said_refused f NoMemory h = tt
   said_refused f (Bad fault) h = said_err (formula_said bytes events f) (λ (g : Formula Letter). postfix g) fault (sym (all_said f) ∙ h)
 

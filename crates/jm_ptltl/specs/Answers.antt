@@ -1,11 +1,13 @@
 -- What a call of the reader answers.
 use Rattle.std.specs.Prelude.{ℕ, ◌≡◌, ◌≤◌, ◌++◌, List, Option, Some, Result, Ok, Err, length}
+use Rattle.jm_model.specs.Words.{Text}
 use Rattle.jm_model.specs.declared.fault.SpecError.{SpecError}
+use Rattle.jm_reading.specs.declared.cursor.Cursor.{Cursor}
 use Rattle.jm_reading.specs.Answers.{FailsAt}
 use Rattle.jm_text.specs.declared.token.Token.{Token}
 use Rattle.jm_ptltl.specs.declared.formula.Node.{Node}
 use Rattle.jm_ptltl.specs.Formulas.{Formula, postfix}
-use Rattle.jm_ptltl.specs.Rules.{Read, formula_from}
+use Rattle.jm_ptltl.specs.Rules.{Read, Reader, formula_from}
 
 -- the formula that is read stands behind these nodes, and these tokens are left
 abbrev pub AddsNodes : List (Node Token) → List (Node Token) → List Token → Option Read → Type 0
@@ -24,7 +26,13 @@ Gives (Err e) read = FailsAt e read
 
 -- The same, where `rule` is given a reader for what stands in parentheses: for each limit on their number that these
 -- tokens can't reach.
-abbrev pub AddsBy : {X : Type 0} → List ℕ → ((List Token → Option Read) → List Token → Option Read) → Result X SpecError
+abbrev pub AddsBy : {X : Type 0} → Text → (Reader → Reader) → Result X SpecError
     → List (Node Token) → List (Node Token) → List Token → List Token → Type 0
 AddsBy bytes rule r before after tokens left =
     (n : ℕ) → length tokens ≤ n → Adds r before after left (rule (formula_from bytes n) tokens)
+
+-- a call takes what the rule reads from the front of what is left, and adds its nodes behind these
+abbrev pub Takes : {X : Type 0} → Cursor → Result X SpecError → Cursor → (Text → Reader → Reader)
+    → List (Node Token) → List (Node Token) → Type 0
+Takes old r new rule before after =
+    AddsBy old.bytes.now (rule old.bytes.now) r before after old.rest.now new.rest.now

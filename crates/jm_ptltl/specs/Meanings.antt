@@ -1,5 +1,6 @@
 -- What a past-time formula means: where it is true. Positions of a word are counted from 1.
-use Rattle.std.specs.Prelude.{ℕ, ◌≡◌, ◌<◌, ◌≤◌, ◌-◌, ◌⊎◌, ◌↔◌, List, Some, IsTrue, length, slice_get}
+use Rattle.std.specs.Prelude.{ℕ, ◌≡◌, ◌<◌, ◌≤◌, ◌-◌, ◌⊎◌, ◌↔◌, Some, IsTrue, length, slice_get}
+use Rattle.jm_model.specs.Words.{Word}
 use Rattle.jm_model.specs.declared.step.Letter.{Letter}
 use Rattle.jm_ptltl.specs.declared.formula.Unary.{Unary}
 use Rattle.jm_ptltl.specs.declared.formula.Unary.TheVariants.{Not, Historically, Once, Previously}
@@ -8,7 +9,7 @@ use Rattle.jm_ptltl.specs.declared.formula.Binary.TheVariants.{Equivalent, Impli
 use Rattle.jm_ptltl.specs.Formulas.{Formula, event, constant, unary, binary}
 
 -- letter n of the word
-abbrev pub IsLetterAt : List ℕ → ℕ → ℕ → Type 0
+abbrev pub IsLetterAt : Word → ℕ → ℕ → Type 0
 IsLetterAt word n letter = (0 < n) × (slice_get word (n - 1) ≡ Some letter)
 
 -- an operator at position n, where F says at which positions its part is true
@@ -28,12 +29,12 @@ HoldsBinary And F G n = F n × G n
 HoldsBinary Since F G n = (m : ℕ) × (1 ≤ m) × (m ≤ n) × G m × ((k : ℕ) → m < k → k ≤ n → F k)
 
 -- the formula is true at position n of the word
-abbrev pub Holds : Formula Letter → List ℕ → ℕ → Type 0
+abbrev pub Holds : Formula Letter → Word → ℕ → Type 0
 Holds (event letter) word n = IsLetterAt word n letter.0
 Holds (constant b) word n = IsTrue b
 Holds (unary op f) word n = HoldsUnary op (Holds f word) n
 Holds (binary op f g) word n = HoldsBinary op (Holds f word) (Holds g word) n
 
 -- the formula is true at the last position of the word
-abbrev pub HoldsLast : Formula Letter → List ℕ → Type 0
+abbrev pub HoldsLast : Formula Letter → Word → Type 0
 HoldsLast f word = Holds f word (length word)

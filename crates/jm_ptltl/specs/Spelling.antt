@@ -13,6 +13,7 @@
 -- right: so the left part of an operator is of its own rank and the right part below it, and with `=>` the other way
 -- round.
 use Rattle.std.specs.Prelude.{ℕ, zero, suc, ◌≡◌, Bool, List, [], ◌∷◌, ◌++◌}
+use Rattle.jm_model.specs.Words.{Text}
 use Rattle.jm_text.specs.declared.token.Token.{Token}
 use Rattle.jm_ptltl.specs.declared.formula.Unary.{Unary}
 use Rattle.jm_ptltl.specs.declared.formula.Binary.{Binary}
@@ -22,7 +23,7 @@ use Rattle.jm_ptltl.specs.Formulas.{Formula, event, constant, unary, binary}
 use Rattle.jm_ptltl.specs.Lexicon.{class_of, rank_of}
 
 -- the tokens spell the formula at a rank
-pub data SpellsAt (bytes : List ℕ) : ℕ → List Token → Formula Token → Type 0 where
+pub data SpellsAt (bytes : Text) : ℕ → List Token → Formula Token → Type 0 where
   -- one part alone
   alone : {k : ℕ} {tokens : List Token} {f : Formula Token} → SpellsAt bytes k tokens f
       → SpellsAt bytes (suc k) tokens f
@@ -51,5 +52,5 @@ pub data SpellsAt (bytes : List ℕ) : ℕ → List Token → Formula Token → 
       → tokens ≡ opening ∷ (inner ++ closing ∷ []) → SpellsAt bytes 6 inner f → SpellsAt bytes zero tokens f
 
 -- the tokens spell the formula
-unfoldable pub Spells : List ℕ → List Token → Formula Token → Type 0
+unfoldable pub Spells : Text → List Token → Formula Token → Type 0
 Spells bytes tokens f = SpellsAt bytes 6 tokens f

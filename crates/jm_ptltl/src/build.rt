@@ -3,8 +3,8 @@ ghost use Rattle.std.specs.Prelude.{◌≡◌, ◌≤◌, ◌∷◌, ◌++◌, [
 ghost use Rattle.jm_text.specs.declared.token.Token.{Token};
 ghost use Rattle.jm_events.specs.Events.{event_names};
 ghost use Rattle.jm_ptltl.specs.Formulas.{Formula, postfix};
-ghost use Rattle.jm_ptltl.specs.Faults.{formula_said, node_said, with_nodes, first_fault};
-ghost use Rattle.jm_reading.specs.Faults.{Answers, Checks};
+ghost use Rattle.jm_ptltl.specs.Faults.{formula_said, node_said, with_node, first_fault};
+ghost use Rattle.jm_reading.specs.Faults.{Answers, Checks, with_each};
 
 use crate::faults::Words;
 use crate::formula::Node;
@@ -38,7 +38,7 @@ fn nodes_of(
     table: &EventTable,
     nodes: &[Node<Token>],
 ) -> Result<Items<Node<Letter>>, SpecError>
-    ensures { Answers result (with_nodes bytes.now (event_names table.now) [] nodes.now) }
+    ensures { Answers result (with_each (with_node bytes.now (event_names table.now)) [] nodes.now) }
 {
     let mut said = Items::new(alloc);
     for node in nodes {

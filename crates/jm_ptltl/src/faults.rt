@@ -10,11 +10,11 @@ impl GrammarWords for Words {
     ghost reserved = { is_grammar_word };
 
     fn is_reserved(name: &str) -> bool {
-        name == "S"
-            || name == "not"
-            || name == "and"
+        name == "not"
             || name == "or"
             || name == "xor"
+            || name == "and"
+            || name == "S"
             || name == "true"
             || name == "false"
     }

@@ -4,7 +4,7 @@ ghost use Rattle.std.specs.Prelude.{ℕ, ◌≡◌, ◌≢◌, ◌<◌, ◌≤�
 ghost use Rattle.jm_text.specs.declared.token.Token.{Token};
 ghost use Rattle.jm_ptltl.specs.declared.formula.Node.{Node};
 ghost use Rattle.jm_ptltl.specs.Formulas.{Formula, postfix};
-ghost use Rattle.jm_ptltl.specs.Answers.{AddsBy, Gives};
+ghost use Rattle.jm_ptltl.specs.Answers.{Takes, Gives};
 ghost use Rattle.jm_ptltl.specs.Rules.{Read, class_at, is_prefix, begins, operand_at, atom_at, over_all, join_at, skip_at, part_at, inside_at, formula_at, behind_all, closing};
 
 use crate::formula::{Binary, Node, Unary};
@@ -92,7 +92,7 @@ fn close(mut starts: Vec<usize>, nodes: &mut Items<Node<Token>>) -> Result<(), S
 #[cycle(formula)]
 fn part(cursor: &mut Cursor, rank: u8, nodes: &mut Items<Node<Token>>) -> Result<(), SpecError>
     requires { rank ≤ 6 }
-    ensures reads { AddsBy cursor.old.bytes.now (λ inner. part_at cursor.old.bytes.now inner rank) result nodes.old nodes.new cursor.old.rest.now cursor.new.rest.now }
+    ensures reads { Takes cursor.old result cursor.new (λ bytes inner. part_at bytes inner rank) nodes.old nodes.new }
     ensures bytes { cursor.new.bytes.now ≡ cursor.old.bytes.now }
     ensures left { OnOk result (length cursor.new.rest.now < length cursor.old.rest.now) }
 {
@@ -111,7 +111,7 @@ fn joined(cursor: &mut Cursor, rank: u8, nodes: &mut Items<Node<Token>>) -> Resu
     requires some { 0 < rank }
     requires few { rank ≤ 6 }
     requires other { rank ≢ 5 }
-    ensures reads { AddsBy cursor.old.bytes.now (λ inner. part_at cursor.old.bytes.now inner rank) result nodes.old nodes.new cursor.old.rest.now cursor.new.rest.now }
+    ensures reads { Takes cursor.old result cursor.new (λ bytes inner. part_at bytes inner rank) nodes.old nodes.new }
     ensures bytes { cursor.new.bytes.now ≡ cursor.old.bytes.now }
     ensures left { OnOk result (length cursor.new.rest.now < length cursor.old.rest.now) }
 {
@@ -128,7 +128,8 @@ fn join(cursor: &mut Cursor, rank: u8, nodes: &mut Items<Node<Token>>) -> Result
     requires some { 0 < rank }
     requires few { rank ≤ 6 }
     ensures reads { (before : List (Node Token)) (f : Formula Token) → nodes.old ≡ before ++ postfix f →
-        AddsBy cursor.old.bytes.now (λ inner. join_at cursor.old.bytes.now (part_at cursor.old.bytes.now inner (rank - 1)) f) result before nodes.new cursor.old.rest.now cursor.new.rest.now }
+        Takes cursor.old result cursor.new (λ bytes inner. join_at bytes (part_at bytes inner (rank - 1)) f)
+        before nodes.new }
     ensures bytes { cursor.new.bytes.now ≡ cursor.old.bytes.now }
     ensures left { OnOk result (length cursor.new.rest.now < length cursor.old.rest.now) }
 {
@@ -145,7 +146,7 @@ fn join(cursor: &mut Cursor, rank: u8, nodes: &mut Items<Node<Token>>) -> Result
 /// Parts with `=>` between them, which group to the right.
 #[cycle(formula)]
 fn implications(cursor: &mut Cursor, nodes: &mut Items<Node<Token>>) -> Result<(), SpecError>
-    ensures reads { AddsBy cursor.old.bytes.now (λ inner. part_at cursor.old.bytes.now inner 5) result nodes.old nodes.new cursor.old.rest.now cursor.new.rest.now }
+    ensures reads { Takes cursor.old result cursor.new (λ bytes inner. part_at bytes inner 5) nodes.old nodes.new }
     ensures bytes { cursor.new.bytes.now ≡ cursor.old.bytes.now }
     ensures left { OnOk result (length cursor.new.rest.now < length cursor.old.rest.now) }
 {
@@ -164,7 +165,8 @@ fn imply(
     starts: &mut Vec<usize>,
     nodes: &mut Items<Node<Token>>,
 ) -> Result<(), SpecError>
-    ensures reads { AddsBy cursor.old.bytes.now (λ inner. skip_at (part_at cursor.old.bytes.now inner 4)) result nodes.old nodes.new cursor.old.rest.now cursor.new.rest.now }
+    ensures reads { Takes cursor.old result cursor.new
+        (λ bytes inner. skip_at (part_at bytes inner 4)) nodes.old nodes.new }
     ensures starts { OnOk result (starts.new.items ≡ starts.old.items ++ length nodes.old ∷ []) }
     ensures bytes { cursor.new.bytes.now ≡ cursor.old.bytes.now }
     ensures left { OnOk result (length cursor.new.rest.now < length cursor.old.rest.now) }
@@ -177,7 +179,7 @@ fn imply(
 /// Operators of one part, and an atom.
 #[cycle(formula)]
 fn operand(cursor: &mut Cursor, nodes: &mut Items<Node<Token>>) -> Result<(), SpecError>
-    ensures reads { AddsBy cursor.old.bytes.now (λ inner. operand_at cursor.old.bytes.now inner) result nodes.old nodes.new cursor.old.rest.now cursor.new.rest.now }
+    ensures reads { Takes cursor.old result cursor.new operand_at nodes.old nodes.new }
     ensures bytes { cursor.new.bytes.now ≡ cursor.old.bytes.now }
     ensures left { OnOk result (length cursor.new.rest.now < length cursor.old.rest.now) }
 {
@@ -189,7 +191,7 @@ fn operand(cursor: &mut Cursor, nodes: &mut Items<Node<Token>>) -> Result<(), Sp
 /// An event, `true`, `false`, or a formula in parentheses.
 #[cycle(formula)]
 fn atom(cursor: &mut Cursor, nodes: &mut Items<Node<Token>>) -> Result<(), SpecError>
-    ensures reads { AddsBy cursor.old.bytes.now (λ inner. atom_at cursor.old.bytes.now inner) result nodes.old nodes.new cursor.old.rest.now cursor.new.rest.now }
+    ensures reads { Takes cursor.old result cursor.new atom_at nodes.old nodes.new }
     ensures bytes { cursor.new.bytes.now ≡ cursor.old.bytes.now }
     ensures left { OnOk result (length cursor.new.rest.now < length cursor.old.rest.now) }
 {
@@ -217,7 +219,7 @@ fn atom(cursor: &mut Cursor, nodes: &mut Items<Node<Token>>) -> Result<(), SpecE
 /// A formula and the `)` behind it.
 #[cycle(formula)]
 fn nested(cursor: &mut Cursor, nodes: &mut Items<Node<Token>>) -> Result<(), SpecError>
-    ensures reads { AddsBy cursor.old.bytes.now (λ inner. inside_at cursor.old.bytes.now inner) result nodes.old nodes.new cursor.old.rest.now cursor.new.rest.now }
+    ensures reads { Takes cursor.old result cursor.new inside_at nodes.old nodes.new }
     ensures bytes { cursor.new.bytes.now ≡ cursor.old.bytes.now }
     ensures left { OnOk result (length cursor.new.rest.now < length cursor.old.rest.now) }
 {
