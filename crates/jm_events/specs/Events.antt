@@ -2,24 +2,25 @@ use Rattle.std.specs.Prelude.{ℕ, ◌==◌, Bool, ◌||◌, List, [], ◌∷◌
 use Rattle.std.specs.List.{list_any}
 use Rattle.std.specs.Option.{option_map_or}
 use Rattle.std.specs.Str.{bytes_eq}
+use Rattle.jm_model.specs.Words.{Text, Mask}
 use Rattle.jm_model.specs.declared.fault.Counted.TheVariants.{Parameters, Events}
 use Rattle.jm_model.specs.declared.fault.SpecFault.{SpecFault}
 use Rattle.jm_model.specs.declared.fault.SpecFault.TheVariants.{DuplicateParameter, DuplicateEvent, TooMany}
 
 -- an event: its name, the set of its parameters, whether it is a creation event, and the line of its first mention
 pub record EventDefinition : Type 0 where
-  pub name : List ℕ
-  pub mask : ℕ
+  pub name : Text
+  pub mask : Mask
   pub creation : Bool
   pub line : ℕ
 
 -- the names of a specification's parameters, and its events; a letter is the place of an event
 pub record EventDefinitions : Type 0 where
-  pub parameters : List (List ℕ)
+  pub parameters : List Text
   pub events : List EventDefinition
 
 -- the names of the events
-abbrev pub event_names : EventDefinitions → List (List ℕ)
+abbrev pub event_names : EventDefinitions → List Text
 event_names t = map (λ e. e.name) t.events
 
 -- the event of a letter is a creation event
@@ -27,17 +28,17 @@ abbrev pub IsCreation : EventDefinitions → ℕ → Type 0
 IsCreation t letter = IsSomeAnd (slice_get t.events letter) (λ e. IsTrue e.creation)
 
 -- what is wrong with one more parameter: its name is there, or eight are
-abbrev pub parameter_fault : EventDefinitions → List ℕ → ℕ → Option SpecFault
+abbrev pub parameter_fault : EventDefinitions → Text → ℕ → Option SpecFault
 parameter_fault t name line =
     if list_any (bytes_eq name) t.parameters then Some (DuplicateParameter line)
     else (if length t.parameters == 8 then Some (TooMany Parameters) else None)
 
 -- the definitions with one parameter more
-abbrev pub with_parameter : EventDefinitions → List ℕ → EventDefinitions
+abbrev pub with_parameter : EventDefinitions → Text → EventDefinitions
 with_parameter t name = record t { parameters = t.parameters ++ name ∷ [] }
 
 -- the event of a name
-abbrev pub event_named : EventDefinitions → List ℕ → Option EventDefinition
+abbrev pub event_named : EventDefinitions → Text → Option EventDefinition
 event_named t name = find (λ e. bytes_eq name e.name) t.events
 
 -- what is wrong with a mention of an event: its name is there with another set of parameters, or it is new and 32

@@ -3,6 +3,7 @@ ghost use Rattle.std.specs.List.{IsDistinct};
 ghost use Rattle.std.specs.Str.{bytes_eq};
 ghost use Rattle.jm_events.specs.Names.{number_of};
 ghost use Rattle.jm_events.specs.Events.{EventDefinition, event_names, IsCreation, parameter_fault, with_parameter, event_fault, with_event};
+ghost use Rattle.jm_events.specs.Rows.{event_of};
 
 use crate::names::Names;
 use jm_model::{Counted, Letter, NoMemory, SpecError, SpecFault};
@@ -119,67 +120,64 @@ impl EventTable {
         line: u32,
     ) -> Result<Letter, SpecError>
         requires { mask < 2 ^ length self.old.parameters }
-        ensures refused { let e : EventDefinition = record { name = name.now; mask = mask; creation = creation; line = line } in
+        ensures refused { let e : EventDefinition =
+            record { name = name.now; mask = mask; creation = creation; line = line } in
             IfSome (event_fault self.old e) (λ fault. result ≡ Err (SpecError.Bad fault)) }
-        ensures accepted { let e : EventDefinition = record { name = name.now; mask = mask; creation = creation; line = line } in
+        ensures accepted { let e : EventDefinition =
+            record { name = name.now; mask = mask; creation = creation; line = line } in
             IfNone (event_fault self.old e) (IsOkUnless result SpecError.NoMemory) }
         ensures letter { IfOk result (λ letter. slice_get (event_names self.new) letter.0 ≡ Some name.now) }
-        ensures ok { let e : EventDefinition = record { name = name.now; mask = mask; creation = creation; line = line } in
+        ensures ok { let e : EventDefinition =
+            record { name = name.now; mask = mask; creation = creation; line = line } in
             OnOk result (self.new ≡ with_event self.old e) }
         ensures err { OnErr result (self.new ≡ self.old) }
     {
+        let row = Row {
+            mask,
+            creation,
+            line,
+        };
         match self.letter(name) {
-            Some(letter) => self.mention(letter, mask, creation, line),
-            None => self.define(name, mask, creation, line),
+            Some(letter) => self.mention(letter, row),
+            None => self.define(name, row),
         }
     }
 
     /// Adds a mention of an event that is there.
-    fn mention(
-        &mut self,
-        letter: Letter,
-        mask: u8,
-        creation: bool,
-        line: u32,
-    ) -> Result<Letter, SpecError>
+    fn mention(&mut self, letter: Letter, said: Row) -> Result<Letter, SpecError>
         requires { letter.0 < length self.old.events }
         ensures refused { (known : EventDefinition) → slice_get self.old.events letter.0 ≡ Some known →
-            known.mask ≢ mask → result ≡ Err (SpecError.Bad (SpecFault.DuplicateEvent line)) }
+            known.mask ≢ said.mask → result ≡ Err (SpecError.Bad (SpecFault.DuplicateEvent said.line)) }
         ensures accepted { (known : EventDefinition) → slice_get self.old.events letter.0 ≡ Some known →
-            known.mask ≡ mask → result ≡ Ok letter }
+            known.mask ≡ said.mask → result ≡ Ok letter }
         ensures ok { (known : EventDefinition) → slice_get self.old.events letter.0 ≡ Some known →
             OnOk result (self.new ≡ record self.old {
               events =
-                  slice_set self.old.events letter.0 (record known { creation = known.creation || creation });
+                  slice_set self.old.events letter.0 (record known { creation = known.creation || said.creation });
             }) }
         ensures err { OnErr result (self.new ≡ self.old) }
     {
         let row = self.row(letter);
-        if row.mask != mask {
+        if row.mask != said.mask {
+            let line = said.line;
             return Err(SpecError::Bad(SpecFault::DuplicateEvent { line }));
         }
-        let creation = row.creation | creation;
+        let creation = row.creation | said.creation;
         set_row(&mut self.rows, letter, Row { creation, ..row });
         Ok(letter)
     }
 
     /// Adds a new event.
-    fn define(
-        &mut self,
-        name: &str,
-        mask: u8,
-        creation: bool,
-        line: u32,
-    ) -> Result<Letter, SpecError>
+    fn define(&mut self, name: &str, row: Row) -> Result<Letter, SpecError>
         requires absent { number_of (event_names self.old) name.now ≡ None }
-        requires bits { mask < 2 ^ length self.old.parameters }
+        requires bits { row.mask < 2 ^ length self.old.parameters }
         ensures refused { length self.old.events ≡ 32
             → result ≡ Err (SpecError.Bad (SpecFault.TooMany Counted.Events)) }
         ensures accepted { length self.old.events ≢ 32 → IsOkUnless result SpecError.NoMemory }
         ensures letter { IfOk result (λ letter. letter.0 ≡ length self.old.events) }
         ensures ok { OnOk result (self.new ≡ record self.old {
           events =
-              self.old.events ++ record { name = name.now; mask = mask; creation = creation; line = line } ∷ [];
+              self.old.events ++ event_of name.now row ∷ [];
         }) }
         ensures err { OnErr result (self.new ≡ self.old) }
     {
@@ -187,11 +185,6 @@ impl EventTable {
             let what = Counted::Events;
             return Err(SpecError::Bad(SpecFault::TooMany { what }));
         }
-        let row = Row {
-            mask,
-            creation,
-            line,
-        };
         self.rows.reserve(1)?;
         let number = self.events.append(name)?;
         self.rows.push_reserved(row);
@@ -296,7 +289,6 @@ impl EventTable {
         self.row(letter).line
     }
 
-    /// What is known of an event beside its name.
     fn row(&self, letter: Letter) -> Row
         requires { letter.0 < length self.now.events }
         ensures mask { option_map (λ e. e.mask) (slice_get self.now.events letter.0) ≡ Some result.mask }
@@ -313,19 +305,5 @@ impl EventTable {
         ensures { slice_get self.now.parameters p ≡ Some result.now }
     {
         self.params.name(p as u32)
-    }
-
-    /// An equal table.
-    pub fn copy(&self) -> Result<EventTable, NoMemory>
-        ensures { IfOk result (λ table. table ≡ self.now) }
-    {
-        let rows = self.rows.clone()?;
-        let params = self.params.copy()?;
-        let events = self.events.copy()?;
-        Ok(EventTable {
-            params,
-            events,
-            rows,
-        })
     }
 }

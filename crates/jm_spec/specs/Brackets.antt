@@ -1,5 +1,6 @@
 -- The brackets of a run of tokens.
 use Rattle.std.specs.Prelude.{ℕ, ◌==◌, Bool, true, false, not, List, [], ◌∷◌, ◌++◌, Option, Some, None, option_map, count_by, nat_lt, if◌then◌else◌}
+use Rattle.jm_model.specs.Words.{Text}
 use Rattle.jm_text.specs.declared.token.Token.{Token}
 use Rattle.jm_text.specs.Spans.{text_of}
 use Rattle.jm_text.specs.Texts.{is_mark_kind}
@@ -22,12 +23,12 @@ sign_of_byte b =
     else if b == 59 then Semicolon
     else Plain
 
-abbrev pub sign_of_text : List ℕ → Sign
+abbrev pub sign_of_text : Text → Sign
 sign_of_text (b ∷ []) = sign_of_byte b
 sign_of_text _ = Plain
 
 -- what a token means to the runs: that of its byte, if it is a mark of one byte (so `(*)` and `[*]` are no brackets)
-unfoldable pub sign_of : List ℕ → Token → Sign
+unfoldable pub sign_of : Text → Token → Sign
 sign_of bytes token = if is_mark_kind token.kind then sign_of_text (text_of bytes token) else Plain
 
 -- outside a list of parameters angle brackets are no brackets

@@ -1,6 +1,7 @@
 -- What is wrong with a frame, step by step.
 use Rattle.std.specs.Prelude.{ℕ, ◌^◌, Bool, ◌&&◌, List, [], ◌∷◌, length, Option, Some, None, Result, Ok, Err, codes, nat_le, bit_or, if◌then◌else◌}
 use Rattle.std.specs.Str.{bytes_eq}
+use Rattle.jm_model.specs.Words.{Text, Mask}
 use Rattle.jm_model.specs.declared.fault.SpecFault.{SpecFault}
 use Rattle.jm_model.specs.declared.fault.SpecFault.TheVariants.{UnsupportedModifier, UnsupportedAdvice, NoProperty, SecondProperty, UnsupportedLogic}
 use Rattle.jm_text.specs.declared.token.Token.{Token}
@@ -42,12 +43,12 @@ property_fault (p ∷ []) = None
 property_fault (p ∷ q ∷ ps) = Some (SecondProperty q.logic.line)
 
 -- the name that a token of the bytes says, if it says one
-unfoldable pub name_of : List ℕ → Token → Option (List ℕ)
+unfoldable pub name_of : Text → Token → Option Text
 name_of bytes token = if nat_le token.start token.end && nat_le token.end (length bytes) && is_name bytes token
     then Some (text_of bytes token) else None
 
 -- the logic of a name
-abbrev pub logic_named : List ℕ → Option Logic
+abbrev pub logic_named : Text → Option Logic
 logic_named name =
     if bytes_eq name (codes "fsm") then Some Fsm
     else if bytes_eq name (codes "ere") then Some Ere
@@ -55,11 +56,11 @@ logic_named name =
     else if bytes_eq name (codes "ptltl") then Some Ptltl
     else None
 
-abbrev pub logic_said : Option (List ℕ) → Option Logic
+abbrev pub logic_said : Option Text → Option Logic
 logic_said None = None
 logic_said (Some name) = logic_named name
 
-abbrev pub logic_of : List ℕ → Token → Option Logic
+abbrev pub logic_of : Text → Token → Option Logic
 logic_of bytes token = logic_said (name_of bytes token)
 
 -- the property's logic is one of the four
@@ -67,7 +68,7 @@ abbrev pub unless_known : Option Logic → SpecFault → Option SpecFault
 unless_known None fault = Some fault
 unless_known (Some logic) fault = None
 
-abbrev pub logic_fault : List ℕ → List Property → Option SpecFault
+abbrev pub logic_fault : Text → List Property → Option SpecFault
 logic_fault bytes [] = None
 logic_fault bytes (p ∷ ps) = unless_known (logic_of bytes p.logic) (UnsupportedLogic p.logic.line)
 
@@ -77,53 +78,53 @@ unless None t = Ok t
 unless (Some fault) t = Err fault
 
 -- the table with one parameter more
-abbrev pub with_param : EventDefinitions → Option (List ℕ) → ℕ → Result EventDefinitions SpecFault
+abbrev pub with_param : EventDefinitions → Option Text → ℕ → Result EventDefinitions SpecFault
 with_param t None line = Ok t
 with_param t (Some name) line = unless (parameter_fault t name line) (with_parameter t name)
 
 -- the table with the parameters of the head, one after the other (each of them is a name)
-abbrev pub with_params : List ℕ → EventDefinitions → List Token → Result EventDefinitions SpecFault
+abbrev pub with_params : Text → EventDefinitions → List Token → Result EventDefinitions SpecFault
 with_params bytes = with_each (λ t p. with_param t (name_of bytes p) p.line)
 
 -- a set of parameters with a parameter more, if there is one
-abbrev pub with_bit : ℕ → Option ℕ → ℕ
+abbrev pub with_bit : Mask → Option ℕ → Mask
 with_bit mask None = mask
 with_bit mask (Some p) = bit_or mask (2 ^ p)
 
-abbrev pub number_said : EventDefinitions → Option (List ℕ) → Option ℕ
+abbrev pub number_said : EventDefinitions → Option Text → Option ℕ
 number_said t None = None
 number_said t (Some name) = number_of t.parameters name
 
 -- this set and those of the names that are parameters
-abbrev pub with_names : List ℕ → EventDefinitions → ℕ → List Token → ℕ
+abbrev pub with_names : Text → EventDefinitions → Mask → List Token → Mask
 with_names bytes t mask [] = mask
 with_names bytes t mask (n ∷ ns) = with_names bytes t (with_bit mask (number_said t (name_of bytes n))) ns
 
 -- the table with a mention of an event more
-abbrev pub with_mention : EventDefinitions → Option (List ℕ) → ℕ → Bool → ℕ → Result EventDefinitions SpecFault
+abbrev pub with_mention : EventDefinitions → Option Text → Mask → Bool → ℕ → Result EventDefinitions SpecFault
 with_mention t None mask creation line = Ok t
 with_mention t (Some name) mask creation line =
     let e : EventDefinition = record { name = name; mask = mask; creation = creation; line = line } in unless
     (event_fault t e) (with_event t e)
 
 -- an event's parameters are the names of its lists that are parameters
-abbrev pub with_advice : List ℕ → EventDefinitions → Mention → Advice → Result EventDefinitions SpecFault
+abbrev pub with_advice : Text → EventDefinitions → Mention → Advice → Result EventDefinitions SpecFault
 with_advice bytes t e (Known names) =
     with_mention t (name_of bytes e.name) (with_names bytes t 0 names) e.creation e.name.line
 with_advice bytes t e (Other line) = Ok t
 
 -- the table with the events, one mention after the other
-abbrev pub with_events : List ℕ → EventDefinitions → List Mention → Result EventDefinitions SpecFault
+abbrev pub with_events : Text → EventDefinitions → List Mention → Result EventDefinitions SpecFault
 with_events bytes = with_each (λ t e. with_advice bytes t e e.advice)
 
 -- the table of a frame: first its parameters, then its events
-abbrev pub table_of : List ℕ → List Token → List Mention → Result EventDefinitions SpecFault
+abbrev pub table_of : Text → List Token → List Mention → Result EventDefinitions SpecFault
 table_of bytes params events =
     with_params bytes (record { parameters = []; events = [] }) params >>> λ t. with_events bytes t events
 
 -- the fault of the first step that has one: the modifiers, the advice, the number of properties, the logic, the
 -- parameters and the events
-unfoldable pub frame_fault : List ℕ → Frame → Option SpecFault
+unfoldable pub frame_fault : Text → Frame → Option SpecFault
 frame_fault bytes frame =
     or_else (modifier_fault frame.modifiers)
     (or_else (advice_fault frame.events)

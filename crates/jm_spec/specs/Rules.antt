@@ -1,5 +1,6 @@
 -- What each rule of the frame's grammar reads at the front of a list of tokens.
 use Rattle.std.specs.Prelude.{ℕ, ◌+◌, ◌-◌, Bool, true, false, not, ◌&&◌, ◌||◌, List, [], ◌∷◌, ◌++◌, length, take, drop, Option, Some, None, codes, ◌==◌, nat_lt, slice_get, option_and_then, if◌then◌else◌}
+use Rattle.jm_model.specs.Words.{Text}
 use Rattle.jm_text.specs.declared.token.Token.{Token}
 use Rattle.jm_text.specs.Texts.{is_mark}
 use Rattle.jm_spec.specs.declared.head.Modifier.{Modifier}
@@ -16,27 +17,27 @@ use Rattle.jm_reading.specs.Taking.{Rule}
 use Rattle.jm_spec.specs.Reading.{place, any_word_at, passed, unkept, gathered_at}
 
 -- ( "package" | "import" ) Run ";"
-abbrev pub begins_clause : List ℕ → List Token → Bool
+abbrev pub begins_clause : Text → List Token → Bool
 begins_clause bytes tokens = is_word_at bytes tokens 0 (codes "package") || is_word_at bytes tokens 0 (codes "import")
 
-unfoldable pub clause_at : List ℕ → List Token → Option (List Token)
+unfoldable pub clause_at : Text → List Token → Option (List Token)
 clause_at bytes tokens = passed tokens (clause_length bytes tokens)
 
 abbrev pub clauses_at : Rule (Unit {0})
 clauses_at = gathered_at begins_clause (unkept clause_at) tt
 
 -- Modifier = Word { "-" Word }
-unfoldable pub more_word_at : List ℕ → List Token → Option (List Token)
+unfoldable pub more_word_at : Text → List Token → Option (List Token)
 more_word_at bytes tokens = mark_at bytes (codes "-") tokens >>= any_word_at
 
-abbrev pub begins_more_word : List ℕ → List Token → Bool
+abbrev pub begins_more_word : Text → List Token → Bool
 begins_more_word bytes tokens = is_mark_at bytes tokens 0 (codes "-")
 
 abbrev pub more_words_at : Rule (Unit {0})
 more_words_at = gathered_at begins_more_word (unkept more_word_at) tt
 
 -- the modifier that these tokens spell
-abbrev pub modifier_of : List ℕ → List Token → Modifier
+abbrev pub modifier_of : Text → List Token → Modifier
 modifier_of bytes tokens =
     if (length tokens == 1) && (is_word_at bytes tokens 0 (codes "unsynchronized")
     || is_word_at bytes tokens 0 (codes "decentralized")) then NoEffect
@@ -51,14 +52,14 @@ modifier_at modifiers bytes tokens = do
   Some (modifiers ++ modifier_of bytes (take (length tokens - length rest.1) tokens) ∷ [], rest.1)
 
 -- { Modifier } before a name and its list
-abbrev pub begins_modifier : List ℕ → List Token → Bool
+abbrev pub begins_modifier : Text → List Token → Bool
 begins_modifier bytes tokens = not (is_mark_at bytes tokens 1 (codes "("))
 
 abbrev pub modifiers_at : Rule (List Modifier)
 modifiers_at = gathered_at begins_modifier modifier_at []
 
 -- Param = Type NAME, where the type isn't empty
-abbrev pub named_at : List Token → List ℕ → List Token → ℕ → Option (List Token × List Token)
+abbrev pub named_at : List Token → Text → List Token → ℕ → Option (List Token × List Token)
 named_at names bytes tokens n =
     if nat_lt n 2 || not (is_name_at bytes tokens (n - 1)) then None
     else option_and_then (λ t. Some (names ++ t ∷ [], drop n tokens)) (slice_get tokens (n - 1))
@@ -69,7 +70,7 @@ param_at names bytes tokens = parameter_length bytes tokens >>= named_at names b
 unfoldable pub more_param_at : List Token → Rule (List Token)
 more_param_at names bytes tokens = mark_at bytes (codes ",") tokens >>= param_at names bytes
 
-abbrev pub begins_more_param : List ℕ → List Token → Bool
+abbrev pub begins_more_param : Text → List Token → Bool
 begins_more_param bytes tokens = is_mark_at bytes tokens 0 (codes ",")
 
 abbrev pub more_params_at : List Token → Rule (List Token)
@@ -90,11 +91,11 @@ list_at names bytes tokens = do
   Some (all.0, rest)
 
 -- the tokens up to and with the first `;` or the first block outside brackets
-unfoldable pub run_at : List ℕ → List Token → Option (List Token)
+unfoldable pub run_at : Text → List Token → Option (List Token)
 run_at bytes tokens = passed tokens (member_length bytes tokens)
 
 -- ":" Pointcut End
-unfoldable pub pointcut_at : List ℕ → List Token → Option (List Token)
+unfoldable pub pointcut_at : Text → List Token → Option (List Token)
 pointcut_at bytes tokens = mark_at bytes (codes ":") tokens >>= run_at bytes
 
 -- "before" List ":" Pointcut End
@@ -111,7 +112,7 @@ optional_list_at names bytes tokens =
     if is_mark_at bytes tokens 0 (codes "(") then list_at names bytes tokens else Some (names, tokens)
 
 -- [ word [ List ] ]
-unfoldable pub outcome_at : List ℕ → List Token → Rule (List Token)
+unfoldable pub outcome_at : Text → List Token → Rule (List Token)
 outcome_at word names bytes tokens = if is_word_at bytes tokens 0 word
     then (any_word_at tokens >>= optional_list_at names bytes) else Some (names, tokens)
 
@@ -144,7 +145,7 @@ creation_at bytes tokens = if is_word_at bytes tokens 0 (codes "creation")
     then (any_word_at tokens >>= λ rest. Some (true, rest)) else Some (false, tokens)
 
 -- an event begins with `event` and a name, or with `creation`, `event` and a name
-abbrev pub begins_event : List ℕ → List Token → Bool
+abbrev pub begins_event : Text → List Token → Bool
 begins_event bytes tokens =
     (is_word_at bytes tokens 0 (codes "event") && is_name_at bytes tokens 1)
     || (is_word_at bytes tokens 0 (codes "creation") && is_word_at bytes tokens 1
@@ -165,17 +166,17 @@ member_at events bytes tokens = if begins_event bytes tokens then event_at event
     else (run_at bytes tokens >>= λ rest. Some (events, rest))
 
 -- members stand up to the first property or the end of the body
-abbrev pub begins_member : List ℕ → List Token → Bool
+abbrev pub begins_member : Text → List Token → Bool
 begins_member bytes tokens = not (is_mark_at bytes tokens 0 (codes "}") || begins_property bytes tokens)
 
 abbrev pub members_at : Rule (List Mention)
 members_at = gathered_at begins_member member_at []
 
-abbrev pub begins_handler : List ℕ → List Token → Bool
+abbrev pub begins_handler : Text → List Token → Bool
 begins_handler bytes tokens = is_mark_at bytes tokens 0 (codes "@")
 
 -- properties stand up to the end of the body
-abbrev pub goes_on : List ℕ → List Token → Bool
+abbrev pub goes_on : Text → List Token → Bool
 goes_on bytes tokens = not (is_mark_at bytes tokens 0 (codes "}"))
 
 -- in a file of so many tokens
@@ -224,7 +225,7 @@ at_end x (t ∷ ts) = None
 
 -- File = { ( "package" | "import" ) Run ";" } { Modifier } NAME List "{" { Declaration | Event } { Property { Handler }
 -- } "}", in a file of so many tokens
-unfoldable pub frame_at : ℕ → List ℕ → List Token → Option Frame
+unfoldable pub frame_at : ℕ → Text → List Token → Option Frame
 frame_at total bytes tokens = do
   head ← clauses_at bytes tokens
   modifiers ← modifiers_at bytes head.1
@@ -243,5 +244,5 @@ frame_at total bytes tokens = do
   }) behind
 
 -- what the tokens of a whole file say
-abbrev pub frame_of : List ℕ → List Token → Option Frame
+abbrev pub frame_of : Text → List Token → Option Frame
 frame_of bytes tokens = frame_at (length tokens) bytes tokens

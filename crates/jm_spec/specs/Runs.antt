@@ -1,5 +1,6 @@
 -- How far the runs of the grammar go.
 use Rattle.std.specs.Prelude.{ℕ, ◌+◌, Bool, true, false, not, ◌&&◌, ◌||◌, List, [], ◌∷◌, Option, Some, None, option_map, option_and_then, codes, if◌then◌else◌}
+use Rattle.jm_model.specs.Words.{Text}
 use Rattle.jm_text.specs.declared.token.Token.{Token}
 use Rattle.jm_text.specs.Texts.{is_name, is_mark}
 use Rattle.jm_spec.specs.declared.brackets.Bracket.{Bracket}
@@ -17,7 +18,7 @@ abbrev pub one_more : Option ℕ → Option ℕ
 one_more n = plus 1 n
 
 -- the tokens up to and with the first `;`
-abbrev pub clause_length : List ℕ → List Token → Option ℕ
+abbrev pub clause_length : Text → List Token → Option ℕ
 clause_length bytes [] = None
 clause_length bytes (t ∷ ts) = if is_mark bytes t (codes ";") then Some 1 else one_more (clause_length bytes ts)
 
@@ -39,13 +40,13 @@ member_behind sign (Some stack) more = if ends_member stack sign then Some 1 els
 
 -- inside these brackets: the tokens up to and with the first `;` or the first block outside brackets, if they match. A
 -- block outside brackets ends with a `}` that leaves none open.
-abbrev pub member_rest : List ℕ → List Bracket → List Token → Option ℕ
+abbrev pub member_rest : Text → List Bracket → List Token → Option ℕ
 member_rest bytes stack [] = None
 member_rest bytes stack (t ∷ ts) =
     member_behind (without_angles (sign_of bytes t)) (after_sign stack (without_angles (sign_of bytes t)))
     (λ inner. member_rest bytes inner ts)
 
-abbrev pub member_length : List ℕ → List Token → Option ℕ
+abbrev pub member_length : Text → List Token → Option ℕ
 member_length bytes tokens = member_rest bytes [] tokens
 
 abbrev pub is_none_open : List Bracket → Bool
@@ -65,25 +66,25 @@ parameter_behind stack sign more =
 
 -- inside these brackets: the tokens before the next comma that parts parameters or the `)` that ends them, if they
 -- match
-abbrev pub parameter_rest : List ℕ → List Bracket → List Token → Option ℕ
+abbrev pub parameter_rest : Text → List Bracket → List Token → Option ℕ
 parameter_rest bytes stack [] = None
 parameter_rest bytes stack (t ∷ ts) = parameter_behind stack (sign_of bytes t) (λ inner. parameter_rest bytes inner ts)
 
-abbrev pub parameter_length : List ℕ → List Token → Option ℕ
+abbrev pub parameter_length : Text → List Token → Option ℕ
 parameter_length bytes tokens = parameter_rest bytes [] tokens
 
 -- a name and a colon begin a property
-abbrev pub begins_property : List ℕ → List Token → Bool
+abbrev pub begins_property : Text → List Token → Bool
 begins_property bytes (t ∷ u ∷ ts) = is_name bytes t && is_mark bytes u (codes ":")
 begins_property bytes _ = false
 
 -- a formula ends before a `@`, a `}` and a property
-abbrev pub ends_formula : List ℕ → List Token → Bool
+abbrev pub ends_formula : Text → List Token → Bool
 ends_formula bytes [] = false
 ends_formula bytes (t ∷ ts) =
     is_mark bytes t (codes "@") || is_mark bytes t (codes "}") || begins_property bytes (t ∷ ts)
 
 -- the tokens before the first `@`, the first `}`, or the first name with a colon behind it
-abbrev pub formula_length : List ℕ → List Token → Option ℕ
+abbrev pub formula_length : Text → List Token → Option ℕ
 formula_length bytes [] = None
 formula_length bytes (t ∷ ts) = if ends_formula bytes (t ∷ ts) then Some 0 else one_more (formula_length bytes ts)

@@ -1,6 +1,7 @@
 -- The grammar of a frame: which tokens spell what. Each rule stands above what says it.
 use Rattle.std.specs.Prelude.{ℕ, ◌+◌, ◌<◌, ◌≡◌, ◌≢◌, ◌⊎◌, true, false, List, [], ◌∷◌, ◌++◌, length, take, Option, Some, None, codes, option_and_then}
 use Rattle.std.specs.List.{list_any}
+use Rattle.jm_model.specs.Words.{Text}
 use Rattle.jm_text.specs.declared.token.Token.{Token}
 use Rattle.jm_text.specs.Texts.{is_word, is_mark, is_word_kind}
 use Rattle.jm_reading.specs.Tokens.{IsName, IsWord, IsMark}
@@ -39,10 +40,10 @@ abbrev pub SpelledAnywhere : {V : Type 0} → (List Token → List V → Type 0)
 SpelledAnywhere X tokens xs = Spelled (λ at. X) 0 tokens xs
 
 -- Clause = ( "package" | "import" ) Run ";", where a Run has no `;`
-abbrev pub BeginsClause : List ℕ → Token → Type 0
+abbrev pub BeginsClause : Text → Token → Type 0
 BeginsClause bytes t = IsWord bytes (codes "package") t ⊎ IsWord bytes (codes "import") t
 
-pub data SpellsClause (bytes : List ℕ) : List Token → Type 0 where
+pub data SpellsClause (bytes : Text) : List Token → Type 0 where
   clause : (word : Token) (run : List Token) (semicolon : Token)
       → BeginsClause bytes word
       → list_any (λ t. is_mark bytes t (codes ";")) run ≡ false
@@ -50,18 +51,18 @@ pub data SpellsClause (bytes : List ℕ) : List Token → Type 0 where
       → SpellsClause bytes (word ∷ run ++ semicolon ∷ [])
 
 -- Modifier = Word { "-" Word }
-pub data SpellsMoreWord (bytes : List ℕ) : List Token → Type 0 where
+pub data SpellsMoreWord (bytes : Text) : List Token → Type 0 where
   more_word : (dash word : Token) → IsMark bytes (codes "-") dash → IsAnyWord word
       → SpellsMoreWord bytes (dash ∷ word ∷ [])
 
-pub data SpellsModifier (bytes : List ℕ) : List Token → List Modifier → Type 0 where
+pub data SpellsModifier (bytes : Text) : List Token → List Modifier → Type 0 where
   modifier : (word : Token) (more : List Token)
       → IsAnyWord word
       → Repeats (SpellsMoreWord bytes) more
       → SpellsModifier bytes (word ∷ more) (modifier_of bytes (word ∷ more) ∷ [])
 
 -- the brackets that are open behind a run of a list of parameters, where angle brackets are brackets too, if they match
-abbrev pub open_in_list : List ℕ → List Bracket → List Token → Option (List Bracket)
+abbrev pub open_in_list : Text → List Bracket → List Token → Option (List Bracket)
 open_in_list bytes stack [] = Some stack
 open_in_list bytes stack (t ∷ ts) =
     option_and_then (λ inner. open_in_list bytes inner ts) (after_sign stack (sign_of bytes t))
@@ -72,32 +73,32 @@ Holds None = ⊥
 Holds (Some stack) = hold_commas stack ≡ true
 
 -- a Type is a balanced run that isn't empty; its commas stand in angle, round or square brackets
-pub record IsType (bytes : List ℕ) (run : List Token) : Type 0 where
+pub record IsType (bytes : Text) (run : List Token) : Type 0 where
   pub filled : run ≢ []
   pub balanced : open_in_list bytes [] run ≡ Some []
   pub held : (front behind : List Token) (comma : Token) → run ≡ front ++ comma ∷ behind → sign_of bytes comma ≡ Comma
       → Holds (open_in_list bytes [] front)
 
 -- Param = Type NAME
-pub data SpellsParam (bytes : List ℕ) : List Token → List Token → Type 0 where
+pub data SpellsParam (bytes : Text) : List Token → List Token → Type 0 where
   param : (type : List Token) (name : Token) → IsType bytes type → IsName bytes name
       → SpellsParam bytes (type ++ name ∷ []) (name ∷ [])
 
 -- List = "(" [ Param { "," Param } ] ")"
-pub data SpellsMoreParam (bytes : List ℕ) : List Token → List Token → Type 0 where
+pub data SpellsMoreParam (bytes : Text) : List Token → List Token → Type 0 where
   more_param : (comma : Token) (run : List Token) (names : List Token)
       → IsMark bytes (codes ",") comma
       → SpellsParam bytes run names
       → SpellsMoreParam bytes (comma ∷ run) names
 
-pub data SpellsParams (bytes : List ℕ) : List Token → List Token → Type 0 where
+pub data SpellsParams (bytes : Text) : List Token → List Token → Type 0 where
   no_params : SpellsParams bytes [] []
   some_params : (first more names others : List Token)
       → SpellsParam bytes first names
       → SpelledAnywhere (SpellsMoreParam bytes) more others
       → SpellsParams bytes (first ++ more) (names ++ others)
 
-pub data SpellsList (bytes : List ℕ) : List Token → List Token → Type 0 where
+pub data SpellsList (bytes : Text) : List Token → List Token → Type 0 where
   list : (opening : Token) (params : List Token) (closing : Token) (names : List Token)
       → IsMark bytes (codes "(") opening
       → SpellsParams bytes params names
@@ -106,19 +107,19 @@ pub data SpellsList (bytes : List ℕ) : List Token → List Token → Type 0 wh
 
 -- a balanced run up to and with its first `;` or its first Block outside brackets: a Declaration, and so a Pointcut
 -- with its End, and an Other with its End
-pub record RunsToEnd (bytes : List ℕ) (run : List Token) : Type 0 where
+pub record RunsToEnd (bytes : Text) (run : List Token) : Type 0 where
   pub ends : EndsMember bytes run
   pub first : (k : ℕ) → k < length run → EndsMember bytes (take k run) → ⊥
 
 -- [ word [ List ] ]
-pub data SpellsOutcome (bytes word : List ℕ) : List Token → List Token → Type 0 where
+pub data SpellsOutcome (bytes word : Text) : List Token → List Token → Type 0 where
   missing : SpellsOutcome bytes word [] []
   alone : (t : Token) → IsWord bytes word t → SpellsOutcome bytes word (t ∷ []) []
   with_list : (t : Token) (params names : List Token) → IsWord bytes word t → SpellsList bytes params names
       → SpellsOutcome bytes word (t ∷ params) names
 
 -- no advice that is known begins so, and it isn't empty
-pub record BeginsOther (bytes : List ℕ) (t : Token) : Type 0 where
+pub record BeginsOther (bytes : Text) (t : Token) : Type 0 where
   pub not_before : is_word bytes t (codes "before") ≡ false
   pub not_after : is_word bytes t (codes "after") ≡ false
   pub no_end : is_mark bytes t (codes ";") ≡ false
@@ -127,7 +128,7 @@ pub record BeginsOther (bytes : List ℕ) (t : Token) : Type 0 where
 -- Advice = "before" List ":" Pointcut End
 --        | "after" List [ "returning" [ List ] ] [ "throwing" [ List ] ] ":" Pointcut End
 --        | Other End
-pub data SpellsAdvice (bytes : List ℕ) : List Token → Advice → Type 0 where
+pub data SpellsAdvice (bytes : Text) : List Token → Advice → Type 0 where
   before : (word : Token) (params names : List Token) (colon : Token) (run : List Token)
       → IsWord bytes (codes "before") word
       → SpellsList bytes params names
@@ -146,7 +147,7 @@ pub data SpellsAdvice (bytes : List ℕ) : List Token → Advice → Type 0 wher
       → SpellsAdvice bytes (first ∷ more) (Other first.line)
 
 -- Event = [ "creation" ] "event" NAME Advice
-pub data SpellsEvent (bytes : List ℕ) : List Token → Mention → Type 0 where
+pub data SpellsEvent (bytes : Text) : List Token → Mention → Type 0 where
   event : (word name : Token) (said : List Token) (a : Advice)
       → IsWord bytes (codes "event") word
       → IsName bytes name
@@ -160,14 +161,14 @@ pub data SpellsEvent (bytes : List ℕ) : List Token → Mention → Type 0 wher
       → SpellsEvent bytes (creates ∷ word ∷ name ∷ said) (record { creation = true; name = name; advice = a })
 
 -- Declaration | Event: what begins as an event or as a property is no Declaration
-pub data SpellsMember (bytes : List ℕ) : List Token → List Mention → Type 0 where
+pub data SpellsMember (bytes : Text) : List Token → List Mention → Type 0 where
   declaration : (run : List Token) → RunsToEnd bytes run → begins_event bytes run ≡ false
       → begins_property bytes run ≡ false → SpellsMember bytes run []
   an_event : (tokens : List Token) (e : Mention) → SpellsEvent bytes tokens e → SpellsMember bytes tokens (e ∷ [])
 
 -- Handler = "@" NAME Block, where a Block is a balanced run in `{` and `}`. It is kept where the inside begins and
 -- ends.
-pub data SpellsHandler (bytes : List ℕ) (at : ℕ) : List Token → List HandlerText → Type 0 where
+pub data SpellsHandler (bytes : Text) (at : ℕ) : List Token → List HandlerText → Type 0 where
   handler : (sign category opening : Token) (inside : List Token) (closing : Token)
       → IsMark bytes (codes "@") sign
       → IsName bytes category
@@ -178,12 +179,12 @@ pub data SpellsHandler (bytes : List ℕ) (at : ℕ) : List Token → List Handl
       (record { category = category; first = at + 3; last = at + 3 + length inside } ∷ [])
 
 -- a Formula: nothing in it is a `@` or a `}`, or begins a property
-abbrev pub IsFormula : List ℕ → List Token → Type 0
+abbrev pub IsFormula : Text → List Token → Type 0
 IsFormula bytes [] = Unit {0}
 IsFormula bytes (t ∷ ts) = (ends_formula bytes (t ∷ ts) ≡ false) × IsFormula bytes ts
 
 -- Property = NAME ":" Formula, and its handlers. It is kept where the formula begins and ends.
-pub data SpellsProperty (bytes : List ℕ) (at : ℕ) : List Token → List Property → Type 0 where
+pub data SpellsProperty (bytes : Text) (at : ℕ) : List Token → List Property → Type 0 where
   property : (logic colon : Token) (formula handling : List Token) (handlers : List HandlerText)
       → IsName bytes logic
       → IsMark bytes (codes ":") colon
@@ -193,12 +194,12 @@ pub data SpellsProperty (bytes : List ℕ) (at : ℕ) : List Token → List Prop
       (record { logic = logic; first = at + 2; last = at + 2 + length formula; handlers = handlers } ∷ [])
 
 -- no clause begins so
-abbrev pub BeginsNoClause : List ℕ → List Token → Type 0
+abbrev pub BeginsNoClause : Text → List Token → Type 0
 BeginsNoClause bytes [] = Unit {0}
 BeginsNoClause bytes (t ∷ ts) = BeginsClause bytes t → ⊥
 
 -- Head = { Modifier } NAME List, which doesn't begin as a clause does
-pub data SpellsHead (bytes : List ℕ) : List Token → List Modifier → Token → List Token → Type 0 where
+pub data SpellsHead (bytes : Text) : List Token → List Modifier → Token → List Token → Type 0 where
   head : (modifying : List Token) (modifiers : List Modifier) (name : Token) (params names : List Token)
       → SpelledAnywhere (SpellsModifier bytes) modifying modifiers
       → IsName bytes name
@@ -207,7 +208,7 @@ pub data SpellsHead (bytes : List ℕ) : List Token → List Modifier → Token 
       → SpellsHead bytes (modifying ++ name ∷ params) modifiers name names
 
 -- Body = "{" { Declaration | Event } { Property { Handler } } "}"
-pub data SpellsBody (bytes : List ℕ) (at : ℕ) : List Token → List Mention → List Property → Type 0 where
+pub data SpellsBody (bytes : Text) (at : ℕ) : List Token → List Mention → List Property → Type 0 where
   body : (opening : Token) (members : List Token) (events : List Mention) (stating : List Token)
       (properties : List Property) (closing : Token)
       → IsMark bytes (codes "{") opening
@@ -217,7 +218,7 @@ pub data SpellsBody (bytes : List ℕ) (at : ℕ) : List Token → List Mention 
       → SpellsBody bytes at (opening ∷ members ++ stating ++ closing ∷ []) events properties
 
 -- File = { Clause } Head Body
-pub data Spells (bytes : List ℕ) : List Token → Frame → Type 0 where
+pub data Spells (bytes : Text) : List Token → Frame → Type 0 where
   file : (clauses heading : List Token) (modifiers : List Modifier) (name : Token) (params : List Token)
       (within : List Token) (events : List Mention) (properties : List Property)
       → Repeats (SpellsClause bytes) clauses

@@ -1,6 +1,7 @@
 -- The tree of a frame, and what a reader of a specification answers.
 use Rattle.std.specs.Prelude.{ℕ, ◌≡◌, ◌<◌, ◌≤◌, Bool, true, false, List, [], ◌∷◌, Some, None, Ok}
 use Rattle.std.specs.List.{list_any}
+use Rattle.jm_model.specs.Words.{Text}
 use Rattle.jm_model.specs.declared.fault.SpecError.{SpecError}
 use Rattle.jm_model.specs.declared.fault.SpecError.TheVariants.{Bad, NoMemory}
 use Rattle.jm_model.specs.declared.fault.SpecFault.TheVariants.{Syntax}
@@ -19,7 +20,7 @@ is_full_binding FullBinding = true
 is_full_binding _ = false
 
 -- the tree has what the property says
-pub record TellsProperty (bytes : List ℕ) (p : Property) (tree : SpecTree) : Type 0 where
+pub record TellsProperty (bytes : Text) (p : Property) (tree : SpecTree) : Type 0 where
   pub logic : logic_of bytes p.logic ≡ Some tree.logic
   pub logic_line : tree.logic_line ≡ p.logic.line
   pub first : tree.first ≡ p.first
@@ -27,24 +28,24 @@ pub record TellsProperty (bytes : List ℕ) (p : Property) (tree : SpecTree) : T
   pub handlers : tree.handlers.items ≡ p.handlers
 
 -- the tree has what the one property says
-abbrev pub TellsProperties : List ℕ → List Property → SpecTree → Type 0
+abbrev pub TellsProperties : Text → List Property → SpecTree → Type 0
 TellsProperties bytes (p ∷ []) tree = TellsProperty bytes p tree
 TellsProperties bytes _ tree = ⊥
 
 -- the tree is that of the frame
-pub record IsTreeOf (bytes : List ℕ) (frame : Frame) (tree : SpecTree) : Type 0 where
+pub record IsTreeOf (bytes : Text) (frame : Frame) (tree : SpecTree) : Type 0 where
   pub name : tree.name ≡ frame.name
   pub full_binding : tree.full_binding ≡ list_any is_full_binding frame.modifiers
   pub table : table_of bytes frame.params frame.events ≡ Ok tree.table
   pub property : TellsProperties bytes frame.properties tree
 
 -- the tokens spell a frame without a fault, whose tree this is
-abbrev pub IsTreeOfTokens : List ℕ → List Token → SpecTree → Type 0
+abbrev pub IsTreeOfTokens : Text → List Token → SpecTree → Type 0
 IsTreeOfTokens bytes tokens tree =
     (frame : Frame) × Spells bytes tokens frame × (frame_fault bytes frame ≡ None) × IsTreeOf bytes frame tree
 
 -- the tokens spell no frame, unless memory is short
-abbrev pub IsUnspelled : List ℕ → List Token → SpecError → Type 0
+abbrev pub IsUnspelled : Text → List Token → SpecError → Type 0
 IsUnspelled bytes tokens NoMemory = Unit {0}
 IsUnspelled bytes tokens (Bad (Syntax line)) = (frame : Frame) → Spells bytes tokens frame → ⊥
 IsUnspelled bytes tokens (Bad _) = ⊥
@@ -54,5 +55,5 @@ abbrev pub HasRange : ℕ → Property → Type 0
 HasRange n p = (0 < p.first) × (p.first ≤ p.last) × (p.last ≤ n)
 
 -- the tokens spell no frame, or one with this first fault, unless memory is short
-abbrev pub IsFaultOfTokens : List ℕ → List Token → SpecError → Type 0
+abbrev pub IsFaultOfTokens : Text → List Token → SpecError → Type 0
 IsFaultOfTokens bytes tokens = IsRefusedBy (Spells bytes tokens) (frame_fault bytes)

@@ -118,7 +118,6 @@ fn known_advice(events: &[Mention]) -> Result<(), SpecError>
     Ok(())
 }
 
-/// The one property.
 fn only_property(properties: Items<Property>) -> Result<Property, SpecError>
     ensures only { IfOk result (λ p. properties ≡ p ∷ []) }
     ensures checked { Checks result (property_fault properties) }

@@ -1,6 +1,7 @@
 -- The tokens of a specification: its bytes are cut into pieces from the front on, and the pieces that are white space
 -- or comments are dropped.
 use Rattle.std.specs.Prelude.{ℕ, zero, suc, ◌≡◌, ◌+◌, ◌-◌, ◌<◌, ◌≤◌, ◌==◌, List, [], ◌∷◌, Result, Ok, Err, if◌then◌else◌, IsUtf8}
+use Rattle.jm_model.specs.Words.{Text}
 use Rattle.jm_model.specs.declared.fault.SpecError.{SpecError}
 use Rattle.jm_model.specs.declared.fault.SpecError.TheVariants.{Bad, NoMemory}
 use Rattle.jm_model.specs.declared.fault.SpecFault.TheVariants.{NotUtf8, OpenText}
@@ -36,7 +37,7 @@ led_by Open start line tokens = Err line
 
 -- the tokens of the bytes behind the first few, which belong to the piece before; the first byte stands at this place
 -- and on this line
-abbrev pub tokens_behind : ℕ → List ℕ → ℕ → ℕ → Result (List Token) ℕ
+abbrev pub tokens_behind : ℕ → Text → ℕ → ℕ → Result (List Token) ℕ
 tokens_behind taken [] start line = Ok []
 tokens_behind (suc taken) (b ∷ bs) start line = tokens_behind taken bs (start + 1) (line_after b line)
 tokens_behind zero (b ∷ bs) start line =
@@ -44,21 +45,21 @@ tokens_behind zero (b ∷ bs) start line =
     (tokens_behind (piece_length (piece_of (b ∷ bs)) - 1) bs (start + 1) (line_after b line))
 
 -- the tokens of a whole file, or the line of the first text or comment that isn't closed; lines are counted from 1
-unfoldable pub token_list : List ℕ → Result (List Token) ℕ
+unfoldable pub token_list : Text → Result (List Token) ℕ
 token_list bytes = tokens_behind 0 bytes 0 1
 
 -- the bytes are UTF-8, and these are their tokens
-pub record AreTokensOf (bytes : List ℕ) (tokens : List Token) : Type 0 where
+pub record AreTokensOf (bytes : Text) (tokens : List Token) : Type 0 where
   pub utf8 : IsUtf8 bytes
   pub cut : token_list bytes ≡ Ok tokens
 
 -- the bytes are UTF-8, and the first text or comment that isn't closed opens on this line
-pub record IsOpenOn (bytes : List ℕ) (line : ℕ) : Type 0 where
+pub record IsOpenOn (bytes : Text) (line : ℕ) : Type 0 where
   pub utf8 : IsUtf8 bytes
   pub cut : token_list bytes ≡ Err line
 
 -- why the bytes have no tokens, unless memory is short
-abbrev pub IsFaultOf : List ℕ → SpecError → Type 0
+abbrev pub IsFaultOf : Text → SpecError → Type 0
 IsFaultOf bytes NoMemory = Unit {0}
 IsFaultOf bytes (Bad NotUtf8) = ¬ (IsUtf8 bytes)
 IsFaultOf bytes (Bad (OpenText line)) = IsOpenOn bytes line

@@ -41,12 +41,12 @@ fn name_at<'a>(names: &'a Names, number: &str) -> &'a str {
     }
 }
 
-/// What the steps of a case are answered, over a table that is empty at first, and on a line each what the table tells
-/// then, and a copy of it. The line of a mention is that of its step.
+/// What the steps of a case are answered, over a table that is empty at first, and on a line what the table tells then.
+/// The line of a mention is that of its step.
 pub(crate) fn events(alloc: Global, case: &Case) -> Result<String, SpecError> {
     let mut table = EventTable::new(alloc);
     let mut out = filled(alloc, &mut table, text_of(&case.text))?;
-    put_both(alloc, &mut out, &table, case.first.as_str())?;
+    put_table(alloc, &mut out, &table, case.first.as_str())?;
     Ok(out)
 }
 
@@ -60,19 +60,6 @@ fn filled(alloc: Global, table: &mut EventTable, steps: &str) -> Result<String, 
         put_word(&mut out, answer.as_str())?;
     }
     Ok(out)
-}
-
-/// Appends the lines of a table and of a copy of it.
-fn put_both(
-    alloc: Global,
-    out: &mut String,
-    table: &EventTable,
-    asked: &str,
-) -> Result<(), SpecError> {
-    put_table(alloc, out, table, asked)?;
-    let copy = table.copy()?;
-    put_table(alloc, out, &copy, asked)?;
-    Ok(())
 }
 
 /// A step: `param NAME`, or `event NAME MASK` or `creation NAME MASK`.

@@ -11,4 +11,4 @@ returns-clause-ok c = λ known here.
     let was : known.creation ≡ c.row-row.result.creation = option_map-at (λ e. e.creation) _ known _ here c.row-row.ensures.creation in
     let line : known.line ≡ c.row-row.result.line = option_map-at (λ e. e.line) _ known _ here c.row-row.ensures.line in
     rw (← c.self.view_is, c.set_row.ensures)
-    (same_events _ _ _ (mention_at _ _ _ known c.row-row.result c.args.creation c.self.invariant.row_each (rw (← c.self.view_is) at here) mask was line))
+    (same_events _ _ _ (mention_at _ _ _ known c.row-row.result c.args.said.creation c.self.invariant.row_each (rw (← c.self.view_is) at here) mask was line))
