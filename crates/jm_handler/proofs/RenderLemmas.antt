@@ -18,23 +18,9 @@ flat_map-next f xs i x h is =
     ap (flat_map f) (take_more xs i x h) ∙ flat_map-append f (take i xs) (get_or xs i x ∷ [])
     ∙ ap (λ y. flat_map f (take i xs) ++ (f y ++ [])) (sym is) ∙ ap (λ t. flat_map f (take i xs) ++ t) (append-nil (f x))
 
-pub written_item : {X : Type 0} (f : X → List ℕ) (xs : List X) (i : ℕ) (x : X) (front page new : List ℕ) → i < length xs → x ≡ get_or xs i x
-    → page ≡ front ++ flat_map f (take i xs) → new ≡ page ++ f x → new ≡ front ++ flat_map f (take (i + 1) xs)
-written_item f xs i x front page new h is so_far more =
-    more ∙ ap (λ p. p ++ f x) so_far ∙ append_assoc front (flat_map f (take i xs)) (f x) ∙ ap (λ t. front ++ t) (sym (flat_map-next f xs i x h is))
-
 -- a text is written as its parts are
 pub broken-append : (a b : List ℕ) → broken (a ++ b) ≡ broken a ++ broken b
 broken-append a b = flat_map-append broken_byte a b
-
-pub written_term : (at : Occasion) (terms : List Term) (i : ℕ) (x : Term) (front page new : List ℕ) → i < length terms → x ≡ get_or terms i x
-    → page ≡ front ++ broken (statement_text at (take i terms)) → new ≡ page ++ broken (term_text at x)
-    → new ≡ front ++ broken (statement_text at (take (i + 1) terms))
-written_term at terms i x front page new h is so_far more =
-    let before = statement_text at (take i terms) in
-    more ∙ ap (λ p. p ++ broken (term_text at x)) so_far ∙ append_assoc front (broken before) (broken (term_text at x))
-    ∙ ap (λ t. front ++ t) (sym (broken-append before (term_text at x)))
-    ∙ ap (λ t. front ++ broken t) (sym (flat_map-next (term_text at) terms i x h is))
 
 -- ---- lines
 first_longer : (b : ℕ) (pieces : List (List ℕ)) (rest : List ℕ) → flat_map piece_line pieces ≡ codes "  > " ++ rest

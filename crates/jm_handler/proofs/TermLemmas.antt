@@ -25,9 +25,6 @@ pub record GoesOn (bytes : List ℕ) (ps : List (List ℕ)) (tokens : List Token
   pub sound : (more : List Term) → AreMoreTerms bytes ps rest more → (all : List Term) × (AreMoreTerms bytes ps tokens all) × (now ++ more ≡ start ++ all)
   pub complete : (all : List Term) → AreMoreTerms bytes ps tokens all → (more : List Term) × AreMoreTerms bytes ps rest more
 
-pub goes_on-start : (bytes : List ℕ) (ps : List (List ℕ)) (tokens : List Token) (start : List Term) → GoesOn bytes ps tokens start tokens start
-goes_on-start bytes ps tokens start = record { sound = λ more h. (more, h, refl); complete = λ all h. (all, h) }
-
 pub goes_on-next : (bytes : List ℕ) (ps : List (List ℕ)) (tokens : List Token) (start now next : List Term) (plus t : Token) (ts : List Token) (x : Term)
     → GoesOn bytes ps tokens start (plus ∷ t ∷ ts) now → is_mark bytes plus (codes "+") ≡ true → term_of bytes ps t ≡ Some x → next ≡ now ++ x ∷ []
     → GoesOn bytes ps tokens start ts next
@@ -121,11 +118,6 @@ all_terms bytes ps tokens behind d start now new (Ok false) h none cut first not
     λ terms are.
     let (x, more, e, is, rest) = subst (λ (v : List Token). AreTerms bytes ps v terms) (first_token tokens d h) are in
     not_more more (subst (λ (v : List Token). AreMoreTerms bytes ps v more) (sym cut) rest)
-
-pub no_first_term : (bytes : List ℕ) (ps : List (List ℕ)) (tokens : List Token) (d : Token) → 0 < length tokens → term_of bytes ps (get_or tokens 0 d) ≡ None
-    → (terms : List Term) → AreTerms bytes ps tokens terms → ⊥
-no_first_term bytes ps tokens d h none terms are =
-    let (x, more, e, is, rest) = subst (λ (v : List Token). AreTerms bytes ps v terms) (first_token tokens d h) are in cc
 
 pub no_tokens : (bytes : List ℕ) (ps : List (List ℕ)) (tokens : List Token) (terms : List Term) → (length tokens == 0) ≡ true → terms ≡ [] → AreTerms bytes ps tokens terms
 no_tokens bytes ps [] terms e none = none

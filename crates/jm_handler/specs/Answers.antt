@@ -1,10 +1,11 @@
 -- What the calls of the reader answer.
 use Rattle.std.specs.Prelude.{ℕ, ◌≡◌, ◌⊎◌, List, [], ◌∷◌, ◌++◌, Some}
+use Rattle.jm_model.specs.Words.{Text}
 use Rattle.jm_text.specs.declared.token.Token.{Token}
 use Rattle.jm_handler.specs.declared.term.Term.{Term}
 use Rattle.jm_handler.specs.Terms.{term_of, AreMoreTerms, AreTerms, Prints}
 
-module _ (bytes : List ℕ) (parameters : List (List ℕ)) where
+module _ (bytes : Text) (parameters : List Text) where
   -- the tokens aren't terms with a `+` between two, or don't go on so behind a term, or aren't a statement that prints
   abbrev pub AreNoTerms : List Token → Type 0
   AreNoTerms tokens = (terms : List Term) → AreTerms bytes parameters tokens terms → ⊥

@@ -22,7 +22,6 @@ impl Model for Statement {
 }
 
 impl Statement {
-    /// No term.
     pub(crate) fn new(alloc: Global) -> Statement
         ensures { result ≡ [] }
     {
@@ -38,7 +37,6 @@ impl Statement {
         Ok(self.terms.push(term)?)
     }
 
-    /// The terms.
     pub(crate) fn terms(&self) -> &[Term]
         ensures { result.now ≡ self.now }
     {
@@ -63,7 +61,6 @@ impl Model for Handler {
 }
 
 impl Handler {
-    /// No statement.
     pub(crate) fn new(alloc: Global) -> Handler
         ensures { result ≡ [] }
     {
@@ -79,7 +76,6 @@ impl Handler {
         Ok(self.statements.push(statement)?)
     }
 
-    /// The statements.
     pub(crate) fn statements(&self) -> &[Statement]
         ensures { result.now ≡ self.now }
     {

@@ -67,8 +67,12 @@ fn statement_of(
     ensures { IfOk result (λ statement. MatchOption statement (PrintsNone bytes.now table.now.parameters run.now)
         (Prints bytes.now table.now.parameters run.now)) }
 {
-    if run.len() >= 8 && is_call(alloc, bytes, run) && is_called(alloc, bytes, run) {
-        terms_of(alloc, bytes, &run[6..run.len() - 2], table)
+    if run.len() < 8 || !is_call(alloc, bytes, run) || !is_called(alloc, bytes, run) {
+        return Ok(None);
+    }
+    let mut terms = Statement::new(alloc);
+    if all_terms(alloc, bytes, &run[6..run.len() - 2], table, &mut terms)? {
+        Ok(Some(terms))
     } else {
         Ok(None)
     }
@@ -97,25 +101,6 @@ fn is_called(alloc: Global, bytes: &[u8], run: &[Token]) -> bool
     let end = run.len();
     let run = Cursor::new(alloc, bytes, run, 0);
     run.is_mark_at(end - 2, b")") && run.is_mark_at(end - 1, b";")
-}
-
-/// The terms that the tokens say, if they say terms.
-fn terms_of(
-    alloc: Global,
-    bytes: &[u8],
-    tokens: &[Token],
-    table: &EventTable,
-) -> Result<Option<Statement>, NoMemory>
-    requires { LieWithin bytes.now tokens.now }
-    ensures { IfOk result (λ terms. MatchOption terms (AreNoTerms bytes.now table.now.parameters tokens.now)
-        (AreTerms bytes.now table.now.parameters tokens.now)) }
-{
-    let mut terms = Statement::new(alloc);
-    if all_terms(alloc, bytes, tokens, table, &mut terms)? {
-        Ok(Some(terms))
-    } else {
-        Ok(None)
-    }
 }
 
 /// Adds the terms that the tokens say, if they say terms.

@@ -83,7 +83,6 @@ impl Handler {
 }
 
 impl Occasion<'_> {
-    /// The statements.
     fn statements(&self, page: &mut Vec<u8>, statements: &[Statement]) -> Result<(), NoMemory>
         requires { AreNamed self.now.objects self.now.instance }
         ensures { OnOk result (page.new.items ≡ page.old.items ++ handler_text self.now statements.now) }
@@ -94,7 +93,7 @@ impl Occasion<'_> {
         Ok(())
     }
 
-    /// The lines of a statement.
+    /// Adds the lines of a statement: its terms, cut at their line breaks.
     fn statement(&self, page: &mut Vec<u8>, statement: &Statement) -> Result<(), NoMemory>
         requires { AreNamed self.now.objects self.now.instance }
         ensures { OnOk result (page.new.items
@@ -105,7 +104,7 @@ impl Occasion<'_> {
         end(page)
     }
 
-    /// The terms of a statement.
+    /// Goes on with the terms of a statement.
     fn terms(&self, page: &mut Vec<u8>, terms: &[Term]) -> Result<(), NoMemory>
         requires { AreNamed self.now.objects self.now.instance }
         ensures { OnOk result (page.new.items ≡ page.old.items ++ broken (statement_text self.now terms.now)) }
@@ -116,7 +115,6 @@ impl Occasion<'_> {
         Ok(())
     }
 
-    /// A term.
     fn term(&self, page: &mut Vec<u8>, term: &Term) -> Result<(), NoMemory>
         requires { AreNamed self.now.objects self.now.instance }
         ensures { OnOk result (page.new.items ≡ page.old.items ++ broken (term_text self.now term.now)) }

@@ -1,5 +1,5 @@
-//! How far the runs of the grammar go over the tokens that are left. Each call that meets a token that can't go on names
-//! that token's line, and at the end of the file the last line.
+//! How far the runs of the grammar go over the tokens that are left. Each call that meets a token that can't go on
+//! names that token's line, and at the end of the file the last line.
 ghost use Rattle.std.specs.Prelude.{◌≡◌, ◌<◌, ◌≤◌, length, IfOk};
 ghost use Rattle.jm_text.specs.Spans.{LieWithin};
 ghost use Rattle.jm_reading.specs.Answers.{Gives};
