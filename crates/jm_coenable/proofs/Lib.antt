@@ -1,4 +1,3 @@
-pub mod MaskSetLemmas
 pub mod SetLemmas
 pub mod NeedLemmas
 pub mod ArrivalLemmas

@@ -1,4 +1,3 @@
 pub mod Needs
-pub mod MaskSets
 pub mod Rounds
 pub mod Searches

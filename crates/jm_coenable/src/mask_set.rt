@@ -5,24 +5,27 @@ ghost use Rattle.jm_coenable.specs.Needs.{IsAlive};
 ghost use Rattle.jm_coenable.specs.Searches.{IsJoined};
 
 use jm_model::NoMemory;
+use jm_table::NumberSet;
 use std::alloc::Global;
 use std::marker::Model;
 
+/// So many words have a bit for each of 256 masks.
 const WORDS: usize = 4;
 
-/// A set of masks, which are numbers below 256: a bit for each. Contracts see it as the list of its masks, in order.
+/// A set of masks, which are numbers below 256. Contracts see it as the list of its masks, in order.
 #[derive(Drop)]
 pub(crate) struct MaskSet {
-    words: [u64; WORDS],
+    masks: NumberSet<WORDS>,
 }
 
 impl Model for MaskSet {
-    ghost use Rattle.std.specs.Prelude.{ℕ, List};
-    ghost use Rattle.jm_coenable.specs.MaskSets.{masks_in};
+    ghost use Rattle.std.specs.Prelude.{ℕ, ◌<◌, List, Contains};
 
     ghost Value = { List ℕ };
 
-    ghost view = { λ s. masks_in s.words };
+    ghost view = { λ s. s.masks };
+
+    ghost invariant = { λ s. (mask : ℕ) → Contains s.masks mask → mask < 256 };
 }
 
 impl MaskSet {
@@ -30,7 +33,9 @@ impl MaskSet {
     pub(crate) fn new() -> MaskSet
         ensures { (mask : ℕ) → ¬ Contains result mask }
     {
-        MaskSet { words: [0; WORDS] }
+        MaskSet {
+            masks: NumberSet::new(),
+        }
     }
 
     /// Whether the mask is in the set.
@@ -38,8 +43,7 @@ impl MaskSet {
         ensures member { IsTrue result ↔ Contains self.now mask }
         ensures few { (other : ℕ) → Contains self.now other → other < 256 }
     {
-        let word = self.words[mask as usize / 64];
-        (word >> (mask % 64)) & 1 == 1
+        self.masks.contains(mask as u16)
     }
 
     /// Puts a mask into the set.
@@ -48,9 +52,7 @@ impl MaskSet {
         ensures longer { (Contains self.old mask → ⊥) → length self.old < length self.new }
         ensures few { length self.new ≤ 256 }
     {
-        let at = mask as usize / 64;
-        let word = self.words[at];
-        self.words[at] = word | (1 << (mask % 64));
+        self.masks.insert(mask as u16);
     }
 
     /// Puts a mask into the set, if this is wanted.
@@ -67,8 +69,8 @@ impl MaskSet {
     pub(crate) fn insert_joined(&mut self, params: u8, rests: &MaskSet)
         ensures { (mask : ℕ) → Contains self.new mask ↔ (Contains self.old mask ⊎ IsJoined params rests.now mask) }
     {
-        // Its masks are below 256: the proof learns it from the words.
-        let _ = &rests.words;
+        // Its masks are below 256: the proof learns it from the set itself.
+        let _ = &rests.masks;
         for number in 0..256u16 {
             let rest = number as u8;
             let wanted = rests.contains(rest);
@@ -80,8 +82,8 @@ impl MaskSet {
     pub(crate) fn is_alive(&self, dead: u8) -> bool
         ensures { (result ≡ true) ↔ IsAlive (Contains self.now) dead }
     {
-        // Its masks are below 256: the proof learns it from the words.
-        let _ = &self.words;
+        // Its masks are below 256: the proof learns it from the set itself.
+        let _ = &self.masks;
         for number in 0..256u16 {
             let mask = number as u8;
             if self.contains(mask) && mask & dead == 0 {

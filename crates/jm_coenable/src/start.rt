@@ -18,7 +18,8 @@ pub(crate) fn start_masks(
 ) -> MaskSet
     requires fit { AreFit table.now goal.now events.now }
     requires count { length needed.now ≡ table.now.states }
-    ensures { (mask : ℕ) → Contains result mask ↔ IsStart table.now goal.now events.now needed.now table.now.letters mask }
+    ensures { (mask : ℕ) → Contains result mask
+        ↔ IsStart table.now goal.now events.now needed.now table.now.letters mask }
 {
     let mut start = MaskSet::new();
     for letter in 0..table.letters() {

@@ -1,6 +1,6 @@
 pub mod PlaceLemmas
 pub mod FilterLemmas
-pub mod StateSetLemmas
+pub mod NumberSetLemmas
 pub mod BucketLemmas
 pub mod ExplorationLemmas
 pub mod FollowLemmas

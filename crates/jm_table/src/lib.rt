@@ -11,12 +11,13 @@ mod graph;
 mod known;
 mod members;
 mod minimise;
+mod number_set;
 mod partition;
 mod refinement;
-mod state_set;
 mod table;
 
 pub use exploration::build;
 pub use graph::Graph;
 pub use members::places;
+pub use number_set::NumberSet;
 pub use table::Table;

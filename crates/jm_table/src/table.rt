@@ -1,10 +1,13 @@
 ghost use Rattle.std.specs.Prelude.{ℕ, ◌≡◌, ◌<◌, ◌≤◌, ◌*◌, ◌↔◌, List, [], ◌∷◌, ◌++◌, length, map, All, Contains, IsTrue, IfOk, OnErr, vec_len};
 ghost use Rattle.jm_table.specs.Tables.{IsTable, next_of, state_after_of, IsInGroup};
 
-use crate::state_set::StateSet;
+use crate::number_set::NumberSet;
 use jm_model::{Letter, NoMemory};
 use std::alloc::Global;
 use std::marker::Model;
+
+/// So many words have a bit for each of 1,024 states.
+const WORDS: usize = 16;
 
 /// A table of transitions with groups of its states. It has at most 1,024 states, of which state 0 is the start, and
 /// at most 32 letters. Contracts see it as its `Transitions`.
@@ -13,7 +16,7 @@ pub struct Table {
     states: u16,
     /// State by state, and in each letter by letter.
     next: Vec<u16>,
-    groups: Vec<StateSet>,
+    groups: Vec<NumberSet<WORDS>>,
 }
 
 // Written out, so that a drop is one call wherever a table is let go.
@@ -126,7 +129,7 @@ impl Table {
         ensures err { OnErr result (self.new ≡ self.old) }
     {
         let group = self.groups.len() as u16;
-        let mut members = StateSet::new();
+        let mut members = NumberSet::new();
         for state in states {
             members.insert(*state);
         }

@@ -1,5 +1,4 @@
 use Rattle.std.proofs.Common.{ℕ, List, inl, inr, Contains, sym, subst, arith}
-use Rattle.jm_coenable.proofs.MaskSetLemmas.{Contains-masks_in}
 use Rattle.jm_coenable.proofs.StartLemmas.{joined_more}
 use Rattle.jm_coenable.proofs.mask_set.MaskSet.insert_joined.Goals as goal
 
@@ -17,7 +16,7 @@ returns c = λ mask. (
   λ h. elim h [
     | inl b ↦ (c.loop-number.invariant mask).1 (inl b)
     | inr j ↦
-        let few = ((Contains-masks_in c.rests.inside.words j.0).0 (subst (λ (s : List ℕ). Contains s j.0) (sym c.rests.view_is) j.1)).0 in
+        let few = c.rests.invariant j.0 (subst (λ (s : List ℕ). Contains s j.0) (sym c.rests.view_is) j.1) in
         (c.loop-number.invariant mask).1 (inr (j.0, omega (arith, few, c.loop-number-test.false), j.1, j.2))
   ],
 )

@@ -1,5 +1,4 @@
-use Rattle.jm_coenable.proofs.MaskSetLemmas.{no_masks}
 use Rattle.jm_coenable.proofs.mask_set.MaskSet.new.Goals as goal
 
-pub returns : goal.returns
-returns c = no_masks
+pub invariant_of-result : goal.invariant_of-result
+invariant_of-result c = λ mask there. absurd (c.new.ensures mask there)

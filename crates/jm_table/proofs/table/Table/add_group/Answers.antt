@@ -13,7 +13,7 @@ insert-requires c =
 
 pub loop-state-preserved : goal.loop-state-preserved
 loop-state-preserved c =
-    members_more c.args.states.now c.loop-state.state-index c.loop-state.members c.insert.new.self c.loop-state-test.true c.loop-state.invariant c.insert.ensures
+    members_more c.args.states.now c.loop-state.state-index c.loop-state.members c.insert.new.self c.loop-state-test.true c.loop-state.invariant c.insert.ensures.member
 
 pub returns-clause-ok : goal.returns-clause-ok
 returns-clause-ok c =
