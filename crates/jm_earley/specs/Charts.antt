@@ -1,5 +1,6 @@
 -- What charts are, and which word a chart stands for.
 use Rattle.std.specs.Prelude.{ℕ, ◌≡◌, ◌<◌, ◌≤◌, ◌-◌, ◌↔◌, List, length, take, All, Contains, Some, IsBitSet, slice_get}
+use Rattle.jm_model.specs.Words.{Word, Mask}
 use Rattle.jm_grammar.specs.declared.grammar.GrammarSymbol.{GrammarSymbol}
 use Rattle.jm_grammar.specs.declared.grammar.GrammarSymbol.TheVariants.{Letter, Nonterminal}
 use Rattle.jm_grammar.specs.declared.grammar.Production.{Production}
@@ -17,7 +18,7 @@ use Rattle.jm_earley.specs.Places.{AreFutures, AreEarlier}
 -- A grammar, the set of parameters of each letter, and the sets of letters for which a chart keeps what may follow.
 pub record ChartsDefinition : Type 0 where
   pub grammar : GrammarDefinition
-  pub params : List ℕ
+  pub params : List Mask
   pub letter_sets : List LetterSet
 
 -- The places that it keeps.
@@ -35,25 +36,25 @@ AreBelow productions letters = All (λ p. All (IsBelow letters) p.symbols) produ
 
 -- Each nonterminal spells a word, save perhaps the start; the letters have parameters; and the set is that of the
 -- nonterminals that spell the empty word.
-pub record IsReduced (g : GrammarDefinition) (params : List ℕ) (nullable : ℕ) : Type 0 where
+pub record IsReduced (g : GrammarDefinition) (params : List Mask) (nullable : ℕ) : Type 0 where
   pub spell : (n : ℕ) → IsIn g.productions n → DerivesSome g.productions n
   pub letters : AreBelow g.productions (length params)
   pub empty : (n : ℕ) → IsBitSet nullable n ↔ DerivesOf g.productions 0 n
 
 -- the items of each place that is kept are those of the front of the word up to there
-abbrev pub AreItemSets : GrammarDefinition → List ℕ → List Place → Type 0
+abbrev pub AreItemSets : GrammarDefinition → Word → List Place → Type 0
 AreItemSets g word kept =
     (position : ℕ) (p : Place) → place_at kept position ≡ Some p → IsItemSet g (take position word) p.items
 
 -- The place has the items of the word, by the nonterminals that they await too, and what may follow it.
-pub record IsPlaceOf (charts : ChartsDefinition) (word : List ℕ) (p : Place) : Type 0 where
+pub record IsPlaceOf (charts : ChartsDefinition) (word : Word) (p : Place) : Type 0 where
   pub items : IsItemSet charts.grammar word p.items
   pub waiting : IsWaiting charts.grammar p.items p.waiting
   pub futures : AreFutures charts.grammar charts.letter_sets word p.futures
 
 -- The chart stands for the word: its last place is that at the word's end; each place that it keeps is that of a front
 -- of the word; it keeps each place where an item of one of them began; and none that its last place doesn't reach.
-pub record IsChartOf (charts : ChartsDefinition) (word : List ℕ) (chart : ChartDefinition) : Type 0 where
+pub record IsChartOf (charts : ChartsDefinition) (word : Word) (chart : ChartDefinition) : Type 0 where
   pub last : Place
   pub ends : slice_get chart.places (length chart.places - 1) ≡ Some last
   pub here : place_at chart.places (length word) ≡ Some last
@@ -69,7 +70,7 @@ pub record IsPlaceWith (charts : ChartsDefinition) (earlier : List Place) (posit
   pub position_is : p.position ≡ position
   pub items_are : p.items ≡ items
   pub waits : IsWaiting charts.grammar items p.waiting
-  pub follows : (word : List ℕ) → IsItemSet charts.grammar word items
+  pub follows : (word : Word) → IsItemSet charts.grammar word items
       → AreEarlier charts.grammar charts.letter_sets word earlier
       → AreFutures charts.grammar charts.letter_sets word p.futures
 

@@ -1,5 +1,6 @@
 -- What may still follow a word.
 use Rattle.std.specs.Prelude.{ℕ, ◌≡◌, ◌≢◌, List, [], ◌∷◌, ◌++◌, All, Contains, IsBitSet, drop}
+use Rattle.jm_model.specs.Words.{Word}
 use Rattle.jm_grammar.specs.declared.grammar.GrammarSymbol.{GrammarSymbol}
 use Rattle.jm_grammar.specs.declared.grammar.GrammarSymbol.TheVariants.{Nonterminal}
 use Rattle.jm_grammar.specs.declared.grammar.Production.{Production}
@@ -11,9 +12,9 @@ use Rattle.jm_earley.specs.Items.{IsItem}
 -- The rest may follow the nonterminal that is awaited behind a word: nothing follows the start behind no letter; and
 -- inside of a production, what the symbols behind the nonterminal spell is followed by what may follow the production's
 -- left side where the production began.
-pub data IsRest (productions : List Production) (start : ℕ) : List ℕ → ℕ → List ℕ → Type 0 where
+pub data IsRest (productions : List Production) (start : ℕ) : Word → ℕ → Word → Type 0 where
   at_end : IsRest productions start [] start []
-  within : (before spelled word behind follows rest : List ℕ) (p : Production) (front : List GrammarSymbol) (n : ℕ)
+  within : (before spelled word behind follows rest : Word) (p : Production) (front : List GrammarSymbol) (n : ℕ)
       (back : List GrammarSymbol)
       → IsRest productions start before p.left follows
       → Contains productions p
@@ -26,28 +27,28 @@ pub data IsRest (productions : List Production) (start : ℕ) : List ℕ → ℕ
 
 -- the letters may follow a word by way of this item: the symbols behind its dot spell a front of them, and the others
 -- may follow its left side
-pub record IsContinuation (g : GrammarDefinition) (word : List ℕ) (item : Item) (more : List ℕ) : Type 0 where
+pub record IsContinuation (g : GrammarDefinition) (word : Word) (item : Item) (more : Word) : Type 0 where
   pub is_item : IsItem g word item
-  pub behind : List ℕ
-  pub follows : List ℕ
+  pub behind : Word
+  pub follows : Word
   pub more_is : more ≡ behind ++ follows
   pub trees : Trees g.productions (drop item.dot is_item.production.symbols) behind
   pub rest : IsRest g.productions g.start is_item.before is_item.production.left follows
 
 -- some rest of these letters may follow the nonterminal behind the word
-abbrev pub CanEnd : GrammarDefinition → ℕ → List ℕ → ℕ → Type 0
-CanEnd g letters word n = (rest : List ℕ) × All (IsBitSet letters) rest × IsRest g.productions g.start word n rest
+abbrev pub CanEnd : GrammarDefinition → ℕ → Word → ℕ → Type 0
+CanEnd g letters word n = (rest : Word) × All (IsBitSet letters) rest × IsRest g.productions g.start word n rest
 
 -- and one that isn't empty
-abbrev pub CanGoOn : GrammarDefinition → ℕ → List ℕ → ℕ → Type 0
+abbrev pub CanGoOn : GrammarDefinition → ℕ → Word → ℕ → Type 0
 CanGoOn g letters word n =
-    (rest : List ℕ) × All (IsBitSet letters) rest × IsRest g.productions g.start word n rest × (rest ≢ [])
+    (rest : Word) × All (IsBitSet letters) rest × IsRest g.productions g.start word n rest × (rest ≢ [])
 
 -- some word of one or more of these letters, put after the word, gives a word of the grammar
-abbrev pub IsAlive : GrammarDefinition → ℕ → List ℕ → Type 0
-IsAlive g letters word = (more : List ℕ) × All (IsBitSet letters) more × IsWord g (word ++ more) × (more ≢ [])
+abbrev pub IsAlive : GrammarDefinition → ℕ → Word → Type 0
+IsAlive g letters word = (more : Word) × All (IsBitSet letters) more × IsWord g (word ++ more) × (more ≢ [])
 
 -- the nonterminal spells some word of one or more of these letters
 abbrev pub DerivesLetters : List Production → ℕ → ℕ → Type 0
 DerivesLetters productions letters n =
-    (word : List ℕ) × All (IsBitSet letters) word × Derives productions n word × (word ≢ [])
+    (word : Word) × All (IsBitSet letters) word × Derives productions n word × (word ≢ [])

@@ -1,5 +1,6 @@
 -- The items of a word (Earley 1970).
 use Rattle.std.specs.Prelude.{ℕ, ◌≡◌, ◌≤◌, ◌+◌, ◌==◌, ◌↔◌, List, [], ◌∷◌, ◌++◌, Option, Some, None, option_and_then, Contains, length, take, slice_get, if◌then◌else◌}
+use Rattle.jm_model.specs.Words.{Word}
 use Rattle.jm_grammar.specs.declared.grammar.GrammarSymbol.{GrammarSymbol}
 use Rattle.jm_grammar.specs.declared.grammar.GrammarSymbol.TheVariants.{Nonterminal}
 use Rattle.jm_grammar.specs.declared.grammar.Production.{Production}
@@ -9,9 +10,9 @@ use Rattle.jm_earley.specs.declared.item.Item.{Item}
 
 -- The nonterminal is awaited behind the word: from the start on, symbols are derived that spell the word, and the
 -- nonterminal comes next.
-pub data IsAwaited (productions : List Production) (start : ℕ) : List ℕ → ℕ → Type 0 where
+pub data IsAwaited (productions : List Production) (start : ℕ) : Word → ℕ → Type 0 where
   at_start : IsAwaited productions start [] start
-  inside : (before spelled word : List ℕ) (p : Production) (front : List GrammarSymbol) (n : ℕ)
+  inside : (before spelled word : Word) (p : Production) (front : List GrammarSymbol) (n : ℕ)
       (back : List GrammarSymbol)
       → IsAwaited productions start before p.left
       → Contains productions p
@@ -22,19 +23,19 @@ pub data IsAwaited (productions : List Production) (start : ℕ) : List ℕ → 
 
 -- The item is one of the word's: its production's left side is awaited behind the front of the word up to its origin,
 -- and the symbols before its dot spell the rest.
-pub record IsItem (g : GrammarDefinition) (word : List ℕ) (item : Item) : Type 0 where
+pub record IsItem (g : GrammarDefinition) (word : Word) (item : Item) : Type 0 where
   pub production : Production
   pub found : slice_get g.productions item.production ≡ Some production
   pub dot : item.dot ≤ length production.symbols
-  pub before : List ℕ
-  pub spelled : List ℕ
+  pub before : Word
+  pub spelled : Word
   pub word_is : word ≡ before ++ spelled
   pub origin : length before ≡ item.origin
   pub awaited : IsAwaited g.productions g.start before production.left
   pub trees : Trees g.productions (take item.dot production.symbols) spelled
 
 -- the items are those of the word, and no others
-abbrev pub IsItemSet : GrammarDefinition → List ℕ → List Item → Type 0
+abbrev pub IsItemSet : GrammarDefinition → Word → List Item → Type 0
 IsItemSet g word items = (item : Item) → Contains items item ↔ IsItem g word item
 
 -- the symbol behind the item's dot

@@ -8,7 +8,7 @@ use Rattle.jm_grammar.specs.Meanings.{DerivesOf}
 use Rattle.jm_grammar.specs.Rounds.{has_bit}
 use Rattle.jm_earley.specs.declared.rule.Rule.{Rule}
 use Rattle.jm_earley.specs.declared.letter_set.LetterSet.{LetterSet}
-use Rattle.jm_earley.specs.Rules.{only, has, meets}
+use Rattle.jm_earley.specs.Rules.{only, has, no_rule, meets}
 use Rattle.jm_earley.specs.Futures.{DerivesLetters}
 
 -- the set has the nonterminals that spell a word of its letters, and those that spell one of one or more
@@ -52,4 +52,4 @@ abbrev pub spelling_rule : ℕ → ℕ → Production → Rule
 spelling_rule letters known p =
     if are_spelled letters known p.symbols
     then record { gives = only p.left; any = nonterminals p.symbols; always = has_letter p.symbols }
-    else record { gives = 0; any = 0; always = false }
+    else no_rule

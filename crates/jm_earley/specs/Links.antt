@@ -11,7 +11,7 @@ use Rattle.jm_earley.specs.declared.future.Future.{Future}
 use Rattle.jm_earley.specs.declared.place.Place.{Place}
 use Rattle.jm_earley.specs.declared.link.Link.{Link}
 use Rattle.jm_earley.specs.Kept.{place_at}
-use Rattle.jm_earley.specs.Rules.{only, has}
+use Rattle.jm_earley.specs.Rules.{only, has, no_rule}
 use Rattle.jm_earley.specs.LetterSets.{can_spell, can_go_on}
 
 -- the nonterminal that comes next, if the symbols behind it spell a word
@@ -36,13 +36,13 @@ future_at earlier number position =
 
 -- a rest ends behind the next nonterminal, where one ends behind the left side
 abbrev pub ends_rule : Option Link → Option Future → Rule
-ends_rule None there = record { gives = 0; any = 0; always = false }
+ends_rule None there = no_rule
 ends_rule (Some l) (Some there) = record { gives = only l.next; any = 0; always = has there.ends l.left }
 ends_rule (Some l) None = record { gives = only l.next; any = only l.left; always = false }
 
 -- a rest with letters ends there, where the symbols between or the rest behind the left side have letters
 abbrev pub more_rule : ℕ → Option Link → Option Future → Rule
-more_rule ends None there = record { gives = 0; any = 0; always = false }
+more_rule ends None there = no_rule
 more_rule ends (Some l) (Some there) =
     record { gives = only l.next; any = 0; always = l.goes_on && has there.ends l.left || has there.more l.left }
 more_rule ends (Some l) None = record { gives = only l.next; any = only l.left; always = l.goes_on && has ends l.left }

@@ -1,5 +1,6 @@
 -- What a place keeps of what may follow there.
 use Rattle.std.specs.Prelude.{ℕ, ◌≡◌, ◌≢◌, ◌<◌, ◌≤◌, ◌↔◌, List, [], ◌++◌, All, Some, None, IsBitSet, IsTrue, length, take, slice_get}
+use Rattle.jm_model.specs.Words.{Word, Mask}
 use Rattle.jm_grammar.specs.Grammars.{GrammarDefinition}
 use Rattle.jm_grammar.specs.Meanings.{IsWord, IsIn, DerivesSome}
 use Rattle.jm_earley.specs.declared.item.Item.{Item}
@@ -15,20 +16,20 @@ use Rattle.jm_earley.specs.DeadSets.{IsAvailable}
 use Rattle.jm_earley.specs.Links.{future_at}
 
 -- what may follow the word, of these letters
-pub record IsFuture (g : GrammarDefinition) (letters : ℕ) (word : List ℕ) (f : Future) : Type 0 where
+pub record IsFuture (g : GrammarDefinition) (letters : ℕ) (word : Word) (f : Future) : Type 0 where
   pub ends : (n : ℕ) → IsBitSet f.ends n ↔ CanEnd g letters word n
   pub more : (n : ℕ) → IsBitSet f.more n ↔ CanGoOn g letters word n
   pub alive : IsTrue f.alive ↔ IsAlive g letters word
 
 -- what may follow the word, of the letters of each set
-abbrev pub AreFutures : GrammarDefinition → List LetterSet → List ℕ → Futures → Type 0
+abbrev pub AreFutures : GrammarDefinition → List LetterSet → Word → Futures → Type 0
 AreFutures g sets word futures =
     (number : ℕ) (set : LetterSet) → slice_get sets number ≡ Some set → (f : Future)
     × (slice_get futures.futures.items number ≡ Some f) × IsFuture g set.letters word f
 
 -- what may follow at each earlier place where an item of the word began; the first place has none before it, and each
 -- other has
-pub record AreEarlier (g : GrammarDefinition) (sets : List LetterSet) (word : List ℕ)
+pub record AreEarlier (g : GrammarDefinition) (sets : List LetterSet) (word : Word)
     (earlier : List Place) : Type 0 where
   pub none : (length earlier ≡ 0) ↔ (length word ≡ 0)
   pub each : (x : Item) → IsItem g word x → x.origin < length word → (p : Place) × (place_at earlier x.origin ≡ Some p)
@@ -36,7 +37,7 @@ pub record AreEarlier (g : GrammarDefinition) (sets : List LetterSet) (word : Li
   pub past : (position : ℕ) → length word ≤ position → place_at earlier position ≡ None
 
 -- the same, for one set of letters
-pub record AreEarlierOf (g : GrammarDefinition) (letters : ℕ) (number : ℕ) (word : List ℕ)
+pub record AreEarlierOf (g : GrammarDefinition) (letters : ℕ) (number : ℕ) (word : Word)
     (earlier : List Place) : Type 0 where
   pub none : (length earlier ≡ 0) ↔ (length word ≡ 0)
   pub each : (x : Item) → IsItem g word x → x.origin < length word → (f : Future)
@@ -46,13 +47,13 @@ pub record AreEarlierOf (g : GrammarDefinition) (letters : ℕ) (number : ℕ) (
 -- it is what may follow each word that has these items, and what may follow at the earlier places
 abbrev pub IsFutureOf : GrammarDefinition → LetterSet → ℕ → List Item → List Place → Future → Type 0
 IsFutureOf g set number items earlier f =
-    IsExact g.productions set → (word : List ℕ) → IsItemSet g word items
+    IsExact g.productions set → (word : Word) → IsItemSet g word items
     → AreEarlierOf g set.letters number word earlier → IsFuture g set.letters word f
 
 -- some word of one or more letters without a dead parameter, put after the word, gives a word of the grammar
-abbrev pub IsAliveFor : GrammarDefinition → List ℕ → ℕ → List ℕ → Type 0
+abbrev pub IsAliveFor : GrammarDefinition → List Mask → ℕ → Word → Type 0
 IsAliveFor g params dead word =
-    (more : List ℕ) × All (IsAvailable params dead) more × IsWord g (word ++ more) × (more ≢ [])
+    (more : Word) × All (IsAvailable params dead) more × IsWord g (word ++ more) × (more ≢ [])
 
 -- each nonterminal that is in a production spells a word
 abbrev pub AllSpell : GrammarDefinition → Type 0

@@ -1,5 +1,5 @@
 -- Rules that add nonterminals to a set, and what they add in all.
-use Rattle.std.specs.Prelude.{ℕ, ◌≡◌, ◌*◌, ◌%◌, ◌^◌, ◌&&◌, ◌||◌, ◌==◌, nat_lt, not, Bool, true, List, Contains, IsBitSet, bit_and, bit_or, fold, if◌then◌else◌}
+use Rattle.std.specs.Prelude.{ℕ, ◌≡◌, ◌*◌, ◌%◌, ◌^◌, ◌&&◌, ◌||◌, ◌==◌, nat_lt, not, Bool, true, false, List, Contains, IsBitSet, bit_and, bit_or, fold, if◌then◌else◌}
 use Rattle.jm_grammar.specs.Rounds.{has_bit}
 use Rattle.jm_earley.specs.declared.rule.Rule.{Rule}
 
@@ -10,6 +10,10 @@ only n = if nat_lt n 64 then 1 * 2 ^ n % 2 ^ 64 else 0
 -- the nonterminal is in the set
 abbrev pub has : ℕ → ℕ → Bool
 has known n = nat_lt n 64 && has_bit known n
+
+-- a rule that adds nothing
+abbrev pub no_rule : Rule
+no_rule = record { gives = 0; any = 0; always = false }
 
 -- What the rules add in all: a rule adds what it gives where it always does, or where one of its conditions was added.
 pub data IsGained (rules : List Rule) : ℕ → Type 0 where

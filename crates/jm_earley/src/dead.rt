@@ -86,20 +86,9 @@ fn number_of(sets: &mut Vec<LetterSet>, grammar: &Grammar, letters: u32) -> Resu
     ensures found { IfOk result (λ number. (set : LetterSet) × (slice_get sets.new.items number ≡ Some set)
         × (set.letters ≡ letters)) }
 {
-    match find(sets.as_slice(), letters) {
-        Some(number) => Ok(number),
-        None => append(sets, grammar, letters),
+    if let Some(number) = find(sets.as_slice(), letters) {
+        return Ok(number);
     }
-}
-
-/// Adds the set of these letters at the end.
-fn append(sets: &mut Vec<LetterSet>, grammar: &Grammar, letters: u32) -> Result<usize, NoMemory>
-    ensures exact { OnOk result (All (IsExact grammar.now.productions) sets.old.items
-        → All (IsExact grammar.now.productions) sets.new.items) }
-    ensures kept { OnOk result ((added : List LetterSet) × (sets.new.items ≡ sets.old.items ++ added)) }
-    ensures found { IfOk result (λ number. (set : LetterSet) × (slice_get sets.new.items number ≡ Some set)
-        × (set.letters ≡ letters)) }
-{
     let number = sets.len();
     let set = LetterSet::new(*sets.allocator(), grammar, letters)?;
     sets.push(set)?;

@@ -14,7 +14,7 @@ use crate::item::Item;
 use crate::letter_set::LetterSet;
 use crate::link::{Link, behind, link_of};
 use crate::place::Places;
-use crate::rule::{Rule, gained, has, only};
+use crate::rule::{Rule, gained, has, no_rule, only};
 use jm_grammar::{Grammar, Production};
 use jm_model::NoMemory;
 use std::alloc::Global;
@@ -106,11 +106,7 @@ fn ends_rule(link: Option<Link>, earlier: &Places, number: usize, position: u32)
     ensures { result ≡ ends_rule link (future_at earlier.now number position) }
 {
     let Some(link) = link else {
-        return Rule {
-            gives: 0,
-            any: 0,
-            always: false,
-        };
+        return no_rule();
     };
     match future_at(earlier, number, position) {
         Some(there) => Rule {
@@ -131,11 +127,7 @@ fn more_rule(ends: u64, link: Option<Link>, earlier: &Places, number: usize, pos
     ensures { result ≡ more_rule ends link (future_at earlier.now number position) }
 {
     let Some(link) = link else {
-        return Rule {
-            gives: 0,
-            any: 0,
-            always: false,
-        };
+        return no_rule();
     };
     match future_at(earlier, number, position) {
         Some(there) => Rule {

@@ -2,7 +2,7 @@
 ghost use Rattle.std.specs.Prelude.{◌≡◌, IfOk, map};
 ghost use Rattle.jm_earley.specs.LetterSets.{IsExact, is_spelled, are_spelled, is_letter, has_letter, with_nonterminal, nonterminals, can_spell, can_go_on, spelling_rule};
 
-use crate::rule::{Rule, gained, has, only};
+use crate::rule::{Rule, gained, has, no_rule, only};
 use jm_grammar::{Grammar, GrammarSymbol, Production};
 use jm_model::NoMemory;
 use std::alloc::Global;
@@ -109,11 +109,7 @@ fn spelling_rule(production: &Production, letters: u32, known: u64) -> Rule
             always: has_letter(symbols),
         }
     } else {
-        Rule {
-            gives: 0,
-            any: 0,
-            always: false,
-        }
+        no_rule()
     }
 }
 

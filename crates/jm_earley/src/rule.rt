@@ -1,6 +1,6 @@
 //! Sets of nonterminals as bits, and rules that add to them until they stay.
 ghost use Rattle.std.specs.Prelude.{ℕ, ◌≡◌, ◌↔◌, IsBitSet};
-ghost use Rattle.jm_earley.specs.Rules.{only, has, is_met, with_rule, with_rules, IsGained};
+ghost use Rattle.jm_earley.specs.Rules.{only, has, no_rule, is_met, with_rule, with_rules, IsGained};
 
 /// The set of one nonterminal, which is below 64.
 pub(crate) fn only(n: u8) -> u64
@@ -22,6 +22,17 @@ pub(crate) struct Rule {
     pub gives: u64,
     pub any: u64,
     pub always: bool,
+}
+
+/// A rule that gives nothing.
+pub(crate) fn no_rule() -> Rule
+    ensures { result ≡ no_rule }
+{
+    Rule {
+        gives: 0,
+        any: 0,
+        always: false,
+    }
 }
 
 fn is_met(rule: Rule, known: u64) -> bool

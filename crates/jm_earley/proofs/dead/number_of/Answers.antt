@@ -3,7 +3,7 @@ use Rattle.std.proofs.lemmas.List.Elements.{All-push}
 use Rattle.jm_earley.specs.declared.letter_set.LetterSet.{LetterSet}
 use Rattle.jm_earley.specs.LetterSets.{IsExact}
 use Rattle.jm_earley.proofs.DeadLemmas.{slice_get_push}
-use Rattle.jm_earley.proofs.dead.append.Goals as goal
+use Rattle.jm_earley.proofs.dead.number_of.Goals as goal
 
 pub returns-clause-exact : goal.returns-clause-exact
 returns-clause-exact c = λ all.
