@@ -159,9 +159,6 @@ run_to_end text at run room counted short ends =
     high : (k : ℕ) → k < run → is_end (get_or (drop at text) k 0) ≡ false
     high k lt = ap is_end (get_or-drop at text k 0) ∙ high_no_end (get_or text (at + k) 0) (run_in_chunk_fails (λ b. nat_lt b 36) text at 32 run 0 room counted (at + k) (omega arith) (omega arith))
 
-pub run_fits : (text : List ℕ) (at run : ℕ) → at + 32 ≤ length text → run ≡ position_or_len (λ b. nat_lt b 36) (chunk at 32 text) → run ≤ 32
-run_fits text at run room counted = run_in_chunk_le (λ b. nat_lt b 36) text at 32 run 0 room counted
-
 -- ---- the words so far
 
 -- these are the words of a text's first line that stand before a place of the line, and what follows is like a text
@@ -169,9 +166,6 @@ pub record HasFound (text : List ℕ) (words : List (List ℕ)) (at : ℕ) : Typ
   pub bounded : at ≤ length text
   pub left : words ++ words_of (first_line (drop at text)) ≡ words_of (first_line text)
   pub line : at + position_or_len is_line_feed (drop at text) ≡ position_or_len is_line_feed text
-
-pub found_none : (text : List ℕ) → HasFound text [] 0
-found_none text = record { bounded = omega arith; left = refl; line = omega arith }
 
 plain_before : (p : ℕ → Bool) (bytes : List ℕ) → NonePass p (before_first p bytes)
 plain_before p bytes = λ k d lt. let fails = fails_before_first p bytes k d (grind (arith, common_steps)) in grind (arith, common_steps)

@@ -1,6 +1,7 @@
 -- The event that a line names.
 use Rattle.std.specs.Prelude.{ℕ, zero, suc, ◌/◌, ◌%◌, ◌==◌, count_ones, List, [], ◌∷◌, Option, Some, None, Result, Ok, Err, slice_get, if◌then◌else◌}
 use Rattle.std.specs.Option.{option_map_or}
+use Rattle.jm_model.specs.Words.{Text}
 use Rattle.jm_model.specs.declared.fault.ScriptFault.{ScriptFault}
 use Rattle.jm_model.specs.declared.fault.ScriptFault.TheVariants.{UnknownSpec, UnknownEvent, WrongCount}
 use Rattle.jm_events.specs.Names.{number_of}
@@ -23,13 +24,13 @@ event_in line count spec table (Some letter) =
     counted line count (record { spec = spec; letter = record { 0 = letter }; mask = mask_at table letter })
 
 -- the event of a name, in the specification of this number, if there is one
-abbrev pub event_at : ℕ → ℕ → List CatalogEntry → List ℕ → Option ℕ → Result NamedEvent ScriptFault
+abbrev pub event_at : ℕ → ℕ → List CatalogEntry → Text → Option ℕ → Result NamedEvent ScriptFault
 event_at line count catalog event None = Err (UnknownSpec line)
 event_at line count catalog event (Some spec) =
     event_in line count spec (table_of catalog spec) (number_of (event_names (table_of catalog spec)) event)
 
 -- the event `SPEC.EVENT` with so many objects, or what is wrong with it
-unfoldable pub named_event : List CatalogEntry → ℕ → List ℕ → List ℕ → ℕ → Result NamedEvent ScriptFault
+unfoldable pub named_event : List CatalogEntry → ℕ → Text → Text → ℕ → Result NamedEvent ScriptFault
 named_event catalog line spec event count = event_at line count catalog event (number_of (spec_names catalog) spec)
 
 -- objects in order, at the parameters of a set in order

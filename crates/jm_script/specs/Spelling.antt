@@ -1,11 +1,12 @@
 -- The grammar of a line's words.
 use Rattle.std.specs.Prelude.{ℕ, ◌≡◌, true, List, [], ◌∷◌, ◌++◌, Some}
 use Rattle.std.specs.List.{list_all}
+use Rattle.jm_model.specs.Words.{Text}
 use Rattle.jm_script.specs.Statements.{Statement, Event, Death, Pass, death_word, pass_word, is_name, is_object, statement_of}
 
 -- the words of a line spell an event with its objects: `SPEC.EVENT OBJECT..`
-pub record SpellsEvent (word : List ℕ) (words : List (List ℕ)) (spec event : List ℕ)
-    (objects : List (List ℕ)) : Type 0 where
+pub record SpellsEvent (word : Text) (words : List Text) (spec event : Text)
+    (objects : List Text) : Type 0 where
   pub first : word ≡ spec ++ 46 ∷ event
   pub rest : words ≡ objects
   pub spec_named : is_name spec ≡ true
@@ -13,27 +14,27 @@ pub record SpellsEvent (word : List ℕ) (words : List (List ℕ)) (spec event :
   pub objects_named : list_all is_object objects ≡ true
 
 -- or a word and the name behind it
-pub record SpellsOne (word expected : List ℕ) (words : List (List ℕ)) (name : List ℕ) : Type 0 where
+pub record SpellsOne (word expected : Text) (words : List Text) (name : Text) : Type 0 where
   pub first : word ≡ expected
   pub rest : words ≡ name ∷ []
 
 -- the words of a line spell a statement
-abbrev pub Spells : List ℕ → List (List ℕ) → Statement → Type 0
+abbrev pub Spells : Text → List Text → Statement → Type 0
 Spells word words (Event spec event objects) = SpellsEvent word words spec event objects
 Spells word words (Death object) = SpellsOne word death_word words object × (is_object object ≡ true)
 Spells word words (Pass spec) = SpellsOne word pass_word words spec × (is_name spec ≡ true)
 
 -- what is spelled is read
 abbrev pub SpelledIsRead : Type 0
-SpelledIsRead = (word : List ℕ) (words : List (List ℕ)) (statement : Statement) → Spells word words statement
+SpelledIsRead = (word : Text) (words : List Text) (statement : Statement) → Spells word words statement
     → statement_of word words ≡ Some statement
 
 -- the words of a line spell at most one statement
 abbrev pub OneReading : Type 0
-OneReading = (word : List ℕ) (words : List (List ℕ)) (statement other : Statement) → Spells word words statement
+OneReading = (word : Text) (words : List Text) (statement other : Statement) → Spells word words statement
     → Spells word words other → statement ≡ other
 
 -- what is read is spelled so
 abbrev pub ReadIsSpelled : Type 0
-ReadIsSpelled = (word : List ℕ) (words : List (List ℕ)) (statement : Statement)
+ReadIsSpelled = (word : Text) (words : List Text) (statement : Statement)
     → statement_of word words ≡ Some statement → Spells word words statement

@@ -3,19 +3,20 @@ use Rattle.std.specs.Prelude.{ℕ, Bool, false, not, ◌&&◌, ◌||◌, ◌==�
 use Rattle.std.specs.List.{list_all, before_first, after_first}
 use Rattle.std.specs.Char.{is_ascii_alphanumeric, is_ascii_digit}
 use Rattle.std.specs.Str.{bytes_eq}
+use Rattle.jm_model.specs.Words.{Text}
 
 -- what a line says, by the texts that it names
 pub data Statement : Type 0 where
-  Event : (spec event : List ℕ) (objects : List (List ℕ)) → Statement
-  Death : (object : List ℕ) → Statement
-  Pass : (spec : List ℕ) → Statement
+  Event : (spec event : Text) (objects : List Text) → Statement
+  Death : (object : Text) → Statement
+  Pass : (spec : Text) → Statement
 
 -- `death`
-abbrev pub death_word : List ℕ
+abbrev pub death_word : Text
 death_word = 100 ∷ 101 ∷ 97 ∷ 116 ∷ 104 ∷ []
 
 -- `pass`
-abbrev pub pass_word : List ℕ
+abbrev pub pass_word : Text
 pass_word = 112 ∷ 97 ∷ 115 ∷ 115 ∷ []
 
 abbrev pub is_dot : ℕ → Bool
@@ -26,7 +27,7 @@ abbrev pub is_name_byte : ℕ → Bool
 is_name_byte b = is_ascii_alphanumeric b || b == 95 || b == 36
 
 -- some of these bytes, of which the first is no digit: the name of a specification or of an event
-abbrev pub is_name : List ℕ → Bool
+abbrev pub is_name : Text → Bool
 is_name [] = false
 is_name (b ∷ bs) = not (is_ascii_digit b) && list_all is_name_byte (b ∷ bs)
 
@@ -35,28 +36,28 @@ abbrev pub is_object_byte : ℕ → Bool
 is_object_byte b = is_name_byte b || b == 46 || b == 64 || b == 45
 
 -- 1 to 255 of these bytes: the name of an object
-abbrev pub is_object : List ℕ → Bool
+abbrev pub is_object : Text → Bool
 is_object word = nat_le 1 (length word) && nat_le (length word) 255 && list_all is_object_byte word
 
 -- `SPEC.EVENT OBJECT..`
-abbrev pub event_statement : List ℕ → List (List ℕ) → Option Statement
+abbrev pub event_statement : Text → List Text → Option Statement
 event_statement word objects =
     if is_name (before_first is_dot word) && is_name (after_first is_dot word) && list_all is_object objects
     then Some (Event (before_first is_dot word) (after_first is_dot word) objects)
     else None
 
 -- `death OBJECT`
-abbrev pub death_statement : List (List ℕ) → Option Statement
+abbrev pub death_statement : List Text → Option Statement
 death_statement (object ∷ []) = if is_object object then Some (Death object) else None
 death_statement _ = None
 
 -- `pass SPEC`
-abbrev pub pass_statement : List (List ℕ) → Option Statement
+abbrev pub pass_statement : List Text → Option Statement
 pass_statement (spec ∷ []) = if is_name spec then Some (Pass spec) else None
 pass_statement _ = None
 
 -- what the words of a line say, if they have one of the shapes
-abbrev pub statement_of : List ℕ → List (List ℕ) → Option Statement
+abbrev pub statement_of : Text → List Text → Option Statement
 statement_of word words =
     if bytes_eq word death_word then death_statement words
     else if bytes_eq word pass_word then pass_statement words

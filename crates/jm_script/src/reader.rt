@@ -38,7 +38,8 @@ pub fn read_script(
     ensures bounded { OnOk result ((count.new ≤ 200000) × (length objects.new ≤ 65536)) }
     ensures grown { OnOk result (length objects.old ≤ length objects.new) }
     ensures rising { IfOk result (λ script. RisesFrom 1 script) }
-    ensures err { IfErr result (λ error. IsLeft (script_meaning catalog.now count.old bytes.now objects.old) count.old objects.old error objects.new count.new) }
+    ensures err { IfErr result (λ error. IsLeft (script_meaning catalog.now count.old bytes.now objects.old)
+        count.old objects.old error objects.new count.new) }
 {
     let room = (bytes.len() / SHORTEST_STEP).min(MOST_STEPS as usize);
     let mut lines = Vec::with_capacity(alloc, room)?;
