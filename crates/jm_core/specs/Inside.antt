@@ -1,5 +1,6 @@
 -- What holds of what is inside a core.
 use Rattle.std.specs.Prelude.{◌≡◌, ℕ, Bool, true, false, List, [], ◌∷◌, ◌++◌, Option, Some, None, map, find}
+use Rattle.jm_model.specs.Words.{Word}
 use Rattle.jm_model.specs.Meanings.{Meaning}
 use Rattle.jm_model.specs.Bindings.{objects_of}
 use Rattle.jm_model.specs.declared.binding.Binding.{Binding}
@@ -22,47 +23,55 @@ use Rattle.jm_core.specs.Cores.{IsTidy}
 abbrev pub instances_of : {S : Type 0} → List (Stored S) → List Binding
 instances_of monitors = map (λ s. s.instance) monitors
 
--- The history is legal, and the flags of objects are those of its dead ones. The store fits the objects, has no open
--- plan, and is one of the history's events and dead objects.
-pub record IsCore (m : Meaning) {S : Type 0} (Stands : S → List ℕ
-    → Type 0) (h : List Entry) (dead : List Bool) (store : Contents S) : Type 0 where
-  pub legal : IsLegal m h
-  pub flags : AreFlagsOf h dead
-  pub closed : store.is_open ≡ false
-  pub fits : IsFit store dead
-  pub holds : IsStoreAfter m Stands (trace_of h) dead store
-  pub tidy : IsTidy m h (instances_of (stored_of store)) store.marks
-
 -- the first dead object that b binds, by the flags
 abbrev pub first_dead_by : List Bool → Binding → Option ℕ
 first_dead_by dead b = find (is_dead_object dead) (objects_of b)
 
--- monitors and marks are as before, and the contents are still a store of the trace
-pub record IsUntouched (m : Meaning) {S : Type 0} (Stands : S → List ℕ
-    → Type 0) (trace : List ParametricEvent) (dead : List Bool) (before after : Contents S) : Type 0 where
-  pub stored : stored_of after ≡ stored_of before
-  pub marks : after.marks ≡ before.marks
-  pub holds : IsStoreAfter m Stands trace dead after
+module _ (m : Meaning) {S : Type 0} (Stands : S → Word → Type 0) where
+  -- The history is legal, and the flags of objects are those of its dead ones. The store fits the objects, has no open
+  -- plan, and is one of the history's events and dead objects.
+  pub record IsCore (h : List Entry) (dead : List Bool) (store : Contents S) : Type 0 where
+    pub legal : IsLegal m h
+    pub flags : AreFlagsOf h dead
+    pub closed : store.is_open ≡ false
+    pub fits : IsFit store dead
+    pub holds : IsStoreAfter m Stands (trace_of h) dead store
+    pub tidy : IsTidy m h (instances_of (stored_of store)) store.marks
 
--- the contents are a store of the trace with the event a, in which no monitor above its binding is cut
-pub record IsMoved (m : Meaning) {S : Type 0} (Stands : S → List ℕ
-    → Type 0) (trace : List ParametricEvent) (dead : List Bool) (a : ParametricEvent)
-    (after : Contents S) : Type 0 where
-  pub holds : IsStoreAfter m Stands (trace ++ a ∷ []) dead after
-  pub none_cut : NoneCutAbove m Stands a.binding dead (stored_of after)
+  -- monitors and marks are as before, and the contents are still a store of the trace
+  pub record IsUntouched (trace : List ParametricEvent) (dead : List Bool) (before after : Contents S) : Type 0 where
+    pub stored : stored_of after ≡ stored_of before
+    pub marks : after.marks ≡ before.marks
+    pub holds : IsStoreAfter m Stands trace dead after
 
--- what an event comes to in a store
-abbrev pub IsOutcomeOf : Meaning → {S : Type 0} → (S → List ℕ → Type 0) → List ParametricEvent → List Bool
-    → ParametricEvent → Contents S → Contents S → Outcome → Type 0
-IsOutcomeOf m Stands trace dead a before after (Fired firings) =
-    (first_dead_by dead a.binding ≡ None) × IsAnswer m trace a firings × IsMoved m Stands trace dead a after
-IsOutcomeOf m Stands trace dead a before after (Refused o) =
-    (first_dead_by dead a.binding ≡ Some o) × IsUntouched m Stands trace dead before after
-IsOutcomeOf m Stands trace dead a before after NoMemory =
-    (first_dead_by dead a.binding ≡ None) × IsUntouched m Stands trace dead before after
-IsOutcomeOf m Stands trace dead a before after _ = ⊥
+  -- the contents are a store of the trace with the event a, in which no monitor above its binding is cut
+  pub record IsMoved (trace : List ParametricEvent) (dead : List Bool) (a : ParametricEvent)
+      (after : Contents S) : Type 0 where
+    pub holds : IsStoreAfter m Stands (trace ++ a ∷ []) dead after
+    pub none_cut : NoneCutAbove m Stands a.binding dead (stored_of after)
 
--- the event that is known, if one is, leaves all monitors above its binding as they are
-abbrev pub IsRested : Meaning → {S : Type 0} → (S → List ℕ → Type 0) → List Bool → Contents S → Rest → Type 0
-IsRested m Stands dead store rest =
-    rest.is_known ≡ true → AreResting m Stands dead rest.letter.0 rest.binding (stored_of store) store.marks
+  -- what an event comes to in a store
+  abbrev pub IsOutcomeOf : List ParametricEvent → List Bool → ParametricEvent → Contents S → Contents S → Outcome
+      → Type 0
+  IsOutcomeOf trace dead a before after (Fired firings) =
+      (first_dead_by dead a.binding ≡ None) × IsAnswer m trace a firings × IsMoved trace dead a after
+  IsOutcomeOf trace dead a before after (Refused o) =
+      (first_dead_by dead a.binding ≡ Some o) × IsUntouched trace dead before after
+  IsOutcomeOf trace dead a before after NoMemory =
+      (first_dead_by dead a.binding ≡ None) × IsUntouched trace dead before after
+  IsOutcomeOf trace dead a before after _ = ⊥
+
+  -- the event that is known, if one is, leaves all monitors above its binding as they are
+  abbrev pub IsRested : List Bool → Contents S → Rest → Type 0
+  IsRested dead store rest =
+      rest.is_known ≡ true → AreResting m Stands dead rest.letter.0 rest.binding (stored_of store) store.marks
+
+  -- The event a came to an outcome, which is told twice. The store has no open plan and fits the objects; of whatever
+  -- trace it was one, the outcome is the event's after it, and what is known to rest is so in the store after.
+  pub record Performs (dead : List Bool) (a : ParametricEvent) (before after : Contents S) (rest rested : Rest)
+      (outcomes : Outcome × Outcome) : Type 0 where
+    pub twice : outcomes.1 ≡ outcomes.0
+    pub closed : after.is_open ≡ false
+    pub fits : IsFit after dead
+    pub works : (trace : List ParametricEvent) → IsStoreAfter m Stands trace dead before → IsRested dead before rest
+        → IsOutcomeOf trace dead a before after outcomes.0 × IsRested dead after rested

@@ -1,11 +1,10 @@
 //! What an event comes to in a store.
-ghost use Rattle.std.specs.Prelude.{◌≡◌, ◌<◌, ◌↔◌, false, None, List, Contains, IsTrue, MatchOption, IfOk, OnErr, OnOk, length, true};
-ghost use Rattle.jm_semantics.specs.Traces.{ParametricEvent};
+ghost use Rattle.std.specs.Prelude.{◌≡◌, ◌↔◌, false, None, Contains, IsTrue, length};
 ghost use Rattle.jm_index.specs.Index.{AreBelow};
-ghost use Rattle.jm_monitors.specs.declared.stored.Stored.{Stored};
 ghost use Rattle.jm_monitors.specs.Steps.{IsLiveEvent};
-ghost use Rattle.jm_store.specs.Contents.{stored_of, IsFit, IsStoreAfter, IsPlanFor, IsPlanOf, IsEventDone};
-ghost use Rattle.jm_core.specs.Inside.{first_dead_by, IsOutcomeOf, IsRested};
+ghost use Rattle.jm_store.specs.Contents.{IsFit};
+ghost use Rattle.jm_store.specs.Plans.{Advances, CanPlan, Plans};
+ghost use Rattle.jm_core.specs.Inside.{first_dead_by, Performs};
 
 use crate::rest::Rest;
 use jm_model::{Binding, Firings, Letter, Monitor, NoMemory, Outcome, Steps};
@@ -32,15 +31,8 @@ pub(crate) fn perform<M: Monitor>(
     requires event { first_dead_by objects.now binding.now ≡ None
         → IsLiveEvent (M.meaning (M.definition rules.now)) objects.now letter.0 binding.now }
     requires there { AreBelow (length objects.now) binding.now }
-    ensures twice { result.1 ≡ result.0 }
-    ensures closed { store.new.is_open ≡ false }
-    ensures fits { IsFit store.new objects.now }
-    ensures works { (trace : List ParametricEvent)
-        → IsStoreAfter (M.meaning (M.definition rules.now)) (M.StandsFor rules.now) trace objects.now store.old
-        → IsRested (M.meaning (M.definition rules.now)) (M.StandsFor rules.now) objects.now store.old rest.old
-        → IsOutcomeOf (M.meaning (M.definition rules.now)) (M.StandsFor rules.now) trace objects.now
-        (record { letter = letter.0; binding = binding.now }) store.old store.new result.0
-        × IsRested (M.meaning (M.definition rules.now)) (M.StandsFor rules.now) objects.now store.new rest.new }
+    ensures { Performs (M.meaning (M.definition rules.now)) (M.StandsFor rules.now) objects.now
+        (record { letter = letter.0; binding = binding.now }) store.old store.new rest.old rest.new result }
 {
     match first_dead(objects, binding) {
         Some(object) => (Outcome::Refused(object), Outcome::Refused(object)),
@@ -58,20 +50,10 @@ fn answer<M: Monitor>(
     letter: Letter,
     binding: &Binding,
 ) -> (Outcome, Outcome)
-    requires closed { store.old.is_open ≡ false }
-    requires fits { IsFit store.old objects.now }
-    requires event { IsLiveEvent (M.meaning (M.definition rules.now)) objects.now letter.0 binding.now }
-    requires there { AreBelow (length objects.now) binding.now }
+    requires can { CanPlan (M.meaning (M.definition rules.now)) objects.now letter.0 binding.now store.old }
     requires live { first_dead_by objects.now binding.now ≡ None }
-    ensures twice { result.1 ≡ result.0 }
-    ensures closed { store.new.is_open ≡ false }
-    ensures fits { IsFit store.new objects.now }
-    ensures works { (trace : List ParametricEvent)
-        → IsStoreAfter (M.meaning (M.definition rules.now)) (M.StandsFor rules.now) trace objects.now store.old
-        → IsRested (M.meaning (M.definition rules.now)) (M.StandsFor rules.now) objects.now store.old rest.old
-        → IsOutcomeOf (M.meaning (M.definition rules.now)) (M.StandsFor rules.now) trace objects.now
-        (record { letter = letter.0; binding = binding.now }) store.old store.new result.0
-        × IsRested (M.meaning (M.definition rules.now)) (M.StandsFor rules.now) objects.now store.new rest.new }
+    ensures { Performs (M.meaning (M.definition rules.now)) (M.StandsFor rules.now) objects.now
+        (record { letter = letter.0; binding = binding.now }) store.old store.new rest.old rest.new result }
 {
     if rest.is_of(letter, binding) {
         return (
@@ -113,17 +95,8 @@ fn counted_advance<M: Monitor, L: Ledger>(
     requires fits { IsFit store.old objects.now }
     requires event { IsLiveEvent (M.meaning (M.definition rules.now)) objects.now letter.0 binding.now }
     requires known { Contains store.old.marks binding.now }
-    ensures same { MatchOption result (store.new ≡ store.old) (λ done. Unit {0}) }
-    ensures marks { store.new.marks ≡ store.old.marks }
-    ensures fits { IsFit store.new objects.now }
-    ensures closed { store.new.is_open ≡ false }
-    ensures twice { MatchOption result (Unit {0}) (λ done. done.copy ≡ done.answer) }
-    ensures dropped { MatchOption result (Unit {0}) (λ done. done.stays ≡ false
-        → (s : Stored M.State) → Contains (stored_of store.new) s → Contains (stored_of store.old) s) }
-    ensures works { MatchOption result (Unit {0}) (λ done. (trace : List ParametricEvent)
-        → IsStoreAfter (M.meaning (M.definition rules.now)) (M.StandsFor rules.now) trace objects.now store.old
-        → IsEventDone (M.meaning (M.definition rules.now))
-        (M.StandsFor rules.now) trace objects.now letter.0 binding.now store.new done.answer) }
+    ensures { Advances (M.meaning (M.definition rules.now)) (M.StandsFor rules.now) objects.now letter.0 binding.now
+        store.old store.new result }
 {
     let mut steps = Steps::<L>::new(blank);
     store.advance_one(rules, objects, letter, binding, &mut steps)
@@ -155,21 +128,11 @@ fn fire<M: Monitor>(
     binding: &Binding,
     known: bool,
 ) -> (Outcome, Outcome)
-    requires closed { store.old.is_open ≡ false }
-    requires fits { IsFit store.old objects.now }
-    requires event { IsLiveEvent (M.meaning (M.definition rules.now)) objects.now letter.0 binding.now }
-    requires there { AreBelow (length objects.now) binding.now }
+    requires can { CanPlan (M.meaning (M.definition rules.now)) objects.now letter.0 binding.now store.old }
     requires known { IsTrue known ↔ Contains store.old.marks binding.now }
     requires live { first_dead_by objects.now binding.now ≡ None }
-    ensures twice { result.1 ≡ result.0 }
-    ensures closed { store.new.is_open ≡ false }
-    ensures fits { IsFit store.new objects.now }
-    ensures works { (trace : List ParametricEvent)
-        → IsStoreAfter (M.meaning (M.definition rules.now)) (M.StandsFor rules.now) trace objects.now store.old
-        → IsRested (M.meaning (M.definition rules.now)) (M.StandsFor rules.now) objects.now store.old rest.old
-        → IsOutcomeOf (M.meaning (M.definition rules.now)) (M.StandsFor rules.now) trace objects.now
-        (record { letter = letter.0; binding = binding.now }) store.old store.new result.0
-        × IsRested (M.meaning (M.definition rules.now)) (M.StandsFor rules.now) objects.now store.new rest.new }
+    ensures { Performs (M.meaning (M.definition rules.now)) (M.StandsFor rules.now) objects.now
+        (record { letter = letter.0; binding = binding.now }) store.old store.new rest.old rest.new result }
 {
     match counted_plan::<M, Brand>(rules, objects, store, letter, binding, known, Blank::new(1)) {
         Ok(plan) => {
@@ -196,25 +159,10 @@ fn counted_plan<M: Monitor, L: Ledger>(
     requires name { blank.name ≡ L.name }
     requires parts { blank.parts ≡ L.parts }
     requires one { blank.parts ≡ 1 }
-    requires closed { store.old.is_open ≡ false }
-    requires fits { IsFit store.old objects.now }
-    requires event { IsLiveEvent (M.meaning (M.definition rules.now)) objects.now letter.0 binding.now }
-    requires there { AreBelow (length objects.now) binding.now }
+    requires can { CanPlan (M.meaning (M.definition rules.now)) objects.now letter.0 binding.now store.old }
     requires known { IsTrue known ↔ Contains store.old.marks binding.now }
-    ensures stored { stored_of store.new ≡ stored_of store.old }
-    ensures marks { store.new.marks ≡ store.old.marks }
-    ensures fits { IsFit store.new objects.now }
-    ensures closed { OnErr result (store.new.is_open ≡ false) }
-    ensures opened { OnOk result (store.new.is_open ≡ true) }
-    ensures binding { IfOk result (λ plan. plan.binding ≡ binding.now) }
-    ensures plan { IfOk result (λ plan. IsPlanFor store.new plan) }
-    ensures keeps { (trace : List ParametricEvent)
-        → IsStoreAfter (M.meaning (M.definition rules.now)) (M.StandsFor rules.now) trace objects.now store.old
-        → IsStoreAfter (M.meaning (M.definition rules.now)) (M.StandsFor rules.now) trace objects.now store.new }
-    ensures works { IfOk result (λ plan. (trace : List ParametricEvent)
-        → IsStoreAfter (M.meaning (M.definition rules.now)) (M.StandsFor rules.now) trace objects.now store.old
-        → IsPlanOf (M.meaning (M.definition rules.now))
-        (M.StandsFor rules.now) trace objects.now letter.0 store.new plan) }
+    ensures { Plans (M.meaning (M.definition rules.now)) (M.StandsFor rules.now) objects.now letter.0 binding.now
+        store.old store.new result }
 {
     let mut steps = Steps::<L>::new(blank);
     store.plan_as(rules, objects, letter, binding, known, &mut steps)

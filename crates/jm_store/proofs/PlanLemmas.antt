@@ -1,11 +1,16 @@
 -- Loops over the moves of a plan.
-use Rattle.std.proofs.Common.{◌≡◌, ℕ, suc, ◌+◌, ◌<◌, ◌≤◌, ◌⊎◌, inl, inr, List, ◌∷◌, length, drop, get_or, sym, ap, ◌∙◌, subst, arith, drop-cons, length-drop}
-use Rattle.std.specs.Prelude.{Some, Contains}
+use Rattle.std.proofs.Common.{◌≡◌, ℕ, suc, ◌+◌, ◌<◌, ◌≤◌, ◌⊎◌, inl, inr, List, ◌∷◌, length, drop, get_or, refl, sym, ap, ◌∙◌, subst, arith, drop-cons, length-drop}
+use Rattle.std.specs.Prelude.{Bool, Some, Err, Contains}
+use Rattle.jm_model.specs.Words.{Word}
+use Rattle.jm_model.specs.Meanings.{Meaning}
+use Rattle.jm_model.specs.declared.binding.Binding.{Binding}
+use Rattle.jm_model.specs.declared.step.NoMemory.{NoMemory}
 use Rattle.jm_semantics.proofs.ListLemmas.{Contains-cons_cases}
 use Rattle.jm_index.specs.Index.{Pair}
 use Rattle.jm_store.specs.declared.moves.Move.{Move}
 use Rattle.jm_store.specs.Slots.{monitor_at}
 use Rattle.jm_store.specs.Contents.{Contents, IsFilled, IsPlannedBy}
+use Rattle.jm_store.specs.Plans.{CanPlan, Plans}
 
 pub item_among : {X : Type 0} (xs : List X) (i : ℕ) (x : X) → i < length xs → x ≡ get_or xs i x → Contains xs x
 item_among xs i x lt is = (i, lt, sym is)
@@ -31,3 +36,19 @@ module _ {S : Type 0} where
 
   pub filled_same : (old new : Contents S) (pair : Pair) → ((k : ℕ) → monitor_at old.monitors k ≡ monitor_at new.monitors k) → IsFilled old pair → IsFilled new pair
   filled_same old new pair same (s, at, is) = (s, sym (same pair.slot) ∙ at, is)
+
+-- memory was wanting before anything of the store changed
+pub plans_untouched : (m : Meaning) {S : Type 0} (Stands : S → Word → Type 0) (dead : List Bool) (letter : ℕ) (b : Binding) (store : Contents S) (e : NoMemory) → CanPlan m dead letter b store
+    → Plans m Stands dead letter b store store (Err e)
+plans_untouched m Stands dead letter b store e can = record {
+  stored = refl;
+  marks = refl;
+  fewer = λ e d ends. ends;
+  fits = can.fits;
+  closed = can.closed;
+  opened = tt;
+  binding = tt;
+  plan = tt;
+  keeps = λ trace holds. holds;
+  works = tt;
+}

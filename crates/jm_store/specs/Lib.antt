@@ -4,3 +4,4 @@ pub mod Contents
 pub mod Housing
 pub mod Reports
 pub mod Laws
+pub mod Plans

@@ -1,12 +1,12 @@
 //! Events that reach one monitor alone, or none, and make none: they are done at once, without a plan.
-ghost use Rattle.std.specs.Prelude.{◌≡◌, ℕ, ◌+◌, ◌<◌, ◌≤◌, ◌↔◌, List, Bool, false, Contains, IsTrue, MatchOption, IfSome, Some, [], length, count_by};
+ghost use Rattle.std.specs.Prelude.{◌≡◌, ℕ, ◌+◌, ◌<◌, ◌≤◌, ◌↔◌, List, Bool, false, Contains, IsTrue, IfNone, IfSome, Some, [], length, count_by};
 ghost use Rattle.jm_model.specs.Bindings.{is_compatible};
-ghost use Rattle.jm_semantics.specs.Traces.{ParametricEvent};
 ghost use Rattle.jm_index.specs.Index.{AreLive, IsFitting};
 ghost use Rattle.jm_monitors.specs.declared.stored.Stored.{Stored as Kept};
 ghost use Rattle.jm_monitors.specs.Steps.{IsLiveEvent};
 ghost use Rattle.jm_store.specs.Slots.{monitor_at};
-ghost use Rattle.jm_store.specs.Contents.{stored_of, IsFit, IsStoreAfter, IsEventDone, IsSlotAdvanced, IsAbove};
+ghost use Rattle.jm_store.specs.Contents.{stored_of, IsFit, IsSlotAdvanced, IsAbove};
+ghost use Rattle.jm_store.specs.Plans.{Advances};
 
 use super::Store;
 use crate::ending::end_fewer;
@@ -64,17 +64,8 @@ impl<M: Monitor> Store<M> {
         requires fits { IsFit self.old objects.now }
         requires event { IsLiveEvent (M.meaning (M.definition rules.now)) objects.now letter.0 binding.now }
         requires known { Contains self.old.marks binding.now }
-        ensures same { MatchOption result (self.new ≡ self.old) (λ done. Unit {0}) }
-        ensures marks { self.new.marks ≡ self.old.marks }
-        ensures fits { IsFit self.new objects.now }
-        ensures closed { self.new.is_open ≡ false }
-        ensures twice { MatchOption result (Unit {0}) (λ done. done.copy ≡ done.answer) }
-        ensures dropped { MatchOption result (Unit {0}) (λ done. done.stays ≡ false
-            → (s : Kept M.State) → Contains (stored_of self.new) s → Contains (stored_of self.old) s) }
-        ensures works { MatchOption result (Unit {0}) (λ done. (trace : List ParametricEvent)
-            → IsStoreAfter (M.meaning (M.definition rules.now)) (M.StandsFor rules.now) trace objects.now self.old
-            → IsEventDone (M.meaning (M.definition rules.now))
-            (M.StandsFor rules.now) trace objects.now letter.0 binding.now self.new done.answer) }
+        ensures advances { Advances (M.meaning (M.definition rules.now)) (M.StandsFor rules.now) objects.now letter.0
+            binding.now self.old self.new result }
         ensures steps { steps.new ≤ steps.old + count_by (λ s. is_compatible s.instance binding.now)
             (stored_of self.old) }
     {
@@ -132,12 +123,12 @@ impl<M: Monitor> Store<M> {
     ) -> Option<Done>
         requires closed { self.old.is_open ≡ false }
         requires letter { letter.0 < (M.meaning (M.definition rules.now)).letters }
-        ensures same { MatchOption result (self.new ≡ self.old) (λ done. Unit {0}) }
+        ensures same { IfNone result (self.new ≡ self.old) }
         ensures marks { self.new.marks ≡ self.old.marks }
         ensures fits { (dead : List Bool) → IsFit self.old dead → IsFit self.new dead }
         ensures closed { self.new.is_open ≡ false }
-        ensures twice { MatchOption result (Unit {0}) (λ done. done.copy ≡ done.answer) }
-        ensures done { MatchOption result (Unit {0}) (λ done. (base : Kept M.State)
+        ensures twice { IfSome result (λ done. done.copy ≡ done.answer) }
+        ensures done { IfSome result (λ done. (base : Kept M.State)
             → monitor_at self.old.monitors slot ≡ Some base
             → IsSlotAdvanced (M.meaning (M.definition rules.now)) (M.StandsFor rules.now) letter.0 objects.now slot base
             self.old self.new done.stays done.answer) }

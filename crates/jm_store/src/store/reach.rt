@@ -1,12 +1,11 @@
 //! How an event is worked out: which monitors it reaches, and what becomes of them.
-ghost use Rattle.std.specs.Prelude.{◌≡◌, ℕ, ◌+◌, ◌<◌, ◌≤◌, ◌↔◌, ◌++◌, List, [], true, false, Contains, IfOk, OnOk, OnErr, IsTrue, Some, length, count_by};
+ghost use Rattle.std.specs.Prelude.{◌≡◌, ℕ, ◌+◌, ◌<◌, ◌≤◌, ◌↔◌, ◌++◌, List, [], false, Contains, IfOk, OnOk, IsTrue, Some, length, count_by};
 ghost use Rattle.jm_model.specs.Bindings.{empty, is_compatible};
-ghost use Rattle.jm_semantics.specs.Traces.{ParametricEvent};
-ghost use Rattle.jm_index.specs.Index.{AreBelow, AreLive, IsFitting};
-ghost use Rattle.jm_monitors.specs.Steps.{IsLiveEvent};
+ghost use Rattle.jm_index.specs.Index.{AreLive, IsFitting};
 ghost use Rattle.jm_store.specs.Slots.{monitor_at};
 ghost use Rattle.jm_store.specs.Moves.{AreGiven, IsOutcomeAt, IsPushed, IsCompatibleAt, AreMovesOf, asks_by, EndsFewer, AreEnding, reached_by};
-ghost use Rattle.jm_store.specs.Contents.{stored_of, IsFit, IsStoreAfter, IsPlanFor, IsPlanOf, with_ending};
+ghost use Rattle.jm_store.specs.Contents.{stored_of, with_ending};
+ghost use Rattle.jm_store.specs.Plans.{CanPlan, Plans};
 
 use super::Store;
 use crate::ending::end_fewer_by;
@@ -46,25 +45,9 @@ impl<M: Monitor> Store<M> {
         binding: &Binding,
         steps: &mut Steps<L>,
     ) -> Result<Plan<M::State>, NoMemory>
-        requires closed { self.old.is_open ≡ false }
-        requires fits { IsFit self.old objects.now }
-        requires event { IsLiveEvent (M.meaning (M.definition rules.now)) objects.now letter.0 binding.now }
-        requires there { AreBelow (length objects.now) binding.now }
-        ensures stored { stored_of self.new ≡ stored_of self.old }
-        ensures marks { self.new.marks ≡ self.old.marks }
-        ensures fewer { EndsFewer self.old.ending self.new.ending }
-        ensures fits { IsFit self.new objects.now }
-        ensures closed { OnErr result (self.new.is_open ≡ false) }
-        ensures opened { OnOk result (self.new.is_open ≡ true) }
-        ensures binding { IfOk result (λ plan. plan.binding ≡ binding.now) }
-        ensures plan { IfOk result (λ plan. IsPlanFor self.new plan) }
-        ensures keeps { (trace : List ParametricEvent)
-            → IsStoreAfter (M.meaning (M.definition rules.now)) (M.StandsFor rules.now) trace objects.now self.old
-            → IsStoreAfter (M.meaning (M.definition rules.now)) (M.StandsFor rules.now) trace objects.now self.new }
-        ensures works { IfOk result (λ plan. (trace : List ParametricEvent)
-            → IsStoreAfter (M.meaning (M.definition rules.now)) (M.StandsFor rules.now) trace objects.now self.old
-            → IsPlanOf (M.meaning (M.definition rules.now))
-            (M.StandsFor rules.now) trace objects.now letter.0 self.new plan) }
+        requires { CanPlan (M.meaning (M.definition rules.now)) objects.now letter.0 binding.now self.old }
+        ensures plans { Plans (M.meaning (M.definition rules.now)) (M.StandsFor rules.now) objects.now letter.0
+            binding.now self.old self.new result }
         ensures steps { steps.new ≤ steps.old + count_by (λ s. is_compatible s.instance binding.now)
             (stored_of self.old) }
     {
@@ -82,26 +65,10 @@ impl<M: Monitor> Store<M> {
         known: bool,
         steps: &mut Steps<L>,
     ) -> Result<Plan<M::State>, NoMemory>
-        requires closed { self.old.is_open ≡ false }
-        requires fits { IsFit self.old objects.now }
-        requires event { IsLiveEvent (M.meaning (M.definition rules.now)) objects.now letter.0 binding.now }
-        requires there { AreBelow (length objects.now) binding.now }
+        requires can { CanPlan (M.meaning (M.definition rules.now)) objects.now letter.0 binding.now self.old }
         requires known { IsTrue known ↔ Contains self.old.marks binding.now }
-        ensures stored { stored_of self.new ≡ stored_of self.old }
-        ensures marks { self.new.marks ≡ self.old.marks }
-        ensures fewer { EndsFewer self.old.ending self.new.ending }
-        ensures fits { IsFit self.new objects.now }
-        ensures closed { OnErr result (self.new.is_open ≡ false) }
-        ensures opened { OnOk result (self.new.is_open ≡ true) }
-        ensures binding { IfOk result (λ plan. plan.binding ≡ binding.now) }
-        ensures plan { IfOk result (λ plan. IsPlanFor self.new plan) }
-        ensures keeps { (trace : List ParametricEvent)
-            → IsStoreAfter (M.meaning (M.definition rules.now)) (M.StandsFor rules.now) trace objects.now self.old
-            → IsStoreAfter (M.meaning (M.definition rules.now)) (M.StandsFor rules.now) trace objects.now self.new }
-        ensures works { IfOk result (λ plan. (trace : List ParametricEvent)
-            → IsStoreAfter (M.meaning (M.definition rules.now)) (M.StandsFor rules.now) trace objects.now self.old
-            → IsPlanOf (M.meaning (M.definition rules.now))
-            (M.StandsFor rules.now) trace objects.now letter.0 self.new plan) }
+        ensures plans { Plans (M.meaning (M.definition rules.now)) (M.StandsFor rules.now) objects.now letter.0
+            binding.now self.old self.new result }
         ensures steps { steps.new ≤ steps.old + count_by (λ s. is_compatible s.instance binding.now)
             (stored_of self.old) }
     {
@@ -115,6 +82,7 @@ impl<M: Monitor> Store<M> {
     }
 
     /// The same, in this room.
+    #[tactic(auto, using(crate::proofs::PlanLemmas::plans_untouched))]
     fn plan_in<L: Ledger>(
         &mut self,
         rules: &M,
@@ -126,27 +94,11 @@ impl<M: Monitor> Store<M> {
         slots: &mut Vec<usize>,
         moves: Vec<Move<M::State>>,
     ) -> Result<Plan<M::State>, NoMemory>
-        requires closed { self.old.is_open ≡ false }
-        requires fits { IsFit self.old objects.now }
-        requires event { IsLiveEvent (M.meaning (M.definition rules.now)) objects.now letter.0 binding.now }
-        requires there { AreBelow (length objects.now) binding.now }
+        requires can { CanPlan (M.meaning (M.definition rules.now)) objects.now letter.0 binding.now self.old }
         requires known { IsTrue known ↔ Contains self.old.marks binding.now }
         requires none { moves.items ≡ [] }
-        ensures stored { stored_of self.new ≡ stored_of self.old }
-        ensures marks { self.new.marks ≡ self.old.marks }
-        ensures fewer { EndsFewer self.old.ending self.new.ending }
-        ensures fits { IsFit self.new objects.now }
-        ensures closed { OnErr result (self.new.is_open ≡ false) }
-        ensures opened { OnOk result (self.new.is_open ≡ true) }
-        ensures binding { IfOk result (λ plan. plan.binding ≡ binding.now) }
-        ensures plan { IfOk result (λ plan. IsPlanFor self.new plan) }
-        ensures keeps { (trace : List ParametricEvent)
-            → IsStoreAfter (M.meaning (M.definition rules.now)) (M.StandsFor rules.now) trace objects.now self.old
-            → IsStoreAfter (M.meaning (M.definition rules.now)) (M.StandsFor rules.now) trace objects.now self.new }
-        ensures works { IfOk result (λ plan. (trace : List ParametricEvent)
-            → IsStoreAfter (M.meaning (M.definition rules.now)) (M.StandsFor rules.now) trace objects.now self.old
-            → IsPlanOf (M.meaning (M.definition rules.now))
-            (M.StandsFor rules.now) trace objects.now letter.0 self.new plan) }
+        ensures plans { Plans (M.meaning (M.definition rules.now)) (M.StandsFor rules.now) objects.now letter.0
+            binding.now self.old self.new result }
         ensures steps { steps.new ≤ steps.old + count_by (λ s. is_compatible s.instance binding.now)
             (stored_of self.old) }
     {
@@ -202,7 +154,9 @@ impl<M: Monitor> Store<M> {
         requires none { moves.items ≡ [] }
         ensures moves { IfOk result (λ moves. AreMovesOf (M.meaning (M.definition event.now.rules.now))
             (M.StandsFor event.now.rules.now) event.now.letter.0 event.now.binding.now
-            event.now.objects.now event.now.marks.now.list (asks_by event.now.known self.now.ending event.now.letter.0 event.now.binding.now) self.now.monitors moves.items) }
+            event.now.objects.now event.now.marks.now.list
+            (asks_by event.now.known self.now.ending event.now.letter.0 event.now.binding.now)
+            self.now.monitors moves.items) }
         ensures steps { steps.new ≤ steps.old + count_by (λ s. is_compatible s.instance event.now.binding.now)
             (stored_of self.now) }
     {
@@ -234,7 +188,8 @@ impl<M: Monitor> Store<M> {
             event.now.objects.now event.now.marks.now.list self.now.monitors) slots_before moves.old.items
             → AreGiven (IsOutcomeAt (M.meaning (M.definition event.now.rules.now))
             (M.StandsFor event.now.rules.now) event.now.letter.0 event.now.binding.now
-            event.now.objects.now event.now.marks.now.list self.now.monitors) (slots_before ++ slots.now) moves.new.items) }
+            event.now.objects.now event.now.marks.now.list self.now.monitors)
+            (slots_before ++ slots.now) moves.new.items) }
         ensures steps { steps.new ≤ steps.old + length slots.now }
     {
         for slot in slots {

@@ -8,6 +8,6 @@ invariant_of-self-2 g c =
     let dead = c.args.self.now.objects in
     record {
       closed = c.commit-answer.ensures.closed;
-      fits = c.commit-answer.ensures.fits dead c.in_ok-plan.ensures.fits
-          (subst (λ (b : Binding). AreBelow (length dead) b) (sym c.in_ok-plan.ensures.binding) c.requires.there);
+      fits = c.commit-answer.ensures.fits dead c.in_ok-plan.ensures.plans.fits
+          (subst (λ (b : Binding). AreBelow (length dead) b) (sym c.in_ok-plan.ensures.plans.binding) c.requires.there);
     }

@@ -1,0 +1,10 @@
+use Rattle.std.proofs.Common.{refl, sym}
+use Rattle.jm_core.proofs.firing.perform.Goals as goal
+
+pub returns-in-Some : goal.returns-in-Some
+returns-in-Some g c = record {
+  twice = refl;
+  closed = c.requires.closed;
+  fits = c.requires.fits;
+  works = λ trace holds rested. ((sym c.in-Some.ensures, record { stored = refl; marks = refl; holds = holds }), rested);
+}

@@ -1,0 +1,54 @@
+-- What working out an event needs of a store, what it leaves of it, and what it answers.
+use Rattle.std.specs.Prelude.{ℕ, ◌≡◌, Bool, true, false, List, Contains, Option, Result, IfNone, IfSome, IfOk, OnOk, OnErr, length}
+use Rattle.jm_model.specs.Words.{Word}
+use Rattle.jm_model.specs.Meanings.{Meaning}
+use Rattle.jm_model.specs.declared.binding.Binding.{Binding}
+use Rattle.jm_model.specs.declared.step.NoMemory.{NoMemory}
+use Rattle.jm_semantics.specs.Traces.{ParametricEvent}
+use Rattle.jm_index.specs.Index.{AreBelow}
+use Rattle.jm_monitors.specs.declared.stored.Stored.{Stored}
+use Rattle.jm_monitors.specs.Steps.{IsLiveEvent}
+use Rattle.jm_store.specs.declared.moves.Plan.{Plan}
+use Rattle.jm_store.specs.declared.store.advance.Done.{Done}
+use Rattle.jm_store.specs.Moves.{EndsFewer}
+use Rattle.jm_store.specs.Contents.{Contents, stored_of, IsFit, IsStoreAfter, IsPlanFor, IsPlanOf, IsEventDone}
+
+-- No plan is open in the store, it fits the objects, and the event is one of the specification's, of live objects that
+-- stand in their table.
+pub record CanPlan (m : Meaning) {S : Type 0} (dead : List Bool) (letter : ℕ) (b : Binding)
+    (store : Contents S) : Type 0 where
+  pub closed : store.is_open ≡ false
+  pub fits : IsFit store dead
+  pub event : IsLiveEvent m dead letter b
+  pub there : AreBelow (length dead) b
+
+module _ (m : Meaning) {S : Type 0} (Stands : S → Word → Type 0) (dead : List Bool) (letter : ℕ) (b : Binding)
+    (old new : Contents S) where
+  -- Monitors and marks are as before, and of whatever trace the store was one, it still is. Where memory isn't wanting
+  -- there is a plan, open in the store, that fits it, and is that of the event after each such trace.
+  pub record Plans (result : Result (Plan S) NoMemory) : Type 0 where
+    pub stored : stored_of new ≡ stored_of old
+    pub marks : new.marks ≡ old.marks
+    pub fewer : EndsFewer old.ending new.ending
+    pub fits : IsFit new dead
+    pub closed : OnErr result (new.is_open ≡ false)
+    pub opened : OnOk result (new.is_open ≡ true)
+    pub binding : IfOk result (λ plan. plan.binding ≡ b)
+    pub plan : IfOk result (λ plan. IsPlanFor new plan)
+    pub keeps : (trace : List ParametricEvent) → IsStoreAfter m Stands trace dead old
+        → IsStoreAfter m Stands trace dead new
+    pub works : IfOk result (λ plan. (trace : List ParametricEvent) → IsStoreAfter m Stands trace dead old
+        → IsPlanOf m Stands trace dead letter new plan)
+
+  -- The event was done at once, and is answered twice, or all is as before. The marks stay, and where no monitor that it
+  -- reached stays, each that is stored was stored before.
+  pub record Advances (result : Option Done) : Type 0 where
+    pub same : IfNone result (new ≡ old)
+    pub marks : new.marks ≡ old.marks
+    pub fits : IsFit new dead
+    pub closed : new.is_open ≡ false
+    pub twice : IfSome result (λ done. done.copy ≡ done.answer)
+    pub dropped : IfSome result (λ done. done.stays ≡ false
+        → (s : Stored S) → Contains (stored_of new) s → Contains (stored_of old) s)
+    pub works : IfSome result (λ done. (trace : List ParametricEvent) → IsStoreAfter m Stands trace dead old
+        → IsEventDone m Stands trace dead letter b new done.answer)
