@@ -71,23 +71,6 @@ pub some_name : (names : List (List ℕ)) (name : List ℕ) → false ≡ is_emp
 some_name [] name = refl
 some_name (x ∷ names) name = refl
 
--- where names were written, they are the list or the dash
-pub some_listed : (names : List (List ℕ)) → false ≡ is_empty names → name_list names ≡ names_or_dash names
-some_listed [] some = absurd (true≢false (sym some))
-some_listed (x ∷ names) some = refl
-
-pub none_listed : (names : List (List ℕ)) → true ≡ is_empty names → name_list names ++ codes "-" ≡ names_or_dash names
-none_listed [] none = refl
-none_listed (x ∷ names) none = absurd (true≢false none)
-
-pub not_empty : (names : List (List ℕ)) → 0 < length names → false ≡ is_empty names
-not_empty [] some = absurd (omega (arith, some))
-not_empty (x ∷ names) some = refl
-
-pub empty_listed : (names : List (List ℕ)) → length names ≡ 0 → codes "-" ≡ names_or_dash names
-empty_listed [] none = refl
-empty_listed (x ∷ names) none = absurd (omega (arith, none))
-
 -- ---- masks
 
 choose_more : (b : Bool) (x : List ℕ) (xs ys zs : List (List ℕ)) → ys ≡ xs ++ zs

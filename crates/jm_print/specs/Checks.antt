@@ -1,33 +1,34 @@
 -- The text of the command `check`: what a specification declares.
 use Rattle.std.specs.Prelude.{ℕ, Bool, List, [], ◌++◌, codes, if◌then◌else◌}
 use Rattle.std.specs.List.{flat_map}
+use Rattle.jm_model.specs.Words.{Text, Mask}
 use Rattle.jm_events.specs.Events.{EventDefinition, EventDefinitions}
 use Rattle.jm_spec.specs.declared.tree.Logic.{Logic}
 use Rattle.jm_spec.specs.declared.tree.Logic.TheVariants.{Fsm, Ere, Cfg, Ptltl}
 use Rattle.jm_print.specs.Lists.{names_or_dash, names_of_mask}
 
 -- the word of a logic
-abbrev pub logic_word : Logic → List ℕ
+abbrev pub logic_word : Logic → Text
 logic_word Fsm = codes "fsm"
 logic_word Ere = codes "ere"
 logic_word Cfg = codes "cfg"
 logic_word Ptltl = codes "ptltl"
 
 -- an event of a name, with the parameters of a mask
-abbrev pub event_text : List (List ℕ) → Bool → List ℕ → ℕ → List ℕ
+abbrev pub event_text : List Text → Bool → Text → Mask → Text
 event_text parameters creation name mask =
     (if creation then codes "creation event " else codes "event ") ++ name ++ codes " "
     ++ names_or_dash (names_of_mask parameters mask) ++ codes "\n"
 
-abbrev pub event_line : List (List ℕ) → EventDefinition → List ℕ
+abbrev pub event_line : List Text → EventDefinition → Text
 event_line parameters e = event_text parameters e.creation e.name e.mask
 
 -- a handler's category
-abbrev pub handler_line : List ℕ → List ℕ
+abbrev pub handler_line : Text → Text
 handler_line category = codes "handler @" ++ category ++ codes "\n"
 
 -- what a specification of this name declares
-abbrev pub check_text : List ℕ → Logic → Bool → EventDefinitions → List (List ℕ) → List ℕ
+abbrev pub check_text : Text → Logic → Bool → EventDefinitions → List Text → Text
 check_text name logic full_binding table categories =
     codes "spec " ++ name ++ codes " " ++ logic_word logic ++ codes "\n"
     ++ (if full_binding then codes "full-binding\n" else []) ++ codes "params " ++ names_or_dash table.parameters

@@ -1,5 +1,6 @@
 -- The summary of a history: one line of counts, each modulo 2^64.
 use Rattle.std.specs.Prelude.{ℕ, ◌%◌, ◌^◌, List, ◌++◌, length, codes, decimal, sum_by}
+use Rattle.jm_model.specs.Words.{Text}
 use Rattle.jm_model.specs.declared.step.Step.{Step}
 use Rattle.jm_model.specs.declared.step.Step.TheVariants.{Event, Death, Pass}
 use Rattle.jm_model.specs.declared.step.Outcome.{Outcome}
@@ -22,7 +23,7 @@ abbrev pub count_of : Measure → List Entry → ℕ
 count_of what h = sum_by (λ x. weight_of what x.step x.outcome) h % 2 ^ 64
 
 -- the summary of a history of the specification of this name
-abbrev pub summary_text : List ℕ → List Entry → List ℕ
+abbrev pub summary_text : Text → List Entry → Text
 summary_text name h =
     codes "spec " ++ name ++ codes " events " ++ decimal (count_of Events h) ++ codes " fired "
     ++ decimal (count_of Firings h)

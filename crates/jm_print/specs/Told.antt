@@ -1,5 +1,6 @@
 -- What a text has to know of its names and its entries to be read back.
 use Rattle.std.specs.Prelude.{ℕ, ◌≡◌, ◌≢◌, ◌<◌, ◌^◌, ◌++◌, List, [], ◌∷◌, length, slice_get, Some, None}
+use Rattle.jm_model.specs.Words.{Text}
 use Rattle.jm_model.specs.declared.binding.Binding.{Binding}
 use Rattle.jm_model.specs.declared.firings.Firing.{Firing}
 use Rattle.jm_model.specs.declared.step.Step.{Step}
@@ -15,14 +16,14 @@ abbrev pub IsNameByte : ℕ → Type 0
 IsNameByte c = (c ≢ 10) × (c ≢ 32) × (c ≢ 44) × (c ≢ 61)
 
 -- each byte of a text is one of a name
-abbrev pub IsName : List ℕ → Type 0
+abbrev pub IsName : Text → Type 0
 IsName [] = Unit {0}
 IsName (c ∷ cs) = IsNameByte c × IsName cs
 
 -- these are names, each a different one
-pub record AreNames (names : List (List ℕ)) : Type 0 where
-  pub each : (k : ℕ) (name : List ℕ) → slice_get names k ≡ Some name → IsName name
-  pub distinct : (j k : ℕ) (name : List ℕ) → slice_get names j ≡ Some name → slice_get names k ≡ Some name → j ≡ k
+pub record AreNames (names : List Text) : Type 0 where
+  pub each : (k : ℕ) (name : Text) → slice_get names k ≡ Some name → IsName name
+  pub distinct : (j k : ℕ) (name : Text) → slice_get names j ≡ Some name → slice_get names k ≡ Some name → j ≡ k
 
 -- the parameters, events, handlers and objects of a lexicon are names
 pub record HasNames (l : Lexicon) : Type 0 where
@@ -74,6 +75,6 @@ AreToldBy (l ∷ ls) (h ∷ hs) = AreTold l h × AreToldBy ls hs
 AreToldBy _ _ = ⊥
 
 -- the texts of these histories, one after another
-abbrev pub texts_of : List Lexicon → List (List Entry) → List ℕ
+abbrev pub texts_of : List Lexicon → List (List Entry) → Text
 texts_of (l ∷ ls) (h ∷ hs) = history_text l h ++ texts_of ls hs
 texts_of _ _ = []

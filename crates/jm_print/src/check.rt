@@ -58,7 +58,7 @@ fn binding_line(full_binding: bool) -> &'static str
     if full_binding { "full-binding\n" } else { "" }
 }
 
-/// The events.
+/// A line for each event, in the order of the letters.
 fn events(page: &mut Page, table: &EventTable) -> Result<(), NoMemory>
     ensures { OnOk result (page.new ≡ page.old ++ flat_map (event_line table.now.parameters) table.now.events) }
 {
@@ -121,7 +121,7 @@ fn kind(creation: bool) -> &'static str
     }
 }
 
-/// The handlers.
+/// A line for each category that has a handler.
 fn handlers(page: &mut Page, categories: &Names) -> Result<(), NoMemory>
     ensures { OnOk result (page.new ≡ page.old ++ flat_map handler_line categories.now) }
 {

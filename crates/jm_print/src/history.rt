@@ -116,7 +116,6 @@ impl Printer<'_> {
         Ok(count)
     }
 
-    /// The entries.
     fn entries(&self, page: &mut Page, entries: &[Entry]) -> Result<(), NoMemory>
         requires { All (IsPrintable self.now) entries.now }
         ensures { OnOk result (page.new ≡ page.old ++ flat_map (full_entry_text self.now) entries.now) }
