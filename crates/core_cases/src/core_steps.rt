@@ -3,6 +3,7 @@ use crate::rig::Rig;
 use case_steps::{binding_shown, entry_shown, outcome_shown};
 use cases::{Case, byte_of, number_of, put_line, put_word, text_of};
 use jm_core::Prop;
+use jm_history::History;
 use jm_model::NoMemory;
 use std::alloc::Global;
 use table_monitor::Table;
@@ -25,7 +26,7 @@ pub(crate) fn core(alloc: Global, case: &Case) -> Result<String, NoMemory> {
     for line in text_of(&case.text).lines() {
         let answer = match line {
             "stored" => stored(alloc, &rig.prop)?,
-            "history" => entries(alloc, &rig.prop)?,
+            "history" => entries(alloc, rig.prop.history())?,
             event => outcome_shown(alloc, &rig.fire(event)?)?,
         };
         put_line(&mut out, answer.as_str())?;
@@ -41,9 +42,9 @@ fn stored(alloc: Global, prop: &Prop<Table>) -> Result<String, NoMemory> {
     Ok(out)
 }
 
-fn entries(alloc: Global, prop: &Prop<Table>) -> Result<String, NoMemory> {
+fn entries(alloc: Global, history: &History) -> Result<String, NoMemory> {
     let mut out = String::new(alloc);
-    for entry in &prop.history().entries(alloc)? {
+    for entry in &history.entries(alloc)? {
         put_line(&mut out, entry_shown(alloc, entry)?.as_str())?;
     }
     Ok(out)
@@ -53,5 +54,6 @@ fn entries(alloc: Global, prop: &Prop<Table>) -> Result<String, NoMemory> {
 pub(crate) fn replay(alloc: Global, case: &Case) -> Result<String, NoMemory> {
     let mut rig = Rig::new(alloc, table_of(case.first.as_str()))?;
     rig.replay(number_of(case.second.as_str()), text_of(&case.text))?;
-    entries(alloc, &rig.prop)
+    let (_, history) = rig.prop.into_parts();
+    entries(alloc, &history)
 }
