@@ -1,6 +1,7 @@
 -- Which rules the tree of a specification says, and which fault it has: the steps of the formula, of the handlers, and
 -- of the formula's table.
-use Rattle.std.specs.Prelude.{ℕ, ◌≡◌, List, length, Some, None, slice_range}
+use Rattle.std.specs.Prelude.{◌≡◌, List, length, Some, None, slice_range}
+use Rattle.jm_model.specs.Words.{Text}
 use Rattle.jm_model.specs.declared.fault.SpecFault.{SpecFault}
 use Rattle.jm_model.specs.declared.fault.SpecError.{SpecError}
 use Rattle.jm_model.specs.declared.fault.SpecError.TheVariants.{Bad, NoMemory}
@@ -16,18 +17,18 @@ abbrev pub formula_of : List Token → SpecTree → List Token
 formula_of tokens tree = slice_range tokens tree.first tree.last
 
 -- the tree's formula is this one
-abbrev pub IsFormula : List ℕ → List Token → SpecTree → Formula → Type 0
+abbrev pub IsFormula : Text → List Token → SpecTree → Formula → Type 0
 IsFormula bytes tokens tree formula = IsReadAs bytes (formula_of tokens tree) tree.table tree.logic formula
 
 -- no step has a fault, and the tree says these rules
-pub record IsCompiledFrom (bytes : List ℕ) (tokens : List Token) (tree : SpecTree) (r : RuleDefinition) : Type 0 where
+pub record IsCompiledFrom (bytes : Text) (tokens : List Token) (tree : SpecTree) (r : RuleDefinition) : Type 0 where
   pub read : IsFormula bytes tokens tree r.formula
   pub handled : handlers_fault bytes tokens (category_names r.formula) tree.handlers.items ≡ None
   pub settled : (fault : SpecFault) → IsTableFault r.formula (length tree.table.events) fault → ⊥
   pub rules : r ≡ rules_of tree.table tree.full_binding r.formula (handler_names bytes tree.handlers.items)
 
 -- the first fault: that of the formula, that of the handlers, or that of the making of the formula's table
-pub data IsFaultyTree (bytes : List ℕ) (tokens : List Token) (tree : SpecTree) (fault : SpecFault) : Type 0 where
+pub data IsFaultyTree (bytes : Text) (tokens : List Token) (tree : SpecTree) (fault : SpecFault) : Type 0 where
   in_formula : IsRefusedIn bytes (formula_of tokens tree) tree.table tree.logic fault
       → IsFaultyTree bytes tokens tree fault
   in_handlers : (formula : Formula)
@@ -41,6 +42,6 @@ pub data IsFaultyTree (bytes : List ℕ) (tokens : List Token) (tree : SpecTree)
       → IsFaultyTree bytes tokens tree fault
 
 -- the tree has this first fault, unless memory is short
-abbrev pub IsNotCompiled : List ℕ → List Token → SpecTree → SpecError → Type 0
+abbrev pub IsNotCompiled : Text → List Token → SpecTree → SpecError → Type 0
 IsNotCompiled bytes tokens tree NoMemory = Unit {0}
 IsNotCompiled bytes tokens tree (Bad fault) = IsFaultyTree bytes tokens tree fault

@@ -1,5 +1,6 @@
 -- What a state of compiled rules stands for.
-use Rattle.std.specs.Prelude.{ℕ, ◌≡◌, ◌≢◌, List, []}
+use Rattle.std.specs.Prelude.{◌≡◌, ◌≢◌, []}
+use Rattle.jm_model.specs.Words.{Word}
 use Rattle.jm_model.specs.Meanings.{IsCreated}
 use Rattle.jm_machine.specs.declared.configuration.Configuration.{Configuration}
 use Rattle.jm_machine.specs.declared.configuration.Configuration.TheVariants.{Start, Barren, State, Parse}
@@ -8,16 +9,16 @@ use Rattle.jm_machine.specs.Engines.{IsPlaceOf}
 use Rattle.jm_machine.specs.RuleSets.{CompiledRules}
 
 -- the word has a letter, and its first one may begin an instance's life
-abbrev pub IsBegun : CompiledRules → List ℕ → Type 0
+abbrev pub IsBegun : CompiledRules → Word → Type 0
 IsBegun r w = (w ≢ []) × IsCreated (rules_meaning r.definition) w
 
 -- the word has a letter, and its first one may not
-abbrev pub IsBarren : CompiledRules → List ℕ → Type 0
+abbrev pub IsBarren : CompiledRules → Word → Type 0
 IsBarren r w = (w ≢ []) × (IsCreated (rules_meaning r.definition) w → ⊥)
 
 -- the configuration of a word: that of the empty word, that of words that can't begin so, and those of the states and
 -- charts that the others lead to
-abbrev pub IsConfigurationOf : CompiledRules → Configuration → List ℕ → Type 0
+abbrev pub IsConfigurationOf : CompiledRules → Configuration → Word → Type 0
 IsConfigurationOf r Start w = w ≡ []
 IsConfigurationOf r Barren w = IsBarren r w
 IsConfigurationOf r (State s) w = IsBegun r w × IsPlaceOf r.engine (State s) w

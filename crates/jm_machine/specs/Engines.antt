@@ -1,5 +1,6 @@
 -- What runs a property, and where words lead in it.
 use Rattle.std.specs.Prelude.{ℕ, ◌≡◌, ◌<◌, ◌↔◌, Bool, true, false, List, All, length}
+use Rattle.jm_model.specs.Words.{Word, Mask}
 use Rattle.jm_table.specs.Tables.{IsWord, IsInGroup, state_after_of}
 use Rattle.jm_table.specs.Minimal.{IsReduced}
 use Rattle.jm_grammar.specs.Grammars.{GrammarDefinition}
@@ -34,12 +35,12 @@ IsMinimal (States t) = IsReduced t
 IsMinimal (Parses c) = Unit {0}
 
 -- charts know the letters by these parameters
-abbrev pub HasParams : List ℕ → Engine → Type 0
+abbrev pub HasParams : List Mask → Engine → Type 0
 HasParams masks (States t) = Unit {0}
 HasParams masks (Parses c) = c.params ≡ masks
 
 -- the word leads to the state, or to the chart
-abbrev pub IsPlaceOf : Engine → Configuration → List ℕ → Type 0
+abbrev pub IsPlaceOf : Engine → Configuration → Word → Type 0
 IsPlaceOf (States t) (State s) word = IsWord t word × (s ≡ state_after_of t word)
 IsPlaceOf (Parses c) (Parse chart) word = All (λ letter. letter < length c.params) word × IsChartOf c word chart.value
 IsPlaceOf _ _ word = ⊥
@@ -50,7 +51,7 @@ IsChartPlace chart (Parse here) = here.value ≡ chart
 IsChartPlace chart _ = ⊥
 
 -- the category of this number holds of the word, by what runs the property
-abbrev pub EngineHolds : Engine → ℕ → List ℕ → Type 0
+abbrev pub EngineHolds : Engine → ℕ → Word → Type 0
 EngineHolds (States t) category word = IsInGroup t (state_after_of t word) category
 EngineHolds (Parses c) category word = GrammarHolds c.grammar category word
 
@@ -62,13 +63,13 @@ HasLetters letters _ = Unit {0}
 -- the charts are those of a grammar with the words of this one, over so many letters
 abbrev pub IsParserOf : GrammarDefinition → ℕ → Engine → Type 0
 IsParserOf g letters (Parses c) =
-    ((word : List ℕ) → grammar.IsWord c.grammar word ↔ grammar.IsWord g word) × (length c.params ≡ letters)
+    ((word : Word) → grammar.IsWord c.grammar word ↔ grammar.IsWord g word) × (length c.params ≡ letters)
 IsParserOf g letters (States t) = ⊥
 
 -- after each word of its letters that isn't empty, the categories hold by what runs the property where they hold of the
 -- word
 abbrev pub IsCompiled : Formula → Engine → Type 0
 IsCompiled formula engine =
-    (word : List ℕ) → All (λ letter. letter < letters_of_engine engine) word → 0 < length word → (category : ℕ)
+    (word : Word) → All (λ letter. letter < letters_of_engine engine) word → 0 < length word → (category : ℕ)
     → category < length (category_names formula)
     → EngineHolds engine category word ↔ CategoryHolds formula (letters_of_engine engine) category word

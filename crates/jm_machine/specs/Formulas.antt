@@ -1,6 +1,7 @@
 -- The property of a specification, in whichever logic: its categories, when one holds of a word, and what tokens spell
 -- it.
 use Rattle.std.specs.Prelude.{ℕ, Bool, true, false, ◌≡◌, List}
+use Rattle.jm_model.specs.Words.{Text, Word}
 use Rattle.jm_model.specs.declared.fault.SpecFault.{SpecFault}
 use Rattle.jm_model.specs.declared.fault.SpecFault.TheVariants.{TooManyStates}
 use Rattle.jm_model.specs.declared.fault.SpecError.TheVariants.{Bad}
@@ -26,21 +27,21 @@ is_grammar (Grammatical g) = true
 is_grammar _ = false
 
 -- the names of the categories; the number of a category is the place of its name
-abbrev pub category_names : Formula → List (List ℕ)
+abbrev pub category_names : Formula → List Text
 category_names (Machine m) = fsm.category_names m
 category_names (Regular e) = ere.category_names
 category_names (Temporal f) = past.category_names
 category_names (Grammatical g) = grammar.category_names
 
 -- the category holds of a word that isn't empty, over so many letters
-abbrev pub CategoryHolds : Formula → ℕ → ℕ → List ℕ → Type 0
+abbrev pub CategoryHolds : Formula → ℕ → ℕ → Word → Type 0
 CategoryHolds (Machine m) letters category word = fsm.FsmHolds m category word
 CategoryHolds (Regular e) letters category word = ere.ExpressionHolds e letters category word
 CategoryHolds (Temporal f) letters category word = past.PastHolds f category word
 CategoryHolds (Grammatical g) letters category word = grammar.GrammarHolds g category word
 
 -- the tokens spell this formula of the logic, without a fault
-abbrev pub IsReadAs : List ℕ → List Token → EventDefinitions → Logic → Formula → Type 0
+abbrev pub IsReadAs : Text → List Token → EventDefinitions → Logic → Formula → Type 0
 IsReadAs bytes tokens table Fsm (Machine m) = fsm_readings.IsReadFrom bytes tokens table m
 IsReadAs bytes tokens table Ere (Regular e) = ere_readings.IsReadFrom bytes tokens table e
 IsReadAs bytes tokens table Ptltl (Temporal f) = past_readings.IsReadFrom bytes tokens table f
@@ -48,7 +49,7 @@ IsReadAs bytes tokens table Cfg (Grammatical g) = grammar_readings.IsReadFrom by
 IsReadAs bytes tokens table _ _ = ⊥
 
 -- the tokens spell no formula of the logic, or one with this first fault
-abbrev pub IsRefusedIn : List ℕ → List Token → EventDefinitions → Logic → SpecFault → Type 0
+abbrev pub IsRefusedIn : Text → List Token → EventDefinitions → Logic → SpecFault → Type 0
 IsRefusedIn bytes tokens table Fsm fault = fsm_readings.IsRefused bytes tokens table (Bad fault)
 IsRefusedIn bytes tokens table Ere fault = ere_readings.IsRefused bytes tokens table (Bad fault)
 IsRefusedIn bytes tokens table Ptltl fault = past_readings.IsRefused bytes tokens table (Bad fault)

@@ -1,7 +1,8 @@
 -- What is wrong with the handlers of a specification, step by step.
-use Rattle.std.specs.Prelude.{ℕ, ◌≡◌, true, List, [], ◌∷◌, ◌++◌, length, map, All, Option, Some, None, codes, nat_le, slice_range, if◌then◌else◌}
+use Rattle.std.specs.Prelude.{◌≡◌, true, List, [], ◌∷◌, ◌++◌, length, map, All, Option, Some, None, codes, nat_le, slice_range, if◌then◌else◌}
 use Rattle.std.specs.List.{list_any}
 use Rattle.std.specs.Str.{bytes_eq}
+use Rattle.jm_model.specs.Words.{Text}
 use Rattle.jm_model.specs.declared.fault.Counted.TheVariants.{Handlers}
 use Rattle.jm_model.specs.declared.fault.SpecFault.{SpecFault}
 use Rattle.jm_model.specs.declared.fault.SpecFault.TheVariants.{TooMany, DuplicateHandler, UnknownCategory, UnsupportedHandler}
@@ -12,11 +13,11 @@ use Rattle.jm_reading.specs.Faults.{or_else}
 use Rattle.jm_spec.specs.declared.property.HandlerText.{HandlerText}
 
 -- the names of the categories that are handled
-abbrev pub handler_names : List ℕ → List HandlerText → List (List ℕ)
+abbrev pub handler_names : Text → List HandlerText → List Text
 handler_names bytes handlers = map (λ h. name_of bytes h.category) handlers
 
 -- each of these names is one of the categories
-abbrev pub AreCategories : List (List ℕ) → List (List ℕ) → Type 0
+abbrev pub AreCategories : List Text → List Text → Type 0
 AreCategories categories names = All (λ name. list_any (bytes_eq name) categories ≡ true) names
 
 -- there are more than 16
@@ -24,32 +25,32 @@ abbrev pub count_fault : List HandlerText → Option SpecFault
 count_fault handlers = if nat_le (length handlers) 16 then None else Some (TooMany Handlers)
 
 -- the first one for a category that is among these or that one before it is for
-abbrev pub duplicate_fault : List ℕ → List (List ℕ) → List HandlerText → Option SpecFault
+abbrev pub duplicate_fault : Text → List Text → List HandlerText → Option SpecFault
 duplicate_fault bytes earlier [] = None
 duplicate_fault bytes earlier (h ∷ hs) =
     if list_any (bytes_eq (name_of bytes h.category)) earlier then Some (DuplicateHandler h.category.line)
     else duplicate_fault bytes (earlier ++ name_of bytes h.category ∷ []) hs
 
 -- the first one for no category of these
-abbrev pub category_fault : List ℕ → List (List ℕ) → List HandlerText → Option SpecFault
+abbrev pub category_fault : Text → List Text → List HandlerText → Option SpecFault
 category_fault bytes categories [] = None
 category_fault bytes categories (h ∷ hs) =
     if list_any (bytes_eq (name_of bytes h.category)) categories then category_fault bytes categories hs
     else Some (UnknownCategory h.category.line)
 
 -- the first word `__RESET` of a block, and of all blocks
-abbrev pub reset_in : List ℕ → List Token → Option SpecFault
+abbrev pub reset_in : Text → List Token → Option SpecFault
 reset_in bytes [] = None
 reset_in bytes (t ∷ ts) =
     if is_word bytes t (codes "__RESET") then Some (UnsupportedHandler t.line) else reset_in bytes ts
 
-abbrev pub reset_fault : List ℕ → List Token → List HandlerText → Option SpecFault
+abbrev pub reset_fault : Text → List Token → List HandlerText → Option SpecFault
 reset_fault bytes tokens [] = None
 reset_fault bytes tokens (h ∷ hs) =
     or_else (reset_in bytes (slice_range tokens h.first h.last)) (reset_fault bytes tokens hs)
 
 -- the fault of the first step that has one, where the property has these categories
-unfoldable pub handlers_fault : List ℕ → List Token → List (List ℕ) → List HandlerText → Option SpecFault
+unfoldable pub handlers_fault : Text → List Token → List Text → List HandlerText → Option SpecFault
 handlers_fault bytes tokens categories handlers =
     or_else (count_fault handlers)
     (or_else (duplicate_fault bytes [] handlers)

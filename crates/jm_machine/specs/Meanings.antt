@@ -3,23 +3,24 @@ use Rattle.std.specs.Prelude.{ℕ, ◌^◌, ◌-◌, Bool, false, ◌&&◌, code
 use Rattle.std.specs.List.{range_with_len, list_any}
 use Rattle.std.specs.Str.{bytes_eq}
 use Rattle.std.specs.Option.{option_map_or}
+use Rattle.jm_model.specs.Words.{Text, Word, Mask}
 use Rattle.jm_model.specs.Meanings.{Meaning}
 use Rattle.jm_events.specs.Names.{number_of}
 use Rattle.jm_events.specs.Events.{EventDefinitions}
 use Rattle.jm_machine.specs.declared.formula.Formula.{Formula}
 use Rattle.jm_machine.specs.Formulas.{category_names, is_grammar, CategoryHolds}
 
--- The rules of a specification: the parameters of each letter, as a mask; the creation letters; the parameters that a
--- reported instance has to bind, as a mask; the property; and the name of the category that each handler is for.
+-- The rules of a specification: the parameters of each letter; the creation letters; the parameters that a reported
+-- instance has to bind; the property; and the name of the category that each handler is for.
 pub record RuleDefinition : Type 0 where
-  pub masks : List ℕ
+  pub masks : List Mask
   pub creation : List ℕ
-  pub must_bind : ℕ
+  pub must_bind : Mask
   pub formula : Formula
-  pub handlers : List (List ℕ)
+  pub handlers : List Text
 
 -- the category of this name holds of the word
-abbrev pub IsNamedCategory : RuleDefinition → List ℕ → List ℕ → Type 0
+abbrev pub IsNamedCategory : RuleDefinition → Word → Text → Type 0
 IsNamedCategory r word name = IsSomeAnd (number_of (category_names r.formula) name)
     (λ category. CategoryHolds r.formula (length r.masks) category word)
 
@@ -50,10 +51,10 @@ abbrev pub creation_letters : EventDefinitions → List ℕ
 creation_letters t = filter (is_creation t) (range_with_len 0 (length t.events))
 
 -- all parameters where the specification is for full bindings alone, else none
-abbrev pub must_bind_of : EventDefinitions → Bool → ℕ
+abbrev pub must_bind_of : EventDefinitions → Bool → Mask
 must_bind_of t full_binding = if full_binding then 2 ^ length t.parameters - 1 else 0
 
-abbrev pub rules_of : EventDefinitions → Bool → Formula → List (List ℕ) → RuleDefinition
+abbrev pub rules_of : EventDefinitions → Bool → Formula → List Text → RuleDefinition
 rules_of t full_binding formula handlers = record {
   masks = map (λ e. e.mask) t.events;
   creation = creation_letters t;

@@ -1,5 +1,6 @@
 -- What may still follow the runs of compiled rules, as it is kept.
 use Rattle.std.specs.Prelude.{ℕ, ◌≡◌, ◌<◌, ◌↔◌, ◌⊎◌, Bool, List, [], ◌∷◌, Some, IsBitSet, IsSomeAnd, length, slice_get, slice_index}
+use Rattle.jm_model.specs.Words.{Word, Mask}
 use Rattle.jm_events.specs.Events.{EventDefinitions}
 use Rattle.jm_goal.specs.Goals.{GoalDefinition}
 use Rattle.jm_table.specs.Tables.{Transitions, IsTable, next_of}
@@ -29,7 +30,7 @@ pub record StateFacts : Type 0 where
 -- bit k of a state's mask is set where the category of handler k holds of the words that lead to the state
 abbrev pub AreHandlerMasks : Engine → GoalDefinition → List ℕ → Type 0
 AreHandlerMasks engine goal hits =
-    (state : ℕ) → state < length hits → (word : List ℕ) → IsPlaceOf engine (State state) word → (k : ℕ) →
+    (state : ℕ) → state < length hits → (word : Word) → IsPlaceOf engine (State state) word → (k : ℕ) →
     IsBitSet (slice_index hits state) k ↔ IsSomeAnd (slice_get goal.groups k) (λ group. EngineHolds engine group word)
 
 -- the letter leaves the state as it is, which hits nothing
@@ -70,7 +71,7 @@ pub record AreFactsOf (t : Transitions) (goal : GoalDefinition) (events : EventD
 
 -- some word of one or more letters without a dead parameter leads from the configuration's state to a handled one; from
 -- the empty word it is one that may begin so
-abbrev pub CanHitFrom : Transitions → GoalDefinition → EventDefinitions → Configuration → ℕ → Type 0
+abbrev pub CanHitFrom : Transitions → GoalDefinition → EventDefinitions → Configuration → Mask → Type 0
 CanHitFrom t g v Start dead = IsAlive (IsNeededAtStart t g v) dead
 CanHitFrom t g v (State s) dead = (s < t.states) × IsAlive (IsNeededFrom t g v s) dead
 CanHitFrom t g v _ dead = ⊥
@@ -88,21 +89,21 @@ pub record AreFirstCharts (c : ChartsDefinition) (firsts : List ChartDefinition)
   pub each : (e : ℕ) (chart : ChartDefinition) → slice_get firsts e ≡ Some chart → IsChartOf c (e ∷ []) chart
 
 -- the word of letter e alone is in the language, or one that goes on with letters without a dead parameter is
-abbrev pub GoesOn : ChartsDefinition → ℕ → ℕ → Type 0
+abbrev pub GoesOn : ChartsDefinition → Mask → ℕ → Type 0
 GoesOn c dead e = IsWord c.grammar (e ∷ []) ⊎ IsAliveFor c.grammar c.params dead (e ∷ [])
 
 -- words may begin with letter e, which has no dead parameter, and go on so
-abbrev pub BeginsWith : ChartsDefinition → GoalDefinition → ℕ → ℕ → Type 0
+abbrev pub BeginsWith : ChartsDefinition → GoalDefinition → Mask → ℕ → Type 0
 BeginsWith c goal dead e = may_begin goal e × IsAvailable c.params dead e × GoesOn c dead e
 
 -- the configuration is that of a word, so far as its chart tells
-abbrev pub IsParseOf : ChartsDefinition → Configuration → List ℕ → Type 0
+abbrev pub IsParseOf : ChartsDefinition → Configuration → Word → Type 0
 IsParseOf c (Parse chart) word = IsChartOf c word chart.value
 IsParseOf c _ word = Unit {0}
 
 -- some word of one or more letters without a dead parameter, put after the configuration's word, is in the language;
 -- after the empty word it is one that may begin so
-abbrev pub CanMatch : ChartsDefinition → GoalDefinition → Configuration → List ℕ → ℕ → Type 0
+abbrev pub CanMatch : ChartsDefinition → GoalDefinition → Configuration → Word → Mask → Type 0
 CanMatch c goal Start word dead = (e : ℕ) × BeginsWith c goal dead e
 CanMatch c goal (Parse chart) word dead = IsAliveFor c.grammar c.params dead word
 CanMatch c goal _ word dead = ⊥

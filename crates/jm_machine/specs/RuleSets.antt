@@ -1,6 +1,7 @@
 -- Compiled rules: what a specification means, with what runs it.
 use Rattle.std.specs.Prelude.{ℕ, ◌≡◌, ◌<◌, ◌≤◌, ◌==◌, ◌^◌, ◌⊎◌, Bool, not, List, Some, IsSomeAnd, IsBitSet, bit_and, length, map, filter, slice_get}
 use Rattle.std.specs.List.{range_with_len}
+use Rattle.jm_model.specs.Words.{Text, Word, Mask}
 use Rattle.jm_events.specs.Names.{number_of}
 use Rattle.jm_goal.specs.Goals.{GoalDefinition}
 use Rattle.jm_machine.specs.declared.formula.Formula.{Formula}
@@ -31,7 +32,7 @@ abbrev pub letters_of : ℕ → ℕ → List ℕ
 letters_of mask count = filter (has_letter_bit mask) (range_with_len 0 count)
 
 -- what masks, a formula, handled categories and a goal mean
-abbrev pub definition_of : List ℕ → Formula → List (List ℕ) → GoalDefinition → RuleDefinition
+abbrev pub definition_of : List Mask → Formula → List Text → GoalDefinition → RuleDefinition
 definition_of masks formula handlers goal = record {
   masks = masks;
   creation = letters_of goal.creation (length masks);
@@ -42,7 +43,7 @@ definition_of masks formula handlers goal = record {
 
 -- there are at most 32 letters, the creation letters are some of them, and the group of each handler is the number of
 -- its category
-pub record IsGoalOf (masks : List ℕ) (formula : Formula) (handlers : List (List ℕ))
+pub record IsGoalOf (masks : List Mask) (formula : Formula) (handlers : List Text)
     (goal : GoalDefinition) : Type 0 where
   pub few : length masks ≤ 32
   pub creation : (letter : ℕ) → IsBitSet goal.creation letter → letter < length masks
@@ -55,7 +56,7 @@ may_begin goal letter = (goal.creation ≡ 0) ⊎ IsBitSet goal.creation letter
 -- ---- where handlers configuration
 
 -- what runs the property says that the category of handler k holds of the word
-abbrev pub IsHandledBy : CompiledRules → List ℕ → ℕ → Type 0
+abbrev pub IsHandledBy : CompiledRules → Word → ℕ → Type 0
 IsHandledBy r word k =
     IsSomeAnd (slice_get r.definition.handlers k)
     (λ name. IsSomeAnd (number_of (category_names r.definition.formula) name)

@@ -5,10 +5,9 @@ ghost use Rattle.jm_reading.specs.Faults.{Checks};
 ghost use Rattle.jm_events.specs.Names.{number_of};
 ghost use Rattle.jm_machine.specs.Handlers.{handler_names, AreCategories, count_fault, duplicate_fault, category_fault, reset_in, reset_fault, handlers_fault};
 
-use crate::ranges::range_of;
 use jm_events::Names;
 use jm_model::{Counted, SpecError, SpecFault};
-use jm_reading::name_of;
+use jm_reading::{name_of, range_of};
 use jm_spec::HandlerText;
 use jm_text::{Token, is_word};
 use std::alloc::Global;

@@ -19,10 +19,11 @@ use crate::formula::Formula;
 use crate::goal::{goal_of, may_begin};
 use crate::handlers::handled;
 use crate::outlook::Outlook;
-use crate::ranges::{line_before, range_of};
+use crate::ranges::line_before;
 use jm_events::Names;
 use jm_goal::Goal;
 use jm_model::{Letter, Monitor, NoMemory, SpecError};
+use jm_reading::range_of;
 use jm_spec::SpecTree;
 use jm_table::Table;
 use jm_text::Token;
@@ -66,7 +67,10 @@ impl Model for Rules {
 
     ghost coded = { Prim.hlevel (codes, property.the_row.coded, driver.the_row.coded) };
 
-    ghost view = { λ r. record { definition = definition_of r.masks.items r.formula r.handlers r.goal; engine = r.engine } };
+    ghost view = { λ r. record {
+      definition = definition_of r.masks.items r.formula r.handlers r.goal;
+      engine = r.engine;
+    } };
 
     ghost invariant = { λ r. let d = definition_of r.masks.items r.formula r.handlers r.goal in
         IsGoalOf r.masks.items r.formula r.handlers r.goal × IsRuleSet (record { definition = d; engine = r.engine })
@@ -175,7 +179,8 @@ impl Rules {
     pub fn family(&self, letter: Letter) -> Result<Option<Vec<u8>>, NoMemory>
         requires { letter.0 < length self.now.definition.masks }
         ensures family { is_grammar self.now.definition.formula ≡ false →
-            IfOk result (λ family. IsSomeAnd family (λ masks. IsFamily (rules_meaning self.now.definition) letter.0 masks.items)) }
+            IfOk result (λ family. IsSomeAnd family
+            (λ masks. IsFamily (rules_meaning self.now.definition) letter.0 masks.items)) }
         ensures none { is_grammar self.now.definition.formula ≡ true → IfOk result (λ family. family ≡ None) }
     {
         match &self.outlook {

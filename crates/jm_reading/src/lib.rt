@@ -12,6 +12,7 @@ mod events;
 mod items;
 mod names;
 mod nesting;
+mod ranges;
 mod repeated;
 
 pub use cursor::Cursor;
@@ -19,4 +20,5 @@ pub use events::{GrammarWords, event_names, letter_of};
 pub use items::Items;
 pub use names::{add_name, name_of};
 pub use nesting::few_nested;
+pub use ranges::range_of;
 pub use repeated::{Repeated, many};
