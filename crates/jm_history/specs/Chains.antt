@@ -1,3 +1,4 @@
+-- How the entries of a history lie in its rows and links.
 use Rattle.std.specs.Prelude.{List, [], ◌∷◌, ◌++◌, reverse}
 use Rattle.std.specs.Global.{Vec}
 use Rattle.std.specs.List.{flat_map}

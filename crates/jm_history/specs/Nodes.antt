@@ -1,3 +1,4 @@
+-- An entry before and after it has its outcome.
 use Rattle.std.specs.Prelude.{ℕ}
 use Rattle.jm_model.specs.declared.step.Step.{Step}
 use Rattle.jm_model.specs.declared.step.Outcome.{Outcome}

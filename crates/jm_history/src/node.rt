@@ -37,7 +37,7 @@ impl Spare {
         Spare { link: None }
     }
 
-    /// Keeps a link.
+    /// Keeps a link for the next node, in place of the one that was kept, if there was one.
     pub(crate) fn keep(&mut self, link: Box<Chain>) {
         self.link = Some(link);
     }

@@ -1,10 +1,10 @@
 -- Columns, and one row more.
-use Rattle.std.proofs.Common.{◌≡◌, ℕ, zero, suc, List, [], ◌∷◌, ◌++◌, map, length, replicate, Some, slice_get, slice_set, refl, sym, ap, ◌∙◌, subst, arith, inl, inr, length-append}
+use Rattle.std.proofs.Common.{◌≡◌, ℕ, zero, suc, List, [], ◌∷◌, ◌++◌, map, length, Some, slice_get, slice_set, refl, sym, ap, ◌∙◌, subst, arith, inl, inr, length-append}
 use Rattle.std.specs.Prelude.{All}
 use Rattle.std.proofs.lemmas.Option.{same_Some, slice_get-map}
 use Rattle.std.proofs.lemmas.List.{map-set, length-map}
 use Rattle.std.specs.Option.{option_map}
-use Rattle.std.proofs.lemmas.List.Elements.{All-nil, All-cons, All-head, All-tail, All-replicate}
+use Rattle.std.proofs.lemmas.List.Elements.{All-nil, All-cons, All-head, All-tail}
 use Rattle.jm_runner.specs.Tables.{lengthened, IsInRow, AreColumns, AreLengthened, IsPushedAt}
 use Rattle.jm_turn.proofs.Elements.{get_last, get_longer, get_snoc, place_from_all}
 
@@ -94,15 +94,3 @@ module _ {A : Type 0} (rows columns : List (List A)) (row : List A) (width : len
 
 pub columns_more : {A : Type 0} (rows before after : List (List A)) (row : List A) → AreLengthened row before after → AreColumns rows before → AreColumns (rows ++ row ∷ []) after
 columns_more {A} rows before after row h are = subst (λ (cs : List (List A)). AreColumns (rows ++ row ∷ []) cs) (sym h.changed) (columns_longer rows before row h.width are)
-
--- the columns of no row
-pub columns_none : {A : Type 0} (width : ℕ) (columns : List (List A)) → columns ≡ replicate width [] → AreColumns [] columns
-columns_none {A} width columns is = subst (λ (cs : List (List A)). AreColumns [] cs) (sym is) (record {
-  long = All-replicate (λ c. length c ≡ 0) width [] refl;
-  same = λ k s column x at here. absurd (none width k s column x at here);
-})
-  where
-    none : (width k s : ℕ) (column : List A) (x : A) → slice_get (replicate width []) k ≡ Some column → slice_get column s ≡ Some x → ⊥
-    none zero k s column x at here = absurd (cc (at))
-    none (suc width) zero s column x at here = absurd (cc (subst (λ (c : List A). slice_get c s ≡ Some x) (sym (same_Some [] column at)) here))
-    none (suc width) (suc k) s column x at here = none width k s column x at here

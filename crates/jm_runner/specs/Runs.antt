@@ -20,21 +20,20 @@ projections_of scripts s = map (λ script. projection_of (script_of script) s) s
 abbrev pub AreFitSteps : Meaning → ℕ → List (ℕ × Step) → Type 0
 AreFitSteps m objects steps = All (λ p. IsFitStep m objects p.1) steps
 
--- A watch can run the scripts as specification s: the seats are all of it, one for each script, in the order of their
--- numbers, none has seen an entry, and the steps that the scripts have for it fit it.
-pub record CanRun {D : Type 0} (m : Meaning) (scripts : List (List ScriptLine)) (s : ℕ) (watch : LockModel (Fixed D))
-    (seats : List (SeatModel Entry (Fixed D))) : Type 0 where
-  pub count : watch.seats ≡ length scripts
-  pub all : length seats ≡ length scripts
-  pub newcomers : AreNewcomers watch seats
-  pub fitting : All (λ steps. AreFitSteps m watch.fixed.objects steps) (projections_of scripts s)
+module _ {D : Type 0} (m : Meaning) (scripts : List (List ScriptLine)) (s : ℕ) where
+  -- A watch can run the scripts as specification s: the seats are all of it, one for each script, in the order of their
+  -- numbers, none has seen an entry, and the steps that the scripts have for it fit it.
+  pub record CanRun (watch : LockModel (Fixed D)) (seats : List (SeatModel Entry (Fixed D))) : Type 0 where
+    pub count : watch.seats ≡ length scripts
+    pub all : length seats ≡ length scripts
+    pub newcomers : AreNewcomers watch seats
+    pub fitting : All (λ steps. AreFitSteps m watch.fixed.objects steps) (projections_of scripts s)
 
--- What a run of the scripts leaves of specification s: its core, with a legal history that interleaves the projections
--- of the scripts, and that what it keeps in memory fits.
-pub record IsRunOf {D : Type 0} (m : Meaning) (scripts : List (List ScriptLine)) (s : ℕ) (fixed : Fixed D)
-    (prop : Core D) : Type 0 where
-  pub definition : prop.definition ≡ fixed.definition
-  pub objects : prop.objects ≡ fixed.objects
-  pub legal : IsLegal m prop.entries
-  pub fits : FitsHistory m prop.entries prop.stored prop.marks
-  pub interleaving : IsInterleaving prop.entries (projections_of scripts s)
+  -- What a run of the scripts leaves of specification s: its core, with a legal history that interleaves the scripts'
+  -- projections, and that what it keeps in memory fits.
+  pub record IsRunOf (fixed : Fixed D) (prop : Core D) : Type 0 where
+    pub definition : prop.definition ≡ fixed.definition
+    pub objects : prop.objects ≡ fixed.objects
+    pub legal : IsLegal m prop.entries
+    pub fits : FitsHistory m prop.entries prop.stored prop.marks
+    pub interleaving : IsInterleaving prop.entries (projections_of scripts s)

@@ -53,9 +53,6 @@ padded_length index dead = omega (arith, length-append index.dropped (replicate 
 dropped_only : (old new : PairList) (dead : List Bool) → IsFitting new (old.dropped ++ replicate (length dead) false) → (o : ℕ) → flag_of new.dropped o ≡ true → flag_of old.dropped o ≡ true
 dropped_only old new dead fits o gone = sym (flag_padded old.dropped (length dead) o) ∙ fits.reached o gone
 
-pub plain_fewer : (old new : PairList) (dead : List Bool) → IsFitting old dead → ((flags : List Bool) → IsFitting old flags → IsFitting new flags) → (o : ℕ) → flag_of new.dropped o ≡ true → flag_of old.dropped o ≡ true
-plain_fewer old new dead fits more = dropped_only old new dead (more (old.dropped ++ replicate (length dead) false) (padded_fits old dead fits))
-
 pub opened_fewer : {S : Type 0} (old new : PairList) (dead : List Bool) (moves : List (Move S)) → IsFitting old dead → LieWithin (length dead) moves
     → ((flags : List Bool) → IsFitting old flags → LieWithin (length flags) moves → IsFitting new flags) → (o : ℕ) → flag_of new.dropped o ≡ true → flag_of old.dropped o ≡ true
 opened_fewer old new dead moves fits within more =

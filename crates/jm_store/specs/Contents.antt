@@ -1,5 +1,6 @@
 -- What contracts see of a store, and what a plan is for it.
 use Rattle.std.specs.Prelude.{ℕ, ◌≡◌, ◌<◌, Bool, true, false, List, [], ◌∷◌, ◌++◌, Option, Some, None, Contains, IsTrue, length, ◌⊎◌, ◌≢◌, AllPairs, cond, slice_set}
+use Rattle.jm_model.specs.Words.{Word}
 use Rattle.jm_model.specs.Bindings.{is_below}
 use Rattle.jm_model.specs.Meanings.{Meaning}
 use Rattle.jm_model.specs.declared.binding.Binding.{Binding}
@@ -31,7 +32,7 @@ stored_of store = stored_in store.monitors
 
 -- the store with other letters
 abbrev pub with_ending : {S : Type 0} → Contents S → List ℕ → Contents S
-with_ending store ending = record { monitors = store.monitors; marks = store.marks; is_open = store.is_open; index = store.index; ending = ending }
+with_ending store ending = record store { ending = ending }
 
 -- The store fits a table of objects, given by its flags of dead objects: the objects of its bindings and marks stand in
 -- the table, and its index fits it.
@@ -44,15 +45,15 @@ pub record IsFit {S : Type 0} (store : Contents S) (dead : List Bool) : Type 0 w
 -- stand for their slices, each other instance is cut, and the marks are seen bindings, among them each one with a live
 -- object. What is kept beside them fits them: the letters end the monitors, and the objects that the index dropped cut
 -- none.
-pub record IsStoreAfter (m : Meaning) {S : Type 0} (Stands : S → List ℕ
-    → Type 0) (trace : List ParametricEvent) (dead : List Bool) (store : Contents S) : Type 0 where
+pub record IsStoreAfter (m : Meaning) {S : Type 0} (Stands : S → Word → Type 0) (trace : List ParametricEvent)
+    (dead : List Bool) (store : Contents S) : Type 0 where
   pub monitors : IsStoreOf m Stands trace dead (stored_of store) store.marks
   pub ended : AreEnding m Stands store.ending (stored_of store)
   pub spared : AreSpared m Stands store.index.dropped (stored_of store)
 
 -- Some monitors of the store were dropped that the dead objects cut, and nothing else but their pairs.
-pub record IsCutDown (m : Meaning) {S : Type 0} (Stands : S → List ℕ
-    → Type 0) (dead : List Bool) (old new : Contents S) : Type 0 where
+pub record IsCutDown (m : Meaning) {S : Type 0} (Stands : S → Word → Type 0) (dead : List Bool)
+    (old new : Contents S) : Type 0 where
   pub closed : new.is_open ≡ false
   pub each : (k : ℕ) → (monitor_at new.monitors k ≡ monitor_at old.monitors k)
       ⊎ IsSwept m Stands dead (monitor_at old.monitors k) (monitor_at new.monitors k)
@@ -95,9 +96,8 @@ pub record IsCarriedOut {S : Type 0} (before after : Contents S) (plan : Plan S)
 -- The plan is that of the event with this letter after the trace: its answer is the event's, and once it is carried out
 -- the contents are a store of the trace with the event, in which no monitor above the event's binding is cut. Each
 -- monitor is then that of a move, or a stored one that the event's binding isn't below.
-pub record IsPlanOf (m : Meaning) {S : Type 0} (Stands : S → List ℕ
-    → Type 0) (trace : List ParametricEvent) (dead : List Bool) (letter : ℕ) (contents : Contents S)
-    (plan : Plan S) : Type 0 where
+pub record IsPlanOf (m : Meaning) {S : Type 0} (Stands : S → Word → Type 0) (trace : List ParametricEvent)
+    (dead : List Bool) (letter : ℕ) (contents : Contents S) (plan : Plan S) : Type 0 where
   pub answer : IsAnswer m trace (record { letter = letter; binding = plan.binding }) plan.answer
   pub store : (after : Contents S) → IsCarriedOut contents after plan
       → IsStoreAfter m Stands (trace ++ record { letter = letter; binding = plan.binding } ∷ []) dead after
@@ -170,18 +170,16 @@ pub record ArePaired {S : Type 0} (store : Contents S) : Type 0 where
 
 -- The event with this letter and binding was done: this is its answer, and the contents are a store of the trace with
 -- the event, in which no monitor above its binding is cut.
-pub record IsEventDone (m : Meaning) {S : Type 0} (Stands : S → List ℕ
-    → Type 0) (trace : List ParametricEvent) (dead : List Bool) (letter : ℕ) (b : Binding) (after : Contents S)
-    (firings : List Firing) : Type 0 where
+pub record IsEventDone (m : Meaning) {S : Type 0} (Stands : S → Word → Type 0) (trace : List ParametricEvent)
+    (dead : List Bool) (letter : ℕ) (b : Binding) (after : Contents S) (firings : List Firing) : Type 0 where
   pub answer : IsAnswer m trace (record { letter = letter; binding = b }) firings
   pub store : IsStoreAfter m Stands (trace ++ record { letter = letter; binding = b } ∷ []) dead after
   pub none_cut : NoneCutAbove m Stands b dead (stored_of after)
 
 -- The monitor of slot k was moved by the letter: it has the next state, or it is gone where that is cut. The answer is
 -- its report, and nothing else changed but letters that were kept.
-pub record IsSlotAdvanced (m : Meaning) {S : Type 0} (Stands : S → List ℕ
-    → Type 0) (letter : ℕ) (dead : List Bool) (k : ℕ) (base : Stored S) (before after : Contents S) (stays : Bool)
-    (firings : List Firing) : Type 0 where
+pub record IsSlotAdvanced (m : Meaning) {S : Type 0} (Stands : S → Word → Type 0) (letter : ℕ) (dead : List Bool)
+    (k : ℕ) (base : Stored S) (before after : Contents S) (stays : Bool) (firings : List Firing) : Type 0 where
   pub state : S
   pub next : IsNext m Stands letter dead base.instance base.state state stays
   pub report : IsReport m Stands (record { instance = base.instance; state = state } ∷ []) firings

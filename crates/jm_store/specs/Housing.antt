@@ -1,5 +1,6 @@
 -- How a store lies in memory.
 use Rattle.std.specs.Prelude.{ℕ, ◌≡◌, ◌≢◌, ◌≤◌, Bool, true, false, List, Some, Contains, AllPairs}
+use Rattle.jm_model.specs.Words.{Mask}
 use Rattle.jm_model.specs.Bindings.{mask_of}
 use Rattle.jm_index.specs.Index.{Pair}
 use Rattle.jm_monitors.specs.declared.stored.Stored.{Stored}
@@ -21,13 +22,13 @@ IsSettled {S} slots pairs = (pair : Pair) → Contains pairs pair → (s : Store
     × (monitor_at (monitors_of slots) pair.slot ≡ Some s)
 
 -- the sets of parameters are distinct, and that of each pair's binding is among them
-pub record AreDomains (domains : List ℕ) (pairs : List Pair) : Type 0 where
+pub record AreDomains (domains : List Mask) (pairs : List Pair) : Type 0 where
   pub distinct : AllPairs (λ a b. a ≢ b) domains
   pub listed : (pair : Pair) → Contains pairs pair → Contains domains (mask_of pair.binding)
 
 -- what lies in memory fits together; where no plan is open, each pair's slot has a monitor, and where one is open there
 -- is room for a mark
-pub record IsKept {S : Type 0} (slots : List (Slot S)) (pairs : List Pair) (listed : List ℕ) (is_open : Bool)
+pub record IsKept {S : Type 0} (slots : List (Slot S)) (pairs : List Pair) (listed : List Mask) (is_open : Bool)
     (spare : ℕ) : Type 0 where
   pub housed : IsHoused slots pairs
   pub domains : AreDomains listed pairs

@@ -3,6 +3,7 @@ use Rattle.std.specs.Prelude.{ℕ, ◌≡◌, Bool, true, false, cond, List, [],
 use Rattle.std.specs.Int.{bit_at}
 use Rattle.std.specs.Option.{option_to_list}
 use Rattle.std.specs.List.{cons_option}
+use Rattle.jm_model.specs.Words.{Mask, Word}
 use Rattle.jm_model.specs.Bindings.{is_below, is_compatible, join, mask_of}
 use Rattle.jm_model.specs.Meanings.{Meaning}
 use Rattle.jm_model.specs.declared.binding.Binding.{Binding}
@@ -13,55 +14,49 @@ use Rattle.jm_index.specs.Index.{Pair, AreBelow, asked_slots, without}
 use Rattle.jm_store.specs.declared.moves.Move.{Move}
 use Rattle.jm_store.specs.Slots.{monitor_at}
 
--- the state of instance t follows a base by the letter, and the flag tells whether it isn't cut
-pub record IsNext (m : Meaning) {S : Type 0} (Stands : S → List ℕ
-    → Type 0) (letter : ℕ) (dead : List Bool) (t : Binding) (base state : S) (stays : Bool) : Type 0 where
-  pub next : Follows Stands letter base state
-  pub alive : stays ≡ true → IsAliveState m Stands state (dead_mask_of dead t)
-  pub cut : stays ≡ false → IsCutState m Stands state (dead_mask_of dead t)
+module _ (m : Meaning) {S : Type 0} (Stands : S → Word → Type 0) (letter : ℕ) where
+  -- the state of instance t follows a base by the letter, and the flag tells whether it isn't cut
+  pub record IsNext (dead : List Bool) (t : Binding) (base state : S) (stays : Bool) : Type 0 where
+    pub next : Follows Stands letter base state
+    pub alive : stays ≡ true → IsAliveState m Stands state (dead_mask_of dead t)
+    pub cut : stays ≡ false → IsCutState m Stands state (dead_mask_of dead t)
 
--- the monitor of instance t whose state follows a base by the letter, and whether it isn't cut
-pub record IsAdvanced (m : Meaning) {S : Type 0} (Stands : S → List ℕ
-    → Type 0) (letter : ℕ) (dead : List Bool) (k : Option ℕ) (t : Binding) (base : S) (move : Move S) : Type 0 where
-  pub slot : move.slot ≡ k
-  pub instance : move.monitor.instance ≡ t
-  pub next : Follows Stands letter base move.monitor.state
-  pub alive : move.stays ≡ true → IsAliveState m Stands move.monitor.state (dead_mask_of dead t)
-  pub cut : move.stays ≡ false → IsCutState m Stands move.monitor.state (dead_mask_of dead t)
+  -- the monitor of instance t whose state follows a base by the letter, and whether it isn't cut
+  pub record IsAdvanced (dead : List Bool) (k : Option ℕ) (t : Binding) (base : S) (move : Move S) : Type 0 where
+    pub slot : move.slot ≡ k
+    pub instance : move.monitor.instance ≡ t
+    pub next : Follows Stands letter base move.monitor.state
+    pub alive : move.stays ≡ true → IsAliveState m Stands move.monitor.state (dead_mask_of dead t)
+    pub cut : move.stays ≡ false → IsCutState m Stands move.monitor.state (dead_mask_of dead t)
 
--- The monitor s of slot k moves: the event's binding lies below its instance; or it makes a new instance, which has no
--- slot.
-pub record IsMoved (m : Meaning) {S : Type 0} (Stands : S → List ℕ
-    → Type 0) (letter : ℕ) (b : Binding) (dead : List Bool) (marks : List Binding) (k : ℕ) (s : Stored S)
-    (move : Move S) : Type 0 where
-  pub is_base : IsBase b marks s
-  pub advanced : IsAdvanced m Stands letter dead (cond (is_below b s.instance) (Some k) None)
-      (join s.instance b) s.state move
+module _ (m : Meaning) {S : Type 0} (Stands : S → Word → Type 0) (letter : ℕ) (b : Binding) (dead : List Bool)
+    (marks : List Binding) where
+  -- The monitor s of slot k moves: the event's binding lies below its instance; or it makes a new instance, which has
+  -- no slot.
+  pub record IsMoved (k : ℕ) (s : Stored S) (move : Move S) : Type 0 where
+    pub is_base : IsBase b marks s
+    pub advanced : IsAdvanced m Stands letter dead (cond (is_below b s.instance) (Some k) None)
+        (join s.instance b) s.state move
 
--- The event makes nothing of the monitor s: it doesn't reach it, or the new instance would be lost at once.
-abbrev pub IsLeft : Meaning → {S : Type 0} → (S → List ℕ → Type 0) → ℕ → Binding → List Bool → List Binding → Stored S
-    → Type 0
-IsLeft m {S} Stands letter b dead marks s =
-    (IsBase b marks s → ⊥)
-    ⊎ ((is_below b s.instance ≡ false)
-    × IsOverAfter m Stands letter s.state (dead_mask_of dead (join s.instance b)))
+  -- The event makes nothing of the monitor s: it doesn't reach it, or the new instance would be lost at once.
+  abbrev pub IsLeft : Stored S → Type 0
+  IsLeft s =
+      (IsBase b marks s → ⊥)
+      ⊎ ((is_below b s.instance ≡ false)
+      × IsOverAfter m Stands letter s.state (dead_mask_of dead (join s.instance b)))
 
--- what the event makes of the monitor s of slot k
-abbrev pub IsOutcome : Meaning → {S : Type 0} → (S → List ℕ → Type 0) → ℕ → Binding → List Bool → List Binding → ℕ
-    → Stored S → Option (Move S) → Type 0
-IsOutcome m {S} Stands letter b dead marks k s None = IsLeft m Stands letter b dead marks s
-IsOutcome m {S} Stands letter b dead marks k s (Some move) = IsMoved m Stands letter b dead marks k s move
+  -- what the event makes of the monitor s of slot k
+  abbrev pub IsOutcome : ℕ → Stored S → Option (Move S) → Type 0
+  IsOutcome k s None = IsLeft s
+  IsOutcome k s (Some move) = IsMoved k s move
 
--- and of slot k, whatever is in it
-abbrev pub IsOutcomeIn : Meaning → {S : Type 0} → (S → List ℕ → Type 0) → ℕ → Binding → List Bool → List Binding → ℕ
-    → Option (Stored S) → Option (Move S) → Type 0
-IsOutcomeIn m {S} Stands letter b dead marks k None move = move ≡ None
-IsOutcomeIn m {S} Stands letter b dead marks k (Some s) move = IsOutcome m Stands letter b dead marks k s move
+  -- and of slot k, whatever is in it
+  abbrev pub IsOutcomeIn : ℕ → Option (Stored S) → Option (Move S) → Type 0
+  IsOutcomeIn k None move = move ≡ None
+  IsOutcomeIn k (Some s) move = IsOutcome k s move
 
-abbrev pub IsOutcomeAt : Meaning → {S : Type 0} → (S → List ℕ → Type 0) → ℕ → Binding → List Bool → List Binding
-    → List (Option (Stored S)) → ℕ → Option (Move S) → Type 0
-IsOutcomeAt m {S} Stands letter b dead marks monitors k move = IsOutcomeIn m Stands letter b dead marks k
-    (monitor_at monitors k) move
+  abbrev pub IsOutcomeAt : List (Option (Stored S)) → ℕ → Option (Move S) → Type 0
+  IsOutcomeAt monitors k move = IsOutcomeIn k (monitor_at monitors k) move
 
 -- ys has what R gives for each of xs, in order, where it gives something
 abbrev pub AreGiven : {X Y : Type 0} → (X → Option Y → Type 0) → List X → List Y → Type 0
@@ -71,33 +66,33 @@ AreGiven {X} {Y} R (x ∷ xs) ys = (o : Option Y) × R x o
 
 -- Whether an event reads the monitors with this set of parameters: those that it can lie below; and others where its
 -- binding is no mark, unless it ends all of them.
-abbrev pub is_asked : Bool → Bool → Binding → ℕ → Bool
+abbrev pub is_asked : Bool → Bool → Binding → Mask → Bool
 is_asked known ends b domain = (bit_and (mask_of b) domain == mask_of b) || (not known && not ends)
 
 -- whether a set of parameters has all those of a binding
-abbrev pub has_all : Binding → ℕ → Bool
+abbrev pub has_all : Binding → Mask → Bool
 has_all b domain = bit_and (mask_of b) domain == mask_of b
 
 -- whether a letter is among those kept for a set of parameters
-abbrev pub ends_all : List ℕ → ℕ → ℕ → Bool
+abbrev pub ends_all : List ℕ → ℕ → Mask → Bool
 ends_all ending letter domain = bit_at (slice_index_or ending domain 0) letter == 1
 
-abbrev pub asks_by : Bool → List ℕ → ℕ → Binding → ℕ → Bool
+abbrev pub asks_by : Bool → List ℕ → ℕ → Binding → Mask → Bool
 asks_by known ending letter b domain = is_asked known (ends_all ending letter domain) b domain
 
 -- the slots that an event reads, by the sets of parameters
-abbrev pub visited : (ℕ → Bool) → Binding → List Pair → List ℕ → List ℕ
+abbrev pub visited : (Mask → Bool) → Binding → List Pair → List Mask → List ℕ
 visited asks b pairs [] = []
 visited asks b pairs (d ∷ domains) = cond (asks d) (asked_slots d b pairs) [] ++ visited asks b pairs domains
 
--- the letters kept for a monitor's set of parameters end it
-abbrev pub IsEnding : Meaning → {S : Type 0} → (S → List ℕ → Type 0) → List ℕ → Stored S → Type 0
-IsEnding m {S} Stands ending s = (e : ℕ) → ends_all ending e (mask_of s.instance) ≡ true
-    → IsOverAfter m Stands e s.state 0
+module _ (m : Meaning) {S : Type 0} (Stands : S → Word → Type 0) where
+  -- the letters kept for a monitor's set of parameters end it
+  abbrev pub IsEnding : List ℕ → Stored S → Type 0
+  IsEnding ending s = (e : ℕ) → ends_all ending e (mask_of s.instance) ≡ true → IsOverAfter m Stands e s.state 0
 
--- they end each of the monitors
-abbrev pub AreEnding : Meaning → {S : Type 0} → (S → List ℕ → Type 0) → List ℕ → List (Stored S) → Type 0
-AreEnding m {S} Stands ending stored = (s : Stored S) → Contains stored s → IsEnding m Stands ending s
+  -- they end each of the monitors
+  abbrev pub AreEnding : List ℕ → List (Stored S) → Type 0
+  AreEnding ending stored = (s : Stored S) → Contains stored s → IsEnding ending s
 
 -- no letters are kept that weren't
 abbrev pub EndsFewer : List ℕ → List ℕ → Type 0
@@ -105,8 +100,8 @@ EndsFewer old new = (e d : ℕ) → ends_all new e d ≡ true → ends_all old e
 
 -- The slots that an event reads are distinct, and each has a monitor that is compatible with its binding. Those whose
 -- sets of parameters are asked are among them.
-pub record AreVisited {S : Type 0} (asks : ℕ
-    → Bool) (b : Binding) (monitors : List (Option (Stored S))) (slots : List ℕ) : Type 0 where
+pub record AreVisited {S : Type 0} (asks : Mask → Bool) (b : Binding) (monitors : List (Option (Stored S)))
+    (slots : List ℕ) : Type 0 where
   pub apart : AllPairs (λ j k. j ≢ k) slots
   pub each : (k : ℕ) → Contains slots k → (s : Stored S) × (monitor_at monitors k ≡ Some s)
       × (is_compatible s.instance b ≡ true)
@@ -114,9 +109,9 @@ pub record AreVisited {S : Type 0} (asks : ℕ
       → asks (mask_of s.instance) ≡ true → Contains slots k
 
 -- the moves that an event makes, for all slots that it reads
-pub record AreMovesOf (m : Meaning) {S : Type 0} (Stands : S → List ℕ
-    → Type 0) (letter : ℕ) (b : Binding) (dead : List Bool) (marks : List Binding) (asks : ℕ
-    → Bool) (monitors : List (Option (Stored S))) (moves : List (Move S)) : Type 0 where
+pub record AreMovesOf (m : Meaning) {S : Type 0} (Stands : S → Word → Type 0) (letter : ℕ) (b : Binding)
+    (dead : List Bool) (marks : List Binding) (asks : Mask → Bool) (monitors : List (Option (Stored S)))
+    (moves : List (Move S)) : Type 0 where
   pub slots : List ℕ
   pub visit : AreVisited asks b monitors slots
   pub given : AreGiven (IsOutcomeAt m Stands letter b dead marks monitors) slots moves
@@ -164,7 +159,7 @@ abbrev pub pairs_after : {S : Type 0} → Move S → List Pair → List Pair
 pairs_after move pairs = pairs_at move.slot (cond move.stays pairs (without move.monitor.instance pairs)) pairs
 
 -- a slot's monitor after a pass: gone, if it is cut
-abbrev pub IsSwept : Meaning → {S : Type 0} → (S → List ℕ → Type 0) → List Bool → Option (Stored S) → Option (Stored S)
+abbrev pub IsSwept : Meaning → {S : Type 0} → (S → Word → Type 0) → List Bool → Option (Stored S) → Option (Stored S)
     → Type 0
 IsSwept m Stands dead None new = new ≡ None
 IsSwept m Stands dead (Some s) None = IsCutState m Stands s.state (dead_mask_of dead s.instance)

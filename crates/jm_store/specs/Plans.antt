@@ -40,8 +40,8 @@ module _ (m : Meaning) {S : Type 0} (Stands : S → Word → Type 0) (dead : Lis
     pub works : IfOk result (λ plan. (trace : List ParametricEvent) → IsStoreAfter m Stands trace dead old
         → IsPlanOf m Stands trace dead letter new plan)
 
-  -- The event was done at once, and is answered twice, or all is as before. The marks stay, and where no monitor that it
-  -- reached stays, each that is stored was stored before.
+  -- The event was done at once, and is answered twice, or all is as before. The marks stay, and where no monitor that
+  -- it reached stays, each that is stored was stored before.
   pub record Advances (result : Option Done) : Type 0 where
     pub same : IfNone result (new ≡ old)
     pub marks : new.marks ≡ old.marks

@@ -49,7 +49,8 @@ impl<M: Monitor> Event<'_, M> {
         requires compatible { IsTrue (is_compatible base.now.instance self.now.binding.now) }
         ensures { OnOk result (IsPushed
             (IsOutcome (M.meaning (M.definition self.now.rules.now)) (M.StandsFor self.now.rules.now)
-            self.now.letter.0 self.now.binding.now self.now.objects.now self.now.marks.now.list slot) base.now moves.old.items moves.new.items) }
+            self.now.letter.0 self.now.binding.now self.now.objects.now self.now.marks.now.list slot)
+            base.now moves.old.items moves.new.items) }
     {
         if self.binding.le(&base.instance) {
             let (state, stays) = self.advance(&base.instance, &base.state)?;

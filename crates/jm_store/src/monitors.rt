@@ -71,7 +71,7 @@ impl<S: Drop> Monitors<S> {
         })
     }
 
-    /// How many slots there are.
+    /// How many slots there are, free and planned ones among them.
     pub(crate) fn count_slots(&self) -> usize
         ensures { result ≡ length self.now.slots }
     {
@@ -166,9 +166,11 @@ impl<S: Drop> Monitors<S> {
         slot: usize,
     ) -> Option<Binding>
         ensures cut { MatchOption result (MatchOption (monitor_at (monitors_of self.now.slots) slot) (Unit {0}) (λ s.
-            IsAliveState (M.meaning (M.definition rules.now)) (M.StandsFor rules.now) s.state (dead_mask_of objects.now s.instance)))
+            IsAliveState (M.meaning (M.definition rules.now)) (M.StandsFor rules.now)
+            s.state (dead_mask_of objects.now s.instance)))
             (λ t. (s : Kept S) × (monitor_at (monitors_of self.now.slots) slot ≡ Some s) × (s.instance ≡ t)
-            × IsCutState (M.meaning (M.definition rules.now)) (M.StandsFor rules.now) s.state (dead_mask_of objects.now t)) }
+            × IsCutState (M.meaning (M.definition rules.now)) (M.StandsFor rules.now)
+            s.state (dead_mask_of objects.now t)) }
     {
         let monitor = self.peek(slot)?;
         if is_cut(rules, objects, monitor) {

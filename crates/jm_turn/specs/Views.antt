@@ -17,11 +17,21 @@ joined_numbers (j ∷ js) = option_to_list j.number ++ joined_numbers js
 module _ {E F : Type 0} where
   -- a note: what was seen, and the fixed part
   abbrev pub note_view : List E → Option F → View E F
-  note_view seen fixed = record { number = None; ticket = None; holder = false; unnumbered = 0; next_number = 0; numbered = 0; seen = seen; joined = []; fixed = fixed }
+  note_view seen fixed = record {
+    number = None;
+    ticket = None;
+    holder = false;
+    unnumbered = 0;
+    next_number = 0;
+    numbered = 0;
+    seen = seen;
+    joined = [];
+    fixed = fixed;
+  }
 
   -- a seat with its number, that does nothing just now
   abbrev pub seat_view : ℕ → List E → Option F → View E F
-  seat_view n seen fixed = record { number = Some n; ticket = None; holder = false; unnumbered = 0; next_number = 0; numbered = 0; seen = seen; joined = []; fixed = fixed }
+  seat_view n seen fixed = record (note_view seen fixed) { number = Some n }
 
   -- the same with a fixed part that is there
   abbrev pub plain_note : List E → F → View E F
