@@ -2,13 +2,13 @@
 use Rattle.std.proofs.Common.{◌≡◌, ℕ, zero, suc, ◌+◌, ◌<◌, ◌≤◌, ◌==◌, Bool, true, false, cond, List, [], ◌∷◌, ◌++◌, Option, Some, None, length, get_or, refl, sym, ap, ◌∙◌, subst, arith, ◌⊎◌, inl, inr}
 use Rattle.std.specs.Prelude.{Contains, slice_set}
 use Rattle.std.proofs.lemmas.Bool.{cases_eq, cases_lt}
-use Rattle.std.proofs.lemmas.List.{get_or-set_same, get_or-set_other, get_or_default, get_or_past}
+use Rattle.std.proofs.lemmas.List.{get_or-set_same, get_or-set_other, get_or_default}
 use Rattle.std.proofs.lemmas.Option.{none-some, same_Some}
 use Rattle.jm_model.specs.Bindings.{object_at}
 use Rattle.jm_index.specs.declared.entry.Entry.{Entry}
 use Rattle.jm_index.specs.Index.{flag_of}
 use Rattle.jm_index.specs.Postings.{Paths, no_paths}
-use Rattle.jm_index.specs.Layout.{posting_of, posting_at, is_live_at, IsFiled, IsPath, IsPathBelow, AllFiled, AreFiled, AreThinned}
+use Rattle.jm_index.specs.Layout.{posting_of, posting_at, is_live_at, IsFiled, IsPath, AllFiled, AreFiled, AreThinned}
 
 -- one more of what stands past the end
 pub get_or-more : {X : Type 0} (xs : List X) (d : X) (q : ℕ) → get_or (xs ++ d ∷ []) q d ≡ get_or xs q d
@@ -41,9 +41,6 @@ pub filed_tree : (k mask path : ℕ) (items : List Paths) (old : List ℕ) (now 
     → IsFiled k (posting_of now path) (posting_of new path) → IsFiled k old (posting_at (slice_set items mask new) mask path)
 filed_tree k mask path items old now new h is filed = rw (get_or-set_same items mask new no_paths h, ← is) filed
 
-pub AreThinned-refl : (entries : List Entry) (trees : List Paths) → AreThinned entries trees trees
-AreThinned-refl entries trees = record { within = λ m q x h. h; live = λ m q x l h. h }
-
 pub AreThinned-trans : (entries : List Entry) (a b c : List Paths) → AreThinned entries a b → AreThinned entries b c → AreThinned entries a c
 AreThinned-trans entries a b c h k =
     record { within = λ m q x t. h.within m q x (k.within m q x t); live = λ m q x l t. k.live m q x l (h.live m q x l t) }
@@ -58,9 +55,6 @@ AreThinned-set entries items value mask now new is h at within live =
       live =
           λ m. set_kept_value (λ (a b : Paths). (q x : ℕ) → is_live_at entries x ≡ true → Contains (posting_of a q) x → Contains (posting_of b q) x) items value mask m now new no_paths is h at live (λ t q x l there. there);
     }
-
-pub AreFiled-refl : (dropped : List Bool) (k : ℕ) (trees : List Paths) → AreFiled dropped k trees trees
-AreFiled-refl dropped k trees = record { kept = λ m q x h. h; only = λ m q x h. inl h; gone = λ m o h. refl }
 
 pub AreFiled-trans : (dropped : List Bool) (k : ℕ) (a b c : List Paths) → AreFiled dropped k a b → AreFiled dropped k b c → AreFiled dropped k a c
 AreFiled-trans dropped k a b c h i =
@@ -108,11 +102,6 @@ AreFiled-one dropped k mask path a b filed others trees apart = record { kept = 
     gone : (m o : ℕ) → flag_of dropped o ≡ true → posting_at b m (o + 1) ≡ posting_at a m (o + 1)
     gone m o d = gone_at m o d (cases_eq m mask)
 
--- the paths so far lead to all that is above b
-pub shorter_path : (b : List (Option ℕ)) (p o one r : ℕ) → IsPathBelow b one → object_at b p ≡ Some o → (r ≡ one) ⊎ (r ≡ o + 1) → IsPathBelow b r
-shorter_path b p o one r below at (inl is) = subst (λ (v : ℕ). IsPathBelow b v) (sym is) below
-shorter_path b p o one r below at (inr is) = inr (o, p, at, is)
-
 -- each path of b is filed under, once each of its objects is
 pub all_paths : (dropped : List Bool) (b : List (Option ℕ)) (tree : Paths) (k : ℕ) → Contains (posting_of tree 0) k
     → ((p o : ℕ) → object_at b p ≡ Some o → flag_of dropped o ≡ false → Contains (posting_of tree (o + 1)) k)
@@ -125,19 +114,6 @@ pub record AreCleared (path m : ℕ) (old new : List Paths) : Type 0 where
   pub same_length : length new ≡ length old
   pub done : (n q : ℕ) → n < m → posting_at new n q ≡ cond (q == path) [] (posting_at old n q)
   pub rest : (n q : ℕ) → m ≤ n → posting_at new n q ≡ posting_at old n q
-
-pub cleared_all : (path m : ℕ) (old new : List Paths) → AreCleared path m old new → length new ≤ m → (n q : ℕ) → posting_at new n q ≡ cond (q == path) [] (posting_at old n q)
-cleared_all path m old new cleared end n q = elim (cases_lt n m) [ inl h ↦ cleared.done n q h | inr h ↦ past h ]
-  where
-    empty : (v : Bool) → [] ≡ cond v [] (posting_of no_paths q)
-    empty true = refl
-    empty false = refl
-
-    past : m ≤ n → posting_at new n q ≡ cond (q == path) [] (posting_at old n q)
-    past h =
-        let no_new : get_or new n no_paths ≡ no_paths = get_or_past new n no_paths (omega arith) in
-        let no_old : get_or old n no_paths ≡ no_paths = get_or_past old n no_paths (omega (arith, cleared.same_length)) in
-        rw (no_new, no_old) (empty (q == path))
 
 -- what a path leads to in a tree, by the place where the tree was read
 pub tree_read : (items value : List Paths) (old : List ℕ) (now : Paths) (mask path : ℕ) → items ≡ value → mask < length value → now ≡ get_or items mask now

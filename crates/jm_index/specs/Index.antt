@@ -2,6 +2,7 @@ use Rattle.std.specs.Prelude.{◌≡◌, ℕ, ◌<◌, ◌==◌, Bool, true, fal
 use Rattle.std.specs.Option.{option_eq}
 use Rattle.std.specs.Cmp.Lexicographic.{pointwise}
 use Rattle.std.specs.Prelude.{nat_eq}
+use Rattle.jm_model.specs.Words.{Mask}
 use Rattle.jm_model.specs.declared.binding.Binding.{Binding}
 use Rattle.jm_model.specs.Bindings.{object_at, is_compatible, mask_of}
 
@@ -51,11 +52,11 @@ abbrev pub without : Binding → List Pair → List Pair
 without b list = filter (λ pair. not (is_same b pair.binding)) list
 
 -- the pairs that bind exactly the parameters of `domain`, and agree with b
-abbrev pub asked : ℕ → Binding → List Pair → List Pair
+abbrev pub asked : Mask → Binding → List Pair → List Pair
 asked domain b list = filter (λ pair. (mask_of pair.binding == domain) && is_compatible pair.binding b) list
 
 -- the slots of these
-abbrev pub asked_slots : ℕ → Binding → List Pair → List ℕ
+abbrev pub asked_slots : Mask → Binding → List Pair → List ℕ
 asked_slots domain b list = map (λ pair. pair.slot) (asked domain b list)
 
 -- object o is dead, and wasn't dropped: it died since the dead were dropped last

@@ -4,6 +4,7 @@
 use Rattle.std.specs.Prelude.{◌≡◌, ℕ, ◌+◌, ◌<◌, ◌≤◌, ◌==◌, Bool, true, false, cond, ◌&&◌, ◌⊎◌, List, [], ◌∷◌, Option, Some, None, Contains, length, slice_get, slice_index_or, option_and_then}
 use Rattle.std.specs.List.{filter_map}
 use Rattle.std.proofs.Common.{suc}
+use Rattle.jm_model.specs.Words.{Mask}
 use Rattle.jm_model.specs.declared.binding.Binding.{Binding}
 use Rattle.jm_model.specs.Bindings.{object_at, is_compatible, mask_of}
 use Rattle.jm_index.specs.declared.entry.Entry.{Entry}
@@ -31,11 +32,11 @@ abbrev pub is_live_at : List Entry → ℕ → Bool
 is_live_at entries k = live_of (slice_get entries k)
 
 -- the slot of an entry that is live, binds exactly the parameters of `domain` and agrees with b
-abbrev pub slot_of : ℕ → Binding → Entry → Option ℕ
+abbrev pub slot_of : Mask → Binding → Entry → Option ℕ
 slot_of domain b e = cond (e.live && ((mask_of e.binding == domain) && is_compatible e.binding b)) (Some e.slot) None
 
 -- that of the entry at a position
-abbrev pub slot_at : List Entry → ℕ → Binding → ℕ → Option ℕ
+abbrev pub slot_at : List Entry → Mask → Binding → ℕ → Option ℕ
 slot_at entries domain b k = option_and_then (slot_of domain b) (slice_get entries k)
 
 -- numbers that rise strictly, from `low` on
@@ -52,11 +53,11 @@ abbrev pub posting_of : Paths → ℕ → List ℕ
 posting_of tree path = together (one_of tree path) (many_of tree path)
 
 -- the tree of a set of parameters
-abbrev pub tree_at : List Paths → ℕ → Paths
+abbrev pub tree_at : List Paths → Mask → Paths
 tree_at trees mask = slice_index_or trees mask no_paths
 
 -- the positions that a path leads to in the tree of a set of parameters
-abbrev pub posting_at : List Paths → ℕ → ℕ → List ℕ
+abbrev pub posting_at : List Paths → Mask → ℕ → List ℕ
 posting_at trees mask path = posting_of (tree_at trees mask) path
 
 -- a path of the tree that leads to b, where only objects that weren't dropped have paths

@@ -42,7 +42,7 @@ impl Flags {
         Ok(Flags { words })
     }
 
-    /// How many words there are.
+    /// How many words of 64 flags there are.
     pub(crate) fn words(&self) -> usize {
         self.words.len()
     }

@@ -40,7 +40,8 @@ impl Model for Marks {
           (min (vec_capacity m.masks - vec_len m.masks) m.watch.spare);
     } };
 
-    ghost invariant = { λ m. AreMarks m.bindings.keys m.masks.items m.limit × AreWatched m.bindings.keys m.watch.spots };
+    ghost invariant = { λ m. AreMarks m.bindings.keys m.masks.items m.limit
+        × AreWatched m.bindings.keys m.watch.spots };
 }
 
 impl Marks {

@@ -111,9 +111,11 @@ fn follow<G: Graph>(
     requires few { vec_len work.old.nodes ≤ 1024 }
     requires index { IsIndex (G.key_of graph.now) (map (G.data_of graph.now) work.old.nodes.items) work.old.known }
     ensures finds { (d : _) → slice_get (map (G.data_of graph.now) work.old.nodes.items) state ≡ Some d →
-        OnOk result (Finds (map (G.data_of graph.now) work.old.nodes.items) ((G.meaning graph.now).step d letter.0) (Ok (map (G.data_of graph.now) work.new.nodes.items))) }
+        OnOk result (Finds (map (G.data_of graph.now) work.old.nodes.items) ((G.meaning graph.now).step d letter.0)
+        (Ok (map (G.data_of graph.now) work.new.nodes.items))) }
     ensures fault { (d : _) → slice_get (map (G.data_of graph.now) work.old.nodes.items) state ≡ Some d →
-        IfErr result (λ e. IfBad e (λ fault. Finds (map (G.data_of graph.now) work.old.nodes.items) ((G.meaning graph.now).step d letter.0) (Err fault))) }
+        IfErr result (λ e. IfBad e (λ fault. Finds (map (G.data_of graph.now) work.old.nodes.items)
+        ((G.meaning graph.now).step d letter.0) (Err fault))) }
     ensures target { (d : _) → slice_get (map (G.data_of graph.now) work.old.nodes.items) state ≡ Some d →
         OnOk result ((e : _) × (target : ℕ) × ((G.meaning graph.now).step d letter.0 ≡ Ok e)
         × (slice_get (map (G.data_of graph.now) work.new.nodes.items) target ≡ Some e)

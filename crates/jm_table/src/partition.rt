@@ -44,7 +44,7 @@ impl Partition {
     }
 }
 
-/// The numbers below this one.
+/// The numbers from 0 up to this one, which isn't among them.
 fn numbers_below(alloc: Global, end: u16) -> Result<Vec<u16>, NoMemory>
     ensures count { IfOk result (λ numbers. length numbers.items ≡ end) }
     ensures each { IfOk result (λ numbers. (k : ℕ) → k < end → slice_index numbers.items k ≡ k) }

@@ -36,7 +36,12 @@ impl Model for Table {
 
     ghost Value = { Transitions };
 
-    ghost view = { λ t. record { states = t.states; letters = t.letters; next = t.next.items; groups = t.groups.items } };
+    ghost view = { λ t. record {
+      states = t.states;
+      letters = t.letters;
+      next = t.next.items;
+      groups = t.groups.items;
+    } };
 
     ghost invariant = { λ t. IsTable
         (record { states = t.states; letters = t.letters; next = t.next.items; groups = t.groups.items }) };

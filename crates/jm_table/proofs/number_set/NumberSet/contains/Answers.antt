@@ -1,4 +1,4 @@
-use Rattle.std.proofs.Common.{ℕ, ◌/◌, ◌%◌, List, get_or, Contains, subst, sym, arith}
+use Rattle.std.proofs.Common.{ℕ, ◌/◌, ◌%◌, List, get_or, Contains, subst, sym}
 use Rattle.std.proofs.lemmas.Nat.Bits.{shr_and_one}
 use Rattle.jm_table.proofs.NumberSetLemmas.{Contains-numbers_of}
 use Rattle.jm_table.proofs.number_set.NumberSet.contains.Goals as goal
