@@ -14,7 +14,7 @@ use Rattle.jm_text.specs.declared.piece.Piece.TheVariants.{Gap, Cut, Open}
 use Rattle.jm_text.specs.Pieces.{line_feed, is_white, is_quote, is_word_byte, plus, line_length, comment_rest, escapes, text_rest, mark_length, closed, piece_of}
 use Rattle.jm_text.specs.Tokens.{piece_length, led_by, tokens_behind, token_list, AreTokensOf}
 use Rattle.jm_text.proofs.Cutting.{line_feeds, front as piece_at_front, front_open}
-use Rattle.jm_telling.specs.TokenLaws.{HasNoEnd, EndsLine, IsDropped, white, line_comment, comment, nothing, more, TileFrom, TokensTile, begins_word, ends_word, IsWholeWord, WordsAreMaximal, long_marks, IsLongestMark, MarksAreLongest}
+use Rattle.jm_telling.specs.TokenLaws.{HasNoEnd, EndsLine, IsDropped, white, line_comment, comment, nothing, more, TileFrom, TokensTile, IsBetween, begins_word, ends_word, IsWholeWord, WordsAreMaximal, long_marks, IsLongestMark, MarksAreLongest}
 
 -- ---- small facts
 
@@ -478,15 +478,20 @@ module _ (f : ℕ) (walks : Walks f) (front : List ℕ) (b : ℕ) (bs : List ℕ
       token : Token
       token = record { kind = kind; start = length front; end = length front + n; line = line }
 
+      between : IsBetween (front ++ (b ∷ bs)) token
+      between = record {
+        before = front;
+        text = s.text;
+        behind = s.behind;
+        split = sym (whole_is n _ s);
+        start = refl;
+        end = ap (λ k. length front + k) s.long;
+      }
+
       stands : Stands (front ++ (b ∷ bs)) token
       stands = record {
         word = λ is. let says = subst (λ k. KindSays (b ∷ bs) k s.text s.behind) is s.says in record {
-          before = front;
-          text = s.text;
-          behind = s.behind;
-          split = sym (whole_is n _ s);
-          start = refl;
-          end = ap (λ k. length front + k) s.long;
+          at = between;
           made = says.0;
           front = word_front front s.text s.behind (omega (arith, s.long, s.some)) says.0 (subst (Seam front) s.split seam);
           back = says.1;
@@ -495,12 +500,7 @@ module _ (f : ℕ) (walks : Walks f) (front : List ℕ) (b : ℕ) (bs : List ℕ
             let says = subst (λ k. KindSays (b ∷ bs) k s.text s.behind) is s.says in
             let long : length s.text ≡ mark_length (b ∷ bs) = sym s.long ∙ mark_piece b bs n (e ∙ ap (λ k. Cut k n) is) in
             record {
-              before = front;
-              text = s.text;
-              behind = s.behind;
-              split = sym (whole_is n _ s);
-              start = refl;
-              end = ap (λ k. length front + k) s.long;
+              at = between;
               mark = says;
               longest = subst (λ k. All (λ mark. starts_with nat_eq (s.text ++ s.behind) mark ≡ true → length mark ≤ k) long_marks) (sym long)
                   (subst (λ v. All (λ mark. starts_with nat_eq v mark ≡ true → length mark ≤ mark_length (b ∷ bs)) long_marks) s.split (none_longer (b ∷ bs)));

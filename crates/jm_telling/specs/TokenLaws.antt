@@ -2,6 +2,7 @@
 -- can, and a mark is the longest that stands there.
 use Rattle.std.specs.Prelude.{ℕ, ◌+◌, ◌<◌, ◌≤◌, ◌≡◌, ◌==◌, ◌⊎◌, Bool, true, false, not, nat_eq, List, [], ◌∷◌, ◌++◌, length, codes, All, Contains}
 use Rattle.std.specs.List.{list_all, starts_with}
+use Rattle.jm_model.specs.Words.{Text}
 use Rattle.jm_text.specs.declared.token.Token.{Token}
 use Rattle.jm_text.specs.declared.token.TokenKind.TheVariants.{Word, Mark}
 use Rattle.jm_text.specs.Pieces.{is_white, is_word_byte, line_feed}
@@ -10,89 +11,91 @@ use Rattle.jm_text.specs.Tokens.{AreTokensOf}
 -- ---- what is dropped
 
 -- no `*/` stands in the text
-abbrev pub HasNoEnd : List ℕ → Type 0
-HasNoEnd text = (before behind : List ℕ) → text ≡ before ++ codes "*/" ++ behind → ⊥
+abbrev pub HasNoEnd : Text → Type 0
+HasNoEnd text = (before behind : Text) → text ≡ before ++ codes "*/" ++ behind → ⊥
 
 -- the line ends here, and with the last one the file
-abbrev pub EndsLine : List ℕ → Type 0
+abbrev pub EndsLine : Text → Type 0
 EndsLine [] = Unit {0}
 EndsLine (b ∷ bs) = b ≡ line_feed
 
 -- with these bytes behind it: a byte of white space, a comment up to the end of its line, or one up to the first `*/`
-pub data IsDropped : List ℕ → List ℕ → Type 0 where
-  white : (b : ℕ) (behind : List ℕ) → is_white b ≡ true → IsDropped (b ∷ []) behind
-  line_comment : (text behind : List ℕ) → list_all (λ b. not (b == line_feed)) text ≡ true → EndsLine behind
+pub data IsDropped : Text → Text → Type 0 where
+  white : (b : ℕ) (behind : Text) → is_white b ≡ true → IsDropped (b ∷ []) behind
+  line_comment : (text behind : Text) → list_all (λ b. not (b == line_feed)) text ≡ true → EndsLine behind
       → IsDropped (codes "//" ++ text) behind
-  comment : (text behind : List ℕ) → HasNoEnd text → IsDropped (codes "/*" ++ text ++ codes "*/") behind
+  comment : (text behind : Text) → HasNoEnd text → IsDropped (codes "/*" ++ text ++ codes "*/") behind
 
 -- any number of these, one behind the other
-pub data AreDropped : List ℕ → List ℕ → Type 0 where
-  nothing : (behind : List ℕ) → AreDropped [] behind
-  more : (first rest behind : List ℕ) → IsDropped first (rest ++ behind) → AreDropped rest behind
+pub data AreDropped : Text → Text → Type 0 where
+  nothing : (behind : Text) → AreDropped [] behind
+  more : (first rest behind : Text) → IsDropped first (rest ++ behind) → AreDropped rest behind
       → AreDropped (first ++ rest) behind
 
 -- From this place on the bytes are, in turn, what is dropped and the text of a token, which isn't empty; and last what
 -- is dropped.
-abbrev pub TileFrom : ℕ → List ℕ → List Token → Type 0
+abbrev pub TileFrom : ℕ → Text → List Token → Type 0
 TileFrom place bytes [] = AreDropped bytes []
 TileFrom place bytes (token ∷ tokens) =
-    (gap : List ℕ) × (text : List ℕ) × (rest : List ℕ) × (bytes ≡ gap ++ text ++ rest) × AreDropped gap (text ++ rest)
+    (gap : Text) × (text : Text) × (rest : Text) × (bytes ≡ gap ++ text ++ rest) × AreDropped gap (text ++ rest)
     × (token.start ≡ place + length gap) × (token.end ≡ token.start + length text) × (0 < length text)
     × TileFrom token.end rest tokens
 
 -- the tokens of a file, and what is dropped between them, tile its bytes from the first to the last
 abbrev pub TokensTile : Type 0
-TokensTile = (bytes : List ℕ) (tokens : List Token) → AreTokensOf bytes tokens → TileFrom 0 bytes tokens
+TokensTile = (bytes : Text) (tokens : List Token) → AreTokensOf bytes tokens → TileFrom 0 bytes tokens
+
+-- ---- where a token stands
+
+-- the bytes before a token, its text, and the bytes behind it
+pub record IsBetween (bytes : Text) (token : Token) : Type 0 where
+  pub before : Text
+  pub text : Text
+  pub behind : Text
+  pub split : bytes ≡ before ++ text ++ behind
+  pub start : token.start ≡ length before
+  pub end : token.end ≡ length before + length text
 
 -- ---- words
 
 -- the first byte may stand in a word
-abbrev pub begins_word : List ℕ → Bool
+abbrev pub begins_word : Text → Bool
 begins_word [] = false
 begins_word (b ∷ bs) = is_word_byte b
 
 -- the last byte may stand in a word
-abbrev pub ends_word : List ℕ → Bool
+abbrev pub ends_word : Text → Bool
 ends_word [] = false
 ends_word (b ∷ []) = is_word_byte b
 ends_word (b ∷ c ∷ bs) = ends_word (c ∷ bs)
 
 -- The token is a word that neither the byte before it nor the one behind it continues.
-pub record IsWholeWord (bytes : List ℕ) (token : Token) : Type 0 where
-  pub before : List ℕ
-  pub text : List ℕ
-  pub behind : List ℕ
-  pub split : bytes ≡ before ++ text ++ behind
-  pub start : token.start ≡ length before
-  pub end : token.end ≡ length before + length text
-  pub made : list_all is_word_byte text ≡ true
-  pub front : ends_word before ≡ false
-  pub back : begins_word behind ≡ false
+pub record IsWholeWord (bytes : Text) (token : Token) : Type 0 where
+  pub at : IsBetween bytes token
+  pub made : list_all is_word_byte at.text ≡ true
+  pub front : ends_word at.before ≡ false
+  pub back : begins_word at.behind ≡ false
 
 -- a word goes as far as it can, to both sides
 abbrev pub WordsAreMaximal : Type 0
-WordsAreMaximal = (bytes : List ℕ) (tokens : List Token) → AreTokensOf bytes tokens
+WordsAreMaximal = (bytes : Text) (tokens : List Token) → AreTokensOf bytes tokens
     → All (λ token. token.kind ≡ Word → IsWholeWord bytes token) tokens
 
 -- ---- marks
 
 -- the marks of several characters
-abbrev pub long_marks : List (List ℕ)
+abbrev pub long_marks : List Text
 long_marks =
     codes "<=>" ∷ codes "[*]" ∷ codes "<*>" ∷ codes "(*)" ∷ codes "->" ∷ codes "=>" ∷ codes "&&" ∷ codes "||" ∷ []
 
 -- the token is one of these or one byte, and none of these that stands there too is longer
-pub record IsLongestMark (bytes : List ℕ) (token : Token) : Type 0 where
-  pub before : List ℕ
-  pub text : List ℕ
-  pub behind : List ℕ
-  pub split : bytes ≡ before ++ text ++ behind
-  pub start : token.start ≡ length before
-  pub end : token.end ≡ length before + length text
-  pub mark : Contains long_marks text ⊎ (length text ≡ 1)
-  pub longest : All (λ mark. starts_with nat_eq (text ++ behind) mark ≡ true → length mark ≤ length text) long_marks
+pub record IsLongestMark (bytes : Text) (token : Token) : Type 0 where
+  pub at : IsBetween bytes token
+  pub mark : Contains long_marks at.text ⊎ (length at.text ≡ 1)
+  pub longest : All (λ mark. starts_with nat_eq (at.text ++ at.behind) mark ≡ true → length mark ≤ length at.text)
+      long_marks
 
 -- a mark is the longest that stands there
 abbrev pub MarksAreLongest : Type 0
-MarksAreLongest = (bytes : List ℕ) (tokens : List Token) → AreTokensOf bytes tokens
+MarksAreLongest = (bytes : Text) (tokens : List Token) → AreTokensOf bytes tokens
     → All (λ token. token.kind ≡ Mark → IsLongestMark bytes token) tokens
