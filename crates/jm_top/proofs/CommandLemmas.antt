@@ -1,7 +1,8 @@
 -- The commands, by what was read.
-use Rattle.std.proofs.Common.{◌≡◌, ℕ, inl, inr, Bool, true, false, ◌&&◌, List, [], ◌∷◌, ◌++◌, length, Option, Some, None, Result, Ok, Err, IfOk, IfErr, refl, sym, ap, subst, ◌∙◌}
+use Rattle.std.proofs.Common.{◌≡◌, ℕ, inl, inr, Bool, true, false, ◌&&◌, List, [], ◌∷◌, ◌++◌, length, Option, Some, None, Result, Ok, Err, IfOk, refl, sym, ap, subst, ◌∙◌}
 use Rattle.std.specs.Prelude.{All, map, option_map, if◌then◌else◌}
 use Rattle.std.specs.List.{flat_map}
+use Rattle.std.specs.Global.{Vec}
 use Rattle.std.proofs.lemmas.List.{length-map}
 use Rattle.std.proofs.lemmas.List.Elements.{All-nil, All-cons, All-head, All-tail}
 use Rattle.jm_model.specs.declared.fault.SpecFault.{SpecFault}
@@ -22,7 +23,7 @@ use Rattle.jm_top.specs.Scripts.{catalog_of}
 use Rattle.jm_top.specs.Inputs.{SaySpecifications, step_count}
 use Rattle.jm_top.specs.Histories.{IsTextOfHistories, IsTextOfSummaries}
 use Rattle.jm_top.specs.Texts.{declared_text, IsTextOfFamilies}
-use Rattle.jm_top.specs.Causes.{IsNoSpec, IsNoScript, StopsSpecs, StopsScripts, StopsInputs, StopsCommand, short, at_spec, at_script, IsTextOfCommand}
+use Rattle.jm_top.specs.Causes.{IsNoSpec, IsNoScript, StopsSpecs, StopsScripts, StopsInputs, StopsCommand, short, at_spec, at_script, IsTextOfCommand, IsCarriedOut}
 use Rattle.jm_top.specs.Reading.{Listed, listed_in, specification_of, specs_in, IsLibraryOf, AreScriptsOf, AreInputsOf}
 use Rattle.jm_top.proofs.OneReadingLemmas.{never_some, same_err}
 use Rattle.jm_top.proofs.LibraryLemmas.{length-specs_in}
@@ -152,9 +153,9 @@ module _ (contents : List ℕ → Option (List ℕ)) (file : ℕ) where
   unread n _ (at_script specs status said h) is = given_scripts_unread specs (length (given_files workload_specs)) (workload_scripts n) status h is
 
   -- so none fails to be read
-  pub gen_reads_none : {V : Type 0} (n : ℕ) (r : Result V Status) → IfErr r (StopsCommand contents (Gen n)) → r ≡ Err (ReadFailed file) → ⊥
-  gen_reads_none {V} n (Ok v) h is = absurd cc
-  gen_reads_none {V} n (Err status) h is = unread n status h (same_err is)
+  pub gen_reads_none : (n : ℕ) (r : Result (Vec ℕ) Status) → IsCarriedOut contents (Gen n) r → r ≡ Err (ReadFailed file) → ⊥
+  gen_reads_none n (Ok v) h is = absurd cc
+  gen_reads_none n (Err status) h is = unread n status h (same_err is)
 
 -- ---- families
 

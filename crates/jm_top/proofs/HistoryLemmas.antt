@@ -23,7 +23,7 @@ use Rattle.jm_core.specs.Steps.{IsFitStep}
 use Rattle.jm_core.specs.Cores.{Core}
 use Rattle.jm_core.specs.Replays.{AreEntriesOf, Replayed, line_and_step}
 use Rattle.jm_events.specs.Events.{EventDefinition, EventDefinitions}
-use Rattle.jm_print.specs.Lexicons.{Lexicon, lexicon_of}
+use Rattle.jm_print.specs.Lexicons.{Lexicon}
 use Rattle.jm_print.specs.Texts.{IsPrintable, history_text}
 use Rattle.jm_script.specs.Catalogs.{CatalogEntry, table_of}
 use Rattle.jm_script.specs.Events.{mask_at}
@@ -31,11 +31,12 @@ use Rattle.jm_script.specs.Fitting.{FitsCatalog, FitsSpecification}
 use Rattle.jm_script.specs.Projections.{script_of, steps_in}
 use Rattle.jm_script.specs.declared.script.ScriptLine.{ScriptLine}
 use Rattle.jm_machine.specs.Meanings.{RuleDefinition, rules_meaning}
+use Rattle.jm_top.specs.declared.specification.Titles.{Titles}
 use Rattle.jm_top.specs.declared.specification.Loaded.{Loaded}
 use Rattle.jm_top.specs.declared.library.Library.{Library}
 use Rattle.jm_top.specs.declared.scripts.Scripts.{Scripts}
 use Rattle.jm_top.specs.Scripts.{catalog_of}
-use Rattle.jm_top.specs.Reading.{Shown, named_entry, listing, listed, listed_in, AreTitlesOf, titled, title_lexicon, specification_of, IsWhole, specs_in, IsCatalogued, AreCounted}
+use Rattle.jm_top.specs.Reading.{named_entry, listing, listed, listed_in, AreRulesOf, titled, specification_of, IsWhole, specs_in, IsCatalogued, AreCounted}
 use Rattle.jm_top.specs.Histories.{lexicon, IsTextOfHistories}
 use Rattle.jm_top.specs.Replays.{IsReplayOf, IsPrintedReplay}
 use Rattle.jm_top.proofs.OneReadingLemmas.{same_some}
@@ -93,14 +94,14 @@ entries_of_lists P lists h each is = All-weaker (Contains h) (λ (x : Entry). P 
         let there : Contains (steps_of x.caller h) (x.line, x.step) = Contains-map (λ (y : Entry). (y.line, y.step)) (filter (λ (y : Entry). y.caller == x.caller) h) x (Contains-filter (λ (y : Entry). y.caller == x.caller) h x among own) in
         All-contains (λ (step : ℕ × Step). P step.1) (steps_of x.caller h) (x.line, x.step) (each x.caller (steps_of x.caller h) (is.each x.caller caller)) there
 
--- Titles that are those of rules, whose specification has this number in a catalog.
-module _ (t : Shown) (rules : RuleDefinition) (whole : AreTitlesOf rules t) (catalog : List CatalogEntry) (number : ℕ) (there : table_of catalog number ≡ t.entry.table) where
+-- Rules of an entry that has this number in a catalog.
+module _ (entry : CatalogEntry) (rules : RuleDefinition) (whole : AreRulesOf entry rules) (catalog : List CatalogEntry) (number : ℕ) (there : table_of catalog number ≡ entry.table) where
   -- the letters and their parameters are those of the events
   mask_of_rules : (e : ℕ) → mask_at (table_of catalog number) e ≡ unwrap_or (slice_get rules.masks e) 0
-  mask_of_rules e = ap (λ (x : EventDefinitions). mask_at x e) there ∙ sym (ap (λ ms. unwrap_or (slice_get ms e) 0) whole.masks ∙ mask_there t.entry.table.events e)
+  mask_of_rules e = ap (λ (x : EventDefinitions). mask_at x e) there ∙ sym (ap (λ ms. unwrap_or (slice_get ms e) 0) whole.masks ∙ mask_there entry.table.events e)
 
   letters_of_rules : length (table_of catalog number).events ≡ length rules.masks
-  letters_of_rules = ap (λ (x : EventDefinitions). length x.events) there ∙ sym (ap (λ ms. length ms) whole.masks ∙ length-map t.entry.table.events (λ (e : EventDefinition). e.mask))
+  letters_of_rules = ap (λ (x : EventDefinitions). length x.events) there ∙ sym (ap (λ ms. length ms) whole.masks ∙ length-map entry.table.events (λ (e : EventDefinition). e.mask))
 
   -- a step that fits the specification is one of its meaning
   pub fitting_step : (n : ℕ) (x : Step) → FitsSpecification catalog n number x → IsFitStep (rules_meaning rules) n x
@@ -109,33 +110,33 @@ module _ (t : Shown) (rules : RuleDefinition) (whole : AreTitlesOf rules t) (cat
   fitting_step n (Death o) fits = fits
   fitting_step n Pass fits = tt
 
-  small_params : (e : ℕ) → mask_at (table_of catalog number) e < 2 ^ length t.entry.table.parameters
+  small_params : (e : ℕ) → mask_at (table_of catalog number) e < 2 ^ length entry.table.parameters
   small_params e =
-      subst (λ m. m < 2 ^ length t.entry.table.parameters) (sym (mask_of_rules e)) (small_masks rules.masks (2 ^ length t.entry.table.parameters) (power_some (length t.entry.table.parameters)) whole.fit e)
+      subst (λ m. m < 2 ^ length entry.table.parameters) (sym (mask_of_rules e)) (small_masks rules.masks (2 ^ length entry.table.parameters) (power_some (length entry.table.parameters)) whole.fit e)
 
   -- and has names
-  fitting_named : (objects : List (List ℕ)) (x : Step) → FitsSpecification catalog (length objects) number x → IsNamedStep (title_lexicon objects t) x
-  fitting_named objects (Event e b) fits = (
-    subst (λ n. e.0 < n) (sym (length-map t.entry.table.events (λ (x : EventDefinition). x.name))) (subst (λ (x : EventDefinitions). e.0 < length x.events) there fits.event.event),
-    λ p o at. (bound_parameter b (length t.entry.table.parameters) p o (subst (λ m. m < 2 ^ length t.entry.table.parameters) (sym fits.event.parameters) (small_params e.0)) at, named_object b (length objects) p o fits.named at),
+  fitting_named : (titles : Titles) (objects : List (List ℕ)) (x : Step) → FitsSpecification catalog (length objects) number x → IsNamedStep (lexicon objects (titled entry titles rules)) x
+  fitting_named titles objects (Event e b) fits = (
+    subst (λ n. e.0 < n) (sym (length-map entry.table.events (λ (x : EventDefinition). x.name))) (subst (λ (x : EventDefinitions). e.0 < length x.events) there fits.event.event),
+    λ p o at. (bound_parameter b (length entry.table.parameters) p o (subst (λ m. m < 2 ^ length entry.table.parameters) (sym fits.event.parameters) (small_params e.0)) at, named_object b (length objects) p o fits.named at),
   )
-  fitting_named objects (Death o) fits = fits
-  fitting_named objects Pass fits = tt
+  fitting_named titles objects (Death o) fits = fits
+  fitting_named titles objects Pass fits = tt
 
   -- steps that fit it may be done
   pub doable : (own : List (ℕ × Step)) (n : ℕ) → All (λ step. FitsSpecification catalog n number step.1) own → All (λ step. IsFitStep (rules_meaning rules) n step.1) own
   doable own n fits = All-weaker (λ (step : ℕ × Step). FitsSpecification catalog n number step.1) (λ (step : ℕ × Step). IsFitStep (rules_meaning rules) n step.1) (λ step. fitting_step n step.1) own fits
 
   -- a history of such steps can be printed
-  pub history_printable : (objects : List (List ℕ)) (lists : List (List (ℕ × Step))) (h : List Entry)
+  pub history_printable : (titles : Titles) (objects : List (List ℕ)) (lists : List (List (ℕ × Step))) (h : List Entry)
       → ((k : ℕ) (own : List (ℕ × Step)) → slice_get lists k ≡ Some own → All (λ step. FitsSpecification catalog (length objects) number step.1) own)
-      → IsLegal (rules_meaning rules) h → IsInterleaving h lists → All (IsPrintable (title_lexicon objects t)) h
-  history_printable objects lists h fits legal woven =
-      let names = title_lexicon objects t in
-      let few : length rules.handlers ≤ length t.titles.handlers = subst (λ hs. length rules.handlers ≤ length hs) (sym whole.handlers) (omega arith) in
+      → IsLegal (rules_meaning rules) h → IsInterleaving h lists → All (IsPrintable (lexicon objects (titled entry titles rules))) h
+  history_printable titles objects lists h fits legal woven =
+      let names = lexicon objects (titled entry titles rules) in
+      let few : length rules.handlers ≤ length rules.handlers = omega arith in
       let each : All (λ (e : Entry). IsNamedStep names e.step) h =
       entries_of_lists (λ (x : Step). IsNamedStep names x) lists h
-      (λ k own at. All-weaker (λ (step : ℕ × Step). FitsSpecification catalog (length objects) number step.1) (λ (step : ℕ × Step). IsNamedStep names step.1) (λ step. fitting_named objects step.1) own (fits k own at)) woven in
+      (λ k own at. All-weaker (λ (step : ℕ × Step). FitsSpecification catalog (length objects) number step.1) (λ (step : ℕ × Step). IsNamedStep names step.1) (λ step. fitting_named titles objects step.1) own (fits k own at)) woven in
       printable names (rules_meaning rules) few h each woven.done legal
 
 -- all entries are those of the one caller
@@ -227,18 +228,18 @@ one_list : (own : List (ℕ × Step)) (k : ℕ) (list : List (ℕ × Step)) → 
 one_list own zero list at = sym (same_some at)
 one_list own (suc k) list at = absurd (none-some list at)
 
-pub replay_printable : (t : Shown) (rules : RuleDefinition) (catalog : List CatalogEntry) → AreTitlesOf rules t → table_of catalog 0 ≡ t.entry.table → (objects : List (List ℕ)) (own : List (ℕ × Step)) (h : List Entry)
-    → All (λ step. FitsSpecification catalog (length objects) 0 step.1) own → IsReplayOf (rules_meaning rules) own h → All (IsPrintable (title_lexicon objects t)) h
-replay_printable t rules catalog whole there objects own h fits is =
-    history_printable t rules whole catalog 0 there objects (own ∷ []) h
+pub replay_printable : (entry : CatalogEntry) (titles : Titles) (rules : RuleDefinition) (catalog : List CatalogEntry) → AreRulesOf entry rules → table_of catalog 0 ≡ entry.table → (objects : List (List ℕ)) (own : List (ℕ × Step)) (h : List Entry)
+    → All (λ step. FitsSpecification catalog (length objects) 0 step.1) own → IsReplayOf (rules_meaning rules) own h → All (IsPrintable (lexicon objects (titled entry titles rules))) h
+replay_printable entry titles rules catalog whole there objects own h fits is =
+    history_printable entry rules whole catalog 0 there titles objects (own ∷ []) h
     (λ k list at. subst (All (λ (step : ℕ × Step). FitsSpecification catalog (length objects) 0 step.1)) (sym (one_list own k list at)) fits) is.legal is.woven
 
-pub replay_text : (t : Shown) (rules : RuleDefinition) → AreTitlesOf rules t → (script : List ScriptLine) (objects : List (List ℕ)) (text : List ℕ)
-    → IsPrintedReplay (rules_meaning rules) (projection_of (script_of script) 0) (title_lexicon objects t) text → IsTextOfHistories (titled t rules ∷ []) (script ∷ []) objects text
-replay_text t rules whole script objects text h = record {
+pub replay_text : (entry : CatalogEntry) (titles : Titles) (rules : RuleDefinition) (script : List ScriptLine) (objects : List (List ℕ)) (text : List ℕ)
+    → IsPrintedReplay (rules_meaning rules) (projection_of (script_of script) 0) (lexicon objects (titled entry titles rules)) text → IsTextOfHistories (titled entry titles rules ∷ []) (script ∷ []) objects text
+replay_text entry titles rules script objects text h = record {
   histories = h.history ∷ [];
   each = (record { legal = h.replayed.legal; woven = h.replayed.woven }, tt);
-  printed = h.printed ∙ ap (λ (hs : List (List ℕ)). history_text (lexicon_of t.entry.name t.entry.table hs objects t.titles.texts.items) h.history) whole.handlers ∙ sym (append-nil (history_text (lexicon objects (titled t rules)) h.history));
+  printed = h.printed ∙ sym (append-nil (history_text (lexicon objects (titled entry titles rules)) h.history));
 }
 
 single_of : {X : Type 0} (xs ys : List X) (x : X) → xs ≡ ys ++ x ∷ [] → length xs ≡ 1 → xs ≡ x ∷ []
@@ -281,23 +282,23 @@ module _ (library : Library) (catalogued : IsCatalogued library) (scripts : Scri
   script_fits = All-head (FitsCatalog (catalog_of (specs_in library)) (length scripts.objects)) script [] (subst (All (FitsCatalog (catalog_of (specs_in library)) (length scripts.objects))) script_alone counted.fit)
 
   module _ (rest : List Loaded) (l : Loaded) (popped : library.specs.items ≡ rest ++ l ∷ []) (one : length library.specs.items ≡ 1) (name : List ℕ) (table : EventDefinitions) (named : option_map (λ e. e.name) (slice_get library.catalog 0) ≡ Some name) (there : option_map (λ e. e.table) (slice_get library.catalog 0) ≡ Some table) (own : List (ℕ × Step)) (fits : All (λ step. FitsSpecification (catalog_of (specs_in library)) (length scripts.objects) 0 step.1) own) where
-    whole : AreTitlesOf l.rules.definition (listing (named_entry name table) l).shown
+    whole : AreRulesOf (named_entry name table) l.rules.definition
     whole = alone_whole library catalogued rest l popped one name table named there
 
     at_first : table_of (catalog_of (specs_in library)) 0 ≡ table
     at_first = alone_there library catalogued rest l popped one name table named there
 
     pub own_doable : All (λ step. IsFitStep (rules_meaning l.rules.definition) (length scripts.objects) step.1) own
-    own_doable = doable (listing (named_entry name table) l).shown l.rules.definition whole (catalog_of (specs_in library)) 0 at_first own (length scripts.objects) fits
+    own_doable = doable (named_entry name table) l.rules.definition whole (catalog_of (specs_in library)) 0 at_first own (length scripts.objects) fits
 
-    pub own_printable : (h : List Entry) → IsReplayOf (rules_meaning l.rules.definition) own h → All (IsPrintable (title_lexicon scripts.objects (listing (named_entry name table) l).shown)) h
-    own_printable h is = replay_printable (listing (named_entry name table) l).shown l.rules.definition (catalog_of (specs_in library)) whole at_first scripts.objects own h fits is
+    pub own_printable : (h : List Entry) → IsReplayOf (rules_meaning l.rules.definition) own h → All (IsPrintable (lexicon scripts.objects (titled (named_entry name table) l.titles l.rules.definition))) h
+    own_printable h is = replay_printable (named_entry name table) l.titles l.rules.definition (catalog_of (specs_in library)) whole at_first scripts.objects own h fits is
 
-    pub own_text : own ≡ projection_of (script_of script) 0 → (text : List ℕ) → IsPrintedReplay (rules_meaning l.rules.definition) own (title_lexicon scripts.objects (listing (named_entry name table) l).shown) text → IsTextOfHistories (specs_in library) scripts.list.items scripts.objects text
+    pub own_text : own ≡ projection_of (script_of script) 0 → (text : List ℕ) → IsPrintedReplay (rules_meaning l.rules.definition) own (lexicon scripts.objects (titled (named_entry name table) l.titles l.rules.definition)) text → IsTextOfHistories (specs_in library) scripts.list.items scripts.objects text
     own_text is text printed =
-        let made = replay_text (listing (named_entry name table) l).shown l.rules.definition whole script scripts.objects text (subst (λ v. IsPrintedReplay (rules_meaning l.rules.definition) v (title_lexicon scripts.objects (listing (named_entry name table) l).shown) text) is printed) in
+        let made = replay_text (named_entry name table) l.titles l.rules.definition script scripts.objects text (subst (λ v. IsPrintedReplay (rules_meaning l.rules.definition) v (lexicon scripts.objects (titled (named_entry name table) l.titles l.rules.definition)) text) is printed) in
         subst (λ v. IsTextOfHistories v scripts.list.items scripts.objects text) (sym (alone_is library catalogued rest l popped one name table named there))
-        (subst (λ v. IsTextOfHistories (titled (listing (named_entry name table) l).shown l.rules.definition ∷ []) v scripts.objects text) (sym script_alone) made)
+        (subst (λ v. IsTextOfHistories (titled (named_entry name table) l.titles l.rules.definition ∷ []) v scripts.objects text) (sym script_alone) made)
 
 -- its text, where there is one
 pub made_text : {T E : Type 0} (items : T → List ℕ) (P Q : List ℕ → Type 0) (made : Result T E) → ((text : List ℕ) → P text → Q text) → IfOk made (λ text. P (items text)) → IfOk made (λ text. Q (items text))

@@ -1,5 +1,5 @@
 -- Runs of scripts over specifications, and the texts of their histories.
-use Rattle.std.proofs.Common.{◌≡◌, ℕ, zero, suc, ◌+◌, List, [], ◌∷◌, ◌++◌, length, Option, Some, refl, sym, ap, subst, ◌∙◌, arith}
+use Rattle.std.proofs.Common.{◌≡◌, ℕ, zero, suc, ◌+◌, List, [], ◌∷◌, ◌++◌, length, get_or, drop, Option, Some, refl, sym, ap, subst, ◌∙◌, arith}
 use Rattle.std.specs.Prelude.{All, map, slice_get, option_map}
 use Rattle.std.specs.Option.{option_map_or}
 use Rattle.std.proofs.lemmas.Option.{slice_get-map, none-some}
@@ -13,7 +13,6 @@ use Rattle.jm_core.specs.Cores.{Core}
 use Rattle.jm_turn.specs.Seats.{LockModel, SeatModel}
 use Rattle.jm_dispatch.specs.declared.watched.Fixed.{Fixed}
 use Rattle.jm_runner.specs.Runs.{projections_of, AreFitSteps, CanRun, IsRunOf}
-use Rattle.jm_print.specs.Lexicons.{lexicon_of}
 use Rattle.jm_print.specs.Texts.{IsPrintable}
 use Rattle.jm_print.specs.Told.{texts_of}
 use Rattle.jm_print.specs.Summaries.{summary_text}
@@ -29,7 +28,7 @@ use Rattle.jm_top.specs.declared.specification.Loaded.{Loaded}
 use Rattle.jm_top.specs.declared.library.Library.{Library}
 use Rattle.jm_top.specs.declared.scripts.Scripts.{Scripts}
 use Rattle.jm_top.specs.Scripts.{entry_of, catalog_of}
-use Rattle.jm_top.specs.Reading.{Listed, listing, listed, shown_with, listed_in, specification_of, IsWhole, specs_in, IsCatalogued, AreCounted, title_lexicon, ArePrintable, entry_summaries}
+use Rattle.jm_top.specs.Reading.{Listed, listing, listed, titled, titled_by, listed_in, specification_of, IsWhole, specs_in, IsCatalogued, AreCounted, ArePrintable, entry_summaries}
 use Rattle.jm_top.specs.Histories.{lexicon, IsHistoryOf, AreHistoriesFrom, IsTextOfHistories, summaries_of, IsTextOfSummaries}
 use Rattle.jm_top.specs.Runs.{IsWatchOf, AreWatchesOf, AreRunsOf}
 use Rattle.jm_top.proofs.OneReadingLemmas.{same_some}
@@ -44,7 +43,7 @@ at_map {A} {B} f xs k x at = slice_get-map f xs k ∙ ap (option_map f) at
 entry_there : (o : Option CatalogEntry) (e : CatalogEntry) → o ≡ Some e → option_map_or (λ x. x.table) o (record { parameters = []; events = [] }) ≡ e.table
 entry_there o e at = ap (λ v. option_map_or (λ (x : CatalogEntry). x.table) v (record { parameters = []; events = [] })) at
 
-pub table_at : (ls : List Listed) (k : ℕ) (l : Listed) → slice_get ls k ≡ Some l → table_of (catalog_of (map specification_of ls)) k ≡ l.shown.entry.table
+pub table_at : (ls : List Listed) (k : ℕ) (l : Listed) → slice_get ls k ≡ Some l → table_of (catalog_of (map specification_of ls)) k ≡ l.entry.table
 table_at ls k l at = entry_there (slice_get (catalog_of (map specification_of ls)) k) (entry_of (specification_of l)) (at_map entry_of (map specification_of ls) k (specification_of l) (at_map specification_of ls k l at))
 
 All-at : {X : Type 0} (P : X → Type 0) (xs : List X) (k : ℕ) (x : X) → All P xs → slice_get xs k ≡ Some x → P x
@@ -67,13 +66,13 @@ module _ (library : Library) (scripts : Scripts) (catalogued : IsCatalogued libr
   pub fitting_at : All (λ steps. AreFitSteps (rules_meaning l.rules.definition) (length scripts.objects) steps) (projections_of scripts.list.items k)
   fitting_at =
       All-weaker (λ steps. All (λ (step : ℕ × Step). FitsSpecification (catalog_of (specs_in library)) (length scripts.objects) k step.1) steps) (λ steps. AreFitSteps (rules_meaning l.rules.definition) (length scripts.objects) steps)
-      (λ steps fits. doable l.shown l.rules.definition whole_at (catalog_of (specs_in library)) k (table_at (listed_in library) k l at) steps (length scripts.objects) fits) (projections_of scripts.list.items k)
+      (λ steps fits. doable l.entry l.rules.definition whole_at (catalog_of (specs_in library)) k (table_at (listed_in library) k l at) steps (length scripts.objects) fits) (projections_of scripts.list.items k)
       (projected (catalog_of (specs_in library)) (length scripts.objects) k scripts.list.items counted.fit)
 
   -- and their histories can be printed
-  pub printable_at : (h : List Entry) → IsLegal (rules_meaning l.rules.definition) h → IsInterleaving h (projections_of scripts.list.items k) → All (IsPrintable (title_lexicon scripts.objects l.shown)) h
+  pub printable_at : (h : List Entry) → IsLegal (rules_meaning l.rules.definition) h → IsInterleaving h (projections_of scripts.list.items k) → All (IsPrintable (lexicon scripts.objects (specification_of l))) h
   printable_at h legal woven =
-      history_printable l.shown l.rules.definition whole_at (catalog_of (specs_in library)) k (table_at (listed_in library) k l at) scripts.objects (projections_of scripts.list.items k) h
+      history_printable l.entry l.rules.definition whole_at (catalog_of (specs_in library)) k (table_at (listed_in library) k l at) l.titles scripts.objects (projections_of scripts.list.items k) h
       (λ j own here. All-at (λ steps. All (λ (step : ℕ × Step). FitsSpecification (catalog_of (specs_in library)) (length scripts.objects) k step.1) steps) (projections_of scripts.list.items k) j own (projected (catalog_of (specs_in library)) (length scripts.objects) k scripts.list.items counted.fit) here) legal woven
 
 -- ---- dispatchers
@@ -124,19 +123,11 @@ histories_from number (l ∷ ls) scripts (p ∷ ps) same each =
     )
 
 printables_from : (objects : List (List ℕ)) (ls : List Listed) (ps : List (Core CompiledRules))
-    → ((k : ℕ) (l : Listed) (p : Core CompiledRules) → slice_get ls k ≡ Some l → slice_get ps k ≡ Some p → All (IsPrintable (title_lexicon objects l.shown)) p.entries)
-    → ArePrintable (map (title_lexicon objects) (map (λ (l : Listed). l.shown) ls)) (map (λ (p : Core CompiledRules). p.entries) ps)
+    → ((k : ℕ) (l : Listed) (p : Core CompiledRules) → slice_get ls k ≡ Some l → slice_get ps k ≡ Some p → All (IsPrintable (lexicon objects (specification_of l))) p.entries)
+    → ArePrintable (map (lexicon objects) (map specification_of ls)) (map (λ (p : Core CompiledRules). p.entries) ps)
 printables_from objects [] ps each = tt
 printables_from objects (l ∷ ls) [] each = tt
 printables_from objects (l ∷ ls) (p ∷ ps) each = (each 0 l p refl refl, printables_from objects ls ps (λ k m q at there. each (suc k) m q at there))
-
--- the names of the titles are those of the specifications
-lexicons_are : (objects : List (List ℕ)) (ls : List Listed) → All IsWhole ls → map (title_lexicon objects) (map (λ (l : Listed). l.shown) ls) ≡ map (lexicon objects) (map specification_of ls)
-lexicons_are objects [] all = refl
-lexicons_are objects (l ∷ ls) all =
-    let here : title_lexicon objects l.shown ≡ lexicon objects (specification_of l) = ap (λ (hs : List (List ℕ)). lexicon_of l.shown.entry.name l.shown.entry.table hs objects l.shown.titles.texts.items) (All-head IsWhole l ls all).handlers in
-    let rest = lexicons_are objects ls (All-tail IsWhole l ls all) in
-    λ i. here i ∷ rest i
 
 summaries_are : (es : List CatalogEntry) (ls : List Loaded) (hs : List (List Entry)) → length es ≡ length ls → entry_summaries es hs ≡ summaries_of (map specification_of (listed es ls)) hs
 summaries_are [] ls hs same = refl
@@ -146,10 +137,15 @@ summaries_are (e ∷ es) (l ∷ ls) (h ∷ hs) same = ap (λ v. summary_text e.n
 
 -- ---- what is kept under the entries
 
-shown_listed : (es : List CatalogEntry) (ls : List Loaded) → shown_with es (map (λ (l : Loaded). l.titles) ls) ≡ map (λ (l : Listed). l.shown) (listed es ls)
-shown_listed [] ls = refl
-shown_listed (e ∷ es) [] = refl
-shown_listed (e ∷ es) (l ∷ ls) = ap (λ v. (listing e l).shown ∷ v) (shown_listed es ls)
+titled_listed : (es : List CatalogEntry) (ls : List Loaded) (ps : List (Core CompiledRules)) → map (λ (p : Core CompiledRules). p.definition) ps ≡ map (λ (l : Loaded). l.rules) ls
+    → titled_by es (map (λ (l : Loaded). l.titles) ls) ps ≡ map specification_of (listed es ls)
+titled_listed [] ls ps ruled = refl
+titled_listed (e ∷ es) [] ps ruled = refl
+titled_listed (e ∷ es) (l ∷ ls) [] ruled = absurd cc
+titled_listed (e ∷ es) (l ∷ ls) (p ∷ ps) ruled =
+    let here : p.definition ≡ l.rules = ap (λ v. get_or v 0 p.definition) ruled in
+    let rest = titled_listed es ls ps (ap (drop 1) ruled) in
+    λ i. titled e l.titles (here i).definition ∷ rest i
 
 kept_at : (es : List CatalogEntry) (ls : List Loaded) (k : ℕ) (x : Listed) → slice_get (listed es ls) k ≡ Some x → (l : Loaded) × (slice_get ls k ≡ Some l) × (l.rules ≡ x.rules)
 kept_at [] ls k x at = absurd (none-some x at)
@@ -164,31 +160,36 @@ entry_for (e ∷ es) [] k l same at = absurd (none-some l at)
 entry_for (e ∷ es) (m ∷ ls) zero l same at = (e, ap (λ v. Some (listing e v)) (same_some at))
 entry_for (e ∷ es) (m ∷ ls) (suc k) l same at = entry_for es ls k l (omega (arith, same)) at
 
+-- as many cores as specifications
+ruled_many : (library : Library) (scripts : Scripts) (titles : List Titles) (ps : List (Core CompiledRules)) → AreRunsOf library.specs.items scripts.list.items titles ps → length ps ≡ length library.specs.items
+ruled_many library scripts titles ps runs =
+    sym (length-map ps (λ (p : Core CompiledRules). p.definition)) ∙ ap (λ rs. length rs) runs.ruled ∙ length-map library.specs.items (λ (l : Loaded). l.rules)
+
 module _ (library : Library) (scripts : Scripts) (catalogued : IsCatalogued library) (counted : AreCounted (specs_in library) scripts) (titles : List Titles) (ps : List (Core CompiledRules)) (runs : AreRunsOf library.specs.items scripts.list.items titles ps) where
   run_history : (k : ℕ) (l : Listed) (p : Core CompiledRules) → slice_get (listed_in library) k ≡ Some l → slice_get ps k ≡ Some p → IsHistoryOf k (specification_of l) scripts.list.items p.entries
   run_history k l p at there =
       let (own, place, same) = kept_at library.catalog library.specs.items k l at in
       record { legal = subst (λ (d : CompiledRules). IsLegal (rules_meaning d.definition) p.entries) same (runs.legal k own p place there); woven = runs.woven k own p place there }
 
-  shown_are : shown_with library.catalog titles ≡ map (λ (l : Listed). l.shown) (listed_in library)
-  shown_are = ap (shown_with library.catalog) runs.titled ∙ shown_listed library.catalog library.specs.items
+  run_specs : titled_by library.catalog titles ps ≡ specs_in library
+  run_specs = ap (λ ts. titled_by library.catalog ts ps) runs.titled ∙ titled_listed library.catalog library.specs.items ps runs.ruled
 
-  pub runs_printable : ArePrintable (map (title_lexicon scripts.objects) (shown_with library.catalog titles)) (map (λ (p : Core CompiledRules). p.entries) ps)
+  pub runs_printable : ArePrintable (map (lexicon scripts.objects) (titled_by library.catalog titles ps)) (map (λ (p : Core CompiledRules). p.entries) ps)
   runs_printable =
-      subst (λ ts. ArePrintable (map (title_lexicon scripts.objects) ts) (map (λ (p : Core CompiledRules). p.entries) ps)) (sym shown_are)
+      subst (λ specs. ArePrintable (map (lexicon scripts.objects) specs) (map (λ (p : Core CompiledRules). p.entries) ps)) (sym run_specs)
       (printables_from scripts.objects (listed_in library) ps
       (λ k l p at there. let h = run_history k l p at there in printable_at library scripts catalogued counted k l at p.entries h.legal h.woven))
 
   run_histories : AreHistoriesFrom 0 (specs_in library) scripts.list.items (map (λ (p : Core CompiledRules). p.entries) ps)
-  run_histories = histories_from 0 (listed_in library) scripts.list.items ps (runs.many ∙ sym (length-listed library.catalog library.specs.items catalogued.many))
+  run_histories = histories_from 0 (listed_in library) scripts.list.items ps (ruled_many library scripts titles ps runs ∙ sym (length-listed library.catalog library.specs.items catalogued.many))
       (λ k l p at there. let same : 0 + k ≡ k = omega arith in
       subst (λ n. IsHistoryOf n (specification_of l) scripts.list.items p.entries) (sym same) (run_history k l p at there))
 
-  pub runs_text : (text : List ℕ) → text ≡ texts_of (map (title_lexicon scripts.objects) (shown_with library.catalog titles)) (map (λ (p : Core CompiledRules). p.entries) ps) → IsTextOfHistories (specs_in library) scripts.list.items scripts.objects text
+  pub runs_text : (text : List ℕ) → text ≡ texts_of (map (lexicon scripts.objects) (titled_by library.catalog titles ps)) (map (λ (p : Core CompiledRules). p.entries) ps) → IsTextOfHistories (specs_in library) scripts.list.items scripts.objects text
   runs_text text printed = record {
     histories = map (λ (p : Core CompiledRules). p.entries) ps;
     each = run_histories;
-    printed = printed ∙ ap (λ ls. texts_of ls (map (λ (p : Core CompiledRules). p.entries) ps)) (ap (map (title_lexicon scripts.objects)) shown_are ∙ lexicons_are scripts.objects (listed_in library) catalogued.kept);
+    printed = printed ∙ ap (λ specs. texts_of (map (lexicon scripts.objects) specs) (map (λ (p : Core CompiledRules). p.entries) ps)) run_specs;
   }
 
   pub runs_summaries : (text : List ℕ) → text ≡ entry_summaries library.catalog (map (λ (p : Core CompiledRules). p.entries) ps) → IsTextOfSummaries (specs_in library) scripts.list.items text
@@ -218,11 +219,22 @@ runs_of library scripts catalogued counted objects named watches alls k watch al
 
 -- as many titles as cores
 pub runs_many : (library : Library) (scripts : Scripts) (titles : List Titles) (ps : List (Core CompiledRules)) → AreRunsOf library.specs.items scripts.list.items titles ps → length titles ≡ length ps
-runs_many library scripts titles ps runs = ap (λ ts. length ts) runs.titled ∙ length-map library.specs.items (λ (l : Loaded). l.titles) ∙ sym runs.many
+runs_many library scripts titles ps runs = ap (λ ts. length ts) runs.titled ∙ length-map library.specs.items (λ (l : Loaded). l.titles) ∙ sym (ruled_many library scripts titles ps runs)
 
 -- as many entries as titles
 pub runs_titled : (library : Library) (scripts : Scripts) (titles : List Titles) (ps : List (Core CompiledRules)) → IsCatalogued library → AreRunsOf library.specs.items scripts.list.items titles ps → length library.catalog ≡ length titles
 runs_titled library scripts titles ps catalogued runs = catalogued.many ∙ sym (ap (λ ts. length ts) runs.titled ∙ length-map library.specs.items (λ (l : Loaded). l.titles))
+
+-- cores that have the rules of these specifications, place by place
+rules_are : (ls : List Loaded) (ps : List (Core CompiledRules)) → length ps ≡ length ls → ((k : ℕ) (l : Loaded) (p : Core CompiledRules) → slice_get ls k ≡ Some l → slice_get ps k ≡ Some p → p.definition ≡ l.rules)
+    → map (λ (p : Core CompiledRules). p.definition) ps ≡ map (λ (l : Loaded). l.rules) ls
+rules_are [] [] same each = refl
+rules_are [] (p ∷ ps) same each = absurd (omega (arith, same))
+rules_are (l ∷ ls) [] same each = absurd (omega (arith, same))
+rules_are (l ∷ ls) (p ∷ ps) same each =
+    let here = each 0 l p refl refl in
+    let rest = rules_are ls ps (omega (arith, same)) (λ k m q at there. each (suc k) m q at there) in
+    λ i. here i ∷ rest i
 
 -- ---- dispatchers as they are kept
 
@@ -248,9 +260,11 @@ module _ {R : Type 0} (watch_of : R → LockModel (Fixed CompiledRules)) (seats_
   pub runs_from : (ls : List Loaded) (scripts : List (List ScriptLine)) (titles : List Titles) (ps : List (Core CompiledRules)) (rs : List R) → titles ≡ map (λ (l : Loaded). l.titles) ls → length ps ≡ length rs
       → AreWatchesOf objects seats ls (map watch_of rs) (map seats_of rs)
       → ((s : ℕ) (r : R) (p : Core CompiledRules) → slice_get rs s ≡ Some r → slice_get ps s ≡ Some p → IsRunOf (rules_meaning (watch_of r).fixed.definition.definition) scripts s (watch_of r).fixed p) → AreRunsOf ls scripts titles ps
-  runs_from ls scripts titles ps rs titled many are each = record {
-    titled = titled;
-    many = many ∙ watches_many ls rs are;
+  runs_from ls scripts titles ps rs titles_are many are each = record {
+    titled = titles_are;
+    ruled = rules_are ls ps (many ∙ watches_many ls rs are) (λ k l p at there.
+        let found = watch_for ls rs k l are at in
+        (each k found.0 p found.1 there).definition ∙ ap (λ (f : Fixed CompiledRules). f.definition) found.2.fixed);
     legal = λ k l p at there.
         let found = watch_for ls rs k l are at in
         subst (λ (d : CompiledRules). IsLegal (rules_meaning d.definition) p.entries) (ap (λ (f : Fixed CompiledRules). f.definition) found.2.fixed) (each k found.0 p found.1 there).legal;

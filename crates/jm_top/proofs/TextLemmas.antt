@@ -15,7 +15,9 @@ use Rattle.jm_script.specs.Catalogs.{CatalogEntry}
 use Rattle.jm_top.specs.declared.specification.Titles.{Titles}
 use Rattle.jm_top.specs.declared.specification.Loaded.{Loaded}
 use Rattle.jm_top.specs.Specifications.{Specification}
-use Rattle.jm_top.specs.Reading.{Shown, Listed, named_entry, listing, listed, shown_with, specification_of, ArePrintable, entry_summaries}
+use Rattle.jm_core.specs.Cores.{Core}
+use Rattle.jm_machine.specs.RuleSets.{CompiledRules}
+use Rattle.jm_top.specs.Reading.{Listed, named_entry, listing, listed, titled, titled_by, specification_of, ArePrintable, entry_summaries}
 use Rattle.jm_top.specs.Texts.{declared_text, IsTextOfFamily, IsTextOfFamilies}
 use Rattle.jm_top.proofs.OneReadingLemmas.{same_some}
 
@@ -48,18 +50,20 @@ listed_there (d ∷ es) (m ∷ ls) (suc k) e l same lt here there =
     let rest = listed_there es ls k e l (omega (arith, same)) (omega (arith, lt)) here there in
     (omega (arith, rest.0), rest.1)
 
-pub length-shown : (es : List CatalogEntry) (ts : List Titles) → length es ≡ length ts → length (shown_with es ts) ≡ length es
-length-shown [] ts same = refl
-length-shown (e ∷ es) [] same = absurd (omega (arith, same))
-length-shown (e ∷ es) (t ∷ ts) same = omega (arith, length-shown es ts (omega (arith, same)))
+pub length-titled_by : (es : List CatalogEntry) (ts : List Titles) (ps : List (Core CompiledRules)) → length es ≡ length ts → length ts ≡ length ps → length (titled_by es ts ps) ≡ length es
+length-titled_by [] ts ps same many = refl
+length-titled_by (e ∷ es) [] ps same many = absurd (omega (arith, same))
+length-titled_by (e ∷ es) (t ∷ ts) [] same many = absurd (omega (arith, many))
+length-titled_by (e ∷ es) (t ∷ ts) (p ∷ ps) same many = omega (arith, length-titled_by es ts ps (omega (arith, same)) (omega (arith, many)))
 
-pub shown_there : (es : List CatalogEntry) (ts : List Titles) (k : ℕ) (e : CatalogEntry) (t : Titles) → length es ≡ length ts → k < length es → e ≡ get_or es k e → t ≡ get_or ts k t
-    → (k < length (shown_with es ts)) × (◌≡◌ {A = Shown} (record { entry = e; titles = t }) (get_or (shown_with es ts) k (record { entry = e; titles = t })))
-shown_there [] ts k e t same lt here there = absurd (omega (arith, lt))
-shown_there (d ∷ es) [] k e t same lt here there = absurd (omega (arith, same))
-shown_there (d ∷ es) (u ∷ ts) zero e t same lt here there = (omega arith, λ i. record { entry = here i; titles = there i })
-shown_there (d ∷ es) (u ∷ ts) (suc k) e t same lt here there =
-    let rest = shown_there es ts k e t (omega (arith, same)) (omega (arith, lt)) here there in
+pub titled_there : (es : List CatalogEntry) (ts : List Titles) (ps : List (Core CompiledRules)) (k : ℕ) (e : CatalogEntry) (t : Titles) (p : Core CompiledRules) → length es ≡ length ts → length ts ≡ length ps → k < length es
+    → e ≡ get_or es k e → t ≡ get_or ts k t → p ≡ get_or ps k p → (k < length (titled_by es ts ps)) × (titled e t p.definition.definition ≡ get_or (titled_by es ts ps) k (titled e t p.definition.definition))
+titled_there [] ts ps k e t p same many lt here there own = absurd (omega (arith, lt))
+titled_there (d ∷ es) [] ps k e t p same many lt here there own = absurd (omega (arith, same))
+titled_there (d ∷ es) (u ∷ ts) [] k e t p same many lt here there own = absurd (omega (arith, many))
+titled_there (d ∷ es) (u ∷ ts) (q ∷ ps) zero e t p same many lt here there own = (omega arith, λ i. titled (here i) (there i) (own i).definition.definition)
+titled_there (d ∷ es) (u ∷ ts) (q ∷ ps) (suc k) e t p same many lt here there own =
+    let rest = titled_there es ts ps k e t p (omega (arith, same)) (omega (arith, many)) (omega (arith, lt)) here there own in
     (omega (arith, rest.0), rest.1)
 
 pub declared_more : (xs : List Listed) (i : ℕ) (x : Listed) (text block new : List ℕ) → i < length xs → x ≡ get_or xs i x → text ≡ flat_map declared_text (map specification_of (take i xs)) → block ≡ declared_text (specification_of x) → new ≡ text ++ block

@@ -28,9 +28,9 @@ module _ (bytes : List ℕ) (tokens : List Token) (small : length bytes ≤ most
   pub read_of : (tree : SpecTree) (r : Reading) (rules : CompiledRules) (texts : List (List (List Term))) → IsTreeOfTokens bytes tokens tree → IsCompiledFrom bytes tokens tree rules.definition
       → All (λ mask. mask < 2 ^ length tree.table.parameters) rules.definition.masks → length rules.definition.handlers ≤ 16
       → BlocksSay bytes tokens tree.table.parameters tree.handlers.items texts → r.loaded.rules ≡ rules → r.loaded.titles.texts.items ≡ texts
-      → r.name.now ≡ name_of bytes tree.name → r.table ≡ tree.table → r.loaded.titles.handlers ≡ rules.definition.handlers
+      → r.name.now ≡ name_of bytes tree.name → r.table ≡ tree.table
       → r.loaded.titles.logic ≡ tree.logic → r.loaded.titles.logic_line ≡ tree.logic_line → r.loaded.titles.full_binding ≡ tree.full_binding → IsRead bytes r
-  read_of tree r rules texts told compiled fit few say is printed titled table handlers logic line full =
+  read_of tree r rules texts told compiled fit few say is printed titled table logic line full =
       let masks : rules.definition.masks ≡ map (λ e. e.mask) tree.table.events = ap (λ (x : RuleDefinition). x.masks) compiled.rules in
       record {
         said = record {
@@ -46,7 +46,6 @@ module _ (bytes : List ℕ) (tokens : List Token) (small : length bytes ≤ most
           texts = subst (λ v. BlocksSay bytes tokens tree.table.parameters tree.handlers.items v) (sym printed) say;
         };
         kept = record {
-          handlers = handlers ∙ ap (λ (x : CompiledRules). x.definition.handlers) (sym is);
           masks = ap (λ (x : CompiledRules). x.definition.masks) is ∙ masks ∙ ap (λ (t : EventDefinitions). map (λ e. e.mask) t.events) (sym table);
           fit = subst (λ (t : EventDefinitions). All (λ mask. mask < 2 ^ length t.parameters) r.loaded.rules.definition.masks) (sym table) (subst (λ (x : CompiledRules). All (λ mask. mask < 2 ^ length tree.table.parameters) x.definition.masks) (sym is) fit);
           few = subst (λ (x : CompiledRules). length x.definition.handlers ≤ 16) (sym is) few;

@@ -1,9 +1,12 @@
 -- Why the work of a command ends before its text is written.
-use Rattle.std.specs.Prelude.{ℕ, ◌+◌, ◌≡◌, ◌⊎◌, Bool, false, List, [], length, Option}
+use Rattle.std.specs.Prelude.{ℕ, ◌+◌, ◌≡◌, ◌⊎◌, Bool, false, List, [], length, Result, Ok, Err}
+use Rattle.std.specs.Global.{Vec}
+use Rattle.jm_model.specs.Words.{Text}
+use Rattle.jm_port.specs.Faults.{HasRisen}
 use Rattle.jm_script.specs.declared.script.ScriptLine.{ScriptLine}
 use Rattle.jm_top.specs.declared.status.Status.{Status}
 use Rattle.jm_top.specs.declared.status.Status.TheVariants.{Done, BadSpec, BadScript, ReadFailed, WriteFailed, NoMemory}
-use Rattle.jm_top.specs.Sources.{Source, IsFile, Gives}
+use Rattle.jm_top.specs.Sources.{FileContents, Source, IsFile, Gives}
 use Rattle.jm_top.specs.Specifications.{Specification}
 use Rattle.jm_top.specs.Scripts.{IsScriptFault}
 use Rattle.jm_top.specs.Inputs.{IsRefusal, SaySpecifications, AreReadUpTo, step_count, SayScripts, AreScriptsUpTo}
@@ -12,6 +15,10 @@ use Rattle.jm_top.specs.Commands.{spec_sources, script_sources, needs_families}
 use Rattle.jm_top.specs.Jobs.{Accepted}
 use Rattle.jm_top.specs.Texts.{IsTextOf}
 
+-- where it answers that a read failed, a fault was counted meanwhile
+abbrev pub CountsFailedReads : {T : Type 0} → Result T Status → ℕ → ℕ → Type 0
+CountsFailedReads result before after = (file : ℕ) → result ≡ Err (ReadFailed file) → HasRisen before after
+
 -- a status that comes before anything is written
 abbrev pub IsBeforeWriting : Status → Type 0
 IsBeforeWriting Done = ⊥
@@ -19,23 +26,23 @@ IsBeforeWriting WriteFailed = ⊥
 IsBeforeWriting _ = Unit {0}
 
 -- these bytes, which have this number, say no specification behind these
-abbrev pub IsNoSpecIn : Bool → List Specification → ℕ → List ℕ → Status → Type 0
+abbrev pub IsNoSpecIn : Bool → List Specification → ℕ → Text → Status → Type 0
 IsNoSpecIn families before number bytes (BadSpec file fault) = (file ≡ number) × IsRefusal families before bytes fault
 IsNoSpecIn families before number bytes NoMemory = Unit {0}
 IsNoSpecIn families before number bytes _ = ⊥
 
 -- these bytes, which have this number, say no script behind others with so many steps and these names of objects
-abbrev pub IsNoScriptIn : List Specification → ℕ → List (List ℕ) → ℕ → List ℕ → Status → Type 0
+abbrev pub IsNoScriptIn : List Specification → ℕ → List Text → ℕ → Text → Status → Type 0
 IsNoScriptIn specs count names number bytes (BadScript script fault) =
     (script ≡ number) × IsScriptFault specs count names bytes fault
 IsNoScriptIn specs count names number bytes NoMemory = Unit {0}
 IsNoScriptIn specs count names number bytes _ = ⊥
 
-module _ (contents : List ℕ → Option (List ℕ)) where
+module _ (contents : FileContents) where
   -- this source, which has this number, gives no specification behind these
   abbrev pub IsNoSpec : Bool → List Specification → ℕ → Source → Status → Type 0
   IsNoSpec families before number source (BadSpec file fault) =
-      (file ≡ number) × ((bytes : List ℕ) × Gives contents source bytes × IsRefusal families before bytes fault)
+      (file ≡ number) × ((bytes : Text) × Gives contents source bytes × IsRefusal families before bytes fault)
   IsNoSpec families before number source (ReadFailed file) = (file ≡ number) × IsFile source
   IsNoSpec families before number source NoMemory = Unit {0}
   IsNoSpec families before number source _ = ⊥
@@ -49,9 +56,9 @@ module _ (contents : List ℕ → Option (List ℕ)) where
     pub stopped : IsNoSpec families before number source status
 
   -- this source, which has this number, gives no script behind these; so many files are before the scripts
-  abbrev pub IsNoScript : List Specification → ℕ → ℕ → List (List ℕ) → ℕ → Source → Status → Type 0
+  abbrev pub IsNoScript : List Specification → ℕ → ℕ → List Text → ℕ → Source → Status → Type 0
   IsNoScript specs files count names number source (BadScript script fault) =
-      (script ≡ number) × ((bytes : List ℕ) × Gives contents source bytes × IsScriptFault specs count names bytes fault)
+      (script ≡ number) × ((bytes : Text) × Gives contents source bytes × IsScriptFault specs count names bytes fault)
   IsNoScript specs files count names number source (ReadFailed file) = (file ≡ files + number) × IsFile source
   IsNoScript specs files count names number source NoMemory = Unit {0}
   IsNoScript specs files count names number source _ = ⊥
@@ -62,19 +69,19 @@ module _ (contents : List ℕ → Option (List ℕ)) where
     pub number : ℕ
     pub source : Source
     pub before : List (List ScriptLine)
-    pub names : List (List ℕ)
+    pub names : List Text
     pub reached : AreScriptsUpTo contents specs sources number source before names
     pub stopped : IsNoScript specs files (step_count before) names number source status
 
 -- why specifications from some sources, and scripts from others, aren't read
-abbrev pub StopsInputs : (List ℕ → Option (List ℕ)) → List Source → List Source → Status → Type 0
+abbrev pub StopsInputs : FileContents → List Source → List Source → Status → Type 0
 StopsInputs contents specs scripts status =
     StopsSpecs contents false specs status
     ⊎ ((said : List Specification) × SaySpecifications contents false [] specs said
     × StopsScripts contents said (length specs) scripts status)
 
 -- why a command ends before its text is written
-pub data StopsCommand (contents : List ℕ → Option (List ℕ)) (command : CommandWords) : Status → Type 0 where
+pub data StopsCommand (contents : FileContents) (command : CommandWords) : Status → Type 0 where
   short : StopsCommand contents command NoMemory
   at_spec : (status : Status) → StopsSpecs contents (needs_families command) (spec_sources command) status
       → StopsCommand contents command status
@@ -84,10 +91,15 @@ pub data StopsCommand (contents : List ℕ → Option (List ℕ)) (command : Com
       → StopsCommand contents command status
 
 -- the text is one of the command, whose files were read
-pub record IsTextOfCommand (contents : List ℕ → Option (List ℕ)) (command : CommandWords) (text : List ℕ) : Type 0 where
+pub record IsTextOfCommand (contents : FileContents) (command : CommandWords) (text : Text) : Type 0 where
   pub specs : List Specification
   pub scripts : List (List ScriptLine)
-  pub objects : List (List ℕ)
+  pub objects : List Text
   pub said : SaySpecifications contents (needs_families command) [] (spec_sources command) specs
   pub told : SayScripts contents specs 0 [] (script_sources command) scripts objects
   pub is_text : IsTextOf (Accepted command specs scripts objects) text
+
+-- it answers a text of the command, or why the command ends before its text is written
+abbrev pub IsCarriedOut : FileContents → CommandWords → Result (Vec ℕ) Status → Type 0
+IsCarriedOut contents command (Ok text) = IsTextOfCommand contents command text.items
+IsCarriedOut contents command (Err status) = StopsCommand contents command status

@@ -1,5 +1,6 @@
 -- What a command reads.
 use Rattle.std.specs.Prelude.{ℕ, ◌≤◌, Bool, true, false, List, [], ◌∷◌, length, map}
+use Rattle.jm_model.specs.Words.{Text}
 use Rattle.jm_cli.specs.Words.{CommandWords}
 use Rattle.jm_cli.specs.Words.CommandWords.{Replay, Run, Check, Coenable, Gen}
 use Rattle.jm_gen.specs.Specifications.{unsafe_iter, has_next}
@@ -7,17 +8,17 @@ use Rattle.jm_gen.specs.Scripts.{IsInRange, script_text}
 use Rattle.jm_top.specs.Sources.{Source, Named, Given}
 
 -- files by these names, and files of these bytes
-abbrev pub named : List (List ℕ) → List Source
+abbrev pub named : List Text → List Source
 named names = map (λ name. Named name) names
 
-abbrev pub given_files : List (List ℕ) → List Source
+abbrev pub given_files : List Text → List Source
 given_files files = map (λ bytes. Given bytes) files
 
 -- the specifications of a workload, and its scripts, of so many rounds each
-unfoldable pub workload_specs : List (List ℕ)
+unfoldable pub workload_specs : List Text
 workload_specs = unsafe_iter ∷ has_next ∷ []
 
-unfoldable pub workload_scripts : ℕ → List (List ℕ)
+unfoldable pub workload_scripts : ℕ → List Text
 workload_scripts n = script_text 0 n ∷ script_text 1 n ∷ script_text 2 n ∷ script_text 3 n ∷ []
 
 -- the specifications of a command, in order
@@ -42,7 +43,7 @@ needs_families (Coenable specs) = true
 needs_families _ = false
 
 -- 1 to 16 names
-abbrev pub AreFew : List (List ℕ) → Type 0
+abbrev pub AreFew : List Text → Type 0
 AreFew names = (1 ≤ length names) × (length names ≤ 16)
 
 -- a command within its limits

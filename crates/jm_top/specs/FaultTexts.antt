@@ -1,6 +1,7 @@
 -- What the program says of a command that wasn't done.
-use Rattle.std.specs.Prelude.{ℕ, ◌+◌, List, [], ◌∷◌, ◌++◌, codes, Option, Some, None}
+use Rattle.std.specs.Prelude.{ℕ, ◌+◌, [], ◌∷◌, ◌++◌, codes, Option, Some, None}
 use Rattle.std.specs.Fmt.{decimal}
+use Rattle.jm_model.specs.Words.{Text}
 use Rattle.jm_model.specs.declared.fault.Counted.{Counted}
 use Rattle.jm_model.specs.declared.fault.Counted.TheVariants.{Parameters, Events, Handlers, Aliases, Nodes, Nesting, Term, Subformulas, Nonterminals, Productions, Symbols}
 use Rattle.jm_model.specs.declared.fault.SpecFault.{SpecFault}
@@ -11,7 +12,7 @@ use Rattle.jm_top.specs.declared.status.Status.{Status}
 use Rattle.jm_top.specs.declared.status.Status.TheVariants.{Done, Usage, BadSpec, BadScript, ReadFailed, WriteFailed, NoMemory}
 
 -- what too many things of a kind are called
-abbrev pub counted_words : Counted → List ℕ
+abbrev pub counted_words : Counted → Text
 counted_words Parameters = codes "too many parameters"
 counted_words Events = codes "too many events"
 counted_words Handlers = codes "too many handlers"
@@ -25,7 +26,7 @@ counted_words Productions = codes "too many productions"
 counted_words Symbols = codes "too many symbols"
 
 -- what a fault of a specification is called
-abbrev pub spec_words : SpecFault → List ℕ
+abbrev pub spec_words : SpecFault → Text
 spec_words spec.TooLong = codes "too long"
 spec_words spec.NotUtf8 = codes "not UTF-8"
 spec_words (spec.OpenText line) = codes "open text"
@@ -70,7 +71,7 @@ spec_line (spec.UnsupportedHandler line) = Some line
 spec_line _ = None
 
 -- what a fault of a script is called
-abbrev pub script_words : ScriptFault → List ℕ
+abbrev pub script_words : ScriptFault → Text
 script_words script.TooLong = codes "too long"
 script_words (script.BadLine line) = codes "bad line"
 script_words (script.UnknownSpec line) = codes "unknown specification"
@@ -89,21 +90,21 @@ script_line (script.TooManyObjects line) = Some line
 script_line (script.TooManyLines line) = Some line
 script_line _ = None
 
-abbrev pub line_part : Option ℕ → List ℕ
+abbrev pub line_part : Option ℕ → Text
 line_part None = []
 line_part (Some line) = codes ", line " ++ decimal line
 
 -- the line on a fault of a specification or a script, which are counted from 1 here
-abbrev pub fault_line : List ℕ → ℕ → Option ℕ → List ℕ → List ℕ
+abbrev pub fault_line : Text → ℕ → Option ℕ → Text → Text
 fault_line kind number line words =
     codes "jmop: " ++ kind ++ codes " " ++ decimal (number + 1) ++ line_part line ++ codes ": " ++ words ++ 10 ∷ []
 
 -- the line on a file that couldn't be read
-abbrev pub unreadable_line : ℕ → List ℕ
+abbrev pub unreadable_line : ℕ → Text
 unreadable_line file = codes "jmop: file " ++ decimal (file + 1) ++ (codes " cannot be read" ++ 10 ∷ [])
 
 -- how the program is called, a line for each command
-abbrev pub usage_text : List ℕ
+abbrev pub usage_text : Text
 usage_text =
     codes "usage: jmop replay SPEC SCRIPT" ++ 10 ∷ []
     ++ codes "       jmop run SPEC.. -- SCRIPT.." ++ 10 ∷ []
@@ -112,7 +113,7 @@ usage_text =
     ++ codes "       jmop gen N" ++ 10 ∷ []
 
 -- what the error sink is given
-abbrev pub fault_text_of : Status → List ℕ
+abbrev pub fault_text_of : Status → Text
 fault_text_of Done = []
 fault_text_of Usage = usage_text
 fault_text_of (BadSpec file fault) = fault_line (codes "specification") file (spec_line fault) (spec_words fault)

@@ -1,5 +1,6 @@
 -- The histories of a command's specifications, and their text.
 use Rattle.std.specs.Prelude.{ℕ, ◌+◌, ◌≡◌, List, [], ◌∷◌, ◌++◌, map}
+use Rattle.jm_model.specs.Words.{Text}
 use Rattle.jm_model.specs.declared.step.Entry.{Entry}
 use Rattle.jm_semantics.specs.Scripts.{projection_of, IsInterleaving}
 use Rattle.jm_semantics.specs.Legality.{IsLegal}
@@ -25,24 +26,24 @@ AreHistoriesFrom number (s ∷ specs) scripts (h ∷ hs) =
 AreHistoriesFrom number _ scripts _ = ⊥
 
 -- the names that a history of the specification is printed with, and what its handlers print
-abbrev pub lexicon : List (List ℕ) → Specification → Lexicon
+abbrev pub lexicon : List Text → Specification → Lexicon
 lexicon objects s = lexicon_of s.name s.table s.rules.handlers objects s.texts
 
 -- the text is the printed history of each specification, in order
-pub record IsTextOfHistories (specs : List Specification) (scripts : List (List ScriptLine)) (objects : List (List ℕ))
-    (text : List ℕ) : Type 0 where
+pub record IsTextOfHistories (specs : List Specification) (scripts : List (List ScriptLine)) (objects : List Text)
+    (text : Text) : Type 0 where
   pub histories : List (List Entry)
   pub each : AreHistoriesFrom 0 specs scripts histories
   pub printed : text ≡ texts_of (map (lexicon objects) specs) histories
 
 -- the summaries of these histories, one after another
-abbrev pub summaries_of : List Specification → List (List Entry) → List ℕ
+abbrev pub summaries_of : List Specification → List (List Entry) → Text
 summaries_of (s ∷ specs) (h ∷ hs) = summary_text s.name h ++ summaries_of specs hs
 summaries_of _ _ = []
 
 -- the text is the summary of a history of each specification, in order
 pub record IsTextOfSummaries (specs : List Specification) (scripts : List (List ScriptLine))
-    (text : List ℕ) : Type 0 where
+    (text : Text) : Type 0 where
   pub histories : List (List Entry)
   pub each : AreHistoriesFrom 0 specs scripts histories
   pub printed : text ≡ summaries_of specs histories

@@ -1,12 +1,13 @@
 -- What a command is to do, by its words and the contents of its files.
-use Rattle.std.specs.Prelude.{ℕ, ◌+◌, ◌≡◌, List, [], length, Option, Some, None}
+use Rattle.std.specs.Prelude.{ℕ, ◌+◌, ◌≡◌, List, [], length, Some, None}
+use Rattle.jm_model.specs.Words.{Text}
 use Rattle.jm_model.specs.declared.fault.SpecFault.{SpecFault}
 use Rattle.jm_model.specs.declared.fault.ScriptFault.{ScriptFault}
 use Rattle.jm_script.specs.declared.script.ScriptLine.{ScriptLine}
 use Rattle.jm_cli.specs.Words.{CommandWords, command_of}
 use Rattle.jm_top.specs.declared.status.Status.{Status}
 use Rattle.jm_top.specs.declared.status.Status.TheVariants.{Usage, BadSpec, BadScript, ReadFailed}
-use Rattle.jm_top.specs.Sources.{Source, IsFile, Gives, AllTold}
+use Rattle.jm_top.specs.Sources.{FileContents, Source, IsFile, Gives, AllTold}
 use Rattle.jm_top.specs.Commands.{spec_sources, script_sources, needs_families}
 use Rattle.jm_top.specs.Specifications.{Specification}
 use Rattle.jm_top.specs.Scripts.{IsScriptFault}
@@ -16,14 +17,14 @@ use Rattle.jm_top.specs.Inputs.{IsRefusal, SaySpecifications, AreReadUpTo, step_
 pub data Job : Type 0 where
   Refused : (status : Status) → Job
   Accepted : (command : CommandWords) (specs : List Specification) (scripts : List (List ScriptLine))
-      (objects : List (List ℕ)) → Job
+      (objects : List Text) → Job
 
-module _ (words : List (List ℕ)) (contents : List ℕ → Option (List ℕ)) where
+module _ (words : List Text) (contents : FileContents) where
   -- The job: the first fault in the order of the work, which is the words, each specification in order, each script in
   -- order; or, where there is none, what was read.
   pub data IsJob : Job → Type 0 where
     no_command : command_of words ≡ None → IsJob (Refused Usage)
-    bad_spec : (command : CommandWords) (number : ℕ) (source : Source) (before : List Specification) (bytes : List ℕ)
+    bad_spec : (command : CommandWords) (number : ℕ) (source : Source) (before : List Specification) (bytes : Text)
         (fault : SpecFault)
         → command_of words ≡ Some command
         → AreReadUpTo contents (needs_families command) (spec_sources command) number source before
@@ -31,7 +32,7 @@ module _ (words : List (List ℕ)) (contents : List ℕ → Option (List ℕ)) w
         → IsRefusal (needs_families command) before bytes fault
         → IsJob (Refused (BadSpec number fault))
     bad_script : (command : CommandWords) (specs : List Specification) (number : ℕ) (source : Source)
-        (before : List (List ScriptLine)) (names : List (List ℕ)) (bytes : List ℕ) (fault : ScriptFault)
+        (before : List (List ScriptLine)) (names : List Text) (bytes : Text) (fault : ScriptFault)
         → command_of words ≡ Some command
         → SaySpecifications contents (needs_families command) [] (spec_sources command) specs
         → AreScriptsUpTo contents specs (script_sources command) number source before names
@@ -39,7 +40,7 @@ module _ (words : List (List ℕ)) (contents : List ℕ → Option (List ℕ)) w
         → IsScriptFault specs (step_count before) names bytes fault
         → IsJob (Refused (BadScript number fault))
     accepted : (command : CommandWords) (specs : List Specification) (scripts : List (List ScriptLine))
-        (objects : List (List ℕ))
+        (objects : List Text)
         → command_of words ≡ Some command
         → SaySpecifications contents (needs_families command) [] (spec_sources command) specs
         → SayScripts contents specs 0 [] (script_sources command) scripts objects
@@ -54,7 +55,7 @@ module _ (words : List (List ℕ)) (contents : List ℕ → Option (List ℕ)) w
         → IsFile file
         → ReachesFile number
     script_file : (command : CommandWords) (specs : List Specification) (number : ℕ) (file : Source)
-        (before : List (List ScriptLine)) (names : List (List ℕ))
+        (before : List (List ScriptLine)) (names : List Text)
         → command_of words ≡ Some command
         → SaySpecifications contents (needs_families command) [] (spec_sources command) specs
         → AreScriptsUpTo contents specs (script_sources command) number file before names

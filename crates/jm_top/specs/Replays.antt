@@ -1,5 +1,6 @@
 -- What the calls that replay a script answer.
 use Rattle.std.specs.Prelude.{ℕ, ◌≡◌, List, [], ◌∷◌}
+use Rattle.jm_model.specs.Words.{Text}
 use Rattle.jm_model.specs.Meanings.{Meaning}
 use Rattle.jm_model.specs.declared.step.Step.{Step}
 use Rattle.jm_model.specs.declared.step.Entry.{Entry}
@@ -14,7 +15,7 @@ pub record IsReplayOf (m : Meaning) (steps : List (ℕ × Step)) (h : List Entry
   pub woven : IsInterleaving h (steps ∷ [])
 
 -- the text is the whole printed history of such a replay
-pub record IsPrintedReplay (m : Meaning) (steps : List (ℕ × Step)) (l : Lexicon) (text : List ℕ) : Type 0 where
+pub record IsPrintedReplay (m : Meaning) (steps : List (ℕ × Step)) (l : Lexicon) (text : Text) : Type 0 where
   pub history : List Entry
   pub replayed : IsReplayOf m steps history
   pub printed : text ≡ history_text l history

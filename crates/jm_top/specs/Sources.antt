@@ -1,10 +1,15 @@
 -- Where the files of a command come from, and what they hold.
-use Rattle.std.specs.Prelude.{ℕ, ◌≡◌, List, [], ◌∷◌, Option, IfSome, IsSome}
+use Rattle.std.specs.Prelude.{◌≡◌, List, [], ◌∷◌, Option, IfSome, IsSome}
+use Rattle.jm_model.specs.Words.{Text}
+
+-- what is told of files: the bytes of the file of a name, where they are told
+abbrev pub FileContents : Type 0
+FileContents = Text → Option Text
 
 -- a file that a folder has by this name, or one whose bytes are given
 pub data Source : Type 0 where
-  Named : (name : List ℕ) → Source
-  Given : (bytes : List ℕ) → Source
+  Named : (name : Text) → Source
+  Given : (bytes : Text) → Source
 
 -- it is one of a folder
 abbrev pub IsFile : Source → Type 0
@@ -12,20 +17,20 @@ IsFile (Named name) = Unit {0}
 IsFile (Given bytes) = ⊥
 
 -- the file of this name holds these bytes, as far as it is told what files hold
-abbrev pub Holds : (List ℕ → Option (List ℕ)) → List ℕ → List ℕ → Type 0
+abbrev pub Holds : FileContents → Text → Text → Type 0
 Holds contents name bytes = IfSome (contents name) (λ held. bytes ≡ held)
 
 -- the source gives these bytes
-abbrev pub Gives : (List ℕ → Option (List ℕ)) → Source → List ℕ → Type 0
+abbrev pub Gives : FileContents → Source → Text → Type 0
 Gives contents (Named name) bytes = Holds contents name bytes
 Gives contents (Given given) bytes = bytes ≡ given
 
 -- it is told what the source gives
-abbrev pub IsTold : (List ℕ → Option (List ℕ)) → Source → Type 0
+abbrev pub IsTold : FileContents → Source → Type 0
 IsTold contents (Named name) = IsSome (contents name)
 IsTold contents (Given given) = Unit {0}
 
 -- and what each of these does
-abbrev pub AllTold : (List ℕ → Option (List ℕ)) → List Source → Type 0
+abbrev pub AllTold : FileContents → List Source → Type 0
 AllTold contents [] = Unit {0}
 AllTold contents (source ∷ sources) = IsTold contents source × AllTold contents sources

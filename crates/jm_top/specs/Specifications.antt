@@ -1,5 +1,6 @@
 -- What a file says that is a specification, and what is wrong with one that isn't.
 use Rattle.std.specs.Prelude.{ℕ, Bool, ◌≡◌, ◌<◌, ◌≤◌, List, [], ◌∷◌, length, slice_range}
+use Rattle.jm_model.specs.Words.{Text}
 use Rattle.jm_model.specs.Meanings.{Meaning}
 use Rattle.jm_model.specs.declared.fault.SpecFault.{SpecFault}
 use Rattle.jm_model.specs.declared.fault.SpecFault.TheVariants.{TooLong}
@@ -21,7 +22,7 @@ use Rattle.jm_machine.specs.Compiling.{IsCompiledFrom, IsFaultyTree}
 -- it, whether it is for full bindings alone, its rules, and what each of its handlers prints: a list of terms for each
 -- statement
 pub record Specification : Type 0 where
-  pub name : List ℕ
+  pub name : Text
   pub table : EventDefinitions
   pub logic : Logic
   pub logic_line : ℕ
@@ -42,20 +43,20 @@ most_bytes = 4194304
 -- ---- what a file says
 
 -- the bytes have tokens, which spell a frame without a fault, and this is its tree
-pub record IsTold (bytes : List ℕ) (tokens : List Token) (tree : SpecTree) : Type 0 where
+pub record IsTold (bytes : Text) (tokens : List Token) (tree : SpecTree) : Type 0 where
   pub small : length bytes ≤ most_bytes
   pub cut : AreTokensOf bytes tokens
   pub told : IsTreeOfTokens bytes tokens tree
 
 -- what the blocks of handlers say, one by one
-abbrev pub BlocksSay : List ℕ → List Token → List (List ℕ) → List HandlerText → List (List (List Term)) → Type 0
+abbrev pub BlocksSay : Text → List Token → List Text → List HandlerText → List (List (List Term)) → Type 0
 BlocksSay bytes tokens parameters [] texts = texts ≡ []
 BlocksSay bytes tokens parameters (h ∷ hs) texts =
     (text : List (List Term)) × (more : List (List (List Term))) × (texts ≡ text ∷ more)
     × Says bytes parameters (slice_range tokens h.first h.last) text × BlocksSay bytes tokens parameters hs more
 
 -- the bytes say this specification: no step has a fault
-pub record IsSpecification (bytes : List ℕ) (s : Specification) : Type 0 where
+pub record IsSpecification (bytes : Text) (s : Specification) : Type 0 where
   pub tokens : List Token
   pub tree : SpecTree
   pub told : IsTold bytes tokens tree
@@ -69,7 +70,7 @@ pub record IsSpecification (bytes : List ℕ) (s : Specification) : Type 0 where
 
 -- The first fault of the bytes, step by step: they are too many; they have no tokens; these spell no frame, or one with
 -- a fault; its formula, its handlers or the table of its formula has one. The line of `Syntax` is left open.
-pub data IsSpecFault (bytes : List ℕ) : SpecFault → Type 0 where
+pub data IsSpecFault (bytes : Text) : SpecFault → Type 0 where
   too_long : most_bytes < length bytes → IsSpecFault bytes TooLong
   no_tokens : (fault : SpecFault) → length bytes ≤ most_bytes → IsFaultOf bytes (Bad fault) → IsSpecFault bytes fault
   in_frame : (tokens : List Token) (fault : SpecFault)

@@ -1,6 +1,7 @@
 -- The text of a command.
 use Rattle.std.specs.Prelude.{ℕ, ◌≡◌, List, [], ◌∷◌, ◌++◌, length, slice_get, IfSome}
 use Rattle.std.specs.List.{flat_map}
+use Rattle.jm_model.specs.Words.{Text, Mask}
 use Rattle.jm_semantics.specs.Families.{IsFamily}
 use Rattle.jm_print.specs.Checks.{check_text}
 use Rattle.jm_print.specs.Coenables.{coenable_text}
@@ -10,28 +11,28 @@ use Rattle.jm_top.specs.Histories.{IsTextOfHistories, IsTextOfSummaries}
 use Rattle.jm_top.specs.Jobs.{Job, Refused, Accepted}
 
 -- what a specification declares
-abbrev pub declared_text : Specification → List ℕ
+abbrev pub declared_text : Specification → Text
 declared_text s = check_text s.name s.logic s.full_binding s.table s.rules.handlers
 
 -- each letter of the specification has its coenable family among these
-pub record AreFamiliesOf (s : Specification) (families : List (List ℕ)) : Type 0 where
+pub record AreFamiliesOf (s : Specification) (families : List (List Mask)) : Type 0 where
   pub many : length families ≡ length s.table.events
   pub each : (letter : ℕ) → IfSome (slice_get families letter) (IsFamily (meaning_of s) letter)
 
 -- the text is that of the coenable families of a specification
-pub record IsTextOfFamily (s : Specification) (text : List ℕ) : Type 0 where
-  pub families : List (List ℕ)
+pub record IsTextOfFamily (s : Specification) (text : Text) : Type 0 where
+  pub families : List (List Mask)
   pub each : AreFamiliesOf s families
   pub printed : text ≡ coenable_text s.name s.table families
 
 -- and of each of these, in order
-abbrev pub IsTextOfFamilies : List Specification → List ℕ → Type 0
+abbrev pub IsTextOfFamilies : List Specification → Text → Type 0
 IsTextOfFamilies [] text = text ≡ []
 IsTextOfFamilies (s ∷ specs) text =
-    (first : List ℕ) × (more : List ℕ) × (text ≡ first ++ more) × IsTextOfFamily s first × IsTextOfFamilies specs more
+    (first : Text) × (more : Text) × (text ≡ first ++ more) × IsTextOfFamily s first × IsTextOfFamilies specs more
 
 -- the text is one of the job, which isn't refused
-abbrev pub IsTextOf : Job → List ℕ → Type 0
+abbrev pub IsTextOf : Job → Text → Type 0
 IsTextOf (Refused status) text = ⊥
 IsTextOf (Accepted (Replay spec script) specs scripts objects) text = IsTextOfHistories specs scripts objects text
 IsTextOf (Accepted (Run names files) specs scripts objects) text = IsTextOfHistories specs scripts objects text

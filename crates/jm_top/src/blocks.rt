@@ -3,7 +3,7 @@ ghost use Rattle.std.specs.Prelude.{◌≡◌, ◌++◌, ◌<◌, false, ℕ, Al
 ghost use Rattle.std.specs.List.{flat_map};
 ghost use Rattle.jm_machine.specs.Formulas.{is_grammar};
 ghost use Rattle.jm_semantics.specs.Families.{IsFamily};
-ghost use Rattle.jm_top.specs.Texts.{declared_text, AreFamiliesOf, IsTextOfFamily, IsTextOfFamilies};
+ghost use Rattle.jm_top.specs.Texts.{declared_text, IsTextOfFamily, IsTextOfFamilies};
 ghost use Rattle.jm_machine.specs.Meanings.{rules_meaning};
 ghost use Rattle.jm_top.specs.Reading.{named_entry, listing, listed, specification_of, IsWhole};
 
@@ -21,8 +21,7 @@ pub(crate) fn declared(
     catalog: &Catalog,
     specs: &[Loaded],
 ) -> Result<Vec<u8>, NoMemory>
-    requires many { length catalog.now ≡ length specs.now }
-    requires whole { All IsWhole (listed catalog.now specs.now) }
+    requires { length catalog.now ≡ length specs.now }
     ensures { IfOk result (λ text. text.items
         ≡ flat_map declared_text (map specification_of (listed catalog.now specs.now))) }
 {
@@ -47,7 +46,6 @@ fn declared_by(
     table: &EventTable,
     loaded: &Loaded,
 ) -> Result<Vec<u8>, NoMemory>
-    requires { IsWhole (listing (named_entry name.now table.now) loaded.now) }
     ensures { IfOk result (λ text. text.items
         ≡ declared_text (specification_of (listing (named_entry name.now table.now) loaded.now))) }
 {
@@ -58,7 +56,7 @@ fn declared_by(
         titles.logic,
         titles.full_binding,
         table,
-        &titles.handlers,
+        loaded.rules.handlers(),
     )
 }
 

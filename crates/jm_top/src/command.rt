@@ -70,14 +70,10 @@ fn carry_out<R: Threads + Wait + Sync, F: Folder, S: Sink, G: Gate>(
     out: &mut S,
     gate: &G,
 ) -> Status
-    ensures written { Writes (map string_bytes words.now) (F.holds files.old) result (S.written out.old)
-        (S.written out.new) }
-    ensures caused { IsCaused (map string_bytes words.now) (F.holds files.old) result }
+    ensures ends { Ends (map string_bytes words.now) (F.holds files.old) (F.faults files.old) (F.faults files.new)
+        (S.faults out.old, S.written out.old) (S.faults out.new, S.written out.new) result }
     ensures no_command { command_of (map string_bytes words.now) ≡ None → (result ≡ Status.Usage)
         ⊎ (result ≡ Status.NoMemory) }
-    ensures read_failed { (file : ℕ) → result ≡ Status.ReadFailed file
-        → HasRisen (F.faults files.old) (F.faults files.new) }
-    ensures write_failed { result ≡ Status.WriteFailed → HasRisen (S.faults out.old) (S.faults out.new) }
 {
     let command = match read_command(alloc, words) {
         Ok(command) => command,

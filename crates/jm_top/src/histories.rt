@@ -3,31 +3,33 @@ ghost use Rattle.std.specs.Prelude.{◌≡◌, ◌++◌, length, map, All, IfOk}
 ghost use Rattle.jm_print.specs.Texts.{IsPrintable, history_text};
 ghost use Rattle.jm_print.specs.Told.{texts_of};
 ghost use Rattle.jm_print.specs.Summaries.{summary_text};
-ghost use Rattle.jm_top.specs.Reading.{named_entry, shown_with, title_lexicon, ArePrintable, entry_summaries};
+ghost use Rattle.jm_top.specs.Histories.{lexicon};
+ghost use Rattle.jm_top.specs.Reading.{named_entry, titled, titled_by, ArePrintable, entry_summaries};
 
 use crate::blocks::joined;
 use crate::specification::Titles;
 use jm_core::Prop;
 use jm_events::{EventTable, Names};
+use jm_machine::Rules;
 use jm_model::{Monitor, NoMemory};
 use jm_print::{render_history, render_summary};
 use jm_script::Catalog;
 use std::alloc::Global;
 
 /// The printed histories of these cores, each by its titles, one after another.
-pub(crate) fn histories_text<M: Monitor>(
+pub(crate) fn histories_text(
     alloc: Global,
     catalog: &Catalog,
     titles: &[Titles],
-    props: &[Prop<M>],
+    props: &[Prop<Rules>],
     objects: &Names,
 ) -> Result<Vec<u8>, NoMemory>
     requires titled { length catalog.now ≡ length titles.now }
     requires many { length titles.now ≡ length props.now }
-    requires printable { ArePrintable (map (title_lexicon objects.now) (shown_with catalog.now titles.now))
+    requires printable { ArePrintable (map (lexicon objects.now) (titled_by catalog.now titles.now props.now))
         (map (λ p. p.entries) props.now) }
     ensures { IfOk result (λ text. text.items
-        ≡ texts_of (map (title_lexicon objects.now) (shown_with catalog.now titles.now))
+        ≡ texts_of (map (lexicon objects.now) (titled_by catalog.now titles.now props.now))
         (map (λ p. p.entries) props.now)) }
 {
     let mut text = Vec::new(alloc);
@@ -42,26 +44,25 @@ pub(crate) fn histories_text<M: Monitor>(
 }
 
 /// The printed history of a core.
-fn history_text<M: Monitor>(
+fn history_text(
     alloc: Global,
     name: &str,
     table: &EventTable,
     titles: &Titles,
-    prop: &Prop<M>,
+    prop: &Prop<Rules>,
     objects: &Names,
 ) -> Result<Vec<u8>, NoMemory>
-    requires { All (IsPrintable (title_lexicon objects.now
-        (record { entry = named_entry name.now table.now; titles = titles.now }))) prop.now.entries }
-    ensures { IfOk result (λ text. text.items
-        ≡ history_text (title_lexicon objects.now
-        (record { entry = named_entry name.now table.now; titles = titles.now })) prop.now.entries) }
+    requires { All (IsPrintable (lexicon objects.now (titled (named_entry name.now table.now) titles.now
+        prop.now.definition.definition))) prop.now.entries }
+    ensures { IfOk result (λ text. text.items ≡ history_text (lexicon objects.now
+        (titled (named_entry name.now table.now) titles.now prop.now.definition.definition)) prop.now.entries) }
 {
     render_history(
         alloc,
         name,
         prop.history(),
         table,
-        &titles.handlers,
+        prop.rules().handlers(),
         titles.texts.as_slice(),
         objects,
     )

@@ -1,10 +1,10 @@
 //! What a command reads, before it is done.
-ghost use Rattle.std.specs.Prelude.{◌≡◌, ◌≤◌, ℕ, List, Option, length, map, IfOk, IfErr, string_bytes};
-ghost use Rattle.jm_port.specs.Faults.{HasRisen};
+ghost use Rattle.std.specs.Prelude.{◌≡◌, ◌≤◌, length, map, IfOk, IfErr, string_bytes};
 ghost use Rattle.jm_cli.specs.Words.CommandWords.{Gen};
 ghost use Rattle.jm_gen.specs.Scripts.{IsInRange};
+ghost use Rattle.jm_top.specs.Sources.{FileContents};
 ghost use Rattle.jm_top.specs.Commands.{named, given_files, workload_specs, workload_scripts};
-ghost use Rattle.jm_top.specs.Causes.{StopsInputs, StopsCommand};
+ghost use Rattle.jm_top.specs.Causes.{CountsFailedReads, StopsInputs, StopsCommand};
 ghost use Rattle.jm_top.specs.Reading.{AreInputsOf};
 
 use crate::library::{Library, given_specifications, read_specifications};
@@ -35,8 +35,7 @@ pub(crate) fn read_inputs<F: Folder>(
         (named (map string_bytes scripts.now))) }
     ensures err { IfErr result (StopsInputs (F.holds files.old) (named (map string_bytes specs.now))
         (named (map string_bytes scripts.now))) }
-    ensures read_failed { (file : ℕ) → result ≡ Err (Status.ReadFailed file)
-        → HasRisen (F.faults files.old) (F.faults files.new) }
+    ensures read_failed { CountsFailedReads result (F.faults files.old) (F.faults files.new) }
 {
     let library = read_specifications(alloc, specs, false, files)?;
     let scripts = read_scripts(alloc, scripts, &library, files)?;
@@ -47,10 +46,10 @@ pub(crate) fn read_inputs<F: Folder>(
 fn given_inputs(alloc: Global, specs: &[Vec<u8>], scripts: &[Vec<u8>]) -> Result<Inputs, Status>
     requires few_specs { length specs.now ≤ 16 }
     requires few_scripts { length scripts.now ≤ 16 }
-    ensures read { (contents : List ℕ → Option (List ℕ))
+    ensures read { (contents : FileContents)
         → IfOk result (AreInputsOf contents (given_files (map (λ file. file.items) specs.now))
         (given_files (map (λ file. file.items) scripts.now))) }
-    ensures err { (contents : List ℕ → Option (List ℕ))
+    ensures err { (contents : FileContents)
         → IfErr result (StopsInputs contents (given_files (map (λ file. file.items) specs.now))
         (given_files (map (λ file. file.items) scripts.now))) }
 {
@@ -62,9 +61,9 @@ fn given_inputs(alloc: Global, specs: &[Vec<u8>], scripts: &[Vec<u8>]) -> Result
 /// Makes the workload of `n` rounds, and reads its files as if they were loaded.
 pub(crate) fn read_workload(alloc: Global, n: u32) -> Result<Inputs, Status>
     requires { IsInRange n }
-    ensures read { (contents : List ℕ → Option (List ℕ))
+    ensures read { (contents : FileContents)
         → IfOk result (AreInputsOf contents (given_files workload_specs) (given_files (workload_scripts n))) }
-    ensures err { (contents : List ℕ → Option (List ℕ)) → IfErr result (StopsCommand contents (Gen n)) }
+    ensures err { (contents : FileContents) → IfErr result (StopsCommand contents (Gen n)) }
 {
     let files = files_of(alloc, n)?;
     given_inputs(alloc, files.specs.as_slice(), files.scripts.as_slice())

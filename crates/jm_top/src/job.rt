@@ -1,11 +1,11 @@
 //! The text of each command.
-ghost use Rattle.std.specs.Prelude.{◌≡◌, ℕ, List, Option, map, IfOk, IfErr, string_bytes};
-ghost use Rattle.jm_port.specs.Faults.{HasRisen};
+ghost use Rattle.std.specs.Prelude.{map, string_bytes};
 ghost use Rattle.jm_cli.specs.Words.CommandWords.{Replay, Run, Check, Coenable, Gen};
 ghost use Rattle.jm_cli.specs.Views.{command_words};
 ghost use Rattle.jm_gen.specs.Scripts.{IsInRange};
+ghost use Rattle.jm_top.specs.Sources.{FileContents};
 ghost use Rattle.jm_top.specs.Commands.{AreFew, IsWithin};
-ghost use Rattle.jm_top.specs.Causes.{StopsCommand, IsTextOfCommand};
+ghost use Rattle.jm_top.specs.Causes.{CountsFailedReads, IsCarriedOut};
 
 use crate::blocks::{declared, families};
 use crate::inputs::{read_inputs, read_workload};
@@ -30,10 +30,8 @@ pub(crate) fn make_text<R: Threads + Wait + Sync, F: Folder, G: Gate>(
     gate: &G,
 ) -> Result<Vec<u8>, Status>
     requires { IsWithin (command_words command.now) }
-    ensures made { IfOk result (λ text. IsTextOfCommand (F.holds files.old) (command_words command.now) text.items) }
-    ensures caused { IfErr result (StopsCommand (F.holds files.old) (command_words command.now)) }
-    ensures read_failed { (file : ℕ) → result ≡ Err (Status.ReadFailed file)
-        → HasRisen (F.faults files.old) (F.faults files.new) }
+    ensures carried_out { IsCarriedOut (F.holds files.old) (command_words command.now) result }
+    ensures read_failed { CountsFailedReads result (F.faults files.old) (F.faults files.new) }
 {
     match command {
         Command::Replay { spec, script } => replayed(alloc, spec, script, files),
@@ -53,12 +51,9 @@ fn replayed<F: Folder>(
     script: &String,
     files: &mut F,
 ) -> Result<Vec<u8>, Status>
-    ensures made { IfOk result (λ text. IsTextOfCommand (F.holds files.old)
-        (Replay (string_bytes spec.now) (string_bytes script.now)) text.items) }
-    ensures caused { IfErr result (StopsCommand (F.holds files.old)
-        (Replay (string_bytes spec.now) (string_bytes script.now))) }
-    ensures read_failed { (file : ℕ) → result ≡ Err (Status.ReadFailed file)
-        → HasRisen (F.faults files.old) (F.faults files.new) }
+    ensures carried_out { IsCarriedOut (F.holds files.old)
+        (Replay (string_bytes spec.now) (string_bytes script.now)) result }
+    ensures read_failed { CountsFailedReads result (F.faults files.old) (F.faults files.new) }
 {
     let inputs = read_inputs(alloc, slice::from_ref(spec), slice::from_ref(script), files)?;
     let text = replay(alloc, inputs.library, inputs.scripts)?;
@@ -76,12 +71,9 @@ fn ran<R: Threads + Wait + Sync, F: Folder, G: Gate>(
 ) -> Result<Vec<u8>, Status>
     requires specs { AreFew (map string_bytes specs.now) }
     requires scripts { AreFew (map string_bytes scripts.now) }
-    ensures made { IfOk result (λ text. IsTextOfCommand (F.holds files.old)
-        (Run (map string_bytes specs.now) (map string_bytes scripts.now)) text.items) }
-    ensures caused { IfErr result (StopsCommand (F.holds files.old)
-        (Run (map string_bytes specs.now) (map string_bytes scripts.now))) }
-    ensures read_failed { (file : ℕ) → result ≡ Err (Status.ReadFailed file)
-        → HasRisen (F.faults files.old) (F.faults files.new) }
+    ensures carried_out { IsCarriedOut (F.holds files.old)
+        (Run (map string_bytes specs.now) (map string_bytes scripts.now)) result }
+    ensures read_failed { CountsFailedReads result (F.faults files.old) (F.faults files.new) }
 {
     let inputs = read_inputs(alloc, specs, scripts, files)?;
     let text = run(rt, alloc, inputs.library, &inputs.scripts, gate)?;
@@ -91,11 +83,8 @@ fn ran<R: Threads + Wait + Sync, F: Folder, G: Gate>(
 /// The text of `check`.
 fn checked<F: Folder>(alloc: Global, specs: &[String], files: &mut F) -> Result<Vec<u8>, Status>
     requires { AreFew (map string_bytes specs.now) }
-    ensures made { IfOk result (λ text. IsTextOfCommand (F.holds files.old)
-        (Check (map string_bytes specs.now)) text.items) }
-    ensures caused { IfErr result (StopsCommand (F.holds files.old) (Check (map string_bytes specs.now))) }
-    ensures read_failed { (file : ℕ) → result ≡ Err (Status.ReadFailed file)
-        → HasRisen (F.faults files.old) (F.faults files.new) }
+    ensures carried_out { IsCarriedOut (F.holds files.old) (Check (map string_bytes specs.now)) result }
+    ensures read_failed { CountsFailedReads result (F.faults files.old) (F.faults files.new) }
 {
     let library = read_specifications(alloc, specs, false, files)?;
     let text = declared(alloc, &library.catalog, library.specs.as_slice())?;
@@ -105,11 +94,8 @@ fn checked<F: Folder>(alloc: Global, specs: &[String], files: &mut F) -> Result<
 /// The text of `coenable`.
 fn coenabled<F: Folder>(alloc: Global, specs: &[String], files: &mut F) -> Result<Vec<u8>, Status>
     requires { AreFew (map string_bytes specs.now) }
-    ensures made { IfOk result (λ text. IsTextOfCommand (F.holds files.old)
-        (Coenable (map string_bytes specs.now)) text.items) }
-    ensures caused { IfErr result (StopsCommand (F.holds files.old) (Coenable (map string_bytes specs.now))) }
-    ensures read_failed { (file : ℕ) → result ≡ Err (Status.ReadFailed file)
-        → HasRisen (F.faults files.old) (F.faults files.new) }
+    ensures carried_out { IsCarriedOut (F.holds files.old) (Coenable (map string_bytes specs.now)) result }
+    ensures read_failed { CountsFailedReads result (F.faults files.old) (F.faults files.new) }
 {
     let library = read_specifications(alloc, specs, true, files)?;
     let text = families(alloc, &library.catalog, library.specs.as_slice())?;
@@ -124,9 +110,7 @@ fn generated<R: Threads + Wait + Sync, G: Gate>(
     gate: &G,
 ) -> Result<Vec<u8>, Status>
     requires { IsInRange n }
-    ensures made { (contents : List ℕ → Option (List ℕ))
-        → IfOk result (λ text. IsTextOfCommand contents (Gen n) text.items) }
-    ensures caused { (contents : List ℕ → Option (List ℕ)) → IfErr result (StopsCommand contents (Gen n)) }
+    ensures { (contents : FileContents) → IsCarriedOut contents (Gen n) result }
 {
     let inputs = read_workload(alloc, n)?;
     let text = run_in_short(rt, alloc, inputs.library, &inputs.scripts, gate)?;

@@ -1,17 +1,16 @@
 //! The specifications of a command, read one behind the other.
-ghost use Rattle.std.specs.Prelude.{◌≡◌, ◌<◌, ◌≤◌, ◌&&◌, ◌∷◌, ◌++◌, [], ℕ, Bool, List, Option, length, map, IfOk, IfErr, OnOk, IsSome, None, true, false, string_bytes};
-ghost use Rattle.jm_port.specs.Faults.{HasRisen};
+ghost use Rattle.std.specs.Prelude.{◌≡◌, ◌<◌, ◌≤◌, ◌&&◌, ◌∷◌, ◌++◌, [], ℕ, Bool, List, length, map, IfOk, IfErr, OnOk, IsSome, None, true, false, string_bytes};
 ghost use Rattle.jm_events.specs.Names.{number_of};
 ghost use Rattle.jm_machine.specs.Formulas.{is_grammar};
 ghost use Rattle.jm_model.specs.declared.fault.SpecFault.{SpecFault};
 ghost use Rattle.jm_script.specs.Catalogs.{spec_names};
 ghost use Rattle.jm_top.specs.Commands.{named, given_files};
-ghost use Rattle.jm_top.specs.Sources.{Named, Gives};
+ghost use Rattle.jm_top.specs.Sources.{FileContents, Named, Gives};
 ghost use Rattle.jm_top.specs.Specifications.{Specification, most_bytes};
 ghost use Rattle.jm_top.specs.Scripts.{catalog_of};
 ghost use Rattle.jm_top.specs.Inputs.{IsRefusal};
 ghost use Rattle.jm_top.specs.Reading.{IsWhole, named_entry, listing, listed_in, specs_in, IsCatalogued, HasNext, HasNextFrom, IsLibraryOf};
-ghost use Rattle.jm_top.specs.Causes.{IsNoSpec, IsNoSpecIn, StopsSpecs};
+ghost use Rattle.jm_top.specs.Causes.{CountsFailedReads, IsNoSpec, IsNoSpecIn, StopsSpecs};
 
 use crate::specification::{Loaded, Reading, read_specification};
 use crate::status::{MOST_BYTES, Status};
@@ -69,8 +68,7 @@ pub(crate) fn read_specifications<F: Folder>(
     requires { length names.now ≤ 16 }
     ensures read { IfOk result (IsLibraryOf (F.holds files.old) families (named (map string_bytes names.now))) }
     ensures err { IfErr result (StopsSpecs (F.holds files.old) families (named (map string_bytes names.now))) }
-    ensures read_failed { (file : ℕ) → result ≡ Err (Status.ReadFailed file)
-        → HasRisen (F.faults files.old) (F.faults files.new) }
+    ensures read_failed { CountsFailedReads result (F.faults files.old) (F.faults files.new) }
     ensures never_falls { F.faults files.old ≤ F.faults files.new }
     ensures same { (other : List ℕ) → F.holds files.new other ≡ F.holds files.old other }
 {
@@ -84,9 +82,9 @@ pub(crate) fn read_specifications<F: Folder>(
 /// Reads the specifications that these bytes say, in order.
 pub(crate) fn given_specifications(alloc: Global, files: &[Vec<u8>]) -> Result<Library, Status>
     requires { length files.now ≤ 16 }
-    ensures read { (contents : List ℕ → Option (List ℕ))
+    ensures read { (contents : FileContents)
         → IfOk result (IsLibraryOf contents false (given_files (map (λ file. file.items) files.now))) }
-    ensures err { (contents : List ℕ → Option (List ℕ))
+    ensures err { (contents : FileContents)
         → IfErr result (StopsSpecs contents false (given_files (map (λ file. file.items) files.now))) }
 {
     let mut library = Library::new(alloc);
@@ -127,8 +125,7 @@ fn read_next<F: Folder>(
     ensures read { OnOk result (HasNextFrom (F.holds files.old) (Named name.now) families library.old library.new) }
     ensures err { IfErr result (IsNoSpec (F.holds files.old) families (specs_in library.old)
         (length library.old.specs.items) (Named name.now)) }
-    ensures read_failed { (file : ℕ) → result ≡ Err (Status.ReadFailed file)
-        → HasRisen (F.faults files.old) (F.faults files.new) }
+    ensures read_failed { CountsFailedReads result (F.faults files.old) (F.faults files.new) }
     ensures never_falls { F.faults files.old ≤ F.faults files.new }
     ensures same { (other : List ℕ) → F.holds files.new other ≡ F.holds files.old other }
 {
@@ -143,8 +140,7 @@ fn load_spec<F: Folder>(name: &str, number: u32, files: &mut F) -> Result<Vec<u8
     ensures held { IfOk result (λ bytes. Gives (F.holds files.old) (Named name.now) bytes.items) }
     ensures err { (families : Bool) (before : List Specification)
         → IfErr result (IsNoSpec (F.holds files.old) families before number (Named name.now)) }
-    ensures read_failed { (file : ℕ) → result ≡ Err (Status.ReadFailed file)
-        → HasRisen (F.faults files.old) (F.faults files.new) }
+    ensures read_failed { CountsFailedReads result (F.faults files.old) (F.faults files.new) }
     ensures never_falls { F.faults files.old ≤ F.faults files.new }
     ensures same { (other : List ℕ) → F.holds files.new other ≡ F.holds files.old other }
 {

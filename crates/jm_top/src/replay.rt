@@ -1,26 +1,27 @@
 //! Replaying a script.
-ghost use Rattle.std.specs.Prelude.{◌≡◌, ℕ, List, All, IfOk, length};
+ghost use Rattle.std.specs.Prelude.{◌≡◌, List, All, IfOk, length};
 ghost use Rattle.jm_machine.specs.Meanings.{rules_meaning};
 ghost use Rattle.jm_model.specs.declared.step.Entry.{Entry};
 ghost use Rattle.jm_core.specs.Steps.{IsFitStep};
 ghost use Rattle.jm_script.specs.Projections.{steps_in};
 ghost use Rattle.jm_print.specs.Texts.{IsPrintable};
-ghost use Rattle.jm_top.specs.Reading.{named_entry, specs_in, IsCatalogued, AreCounted, title_lexicon};
-ghost use Rattle.jm_top.specs.Histories.{IsTextOfHistories};
+ghost use Rattle.jm_top.specs.Reading.{named_entry, titled, specs_in, IsCatalogued, AreCounted};
+ghost use Rattle.jm_top.specs.Histories.{lexicon, IsTextOfHistories};
 ghost use Rattle.jm_top.specs.Replays.{IsReplayOf, IsPrintedReplay};
 
 use crate::library::Library;
 use crate::scripts::Scripts;
-use crate::specification::{Loaded, Titles};
+use crate::specification::Loaded;
 use jm_core::Prop;
 use jm_events::{EventTable, Names};
+use jm_history::History;
 use jm_model::{Monitor, NoMemory, Step};
 use jm_print::render_history;
 use jm_script::project_in_blocks;
 use std::alloc::Global;
 
 /// The printed history of the one script, replayed over the one specification. The script is let go before the replay,
-/// and its steps as they are done, and of the core nothing but the history is left for the printing.
+/// and its steps as they are done, and of the core nothing but the rules and the history is left for the printing.
 pub(crate) fn replay(alloc: Global, library: Library, scripts: Scripts) -> Result<Vec<u8>, NoMemory>
     requires one_spec { length library.specs.items ≡ 1 }
     requires one_script { length scripts.list.items ≡ 1 }
@@ -57,46 +58,39 @@ fn replay_own(
     requires steps { All (λ step. IsFitStep (rules_meaning loaded.rules.definition) (length objects.now) step.1)
         (steps_in own.items) }
     requires printable { (h : List Entry) → IsReplayOf (rules_meaning loaded.rules.definition) (steps_in own.items) h
-        → All (IsPrintable (title_lexicon objects.now
-        (record { entry = named_entry name.now table.now; titles = loaded.titles }))) h }
+        → All (IsPrintable (lexicon objects.now
+        (titled (named_entry name.now table.now) loaded.titles loaded.rules.definition))) h }
     ensures { IfOk result (λ text. IsPrintedReplay (rules_meaning loaded.rules.definition) (steps_in own.items)
-        (title_lexicon objects.now
-        (record { entry = named_entry name.now table.now; titles = loaded.titles })) text.items) }
+        (lexicon objects.now
+        (titled (named_entry name.now table.now) loaded.titles loaded.rules.definition)) text.items) }
 {
     let Loaded { titles, rules } = loaded;
-    history_of(alloc, rules, own, name, table, &titles, objects)
-}
-
-/// The printed history of these steps of one caller, by these rules.
-fn history_of<M: Monitor>(
-    alloc: Global,
-    rules: M,
-    blocks: Vec<Vec<(u32, Step)>>,
-    name: &str,
-    table: &EventTable,
-    titles: &Titles,
-    objects: &Names,
-) -> Result<Vec<u8>, NoMemory>
-    requires steps { All (λ step. IsFitStep (M.meaning (M.definition rules)) (length objects.now) step.1)
-        (steps_in blocks.items) }
-    requires printable { (h : List Entry) → IsReplayOf (M.meaning (M.definition rules)) (steps_in blocks.items) h
-        → All (IsPrintable (title_lexicon objects.now
-        (record { entry = named_entry name.now table.now; titles = titles.now }))) h }
-    ensures { IfOk result (λ text. IsPrintedReplay (M.meaning (M.definition rules)) (steps_in blocks.items)
-        (title_lexicon objects.now
-        (record { entry = named_entry name.now table.now; titles = titles.now })) text.items) }
-{
-    let prop = replayed(alloc, rules, blocks, objects.len())?;
-    let history = prop.into_history();
+    let (rules, history) = history_of(alloc, rules, own, objects.len())?;
     render_history(
         alloc,
         name,
         &history,
         table,
-        &titles.handlers,
+        rules.handlers(),
         titles.texts.as_slice(),
         objects,
     )
+}
+
+/// These rules, and the history of these steps of one caller by them.
+fn history_of<M: Monitor>(
+    alloc: Global,
+    rules: M,
+    blocks: Vec<Vec<(u32, Step)>>,
+    objects: u32,
+) -> Result<(M, History), NoMemory>
+    requires { All (λ step. IsFitStep (M.meaning (M.definition rules)) objects step.1) (steps_in blocks.items) }
+    ensures rules { IfOk result (λ parts. M.definition parts.0 ≡ M.definition rules) }
+    ensures replayed { IfOk result (λ parts.
+        IsReplayOf (M.meaning (M.definition rules)) (steps_in blocks.items) parts.1) }
+{
+    let prop = replayed(alloc, rules, blocks, objects)?;
+    Ok(prop.into_parts())
 }
 
 /// The core after these steps of one caller. Each block of them is let go once it is done.
@@ -107,7 +101,9 @@ fn replayed<M: Monitor>(
     objects: u32,
 ) -> Result<Prop<M>, NoMemory>
     requires { All (λ step. IsFitStep (M.meaning (M.definition rules)) objects step.1) (steps_in blocks.items) }
-    ensures { IfOk result (λ prop. IsReplayOf (M.meaning (M.definition rules)) (steps_in blocks.items) prop.entries) }
+    ensures definition { IfOk result (λ prop. prop.definition ≡ M.definition rules) }
+    ensures replayed { IfOk result (λ prop.
+        IsReplayOf (M.meaning (M.definition rules)) (steps_in blocks.items) prop.entries) }
 {
     let mut prop = Prop::new(alloc, rules, objects)?;
     for block in blocks {

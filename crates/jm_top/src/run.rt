@@ -1,8 +1,8 @@
 //! Running scripts over specifications.
-ghost use Rattle.std.specs.Prelude.{◌≡◌, ◌<◌, ◌≤◌, length, map, IfOk};
+ghost use Rattle.std.specs.Prelude.{◌≡◌, ◌<◌, ◌≤◌, map, IfOk};
 ghost use Rattle.jm_top.specs.Histories.{IsTextOfHistories, IsTextOfSummaries};
-ghost use Rattle.jm_top.specs.Reading.{specs_in, IsCatalogued, AreCounted};
-ghost use Rattle.jm_top.specs.Runs.{IsWatchOf, AreWatchesOf, AreRunsOf};
+ghost use Rattle.jm_top.specs.Reading.{specs_in};
+ghost use Rattle.jm_top.specs.Runs.{CanRunOver, IsWatchOf, AreWatchesOf, AreRunsOf};
 
 use crate::histories::{histories_text, summaries_text};
 use crate::library::Library;
@@ -26,10 +26,7 @@ pub(crate) fn run<R: Threads + Wait + Sync, G: Gate>(
     scripts: &Scripts,
     gate: &G,
 ) -> Result<Vec<u8>, NoMemory>
-    requires specs { (1 ≤ length library.specs.items) × (length library.specs.items ≤ 16) }
-    requires scripts { (1 ≤ length scripts.now.list.items) × (length scripts.now.list.items ≤ 16) }
-    requires catalogued { IsCatalogued library }
-    requires counted { AreCounted (specs_in library) scripts.now }
+    requires ready { CanRunOver library scripts.now }
     ensures { IfOk result (λ text. IsTextOfHistories
         (specs_in library) scripts.now.list.items scripts.now.objects text.items) }
 {
@@ -51,10 +48,7 @@ pub(crate) fn run_in_short<R: Threads + Wait + Sync, G: Gate>(
     scripts: &Scripts,
     gate: &G,
 ) -> Result<Vec<u8>, NoMemory>
-    requires specs { (1 ≤ length library.specs.items) × (length library.specs.items ≤ 16) }
-    requires scripts { (1 ≤ length scripts.now.list.items) × (length scripts.now.list.items ≤ 16) }
-    requires catalogued { IsCatalogued library }
-    requires counted { AreCounted (specs_in library) scripts.now }
+    requires ready { CanRunOver library scripts.now }
     ensures { IfOk result (λ text. IsTextOfSummaries (specs_in library) scripts.now.list.items text.items) }
 {
     let runs = run_all(rt, alloc, library, scripts, gate)?;
@@ -77,10 +71,7 @@ pub(crate) fn run_all<R: Threads + Wait + Sync, G: Gate>(
     scripts: &Scripts,
     gate: &G,
 ) -> Result<Runs, NoMemory>
-    requires specs { (1 ≤ length library.specs.items) × (length library.specs.items ≤ 16) }
-    requires scripts { (1 ≤ length scripts.now.list.items) × (length scripts.now.list.items ≤ 16) }
-    requires catalogued { IsCatalogued library }
-    requires counted { AreCounted (specs_in library) scripts.now }
+    requires ready { CanRunOver library scripts.now }
     ensures catalog { IfOk result (λ runs. runs.catalog ≡ library.catalog) }
     ensures ran { IfOk result
         (λ runs. AreRunsOf library.specs.items scripts.now.list.items runs.titles.items runs.props.items) }

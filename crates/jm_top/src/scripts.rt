@@ -1,13 +1,12 @@
 //! The scripts of a command, read one behind the other.
-ghost use Rattle.std.specs.Prelude.{◌≡◌, ◌+◌, ◌<◌, ◌≤◌, ◌^◌, [], ℕ, List, Option, length, map, IfOk, IfErr, OnOk, string_bytes};
-ghost use Rattle.jm_port.specs.Faults.{HasRisen};
+ghost use Rattle.std.specs.Prelude.{◌≡◌, ◌+◌, ◌<◌, ◌≤◌, ◌^◌, [], ℕ, List, length, map, IfOk, IfErr, OnOk, string_bytes};
 ghost use Rattle.jm_model.specs.declared.fault.ScriptFault.{ScriptFault};
 ghost use Rattle.jm_top.specs.Commands.{named, given_files};
-ghost use Rattle.jm_top.specs.Sources.{Named, Gives};
+ghost use Rattle.jm_top.specs.Sources.{FileContents, Named, Gives};
 ghost use Rattle.jm_top.specs.Specifications.{Specification, most_bytes};
 ghost use Rattle.jm_top.specs.Scripts.{IsScriptFault};
 ghost use Rattle.jm_top.specs.Reading.{specs_in, IsCatalogued, AreCounted, HasScript, HasScriptFrom, AreScriptsOf};
-ghost use Rattle.jm_top.specs.Causes.{IsNoScript, IsNoScriptIn, StopsScripts};
+ghost use Rattle.jm_top.specs.Causes.{CountsFailedReads, IsNoScript, IsNoScriptIn, StopsScripts};
 
 use crate::library::Library;
 use crate::status::{MOST_BYTES, Status};
@@ -55,8 +54,7 @@ pub(crate) fn read_scripts<F: Folder>(
         (named (map string_bytes names.now))) }
     ensures err { IfErr result (StopsScripts (F.holds files.old) (specs_in library.now) (length library.now.specs.items)
         (named (map string_bytes names.now))) }
-    ensures read_failed { (file : ℕ) → result ≡ Err (Status.ReadFailed file)
-        → HasRisen (F.faults files.old) (F.faults files.new) }
+    ensures read_failed { CountsFailedReads result (F.faults files.old) (F.faults files.new) }
 {
     let mut scripts = Scripts::new(alloc);
     for name in names {
@@ -73,10 +71,10 @@ pub(crate) fn given_scripts(
 ) -> Result<Scripts, Status>
     requires few { length files.now ≤ 16 }
     requires catalogued { IsCatalogued library.now }
-    ensures read { (contents : List ℕ → Option (List ℕ))
+    ensures read { (contents : FileContents)
         → IfOk result (AreScriptsOf contents (specs_in library.now)
         (given_files (map (λ file. file.items) files.now))) }
-    ensures err { (contents : List ℕ → Option (List ℕ))
+    ensures err { (contents : FileContents)
         → IfErr result (StopsScripts contents (specs_in library.now) (length library.now.specs.items)
         (given_files (map (λ file. file.items) files.now))) }
 {
@@ -129,8 +127,7 @@ fn read_next<F: Folder>(
     ensures err { IfErr result (IsNoScript (F.holds files.old) (specs_in library.now)
         (length library.now.specs.items) scripts.old.count scripts.old.objects (length scripts.old.list.items)
         (Named name.now)) }
-    ensures read_failed { (file : ℕ) → result ≡ Err (Status.ReadFailed file)
-        → HasRisen (F.faults files.old) (F.faults files.new) }
+    ensures read_failed { CountsFailedReads result (F.faults files.old) (F.faults files.new) }
     ensures never_falls { F.faults files.old ≤ F.faults files.new }
     ensures same { (other : List ℕ) → F.holds files.new other ≡ F.holds files.old other }
 {
@@ -152,8 +149,7 @@ fn load_script<F: Folder>(
     ensures held { IfOk result (λ bytes. Gives (F.holds files.old) (Named name.now) bytes.items) }
     ensures err { (specs : List Specification) (count : ℕ) (names : List (List ℕ))
         → IfErr result (IsNoScript (F.holds files.old) specs before count names number (Named name.now)) }
-    ensures read_failed { (file : ℕ) → result ≡ Err (Status.ReadFailed file)
-        → HasRisen (F.faults files.old) (F.faults files.new) }
+    ensures read_failed { CountsFailedReads result (F.faults files.old) (F.faults files.new) }
     ensures never_falls { F.faults files.old ≤ F.faults files.new }
     ensures same { (other : List ℕ) → F.holds files.new other ≡ F.holds files.old other }
 {

@@ -1,27 +1,26 @@
 //! Reading a specification: from bytes to rules that run.
-ghost use Rattle.std.specs.Prelude.{◌≡◌, ◌<◌, ◌≤◌, ◌^◌, ◌-◌, [], ◌∷◌, length, slice_range, IfOk, IfErr};
+ghost use Rattle.std.specs.Prelude.{◌≡◌, ◌≤◌, [], ◌∷◌, length, IfOk, IfErr};
 ghost use Rattle.jm_text.specs.Spans.{LieWithin};
 ghost use Rattle.jm_model.specs.declared.fault.SpecFault.{SpecFault};
 ghost use Rattle.jm_top.specs.Specifications.{IsSpecFault, BlocksSay, most_bytes};
 ghost use Rattle.jm_top.specs.Reading.{IsRead};
 
-use jm_events::{EventTable, Names};
+use jm_events::EventTable;
 use jm_handler::{Handler, read_handler};
 use jm_machine::Rules;
-use jm_model::{NoMemory, SpecError};
-use jm_reading::name_of;
+use jm_model::SpecError;
+use jm_reading::{name_of, range_of};
 use jm_spec::{Logic, SpecTree, read_spec};
 use jm_text::{Token, tokens};
 use std::alloc::Global;
 
 /// What is kept of a specification beside its rules and what its catalog has: its logic and the line of that word,
-/// whether it is for full bindings alone, the categories of its handlers and what they print.
+/// whether it is for full bindings alone, and what its handlers print.
 #[derive(Drop)]
 pub(crate) struct Titles {
     pub logic: Logic,
     pub logic_line: u32,
     pub full_binding: bool,
-    pub handlers: Names,
     pub texts: Vec<Handler>,
 }
 
@@ -53,9 +52,8 @@ pub(crate) fn read_specification<'a>(
     let tree = read_spec(alloc, bytes, tokens.as_slice())?;
     let rules = Rules::compile(alloc, bytes, tokens.as_slice(), &tree)?;
     let texts = handlers_of(alloc, bytes, tokens.as_slice(), &tree)?;
-    let handlers = copy_of(alloc, rules.handlers())?;
     let name = name_of(bytes, tree.name);
-    Ok(put_together(name, handlers, tree, rules, texts))
+    Ok(put_together(name, tree, rules, texts))
 }
 
 /// What the blocks of the handlers say.
@@ -72,35 +70,19 @@ fn handlers_of(
 {
     let mut texts = Vec::new(alloc);
     for handler in &tree.handlers {
-        let block = block_of(tokens, handler.first, handler.last);
+        let block = range_of(tokens, handler.first, handler.last);
         texts.push(read_handler(alloc, bytes, block, &tree.table)?)?;
     }
     Ok(texts)
 }
 
-/// The tokens from `first` up to `last`, cut where the tokens end.
-fn block_of(tokens: &[Token], first: u32, last: u32) -> &[Token]
-    ensures { result.now ≡ slice_range tokens.now first last }
-{
-    let last = tokens.len().min(last as usize);
-    let first = last.min(first as usize);
-    &tokens[first..last]
-}
-
 /// Puts together what was read of a specification.
-fn put_together<'a>(
-    name: &'a str,
-    handlers: Names,
-    tree: SpecTree,
-    rules: Rules,
-    texts: Vec<Handler>,
-) -> Reading<'a>
+fn put_together<'a>(name: &'a str, tree: SpecTree, rules: Rules, texts: Vec<Handler>) -> Reading<'a>
     ensures name { result.name.now ≡ name.now }
     ensures table { result.table ≡ tree.table }
     ensures logic { result.loaded.titles.logic ≡ tree.logic }
     ensures logic_line { result.loaded.titles.logic_line ≡ tree.logic_line }
     ensures full_binding { result.loaded.titles.full_binding ≡ tree.full_binding }
-    ensures handlers { result.loaded.titles.handlers ≡ handlers }
     ensures texts { result.loaded.titles.texts.items ≡ texts.items }
     ensures rules { result.loaded.rules ≡ rules }
 {
@@ -108,7 +90,6 @@ fn put_together<'a>(
         logic: tree.logic,
         logic_line: tree.logic_line,
         full_binding: tree.full_binding,
-        handlers,
         texts,
     };
     let loaded = Loaded { titles, rules };
@@ -117,16 +98,4 @@ fn put_together<'a>(
         table: tree.table,
         loaded,
     }
-}
-
-/// The same names.
-fn copy_of(alloc: Global, names: &Names) -> Result<Names, NoMemory>
-    requires { length names.now < 2 ^ 32 - 1 }
-    ensures { IfOk result (λ copy. copy ≡ names.now) }
-{
-    let mut copy = Names::new(alloc);
-    for number in 0..names.len() {
-        copy.add(names.name(number))?;
-    }
-    Ok(copy)
 }

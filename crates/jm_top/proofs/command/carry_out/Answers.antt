@@ -1,30 +1,37 @@
-use Rattle.std.proofs.Common.{subst}
+use Rattle.std.proofs.Common.{◌≡◌, None, Err, ap}
 use Rattle.std.specs.Prelude.{map, string_bytes}
-use Rattle.jm_top.specs.Causes.{IsBeforeWriting}
+use Rattle.jm_cli.specs.Words.{command_of}
 use Rattle.jm_cli.specs.Views.{command_words}
 use Rattle.jm_top.proofs.JobLemmas.{words_caused, stopped_caused, text_made, stopped_before}
-use Rattle.jm_top.proofs.EndingLemmas.{writes_text, writes_nothing}
+use Rattle.jm_top.proofs.EndingLemmas.{writes_text, ends_before, writing_caused, writing_reads_none, unread_before, unread_none}
 use Rattle.jm_top.proofs.command.carry_out.Goals as goal
 
-pub returns-in-Err-clause-caused : goal.returns-in-Err-clause-caused
-returns-in-Err-clause-caused g c = words_caused (map string_bytes c.args.words.now) (g.F.Folder.holds c.args.files.now) c.in-Err.status c.in-Err.ensures.err
+pub returns-in-Err-clause-ends : goal.returns-in-Err-clause-ends
+returns-in-Err-clause-ends g c =
+    let words = map string_bytes c.args.words.now in
+    let status = c.in-Err.status in
+    let err = c.in-Err.ensures.err in
+    ends_before words (g.F.Folder.holds c.args.files.now) status (unread_before (command_of words ≡ None) status err) (words_caused words (g.F.Folder.holds c.args.files.now) status err) _ _ _
+    (λ file is. absurd (unread_none (command_of words ≡ None) status err file is))
 
-pub returns-in-Ok-make_text-clause-written : goal.returns-in-Ok-make_text-clause-written
-returns-in-Ok-make_text-clause-written g c =
+pub returns-in-Ok-make_text-clause-ends : goal.returns-in-Ok-make_text-clause-ends
+returns-in-Ok-make_text-clause-ends g c =
     let words = map string_bytes c.args.words.now in
     let contents = g.F.Folder.holds c.args.files.now in
-    writes_text words contents c.write.result _ _ c.in-Ok-make_text.text.items
-    (text_made words contents (command_words c.in-Ok.command) c.in-Ok.ensures.spelled c.in-Ok-make_text.text.items c.in-Ok-make_text.ensures.made) (rw c.as_slice.ensures.value at c.write.ensures.written)
+    let written = rw c.as_slice.ensures.value at c.write.ensures.written in
+    record {
+      written = writes_text words contents c.write.result _ _ c.in-Ok-make_text.text.items
+          (text_made words contents (command_words c.in-Ok.command) c.in-Ok.ensures.spelled c.in-Ok-make_text.text.items c.in-Ok-make_text.ensures.carried_out) written;
+      caused = writing_caused words contents c.write.result _ _ _ written;
+      read_failed = λ file is. absurd (writing_reads_none c.write.result _ _ _ written file is);
+      write_failed = c.write.ensures.write_failed;
+    }
 
-pub returns-clause-caused : goal.returns-clause-caused
-returns-clause-caused g c =
-    stopped_caused (map string_bytes c.args.words.now) (g.F.Folder.holds c.args.files.now) (command_words c.in-Ok.command) c.in-Ok.ensures.spelled _ c.in-Err-make_text.ensures.caused
-
-pub returns-clause-written : goal.returns-clause-written
-returns-clause-written g c =
+pub returns-clause-ends : goal.returns-clause-ends
+returns-clause-ends g c =
+    let words = map string_bytes c.args.words.now in
     let contents = g.F.Folder.holds c.args.files.now in
-    writes_nothing (map string_bytes c.args.words.now) contents c.in-Err-make_text.status (g.S.Sink.written c.args.out.now) (stopped_before contents (command_words c.in-Ok.command) c.in-Err-make_text.status c.in-Err-make_text.ensures.caused)
-
-pub returns-clause-write_failed : goal.returns-clause-write_failed
-returns-clause-write_failed g c = λ is.
-    absurd (subst IsBeforeWriting is (stopped_before (g.F.Folder.holds c.args.files.now) (command_words c.in-Ok.command) c.in-Err-make_text.status c.in-Err-make_text.ensures.caused))
+    let status = c.in-Err-make_text.status in
+    let stopped = c.in-Err-make_text.ensures.carried_out in
+    ends_before words contents status (stopped_before contents (command_words c.in-Ok.command) status stopped) (stopped_caused words contents (command_words c.in-Ok.command) c.in-Ok.ensures.spelled _ stopped) _ _ _
+    (λ file is. c.in-Err-make_text.ensures.read_failed file (ap (λ s. Err s) is))

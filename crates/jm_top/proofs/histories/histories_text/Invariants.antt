@@ -1,8 +1,9 @@
 use Rattle.std.proofs.Common.{◌≡◌, take}
 use Rattle.std.specs.Prelude.{map}
 use Rattle.jm_print.specs.Told.{texts_of}
-use Rattle.jm_top.specs.Reading.{shown_with, title_lexicon}
+use Rattle.jm_top.specs.Histories.{lexicon}
+use Rattle.jm_top.specs.Reading.{titled_by}
 use Rattle.jm_top.proofs.histories.histories_text.Given as goal
 
 abbrev pub invariant-loop-spec : goal.invariant-loop-spec
-invariant-loop-spec g l = l.text.items ≡ texts_of (map (title_lexicon l.objects) (take l.spec (shown_with l.catalog l.titles))) (map (λ p. p.entries) (take l.spec l.props))
+invariant-loop-spec l = l.text.items ≡ texts_of (map (lexicon l.objects) (take l.spec (titled_by l.catalog l.titles l.props))) (map (λ p. p.entries) (take l.spec l.props))

@@ -4,22 +4,19 @@ use Rattle.jm_top.specs.Causes.{short}
 use Rattle.jm_top.proofs.CommandLemmas.{check_stops, check_made}
 use Rattle.jm_top.proofs.job.checked.Goals as goal
 
-pub returns-in_err-library-clause-caused : goal.returns-in_err-library-clause-caused
-returns-in_err-library-clause-caused g c =
+pub returns-in_err-library-clause-carried_out : goal.returns-in_err-library-clause-carried_out
+returns-in_err-library-clause-carried_out g c =
     let p = err_from_is_err_and c.from_residual.result c.from_residual.ensures.1 in
     rw (p.1, p.2) (check_stops (g.F.Folder.holds c.args.files.now) (map string_bytes c.args.specs.now) _ c.in_err-library.ensures.err)
 
-pub declared-requires-clause-many : goal.declared-requires-clause-many
-declared-requires-clause-many g c = rw c.as_slice.ensures.value c.in_ok-library.ensures.read.catalogued.many
+pub declared-requires : goal.declared-requires
+declared-requires g c = rw c.as_slice.ensures.value c.in_ok-library.ensures.read.catalogued.many
 
-pub declared-requires-clause-whole : goal.declared-requires-clause-whole
-declared-requires-clause-whole g c = rw c.as_slice.ensures.value c.in_ok-library.ensures.read.catalogued.kept
-
-pub returns-in_err-text-clause-caused : goal.returns-in_err-text-clause-caused
-returns-in_err-text-clause-caused g c =
+pub returns-in_err-text-clause-carried_out : goal.returns-in_err-text-clause-carried_out
+returns-in_err-text-clause-carried_out g c =
     let p = err_from_is_err_and c.from_residual-in_err-text.result c.from_residual-in_err-text.ensures.1 in
     rw (p.1, p.2) short
 
-pub returns-clause-made : goal.returns-clause-made
-returns-clause-made g c =
+pub returns-clause-carried_out : goal.returns-clause-carried_out
+returns-clause-carried_out g c =
     check_made (g.F.Folder.holds c.args.files.now) (map string_bytes c.args.specs.now) c.in_ok-library.library c.in_ok-text.text.items c.in_ok-library.ensures.read (rw c.as_slice.ensures.value at c.in_ok-text.ensures)

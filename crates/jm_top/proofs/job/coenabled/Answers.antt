@@ -5,8 +5,8 @@ use Rattle.jm_top.specs.Commands.{named}
 use Rattle.jm_top.proofs.CommandLemmas.{coenable_stops, coenable_made, tables_in}
 use Rattle.jm_top.proofs.job.coenabled.Goals as goal
 
-pub returns-in_err-library-clause-caused : goal.returns-in_err-library-clause-caused
-returns-in_err-library-clause-caused g c =
+pub returns-in_err-library-clause-carried_out : goal.returns-in_err-library-clause-carried_out
+returns-in_err-library-clause-carried_out g c =
     let p = err_from_is_err_and c.from_residual.result c.from_residual.ensures.1 in
     rw (p.1, p.2) (coenable_stops (g.F.Folder.holds c.args.files.now) (map string_bytes c.args.specs.now) _ c.in_err-library.ensures.err)
 
@@ -19,11 +19,11 @@ families-requires-clause-whole g c = rw c.as_slice.ensures.value c.in_ok-library
 pub families-requires-clause-tables : goal.families-requires-clause-tables
 families-requires-clause-tables g c = rw c.as_slice.ensures.value (tables_in (g.F.Folder.holds c.args.files.now) (named (map string_bytes c.args.specs.now)) c.in_ok-library.library c.in_ok-library.ensures.read)
 
-pub returns-in_err-text-clause-caused : goal.returns-in_err-text-clause-caused
-returns-in_err-text-clause-caused g c =
+pub returns-in_err-text-clause-carried_out : goal.returns-in_err-text-clause-carried_out
+returns-in_err-text-clause-carried_out g c =
     let p = err_from_is_err_and c.from_residual-in_err-text.result c.from_residual-in_err-text.ensures.1 in
     rw (p.1, p.2) short
 
-pub returns-clause-made : goal.returns-clause-made
-returns-clause-made g c =
+pub returns-clause-carried_out : goal.returns-clause-carried_out
+returns-clause-carried_out g c =
     coenable_made (g.F.Folder.holds c.args.files.now) (map string_bytes c.args.specs.now) c.in_ok-library.library c.in_ok-text.text.items c.in_ok-library.ensures.read (rw c.as_slice.ensures.value at c.in_ok-text.ensures)

@@ -16,32 +16,29 @@ read_inputs-requires-clause-few_specs g c = omega (arith, c.requires.specs.1, le
 pub read_inputs-requires-clause-few_scripts : goal.read_inputs-requires-clause-few_scripts
 read_inputs-requires-clause-few_scripts g c = omega (arith, c.requires.scripts.1, length-map c.args.scripts.now string_bytes)
 
-pub returns-in_err-inputs-clause-caused : goal.returns-in_err-inputs-clause-caused
-returns-in_err-inputs-clause-caused g c =
+pub returns-in_err-inputs-clause-carried_out : goal.returns-in_err-inputs-clause-carried_out
+returns-in_err-inputs-clause-carried_out g c =
     let p = err_from_is_err_and c.from_residual.result c.from_residual.ensures.1 in
     rw (p.1, p.2) (run_stops (g.F.Folder.holds c.args.files.now) (map string_bytes c.args.specs.now) (map string_bytes c.args.scripts.now) _ c.in_err-inputs.ensures.err)
 
-pub run-requires-clause-specs : goal.run-requires-clause-specs
-run-requires-clause-specs g c =
-    let many = library_length (λ n. Named n) string_bytes (g.F.Folder.holds c.args.files.now) _ c.args.specs.now c.in_ok-inputs.inputs.library c.in_ok-inputs.ensures.read.library in
-    λ words bounds. (omega (arith, many, c.requires.specs.0, length-map c.args.specs.now string_bytes), omega (arith, many, c.requires.specs.1, length-map c.args.specs.now string_bytes))
+pub run-requires-clause-ready : goal.run-requires-clause-ready
+run-requires-clause-ready g c =
+    let contents = g.F.Folder.holds c.args.files.now in
+    let read = c.in_ok-inputs.ensures.read in
+    let specs = library_length (λ n. Named n) string_bytes contents _ c.args.specs.now c.in_ok-inputs.inputs.library read.library in
+    let scripts = scripts_length (λ n. Named n) string_bytes contents (specs_in c.in_ok-inputs.inputs.library) c.args.scripts.now c.in_ok-inputs.inputs.scripts read.read in
+    λ words bounds. record {
+      specs = (omega (arith, specs, c.requires.specs.0, length-map c.args.specs.now string_bytes), omega (arith, specs, c.requires.specs.1, length-map c.args.specs.now string_bytes));
+      scripts = (omega (arith, scripts, c.requires.scripts.0, length-map c.args.scripts.now string_bytes), omega (arith, scripts, c.requires.scripts.1, length-map c.args.scripts.now string_bytes));
+      catalogued = read.library.catalogued;
+      counted = read.read.counted;
+    }
 
-pub run-requires-clause-scripts : goal.run-requires-clause-scripts
-run-requires-clause-scripts g c =
-    let many = scripts_length (λ n. Named n) string_bytes (g.F.Folder.holds c.args.files.now) (specs_in c.in_ok-inputs.inputs.library) c.args.scripts.now c.in_ok-inputs.inputs.scripts c.in_ok-inputs.ensures.read.read in
-    λ words bounds. (omega (arith, many, c.requires.scripts.0, length-map c.args.scripts.now string_bytes), omega (arith, many, c.requires.scripts.1, length-map c.args.scripts.now string_bytes))
-
-pub run-requires-clause-catalogued : goal.run-requires-clause-catalogued
-run-requires-clause-catalogued g c = λ words bounds. c.in_ok-inputs.ensures.read.library.catalogued
-
-pub run-requires-clause-counted : goal.run-requires-clause-counted
-run-requires-clause-counted g c = λ words bounds. c.in_ok-inputs.ensures.read.read.counted
-
-pub returns-in_err-text-clause-caused : goal.returns-in_err-text-clause-caused
-returns-in_err-text-clause-caused g c =
+pub returns-in_err-text-clause-carried_out : goal.returns-in_err-text-clause-carried_out
+returns-in_err-text-clause-carried_out g c =
     let p = err_from_is_err_and c.from_residual-in_err-text.result c.from_residual-in_err-text.ensures.1 in
     rw (p.1, p.2) short
 
-pub returns-clause-made : goal.returns-clause-made
-returns-clause-made g c =
+pub returns-clause-carried_out : goal.returns-clause-carried_out
+returns-clause-carried_out g c =
     run_made (g.F.Folder.holds c.args.files.now) (map string_bytes c.args.specs.now) (map string_bytes c.args.scripts.now) c.in_ok-inputs.inputs c.in_ok-text.text.items c.in_ok-inputs.ensures.read c.in_ok-text.ensures

@@ -9,8 +9,8 @@ use Rattle.jm_top.proofs.ScriptLemmas.{scripts_length}
 use Rattle.jm_top.proofs.CommandLemmas.{replay_stops, replay_made}
 use Rattle.jm_top.proofs.job.replayed.Goals as goal
 
-pub returns-in_err-inputs-clause-caused : goal.returns-in_err-inputs-clause-caused
-returns-in_err-inputs-clause-caused g c =
+pub returns-in_err-inputs-clause-carried_out : goal.returns-in_err-inputs-clause-carried_out
+returns-in_err-inputs-clause-carried_out g c =
     let p = err_from_is_err_and c.from_residual.result c.from_residual.ensures.1 in
     rw (p.1, p.2) (replay_stops (g.F.Folder.holds c.args.files.now) (string_bytes c.args.spec.now) (string_bytes c.args.script.now) _ (rw (c.from_ref.ensures.value, c.from_ref-2.ensures.value) at c.in_err-inputs.ensures.err))
 
@@ -30,11 +30,11 @@ replay-requires-clause-catalogued g c = c.in_ok-inputs.ensures.read.library.cata
 pub replay-requires-clause-counted : goal.replay-requires-clause-counted
 replay-requires-clause-counted g c = c.in_ok-inputs.ensures.read.read.counted
 
-pub returns-in_err-text-clause-caused : goal.returns-in_err-text-clause-caused
-returns-in_err-text-clause-caused g c =
+pub returns-in_err-text-clause-carried_out : goal.returns-in_err-text-clause-carried_out
+returns-in_err-text-clause-carried_out g c =
     let p = err_from_is_err_and c.from_residual-in_err-text.result c.from_residual-in_err-text.ensures.1 in
     rw (p.1, p.2) short
 
-pub returns-clause-made : goal.returns-clause-made
-returns-clause-made g c =
+pub returns-clause-carried_out : goal.returns-clause-carried_out
+returns-clause-carried_out g c =
     replay_made (g.F.Folder.holds c.args.files.now) (string_bytes c.args.spec.now) (string_bytes c.args.script.now) c.in_ok-inputs.inputs c.in_ok-text.text.items (rw (c.from_ref.ensures.value, c.from_ref-2.ensures.value) at c.in_ok-inputs.ensures.read) c.in_ok-text.ensures

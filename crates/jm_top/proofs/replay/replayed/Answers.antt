@@ -32,8 +32,11 @@ loop-block-preserved g c = record {
       (replayed_more 0 (steps_in c.loop-block.yielded) c.in-Some.block.items c.in_ok-prop.prop c.loop-block.prop c.replay.new.self c.loop-block.invariant.done (rw c.as_slice.ensures.value at c.in_ok-replay.ensures.ok));
 }
 
-pub returns : goal.returns
-returns g c =
+pub returns-clause-definition : goal.returns-clause-definition
+returns-clause-definition g c = c.loop-block.invariant.done.grown.definition ∙ c.in_ok-prop.ensures.definition
+
+pub returns-clause-replayed : goal.returns-clause-replayed
+returns-clause-replayed g c =
     let blocks = c.args.blocks.items in
     let after = c.loop-block.prop in
     let b = c.into_iter-block-iterator.ensures.into_iter_gives in

@@ -10,12 +10,12 @@ pub run_scripts-requires-clause-watches : goal.run_scripts-requires-clause-watch
 run_scripts-requires-clause-watches g c =
     let many = watches_many (λ r. r.watch) (λ r. r.seats.items) c.len.result c.len-seats.result c.args.library.specs.items c.in_ok-made.made.watches.items c.in_ok-made.ensures.watches in
     let same : vec_len c.in_ok-made.made.watches ≡ length c.in_ok-made.made.watches.items = omega (arith, c.in_ok-made.made.watches.ok.0) in
-    λ words bounds. (omega (arith, many, same, c.requires.specs.0), omega (arith, many, same, c.requires.specs.1))
+    λ words bounds. (omega (arith, many, same, c.requires.ready.specs.0), omega (arith, many, same, c.requires.ready.specs.1))
 
 pub run_scripts-requires-clause-ready : goal.run_scripts-requires-clause-ready
 run_scripts-requires-clause-ready g c = λ words bounds s r at.
     let seats : c.len-seats.result ≡ length c.args.scripts.now.list.items = omega (arith, c.len-seats.ensures, c.args.scripts.now.list.ok.0) in
-    rw c.as_slice.ensures.value (ready_at (λ r. r.watch) (λ r. r.seats.items) c.len.result c.len-seats.result c.args.library c.args.scripts.now c.requires.catalogued c.requires.counted c.len.ensures.value seats c.in_ok-made.made.watches.items c.in_ok-made.ensures.watches s r at)
+    rw c.as_slice.ensures.value (ready_at (λ r. r.watch) (λ r. r.seats.items) c.len.result c.len-seats.result c.args.library c.args.scripts.now c.requires.ready.catalogued c.requires.ready.counted c.len.ensures.value seats c.in_ok-made.made.watches.items c.in_ok-made.ensures.watches s r at)
 
 pub returns-clause-ran : goal.returns-clause-ran
 returns-clause-ran g c =

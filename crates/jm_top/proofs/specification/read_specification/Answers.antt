@@ -42,4 +42,4 @@ returns-clause-ok c =
     let compiled = rw c.as_slice-2.ensures.value at c.in_ok-rules.ensures.ok in
     read_of c.args.bytes.now c.in_ok-tokens.tokens.items c.requires c.in_ok-tokens.ensures.ok c.in_ok-tree.tree c.put_together.result c.in_ok-rules.rules c.in_ok-texts.texts.items told compiled
     c.in_ok-rules.ensures.fit c.in_ok-rules.ensures.few say c.put_together.ensures.rules c.put_together.ensures.texts (c.put_together.ensures.name ∙ c.name_of-name.ensures)
-    c.put_together.ensures.table (c.put_together.ensures.handlers ∙ c.in_ok-handlers.ensures ∙ c.handlers.ensures) c.put_together.ensures.logic c.put_together.ensures.logic_line c.put_together.ensures.full_binding
+    c.put_together.ensures.table c.put_together.ensures.logic c.put_together.ensures.logic_line c.put_together.ensures.full_binding
