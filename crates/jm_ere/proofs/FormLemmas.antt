@@ -2,7 +2,7 @@ use Rattle.std.proofs.Common.{ℕ, nat_le, Bool, true, false, List, [], ◌∷�
 use Rattle.jm_model.specs.declared.fault.SpecFault.{SpecFault}
 use Rattle.jm_table.specs.Graphs.{step_from, reached_by}
 use Rattle.jm_ere.specs.declared.tree.Operator.{Operator}
-use Rattle.jm_ere.specs.declared.tree.Operator.TheVariants.{Or, And}
+use Rattle.jm_ere.specs.declared.tree.Operator.TheVariants.{Or}
 use Rattle.jm_ere.specs.Expressions.{Expression, Symbol, EmptyWord, NoWord, Complement, Star, Plus, Product, Combination}
 use Rattle.jm_ere.specs.Meanings.{InLanguage, IsSplit}
 use Rattle.jm_ere.specs.NormalForms.{is_product, is_run, complement_of, star_of, product_of, combined, size_of, Formed, fitting, part, ◌>>=◌, normal_run, normal_form, is_nullable, derivative_run, forms_of}

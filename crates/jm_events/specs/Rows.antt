@@ -1,4 +1,4 @@
-use Rattle.std.specs.Prelude.{ℕ, ◌≡◌, ◌<◌, ◌≤◌, ◌^◌, List, [], ◌∷◌, length, All}
+use Rattle.std.specs.Prelude.{◌≡◌, ◌<◌, ◌≤◌, ◌^◌, List, [], ◌∷◌, length, All}
 use Rattle.jm_model.specs.Words.{Text}
 use Rattle.jm_events.specs.declared.table.Row.{Row}
 use Rattle.jm_events.specs.Events.{EventDefinition}

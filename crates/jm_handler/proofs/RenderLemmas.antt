@@ -7,9 +7,8 @@ use Rattle.std.proofs.lemmas.List.{take_more}
 use Rattle.jm_model.specs.declared.binding.Binding.{Binding}
 use Rattle.jm_model.specs.Bindings.{object_at, mask_of}
 use Rattle.jm_text.specs.Pieces.{line_feed}
-use Rattle.jm_handler.specs.declared.term.Term.{Term}
 use Rattle.jm_handler.specs.Broken.{broken, broken_byte}
-use Rattle.jm_handler.specs.Renderings.{Occasion, object_text, term_text, statement_text, longer, pieces_of, piece_line, marked_lines}
+use Rattle.jm_handler.specs.Renderings.{object_text, longer, pieces_of, piece_line, marked_lines}
 
 -- one item more of a text that is written item by item
 pub flat_map-next : {X : Type 0} (f : X → List ℕ) (xs : List X) (i : ℕ) (x : X) → i < length xs → x ≡ get_or xs i x

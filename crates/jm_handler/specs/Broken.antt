@@ -1,5 +1,5 @@
 -- A text as it is written, line by line.
-use Rattle.std.specs.Prelude.{ℕ, ◌==◌, List, [], ◌∷◌, codes, if◌then◌else◌}
+use Rattle.std.specs.Prelude.{ℕ, ◌==◌, [], ◌∷◌, codes, if◌then◌else◌}
 use Rattle.std.specs.List.{flat_map}
 use Rattle.jm_model.specs.Words.{Text}
 use Rattle.jm_text.specs.Pieces.{line_feed}

@@ -1,8 +1,8 @@
 -- What flags tell of the dead objects of bindings and of histories.
-use Rattle.std.proofs.Common.{◌≡◌, ℕ, zero, suc, ◌*◌, ◌<◌, ◌≤◌, Bool, true, false, not, ◌||◌, inl, inr, List, [], ◌∷◌, ◌++◌, length, replicate, refl, sym, ◌∙◌, ap, subst, arith, get_or-set_same, get_or-set_other}
+use Rattle.std.proofs.Common.{◌≡◌, ℕ, zero, suc, ◌*◌, ◌<◌, ◌≤◌, Bool, true, false, not, ◌||◌, inl, inr, List, [], ◌∷◌, ◌++◌, replicate, refl, sym, ◌∙◌, ap, subst, get_or-set_same, get_or-set_other}
 use Rattle.std.specs.Prelude.{Contains, Some, None, ◌==◌, ◌&&◌}
 use Rattle.std.specs.List.{list_any}
-use Rattle.std.proofs.lemmas.Bool.{false≢true, cases_Bool, cases_eq, cases_lt, and_parts, or_right, eq-eqb, ne_eqb}
+use Rattle.std.proofs.lemmas.Bool.{false≢true, cases_Bool, cases_eq, and_parts, or_right, eq-eqb, ne_eqb}
 use Rattle.std.proofs.lemmas.List.Folds.{list_any-append}
 use Rattle.jm_model.specs.Bindings.{object_at, objects_of, mask_where}
 use Rattle.jm_model.specs.Meanings.{Meaning, IsCutWord}
@@ -17,7 +17,6 @@ use Rattle.jm_semantics.proofs.MaskLemmas.{mask_where-mono}
 use Rattle.jm_semantics.proofs.MeaningLemmas.{cut-more_dead}
 use Rattle.jm_marks.specs.Marks.{is_dead_object, dead_mask_of}
 use Rattle.jm_monitors.specs.Steps.{after_death}
-use Rattle.jm_monitors.specs.Deaths.{AreFlagsOf}
 use Rattle.jm_monitors.specs.Laws.{CutByOwnDeath, FlagsTellParameters, FlagsTellLive, FlagsAtStart, FlagsAfterDeath, FlagsAfterOther}
 use Rattle.jm_monitors.proofs.BaseLemmas.{object-among}
 

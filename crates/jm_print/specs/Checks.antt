@@ -1,5 +1,5 @@
 -- The text of the command `check`: what a specification declares.
-use Rattle.std.specs.Prelude.{ℕ, Bool, List, [], ◌++◌, codes, if◌then◌else◌}
+use Rattle.std.specs.Prelude.{Bool, List, [], ◌++◌, codes, if◌then◌else◌}
 use Rattle.std.specs.List.{flat_map}
 use Rattle.jm_model.specs.Words.{Text, Mask}
 use Rattle.jm_events.specs.Events.{EventDefinition, EventDefinitions}

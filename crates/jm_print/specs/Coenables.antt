@@ -1,5 +1,5 @@
 -- The text of the command `coenable`: the coenable sets of each event.
-use Rattle.std.specs.Prelude.{ℕ, List, [], ◌∷◌, ◌++◌, codes}
+use Rattle.std.specs.Prelude.{List, [], ◌∷◌, ◌++◌, codes}
 use Rattle.std.specs.List.{flat_map}
 use Rattle.jm_model.specs.Words.{Text, Mask}
 use Rattle.jm_events.specs.Events.{EventDefinitions, event_names}

@@ -1,5 +1,5 @@
 -- A text without the lines that begin with two spaces and `>`.
-use Rattle.std.specs.Prelude.{ℕ, Bool, not, ◌==◌, nat_eq, List, [], ◌∷◌, ◌++◌, codes, if◌then◌else◌}
+use Rattle.std.specs.Prelude.{Bool, not, ◌==◌, nat_eq, [], ◌∷◌, ◌++◌, codes, if◌then◌else◌}
 use Rattle.std.specs.List.{starts_with}
 use Rattle.jm_model.specs.Words.{Text}
 

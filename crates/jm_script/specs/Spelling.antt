@@ -1,5 +1,5 @@
 -- The grammar of a line's words.
-use Rattle.std.specs.Prelude.{ℕ, ◌≡◌, true, List, [], ◌∷◌, ◌++◌, Some}
+use Rattle.std.specs.Prelude.{◌≡◌, true, List, [], ◌∷◌, ◌++◌, Some}
 use Rattle.std.specs.List.{list_all}
 use Rattle.jm_model.specs.Words.{Text}
 use Rattle.jm_script.specs.Statements.{Statement, Event, Death, Pass, death_word, pass_word, is_name, is_object, statement_of}

@@ -1,5 +1,5 @@
 -- The loop that reads a rule one time after the other.
-use Rattle.std.proofs.Common.{◌≡◌, ℕ, suc, Bool, true, false, List, length, Option, Some, None, Ok, refl, sym, ap, ◌∙◌}
+use Rattle.std.proofs.Common.{◌≡◌, ℕ, suc, Bool, true, false, List, length, Option, None, Ok, refl, sym, ap, ◌∙◌}
 use Rattle.jm_text.specs.declared.token.Token.{Token}
 use Rattle.jm_model.specs.declared.fault.SpecError.{SpecError}
 use Rattle.jm_reading.specs.declared.cursor.Cursor.{Cursor}
