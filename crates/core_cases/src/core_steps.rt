@@ -54,6 +54,5 @@ fn entries(alloc: Global, history: &History) -> Result<String, NoMemory> {
 pub(crate) fn replay(alloc: Global, case: &Case) -> Result<String, NoMemory> {
     let mut rig = Rig::new(alloc, table_of(case.first.as_str()))?;
     rig.replay(number_of(case.second.as_str()), text_of(&case.text))?;
-    let (_, history) = rig.prop.into_parts();
-    entries(alloc, &history)
+    entries(alloc, &rig.prop.into_history())
 }
