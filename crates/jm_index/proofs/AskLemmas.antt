@@ -20,17 +20,17 @@ same_binding domain b common e v is all gives =
     let mask : mask_of (restriction b (mask_of e.binding)) ≡ mask_of e.binding = rw (facts.1, ← is) all in
     is ∙ ap (λ (n : ℕ). restriction b n) (sym facts.1) ∙ exact e.binding b facts.2 mask
 
-exact_slots : (entries : List Entry) (place : List (Option ℕ) → Option ℕ) (trees : List Paths) (d : List Bool) (domain : ℕ) (b common : List (Option ℕ)) (k : ℕ)
-    → IsIndexed entries place trees d → common ≡ restriction b domain → mask_of common ≡ domain → place common ≡ Some k
+exact_slots : (entries : List Entry) (position : List (Option ℕ) → Option ℕ) (trees : List Paths) (d : List Bool) (domain : ℕ) (b common : List (Option ℕ)) (k : ℕ)
+    → IsIndexed entries position trees d → common ≡ restriction b domain → mask_of common ≡ domain → position common ≡ Some k
     → filter_map (slot_at entries domain b) (k ∷ []) ≡ asked_slots domain b (live_pairs entries)
-exact_slots entries place trees d domain b common k i is all there =
+exact_slots entries position trees d domain b common k i is all there =
     read_all (slot_of domain b) entries (k ∷ []) ((omega arith), tt) among ∙ asked_slots-live domain b entries
   where
     among : (j : ℕ) (e : Entry) (v : ℕ) → slice_get entries j ≡ Some e → slot_of domain b e ≡ Some v → Contains (k ∷ []) j
     among j e v at gives =
         let same = same_binding domain b common e v is all gives in
-        let placed : place e.binding ≡ Some j = i.placed j _ (pair_at-entry entries j e at (slot_of_some domain b e v gives).0) in
-        let here : place e.binding ≡ Some k = subst (λ (w : List (Option ℕ)). place w ≡ Some k) same there in
+        let placed : position e.binding ≡ Some j = i.placed j _ (pair_at-entry entries j e at (slot_of_some domain b e v gives).0) in
+        let here : position e.binding ≡ Some k = subst (λ (w : List (Option ℕ)). position w ≡ Some k) same there in
         (0, (omega arith), same_Some k j (sym here ∙ placed))
 
 -- the entry that a look-up gives
@@ -48,38 +48,38 @@ slot_there [] k e common b domain slot is at mask agrees = cc
 slot_there (x ∷ es) zero e common b domain slot is at mask agrees = rw at (there_entry x common b domain slot is mask agrees)
 slot_there (x ∷ es) (suc k) e common b domain slot is at mask agrees = slot_there es k e common b domain slot is at mask agrees
 
-pub place_within : (entries : List Entry) (place : List (Option ℕ) → Option ℕ) (trees : List Paths) (d : List Bool) (common : List (Option ℕ)) (k : ℕ)
-    → IsIndexed entries place trees d → place common ≡ Some k → k < length entries
-place_within entries place trees d common k i there = let (slot, at) = i.found common k there in pair_at_within entries k _ at
+pub position_within : (entries : List Entry) (position : List (Option ℕ) → Option ℕ) (trees : List Paths) (d : List Bool) (common : List (Option ℕ)) (k : ℕ)
+    → IsIndexed entries position trees d → position common ≡ Some k → k < length entries
+position_within entries position trees d common k i there = let (slot, at) = i.found common k there in pair_at_within entries k _ at
 
-pub exact_slot : (entries : List Entry) (place : List (Option ℕ) → Option ℕ) (trees : List Paths) (d : List Bool) (domain : ℕ) (b common : List (Option ℕ)) (k : ℕ) (e : Entry)
-    → IsIndexed entries place trees d → common ≡ restriction b domain → mask_of common ≡ domain → place common ≡ Some k → e ≡ get_or entries k e
+pub exact_slot : (entries : List Entry) (position : List (Option ℕ) → Option ℕ) (trees : List Paths) (d : List Bool) (domain : ℕ) (b common : List (Option ℕ)) (k : ℕ) (e : Entry)
+    → IsIndexed entries position trees d → common ≡ restriction b domain → mask_of common ≡ domain → position common ≡ Some k → e ≡ get_or entries k e
     → e.slot ∷ [] ≡ asked_slots domain b (live_pairs entries)
-exact_slot entries place trees d domain b common k e i is all there at =
+exact_slot entries position trees d domain b common k e i is all there at =
     let (slot, pair) = i.found common k there in
     let agrees : is_compatible common b ≡ true = rw is (restriction-agrees b domain) in
     let gives = slot_there entries k e common b domain slot pair at all agrees in
     let one : filter_map (slot_at entries domain b) (k ∷ []) ≡ e.slot ∷ [] = rw (gives.1, gives.0) refl in
-    sym one ∙ exact_slots entries place trees d domain b common k i is all there
+    sym one ∙ exact_slots entries position trees d domain b common k i is all there
 
-pub no_slots : (entries : List Entry) (place : List (Option ℕ) → Option ℕ) (trees : List Paths) (d : List Bool) (domain : ℕ) (b common : List (Option ℕ))
-    → IsIndexed entries place trees d → common ≡ restriction b domain → mask_of common ≡ domain → place common ≡ None
+pub no_slots : (entries : List Entry) (position : List (Option ℕ) → Option ℕ) (trees : List Paths) (d : List Bool) (domain : ℕ) (b common : List (Option ℕ))
+    → IsIndexed entries position trees d → common ≡ restriction b domain → mask_of common ≡ domain → position common ≡ None
     → [] ≡ asked_slots domain b (live_pairs entries)
-no_slots entries place trees d domain b common i is all there =
+no_slots entries position trees d domain b common i is all there =
     read_all (slot_of domain b) entries [] tt among ∙ asked_slots-live domain b entries
   where
     among : (j : ℕ) (e : Entry) (v : ℕ) → slice_get entries j ≡ Some e → slot_of domain b e ≡ Some v → Contains [] j
     among j e v at gives =
         let same = same_binding domain b common e v is all gives in
-        let placed : place e.binding ≡ Some j = i.placed j _ (pair_at-entry entries j e at (slot_of_some domain b e v gives).0) in
-        let here : place e.binding ≡ None = subst (λ (w : List (Option ℕ)). place w ≡ None) same there in
+        let placed : position e.binding ≡ Some j = i.placed j _ (pair_at-entry entries j e at (slot_of_some domain b e v gives).0) in
+        let here : position e.binding ≡ None = subst (λ (w : List (Option ℕ)). position w ≡ None) same there in
         absurd (none-some j (sym here ∙ placed))
 
 -- .. and else the positions of a path that is common
-pub path_slots : (entries : List Entry) (place : List (Option ℕ) → Option ℕ) (trees : List Paths) (index : PairList) (dead : List Bool) (domain : ℕ) (b common : List (Option ℕ)) (path : ℕ)
-    → IsIndexed entries place trees index.dropped → IsFitting index dead → AreLive dead b → common ≡ restriction b domain → IsPathBelow common path → Rises 0 (posting_at trees domain path)
+pub path_slots : (entries : List Entry) (position : List (Option ℕ) → Option ℕ) (trees : List Paths) (index : PairList) (dead : List Bool) (domain : ℕ) (b common : List (Option ℕ)) (path : ℕ)
+    → IsIndexed entries position trees index.dropped → IsFitting index dead → AreLive dead b → common ≡ restriction b domain → IsPathBelow common path → Rises 0 (posting_at trees domain path)
     → filter_map (slot_at entries domain b) (posting_at trees domain path) ≡ asked_slots domain b (live_pairs entries)
-path_slots entries place trees index dead domain b common path i fits live is below rising =
+path_slots entries position trees index dead domain b common path i fits live is below rising =
     read_all (slot_of domain b) entries (posting_at trees domain path) rising among ∙ asked_slots-live domain b entries
   where
     on_path : (e : Entry) → mask_of e.binding ≡ domain → is_compatible e.binding b ≡ true → IsPathBelow common path → IsPath index.dropped e.binding path

@@ -28,9 +28,9 @@ nothing [] none = refl
 nothing (x ∷ xs) none = absurd (none x (0, (omega arith), refl))
 
 -- more flags, all unset
-pub IsIndexed-covered : (entries : List Entry) (place : Bound → Option ℕ) (trees : Trees) (d e : List Bool) → IsIndexed entries place trees d → ((o : ℕ) → flag_of e o ≡ flag_of d o)
-    → length d ≤ length e → IsIndexed entries place trees e
-IsIndexed-covered entries place trees d e i same longer =
+pub IsIndexed-covered : (entries : List Entry) (position : Bound → Option ℕ) (trees : Trees) (d e : List Bool) → IsIndexed entries position trees d → ((o : ℕ) → flag_of e o ≡ flag_of d o)
+    → length d ≤ length e → IsIndexed entries position trees e
+IsIndexed-covered entries position trees d e i same longer =
     record {
       placed = i.placed;
       found = i.found;
@@ -45,9 +45,9 @@ IsIndexed-covered entries place trees d e i same longer =
     path_same b path (inr (o, binds, live, is)) = inr (o, binds, (sym (same o) ∙ live), is)
 
 -- an entry more that isn't live
-pub IsIndexed-hole : (entries : List Entry) (place : Bound → Option ℕ) (trees : Trees) (d : List Bool) (e : Entry) → IsIndexed entries place trees d → e.live ≡ false
-    → IsIndexed (entries ++ e ∷ []) place trees d
-IsIndexed-hole entries place trees d e i dead =
+pub IsIndexed-hole : (entries : List Entry) (position : Bound → Option ℕ) (trees : Trees) (d : List Bool) (e : Entry) → IsIndexed entries position trees d → e.live ≡ false
+    → IsIndexed (entries ++ e ∷ []) position trees d
+IsIndexed-hole entries position trees d e i dead =
     record {
       placed = λ k pair at. i.placed k pair (back k pair at);
       found = λ b k is. let (slot, at) = i.found b k is in (slot, pair_at-hole entries e k dead ∙ at);
@@ -61,9 +61,9 @@ IsIndexed-hole entries place trees d e i dead =
     back k pair at = sym (pair_at-hole entries e k dead) ∙ at
 
 -- a position more in some postings
-pub IsIndexed-filed : (entries : List Entry) (place : Bound → Option ℕ) (a b : Trees) (d : List Bool) (k : ℕ) → IsIndexed entries place a d → AreFiled d k a b → k < length entries
-    → IsIndexed entries place b d
-IsIndexed-filed entries place a b d k i filed within =
+pub IsIndexed-filed : (entries : List Entry) (position : Bound → Option ℕ) (a b : Trees) (d : List Bool) (k : ℕ) → IsIndexed entries position a d → AreFiled d k a b → k < length entries
+    → IsIndexed entries position b d
+IsIndexed-filed entries position a b d k i filed within =
     record {
       placed = i.placed;
       found = i.found;
@@ -83,11 +83,11 @@ set_cases entries k e j pair within at = by (cases_eq j k)
     by (inr apart) = inr (apart, sym (pair_at-set_other entries k j e apart) ∙ at)
 
 -- the entry at a position comes to live
-pub IsIndexed-live : (entries : List Entry) (place after : Bound → Option ℕ) (trees : Trees) (d : List Bool) (k : ℕ) (e : Entry) → IsIndexed entries place trees d → k < length entries
-    → pair_at entries k ≡ None → e.live ≡ true → ((q : Bound) → after q ≡ cond (binding_eq e.binding q) (Some k) (place q))
+pub IsIndexed-live : (entries : List Entry) (position after : Bound → Option ℕ) (trees : Trees) (d : List Bool) (k : ℕ) (e : Entry) → IsIndexed entries position trees d → k < length entries
+    → pair_at entries k ≡ None → e.live ≡ true → ((q : Bound) → after q ≡ cond (binding_eq e.binding q) (Some k) (position q))
     → ((j : ℕ) (pair : Pair) → pair_at entries j ≡ Some pair → pair.binding ≡ e.binding → ⊥)
     → ((path : ℕ) → IsPath d e.binding path → Contains (posting_at trees (mask_of e.binding) path) k) → AreBelow (length d) e.binding → IsIndexed (slice_set entries k e) after trees d
-IsIndexed-live entries place after trees d k e i within hole live updated absent filed below =
+IsIndexed-live entries position after trees d k e i within hole live updated absent filed below =
     record {
       placed = λ j pair at. placed j pair (set_cases entries k e j pair within at);
       found = λ b j is. found b j (cases_Bool (binding_eq e.binding b)) is;
@@ -123,23 +123,23 @@ IsIndexed-live entries place after trees d k e i within hole live updated absent
         → (slot : ℕ) × (pair_at (slice_set entries k e) j ≡ Some (record { binding = b; slot = slot }))
     found b j (inl same_key) is =
         let same : e.binding ≡ b = (binding_eq-Decides e.binding b).0 same_key in
-        let place_is : k ≡ j = same_Some k j (sym here ∙ subst (λ (v : Bound). after v ≡ Some j) (sym same) is) in
+        let position_is : k ≡ j = same_Some k j (sym here ∙ subst (λ (v : Bound). after v ≡ Some j) (sym same) is) in
         let at : pair_at (slice_set entries k e) k ≡ Some new_pair = pair_at-set_same entries k e within ∙ pair_of_live e live in
-        let there : pair_at (slice_set entries k e) j ≡ Some new_pair = subst (λ (n : ℕ). pair_at (slice_set entries k e) n ≡ Some new_pair) place_is at in
+        let there : pair_at (slice_set entries k e) j ≡ Some new_pair = subst (λ (n : ℕ). pair_at (slice_set entries k e) n ≡ Some new_pair) position_is at in
         (e.slot, there ∙ ap (λ (v : Bound). Some (record { binding = v; slot = e.slot })) same)
     found b j (inr other_key) is =
-        let old : place b ≡ Some j = sym (rw other_key at (updated b)) ∙ is in
+        let old : position b ≡ Some j = sym (rw other_key at (updated b)) ∙ is in
         let (slot, at) = i.found b j old in
         let apart : j ≡ k → ⊥ = λ same. none-some _ (sym hole ∙ subst (λ (n : ℕ). pair_at entries n ≡ Some (record { binding = b; slot = slot })) same at) in
         (slot, pair_at-set_other entries k j e apart ∙ at)
 
     reached : (j : ℕ) (pair : Pair) (path : ℕ) → IsPath d pair.binding path → ((j ≡ k) × (pair_of e ≡ Some pair)) ⊎ ((j ≡ k → ⊥) × (pair_at entries j ≡ Some pair))
         → Contains (posting_at trees (mask_of pair.binding) path) j
-    reached j pair path is (inl (place_is, same)) =
+    reached j pair path is (inl (position_is, same)) =
         let on : IsPath d e.binding path = subst (λ (p : Pair). IsPath d p.binding path) (sym (same_pair pair same)) is in
         let at : Contains (posting_at trees (mask_of e.binding) path) k = filed path on in
         let there : Contains (posting_at trees (mask_of pair.binding) path) k = subst (λ (p : Pair). Contains (posting_at trees (mask_of p.binding) path) k) (same_pair pair same) at in
-        subst (λ (n : ℕ). Contains (posting_at trees (mask_of pair.binding) path) n) (sym place_is) there
+        subst (λ (n : ℕ). Contains (posting_at trees (mask_of pair.binding) path) n) (sym position_is) there
     reached j pair path is (inr (apart, at)) = i.reached j pair at path is
 
     flagged : (j : ℕ) (pair : Pair) → ((j ≡ k) × (pair_of e ≡ Some pair)) ⊎ ((j ≡ k → ⊥) × (pair_at entries j ≡ Some pair)) → AreBelow (length d) pair.binding
@@ -147,9 +147,9 @@ IsIndexed-live entries place after trees d k e i within hole live updated absent
     flagged j pair (inr (apart, at)) = i.flagged j pair at
 
 -- the entry of a binding isn't live any more
-pub IsIndexed-removed : (entries : List Entry) (place after : Bound → Option ℕ) (a c : Trees) (d : List Bool) (b : Bound) (k : ℕ) (e : Entry) → IsIndexed entries place a d → place b ≡ Some k
-    → e.live ≡ false → ((q : Bound) → after q ≡ cond (binding_eq b q) None (place q)) → AreThinned (slice_set entries k e) a c → IsIndexed (slice_set entries k e) after c d
-IsIndexed-removed entries place after a c d b k e i there dead updated thinned =
+pub IsIndexed-removed : (entries : List Entry) (position after : Bound → Option ℕ) (a c : Trees) (d : List Bool) (b : Bound) (k : ℕ) (e : Entry) → IsIndexed entries position a d → position b ≡ Some k
+    → e.live ≡ false → ((q : Bound) → after q ≡ cond (binding_eq b q) None (position q)) → AreThinned (slice_set entries k e) a c → IsIndexed (slice_set entries k e) after c d
+IsIndexed-removed entries position after a c d b k e i there dead updated thinned =
     record {
       placed = λ j pair at. placed j pair (still j pair at);
       found = λ q j is. found q j (cases_Bool (binding_eq b q)) is;
@@ -168,10 +168,10 @@ IsIndexed-removed entries place after a c d b k e i there dead updated thinned =
 
     placed : (j : ℕ) (pair : Pair) → (j ≡ k → ⊥) × (pair_at entries j ≡ Some pair) → after pair.binding ≡ Some j
     placed j pair (apart, at) =
-        let old : place pair.binding ≡ Some j = i.placed j pair at in
+        let old : position pair.binding ≡ Some j = i.placed j pair at in
         let other : binding_eq b pair.binding ≡ false =
         false_from_ne_true _ (λ same_key. let same : b ≡ pair.binding = (binding_eq-Decides b pair.binding).0 same_key in
-        apart (same_Some j k (sym old ∙ subst (λ (v : Bound). place v ≡ Some k) same there)))
+        apart (same_Some j k (sym old ∙ subst (λ (v : Bound). position v ≡ Some k) same there)))
         in
         updated pair.binding ∙ rw other old
 
@@ -179,7 +179,7 @@ IsIndexed-removed entries place after a c d b k e i there dead updated thinned =
         → (slot : ℕ) × (pair_at (slice_set entries k e) j ≡ Some (record { binding = q; slot = slot }))
     found q j (inl same_key) is = absurd (none-some j (sym (rw same_key at (updated q)) ∙ is))
     found q j (inr other_key) is =
-        let old : place q ≡ Some j = sym (rw other_key at (updated q)) ∙ is in
+        let old : position q ≡ Some j = sym (rw other_key at (updated q)) ∙ is in
         let (slot, at) = i.found q j old in
         let (other, here) = i.found b k there in
         let apart : j ≡ k → ⊥ =
@@ -190,9 +190,9 @@ IsIndexed-removed entries place after a c d b k e i there dead updated thinned =
         (slot, pair_at-set_other entries k j e apart ∙ at)
 
 -- an object is dropped
-pub IsIndexed-dropped : (entries : List Entry) (place : Bound → Option ℕ) (a c : Trees) (d : List Bool) (o : ℕ) → IsIndexed entries place a d → o < length d
-    → ((m q : ℕ) → posting_at c m q ≡ cond (q == o + 1) [] (posting_at a m q)) → IsIndexed entries place c (slice_set d o true)
-IsIndexed-dropped entries place a c d o i within cleared =
+pub IsIndexed-dropped : (entries : List Entry) (position : Bound → Option ℕ) (a c : Trees) (d : List Bool) (o : ℕ) → IsIndexed entries position a d → o < length d
+    → ((m q : ℕ) → posting_at c m q ≡ cond (q == o + 1) [] (posting_at a m q)) → IsIndexed entries position c (slice_set d o true)
+IsIndexed-dropped entries position a c d o i within cleared =
     record {
       placed = i.placed;
       found = i.found;
@@ -245,17 +245,17 @@ IsFitting-by old new dead fits pairs flags =
     }
 
 -- the pairs of an index that has let go of the entry of a binding, or never had one
-pub list_removed : (entries : List Entry) (place : Bound → Option ℕ) (trees : Trees) (d : List Bool) (b : Bound) (k : ℕ) (e : Entry) → IsIndexed entries place trees d → place b ≡ Some k
+pub list_removed : (entries : List Entry) (position : Bound → Option ℕ) (trees : Trees) (d : List Bool) (b : Bound) (k : ℕ) (e : Entry) → IsIndexed entries position trees d → position b ≡ Some k
     → e.live ≡ false → live_pairs (slice_set entries k e) ≡ without b (live_pairs entries)
-list_removed entries place trees d b k e i there dead =
+list_removed entries position trees d b k e i there dead =
     let (slot, at) = i.found b k there in
     live_pairs-removed b entries k e (record { binding = b; slot = slot }) dead at refl
-    (λ j other here same. same_Some j k (sym (i.placed j other here) ∙ ap place same ∙ there))
+    (λ j other here same. same_Some j k (sym (i.placed j other here) ∙ ap position same ∙ there))
 
-pub list_absent : (entries : List Entry) (place : Bound → Option ℕ) (trees : Trees) (d : List Bool) (b : Bound) → IsIndexed entries place trees d → place b ≡ None
+pub list_absent : (entries : List Entry) (position : Bound → Option ℕ) (trees : Trees) (d : List Bool) (b : Bound) → IsIndexed entries position trees d → position b ≡ None
     → live_pairs entries ≡ without b (live_pairs entries)
-list_absent entries place trees d b i there =
-    without-none b entries (λ k pair at same. none-some k (sym there ∙ ap place (sym same) ∙ i.placed k pair at))
+list_absent entries position trees d b i there =
+    without-none b entries (λ k pair at same. none-some k (sym there ∙ ap position (sym same) ∙ i.placed k pair at))
 
 pub IsFitting-without : (b : Bound) (old new : PairList) (dead : List Bool) → new.list ≡ without b old.list → new.dropped ≡ old.dropped → IsFitting old dead → IsFitting new dead
 IsFitting-without b old new dead list dropped fits =
@@ -264,15 +264,15 @@ IsFitting-without b old new dead list dropped fits =
     (λ o. ap (λ (v : List Bool). flag_of v o) dropped)
 
 -- a key has a flag
-pub key_flagged : (entries : List Entry) (place : Bound → Option ℕ) (trees : Trees) (d : List Bool) (o : ℕ) → IsIndexed entries place trees d
+pub key_flagged : (entries : List Entry) (position : Bound → Option ℕ) (trees : Trees) (d : List Bool) (o : ℕ) → IsIndexed entries position trees d
     → IsKey (record { list = live_pairs entries; dropped = d }) o → o < length d
-key_flagged entries place trees d o i (pair, there, binds, flag) =
+key_flagged entries position trees d o i (pair, there, binds, flag) =
     let (k, at) = position_of entries pair there in
     i.flagged k pair at o binds
 
-pub IsIndexed-place : (entries : List Entry) (place after : Bound → Option ℕ) (trees : Trees) (d : List Bool) → IsIndexed entries place trees d → ((q : Bound) → after q ≡ place q)
+pub IsIndexed-position : (entries : List Entry) (position after : Bound → Option ℕ) (trees : Trees) (d : List Bool) → IsIndexed entries position trees d → ((q : Bound) → after q ≡ position q)
     → IsIndexed entries after trees d
-IsIndexed-place entries place after trees d i same =
+IsIndexed-position entries position after trees d i same =
     record {
       placed = λ k pair at. same pair.binding ∙ i.placed k pair at;
       found = λ b k is. i.found b k (sym (same b) ∙ is);
@@ -283,32 +283,32 @@ IsIndexed-place entries place after trees d i same =
     }
 
 -- a binding without a position still has none
-pub IsIndexed-absent : (entries : List Entry) (place after : Bound → Option ℕ) (trees : Trees) (d : List Bool) (b : Bound) → IsIndexed entries place trees d → place b ≡ None
-    → ((q : Bound) → after q ≡ cond (binding_eq b q) None (place q)) → IsIndexed entries after trees d
-IsIndexed-absent entries place after trees d b i none updated = IsIndexed-place entries place after trees d i (λ q. by q (cases_Bool (binding_eq b q)))
+pub IsIndexed-absent : (entries : List Entry) (position after : Bound → Option ℕ) (trees : Trees) (d : List Bool) (b : Bound) → IsIndexed entries position trees d → position b ≡ None
+    → ((q : Bound) → after q ≡ cond (binding_eq b q) None (position q)) → IsIndexed entries after trees d
+IsIndexed-absent entries position after trees d b i none updated = IsIndexed-position entries position after trees d i (λ q. by q (cases_Bool (binding_eq b q)))
   where
-    by : (q : Bound) → (binding_eq b q ≡ true) ⊎ (binding_eq b q ≡ false) → after q ≡ place q
-    by q (inl same) = rw same at (updated q) ∙ sym (ap place (sym ((binding_eq-Decides b q).0 same)) ∙ none)
+    by : (q : Bound) → (binding_eq b q ≡ true) ⊎ (binding_eq b q ≡ false) → after q ≡ position q
+    by q (inl same) = rw same at (updated q) ∙ sym (ap position (sym ((binding_eq-Decides b q).0 same)) ∙ none)
     by q (inr other) = rw other at (updated q)
 
 -- an entry that isn't live stands at the end, and its position in some postings
-pub staged : (entries new : List Entry) (place : Bound → Option ℕ) (a b : Trees) (d e f : List Bool) (k : ℕ) (hole : Entry) → IsIndexed entries place a d
+pub staged : (entries new : List Entry) (position : Bound → Option ℕ) (a b : Trees) (d e f : List Bool) (k : ℕ) (hole : Entry) → IsIndexed entries position a d
     → ((o : ℕ) → flag_of e o ≡ flag_of d o) → length d ≤ length e → f ≡ e → AreFiled f k a b → hole.live ≡ false → k ≡ length entries → new ≡ entries ++ hole ∷ []
-    → IsIndexed new place b e
-staged entries new place a b d e f k hole i same longer is filed dead at more =
+    → IsIndexed new position b e
+staged entries new position a b d e f k hole i same longer is filed dead at more =
     let within : k < length (entries ++ hole ∷ []) = rw (length_push entries hole) (omega (arith, at)) in
     let filed_by : AreFiled e k a b = subst (λ (v : List Bool). AreFiled v k a b) is filed in
-    rw more (IsIndexed-filed (entries ++ hole ∷ []) place a b e k (IsIndexed-hole entries place a e hole (IsIndexed-covered entries place a d e i same longer) dead) filed_by within)
+    rw more (IsIndexed-filed (entries ++ hole ∷ []) position a b e k (IsIndexed-hole entries position a e hole (IsIndexed-covered entries position a d e i same longer) dead) filed_by within)
 
 -- .. and then comes to live
-pub added : (entries new : List Entry) (place after : Bound → Option ℕ) (a c : Trees) (d e f : List Bool) (k : ℕ) (b : Bound) (slot : ℕ) (hole : Entry) → IsIndexed entries place a d → hole.live ≡ false
+pub added : (entries new : List Entry) (position after : Bound → Option ℕ) (a c : Trees) (d e f : List Bool) (k : ℕ) (b : Bound) (slot : ℕ) (hole : Entry) → IsIndexed entries position a d → hole.live ≡ false
     → ((o : ℕ) → flag_of e o ≡ flag_of d o) → length d ≤ length e → f ≡ e → AreFiled f k a c
     → ((path : ℕ) → IsPath f b path → Contains (posting_at c (mask_of b) path) k) → AreBelow (length e) b → k ≡ length entries
-    → new ≡ entries ++ hole ∷ [] → ((q : Bound) → after q ≡ cond (binding_eq b q) (Some k) (place q))
+    → new ≡ entries ++ hole ∷ [] → ((q : Bound) → after q ≡ cond (binding_eq b q) (Some k) (position q))
     → ((pair : Pair) → Contains (live_pairs entries) pair → pair.binding ≡ b → ⊥) → IsIndexed (slice_set new k (record { binding = b; slot = slot; live = true })) after c e
-added entries new place after a c d e f k b slot hole i dead same longer is filed there below at more updated absent =
-    IsIndexed-live new place after c e k (record { binding = b; slot = slot; live = true })
-    (staged entries new place a c d e f k hole i same longer is filed dead at more) within none refl updated
+added entries new position after a c d e f k b slot hole i dead same longer is filed there below at more updated absent =
+    IsIndexed-live new position after c e k (record { binding = b; slot = slot; live = true })
+    (staged entries new position a c d e f k hole i same longer is filed dead at more) within none refl updated
     (λ j pair here. absent pair (Contains-live entries j pair (old j pair here))) (subst (λ (v : List Bool). (path : ℕ) → IsPath v b path → Contains (posting_at c (mask_of b) path) k) is there)
     below
   where
@@ -329,15 +329,15 @@ list_added entries new k b slot hole at more =
     (live_pairs-push entries (record { binding = b; slot = slot; live = true }) refl)
 
 -- no pair before a live entry has its binding
-pub taken_apart : (entries items : List Entry) (place : Bound → Option ℕ) (trees : Trees) (d : List Bool) (i : ℕ) (e : Entry) → IsIndexed entries place trees d → items ≡ entries
+pub taken_apart : (entries items : List Entry) (position : Bound → Option ℕ) (trees : Trees) (d : List Bool) (i : ℕ) (e : Entry) → IsIndexed entries position trees d → items ≡ entries
     → i < length items → e ≡ get_or items i e → e.live ≡ true → (pair : Pair) → Contains (live_pairs (take i items)) pair → pair.binding ≡ e.binding → ⊥
-taken_apart entries items place trees d i e fits is h at live pair there same =
+taken_apart entries items position trees d i e fits is h at live pair there same =
     let (k, here) = position_of (take i items) pair there in
     let part = pair_at-take items i k pair here in
-    let one : place pair.binding ≡ Some k = fits.placed k pair (subst (λ (v : List Entry). pair_at v k ≡ Some pair) is part.0) in
+    let one : position pair.binding ≡ Some k = fits.placed k pair (subst (λ (v : List Entry). pair_at v k ≡ Some pair) is part.0) in
     let mine : pair_at items i ≡ Some (record { binding = e.binding; slot = e.slot }) = pair_at-entry items i e (slice_get-get_or items i e h ∙ ap (λ (v : Entry). Some v) (sym at)) live in
-    let other : place e.binding ≡ Some i = fits.placed i _ (subst (λ (v : List Entry). pair_at v i ≡ Some (record { binding = e.binding; slot = e.slot })) is mine) in
-    let equal : k ≡ i = same_Some k i (sym one ∙ ap place same ∙ other) in
+    let other : position e.binding ≡ Some i = fits.placed i _ (subst (λ (v : List Entry). pair_at v i ≡ Some (record { binding = e.binding; slot = e.slot })) is mine) in
+    let equal : k ≡ i = same_Some k i (sym one ∙ ap position same ∙ other) in
     omega (arith, equal, part.1)
 
 -- an index fits after one pair more, or none
@@ -356,10 +356,10 @@ IsFitting-added (Err u) old before new dead b slot list flags ok err same fits b
     IsFitting-by old new dead fits (λ pair there. inl (subst (λ (v : List Pair). Contains v pair) (err ∙ list) there)) (λ o. same o ∙ flags o)
 
 -- no two pairs have one binding
-pub list_distinct : (entries : List Entry) (place : Bound → Option ℕ) (trees : Trees) (d : List Bool) → IsIndexed entries place trees d
+pub list_distinct : (entries : List Entry) (position : Bound → Option ℕ) (trees : Trees) (d : List Bool) → IsIndexed entries position trees d
     → AllPairs (λ a b. a.binding ≢ b.binding) (live_pairs entries)
-list_distinct entries place trees d i =
-    distinct_pairs entries (λ j k a b here there same. same_Some j k (sym (i.placed j a here) ∙ ap place same ∙ i.placed k b there))
+list_distinct entries position trees d i =
+    distinct_pairs entries (λ j k a b here there same. same_Some j k (sym (i.placed j a here) ∙ ap position same ∙ i.placed k b there))
 
 passes : {X : Type 0} (test : X → Bool) (xs : List X) (x : X) → Contains (filter test xs) x → test x ≡ true
 passes test [] x h = absurd (Contains-none x h)
@@ -390,28 +390,28 @@ IsFitting-death index dead o fits =
     dies x (inr apart) h was = get_or-set_other dead o x true false apart ∙ was
 
 -- a binding that has no pair has no position
-pub no_position : (entries : List Entry) (place : Bound → Option ℕ) (trees : Trees) (d : List Bool) (b : Bound) → IsIndexed entries place trees d
-    → ((pair : Pair) → Contains (live_pairs entries) pair → pair.binding ≡ b → ⊥) → place b ≡ None
-no_position entries place trees d b i absent = by (place b) refl
+pub no_position : (entries : List Entry) (position : Bound → Option ℕ) (trees : Trees) (d : List Bool) (b : Bound) → IsIndexed entries position trees d
+    → ((pair : Pair) → Contains (live_pairs entries) pair → pair.binding ≡ b → ⊥) → position b ≡ None
+no_position entries position trees d b i absent = by (position b) refl
   where
-    by : (v : Option ℕ) → place b ≡ v → place b ≡ None
+    by : (v : Option ℕ) → position b ≡ v → position b ≡ None
     by None is = is
     by (Some k) is =
         let (slot, at) = i.found b k is in
         absurd (absent (record { binding = b; slot = slot }) (Contains-live entries k (record { binding = b; slot = slot }) at) refl)
 
 -- a binding with a position has a pair, and one without has none
-pub list_found : (entries : List Entry) (place : Bound → Option ℕ) (trees : Trees) (d : List Bool) (b : Bound) (k : ℕ) → IsIndexed entries place trees d → place b ≡ Some k
+pub list_found : (entries : List Entry) (position : Bound → Option ℕ) (trees : Trees) (d : List Bool) (b : Bound) (k : ℕ) → IsIndexed entries position trees d → position b ≡ Some k
     → (pair : Pair) × Contains (live_pairs entries) pair × (pair.binding ≡ b)
-list_found entries place trees d b k i there =
+list_found entries position trees d b k i there =
     let (slot, at) = i.found b k there in
     (record { binding = b; slot = slot }, Contains-live entries k (record { binding = b; slot = slot }) at, refl)
 
-pub list_missing : (entries : List Entry) (place : Bound → Option ℕ) (trees : Trees) (d : List Bool) (b : Bound) → IsIndexed entries place trees d → place b ≡ None
+pub list_missing : (entries : List Entry) (position : Bound → Option ℕ) (trees : Trees) (d : List Bool) (b : Bound) → IsIndexed entries position trees d → position b ≡ None
     → (pair : Pair) → Contains (live_pairs entries) pair → pair.binding ≡ b → ⊥
-list_missing entries place trees d b i there pair within same =
+list_missing entries position trees d b i there pair within same =
     let (k, at) = position_of entries pair within in
-    none-some k (sym there ∙ ap place (sym same) ∙ i.placed k pair at)
+    none-some k (sym there ∙ ap position (sym same) ∙ i.placed k pair at)
 
 -- a live object of a pair is a key
 pub live_key : (index : PairList) (dead : List Bool) (pair : Pair) (o : ℕ) → IsFitting index dead → Contains index.list pair → Binds pair.binding o → flag_of dead o ≡ false → IsKey index o

@@ -1,7 +1,7 @@
 pub mod ReadLemmas
 pub mod BindingLemmas
 pub mod KeyLemmas
-pub mod PlaceLemmas
+pub mod PositionLemmas
 pub mod FormLemmas
 pub mod EntryLemmas
 pub mod FlagLemmas

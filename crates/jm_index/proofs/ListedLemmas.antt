@@ -29,11 +29,11 @@ flag_within (x ∷ flags) zero h = omega arith
 flag_within (x ∷ flags) (suc o) h = let rest = flag_within flags o h in omega (arith, rest)
 
 -- each pair that binds an object which wasn't dropped stands in a tree under it
-pub listed_all : (entries items : List Entry) (place : List (Option ℕ) → Option ℕ) (trees : List Paths) (d : List Bool) (n o : ℕ) (slots : List ℕ) → IsIndexed entries place trees d
+pub listed_all : (entries items : List Entry) (position : List (Option ℕ) → Option ℕ) (trees : List Paths) (d : List Bool) (n o : ℕ) (slots : List ℕ) → IsIndexed entries position trees d
     → length trees ≤ n → items ≡ entries
     → ((m k : ℕ) (pair : Pair) → m < n → Contains (posting_at trees m (o + 1)) k → pair_at items k ≡ Some pair → Contains slots pair.slot)
     → AreListed (record { list = live_pairs entries; dropped = d }) (λ q. (q ≡ o) × (flag_of d q ≡ false)) slots
-listed_all entries items place trees d n o slots i end same all pair q there binds (is, kept) =
+listed_all entries items position trees d n o slots i end same all pair q there binds (is, kept) =
     let (k, at) = position_of entries pair there in
     let filed : Contains (posting_at trees (mask_of pair.binding) (o + 1)) k = i.reached k pair at (o + 1) (inr (o, subst (Binds pair.binding) is binds, subst (λ (v : ℕ). flag_of d v ≡ false) is kept, refl)) in
     all (mask_of pair.binding) k pair (within (mask_of pair.binding) k filed) filed (subst (λ (es : List Entry). pair_at es k ≡ Some pair) (sym same) at)

@@ -85,11 +85,11 @@ pub record AreThinned (entries : List Entry) (old new : List Paths) : Type 0 whe
       → Contains (posting_at new mask path) x
 
 -- what lies in memory fits together
-pub record IsIndexed (entries : List Entry) (place : Binding → Option ℕ) (trees : List Paths)
+pub record IsIndexed (entries : List Entry) (position : Binding → Option ℕ) (trees : List Paths)
     (dropped : List Bool) : Type 0 where
   -- each pair's binding has its position, and each position is that of its binding's pair
-  pub placed : (k : ℕ) (pair : Pair) → pair_at entries k ≡ Some pair → place pair.binding ≡ Some k
-  pub found : (b : Binding) (k : ℕ) → place b ≡ Some k
+  pub placed : (k : ℕ) (pair : Pair) → pair_at entries k ≡ Some pair → position pair.binding ≡ Some k
+  pub found : (b : Binding) (k : ℕ) → position b ≡ Some k
       → (slot : ℕ) × (pair_at entries k ≡ Some (record { binding = b; slot = slot }))
   -- each pair is reached by each of its objects that wasn't dropped, and by the list of its tree
   pub reached : (k : ℕ) (pair : Pair) → pair_at entries k ≡ Some pair → (path : ℕ) → IsPath dropped pair.binding path

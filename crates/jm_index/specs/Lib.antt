@@ -3,5 +3,5 @@ pub mod Entries
 pub mod Forms
 pub mod Layout
 pub mod Keys
-pub mod Places
+pub mod Positions
 pub mod Postings

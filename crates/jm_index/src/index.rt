@@ -4,7 +4,7 @@ ghost use Rattle.jm_index.specs.Index.{Pair, flag_of, IsKey, AreBelow, IsFitting
 
 use crate::entry::{Entry, NoRoom};
 use crate::flags::Flags;
-use crate::places::Places;
+use crate::positions::Positions;
 use crate::trees::Trees;
 use jm_model::{Binding, NoMemory};
 use jm_objects::Objects;
@@ -15,7 +15,7 @@ use std::marker::Model;
 /// list, and beside it the objects that were dropped.
 pub struct Index {
     entries: Vec<Entry>,
-    places: Places,
+    positions: Positions,
     trees: Trees,
     dropped: Flags,
     /// How many entries are live.
@@ -27,7 +27,7 @@ impl Drop for Index {
     fn drop(self) {
         let Index {
             entries: _,
-            places: _,
+            positions: _,
             trees: _,
             dropped: _,
             live: _,
@@ -41,11 +41,11 @@ impl Model for Index {
     ghost Value = { PairList };
 
     ghost use Rattle.jm_index.specs.Layout.{live_pairs, IsIndexed};
-    ghost use Rattle.jm_index.specs.Places.{place_of};
+    ghost use Rattle.jm_index.specs.Positions.{position_of};
 
     ghost view = { λ i. record { list = live_pairs i.entries.items; dropped = i.dropped } };
 
-    ghost invariant = { λ i. IsIndexed i.entries.items (place_of i.places) i.trees i.dropped };
+    ghost invariant = { λ i. IsIndexed i.entries.items (position_of i.positions) i.trees i.dropped };
 }
 
 impl Index {
@@ -56,7 +56,7 @@ impl Index {
     {
         Index {
             entries: Vec::new(alloc),
-            places: Places::new(alloc),
+            positions: Positions::new(alloc),
             trees: Trees::new(alloc),
             dropped: Flags::new(alloc),
             live: 0,
@@ -122,7 +122,7 @@ impl Index {
         let dropped = self.dropped.copy()?;
         Ok(Index {
             entries: Vec::new(alloc),
-            places: Places::new(alloc),
+            positions: Positions::new(alloc),
             trees: Trees::new(alloc),
             dropped,
             live: 0,
@@ -141,7 +141,7 @@ impl Index {
         let position = self.entries.len();
         self.entries.push(Entry::gone())?;
         self.trees.file_all(&self.dropped, &binding, position)?;
-        self.places.insert(&binding, position)?;
+        self.positions.insert(&binding, position)?;
         self.entries[position] = entry;
         self.live = self.live.saturating_add(1);
         Ok(())
@@ -154,7 +154,7 @@ impl Index {
         ensures dropped { self.new.dropped ≡ self.old.dropped }
         ensures fits { (dead : List Bool) → IsFitting self.old dead → IsFitting self.new dead }
     {
-        if let Some(position) = self.places.remove(binding) {
+        if let Some(position) = self.positions.remove(binding) {
             self.entries[position] = Entry::gone();
             self.trees.thin_all(self.entries.as_slice(), binding);
             self.live = self.live.saturating_sub(1);
@@ -168,7 +168,7 @@ impl Index {
         ensures distinct { AllPairs (λ a b. a.binding ≢ b.binding) self.now.list }
     {
         let _entries = &self.entries;
-        match self.places.get(binding) {
+        match self.positions.get(binding) {
             Some(_) => true,
             None => false,
         }
@@ -235,7 +235,7 @@ impl Index {
         ensures slots { OnOk result (slots.new.items ≡ asked_slots domain binding.now self.now.list) }
         ensures distinct { AllPairs (λ a b. a.binding ≢ b.binding) self.now.list }
     {
-        match self.places.get(common) {
+        match self.positions.get(common) {
             Some(position) => {
                 slots.push(self.entries[position].number())?;
                 Ok(())

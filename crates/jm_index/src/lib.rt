@@ -14,7 +14,7 @@ mod growth;
 mod index;
 mod key;
 mod laws;
-mod places;
+mod positions;
 mod posting;
 mod rows;
 mod tree;

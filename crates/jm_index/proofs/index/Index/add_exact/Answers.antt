@@ -1,12 +1,12 @@
 use Rattle.std.proofs.Common.{◌<◌, length, sym, arith}
 use Rattle.std.proofs.lemmas.Grind.{common_steps}
-use Rattle.jm_index.proofs.AskLemmas.{place_within, exact_slot, no_slots}
+use Rattle.jm_index.proofs.AskLemmas.{position_within, exact_slot, no_slots}
 use Rattle.jm_index.proofs.IndexLemmas.{list_distinct}
 use Rattle.jm_index.proofs.index.Index.add_exact.Goals as goal
 
 pub index-requires : goal.index-requires
 index-requires c =
-    let there : c.in-Some.position < length c.self.inside.entries.items = place_within _ _ _ _ _ _ c.self.invariant (sym c.in-Some.ensures) in
+    let there : c.in-Some.position < length c.self.inside.entries.items = position_within _ _ _ _ _ _ c.self.invariant (sym c.in-Some.ensures) in
     grind (arith, common_steps)
 
 pub returns-in_ok-push-in-Some-clause-slots : goal.returns-in_ok-push-in-Some-clause-slots

@@ -4,8 +4,8 @@ use Rattle.std.proofs.lemmas.Grind.{common_steps}
 use Rattle.jm_index.specs.Index.{Pair, PairList}
 use Rattle.jm_index.specs.Layout.{live_pairs}
 use Rattle.jm_index.proofs.EntryLemmas.{live_pairs-hole}
-use Rattle.jm_index.proofs.IndexLemmas.{IsIndexed-covered, IsIndexed-place, staged, added, list_added, no_position}
-use Rattle.jm_index.proofs.PlaceLemmas.{on_err}
+use Rattle.jm_index.proofs.IndexLemmas.{IsIndexed-covered, IsIndexed-position, staged, added, list_added, no_position}
+use Rattle.jm_index.proofs.PositionLemmas.{on_err}
 use Rattle.jm_index.proofs.index.Index.append.Goals as goal
 
 pub invariant_of-self : goal.invariant_of-self
@@ -38,7 +38,7 @@ insert-requires c =
 pub invariant_of-self-in_err-insert : goal.invariant_of-self-in_err-insert
 invariant_of-self-in_err-insert c =
     let at : c.len-position.result ≡ length c.self.inside.entries.items = grind (arith, common_steps) in
-    IsIndexed-place _ _ _ _ _
+    IsIndexed-position _ _ _ _ _
     (staged _ _ _ _ _ _ _ _ _ _ c.self.invariant c.in_ok-cover.ensures.same c.in_ok-cover.ensures.longer refl c.in_ok-file_all.ensures.filed c.gone.ensures at c.in_ok-push.ensures.items)
     c.in_err-insert.ensures.err
 

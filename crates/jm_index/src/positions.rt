@@ -14,21 +14,21 @@ use std::collections::HashMap;
 /// Positions of bindings. Those that fit four bytes stand under the keys of bindings of at most two parameters; all
 /// others stand in `others`.
 #[derive(Drop)]
-pub(crate) struct Places {
+pub(crate) struct Positions {
     pub(crate) empty: Option<u32>,
     pub(crate) rows: Rows,
     pub(crate) couples: HashMap<Couple, u32>,
     pub(crate) others: HashMap<Binding, usize>,
 }
 
-impl Places {
-    ghost use Rattle.jm_index.specs.Places.{at_key, place_of, IsPut, IsSameAt, IsSame, IsUpdated};
+impl Positions {
+    ghost use Rattle.jm_index.specs.Positions.{at_key, position_of, IsPut, IsSameAt, IsSame, IsUpdated};
 
     /// No position.
-    pub(crate) fn new(alloc: Global) -> Places
-        ensures { (b : Bound) → place_of result b ≡ None }
+    pub(crate) fn new(alloc: Global) -> Positions
+        ensures { (b : Bound) → position_of result b ≡ None }
     {
-        Places {
+        Positions {
             empty: None,
             rows: Rows::new(alloc),
             couples: HashMap::new(alloc),
@@ -39,7 +39,7 @@ impl Places {
     /// The position of a binding.
     #[inline(always)]
     pub(crate) fn get(&self, binding: &Binding) -> Option<usize>
-        ensures { result ≡ place_of self.now binding.now }
+        ensures { result ≡ position_of self.now binding.now }
     {
         match self.at(key_of(binding)) {
             Some(position) => Some(position as usize),
@@ -54,7 +54,7 @@ impl Places {
     {
         match key {
             Key::Empty => self.empty,
-            Key::One(mask, object) => position_of(self.rows.get(mask, object)),
+            Key::One(mask, object) => position_in(self.rows.get(mask, object)),
             Key::Two(couple) => self.couples.get(&couple).copied(),
             Key::More => None,
         }
@@ -73,7 +73,7 @@ impl Places {
 
     /// Gives a binding a position.
     pub(crate) fn insert(&mut self, binding: &Binding, position: usize) -> Result<(), NoMemory>
-        requires { place_of self.old binding.now ≡ None }
+        requires { position_of self.old binding.now ≡ None }
         ensures ok { OnOk result (IsUpdated binding.now (Some position) self.old self.new) }
         ensures err { OnErr result (IsSame self.old self.new) }
     {
@@ -108,7 +108,7 @@ impl Places {
 
     /// Takes the position of a binding out.
     pub(crate) fn remove(&mut self, binding: &Binding) -> Option<usize>
-        ensures value { result ≡ place_of self.old binding.now }
+        ensures value { result ≡ position_of self.old binding.now }
         ensures updated { IsUpdated binding.now None self.old self.new }
     {
         let under = self.take(key_of(binding));
@@ -152,7 +152,7 @@ impl Places {
 }
 
 /// The position that a tag stands for.
-fn position_of(tag: u32) -> Option<u32>
+fn position_in(tag: u32) -> Option<u32>
     ensures { result ≡ position_in tag }
 {
     tag.checked_sub(1)

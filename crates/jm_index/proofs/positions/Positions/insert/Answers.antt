@@ -2,12 +2,12 @@ use Rattle.std.proofs.Common.{List, Option, ℕ, ap, ◌∙◌}
 use Rattle.std.specs.Map.{lookup}
 use Rattle.std.specs.HashMap.{get}
 use Rattle.jm_model.specs.Layout.{binding_eq}
-use Rattle.jm_index.proofs.PlaceLemmas.{put_key, put_other, same_places, on_err}
-use Rattle.jm_index.proofs.places.Places.insert.Goals as goal
+use Rattle.jm_index.proofs.PositionLemmas.{put_key, put_other, same_positions, on_err}
+use Rattle.jm_index.proofs.positions.Positions.insert.Goals as goal
 
 pub returns-in_err-put-clause-err : goal.returns-in_err-put-clause-err
 returns-in_err-put-clause-err c =
-    on_err _ _ (same_places _ _ c.in_err-put.ensures.err (λ q. ap (λ v. get binding_eq v q) c.in_err-put.ensures.others))
+    on_err _ _ (same_positions _ _ c.in_err-put.ensures.err (λ q. ap (λ v. get binding_eq v q) c.in_err-put.ensures.others))
 
 pub returns-then-branch-clause-ok : goal.returns-then-branch-clause-ok
 returns-then-branch-clause-ok c =
@@ -15,7 +15,7 @@ returns-then-branch-clause-ok c =
 
 pub returns-in_err-insert-clause-err : goal.returns-in_err-insert-clause-err
 returns-in_err-insert-clause-err c =
-    on_err _ _ (same_places _ _ (c.in_ok-put.ensures.not_put c.if-branch.false)
+    on_err _ _ (same_positions _ _ (c.in_ok-put.ensures.not_put c.if-branch.false)
     (λ q. ap (λ (es : List (List (Option ℕ) × ℕ)). lookup (binding_eq q) es) c.in_err-insert.ensures.err ∙ ap (λ v. get binding_eq v q) c.in_ok-put.ensures.others))
 
 pub returns-clause-ok : goal.returns-clause-ok

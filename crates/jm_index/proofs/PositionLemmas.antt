@@ -12,9 +12,9 @@ use Rattle.jm_model.proofs.EqLemmas.{binding_eq-Decides}
 use Rattle.jm_index.specs.declared.key.Couple.{Couple}
 use Rattle.jm_index.specs.declared.key.Key.{Key}
 use Rattle.jm_index.specs.declared.key.Key.TheVariants.{Empty, One, Two, More}
-use Rattle.jm_index.specs.declared.places.Places.{Places}
+use Rattle.jm_index.specs.declared.positions.Positions.{Positions}
 use Rattle.jm_index.specs.Keys.{key_by, key_of, couple_eq, tag_at, position_in}
-use Rattle.jm_index.specs.Places.{at_key, place_of, IsPut, IsSameAt, IsSame, IsUpdated}
+use Rattle.jm_index.specs.Positions.{at_key, position_of, IsPut, IsSameAt, IsSame, IsUpdated}
 
 abbrev Bound : Type 0
 Bound = List (Option ℕ)
@@ -87,7 +87,7 @@ couple_eq-true a b e =
 couple_eq-refl : (a : Couple) → couple_eq a a ≡ true
 couple_eq-refl a = rw (eq-eqb a.mask a.mask refl, eq-eqb a.first a.first refl, eq-eqb a.second a.second refl) refl
 
-pub put_couple : (s t : Places) (couple : Couple) (w : Option ℕ) → t.empty ≡ s.empty → t.rows ≡ s.rows
+pub put_couple : (s t : Positions) (couple : Couple) (w : Option ℕ) → t.empty ≡ s.empty → t.rows ≡ s.rows
     → ((q : Couple) → get couple_eq t.couples q ≡ cond (couple_eq couple q) w (get couple_eq s.couples q)) → IsPut (Two couple) w s t
 put_couple s t couple w empty rows updated =
     record {
@@ -105,16 +105,16 @@ put_couple s t couple w empty rows updated =
     elsewhere More apart = refl
 
 -- ---- all bindings
-place-same : (s t : Places) (q : Bound) → at_key t (key_of q) ≡ at_key s (key_of q) → get binding_eq t.others q ≡ get binding_eq s.others q → place_of t q ≡ place_of s q
-unfolding place_of
-place-same s t q at among = rw (at, among) refl
+position-same : (s t : Positions) (q : Bound) → at_key t (key_of q) ≡ at_key s (key_of q) → get binding_eq t.others q ≡ get binding_eq s.others q → position_of t q ≡ position_of s q
+unfolding position_of
+position-same s t q at among = rw (at, among) refl
 
-pub place-here : (s : Places) (b : Bound) → length b ≡ 8 → place_of s b ≡ option_or (at_key s (key_of b)) (get binding_eq s.others b)
-unfolding place_of
-place-here s b eight = rw (eq-eqb (length b) 8 eight) refl
+pub position-here : (s : Positions) (b : Bound) → length b ≡ 8 → position_of s b ≡ option_or (at_key s (key_of b)) (get binding_eq s.others b)
+unfolding position_of
+position-here s b eight = rw (eq-eqb (length b) 8 eight) refl
 
 -- a binding that isn't b has another length than eight places, or another key, or that of all others
-at-other : (s t : Places) (b q : Bound) → length b ≡ 8 → length q ≡ 8 → (b ≡ q → ⊥) → ((other : Key) → (other ≡ key_of b → ⊥) → at_key t other ≡ at_key s other)
+at-other : (s t : Positions) (b q : Bound) → length b ≡ 8 → length q ≡ 8 → (b ≡ q → ⊥) → ((other : Key) → (other ≡ key_of b → ⊥) → at_key t other ≡ at_key s other)
     → at_key t (key_of q) ≡ at_key s (key_of q)
 at-other s t b q eight length_is apart elsewhere =
     elim (more_or_not (key_of q)) [
@@ -122,66 +122,66 @@ at-other s t b q eight length_is apart elsewhere =
       | inr exact ↦ elsewhere (key_of q) (λ same. apart (sym (key_of-same q b length_is eight same exact)))
     ]
 
-place-longer : (s t : Places) (q : Bound) → (length q ≡ 8 → ⊥) → place_of t q ≡ place_of s q
-unfolding place_of
-place-longer s t q other = let test : (length q == 8) ≡ false = false_from_ne_true _ (λ e. other (eqb-true (length q) 8 e)) in rw test refl
+position-longer : (s t : Positions) (q : Bound) → (length q ≡ 8 → ⊥) → position_of t q ≡ position_of s q
+unfolding position_of
+position-longer s t q other = let test : (length q == 8) ≡ false = false_from_ne_true _ (λ e. other (eqb-true (length q) 8 e)) in rw test refl
 
-place-other : (s t : Places) (b q : Bound) → length b ≡ 8 → (b ≡ q → ⊥) → ((other : Key) → (other ≡ key_of b → ⊥) → at_key t other ≡ at_key s other)
-    → get binding_eq t.others q ≡ get binding_eq s.others q → place_of t q ≡ place_of s q
-place-other s t b q eight apart elsewhere among = by (cases_Bool (length q == 8))
+position-other : (s t : Positions) (b q : Bound) → length b ≡ 8 → (b ≡ q → ⊥) → ((other : Key) → (other ≡ key_of b → ⊥) → at_key t other ≡ at_key s other)
+    → get binding_eq t.others q ≡ get binding_eq s.others q → position_of t q ≡ position_of s q
+position-other s t b q eight apart elsewhere among = by (cases_Bool (length q == 8))
   where
-    by : ((length q == 8) ≡ true) ⊎ ((length q == 8) ≡ false) → place_of t q ≡ place_of s q
-    by (inl test) = place-same s t q (at-other s t b q eight (eqb-true (length q) 8 test) apart elsewhere) among
-    by (inr test) = place-longer s t q (λ is. both_ways (length q == 8) test (eq-eqb (length q) 8 is))
+    by : ((length q == 8) ≡ true) ⊎ ((length q == 8) ≡ false) → position_of t q ≡ position_of s q
+    by (inl test) = position-same s t q (at-other s t b q eight (eqb-true (length q) 8 test) apart elsewhere) among
+    by (inr test) = position-longer s t q (λ is. both_ways (length q == 8) test (eq-eqb (length q) 8 is))
 
 -- what one binding has after a change, and all others as before
-updated_by : (s t : Places) (b : Bound) (w : Option ℕ) → length b ≡ 8 → place_of t b ≡ w → ((other : Key) → (other ≡ key_of b → ⊥) → at_key t other ≡ at_key s other)
+updated_by : (s t : Positions) (b : Bound) (w : Option ℕ) → length b ≡ 8 → position_of t b ≡ w → ((other : Key) → (other ≡ key_of b → ⊥) → at_key t other ≡ at_key s other)
     → ((q : Bound) → binding_eq b q ≡ false → get binding_eq t.others q ≡ get binding_eq s.others q) → IsUpdated b w s t
 updated_by s t b w eight here elsewhere among q = by (cases_Bool (binding_eq b q))
   where
-    by : (binding_eq b q ≡ true) ⊎ (binding_eq b q ≡ false) → place_of t q ≡ cond (binding_eq b q) w (place_of s q)
-    by (inl test) = let same : b ≡ q = (binding_eq-Decides b q).0 test in rw test (ap (place_of t) (sym same) ∙ here)
+    by : (binding_eq b q ≡ true) ⊎ (binding_eq b q ≡ false) → position_of t q ≡ cond (binding_eq b q) w (position_of s q)
+    by (inl test) = let same : b ≡ q = (binding_eq-Decides b q).0 test in rw test (ap (position_of t) (sym same) ∙ here)
     by (inr test) =
-        rw test (place-other s t b q eight (λ same. both_ways (binding_eq b q) test ((binding_eq-Decides b q).1 same)) elsewhere (among q test))
+        rw test (position-other s t b q eight (λ same. both_ways (binding_eq b q) test ((binding_eq-Decides b q).1 same)) elsewhere (among q test))
 
-pub put_key : (s t : Places) (b : Bound) (k : ℕ) → length b ≡ 8 → t.others ≡ s.others → IsPut (key_of b) (Some k) s t → IsUpdated b (Some k) s t
+pub put_key : (s t : Positions) (b : Bound) (k : ℕ) → length b ≡ 8 → t.others ≡ s.others → IsPut (key_of b) (Some k) s t → IsUpdated b (Some k) s t
 put_key s t b k eight others put =
-    updated_by s t b (Some k) eight (place-here t b eight ∙ rw (put.here) refl) put.elsewhere (λ q apart. ap (λ v. get binding_eq v q) others)
+    updated_by s t b (Some k) eight (position-here t b eight ∙ rw (put.here) refl) put.elsewhere (λ q apart. ap (λ v. get binding_eq v q) others)
 
 none_of_or : (x y : Option ℕ) → option_or x y ≡ None → x ≡ None
 none_of_or None y e = refl
 none_of_or (Some v) y e = cc
 
-pub put_other : (s t : Places) (b : Bound) (k : ℕ) → length b ≡ 8 → place_of s b ≡ None → IsSameAt s t
+pub put_other : (s t : Positions) (b : Bound) (k : ℕ) → length b ≡ 8 → position_of s b ≡ None → IsSameAt s t
     → ((q : Bound) → get binding_eq t.others q ≡ cond (binding_eq b q) (Some k) (get binding_eq s.others q)) → IsUpdated b (Some k) s t
 put_other s t b k eight absent same updated =
-    let none : at_key s (key_of b) ≡ None = none_of_or _ _ (sym (place-here s b eight) ∙ absent) in
+    let none : at_key s (key_of b) ≡ None = none_of_or _ _ (sym (position-here s b eight) ∙ absent) in
     let self : binding_eq b b ≡ true = (binding_eq-Decides b b).1 refl in
     let among : get binding_eq t.others b ≡ Some k = updated b ∙ rw self refl in
-    updated_by s t b (Some k) eight (place-here t b eight ∙ rw (same (key_of b), none, among) refl) (λ other apart. same other) (λ q apart. updated q ∙ rw apart refl)
+    updated_by s t b (Some k) eight (position-here t b eight ∙ rw (same (key_of b), none, among) refl) (λ other apart. same other) (λ q apart. updated q ∙ rw apart refl)
 
-pub same_places : (s t : Places) → IsSameAt s t → ((q : Bound) → get binding_eq t.others q ≡ get binding_eq s.others q) → IsSame s t
-same_places s t same among q = place-same s t q (same (key_of q)) (among q)
+pub same_positions : (s t : Positions) → IsSameAt s t → ((q : Bound) → get binding_eq t.others q ≡ get binding_eq s.others q) → IsSame s t
+same_positions s t same among q = position-same s t q (same (key_of q)) (among q)
 
-pub taken : (s m t : Places) (b : Bound) → length b ≡ 8 → m.others ≡ s.others → IsPut (key_of b) None s m → IsSameAt m t
+pub taken : (s m t : Positions) (b : Bound) → length b ≡ 8 → m.others ≡ s.others → IsPut (key_of b) None s m → IsSameAt m t
     → ((q : Bound) → get binding_eq t.others q ≡ cond (binding_eq b q) None (get binding_eq m.others q)) → IsUpdated b None s t
 taken s m t b eight others put same updated =
     let self : binding_eq b b ≡ true = (binding_eq-Decides b b).1 refl in
     let among : get binding_eq t.others b ≡ None = updated b ∙ rw self refl in
     let here : at_key t (key_of b) ≡ None = same (key_of b) ∙ put.here in
-    updated_by s t b None eight (place-here t b eight ∙ rw (here, among) refl) (λ other apart. same other ∙ put.elsewhere other apart)
+    updated_by s t b None eight (position-here t b eight ∙ rw (here, among) refl) (λ other apart. same other ∙ put.elsewhere other apart)
     (λ q apart. updated q ∙ rw apart (ap (λ v. get binding_eq v q) others))
 
-no_place : (s : Places) → ((key : Key) → at_key s key ≡ None) → ((q : Bound) → get binding_eq s.others q ≡ None) → (b : Bound) → place_of s b ≡ None
-unfolding place_of
-no_place s none among b = rw (none (key_of b), among b) (elim (length b == 8) as (λ v. ◌≡◌ {A = Option ℕ} (cond v None None) None) [ true ↦ refl | false ↦ refl ])
+no_positions : (s : Positions) → ((key : Key) → at_key s key ≡ None) → ((q : Bound) → get binding_eq s.others q ≡ None) → (b : Bound) → position_of s b ≡ None
+unfolding position_of
+no_positions s none among b = rw (none (key_of b), among b) (elim (length b == 8) as (λ v. ◌≡◌ {A = Option ℕ} (cond v None None) None) [ true ↦ refl | false ↦ refl ])
 
 no_tag : (m o : ℕ) → tag_at [] m o ≡ 0
 no_tag m o = ap (λ (row : List ℕ). get_or row o 0) (get_or_past {X = List ℕ} [] m [] (omega arith)) ∙ get_or_past {X = ℕ} [] o 0 (omega arith)
 
 -- where nothing was put
-pub bare : (s : Places) → s.empty ≡ None → s.rows ≡ [] → s.couples.entries ≡ [] → s.others.entries ≡ [] → (b : Bound) → place_of s b ≡ None
-bare s empty rows couples others = no_place s none (λ q. ap (λ (es : List (Bound × ℕ)). lookup (binding_eq q) es) others)
+pub bare : (s : Positions) → s.empty ≡ None → s.rows ≡ [] → s.couples.entries ≡ [] → s.others.entries ≡ [] → (b : Bound) → position_of s b ≡ None
+bare s empty rows couples others = no_positions s none (λ q. ap (λ (es : List (Bound × ℕ)). lookup (binding_eq q) es) others)
   where
     none : (key : Key) → at_key s key ≡ None
     none Empty = empty

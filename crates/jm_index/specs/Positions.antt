@@ -8,34 +8,34 @@ use Rattle.jm_model.specs.declared.binding.Binding.{Binding}
 use Rattle.jm_model.specs.Layout.{binding_eq}
 use Rattle.jm_index.specs.declared.key.Key.{Key}
 use Rattle.jm_index.specs.declared.key.Key.TheVariants.{Empty, One, Two, More}
-use Rattle.jm_index.specs.declared.places.Places.{Places}
+use Rattle.jm_index.specs.declared.positions.Positions.{Positions}
 use Rattle.jm_index.specs.Keys.{key_of, couple_eq, tag_at, position_in}
 
 -- the position under a key
-abbrev pub at_key : Places → Key → Option ℕ
+abbrev pub at_key : Positions → Key → Option ℕ
 at_key s Empty = s.empty
 at_key s (One mask o) = position_in (tag_at s.rows mask o)
 at_key s (Two k) = get couple_eq s.couples k
 at_key s More = None
 
 -- the position of a binding
-unfoldable pub place_of : Places → Binding → Option ℕ
-place_of s b = cond (length b == 8) (option_or (at_key s (key_of b)) (get binding_eq s.others b)) None
+unfoldable pub position_of : Positions → Binding → Option ℕ
+position_of s b = cond (length b == 8) (option_or (at_key s (key_of b)) (get binding_eq s.others b)) None
 
 -- the same under each key
-abbrev pub IsSameAt : Places → Places → Type 0
+abbrev pub IsSameAt : Positions → Positions → Type 0
 IsSameAt old new = (key : Key) → at_key new key ≡ at_key old key
 
 -- this under the key, which isn't that of all other bindings, and the same under each other one
-pub record IsPut (key : Key) (place : Option ℕ) (old new : Places) : Type 0 where
-  pub here : at_key new key ≡ place
-  pub exact : key ≡ More → place ≡ None
+pub record IsPut (key : Key) (position : Option ℕ) (old new : Positions) : Type 0 where
+  pub here : at_key new key ≡ position
+  pub exact : key ≡ More → position ≡ None
   pub elsewhere : (other : Key) → (other ≡ key → ⊥) → at_key new other ≡ at_key old other
 
 -- the same of each binding
-abbrev pub IsSame : Places → Places → Type 0
-IsSame old new = (b : Binding) → place_of new b ≡ place_of old b
+abbrev pub IsSame : Positions → Positions → Type 0
+IsSame old new = (b : Binding) → position_of new b ≡ position_of old b
 
 -- this of a binding, and the same of each other one
-abbrev pub IsUpdated : Binding → Option ℕ → Places → Places → Type 0
-IsUpdated b place old new = (q : Binding) → place_of new q ≡ cond (binding_eq b q) place (place_of old q)
+abbrev pub IsUpdated : Binding → Option ℕ → Positions → Positions → Type 0
+IsUpdated b position old new = (q : Binding) → position_of new q ≡ cond (binding_eq b q) position (position_of old q)
