@@ -7,7 +7,8 @@ use Rattle.jm_model.specs.declared.fault.ScriptFault.{ScriptFault}
 use Rattle.jm_model.specs.declared.fault.ScriptFault.TheVariants.{WrongCount}
 use Rattle.jm_events.specs.Names.{number_of}
 use Rattle.jm_events.specs.Events.{EventDefinitions, event_names}
-use Rattle.jm_script.specs.Statements.{is_dot, is_name, is_object, event_statement}
+use Rattle.jm_text.specs.Texts.{is_name_text}
+use Rattle.jm_script.specs.Statements.{is_dot, is_object, event_statement}
 use Rattle.jm_script.specs.Catalogs.{CatalogEntry, spec_names, table_of}
 use Rattle.jm_script.specs.Events.{mask_at, counted, event_in, event_at, named_event, spread}
 use Rattle.jm_script.specs.Fitting.{HasEvent}
@@ -39,7 +40,7 @@ unfolding named_event
 every_line catalog line other spec event count e h = at_line line other count catalog event (number_of (spec_names catalog) spec) e h
 
 -- the event that was looked up
-pub looked_up : (catalog : List CatalogEntry) (line : ℕ) (word spec event : List ℕ) (words : List (List ℕ)) (count : ℕ) (e : NamedEvent) → spec ≡ before_first is_dot word → event ≡ after_first is_dot word → (is_name spec && is_name event && list_all is_object words) ≡ true → Ok e ≡ named_event catalog line spec event count → HasEvent catalog e.spec e.letter.0 e.mask → count ≤ 8 → count ≡ count_ones e.mask → IsEventOf catalog word count e
+pub looked_up : (catalog : List CatalogEntry) (line : ℕ) (word spec event : List ℕ) (words : List (List ℕ)) (count : ℕ) (e : NamedEvent) → spec ≡ before_first is_dot word → event ≡ after_first is_dot word → (is_name_text spec && is_name_text event && list_all is_object words) ≡ true → Ok e ≡ named_event catalog line spec event count → HasEvent catalog e.spec e.letter.0 e.mask → count ≤ 8 → count ≡ count_ones e.mask → IsEventOf catalog word count e
 looked_up catalog line word spec event words count e h1 h2 shape named there few counted = record {
   shape = rw (← h1, ← h2) (both_left _ _ shape);
   named = λ other. rw (← h1, ← h2) (every_line catalog line other spec event count e (sym named));
@@ -61,4 +62,4 @@ has_room count b full free = grind (arith, nat_tests)
 -- the step of a line with a known event
 pub known_steps : (catalog : List CatalogEntry) (count line : ℕ) (names : List (List ℕ)) (word : List ℕ) (words : List (List ℕ)) (n : ℕ) (e : NamedEvent) → n ≡ length words → IsEventOf catalog word n e → list_all is_object words ≡ true → count < 200000 → statement_meaning catalog count line names (event_statement word words) ≡ mentioning line names words (λ numbers. target.Event e.spec e.letter (spread 8 e.mask numbers))
 known_steps catalog count line names word words n e same known objects room =
-    event_steps catalog count line names word (before_first is_dot word) (after_first is_dot word) words n e refl refl same (both (is_name (before_first is_dot word) && is_name (after_first is_dot word)) _ known.shape objects) (not_full count room) (sym (known.named line))
+    event_steps catalog count line names word (before_first is_dot word) (after_first is_dot word) words n e refl refl same (both (is_name_text (before_first is_dot word) && is_name_text (after_first is_dot word)) _ known.shape objects) (not_full count room) (sym (known.named line))

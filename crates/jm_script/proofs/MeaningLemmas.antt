@@ -7,7 +7,8 @@ use Rattle.jm_model.specs.declared.fault.ScriptFault.{ScriptFault}
 use Rattle.jm_model.specs.declared.fault.ScriptError.{ScriptError}
 use Rattle.jm_events.specs.Names.{number_of}
 use Rattle.jm_script.specs.Lines.{words_of}
-use Rattle.jm_script.specs.Statements.{Statement, Event, Death, Pass, is_dot, is_name, is_object, event_statement, death_statement, statement_of}
+use Rattle.jm_text.specs.Texts.{is_name_text}
+use Rattle.jm_script.specs.Statements.{Statement, Event, Death, Pass, is_dot, is_object, event_statement, death_statement, statement_of}
 use Rattle.jm_script.specs.Objects.{mentioned, numbers_of, IsExtension}
 use Rattle.jm_script.specs.Catalogs.{CatalogEntry, spec_names}
 use Rattle.jm_script.specs.Events.{named_event, spread}
@@ -24,9 +25,9 @@ room_left : (count : ℕ) → nat_le 200000 count ≡ false → nat_lt count 200
 room_left count h = grind (arith, nat_tests)
 
 -- the step of an event line
-pub event_steps : (catalog : List CatalogEntry) (count line : ℕ) (names : List (List ℕ)) (word spec event : List ℕ) (words : List (List ℕ)) (n : ℕ) (e : NamedEvent) → spec ≡ before_first is_dot word → event ≡ after_first is_dot word → n ≡ length words → (is_name spec && is_name event && list_all is_object words) ≡ true → nat_le 200000 count ≡ false → Ok e ≡ named_event catalog line spec event n → statement_meaning catalog count line names (event_statement word words) ≡ mentioning line names words (λ numbers. target.Event e.spec e.letter (spread 8 e.mask numbers))
+pub event_steps : (catalog : List CatalogEntry) (count line : ℕ) (names : List (List ℕ)) (word spec event : List ℕ) (words : List (List ℕ)) (n : ℕ) (e : NamedEvent) → spec ≡ before_first is_dot word → event ≡ after_first is_dot word → n ≡ length words → (is_name_text spec && is_name_text event && list_all is_object words) ≡ true → nat_le 200000 count ≡ false → Ok e ≡ named_event catalog line spec event n → statement_meaning catalog count line names (event_statement word words) ≡ mentioning line names words (λ numbers. target.Event e.spec e.letter (spread 8 e.mask numbers))
 event_steps catalog count line names word spec event words n e h1 h2 h3 shape room named =
-    let said : (is_name (before_first is_dot word) && is_name (after_first is_dot word) && list_all is_object words) ≡ true = rw (← h1, ← h2) shape in
+    let said : (is_name_text (before_first is_dot word) && is_name_text (after_first is_dot word) && list_all is_object words) ≡ true = rw (← h1, ← h2) shape in
     let found : named_event catalog line (before_first is_dot word) (after_first is_dot word) (length words) ≡ Ok e = rw (← h1, ← h2, ← h3) (sym named) in
     rw (said, room_left count room, found) refl
 
@@ -58,6 +59,10 @@ stopped meaning step old new error e h = rw e h
 pub read_by_words : (catalog : List CatalogEntry) (count line : ℕ) (bytes : List ℕ) (words old new : List (List ℕ)) (r : Result (Option Target) ScriptError) → words ≡ words_of bytes → IsReadAs (words_meaning catalog count line old words) old r new → IsReadAs (line_meaning catalog count line bytes old) old r new
 unfolding line_meaning
 read_by_words catalog count line bytes words old new r e h = rw (← e) h
+
+-- the same by the first word of some and those behind it
+pub read_by_first : (catalog : List CatalogEntry) (count line : ℕ) (bytes word : List ℕ) (rest words old new : List (List ℕ)) (r : Result (Option Target) ScriptError) → word ∷ rest ≡ words → words ≡ words_of bytes → IsReadAs (statement_meaning catalog count line old (statement_of word rest)) old r new → IsReadAs (line_meaning catalog count line bytes old) old r new
+read_by_first catalog count line bytes word rest words old new r split e h = read_by_words catalog count line bytes (word ∷ rest) old new r (split ∙ e) h
 
 -- ---- the limits
 

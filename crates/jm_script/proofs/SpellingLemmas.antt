@@ -6,14 +6,15 @@ use Rattle.std.proofs.lemmas.Bool.{false≢true, eqb-true}
 use Rattle.std.proofs.lemmas.Bool.Decides.{nat_tests}
 use Rattle.std.proofs.lemmas.List.Folds.{list_any-append}
 use Rattle.std.proofs.lemmas.Slice.Eq.{bytes_eq-Decides}
-use Rattle.jm_script.specs.Statements.{Statement, Event, Death, Pass, death_word, pass_word, is_dot, is_name_byte, is_name, is_object, event_statement, death_statement, pass_statement}
+use Rattle.jm_text.specs.Texts.{is_name_byte, is_name_text}
+use Rattle.jm_script.specs.Statements.{Statement, Event, Death, Pass, death_word, pass_word, is_dot, is_object, event_statement, death_statement, pass_statement}
 use Rattle.jm_script.specs.Spelling.{Spells, SpelledIsRead, OneReading, ReadIsSpelled}
 use Rattle.jm_script.proofs.WordLemmas.{both_left, both_right}
 
 no_dot : (b : ℕ) → is_name_byte b ≡ true → is_dot b ≡ false
 no_dot b h = grind (arith, nat_tests)
 
-name_bytes : (name : List ℕ) → is_name name ≡ true → list_all is_name_byte name ≡ true
+name_bytes : (name : List ℕ) → is_name_text name ≡ true → list_all is_name_byte name ≡ true
 name_bytes [] h = refl
 name_bytes (b ∷ name) h = both_right _ _ h
 
@@ -67,7 +68,7 @@ one_reading word words statement other h k =
     cc
 
 -- a word with a name behind its first dot
-dot_parts : (word : List ℕ) → is_name (after_first is_dot word) ≡ true → word ≡ before_first is_dot word ++ 46 ∷ after_first is_dot word
+dot_parts : (word : List ℕ) → is_name_text (after_first is_dot word) ≡ true → word ≡ before_first is_dot word ++ 46 ∷ after_first is_dot word
 dot_parts [] h = absurd (false≢true h)
 dot_parts (b ∷ word) h = by_case (is_dot b) refl (λ k. dot_parts word k)
   where
@@ -77,12 +78,12 @@ dot_parts (b ∷ word) h = by_case (is_dot b) refl (λ k. dot_parts word k)
     behind_next : 1 + position_or_len is_dot word + 1 ≡ suc (position_or_len is_dot word + 1)
     behind_next = omega arith
 
-    by_case : (c : Bool) → is_dot b ≡ c → (is_name (after_first is_dot word) ≡ true → word ≡ before_first is_dot word ++ 46 ∷ after_first is_dot word) → b ∷ word ≡ before_first is_dot (b ∷ word) ++ 46 ∷ after_first is_dot (b ∷ word)
+    by_case : (c : Bool) → is_dot b ≡ c → (is_name_text (after_first is_dot word) ≡ true → word ≡ before_first is_dot word ++ 46 ∷ after_first is_dot word) → b ∷ word ≡ before_first is_dot (b ∷ word) ++ 46 ∷ after_first is_dot (b ∷ word)
     by_case true e rest = rw e (ap (λ x. x ∷ word) (eqb-true b 46 e))
     by_case false e rest =
         let before : before_first is_dot (b ∷ word) ≡ b ∷ before_first is_dot word = rw (e, next) refl in
         let after : after_first is_dot (b ∷ word) ≡ after_first is_dot word = rw (e, behind_next) refl in
-        let ih = rest (ap is_name (sym after) ∙ h) in
+        let ih = rest (ap is_name_text (sym after) ∙ h) in
         ap (λ l. b ∷ l) ih ∙ ap (λ l. l ++ 46 ∷ after_first is_dot word) (sym before) ∙ ap (λ l. before_first is_dot (b ∷ word) ++ 46 ∷ l) (sym after)
 
 death_spelled : (word : List ℕ) (words : List (List ℕ)) (s : Statement) → word ≡ death_word → death_statement words ≡ Some s → Spells word words s
@@ -96,27 +97,27 @@ death_spelled word (object ∷ other ∷ words) s first e = cc
 
 pass_spelled : (word : List ℕ) (words : List (List ℕ)) (s : Statement) → word ≡ pass_word → pass_statement words ≡ Some s → Spells word words s
 pass_spelled word [] s first e = cc
-pass_spelled word (spec ∷ []) s first e = by_case (is_name spec) refl e
+pass_spelled word (spec ∷ []) s first e = by_case (is_name_text spec) refl e
   where
-    by_case : (b : Bool) → is_name spec ≡ b → cond b (Some (Pass spec)) None ≡ Some s → Spells word (spec ∷ []) s
+    by_case : (b : Bool) → is_name_text spec ≡ b → cond b (Some (Pass spec)) None ≡ Some s → Spells word (spec ∷ []) s
     by_case true named e = let same : Pass spec ≡ s = cc in subst (Spells word (spec ∷ [])) same (record { first = first; rest = refl }, named)
     by_case false named e = cc
 pass_spelled word (spec ∷ other ∷ words) s first e = cc
 
 event_spelled : (word : List ℕ) (words : List (List ℕ)) (s : Statement) → event_statement word words ≡ Some s → Spells word words s
-event_spelled word words s e = by_case (is_name (before_first is_dot word) && is_name (after_first is_dot word) && list_all is_object words) refl e
+event_spelled word words s e = by_case (is_name_text (before_first is_dot word) && is_name_text (after_first is_dot word) && list_all is_object words) refl e
   where
-    by_case : (b : Bool) → (is_name (before_first is_dot word) && is_name (after_first is_dot word) && list_all is_object words) ≡ b → cond b (Some (Event (before_first is_dot word) (after_first is_dot word) words)) None ≡ Some s → Spells word words s
+    by_case : (b : Bool) → (is_name_text (before_first is_dot word) && is_name_text (after_first is_dot word) && list_all is_object words) ≡ b → cond b (Some (Event (before_first is_dot word) (after_first is_dot word) words)) None ≡ Some s → Spells word words s
     by_case true h e =
         let same : Event (before_first is_dot word) (after_first is_dot word) words ≡ s = cc in
         let named = both_left _ _ h in
         subst (Spells word words) same
         (record {
-          first = dot_parts word (both_right (is_name (before_first is_dot word)) _ named);
+          first = dot_parts word (both_right (is_name_text (before_first is_dot word)) _ named);
           rest = refl;
           spec_named = both_left _ _ named;
-          event_named = both_right (is_name (before_first is_dot word)) _ named;
-          objects_named = both_right (is_name (before_first is_dot word) && is_name (after_first is_dot word)) _ h;
+          event_named = both_right (is_name_text (before_first is_dot word)) _ named;
+          objects_named = both_right (is_name_text (before_first is_dot word) && is_name_text (after_first is_dot word)) _ h;
         })
     by_case false h e = cc
 

@@ -6,13 +6,10 @@ use Rattle.std.proofs.lemmas.Bool.Decides.{nat_tests}
 use Rattle.std.proofs.lemmas.List.{at_drop_more, drop_all}
 use Rattle.std.proofs.lemmas.Str.{IsUtf8-from_ascii}
 use Rattle.jm_script.specs.Lines.{is_some_word}
-use Rattle.jm_script.specs.Statements.{is_name_byte, is_name, is_object_byte, is_object}
+use Rattle.jm_script.specs.Statements.{is_object_byte, is_object}
 
 object_byte_ascii : (b : ℕ) → is_object_byte b ≡ true → b < 128
 object_byte_ascii b h = grind (arith, nat_tests)
-
-name_byte_ascii : (b : ℕ) → is_name_byte b ≡ true → b < 128
-name_byte_ascii b h = grind (arith, nat_tests)
 
 pub both_right : (a b : Bool) → (a && b) ≡ true → b ≡ true
 both_right true b h = h
@@ -22,18 +19,14 @@ pub both_left : (a b : Bool) → (a && b) ≡ true → a ≡ true
 both_left true b h = refl
 both_left false b h = h
 
-bytes_ascii : (p : ℕ → Bool) → ((b : ℕ) → p b ≡ true → b < 128) → (bytes : List ℕ) → list_all p bytes ≡ true → IsAscii bytes
-bytes_ascii p small [] h i = omega arith
-bytes_ascii p small (b ∷ bytes) h zero = small b (both_left _ _ h)
-bytes_ascii p small (b ∷ bytes) h (suc i) = bytes_ascii p small bytes (both_right (p b) _ h) i
+object_bytes_ascii : (bytes : List ℕ) → list_all is_object_byte bytes ≡ true → IsAscii bytes
+object_bytes_ascii [] h i = omega arith
+object_bytes_ascii (b ∷ bytes) h zero = object_byte_ascii b (both_left _ _ h)
+object_bytes_ascii (b ∷ bytes) h (suc i) = object_bytes_ascii bytes (both_right (is_object_byte b) _ h) i
 
--- a name is a text, and so is an object
-pub name_utf8 : (bytes : List ℕ) → is_name bytes ≡ true → IsUtf8 bytes
-name_utf8 [] h = cc
-name_utf8 (b ∷ bytes) h = IsUtf8-from_ascii (b ∷ bytes) (bytes_ascii is_name_byte name_byte_ascii (b ∷ bytes) (both_right _ _ h))
-
+-- the name of an object is a text
 pub object_utf8 : (bytes : List ℕ) → is_object bytes ≡ true → IsUtf8 bytes
-object_utf8 bytes h = IsUtf8-from_ascii bytes (bytes_ascii is_object_byte object_byte_ascii bytes (both_right _ _ h))
+object_utf8 bytes h = IsUtf8-from_ascii bytes (object_bytes_ascii bytes (both_right _ _ h))
 
 -- one part more of a line, which is empty or a word
 module _ (words parts whole : List (List ℕ)) (n : ℕ) (part : List ℕ) (lt : n < length parts) (here : part ≡ get_or parts n part) (before : words ++ filter is_some_word (drop n parts) ≡ whole) where

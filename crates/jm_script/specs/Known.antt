@@ -1,17 +1,21 @@
 -- The events of words, which stay known from line to line.
-use Rattle.std.specs.Prelude.{ℕ, ◌≡◌, ◌≤◌, ◌&&◌, true, count_ones, All, IfSome, List, Option, Ok}
-use Rattle.std.specs.List.{before_first, after_first}
+use Rattle.std.specs.Prelude.{ℕ, ◌≡◌, ◌<◌, ◌≤◌, ◌&&◌, true, count_ones, All, IfOk, IfErr, IfSome, OnOk, List, Option, Result, Ok}
+use Rattle.std.specs.List.{list_all, before_first, after_first}
 use Rattle.jm_model.specs.Words.{Text}
-use Rattle.jm_script.specs.Statements.{is_dot, is_name}
+use Rattle.jm_model.specs.declared.fault.ScriptError.{ScriptError}
+use Rattle.jm_text.specs.Texts.{is_name_text}
+use Rattle.jm_script.specs.Statements.{is_dot, is_object, event_statement}
 use Rattle.jm_script.specs.Catalogs.{CatalogEntry}
 use Rattle.jm_script.specs.Events.{named_event}
 use Rattle.jm_script.specs.Fitting.{HasEvent}
+use Rattle.jm_script.specs.Meanings.{statement_meaning}
+use Rattle.jm_script.specs.Answers.{IsStoppedBy}
 use Rattle.jm_script.specs.declared.event.NamedEvent.{NamedEvent}
 use Rattle.jm_script.specs.declared.known.Known.{Known}
 
 -- the word has the shape `SPEC.EVENT`, and with so many objects it names this event on each line
 pub record IsEventOf (catalog : List CatalogEntry) (word : Text) (count : ℕ) (event : NamedEvent) : Type 0 where
-  pub shape : (is_name (before_first is_dot word) && is_name (after_first is_dot word)) ≡ true
+  pub shape : (is_name_text (before_first is_dot word) && is_name_text (after_first is_dot word)) ≡ true
   pub named : (line : ℕ) → named_event catalog line (before_first is_dot word) (after_first is_dot word) count
       ≡ Ok event
   pub there : HasEvent catalog event.spec event.letter.0 event.mask
@@ -25,3 +29,12 @@ IsSound catalog known = IsEventOf catalog known.word.now known.count known.event
 -- and so does each that there is
 abbrev pub AreSound : List CatalogEntry → List (Option Known) → Type 0
 AreSound catalog slots = All (λ slot. IfSome slot (IsSound catalog)) slots
+
+-- a line `SPEC.EVENT OBJECT..` with so many objects is one step more, of the event that was found, or has a fault
+pub record FindsEvent (catalog : List CatalogEntry) (steps line : ℕ) (word : Text) (objects : List Text) (count : ℕ)
+    (result : Result NamedEvent ScriptError) : Type 0 where
+  pub event : IfOk result (IsEventOf catalog word count)
+  pub named : OnOk result (list_all is_object objects ≡ true)
+  pub room : OnOk result (steps < 200000)
+  pub fault : (names : List Text) → IfErr result (λ error.
+      IsStoppedBy (statement_meaning catalog steps line names (event_statement word objects)) names error names)

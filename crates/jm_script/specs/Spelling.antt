@@ -2,15 +2,16 @@
 use Rattle.std.specs.Prelude.{◌≡◌, true, List, [], ◌∷◌, ◌++◌, Some}
 use Rattle.std.specs.List.{list_all}
 use Rattle.jm_model.specs.Words.{Text}
-use Rattle.jm_script.specs.Statements.{Statement, Event, Death, Pass, death_word, pass_word, is_name, is_object, statement_of}
+use Rattle.jm_text.specs.Texts.{is_name_text}
+use Rattle.jm_script.specs.Statements.{Statement, Event, Death, Pass, death_word, pass_word, is_object, statement_of}
 
 -- the words of a line spell an event with its objects: `SPEC.EVENT OBJECT..`
 pub record SpellsEvent (word : Text) (words : List Text) (spec event : Text)
     (objects : List Text) : Type 0 where
   pub first : word ≡ spec ++ 46 ∷ event
   pub rest : words ≡ objects
-  pub spec_named : is_name spec ≡ true
-  pub event_named : is_name event ≡ true
+  pub spec_named : is_name_text spec ≡ true
+  pub event_named : is_name_text event ≡ true
   pub objects_named : list_all is_object objects ≡ true
 
 -- or a word and the name behind it
@@ -22,7 +23,7 @@ pub record SpellsOne (word expected : Text) (words : List Text) (name : Text) : 
 abbrev pub Spells : Text → List Text → Statement → Type 0
 Spells word words (Event spec event objects) = SpellsEvent word words spec event objects
 Spells word words (Death object) = SpellsOne word death_word words object × (is_object object ≡ true)
-Spells word words (Pass spec) = SpellsOne word pass_word words spec × (is_name spec ≡ true)
+Spells word words (Pass spec) = SpellsOne word pass_word words spec × (is_name_text spec ≡ true)
 
 -- what is spelled is read
 abbrev pub SpelledIsRead : Type 0

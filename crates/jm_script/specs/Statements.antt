@@ -1,9 +1,9 @@
 -- The three shapes of a line: an event with its objects, a death and a disposal pass.
-use Rattle.std.specs.Prelude.{ℕ, Bool, false, not, ◌&&◌, ◌||◌, ◌==◌, nat_le, List, [], ◌∷◌, length, Option, Some, None, if◌then◌else◌}
+use Rattle.std.specs.Prelude.{ℕ, Bool, ◌&&◌, ◌||◌, ◌==◌, nat_le, List, [], ◌∷◌, length, Option, Some, None, if◌then◌else◌}
 use Rattle.std.specs.List.{list_all, before_first, after_first}
-use Rattle.std.specs.Char.{is_ascii_alphanumeric, is_ascii_digit}
 use Rattle.std.specs.Str.{bytes_eq}
 use Rattle.jm_model.specs.Words.{Text}
+use Rattle.jm_text.specs.Texts.{is_name_byte, is_name_text}
 
 -- what a line says, by the texts that it names
 pub data Statement : Type 0 where
@@ -22,16 +22,7 @@ pass_word = 112 ∷ 97 ∷ 115 ∷ 115 ∷ []
 abbrev pub is_dot : ℕ → Bool
 is_dot b = b == 46
 
--- an ASCII letter or digit, `_` or `$`
-abbrev pub is_name_byte : ℕ → Bool
-is_name_byte b = is_ascii_alphanumeric b || b == 95 || b == 36
-
--- some of these bytes, of which the first is no digit: the name of a specification or of an event
-abbrev pub is_name : Text → Bool
-is_name [] = false
-is_name (b ∷ bs) = not (is_ascii_digit b) && list_all is_name_byte (b ∷ bs)
-
--- one of these, `.`, `@` or `-`
+-- a byte of a name, `.`, `@` or `-`
 abbrev pub is_object_byte : ℕ → Bool
 is_object_byte b = is_name_byte b || b == 46 || b == 64 || b == 45
 
@@ -42,7 +33,7 @@ is_object word = nat_le 1 (length word) && nat_le (length word) 255 && list_all 
 -- `SPEC.EVENT OBJECT..`
 abbrev pub event_statement : Text → List Text → Option Statement
 event_statement word objects =
-    if is_name (before_first is_dot word) && is_name (after_first is_dot word) && list_all is_object objects
+    if is_name_text (before_first is_dot word) && is_name_text (after_first is_dot word) && list_all is_object objects
     then Some (Event (before_first is_dot word) (after_first is_dot word) objects)
     else None
 
@@ -53,7 +44,7 @@ death_statement _ = None
 
 -- `pass SPEC`
 abbrev pub pass_statement : List Text → Option Statement
-pass_statement (spec ∷ []) = if is_name spec then Some (Pass spec) else None
+pass_statement (spec ∷ []) = if is_name_text spec then Some (Pass spec) else None
 pass_statement _ = None
 
 -- what the words of a line say, if they have one of the shapes

@@ -1,8 +1,7 @@
 //! What a line means.
 ghost use Rattle.std.specs.Prelude.{◌≡◌, ◌≤◌, ℕ, List, length, map, IfOk, IfSome};
 ghost use Rattle.jm_script.specs.Lines.{words_of};
-ghost use Rattle.jm_script.specs.Statements.{statement_of};
-ghost use Rattle.jm_script.specs.Meanings.{statement_meaning, line_meaning};
+ghost use Rattle.jm_script.specs.Meanings.{line_meaning};
 ghost use Rattle.jm_script.specs.Answers.{IsReadAs};
 ghost use Rattle.jm_script.specs.Fitting.{FitsTarget};
 ghost use Rattle.jm_script.specs.Known.{AreSound};
@@ -32,29 +31,9 @@ pub fn read_line<'a>(
     ensures read { (line : List ℕ) → map (λ w. w.now) words.now ≡ words_of line →
         IsReadAs (line_meaning catalog.now position.count position.line line names.old) names.old result names.new }
 {
-    match words {
-        [] => Ok(None),
-        [word, rest @ ..] => words_line(alloc, catalog, position, word, rest, names, known),
-    }
-}
-
-/// The same of a line with words, by its first word and the rest.
-fn words_line<'a>(
-    alloc: Global,
-    catalog: &Catalog,
-    position: Position,
-    word: &'a [u8],
-    rest: &[&[u8]],
-    names: &mut Names,
-    known: &mut KnownWords<'a>,
-) -> Result<Option<Target>, ScriptError>
-    requires few { length names.old ≤ 65536 }
-    requires known { AreSound catalog.now known.old.slots }
-    ensures known { AreSound catalog.now known.new.slots }
-    ensures fits { IfOk result (λ target. IfSome target (FitsTarget catalog.now (length names.new))) }
-    ensures read { IsReadAs (statement_meaning catalog.now position.count position.line names.old
-        (statement_of word.now (map (λ w. w.now) rest.now))) names.old result names.new }
-{
+    let [word, rest @ ..] = words else {
+        return Ok(None);
+    };
     if is_word(word, b"death") {
         death_line(alloc, position, rest, names)
     } else if is_word(word, b"pass") {

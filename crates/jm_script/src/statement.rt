@@ -1,23 +1,25 @@
 //! The three shapes of a line: an event with its objects, a death and a disposal pass.
 ghost use Rattle.std.specs.Prelude.{◌≡◌, ◌<◌, ◌≤◌, ◌==◌, ◌&&◌, ℕ, ◌+◌, List, drop, length, map, take, nat_le, not, IsTrue, OnOk, IfOk, IfErr, IfSome};
 ghost use Rattle.std.specs.List.{list_all};
+ghost use Rattle.jm_text.specs.Texts.{is_name_text};
 ghost use Rattle.jm_script.specs.declared.script.Target.{Target};
-ghost use Rattle.jm_script.specs.Statements.{is_name, is_object, event_statement, death_statement, pass_statement};
+ghost use Rattle.jm_script.specs.Statements.{is_object, event_statement, death_statement, pass_statement};
 ghost use Rattle.jm_script.specs.Catalogs.{CatalogEntry};
 ghost use Rattle.jm_script.specs.Objects.{mentioned, numbers_of};
 ghost use Rattle.jm_script.specs.Meanings.{mentioning, statement_meaning};
 ghost use Rattle.jm_script.specs.Answers.{IsStoppedBy, IsReadAs};
 ghost use Rattle.jm_script.specs.Fitting.{FitsTarget};
-ghost use Rattle.jm_script.specs.Known.{IsEventOf, AreSound};
+ghost use Rattle.jm_script.specs.Known.{AreSound, FindsEvent};
 
 use crate::catalog::Catalog;
 use crate::event::{NamedEvent, named_event};
 use crate::known::{Known, KnownWords};
 use crate::objects::{are_few, are_objects, have_room, known_numbers, mention};
 use crate::script::Target;
-use crate::words::{is_name, position_of, text};
+use crate::words::{position_of, text};
 use jm_events::Names;
 use jm_model::{Binding, ScriptError, ScriptFault};
+use jm_text::is_name_text;
 use std::alloc::Global;
 
 /// How many steps the scripts of a run have together at most.
@@ -88,13 +90,8 @@ fn event_of<'a>(
 ) -> Result<NamedEvent, ScriptError>
     requires { AreSound catalog.now known.old.slots }
     ensures known { AreSound catalog.now known.new.slots }
-    ensures ok { IfOk result (IsEventOf catalog.now word.now (length objects.now)) }
-    ensures objects { OnOk result (IsTrue (list_all is_object (map (λ w. w.now) objects.now))) }
-    ensures room { OnOk result (position.count < 200000) }
-    ensures err { (names : List (List ℕ))
-        → IfErr result (λ error. IsStoppedBy
-        (statement_meaning catalog.now position.count position.line names
-        (event_statement word.now (map (λ w. w.now) objects.now))) names error names) }
+    ensures finds { FindsEvent catalog.now position.count position.line word.now
+        (map (λ w. w.now) objects.now) (length objects.now) result }
 {
     if let Some(event) = known.find(word, objects.len()) {
         if are_objects(objects) && !position.is_full() {
@@ -117,13 +114,8 @@ fn new_event(
     word: &[u8],
     objects: &[&[u8]],
 ) -> Result<NamedEvent, ScriptError>
-    ensures ok { IfOk result (IsEventOf catalog.now word.now (length objects.now)) }
-    ensures objects { OnOk result (IsTrue (list_all is_object (map (λ w. w.now) objects.now))) }
-    ensures room { OnOk result (position.count < 200000) }
-    ensures err { (names : List (List ℕ))
-        → IfErr result (λ error. IsStoppedBy
-        (statement_meaning catalog.now position.count position.line names
-        (event_statement word.now (map (λ w. w.now) objects.now))) names error names) }
+    ensures { FindsEvent catalog.now position.count position.line word.now
+        (map (λ w. w.now) objects.now) (length objects.now) result }
 {
     let dot = position_of(word, b'.');
     let spec = &word[..dot];
@@ -152,9 +144,9 @@ fn behind(word: &[u8], position: usize) -> &[u8]
 }
 
 fn is_event_line(spec: &[u8], event: &[u8], objects: &[&[u8]]) -> bool
-    ensures { result ≡ (is_name spec.now && is_name event.now && list_all is_object (map (λ w. w.now) objects.now)) }
+    ensures { result ≡ (is_name_text spec.now && is_name_text event.now && list_all is_object (map (λ w. w.now) objects.now)) }
 {
-    is_name(spec) && is_name(event) && are_objects(objects)
+    is_name_text(spec) && is_name_text(event) && are_objects(objects)
 }
 
 /// The numbers of the objects that a line mentions.
@@ -234,7 +226,7 @@ pub fn pass_line(
     let [spec] = words else {
         return Err(position.bad_line());
     };
-    if !is_name(spec) {
+    if !is_name_text(spec) {
         return Err(position.bad_line());
     }
     if position.is_full() {

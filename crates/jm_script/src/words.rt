@@ -5,7 +5,7 @@ ghost use Rattle.std.specs.List.{list_all, position_or_len};
 ghost use Rattle.std.specs.Str.{bytes_eq};
 ghost use Rattle.std.specs.Str.Lines.{strip_carriage_return};
 ghost use Rattle.jm_script.specs.Lines.{is_line_feed, is_hash, is_blank, is_end, is_some_word, first_line, lines_of, lines_left, bytes_left, content_of, words_of};
-ghost use Rattle.jm_script.specs.Statements.{is_dot, is_name_byte, is_name, is_object_byte, is_object};
+ghost use Rattle.jm_script.specs.Statements.{is_dot, is_object_byte, is_object};
 
 use jm_model::NoMemory;
 use std::simd::prelude::*;
@@ -202,16 +202,6 @@ fn are_same(word: &[u8], text: &[u8]) -> bool
     word == text
 }
 
-/// Whether the word may name a specification or an event: ASCII letters, digits, `_` and `$`, the first no digit.
-pub fn is_name(word: &[u8]) -> bool
-    ensures { result ≡ is_name word.now }
-{
-    match word.first() {
-        None => false,
-        Some(first) => !first.is_ascii_digit() && are_name_bytes(word),
-    }
-}
-
 /// Whether the word may name an object: 1 to 255 ASCII letters, digits, `_`, `$`, `.`, `@` and `-`.
 pub fn is_object(word: &[u8]) -> bool
     ensures { result ≡ is_object word.now }
@@ -219,22 +209,10 @@ pub fn is_object(word: &[u8]) -> bool
     1 <= word.len() && word.len() <= 255 && are_object_bytes(word)
 }
 
-fn are_name_bytes(word: &[u8]) -> bool
-    ensures { result ≡ list_all is_name_byte word.now }
-{
-    word.iter().all(|b| is_name_byte(*b))
-}
-
 fn are_object_bytes(word: &[u8]) -> bool
     ensures { result ≡ list_all is_object_byte word.now }
 {
     word.iter().all(|b| is_object_byte(*b))
-}
-
-fn is_name_byte(b: u8) -> bool
-    ensures { result ≡ is_name_byte b }
-{
-    b.is_ascii_alphanumeric() || b == b'_' || b == b'$'
 }
 
 fn is_object_byte(b: u8) -> bool

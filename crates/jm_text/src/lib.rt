@@ -13,5 +13,5 @@ mod token;
 
 pub use laws::one_reading;
 pub use lexer::tokens;
-pub use texts::{is_mark, is_name, is_word, name, text};
+pub use texts::{is_mark, is_name, is_name_text, is_word, name, text};
 pub use token::{Token, TokenKind};

@@ -52,8 +52,8 @@ pub fn name<'a>(bytes: &'a [u8], token: Token) -> Option<&'a str>
     }
 }
 
-/// Whether these are the bytes of a name.
-fn is_name_text(bytes: &[u8]) -> bool
+/// Whether these are the bytes of a name: ASCII letters, digits, `_` and `$`, at least one, and the first no digit.
+pub fn is_name_text(bytes: &[u8]) -> bool
     ensures { result ≡ is_name_text bytes.now }
 {
     match bytes.first() {
