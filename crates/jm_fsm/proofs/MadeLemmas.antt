@@ -22,7 +22,7 @@ use Rattle.jm_fsm.specs.Machines.{StateDefinition, AliasDefinition, StateMachine
 use Rattle.jm_fsm.specs.WellFormed.{IsDestination, IsMachine}
 use Rattle.jm_fsm.specs.Categories.{AreDistinct, category_names}
 use Rattle.jm_fsm.specs.Spelling.{is_state}
-use Rattle.jm_fsm.specs.Names.{is_among}
+use Rattle.jm_reading.specs.Names.{is_among}
 use Rattle.jm_reading.specs.Tokens.{name_of}
 use Rattle.jm_reading.specs.Events.{letter_said}
 use Rattle.jm_reading.proofs.ReadLemmas.{then_ok, said_is, kept_by_each}

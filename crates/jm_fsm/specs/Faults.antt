@@ -20,7 +20,7 @@ use Rattle.jm_fsm.specs.declared.formula.TransitionText.TheVariants.{On, Fallbac
 use Rattle.jm_fsm.specs.declared.formula.Part.{Part}
 use Rattle.jm_fsm.specs.declared.formula.Part.TheVariants.{Declaration, Alias}
 use Rattle.jm_fsm.specs.Spelling.{is_state}
-use Rattle.jm_fsm.specs.Names.{is_among}
+use Rattle.jm_reading.specs.Names.{is_among}
 use Rattle.jm_fsm.specs.Machines.{StateDefinition, AliasDefinition, StateMachine}
 
 abbrev pub is_alias : Part → Bool

@@ -1,4 +1,3 @@
-pub mod Names
 pub mod Machines
 pub mod Keys
 pub mod Spelling

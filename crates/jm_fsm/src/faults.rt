@@ -1,7 +1,7 @@
 //! What is wrong with a formula, step by step.
 ghost use Rattle.std.specs.Prelude.{◌≡◌, [], ◌∷◌, ◌++◌, false, List, count_by, OnOk, IfOk, IfErr};
 ghost use Rattle.jm_fsm.specs.Spelling.{is_state};
-ghost use Rattle.jm_fsm.specs.Names.{is_among};
+ghost use Rattle.jm_reading.specs.Names.{is_among};
 ghost use Rattle.jm_fsm.specs.Faults.{is_alias, name_token, aliases_fault, is_grammar_word, is_reserved, part_name_fault, duplicate_state_fault, duplicate_transition_fault, part_transitions_fault, transitions_fault, states_fault};
 ghost use Rattle.jm_reading.specs.Faults.{Checks, Refuses};
 ghost use Rattle.jm_fsm.specs.declared.formula.TransitionText.{TransitionText};

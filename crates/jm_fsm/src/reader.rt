@@ -3,13 +3,13 @@ ghost use Rattle.std.specs.Prelude.{◌≡◌, true, IfOk};
 ghost use Rattle.std.specs.List.{list_any};
 ghost use Rattle.jm_reading.specs.Answers.{Gives, Leaves};
 ghost use Rattle.jm_reading.specs.Reading.{is_left};
-ghost use Rattle.jm_reading.specs.Taking.{Takes};
+ghost use Rattle.jm_reading.specs.Taking.{Takes, with_item};
 ghost use Rattle.jm_fsm.specs.Spelling.{is_state};
 ghost use Rattle.jm_fsm.specs.Rules.{fallback_at, listed_at, transition_at, comma_at, entry_at, is_inside, declaration_at, more_member_at, begins_more_member, alias_at, part_at, formula_at};
 
 use crate::formula::{Part, TransitionText};
 use jm_model::SpecError;
-use jm_reading::{Cursor, Items, Repeated, many};
+use jm_reading::{Cursor, Gathered, Items, gather};
 use jm_text::Token;
 
 /// "default" NAME
@@ -59,22 +59,26 @@ fn comma(cursor: &mut Cursor<'_>) -> Result<(), SpecError>
 /// Transition [ "," ], up to a `]`
 struct Entry;
 
-impl Repeated for Entry {
-    type Item = TransitionText;
+impl Gathered for Entry {
+    type Whole = Items<TransitionText>;
 
     ghost goes_on = { is_inside };
 
-    ghost item = { entry_at };
+    ghost more = { λ _. with_item entry_at };
 
     fn is_next(cursor: &Cursor<'_>) -> bool {
         !cursor.is_mark_at(0, b"]")
     }
 
     #[tactic(auto, unfolding(crate::specs::Rules::entry_at))]
-    fn take(cursor: &mut Cursor<'_>) -> Result<TransitionText, SpecError> {
+    fn add(
+        &self,
+        whole: Items<TransitionText>,
+        cursor: &mut Cursor<'_>,
+    ) -> Result<Items<TransitionText>, SpecError> {
         let transition = transition(cursor)?;
         comma(cursor)?;
-        Ok(transition)
+        whole.with(transition)
     }
 }
 
@@ -85,7 +89,7 @@ fn declaration(cursor: &mut Cursor<'_>) -> Result<Part, SpecError>
 {
     let name = cursor.name()?;
     cursor.mark(b"[")?;
-    let transitions = many::<Entry>(Items::new(cursor.alloc), cursor)?;
+    let transitions = gather(&Entry, Items::new(cursor.alloc), cursor)?;
     cursor.mark(b"]")?;
     Ok(Part::Declaration { name, transitions })
 }
@@ -93,20 +97,20 @@ fn declaration(cursor: &mut Cursor<'_>) -> Result<Part, SpecError>
 /// "," NAME
 struct MoreMember;
 
-impl Repeated for MoreMember {
-    type Item = Token;
+impl Gathered for MoreMember {
+    type Whole = Items<Token>;
 
     ghost goes_on = { begins_more_member };
 
-    ghost item = { more_member_at };
+    ghost more = { λ _. with_item more_member_at };
 
     fn is_next(cursor: &Cursor<'_>) -> bool {
         cursor.is_mark_at(0, b",")
     }
 
-    fn take(cursor: &mut Cursor<'_>) -> Result<Token, SpecError> {
+    fn add(&self, whole: Items<Token>, cursor: &mut Cursor<'_>) -> Result<Items<Token>, SpecError> {
         cursor.mark(b",")?;
-        cursor.name()
+        whole.with(cursor.name()?)
     }
 }
 
@@ -115,36 +119,41 @@ impl Repeated for MoreMember {
 fn alias(cursor: &mut Cursor<'_>) -> Result<Part, SpecError>
     ensures { Takes cursor.old result cursor.new alias_at }
 {
-    let mut first = Items::new(cursor.alloc);
     cursor.word(b"alias")?;
     let name = cursor.name()?;
     cursor.mark(b"=")?;
-    first.push(cursor.name()?)?;
-    let members = many::<MoreMember>(first, cursor)?;
+    let first = Items::new(cursor.alloc).with(cursor.name()?)?;
+    let members = gather(&MoreMember, first, cursor)?;
     Ok(Part::Alias { name, members })
+}
+
+#[tactic(auto, unfolding(crate::specs::Rules::part_at))]
+fn part(cursor: &mut Cursor<'_>) -> Result<Part, SpecError>
+    ensures { Takes cursor.old result cursor.new part_at }
+{
+    if cursor.is_word_at(0, b"alias") && !cursor.is_mark_at(1, b"[") {
+        alias(cursor)
+    } else {
+        declaration(cursor)
+    }
 }
 
 /// A state or an alias, up to the end.
 struct OnePart;
 
-impl Repeated for OnePart {
-    type Item = Part;
+impl Gathered for OnePart {
+    type Whole = Items<Part>;
 
     ghost goes_on = { is_left };
 
-    ghost item = { part_at };
+    ghost more = { λ _. with_item part_at };
 
     fn is_next(cursor: &Cursor<'_>) -> bool {
         cursor.is_left()
     }
 
-    #[tactic(auto, unfolding(crate::specs::Rules::part_at))]
-    fn take(cursor: &mut Cursor<'_>) -> Result<Part, SpecError> {
-        if cursor.is_word_at(0, b"alias") && !cursor.is_mark_at(1, b"[") {
-            alias(cursor)
-        } else {
-            declaration(cursor)
-        }
+    fn add(&self, whole: Items<Part>, cursor: &mut Cursor<'_>) -> Result<Items<Part>, SpecError> {
+        whole.with(part(cursor)?)
     }
 }
 
@@ -154,7 +163,7 @@ pub fn formula(cursor: &mut Cursor<'_>) -> Result<Items<Part>, SpecError>
     ensures gives { Gives result (formula_at cursor.old.bytes.now cursor.old.rest.now) }
     ensures state { IfOk result (λ parts. list_any is_state parts ≡ true) }
 {
-    let parts = many::<OnePart>(Items::new(cursor.alloc), cursor)?;
+    let parts = gather(&OnePart, Items::new(cursor.alloc), cursor)?;
     if has_state(parts.as_slice()) {
         Ok(parts)
     } else {

@@ -8,6 +8,7 @@ use Rattle.jm_model.specs.declared.fault.Counted.TheVariants.{Nonterminals, Prod
 use Rattle.jm_model.specs.declared.fault.SpecFault.{SpecFault}
 use Rattle.jm_model.specs.declared.fault.SpecFault.TheVariants.{TooMany, ReservedName, NameClash, UnknownName}
 use Rattle.jm_text.specs.declared.token.Token.{Token}
+use Rattle.jm_reading.specs.Names.{is_among}
 use Rattle.jm_reading.specs.Tokens.{name_of}
 use Rattle.jm_reading.specs.Faults.{or_else, ◌>>>◌, with_each, fault_of}
 use Rattle.jm_reading.specs.Events.{reserved_event_fault}
@@ -29,10 +30,6 @@ productions_fault parts = if nat_lt 256 (production_count parts) then Some (TooM
 -- the name is the word that spells nothing
 abbrev pub is_epsilon : Text → Bool
 is_epsilon name = bytes_eq name (codes "epsilon")
-
--- the name is among others
-abbrev pub is_among : List Text → Text → Bool
-is_among names name = list_any (bytes_eq name) names
 
 module _ (bytes : Text) where
   -- the nonterminals: the names of the left sides, in order of first mention; the number of one is its place

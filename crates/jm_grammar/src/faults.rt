@@ -2,9 +2,10 @@
 ghost use Rattle.std.specs.Prelude.{◌≡◌, ◌<◌, ◌≤◌, not, ◌+◌, ◌-◌, ◌^◌, [], IfOk, IfErr, OnOk, length, nat_lt, sum_by};
 ghost use Rattle.std.specs.List.{list_any};
 ghost use Rattle.jm_events.specs.Events.{event_names};
+ghost use Rattle.jm_reading.specs.Names.{is_among};
 ghost use Rattle.jm_reading.specs.Tokens.{name_of};
 ghost use Rattle.jm_reading.specs.Faults.{Checks};
-ghost use Rattle.jm_grammar.specs.Faults.{nonterminals, nonterminals_fault, productions_fault, is_epsilon, symbol_count, is_long, has_long, symbols_fault, left_name_fault, is_among, clash_fault};
+ghost use Rattle.jm_grammar.specs.Faults.{nonterminals, nonterminals_fault, productions_fault, is_epsilon, symbol_count, is_long, has_long, symbols_fault, left_name_fault, clash_fault};
 
 use crate::formula::Part;
 use jm_events::{EventTable, Names};

@@ -1,29 +1,29 @@
 //! The rules of the grammar: each takes from the front of the tokens that are left what it spells.
 ghost use Rattle.jm_reading.specs.Reading.{is_left, name_at};
-ghost use Rattle.jm_reading.specs.Taking.{Takes};
+ghost use Rattle.jm_reading.specs.Taking.{Takes, with_item};
 ghost use Rattle.jm_grammar.specs.Rules.{begins_symbol, alternative_at, begins_more_alternative, more_alternative_at, part_at, more_part_at, formula_at};
 
 use crate::formula::Part;
 use jm_model::SpecError;
-use jm_reading::{Cursor, Items, Repeated, many};
+use jm_reading::{Cursor, Gathered, Items, gather};
 use jm_text::Token;
 
 /// NAME | "epsilon"
 struct Symbol;
 
-impl Repeated for Symbol {
-    type Item = Token;
+impl Gathered for Symbol {
+    type Whole = Items<Token>;
 
     ghost goes_on = { begins_symbol };
 
-    ghost item = { name_at };
+    ghost more = { λ _. with_item name_at };
 
     fn is_next(cursor: &Cursor<'_>) -> bool {
         cursor.is_name_at(0)
     }
 
-    fn take(cursor: &mut Cursor<'_>) -> Result<Token, SpecError> {
-        cursor.name()
+    fn add(&self, whole: Items<Token>, cursor: &mut Cursor<'_>) -> Result<Items<Token>, SpecError> {
+        whole.with(cursor.name()?)
     }
 }
 
@@ -32,28 +32,31 @@ impl Repeated for Symbol {
 fn alternative(cursor: &mut Cursor<'_>) -> Result<Items<Token>, SpecError>
     ensures { Takes cursor.old result cursor.new alternative_at }
 {
-    let mut first = Items::new(cursor.alloc);
-    first.push(cursor.name()?)?;
-    many::<Symbol>(first, cursor)
+    let first = Items::new(cursor.alloc).with(cursor.name()?)?;
+    gather(&Symbol, first, cursor)
 }
 
 /// "|" Alternative
 struct MoreAlternative;
 
-impl Repeated for MoreAlternative {
-    type Item = Items<Token>;
+impl Gathered for MoreAlternative {
+    type Whole = Items<Items<Token>>;
 
     ghost goes_on = { begins_more_alternative };
 
-    ghost item = { more_alternative_at };
+    ghost more = { λ _. with_item more_alternative_at };
 
     fn is_next(cursor: &Cursor<'_>) -> bool {
         cursor.is_mark_at(0, b"|")
     }
 
-    fn take(cursor: &mut Cursor<'_>) -> Result<Items<Token>, SpecError> {
+    fn add(
+        &self,
+        whole: Items<Items<Token>>,
+        cursor: &mut Cursor<'_>,
+    ) -> Result<Items<Items<Token>>, SpecError> {
         cursor.mark(b"|")?;
-        alternative(cursor)
+        whole.with(alternative(cursor)?)
     }
 }
 
@@ -62,31 +65,30 @@ impl Repeated for MoreAlternative {
 fn part(cursor: &mut Cursor<'_>) -> Result<Part, SpecError>
     ensures { Takes cursor.old result cursor.new part_at }
 {
-    let mut first = Items::new(cursor.alloc);
     let left = cursor.name()?;
     cursor.mark(b"->")?;
-    first.push(alternative(cursor)?)?;
-    let alternatives = many::<MoreAlternative>(first, cursor)?;
+    let first = Items::new(cursor.alloc).with(alternative(cursor)?)?;
+    let alternatives = gather(&MoreAlternative, first, cursor)?;
     Ok(Part { left, alternatives })
 }
 
 /// "," Production, up to the end
 struct MorePart;
 
-impl Repeated for MorePart {
-    type Item = Part;
+impl Gathered for MorePart {
+    type Whole = Items<Part>;
 
     ghost goes_on = { is_left };
 
-    ghost item = { more_part_at };
+    ghost more = { λ _. with_item more_part_at };
 
     fn is_next(cursor: &Cursor<'_>) -> bool {
         cursor.is_left()
     }
 
-    fn take(cursor: &mut Cursor<'_>) -> Result<Part, SpecError> {
+    fn add(&self, whole: Items<Part>, cursor: &mut Cursor<'_>) -> Result<Items<Part>, SpecError> {
         cursor.mark(b",")?;
-        part(cursor)
+        whole.with(part(cursor)?)
     }
 }
 
@@ -95,7 +97,6 @@ impl Repeated for MorePart {
 pub fn formula(cursor: &mut Cursor<'_>) -> Result<Items<Part>, SpecError>
     ensures { Takes cursor.old result cursor.new formula_at }
 {
-    let mut first = Items::new(cursor.alloc);
-    first.push(part(cursor)?)?;
-    many::<MorePart>(first, cursor)
+    let first = Items::new(cursor.alloc).with(part(cursor)?)?;
+    gather(&MorePart, first, cursor)
 }

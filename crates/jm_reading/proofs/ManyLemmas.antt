@@ -1,53 +1,14 @@
--- Items of a rule one after the other: the loop that takes them, and what they spell.
+-- Items of a rule one after the other, and what they spell.
 use Rattle.std.proofs.Common.{◌≡◌, ℕ, zero, suc, ◌<◌, ◌≤◌, Bool, true, false, List, [], ◌∷◌, ◌++◌, length, Option, Some, None, Ok, refl, sym, ap, subst, ◌∙◌, inl, inr, arith, append_assoc, append-nil, length-append}
 use Rattle.jm_text.specs.declared.token.Token.{Token}
 use Rattle.jm_model.specs.declared.fault.SpecError.{SpecError}
 use Rattle.jm_reading.specs.declared.cursor.Cursor.{Cursor}
 use Rattle.jm_reading.specs.Answers.{FailsAt}
 use Rattle.jm_reading.specs.Reading.{mark_at, at_most}
-use Rattle.jm_reading.specs.Taking.{Rule, Takes, with_item, many_at, more_at, parted_at}
+use Rattle.jm_reading.specs.Taking.{Rule, gathered_at, with_item, many_at, more_at, parted_at}
 use Rattle.jm_reading.specs.Tokens.{IsMark, SpellsEach, SpellsMore, SpellsParted}
 use Rattle.jm_reading.proofs.TokenLemmas.{mark_is, mark_read, step_of, one_of}
-use Rattle.jm_reading.proofs.LoopLemmas.{items_stop, items_break, items_go, fails_too}
-
--- the items of the rule that are left are those of all the tokens, behind those that were taken
-pub record IsLeft {X : Type 0} (goes : List ℕ → List Token → Bool) (rule : Rule X) (start : Cursor) (first : List X) (n : ℕ) (rest : Cursor) (xs : List X) : Type 0 where
-  pub bytes : rest.bytes.now ≡ start.bytes.now
-  pub whole : at_most (goes start.bytes.now) (with_item rule start.bytes.now) n xs rest.rest.now ≡ at_most (goes start.bytes.now) (with_item rule start.bytes.now) (length start.rest.now) first start.rest.now
-
-module _ {X : Type 0} (goes : List ℕ → List Token → Bool) (rule : Rule X) (start : Cursor) (first : List X) (rest : Cursor) (xs : List X) where
-  abbrev more : List X → List Token → Option (List X × List Token)
-  more = with_item rule start.bytes.now
-
-  abbrev on : List Token → Bool
-  on = goes start.bytes.now
-
-  module _ (n : ℕ) (s : IsLeft goes rule start first n rest xs) where
-    same_on : (b : Bool) → b ≡ goes rest.bytes.now rest.rest.now → on rest.rest.now ≡ b
-    same_on b h = sym (h ∙ ap (λ bytes. goes bytes rest.rest.now) s.bytes)
-
-    same_rule : rule start.bytes.now rest.rest.now ≡ rule rest.bytes.now rest.rest.now
-    same_rule = ap (λ bytes. rule bytes rest.rest.now) (sym s.bytes)
-
-    pub all_taken : false ≡ goes rest.bytes.now rest.rest.now → Takes start (Ok xs) rest (many_at goes rule first)
-    unfolding many_at
-    all_taken h = (s.bytes, sym s.whole ∙ items_stop on more n xs rest.rest.now (same_on false h))
-
-    pub none_taken : (e : SpecError) → true ≡ goes rest.bytes.now rest.rest.now → FailsAt e (rule rest.bytes.now rest.rest.now) → FailsAt e (many_at goes rule first start.bytes.now start.rest.now)
-    unfolding many_at
-    none_taken e h fails = fails_too e _ _ fails (λ none. sym s.whole ∙ items_break on more n xs rest.rest.now (same_on true h) (rw (same_rule ∙ none) refl))
-
-    pub too_many : n ≡ 0 → true ≡ goes rest.bytes.now rest.rest.now → many_at goes rule first start.bytes.now start.rest.now ≡ None
-    unfolding many_at
-    too_many z h = sym s.whole ∙ rw (z, same_on true h) refl
-
-  pub one_taken : (n k : ℕ) (x : X) (after : Cursor) → n ≡ suc k → IsLeft goes rule start first n rest xs → true ≡ goes rest.bytes.now rest.rest.now → Takes rest (Ok x) after rule → IsLeft goes rule start first k after (xs ++ x ∷ [])
-  one_taken n k x after e s h takes = record {
-    bytes = takes.0 ∙ s.bytes;
-    whole = sym (items_go on more k xs (xs ++ x ∷ []) rest.rest.now after.rest.now (same_on n s true h) (rw (same_rule n s ∙ takes.1) refl)) ∙ ap (λ n. at_most on more n xs rest.rest.now) (sym e) ∙ s.whole;
-  }
-
--- ---- what is read is spelled, and what is spelled is read
+use Rattle.jm_reading.proofs.LoopLemmas.{items_stop, items_go}
 
 module _ {X : Type 0} (goes : List ℕ → List Token → Bool) (rule : Rule X) (bytes : List ℕ) (SpellsOne : List Token → X → Type 0) where
   -- the tokens that are taken spell what is read
@@ -83,14 +44,14 @@ module _ {X : Type 0} (goes : List ℕ → List Token → Bool) (rule : Rule X) 
     ended = more.ended;
   }
 
-  each_read : IsSoundRule → (n : ℕ) (xs ys : List X) (tokens behind : List Token) → at_most (goes bytes) (with_item rule bytes) n xs tokens ≡ Some (ys, behind) → Spelled xs ys tokens behind
+  each_read : IsSoundRule → (n : ℕ) (xs ys : List X) (tokens behind : List Token) → at_most (goes bytes) (λ xs. with_item rule xs bytes) n xs tokens ≡ Some (ys, behind) → Spelled xs ys tokens behind
   each_read sound zero xs ys tokens behind h = elim (one_of (goes bytes tokens) None (Some (xs, tokens)) (ys, behind) h) [
     | inl more ↦ absurd (cc (more.1))
     | inr end ↦ none_more xs ys tokens behind end.0 (cc (end.1))
   ]
   each_read sound (suc n) xs ys tokens behind h = elim (one_of (goes bytes tokens) _ (Some (xs, tokens)) (ys, behind) h) [
     | inl more ↦
-        let step = step_of (with_item rule bytes xs tokens) _ (ys, behind) more.1 in
+        let step = step_of (with_item rule xs bytes tokens) _ (ys, behind) more.1 in
         let item = step_of (rule bytes tokens) _ step.0 step.1 in
         let one = sound tokens item.0.1 item.0.0 item.1 in
         let e : ◌≡◌ {A = List X × List Token} (xs ++ item.0.0 ∷ [], item.0.1) step.0 = cc (item.2) in
@@ -100,7 +61,7 @@ module _ {X : Type 0} (goes : List ℕ → List Token → Bool) (rule : Rule X) 
   ]
 
   pub many_sound : IsSoundRule → (xs ys : List X) (tokens behind : List Token) → many_at goes rule xs bytes tokens ≡ Some (ys, behind) → Spelled xs ys tokens behind
-  unfolding many_at
+  unfolding gathered_at
   many_sound sound xs ys tokens behind h = each_read sound (length tokens) xs ys tokens behind h
 
   -- the tokens that spell an item are taken, where what follows begins as it must
@@ -117,21 +78,21 @@ module _ {X : Type 0} (goes : List ℕ → List Token → Bool) (rule : Rule X) 
         let whole : inner ++ behind ≡ h.0 ++ (h.1 ++ behind) = ap (λ (l : List Token). l ++ behind) h.2 ∙ append_assoc h.0 h.1 behind in
         subst Follows (sym whole) (complete.follows h.0 (h.1 ++ behind) x h.3)
 
-    read_each : (n : ℕ) (ys : List X) (inner behind : List Token) (xs : List X) → SpellsEach SpellsOne inner xs → Follows behind → goes bytes behind ≡ false → length (inner ++ behind) ≤ n → at_most (goes bytes) (with_item rule bytes) n ys (inner ++ behind) ≡ Some (ys ++ xs, behind)
+    read_each : (n : ℕ) (ys : List X) (inner behind : List Token) (xs : List X) → SpellsEach SpellsOne inner xs → Follows behind → goes bytes behind ≡ false → length (inner ++ behind) ≤ n → at_most (goes bytes) (λ xs. with_item rule xs bytes) n ys (inner ++ behind) ≡ Some (ys ++ xs, behind)
     read_each n ys inner behind [] h f end few =
-        subst (λ (l : List Token). at_most (goes bytes) (with_item rule bytes) n ys (l ++ behind) ≡ Some (ys ++ [], behind)) (sym h)
-        (items_stop (goes bytes) (with_item rule bytes) n ys behind end ∙ ap (λ (l : List X). Some (l, behind)) (sym (append-nil ys)))
+        subst (λ (l : List Token). at_most (goes bytes) (λ xs. with_item rule xs bytes) n ys (l ++ behind) ≡ Some (ys ++ [], behind)) (sym h)
+        (items_stop (goes bytes) (λ xs. with_item rule xs bytes) n ys behind end ∙ ap (λ (l : List X). Some (l, behind)) (sym (append-nil ys)))
     read_each zero ys inner behind (x ∷ xs) h f end few = absurd (omega (arith, few, length-append inner behind, ap (λ (l : List Token). length l) h.2, length-append h.0 h.1, complete.some h.0 x h.3))
     read_each (suc n) ys inner behind (x ∷ xs) h f end few =
         let whole : inner ++ behind ≡ h.0 ++ (h.1 ++ behind) = ap (λ (l : List Token). l ++ behind) h.2 ∙ append_assoc h.0 h.1 behind in
         let fewer : length (h.1 ++ behind) ≤ n = omega (arith, few, ap (λ (l : List Token). length l) whole, length-append h.0 (h.1 ++ behind), complete.some h.0 x h.3) in
-        subst (λ (l : List Token). at_most (goes bytes) (with_item rule bytes) (suc n) ys l ≡ Some (ys ++ x ∷ xs, behind)) (sym whole)
-        (items_go (goes bytes) (with_item rule bytes) n ys (ys ++ x ∷ []) (h.0 ++ (h.1 ++ behind)) (h.1 ++ behind) (complete.begins h.0 (h.1 ++ behind) x h.3) (rw (complete.reads h.0 (h.1 ++ behind) x h.3 (after_many h.1 behind xs h.4 f)) refl)
+        subst (λ (l : List Token). at_most (goes bytes) (λ xs. with_item rule xs bytes) (suc n) ys l ≡ Some (ys ++ x ∷ xs, behind)) (sym whole)
+        (items_go (goes bytes) (λ xs. with_item rule xs bytes) n ys (ys ++ x ∷ []) (h.0 ++ (h.1 ++ behind)) (h.1 ++ behind) (complete.begins h.0 (h.1 ++ behind) x h.3) (rw (complete.reads h.0 (h.1 ++ behind) x h.3 (after_many h.1 behind xs h.4 f)) refl)
         ∙ read_each n (ys ++ x ∷ []) h.1 behind xs h.4 f end fewer
         ∙ ap (λ (l : List X). Some (l, behind)) (append_assoc ys (x ∷ []) xs))
 
     pub many_complete : (ys : List X) (inner behind : List Token) (xs : List X) → SpellsEach SpellsOne inner xs → Follows behind → goes bytes behind ≡ false → many_at goes rule ys bytes (inner ++ behind) ≡ Some (ys ++ xs, behind)
-    unfolding many_at
+    unfolding gathered_at
     many_complete ys inner behind xs h f end = read_each (length (inner ++ behind)) ys inner behind xs h f end (omega arith)
 
 -- ---- the same of items with a mark between each two

@@ -1,5 +1,6 @@
 -- What tokens are, and what is read at the front of some.
-use Rattle.std.proofs.Common.{◌≡◌, ℕ, Bool, true, false, not, ◌&&◌, List, [], ◌∷◌, Option, Some, None, refl, sym, ap, subst, inl, inr, ◌⊎◌, cond}
+use Rattle.std.proofs.Common.{◌≡◌, ℕ, Bool, true, false, not, ◌&&◌, List, [], ◌∷◌, Option, Some, None, refl, sym, ap, ◌∙◌, subst, inl, inr, ◌⊎◌, cond}
+use Rattle.std.specs.Prelude.{option_map}
 use Rattle.std.specs.Str.{bytes_eq}
 use Rattle.std.proofs.lemmas.Slice.Eq.{bytes_eq-Decides}
 use Rattle.jm_text.specs.declared.token.Token.{Token}
@@ -7,7 +8,7 @@ use Rattle.jm_text.specs.declared.token.TokenKind.{TokenKind}
 use Rattle.jm_text.specs.declared.token.TokenKind.TheVariants.{Word, Text, Mark}
 use Rattle.jm_text.specs.Texts.{is_name, is_word, is_mark, is_word_kind, is_mark_kind}
 use Rattle.jm_reading.specs.Tokens.{IsName, IsMark, IsWord}
-use Rattle.jm_reading.specs.Reading.{◌>>=◌, mark_at, name_at, word_at}
+use Rattle.jm_reading.specs.Reading.{◌>>=◌, is_mark_at, is_word_at, is_name_at, mark_at, name_at, word_at, accepted}
 
 -- ---- a token is of one kind
 
@@ -70,6 +71,37 @@ module _ (bytes : List ℕ) where
       let e : t ≡ name = ap (λ (x : Token × List Token). x.0) p.1 in
       let f : ts ≡ behind = ap (λ (x : Token × List Token). x.1) p.1 in
       (cc, subst (λ (x : Token). IsWord bytes word x) e p.0)
+
+-- ---- the next token, where it is known whether it is wanted
+
+module _ (bytes : List ℕ) where
+  wanted_name : (tokens : List Token) → name_at bytes tokens ≡ accepted (is_name_at bytes tokens 0) tokens
+  unfolding name_at
+  wanted_name [] = refl
+  wanted_name (t ∷ ts) = refl
+
+  pub accepted_name : (tokens : List Token) (b : Bool) → b ≡ is_name_at bytes tokens 0 → name_at bytes tokens ≡ accepted b tokens
+  accepted_name tokens b is = wanted_name tokens ∙ ap (λ b. accepted b tokens) (sym is)
+
+  wanted_word : (word : List ℕ) (tokens : List Token) → word_at bytes word tokens ≡ accepted (is_word_at bytes tokens 0 word) tokens
+  unfolding word_at
+  wanted_word word [] = refl
+  wanted_word word (t ∷ ts) = refl
+
+  pub accepted_word : (word : List ℕ) (tokens : List Token) (b : Bool) → b ≡ is_word_at bytes tokens 0 word → word_at bytes word tokens ≡ accepted b tokens
+  accepted_word word tokens b is = wanted_word word tokens ∙ ap (λ b. accepted b tokens) (sym is)
+
+  wanted_mark : (mark : List ℕ) (tokens : List Token) → mark_at bytes mark tokens ≡ option_map (λ (x : Token × List Token). x.1) (accepted (is_mark_at bytes tokens 0 mark) tokens)
+  unfolding mark_at
+  wanted_mark mark [] = refl
+  wanted_mark mark (t ∷ ts) = behind (is_mark bytes t mark)
+    where
+      behind : (b : Bool) → cond b (Some ts) None ≡ option_map (λ (x : Token × List Token). x.1) (cond b (Some (t, ts)) None)
+      behind true = refl
+      behind false = refl
+
+  pub accepted_mark : (mark : List ℕ) (tokens : List Token) (b : Bool) (read : Option (Token × List Token)) → b ≡ is_mark_at bytes tokens 0 mark → accepted b tokens ≡ read → mark_at bytes mark tokens ≡ option_map (λ (x : Token × List Token). x.1) read
+  accepted_mark mark tokens b read is h = wanted_mark mark tokens ∙ ap (option_map (λ (x : Token × List Token). x.1)) (ap (λ b. accepted b tokens) (sym is) ∙ h)
 
 -- ---- steps of a rule
 

@@ -4,5 +4,6 @@ pub mod Reading
 pub mod Answers
 pub mod Faults
 pub mod Events
+pub mod Names
 pub mod Nesting
 pub mod Formulas

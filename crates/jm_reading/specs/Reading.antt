@@ -40,6 +40,11 @@ module _ (bytes : Text) where
   word_at word [] = None
   word_at word (t ∷ ts) = if is_word bytes t word then Some (t, ts) else None
 
+-- the next token, if it is wanted
+abbrev pub accepted : Bool → List Token → Option (Token × List Token)
+accepted is_wanted [] = None
+accepted is_wanted (t ∷ ts) = if is_wanted then Some (t, ts) else None
+
 -- the line of the next token, or the last line at the end
 abbrev pub line_of : ℕ → List Token → ℕ
 line_of last_line [] = last_line

@@ -1,10 +1,10 @@
 //! A place in a list of tokens, from which a reader goes on.
-ghost use Rattle.std.specs.Prelude.{◌≡◌, ◌<◌, ◌≤◌, length, drop, OnOk, IfErr};
+ghost use Rattle.std.specs.Prelude.{◌≡◌, ◌≤◌, length, drop};
 ghost use Rattle.jm_model.specs.declared.fault.SpecError.TheVariants.{Bad};
 ghost use Rattle.jm_model.specs.declared.fault.SpecFault.TheVariants.{Syntax};
 ghost use Rattle.jm_text.specs.Spans.{LieWithin};
 ghost use Rattle.jm_reading.specs.Answers.{Reads, Leaves, IsSyntax};
-ghost use Rattle.jm_reading.specs.Reading.{is_mark_at, is_word_at, is_name_at, is_left, last_line_of, line_of, mark_at, name_at, word_at};
+ghost use Rattle.jm_reading.specs.Reading.{is_mark_at, is_word_at, is_name_at, is_left, last_line_of, line_of, mark_at, name_at, word_at, accepted};
 
 use jm_model::{SpecError, SpecFault};
 use jm_text::{Token, is_mark, is_name, is_word};
@@ -23,6 +23,8 @@ pub struct Cursor<'a> {
 }
 
 impl<'a> Cursor<'a> {
+    ghost use Rattle.jm_reading.specs.Taking.{TakesOne};
+
     /// Before all of the tokens, which stand behind a token on this line.
     pub fn new(alloc: Global, bytes: &'a [u8], tokens: &'a [Token], line: u32) -> Cursor<'a>
         requires { LieWithin bytes.now tokens.now }
@@ -100,59 +102,43 @@ impl<'a> Cursor<'a> {
     }
 
     /// Reads this mark.
-    #[tactic(auto, unfolding(crate::specs::Reading::mark_at))]
     pub fn mark(&mut self, mark: &[u8]) -> Result<(), SpecError>
         ensures reads { Leaves result self.new.rest.now (mark_at self.old.bytes.now mark.now self.old.rest.now) }
-        ensures err { IfErr result (λ e. e ≡ Bad (Syntax (line_of self.old.last_line self.old.rest.now))) }
-        ensures kept { IfErr result (λ e. self.new.rest.now ≡ self.old.rest.now) }
-        ensures bytes { self.new.bytes.now ≡ self.old.bytes.now }
-        ensures last_line { self.new.last_line ≡ self.old.last_line }
-        ensures left { OnOk result (length self.new.rest.now < length self.old.rest.now) }
+        ensures one { TakesOne self.old result self.new }
     {
-        match self.rest {
-            [token, rest @ ..] if is_mark(self.bytes, *token, mark) => {
-                self.rest = rest;
-                Ok(())
-            }
-            _ => Err(self.syntax()),
-        }
+        let is_wanted = self.is_mark_at(0, mark);
+        self.accept(is_wanted)?;
+        Ok(())
     }
 
     /// Reads a name.
-    #[tactic(auto, unfolding(crate::specs::Reading::name_at))]
     pub fn name(&mut self) -> Result<Token, SpecError>
         ensures reads { Reads result self.new.rest.now (name_at self.old.bytes.now self.old.rest.now) }
-        ensures err { IfErr result (λ e. e ≡ Bad (Syntax (line_of self.old.last_line self.old.rest.now))) }
-        ensures kept { IfErr result (λ e. self.new.rest.now ≡ self.old.rest.now) }
-        ensures bytes { self.new.bytes.now ≡ self.old.bytes.now }
-        ensures last_line { self.new.last_line ≡ self.old.last_line }
-        ensures left { OnOk result (length self.new.rest.now < length self.old.rest.now) }
+        ensures one { TakesOne self.old result self.new }
     {
-        match self.rest {
-            [token, rest @ ..] if is_name(self.bytes, *token) => {
-                let name = *token;
-                self.rest = rest;
-                Ok(name)
-            }
-            _ => Err(self.syntax()),
-        }
+        let is_wanted = self.is_name_at(0);
+        self.accept(is_wanted)
     }
 
     /// Reads this word.
-    #[tactic(auto, unfolding(crate::specs::Reading::word_at))]
     pub fn word(&mut self, word: &[u8]) -> Result<Token, SpecError>
         ensures reads { Reads result self.new.rest.now (word_at self.old.bytes.now word.now self.old.rest.now) }
-        ensures err { IfErr result (λ e. e ≡ Bad (Syntax (line_of self.old.last_line self.old.rest.now))) }
-        ensures kept { IfErr result (λ e. self.new.rest.now ≡ self.old.rest.now) }
-        ensures bytes { self.new.bytes.now ≡ self.old.bytes.now }
-        ensures last_line { self.new.last_line ≡ self.old.last_line }
-        ensures left { OnOk result (length self.new.rest.now < length self.old.rest.now) }
+        ensures one { TakesOne self.old result self.new }
+    {
+        let is_wanted = self.is_word_at(0, word);
+        self.accept(is_wanted)
+    }
+
+    /// Reads the next token, if it is wanted.
+    fn accept(&mut self, is_wanted: bool) -> Result<Token, SpecError>
+        ensures reads { Reads result self.new.rest.now (accepted is_wanted self.old.rest.now) }
+        ensures one { TakesOne self.old result self.new }
     {
         match self.rest {
-            [token, rest @ ..] if is_word(self.bytes, *token, word) => {
-                let word = *token;
-                self.rest = rest;
-                Ok(word)
+            [token, ..] if is_wanted => {
+                let token = *token;
+                self.advance(1);
+                Ok(token)
             }
             _ => Err(self.syntax()),
         }

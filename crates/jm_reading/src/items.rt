@@ -39,6 +39,16 @@ impl<T: Drop> Items<T> {
         Ok(())
     }
 
+    /// The items with one more at the end.
+    pub fn with(self, item: T) -> Result<Items<T>, SpecError>
+        ensures ok { IfOk result (λ items. items ≡ self ++ item ∷ []) }
+        ensures err { IfErr result (λ e. e ≡ SpecError.NoMemory) }
+    {
+        let mut items = self;
+        items.push(item)?;
+        Ok(items)
+    }
+
     /// The items.
     pub fn as_slice(&self) -> &[T]
         ensures { result.now ≡ self.now }

@@ -20,7 +20,8 @@ use Rattle.jm_spec.specs.declared.frame.Frame.{Frame}
 use Rattle.jm_spec.specs.Brackets.{sign_of, after_sign, without_angles}
 use Rattle.jm_spec.specs.Runs.{may_end, parts, clause_length, parameter_length, begins_property, formula_length}
 use Rattle.jm_reading.specs.Reading.{◌>>=◌, is_mark_at, is_word_at, is_name_at, mark_at, name_at}
-use Rattle.jm_spec.specs.Reading.{place, any_word_at, passed, gathered_at}
+use Rattle.jm_reading.specs.Taking.{gathered_at}
+use Rattle.jm_spec.specs.Reading.{place, any_word_at, passed}
 use Rattle.jm_spec.specs.Rules.{begins_clause, clause_at, clauses_at, more_word_at, begins_more_word, more_words_at, modifier_of, modifier_at, begins_modifier, modifiers_at, named_at, param_at, more_param_at, begins_more_param, more_params_at, params_at, list_at, run_at, pointcut_at, before_at, optional_list_at, outcome_at, after_at, other_at, advice_at, creation_at, begins_event, event_at, member_at, begins_member, members_at, block_at, handler_at, begins_handler, handlers_at, property_at, goes_on, properties_at, frame_at, frame_of}
 use Rattle.jm_spec.specs.Balance.{member_sign, open_after}
 use Rattle.jm_reading.specs.Tokens.{IsMark, IsWord, IsName}

@@ -1,5 +1,4 @@
 pub mod ScanLemmas
-pub mod LoopLemmas
 pub mod FaultLemmas
 pub mod BalanceLemmas
 pub mod TokenLemmas

@@ -1,9 +1,9 @@
 -- Reading from the front of a list of tokens: a rule gives what it reads and the tokens behind it, or nothing.
-use Rattle.std.specs.Prelude.{ℕ, ◌-◌, Bool, List, [], ◌∷◌, length, drop, Option, Some, None, option_map, if◌then◌else◌}
+use Rattle.std.specs.Prelude.{ℕ, ◌-◌, List, [], ◌∷◌, length, drop, Option, Some, None, option_map, if◌then◌else◌}
 use Rattle.jm_model.specs.Words.{Text}
 use Rattle.jm_text.specs.declared.token.Token.{Token}
 use Rattle.jm_text.specs.Texts.{is_word_kind}
-use Rattle.jm_reading.specs.Reading.{◌>>=◌, at_most}
+use Rattle.jm_reading.specs.Reading.{◌>>=◌}
 use Rattle.jm_reading.specs.Taking.{Rule}
 
 -- the number of the next token of a file of so many
@@ -22,8 +22,3 @@ passed tokens n = option_map (λ k. drop k tokens) n
 -- a rule that keeps nothing of what it reads
 abbrev pub unkept : (Text → List Token → Option (List Token)) → Unit {0} → Rule (Unit {0})
 unkept rule u bytes tokens = rule bytes tokens >>= λ rest. Some (u, rest)
-
--- A rule one time after the other, as long as the tokens go on so: each adds to what was read before, at first this.
-unfoldable pub gathered_at : {X : Type 0} → (Text → List Token → Bool) → (X → Rule X) → X → Rule X
-gathered_at goes_on rule first bytes tokens =
-    at_most (goes_on bytes) (λ x. rule x bytes) (length tokens) first tokens

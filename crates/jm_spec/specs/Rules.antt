@@ -13,8 +13,8 @@ use Rattle.jm_spec.specs.declared.property.Property.{Property}
 use Rattle.jm_spec.specs.declared.frame.Frame.{Frame}
 use Rattle.jm_spec.specs.Runs.{clause_length, member_length, parameter_length, formula_length, begins_property}
 use Rattle.jm_reading.specs.Reading.{◌>>=◌, is_mark_at, is_word_at, is_name_at, line_of, mark_at, name_at}
-use Rattle.jm_reading.specs.Taking.{Rule}
-use Rattle.jm_spec.specs.Reading.{place, any_word_at, passed, unkept, gathered_at}
+use Rattle.jm_reading.specs.Taking.{Rule, gathered_at}
+use Rattle.jm_spec.specs.Reading.{place, any_word_at, passed, unkept}
 
 -- ( "package" | "import" ) Run ";"
 abbrev pub begins_clause : Text → List Token → Bool

@@ -5,10 +5,10 @@ ghost use Rattle.jm_reading.specs.Taking.{Takes};
 ghost use Rattle.jm_spec.specs.Rules.{begins_event, begins_member, member_at, run_at, creation_at, event_at, advice_at, before_at, after_at, pointcut_at, outcome_at, optional_list_at, other_at};
 
 use crate::head::list;
-use crate::reader::{Gathered, any_word};
+use crate::reader::any_word;
 use crate::runs;
 use jm_model::SpecError;
-use jm_reading::{Cursor, Items};
+use jm_reading::{Cursor, Gathered, Items};
 use jm_text::{Token, is_mark};
 
 /// What an event is advised by.

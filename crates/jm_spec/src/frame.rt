@@ -5,9 +5,8 @@ ghost use Rattle.jm_spec.specs.Rules.{frame_at};
 use crate::events::{Member, Mention};
 use crate::head::{Clause, Modifier, OneModifier, list};
 use crate::property::{OneProperty, Property};
-use crate::reader::gather;
 use jm_model::SpecError;
-use jm_reading::{Cursor, Items};
+use jm_reading::{Cursor, Items, gather};
 use jm_text::Token;
 
 /// What the tokens of a file say.

@@ -6,10 +6,10 @@ ghost use Rattle.jm_reading.specs.Taking.{Takes};
 ghost use Rattle.jm_spec.specs.Reading.{unkept};
 ghost use Rattle.jm_spec.specs.Rules.{begins_clause, clause_at, begins_more_word, more_word_at, modifier_of, begins_modifier, modifier_at, param_at, begins_more_param, more_param_at, params_at, list_at};
 
-use crate::reader::{Gathered, any_word, gather};
+use crate::reader::any_word;
 use crate::runs;
 use jm_model::SpecError;
-use jm_reading::{Cursor, Items};
+use jm_reading::{Cursor, Gathered, Items, gather};
 use jm_text::{Token, is_word};
 
 /// A modifier of a specification.

@@ -4,10 +4,10 @@ ghost use Rattle.jm_reading.specs.Taking.{Takes};
 ghost use Rattle.jm_spec.specs.Rules.{block_at, begins_handler, handler_at, goes_on, property_at};
 
 use crate::events::run;
-use crate::reader::{Gathered, gather, place};
+use crate::reader::place;
 use crate::runs;
 use jm_model::SpecError;
-use jm_reading::{Cursor, Items};
+use jm_reading::{Cursor, Gathered, Items, gather};
 use jm_text::Token;
 
 /// A handler: its category, and the range of the tokens inside its block.
