@@ -189,7 +189,7 @@ impl<M: Monitor> Prop<M> {
         let mut spare = Spare::none();
         for (line, step) in steps {
             let node = self.node(alloc, caller, *line, *step, &mut spare)?;
-            if let Outcome::NoMemory = self.step(node, &mut spare) {
+            if let Outcome::NoMemory = self.do_step(node, &mut spare) {
                 return Err(NoMemory);
             }
         }
@@ -211,8 +211,18 @@ impl<M: Monitor> Prop<M> {
         self.history.node(alloc, caller, line, step, spare)
     }
 
-    /// Does a step, and records it with the outcome that it answers.
-    fn step(&mut self, node: Node, spare: &mut Spare) -> Outcome
+    /// Does a step of any kind, as `event`, `death` and `pass` do, and records it with the outcome that it answers.
+    pub fn step(&mut self, node: Node) -> Outcome
+        requires { IsFitStep (M.meaning self.old.definition) self.old.objects node.step }
+        ensures added { IsExtended self.old self.new (answered node result ∷ []) }
+        ensures legal { IsLegal (M.meaning self.new.definition) self.new.entries }
+        ensures fits { FitsHistory (M.meaning self.new.definition) self.new.entries self.new.stored self.new.marks }
+    {
+        self.do_step(node, &mut Spare::none())
+    }
+
+    /// The same. The link that the entry doesn't take is spare then.
+    fn do_step(&mut self, node: Node, spare: &mut Spare) -> Outcome
         requires { IsFitStep (M.meaning self.old.definition) self.old.objects node.step }
         ensures added { IsExtended self.old self.new (answered node result ∷ []) }
         ensures legal { IsLegal (M.meaning self.new.definition) self.new.entries }

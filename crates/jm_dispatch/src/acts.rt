@@ -1,4 +1,4 @@
-//! What is done to the core in a turn. Each act brings its node along, so that nothing is made under the lock but what
+//! What is done to the core in a turn. The act brings its node along, so that nothing is made under the lock but what
 //! the core's own event takes.
 use crate::watched::Watched;
 use jm_history::Node;
@@ -12,31 +12,21 @@ pub struct Answer {
     pub outcome: Outcome,
 }
 
-/// An event.
-pub(crate) struct Occur {
+/// A step of any kind.
+pub(crate) struct DoStep {
     pub(crate) node: Node,
 }
 
-/// The death of an object.
-pub(crate) struct Die {
-    pub(crate) node: Node,
-}
-
-/// A disposal pass.
-pub(crate) struct PassBy {
-    pub(crate) node: Node,
-}
-
-impl<M: Monitor> Act<Watched<M>> for Occur {
+impl<M: Monitor> Act<Watched<M>> for DoStep {
     type Answer = Answer;
 
     ghost use Rattle.std.specs.Prelude.{ℕ, List};
-    ghost use Rattle.jm_core.specs.Steps.{IsEventOf};
+    ghost use Rattle.jm_core.specs.Steps.{IsFitStep};
     ghost use Rattle.jm_dispatch.specs.Steps.{Answered};
 
     ghost number = { λ a. a.node.caller };
 
-    ghost suits = { λ a f. IsEventOf (M.meaning f.definition) f.objects a.node.step };
+    ghost suits = { λ a f. IsFitStep (M.meaning f.definition) f.objects a.node.step };
 
     ghost relates = { λ a f before answer after. Answered (M.meaning f.definition) a.node before answer after };
 
@@ -45,59 +35,9 @@ impl<M: Monitor> Act<Watched<M>> for Occur {
     }
 
     fn run(self, value: &mut Watched<M>) -> Answer {
-        let Occur { node } = self;
+        let DoStep { node } = self;
         let place = value.prop.history().len();
-        let outcome = value.prop.event(node);
-        Answer { place, outcome }
-    }
-}
-
-impl<M: Monitor> Act<Watched<M>> for Die {
-    type Answer = Answer;
-
-    ghost use Rattle.std.specs.Prelude.{ℕ, List};
-    ghost use Rattle.jm_core.specs.Steps.{IsDeathOf};
-    ghost use Rattle.jm_dispatch.specs.Steps.{Answered};
-
-    ghost number = { λ a. a.node.caller };
-
-    ghost suits = { λ a f. IsDeathOf f.objects a.node.step };
-
-    ghost relates = { λ a f before answer after. Answered (M.meaning f.definition) a.node before answer after };
-
-    fn caller(&self) -> u32 {
-        self.node.caller()
-    }
-
-    fn run(self, value: &mut Watched<M>) -> Answer {
-        let Die { node } = self;
-        let place = value.prop.history().len();
-        let outcome = value.prop.death(node);
-        Answer { place, outcome }
-    }
-}
-
-impl<M: Monitor> Act<Watched<M>> for PassBy {
-    type Answer = Answer;
-
-    ghost use Rattle.std.specs.Prelude.{◌≡◌, ℕ, List};
-    ghost use Rattle.jm_model.specs.declared.step.Step.TheVariants.{Pass};
-    ghost use Rattle.jm_dispatch.specs.Steps.{Answered};
-
-    ghost number = { λ a. a.node.caller };
-
-    ghost suits = { λ a f. a.node.step ≡ Pass };
-
-    ghost relates = { λ a f before answer after. Answered (M.meaning f.definition) a.node before answer after };
-
-    fn caller(&self) -> u32 {
-        self.node.caller()
-    }
-
-    fn run(self, value: &mut Watched<M>) -> Answer {
-        let PassBy { node } = self;
-        let place = value.prop.history().len();
-        let outcome = value.prop.pass(node);
+        let outcome = value.prop.step(node);
         Answer { place, outcome }
     }
 }

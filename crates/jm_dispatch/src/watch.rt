@@ -10,7 +10,7 @@ ghost use Rattle.jm_turn.specs.Seats.{AreNewcomers, HaveOneHistory, IsNoteOf, Is
 ghost use Rattle.jm_dispatch.specs.Masks.{AreMasksOf};
 ghost use Rattle.jm_dispatch.specs.Steps.{AreArguments, Emitted, Stepped, caller_of};
 
-use crate::acts::{Answer, Die, Occur, PassBy};
+use crate::acts::{Answer, DoStep};
 use crate::watched::Watched;
 use arrayvec::ArrayVec;
 use jm_core::Prop;
@@ -157,21 +157,7 @@ impl<M: Monitor> Watch<M> {
         ensures err { OnErr result (seat.new ≡ seat.old) }
     {
         let node = Node::new(alloc, seat.number(), line, step)?;
-        Ok(self.turn(rt, seat, node))
-    }
-
-    /// Waits for its turn and does the node's step.
-    fn turn(&self, rt: &impl Wait, seat: &mut Seat<M>, node: Node) -> Answer
-        requires seat { IsSeatOf self.now seat.old }
-        requires caller { node.caller ≡ seat.old.number }
-        requires step { IsFitStep (M.meaning self.now.fixed.definition) self.now.fixed.objects node.step }
-        ensures { Stepped (M.meaning self.now.fixed.definition) node.line node.step result seat.old seat.new }
-    {
-        match node.step() {
-            Step::Event { .. } => self.lock.turn(rt, seat, Occur { node }),
-            Step::Death { .. } => self.lock.turn(rt, seat, Die { node }),
-            Step::Pass => self.lock.turn(rt, seat, PassBy { node }),
-        }
+        Ok(self.lock.turn(rt, seat, DoStep { node }))
     }
 
     /// The parameters of the letter.
