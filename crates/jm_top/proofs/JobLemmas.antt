@@ -1,5 +1,5 @@
 -- What the status of a command says of its job.
-use Rattle.std.proofs.Common.{◌≡◌, ℕ, zero, suc, ◌<◌, ◌≤◌, ◌⊎◌, inl, inr, Bool, List, [], ◌∷◌, length, Option, Some, None, Result, Ok, Err, IfErr, refl, sym, subst, ◌∙◌, arith}
+use Rattle.std.proofs.Common.{◌≡◌, ℕ, zero, suc, ◌+◌, ◌<◌, ◌≤◌, ◌⊎◌, inl, inr, Bool, List, [], ◌∷◌, length, Option, Some, None, Result, Ok, Err, IfErr, refl, sym, subst, ◌∙◌, arith}
 use Rattle.std.specs.Prelude.{IfSome}
 use Rattle.jm_port.specs.Faults.{HasRisen}
 use Rattle.jm_model.specs.declared.fault.SpecFault.TheVariants as spec
@@ -14,9 +14,9 @@ use Rattle.jm_top.specs.Specifications.{Specification, too_long as spec_too_long
 use Rattle.jm_top.specs.Scripts.{IsScriptFault, too_long}
 use Rattle.jm_top.specs.Inputs.{IsRefusal, faulty, SaySpecifications, AreReadUpTo, step_count, AreScriptsUpTo}
 use Rattle.jm_top.specs.Jobs.{Refused, Accepted, IsJob, no_command, bad_spec, bad_script, accepted, ReachesFile, spec_file, script_file, IsCaused, AreTold}
-use Rattle.jm_top.specs.Causes.{IsBeforeWriting, IsNoSpec, IsNoSpecIn, StopsSpecs, IsNoScript, IsNoScriptIn, StopsScripts, StopsCommand, short, at_spec, at_script, IsTextOfCommand}
+use Rattle.jm_top.specs.Causes.{IsBeforeWriting, IsFaulty, IsNotLoaded, IsNoSpec, IsNoSpecIn, StopsSpecs, IsNoScript, IsNoScriptIn, StopsScripts, StopsCommand, short, at_spec, at_script, IsTextOfCommand}
 use Rattle.jm_top.specs.Endings.{IsText}
-use Rattle.jm_top.proofs.OneReadingLemmas.{same_some, never_some}
+use Rattle.jm_top.proofs.OneReadingLemmas.{same_some, same_err, never_some}
 use Rattle.jm_top.proofs.InputLemmas.{say_one, specs_not_refused, scripts_not_refused}
 
 module _ (words : List (List ℕ)) (contents : List ℕ → Option (List ℕ)) (told : AreTold words contents) where
@@ -127,15 +127,52 @@ too_long_bytes None h = let more = more_than most_bytes in (more.0, tt, more.1)
 too_long_bytes (Some held) h = (held, refl, h)
 
 -- a file that is too long says no specification, and no script
-pub long_spec : (contents : List ℕ → Option (List ℕ)) (name : List ℕ) (families : Bool) (before : List Specification) → IfSome (contents name) (λ held. most_bytes < length held) → (bytes : List ℕ) × Gives contents (Named name) bytes × IsRefusal families before bytes spec.TooLong
+long_spec : (contents : List ℕ → Option (List ℕ)) (name : List ℕ) (families : Bool) (before : List Specification) → IfSome (contents name) (λ held. most_bytes < length held) → (bytes : List ℕ) × Gives contents (Named name) bytes × IsRefusal families before bytes spec.TooLong
 long_spec contents name families before h =
     let long = too_long_bytes (contents name) h in
     (long.0, long.1, faulty (spec_too_long long.2))
 
-pub long_script : (contents : List ℕ → Option (List ℕ)) (name : List ℕ) (specs : List Specification) (count : ℕ) (names : List (List ℕ)) → IfSome (contents name) (λ held. most_bytes < length held) → (bytes : List ℕ) × Gives contents (Named name) bytes × IsScriptFault specs count names bytes script.TooLong
+long_script : (contents : List ℕ → Option (List ℕ)) (name : List ℕ) (specs : List Specification) (count : ℕ) (names : List (List ℕ)) → IfSome (contents name) (λ held. most_bytes < length held) → (bytes : List ℕ) × Gives contents (Named name) bytes × IsScriptFault specs count names bytes script.TooLong
 long_script contents name specs count names h =
     let long = too_long_bytes (contents name) h in
     (long.0, long.1, too_long long.2)
+
+-- a file that wasn't loaded, as a source of specifications and as one of scripts
+pub faulty_not_loaded : (contents : List ℕ → Option (List ℕ)) (name : List ℕ) (number : ℕ) (status : Status) → IsFaulty status → IfSome (contents name) (λ held. most_bytes < length held) → IsNotLoaded contents name number status status
+faulty_not_loaded contents name number (BadSpec f x) h long = (refl, long)
+faulty_not_loaded contents name number (BadScript n x) h long = (refl, long)
+faulty_not_loaded contents name number Done h long = absurd h
+faulty_not_loaded contents name number Usage h long = absurd h
+faulty_not_loaded contents name number (ReadFailed f) h long = absurd h
+faulty_not_loaded contents name number WriteFailed h long = absurd h
+faulty_not_loaded contents name number NoMemory h long = absurd h
+
+pub no_failed_read : {T : Type 0} (status : Status) (file : ℕ) → IsFaulty status → ◌≡◌ {A = Result T Status} (Err status) (Err (ReadFailed file)) → ⊥
+no_failed_read status file h is = subst IsFaulty (same_err is) h
+
+pub spec_not_loaded : (contents : List ℕ → Option (List ℕ)) (name : List ℕ) (families : Bool) (before : List Specification) (number : ℕ) (status : Status) → IsNotLoaded contents name number (BadSpec number spec.TooLong) status → IsNoSpec contents families before number (Named name) status
+spec_not_loaded contents name families before number (ReadFailed f) h = (h, tt)
+spec_not_loaded contents name families before number NoMemory h = tt
+spec_not_loaded contents name families before number (BadSpec f x) h =
+    let same : f ≡ number = cc (h.0) in
+    let fault : x ≡ spec.TooLong = cc (h.0) in
+    (same, rw fault (long_spec contents name families before h.1))
+spec_not_loaded contents name families before number Done h = absurd (cc (h.0))
+spec_not_loaded contents name families before number Usage h = absurd (cc (h.0))
+spec_not_loaded contents name families before number (BadScript n x) h = absurd (cc (h.0))
+spec_not_loaded contents name families before number WriteFailed h = absurd (cc (h.0))
+
+pub script_not_loaded : (contents : List ℕ → Option (List ℕ)) (name : List ℕ) (specs : List Specification) (files count : ℕ) (names : List (List ℕ)) (number : ℕ) (status : Status) → IsNotLoaded contents name (files + number) (BadScript number script.TooLong) status → IsNoScript contents specs files count names number (Named name) status
+script_not_loaded contents name specs files count names number (ReadFailed f) h = (h, tt)
+script_not_loaded contents name specs files count names number NoMemory h = tt
+script_not_loaded contents name specs files count names number (BadScript n x) h =
+    let same : n ≡ number = cc (h.0) in
+    let fault : x ≡ script.TooLong = cc (h.0) in
+    (same, rw fault (long_script contents name specs count names h.1))
+script_not_loaded contents name specs files count names number Done h = absurd (cc (h.0))
+script_not_loaded contents name specs files count names number Usage h = absurd (cc (h.0))
+script_not_loaded contents name specs files count names number (BadSpec n x) h = absurd (cc (h.0))
+script_not_loaded contents name specs files count names number WriteFailed h = absurd (cc (h.0))
 
 -- bytes that say none, as they stand in a source
 pub spec_from : (contents : List ℕ → Option (List ℕ)) (families : Bool) (before : List Specification) (number : ℕ) (source : Source) (bytes : List ℕ) → Gives contents source bytes → (status : Status) → IsNoSpecIn families before number bytes status → IsNoSpec contents families before number source status

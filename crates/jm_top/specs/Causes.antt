@@ -1,5 +1,5 @@
 -- Why the work of a command ends before its text is written.
-use Rattle.std.specs.Prelude.{ℕ, ◌+◌, ◌≡◌, ◌⊎◌, Bool, false, List, [], length, Result, Ok, Err}
+use Rattle.std.specs.Prelude.{ℕ, ◌+◌, ◌≡◌, ◌<◌, ◌⊎◌, Bool, false, List, [], length, Result, Ok, Err, IfSome}
 use Rattle.std.specs.Global.{Vec}
 use Rattle.jm_model.specs.Words.{Text}
 use Rattle.jm_port.specs.Faults.{HasRisen}
@@ -7,7 +7,7 @@ use Rattle.jm_script.specs.declared.script.ScriptLine.{ScriptLine}
 use Rattle.jm_top.specs.declared.status.Status.{Status}
 use Rattle.jm_top.specs.declared.status.Status.TheVariants.{Done, BadSpec, BadScript, ReadFailed, WriteFailed, NoMemory}
 use Rattle.jm_top.specs.Sources.{FileContents, Source, IsFile, Gives}
-use Rattle.jm_top.specs.Specifications.{Specification}
+use Rattle.jm_top.specs.Specifications.{Specification, most_bytes}
 use Rattle.jm_top.specs.Scripts.{IsScriptFault}
 use Rattle.jm_top.specs.Inputs.{IsRefusal, SaySpecifications, AreReadUpTo, step_count, SayScripts, AreScriptsUpTo}
 use Rattle.jm_cli.specs.Words.{CommandWords}
@@ -24,6 +24,20 @@ abbrev pub IsBeforeWriting : Status → Type 0
 IsBeforeWriting Done = ⊥
 IsBeforeWriting WriteFailed = ⊥
 IsBeforeWriting _ = Unit {0}
+
+-- a status that tells a fault of a specification or a script
+abbrev pub IsFaulty : Status → Type 0
+IsFaulty (BadSpec file fault) = Unit {0}
+IsFaulty (BadScript script fault) = Unit {0}
+IsFaulty _ = ⊥
+
+-- the file of this name, which has this number, wasn't loaded: it couldn't be read, memory was short, or it is too long,
+-- which ends a command with this status
+abbrev pub IsNotLoaded : FileContents → Text → ℕ → Status → Status → Type 0
+IsNotLoaded contents name number too_long (ReadFailed file) = file ≡ number
+IsNotLoaded contents name number too_long NoMemory = Unit {0}
+IsNotLoaded contents name number too_long status =
+    (status ≡ too_long) × IfSome (contents name) (λ held. most_bytes < length held)
 
 -- these bytes, which have this number, say no specification behind these
 abbrev pub IsNoSpecIn : Bool → List Specification → ℕ → Text → Status → Type 0

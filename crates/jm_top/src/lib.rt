@@ -13,6 +13,7 @@
 //! | `command` | the call, from the words to the status |
 //! | `job` | the text of each command |
 //! | `inputs` | the specifications and scripts of a command, loaded or made |
+//! | `files` | the bytes of a file |
 //! | `library`, `specification` | specifications, read one behind the other |
 //! | `scripts` | scripts, read one behind the other |
 //! | `replay`, `run` | the histories of scripts |
@@ -21,6 +22,7 @@
 
 mod blocks;
 mod command;
+mod files;
 mod histories;
 mod inputs;
 mod job;

@@ -1,22 +1,23 @@
 //! The specifications of a command, read one behind the other.
-ghost use Rattle.std.specs.Prelude.{◌≡◌, ◌<◌, ◌≤◌, ◌&&◌, ◌∷◌, ◌++◌, [], ℕ, Bool, List, length, map, IfOk, IfErr, OnOk, IsSome, None, true, false, string_bytes};
+ghost use Rattle.std.specs.Prelude.{◌≡◌, ◌<◌, ◌≤◌, ◌&&◌, ◌∷◌, ◌++◌, [], ℕ, List, length, map, IfOk, IfErr, OnOk, IsSome, None, true, false, string_bytes};
 ghost use Rattle.jm_events.specs.Names.{number_of};
 ghost use Rattle.jm_machine.specs.Formulas.{is_grammar};
 ghost use Rattle.jm_model.specs.declared.fault.SpecFault.{SpecFault};
 ghost use Rattle.jm_script.specs.Catalogs.{spec_names};
 ghost use Rattle.jm_top.specs.Commands.{named, given_files};
-ghost use Rattle.jm_top.specs.Sources.{FileContents, Named, Gives};
-ghost use Rattle.jm_top.specs.Specifications.{Specification, most_bytes};
+ghost use Rattle.jm_top.specs.Sources.{FileContents, Named};
+ghost use Rattle.jm_top.specs.Specifications.{most_bytes};
 ghost use Rattle.jm_top.specs.Scripts.{catalog_of};
 ghost use Rattle.jm_top.specs.Inputs.{IsRefusal};
 ghost use Rattle.jm_top.specs.Reading.{IsWhole, named_entry, listing, listed_in, specs_in, IsCatalogued, HasNext, HasNextFrom, IsLibraryOf};
 ghost use Rattle.jm_top.specs.Causes.{CountsFailedReads, IsNoSpec, IsNoSpecIn, StopsSpecs};
 
+use crate::files::load;
 use crate::specification::{Loaded, Reading, read_specification};
 use crate::status::{MOST_BYTES, Status};
 use jm_events::EventTable;
 use jm_model::{SpecError, SpecFault};
-use jm_port::{Folder, LoadFault};
+use jm_port::Folder;
 use jm_script::Catalog;
 use std::alloc::Global;
 
@@ -103,11 +104,7 @@ fn read_given(alloc: Global, bytes: &[u8], library: &mut Library) -> Result<(), 
 {
     let number = library.specs.len() as u32;
     if bytes.len() > MOST_BYTES {
-        let fault = SpecFault::TooLong;
-        return Err(Status::BadSpec {
-            file: number,
-            fault,
-        });
+        return Err(too_long(number));
     }
     read_bytes(alloc, bytes, number, false, library)
 }
@@ -130,31 +127,18 @@ fn read_next<F: Folder>(
     ensures same { (other : List ℕ) → F.holds files.new other ≡ F.holds files.old other }
 {
     let number = library.specs.len() as u32;
-    let bytes = load_spec(name, number, files)?;
+    let bytes = load(name, number, too_long(number), files)?;
     read_bytes(alloc, bytes.as_slice(), number, families, library)
 }
 
-/// The bytes of a specification, whose file has this number.
-fn load_spec<F: Folder>(name: &str, number: u32, files: &mut F) -> Result<Vec<u8>, Status>
-    ensures within { IfOk result (λ bytes. length bytes.items ≤ most_bytes) }
-    ensures held { IfOk result (λ bytes. Gives (F.holds files.old) (Named name.now) bytes.items) }
-    ensures err { (families : Bool) (before : List Specification)
-        → IfErr result (IsNoSpec (F.holds files.old) families before number (Named name.now)) }
-    ensures read_failed { CountsFailedReads result (F.faults files.old) (F.faults files.new) }
-    ensures never_falls { F.faults files.old ≤ F.faults files.new }
-    ensures same { (other : List ℕ) → F.holds files.new other ≡ F.holds files.old other }
+/// The end of a command whose specification of this number is too long.
+fn too_long(number: u32) -> Status
+    ensures { result ≡ Status.BadSpec number SpecFault.TooLong }
 {
-    match files.load(name, MOST_BYTES) {
-        Ok(bytes) => Ok(bytes),
-        Err(LoadFault::Failed) => Err(Status::ReadFailed { file: number }),
-        Err(LoadFault::TooLong) => {
-            let fault = SpecFault::TooLong;
-            Err(Status::BadSpec {
-                file: number,
-                fault,
-            })
-        }
-        Err(LoadFault::NoMemory) => Err(Status::NoMemory),
+    let fault = SpecFault::TooLong;
+    Status::BadSpec {
+        file: number,
+        fault,
     }
 }
 

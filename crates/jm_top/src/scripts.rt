@@ -2,17 +2,18 @@
 ghost use Rattle.std.specs.Prelude.{◌≡◌, ◌+◌, ◌<◌, ◌≤◌, ◌^◌, [], ℕ, List, length, map, IfOk, IfErr, OnOk, string_bytes};
 ghost use Rattle.jm_model.specs.declared.fault.ScriptFault.{ScriptFault};
 ghost use Rattle.jm_top.specs.Commands.{named, given_files};
-ghost use Rattle.jm_top.specs.Sources.{FileContents, Named, Gives};
+ghost use Rattle.jm_top.specs.Sources.{FileContents, Named};
 ghost use Rattle.jm_top.specs.Specifications.{Specification, most_bytes};
 ghost use Rattle.jm_top.specs.Scripts.{IsScriptFault};
 ghost use Rattle.jm_top.specs.Reading.{specs_in, IsCatalogued, AreCounted, HasScript, HasScriptFrom, AreScriptsOf};
 ghost use Rattle.jm_top.specs.Causes.{CountsFailedReads, IsNoScript, IsNoScriptIn, StopsScripts};
 
+use crate::files::load;
 use crate::library::Library;
 use crate::status::{MOST_BYTES, Status};
 use jm_events::Names;
 use jm_model::{ScriptError, ScriptFault};
-use jm_port::{Folder, LoadFault};
+use jm_port::Folder;
 use jm_script::{Script, read_script};
 use std::alloc::Global;
 
@@ -101,11 +102,7 @@ fn read_given(
 {
     let number = scripts.list.len() as u32;
     if bytes.len() > MOST_BYTES {
-        let fault = ScriptFault::TooLong;
-        return Err(Status::BadScript {
-            script: number,
-            fault,
-        });
+        return Err(too_long(number));
     }
     read_bytes(alloc, bytes, number, library, scripts)
 }
@@ -133,41 +130,18 @@ fn read_next<F: Folder>(
 {
     let number = scripts.list.len() as u32;
     let before = library.specs.len() as u32;
-    let bytes = load_script(name, before, number, files)?;
+    let bytes = load(name, before + number, too_long(number), files)?;
     read_bytes(alloc, bytes.as_slice(), number, library, scripts)
 }
 
-/// The bytes of a script, which has this number behind so many files.
-fn load_script<F: Folder>(
-    name: &str,
-    before: u32,
-    number: u32,
-    files: &mut F,
-) -> Result<Vec<u8>, Status>
-    requires { before + number < 2 ^ 32 }
-    ensures within { IfOk result (λ bytes. length bytes.items ≤ most_bytes) }
-    ensures held { IfOk result (λ bytes. Gives (F.holds files.old) (Named name.now) bytes.items) }
-    ensures err { (specs : List Specification) (count : ℕ) (names : List (List ℕ))
-        → IfErr result (IsNoScript (F.holds files.old) specs before count names number (Named name.now)) }
-    ensures read_failed { CountsFailedReads result (F.faults files.old) (F.faults files.new) }
-    ensures never_falls { F.faults files.old ≤ F.faults files.new }
-    ensures same { (other : List ℕ) → F.holds files.new other ≡ F.holds files.old other }
+/// The end of a command whose script of this number is too long.
+fn too_long(number: u32) -> Status
+    ensures { result ≡ Status.BadScript number ScriptFault.TooLong }
 {
-    match files.load(name, MOST_BYTES) {
-        Ok(bytes) => Ok(bytes),
-        Err(LoadFault::Failed) => {
-            Err(Status::ReadFailed {
-                file: before + number,
-            })
-        }
-        Err(LoadFault::TooLong) => {
-            let fault = ScriptFault::TooLong;
-            Err(Status::BadScript {
-                script: number,
-                fault,
-            })
-        }
-        Err(LoadFault::NoMemory) => Err(Status::NoMemory),
+    let fault = ScriptFault::TooLong;
+    Status::BadScript {
+        script: number,
+        fault,
     }
 }
 

@@ -10,7 +10,7 @@ pub returns-then-bytes-gt-MOST_BYTES-clause-err : goal.returns-then-bytes-gt-MOS
 returns-then-bytes-gt-MOST_BYTES-clause-err c =
     let many : c.len-number.result ≡ length c.args.library.now.specs.items = omega (arith, c.len-number.ensures, c.args.library.now.specs.ok.0) in
     let long : most_bytes < length c.args.bytes.now = omega arith in
-    (many, faulty (too_long long))
+    rw c.too_long.ensures (many, faulty (too_long long))
 
 pub returns-clause-err : goal.returns-clause-err
 returns-clause-err c =

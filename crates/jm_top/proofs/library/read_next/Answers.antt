@@ -3,7 +3,7 @@ use Rattle.std.proofs.lemmas.Result.{err_from_is_err_and}
 use Rattle.jm_top.specs.Sources.{Named}
 use Rattle.jm_top.specs.Causes.{IsNoSpec, IsNoSpecIn}
 use Rattle.jm_top.specs.Reading.{specs_in}
-use Rattle.jm_top.proofs.JobLemmas.{for_err, spec_from}
+use Rattle.jm_top.proofs.JobLemmas.{for_err, spec_from, spec_not_loaded}
 use Rattle.jm_top.proofs.library.read_next.Goals as goal
 
 pub returns-in_err-bytes-clause-err : goal.returns-in_err-bytes-clause-err
@@ -11,7 +11,7 @@ returns-in_err-bytes-clause-err g c =
     let p = err_from_is_err_and c.from_residual.result c.from_residual.ensures.1 in
     let many : c.len-number.result ≡ length c.args.library.now.specs.items = omega (arith, c.len-number.ensures, c.args.library.now.specs.ok.0) in
     let there : IfErr c.from_residual.result (IsNoSpec (g.F.Folder.holds c.args.files.now) c.args.families (specs_in c.args.library.now) c.len-number.result (Named c.args.name.now)) =
-    rw (p.1, p.2) (c.in_err-bytes.ensures.err c.args.families (specs_in c.args.library.now)) in
+    rw (p.1, p.2) (spec_not_loaded (g.F.Folder.holds c.args.files.now) c.args.name.now c.args.families (specs_in c.args.library.now) c.len-number.result _ (rw c.too_long.ensures at c.in_err-bytes.ensures.err)) in
     subst (λ (n : ℕ). IfErr c.from_residual.result (IsNoSpec (g.F.Folder.holds c.args.files.now) c.args.families (specs_in c.args.library.now) n (Named c.args.name.now))) many there
 
 pub returns-clause-err : goal.returns-clause-err
