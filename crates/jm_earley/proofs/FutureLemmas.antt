@@ -18,12 +18,14 @@ use Rattle.jm_earley.specs.declared.rule.Rule.{Rule}
 use Rattle.jm_earley.specs.declared.link.Link.{Link}
 use Rattle.jm_earley.specs.declared.letter_set.LetterSet.{LetterSet}
 use Rattle.jm_earley.specs.declared.future.Future.{Future}
+use Rattle.jm_earley.specs.declared.future.Rest.{Rest}
+use Rattle.jm_earley.specs.declared.future.Rest.TheVariants.{AnyLength, NotEmpty}
 use Rattle.jm_earley.specs.declared.place.Place.{Place}
 use Rattle.jm_earley.specs.Items.{IsItem, IsItemSet}
 use Rattle.jm_earley.specs.Futures.{IsRest, at_end, within, IsContinuation, CanEnd, CanGoOn, IsAlive}
 use Rattle.jm_earley.specs.Rules.{IsGained, at_once, later}
 use Rattle.jm_earley.specs.LetterSets.{IsExact, can_spell, can_go_on}
-use Rattle.jm_earley.specs.Links.{link_from, link_in, link_of, future_at, ends_rule, more_rule, start_rule, ends_rules, more_rules, keeps_alive_in, keeps_alive}
+use Rattle.jm_earley.specs.Links.{link_from, link_in, link_of, future_at, is_known, rest_rule, start_rule, rest_rules, keeps_alive_in, keeps_alive}
 use Rattle.jm_earley.specs.Places.{IsFuture, AreEarlierOf}
 use Rattle.jm_earley.proofs.BitLemmas.{none_set, only_same, only_only, has_set, set_has}
 use Rattle.jm_earley.proofs.ExtensionLemmas.{rest_awaited, item_production, continued, found}
@@ -64,6 +66,34 @@ module _ (g : GrammarDefinition) (small : IsSmall g.productions g.start) (set : 
     | inr h ↦
         inr (ap (λ (o : Option Place). option_and_then (λ (p : Place). slice_get p.futures.futures.items number) o) (are.past item.origin h.0), h.1)
   ]
+
+  future_there : (item : Item) (i : IsItem g word item) (f : Future) → there_of item ≡ Some f → IsFuture g A i.before f
+  future_there item i f e = elim (there_cases item i) [
+    | inl h ↦ subst (λ (x : Future). IsFuture g A i.before x) (ap (λ (o : Option Future). unwrap_or o f) (sym h.1 ∙ e)) h.2
+    | inr h ↦ absurd (let clash = h.0 in cc)
+  ]
+
+  here_there : (item : Item) (i : IsItem g word item) → there_of item ≡ None → i.before ≡ word
+  here_there item i e = elim (there_cases item i) [ inl h ↦ absurd (let clash = h.1 in cc) | inr h ↦ h.1 ]
+
+  -- ---- the rests that are asked for
+
+  abbrev IsAsked : Rest → List ℕ → Type 0
+  IsAsked AnyLength letters = Unit {0}
+  IsAsked (NotEmpty ends) letters = letters ≢ []
+
+  asked_back : (rest : Rest) (behind follows : List ℕ) → IsAsked rest follows → IsAsked rest (behind ++ follows)
+  asked_back AnyLength behind follows asked = tt
+  asked_back (NotEmpty ends) behind follows asked = some_back behind follows asked
+
+  -- such a rest may follow the nonterminal behind the word
+  abbrev CanFollow : Rest → List ℕ → ℕ → Type 0
+  CanFollow rest w n = (letters : List ℕ) × All (IsBitSet A) letters × IsRest ps g.start w n letters × IsAsked rest letters
+
+  -- what is known before are the nonterminals that any rest may follow
+  abbrev AreKnown : Rest → Type 0
+  AreKnown AnyLength = Unit {0}
+  AreKnown (NotEmpty ends) = (n : ℕ) → IsBitSet ends n ↔ CanEnd g A word n
 
   -- ---- what an item's link says
 
@@ -120,23 +150,17 @@ module _ (g : GrammarDefinition) (small : IsSmall g.productions g.start) (set : 
       within i.before i.spelled word behind follows (behind ++ follows) i.production (take item.dot i.production.symbols) n back rest (item_production g word item i)
       (sym (take-append-drop item.dot i.production.symbols) ∙ ap (λ (s : List GrammarSymbol). take item.dot i.production.symbols ++ s) e) i.trees trees i.word_is refl
 
-  extend_ends : (item : Item) (i : IsItem g word item) (l : Link) → IsLink item i l → CanEnd g A i.before l.left → CanEnd g A word l.next
-  extend_ends item i l says ends =
-      let back = can_spells ps small.each set exact says.back says.spelled in
-      let rest = subst (λ (k : ℕ). IsRest ps g.start i.before k ends.0) says.left ends.2 in
-      (back.0 ++ ends.0, All-append (IsBitSet A) back.0 ends.0 back.1 ends.1, extend item i l.next says.back says.symbols back.0 ends.0 back.2 rest)
-
   extend_letters : (item : Item) (i : IsItem g word item) (l : Link) → IsLink item i l → l.goes_on ≡ true → CanEnd g A i.before l.left → CanGoOn g A word l.next
   extend_letters item i l says goes_on ends =
       let back = can_goes_on ps small.each set exact says.back says.spelled (sym says.goes_on ∙ goes_on) in
       let rest = subst (λ (k : ℕ). IsRest ps g.start i.before k ends.0) says.left ends.2 in
       (back.0 ++ ends.0, All-append (IsBitSet A) back.0 ends.0 back.1 ends.1, extend item i l.next says.back says.symbols back.0 ends.0 back.2 rest, some_front back.0 ends.0 back.3)
 
-  extend_more : (item : Item) (i : IsItem g word item) (l : Link) → IsLink item i l → CanGoOn g A i.before l.left → CanGoOn g A word l.next
-  extend_more item i l says more =
+  extend_asked : (rest : Rest) (item : Item) (i : IsItem g word item) (l : Link) → IsLink item i l → CanFollow rest i.before l.left → CanFollow rest word l.next
+  extend_asked rest item i l says asked =
       let back = can_spells ps small.each set exact says.back says.spelled in
-      let rest = subst (λ (k : ℕ). IsRest ps g.start i.before k more.0) says.left more.2 in
-      (back.0 ++ more.0, All-append (IsBitSet A) back.0 more.0 back.1 more.1, extend item i l.next says.back says.symbols back.0 more.0 back.2 rest, some_back back.0 more.0 more.3)
+      let follows = subst (λ (k : ℕ). IsRest ps g.start i.before k asked.0) says.left asked.2 in
+      (back.0 ++ asked.0, All-append (IsBitSet A) back.0 asked.0 back.1 asked.1, extend item i l.next says.back says.symbols back.0 asked.0 back.2 follows, asked_back rest back.0 asked.0 asked.3)
 
   -- ---- an item of this place, from a rest
 
@@ -184,281 +208,229 @@ module _ (g : GrammarDefinition) (small : IsSmall g.productions g.start) (set : 
         rest = left;
       }
 
-  -- ---- the nonterminals that a rest may follow
+  -- ---- the nonterminals that such a rest may follow
 
-  abbrev start_here : Rule
-  start_here = start_rule g.start earlier
+  known_follows : (rest : Rest) → AreKnown rest → (item : Item) (i : IsItem g word item) (l : Link) → link_of ps set item ≡ Some l → (t : Option Future) → there_of item ≡ t
+      → is_known rest l t ≡ true → CanFollow rest word l.next
+  known_follows AnyLength are_known item i l e None there known = absurd (cc)
+  known_follows AnyLength are_known item i l e (Some f) there known =
+      let ends = ((future_there item i f there).ends l.left).0 (has_set f.ends l.left known) in
+      extend_asked AnyLength item i l (link_says item i l e) (ends.0, ends.1, ends.2, tt)
+  known_follows (NotEmpty ends) are_known item i l e None there known =
+      let both = and_parts _ _ known in
+      let left : CanEnd g A i.before l.left = subst (λ (w : List ℕ). CanEnd g A w l.left) (sym (here_there item i there)) ((are_known l.left).0 (has_set ends l.left both.1)) in
+      extend_letters item i l (link_says item i l e) both.0 left
+  known_follows (NotEmpty ends) are_known item i l e (Some f) there known =
+      let future = future_there item i f there in
+      let says = link_says item i l e in
+      elim (bool_cases _ _ known) [
+        | inl one ↦ let both = and_parts _ _ one in extend_letters item i l says both.0 ((future.ends l.left).0 (has_set f.ends l.left both.1))
+        | inr two ↦ extend_asked (NotEmpty ends) item i l says ((future.more l.left).0 (has_set f.more l.left two))
+      ]
 
-  abbrev ends_of : Item → Rule
-  ends_of item = ends_rule (link_of ps set item) (there_of item)
+  -- it is known, or such a rest follows the left side of an item that began here
+  known_or_here : (rest : Rest) → AreKnown rest → (item : Item) (i : IsItem g word item) (l : Link) → l.left < 64 → (behind follows : List ℕ) → (behind ≢ [] → l.goes_on ≡ true)
+      → All (IsBitSet A) follows → IsRest ps g.start i.before l.left follows → IsAsked rest (behind ++ follows)
+      → (is_known rest l (there_of item) ≡ true) ⊎ (IsAsked rest follows × (there_of item ≡ None) × (i.before ≡ word))
+  known_or_here AnyLength are_known item i l lt behind follows goes_on all_follows left asked = elim (there_cases item i) [
+    | inl f ↦ inl (subst (λ (o : Option Future). is_known AnyLength l o ≡ true) (sym f.1) (set_has f.0.ends l.left lt ((f.2.ends l.left).1 (follows, all_follows, left))))
+    | inr here ↦ inr (tt, here.0, here.1)
+  ]
+  known_or_here (NotEmpty ends) are_known item i l lt behind follows goes_on all_follows left asked = elim (there_cases item i) [
+    | inl f ↦
+        let known : is_known (NotEmpty ends) l (Some f.0) ≡ true = elim (none_or_some behind) [
+          | inl none ↦ or_right _ _ (set_has f.0.more l.left lt ((f.2.more l.left).1 (follows, all_follows, left, λ e. asked (ap (λ (x : List ℕ). x ++ follows) none ∙ e))))
+          | inr letters ↦ or_left _ _ (and_from _ _ (goes_on letters) (set_has f.0.ends l.left lt ((f.2.ends l.left).1 (follows, all_follows, left))))
+        ] in
+        inl (subst (λ (o : Option Future). is_known (NotEmpty ends) l o ≡ true) (sym f.1) known)
+    | inr here ↦ elim (none_or_some behind) [
+      | inl none ↦ inr (λ e. asked (ap (λ (x : List ℕ). x ++ follows) none ∙ e), here.0, here.1)
+      | inr letters ↦
+          let left_ends : CanEnd g A word l.left = (follows, all_follows, subst (λ (w : List ℕ). IsRest ps g.start w l.left follows) here.1 left) in
+          inl (subst (λ (o : Option Future). is_known (NotEmpty ends) l o ≡ true) (sym here.0) (and_from _ _ (goes_on letters) (set_has ends l.left lt ((are_known l.left).1 left_ends))))
+    ]
+  ]
 
-  abbrev pub all_ends : List Rule
-  all_ends = ends_rules ps g.start set number earlier items
+  abbrev start_of : Rest → Rule
+  start_of rest = start_rule rest g.start earlier
 
-  ends_at_start : (n : ℕ) → start_here.always ≡ true → IsBitSet start_here.gives n → CanEnd g A word n
-  ends_at_start n always gives =
+  start_sound : (rest : Rest) (n : ℕ) → (start_of rest).always ≡ true → IsBitSet (start_of rest).gives n → CanFollow rest word n
+  start_sound AnyLength n always gives =
       let none : [] ≡ word = sym (nothing word (are.none.0 (eqb-true _ _ always))) in
       let start : IsRest ps g.start [] n [] = subst (λ (k : ℕ). IsRest ps g.start [] k []) (sym (only_only g.start n gives)) at_end in
-      ([], (λ k d lt. absurd (omega (arith, lt))), subst (λ (l : List ℕ). IsRest ps g.start l n []) none start)
+      ([], (λ k d lt. absurd (omega (arith, lt))), subst (λ (l : List ℕ). IsRest ps g.start l n []) none start, tt)
+  start_sound (NotEmpty ends) n always gives = absurd (none_set n gives)
 
-  ends_once : (item : Item) (i : IsItem g word item) (n : ℕ) (o : Option Link) → link_of ps set item ≡ o → (t : Option Future) → there_of item ≡ t
-      → (ends_rule o t).always ≡ true → IsBitSet (ends_rule o t).gives n → CanEnd g A word n
-  ends_once item i n None e t there always gives = absurd (none_set n gives)
-  ends_once item i n (Some l) e None there always gives = absurd (cc)
-  ends_once item i n (Some l) e (Some f) there always gives = elim (there_cases item i) [
-    | inl h ↦
-        let same : h.0 ≡ f = ap (λ (o : Option Future). unwrap_or o f) (sym h.1 ∙ there) in
-        let future : IsFuture g A i.before f = subst (λ (x : Future). IsFuture g A i.before x) same h.2 in
-        subst (λ (k : ℕ). CanEnd g A word k) (sym (only_only l.next n gives)) (extend_ends item i l (link_says item i l e) ((future.ends l.left).0 (has_set f.ends l.left always)))
-    | inr h ↦ absurd (let clash = h.0 in cc)
-  ]
+  start_alone : (rest : Rest) (m : ℕ) → IsBitSet (start_of rest).any m → ⊥
+  start_alone AnyLength m any = none_set m any
+  start_alone (NotEmpty ends) m any = none_set m any
 
-  ends_later : (item : Item) (i : IsItem g word item) (n m : ℕ) (o : Option Link) → link_of ps set item ≡ o → (t : Option Future) → there_of item ≡ t
-      → IsBitSet (ends_rule o t).any m → CanEnd g A word m → IsBitSet (ends_rule o t).gives n → CanEnd g A word n
-  ends_later item i n m None e t there any ends gives = absurd (none_set n gives)
-  ends_later item i n m (Some l) e (Some f) there any ends gives = absurd (none_set m any)
-  ends_later item i n m (Some l) e None there any ends gives = elim (there_cases item i) [
-    | inl h ↦ absurd (let clash = h.1 in cc)
-    | inr h ↦
-        let left : CanEnd g A word l.left = subst (λ (k : ℕ). CanEnd g A word k) (only_only l.left m any) ends in
-        subst (λ (k : ℕ). CanEnd g A word k) (sym (only_only l.next n gives))
-        (extend_ends item i l (link_says item i l e) (subst (λ (w : List ℕ). CanEnd g A w l.left) (sym h.1) left))
-  ]
+  module _ (rest : Rest) (are_known : AreKnown rest) where
+    abbrev rule_of : Item → Rule
+    rule_of item = rest_rule rest (link_of ps set item) (there_of item)
 
-  pub ends_sound : {n : ℕ} → IsGained all_ends n → CanEnd g A word n
-  ends_sound (at_once r n there always gives) = elim (Contains-cons_cases start_here (map ends_of items) r there) [
-    | inl e ↦ ends_at_start n (ap (λ (q : Rule). q.always) e ∙ always) (subst (λ (q : Rule). IsBitSet q.gives n) (sym e) gives)
-    | inr in_items ↦
-        let from = from_map ends_of items r in_items in
-        let i = (all from.0).0 from.1 in
-        ends_once from.0 i n (link_of ps set from.0) refl (there_of from.0) refl (ap (λ (q : Rule). q.always) from.2 ∙ always) (subst (λ (q : Rule). IsBitSet q.gives n) (sym from.2) gives)
-  ]
-  ends_sound (later r m n there any before gives) =
-      let ends = ends_sound before in
-      elim (Contains-cons_cases start_here (map ends_of items) r there) [
-        | inl e ↦ absurd (none_set m (subst (λ (q : Rule). IsBitSet q.any m) (sym e) any))
-        | inr in_items ↦
-            let from = from_map ends_of items r in_items in
-            let i = (all from.0).0 from.1 in
-            ends_later from.0 i n m (link_of ps set from.0) refl (there_of from.0) refl (subst (λ (q : Rule). IsBitSet q.any m) (sym from.2) any) ends (subst (λ (q : Rule). IsBitSet q.gives n) (sym from.2) gives)
-      ]
+    abbrev pub all_rules : List Rule
+    all_rules = rest_rules g rest set number earlier items
 
-  ends_rule_there : (item : Item) → Contains items item → (l : Link) → link_of ps set item ≡ Some l → (t : Option Future) → there_of item ≡ t → Contains all_ends (ends_rule (Some l) t)
-  ends_rule_there item inside l e t there =
-      let mapped : Contains (map ends_of items) (ends_of item) = to_map ends_of items item inside in
-      let one : Contains (map ends_of items) (ends_rule (Some l) (there_of item)) = subst (λ (o : Option Link). Contains (map ends_of items) (ends_rule o (there_of item))) e mapped in
-      Contains-append_right (start_here ∷ []) (map ends_of items) _ (subst (λ (o : Option Future). Contains (map ends_of items) (ends_rule (Some l) o)) there one)
+    rule_once : (item : Item) (i : IsItem g word item) (n : ℕ) (o : Option Link) → link_of ps set item ≡ o
+        → (rest_rule rest o (there_of item)).always ≡ true → IsBitSet (rest_rule rest o (there_of item)).gives n → CanFollow rest word n
+    rule_once item i n None e always gives = absurd (none_set n gives)
+    rule_once item i n (Some l) e always gives =
+        subst (λ (k : ℕ). CanFollow rest word k) (sym (only_only l.next n gives)) (known_follows rest are_known item i l e (there_of item) refl always)
 
-  pub ends_complete : {w : List ℕ} {n : ℕ} {rest : List ℕ} → IsRest ps g.start w n rest → w ≡ word → All (IsBitSet A) rest → IsGained all_ends n
-  unfolding step
-  ends_complete at_end e h =
-      at_once start_here g.start (Contains-head (map ends_of items) start_here) (eq-eqb (length earlier) 0 (are.none.1 (ap length (sym e)))) (only_same g.start small.first)
-  ends_complete (within before spelled w behind follows rest p front n back left there is trees trees' word_is rest_is) e h =
-      let s = step before spelled behind follows p front n back left there is trees trees' (sym e ∙ word_is) in
-      let i = s.is_item in
-      let parts : All (IsBitSet A) (behind ++ follows) = subst (λ (l : List ℕ). All (IsBitSet A) l) rest_is h in
-      let spell = spells_can ps small.each set exact s.back behind s.trees s.small_back (All-front (IsBitSet A) behind follows parts) in
-      let l : Link = record { left = i.production.left; next = n; goes_on = can_go_on set s.back } in
-      let link = link_is s.item i n s.back s.symbols spell in
-      let inside = (all s.item).1 i in
-      elim (there_cases s.item i) [
-        | inl f ↦
-            let has_left = set_has f.0.ends l.left s.small_left ((f.2.ends l.left).1 (follows, All-back (IsBitSet A) behind follows parts, s.rest)) in
-            at_once (ends_rule (Some l) (Some f.0)) n (ends_rule_there s.item inside l link (Some f.0) f.1) has_left (only_same n s.small_next)
-        | inr same ↦
-            let before_left = ends_complete left (sym s.is_before ∙ same.1) (All-back (IsBitSet A) behind follows parts) in
-            later (ends_rule (Some l) None) p.left n (ends_rule_there s.item inside l link None same.0) (only_same p.left s.small_left) before_left (only_same n s.small_next)
-      ]
+    rule_later : (item : Item) (i : IsItem g word item) (n m : ℕ) (o : Option Link) → link_of ps set item ≡ o → (t : Option Future) → there_of item ≡ t
+        → IsBitSet (rest_rule rest o t).any m → CanFollow rest word m → IsBitSet (rest_rule rest o t).gives n → CanFollow rest word n
+    rule_later item i n m None e t there any before gives = absurd (none_set n gives)
+    rule_later item i n m (Some l) e (Some f) there any before gives = absurd (none_set m any)
+    rule_later item i n m (Some l) e None there any before gives =
+        let left : CanFollow rest word l.left = subst (λ (k : ℕ). CanFollow rest word k) (only_only l.left m any) before in
+        subst (λ (k : ℕ). CanFollow rest word k) (sym (only_only l.next n gives))
+        (extend_asked rest item i l (link_says item i l e) (subst (λ (w : List ℕ). CanFollow rest w l.left) (sym (here_there item i there)) left))
 
-  -- ---- the nonterminals that a rest of one or more letters may follow
-
-  module _ (ends : ℕ) (ends_are : (n : ℕ) → IsBitSet ends n ↔ CanEnd g A word n) where
-    abbrev more_of : Item → Rule
-    more_of item = more_rule ends (link_of ps set item) (there_of item)
-
-    abbrev pub all_more : List Rule
-    all_more = more_rules ps ends set number earlier items
-
-    more_once : (item : Item) (i : IsItem g word item) (n : ℕ) (o : Option Link) → link_of ps set item ≡ o → (t : Option Future) → there_of item ≡ t
-        → (more_rule ends o t).always ≡ true → IsBitSet (more_rule ends o t).gives n → CanGoOn g A word n
-    more_once item i n None e t there always gives = absurd (none_set n gives)
-    more_once item i n (Some l) e None there always gives = elim (there_cases item i) [
-      | inl h ↦ absurd (let clash = h.1 in cc)
-      | inr h ↦
-          let both = and_parts _ _ always in
-          let left : CanEnd g A i.before l.left = subst (λ (w : List ℕ). CanEnd g A w l.left) (sym h.1) ((ends_are l.left).0 (has_set ends l.left both.1)) in
-          subst (λ (k : ℕ). CanGoOn g A word k) (sym (only_only l.next n gives)) (extend_letters item i l (link_says item i l e) both.0 left)
+    pub sound : {n : ℕ} → IsGained all_rules n → CanFollow rest word n
+    sound (at_once r n there always gives) = elim (Contains-cons_cases (start_of rest) (map rule_of items) r there) [
+      | inl e ↦ start_sound rest n (ap (λ (q : Rule). q.always) e ∙ always) (subst (λ (q : Rule). IsBitSet q.gives n) (sym e) gives)
+      | inr in_items ↦
+          let from = from_map rule_of items r in_items in
+          rule_once from.0 ((all from.0).0 from.1) n (link_of ps set from.0) refl (ap (λ (q : Rule). q.always) from.2 ∙ always) (subst (λ (q : Rule). IsBitSet q.gives n) (sym from.2) gives)
     ]
-    more_once item i n (Some l) e (Some f) there always gives = elim (there_cases item i) [
-      | inl h ↦
-          let same : h.0 ≡ f = ap (λ (o : Option Future). unwrap_or o f) (sym h.1 ∙ there) in
-          let future : IsFuture g A i.before f = subst (λ (x : Future). IsFuture g A i.before x) same h.2 in
-          let says = link_says item i l e in
-          let next : CanGoOn g A word l.next = elim (bool_cases _ _ always) [
-            | inl one ↦ let both = and_parts _ _ one in extend_letters item i l says both.0 ((future.ends l.left).0 (has_set f.ends l.left both.1))
-            | inr two ↦ extend_more item i l says ((future.more l.left).0 (has_set f.more l.left two))
-          ] in
-          subst (λ (k : ℕ). CanGoOn g A word k) (sym (only_only l.next n gives)) next
-      | inr h ↦ absurd (let clash = h.0 in cc)
-    ]
-
-    more_later : (item : Item) (i : IsItem g word item) (n m : ℕ) (o : Option Link) → link_of ps set item ≡ o → (t : Option Future) → there_of item ≡ t
-        → IsBitSet (more_rule ends o t).any m → CanGoOn g A word m → IsBitSet (more_rule ends o t).gives n → CanGoOn g A word n
-    more_later item i n m None e t there any more gives = absurd (none_set n gives)
-    more_later item i n m (Some l) e (Some f) there any more gives = absurd (none_set m any)
-    more_later item i n m (Some l) e None there any more gives = elim (there_cases item i) [
-      | inl h ↦ absurd (let clash = h.1 in cc)
-      | inr h ↦
-          let left : CanGoOn g A word l.left = subst (λ (k : ℕ). CanGoOn g A word k) (only_only l.left m any) more in
-          subst (λ (k : ℕ). CanGoOn g A word k) (sym (only_only l.next n gives))
-          (extend_more item i l (link_says item i l e) (subst (λ (w : List ℕ). CanGoOn g A w l.left) (sym h.1) left))
-    ]
-
-    pub more_sound : {n : ℕ} → IsGained all_more n → CanGoOn g A word n
-    more_sound (at_once r n there always gives) =
-        let from = from_map more_of items r there in
-        let i = (all from.0).0 from.1 in
-        more_once from.0 i n (link_of ps set from.0) refl (there_of from.0) refl (ap (λ (q : Rule). q.always) from.2 ∙ always) (subst (λ (q : Rule). IsBitSet q.gives n) (sym from.2) gives)
-    more_sound (later r m n there any before gives) =
-        let from = from_map more_of items r there in
-        let i = (all from.0).0 from.1 in
-        more_later from.0 i n m (link_of ps set from.0) refl (there_of from.0) refl (subst (λ (q : Rule). IsBitSet q.any m) (sym from.2) any) (more_sound before) (subst (λ (q : Rule). IsBitSet q.gives n) (sym from.2) gives)
-
-    more_rule_there : (item : Item) → Contains items item → (l : Link) → link_of ps set item ≡ Some l → (t : Option Future) → there_of item ≡ t → Contains all_more (more_rule ends (Some l) t)
-    more_rule_there item inside l e t there =
-        let mapped : Contains all_more (more_of item) = to_map more_of items item inside in
-        let one : Contains all_more (more_rule ends (Some l) (there_of item)) = subst (λ (o : Option Link). Contains all_more (more_rule ends o (there_of item))) e mapped in
-        subst (λ (o : Option Future). Contains all_more (more_rule ends (Some l) o)) there one
-
-    pub more_complete : {w : List ℕ} {n : ℕ} {rest : List ℕ} → IsRest ps g.start w n rest → w ≡ word → All (IsBitSet A) rest → rest ≢ [] → IsGained all_more n
-    unfolding step
-    more_complete at_end e h some = absurd (some refl)
-    more_complete (within before spelled w behind follows rest p front n back left there is trees trees' word_is rest_is) e h some =
-        let s = step before spelled behind follows p front n back left there is trees trees' (sym e ∙ word_is) in
-        let i = s.is_item in
-        let parts : All (IsBitSet A) (behind ++ follows) = subst (λ (l : List ℕ). All (IsBitSet A) l) rest_is h in
-        let front_letters = All-front (IsBitSet A) behind follows parts in
-        let back_letters = All-back (IsBitSet A) behind follows parts in
-        let spell = spells_can ps small.each set exact s.back behind s.trees s.small_back front_letters in
-        let l : Link = record { left = i.production.left; next = n; goes_on = can_go_on set s.back } in
-        let link = link_is s.item i n s.back s.symbols spell in
-        let inside = (all s.item).1 i in
-        let gives = only_same n s.small_next in
-        elim (none_or_some behind) [
-          | inl none ↦
-              let rest_some : follows ≢ [] = λ f. some (rest_is ∙ ap (λ (x : List ℕ). x ++ follows) none ∙ f) in
-              elim (there_cases s.item i) [
-                | inl f ↦
-                    let has_left = set_has f.0.more l.left s.small_left ((f.2.more l.left).1 (follows, back_letters, s.rest, rest_some)) in
-                    at_once (more_rule ends (Some l) (Some f.0)) n (more_rule_there s.item inside l link (Some f.0) f.1) (or_right _ _ has_left) gives
-                | inr same ↦
-                    let before_left = more_complete left (sym s.is_before ∙ same.1) back_letters rest_some in
-                    later (more_rule ends (Some l) None) p.left n (more_rule_there s.item inside l link None same.0) (only_same p.left s.small_left) before_left gives
-              ]
-          | inr letters ↦
-              let goes_on = goes_on_can ps small.each set exact s.back behind s.trees s.small_back front_letters letters in
-              elim (there_cases s.item i) [
-                | inl f ↦
-                    let has_left = set_has f.0.ends l.left s.small_left ((f.2.ends l.left).1 (follows, back_letters, s.rest)) in
-                    at_once (more_rule ends (Some l) (Some f.0)) n (more_rule_there s.item inside l link (Some f.0) f.1) (or_left _ _ (and_from _ _ goes_on has_left)) gives
-                | inr same ↦
-                    let left_ends : CanEnd g A word l.left = (follows, back_letters, subst (λ (x : List ℕ). IsRest ps g.start x l.left follows) same.1 s.rest) in
-                    let has_left = set_has ends l.left s.small_left ((ends_are l.left).1 left_ends) in
-                    at_once (more_rule ends (Some l) None) n (more_rule_there s.item inside l link None same.0) (and_from _ _ goes_on has_left) gives
-              ]
+    sound (later r m n there any before gives) =
+        let left = sound before in
+        elim (Contains-cons_cases (start_of rest) (map rule_of items) r there) [
+          | inl e ↦ absurd (start_alone rest m (subst (λ (q : Rule). IsBitSet q.any m) (sym e) any))
+          | inr in_items ↦
+              let from = from_map rule_of items r in_items in
+              rule_later from.0 ((all from.0).0 from.1) n m (link_of ps set from.0) refl (there_of from.0) refl
+              (subst (λ (q : Rule). IsBitSet q.any m) (sym from.2) any) left (subst (λ (q : Rule). IsBitSet q.gives n) (sym from.2) gives)
         ]
 
-    module _ (more : ℕ) (more_are : (n : ℕ) → IsBitSet more n ↔ CanGoOn g A word n) where
-      abbrev here : Future
-      here = record { ends = ends; more = more; alive = false }
+    rule_there : (item : Item) → Contains items item → (l : Link) → link_of ps set item ≡ Some l → (t : Option Future) → there_of item ≡ t → Contains all_rules (rest_rule rest (Some l) t)
+    rule_there item inside l e t there =
+        let mapped : Contains (map rule_of items) (rule_of item) = to_map rule_of items item inside in
+        let one : Contains (map rule_of items) (rest_rule rest (Some l) (there_of item)) = subst (λ (o : Option Link). Contains (map rule_of items) (rest_rule rest o (there_of item))) e mapped in
+        Contains-append_right (start_of rest ∷ []) (map rule_of items) _ (subst (λ (o : Option Future). Contains (map rule_of items) (rest_rule rest (Some l) o)) there one)
 
-      record IsRow (before : List ℕ) (f : Future) : Type 0 where
-        row_ends : (n : ℕ) → IsBitSet f.ends n ↔ CanEnd g A before n
-        row_more : (n : ℕ) → IsBitSet f.more n ↔ CanGoOn g A before n
+    start_complete : (r : Rest) → [] ≡ word → IsAsked r [] → ((start_of r).always ≡ true) × IsBitSet (start_of r).gives g.start
+    start_complete AnyLength e asked = (eq-eqb (length earlier) 0 (are.none.1 (ap length (sym e))), only_same g.start small.first)
+    start_complete (NotEmpty ends) e asked = absurd (asked refl)
 
-      row_of : (item : Item) (i : IsItem g word item) → IsRow i.before (unwrap_or (there_of item) here)
-      row_of item i = elim (there_cases item i) [
-        | inl h ↦ subst (λ (o : Option Future). IsRow i.before (unwrap_or o here)) (sym h.1) (record { row_ends = h.2.ends; row_more = h.2.more })
-        | inr h ↦
-            let at_word : IsRow word here = record { row_ends = ends_are; row_more = more_are } in
-            subst (λ (o : Option Future). IsRow i.before (unwrap_or o here)) (sym h.0) (subst (λ (w : List ℕ). IsRow w here) (sym h.1) at_word)
-      ]
+    pub complete : {w : List ℕ} {n : ℕ} {letters : List ℕ} → IsRest ps g.start w n letters → w ≡ word → All (IsBitSet A) letters → IsAsked rest letters → IsGained all_rules n
+    unfolding step
+    complete at_end e h asked =
+        let start = start_complete rest e asked in
+        at_once (start_of rest) g.start (Contains-head (map rule_of items) (start_of rest)) start.0 start.1
+    complete (within before spelled w behind follows letters p front n back left there is trees trees' word_is letters_are) e h asked =
+        let s = step before spelled behind follows p front n back left there is trees trees' (sym e ∙ word_is) in
+        let i = s.is_item in
+        let parts : All (IsBitSet A) (behind ++ follows) = subst (λ (l : List ℕ). All (IsBitSet A) l) letters_are h in
+        let all_behind = All-front (IsBitSet A) behind follows parts in
+        let all_follows = All-back (IsBitSet A) behind follows parts in
+        let l : Link = record { left = i.production.left; next = n; goes_on = can_go_on set s.back } in
+        let link = link_is s.item i n s.back s.symbols (spells_can ps small.each set exact s.back behind s.trees s.small_back all_behind) in
+        let in_rules = rule_there s.item ((all s.item).1 i) l link in
+        let gives = only_same n s.small_next in
+        elim (known_or_here rest are_known s.item i l s.small_left behind follows (goes_on_can ps small.each set exact s.back behind s.trees s.small_back all_behind)
+        all_follows s.rest (subst (IsAsked rest) letters_are asked)) [
+          | inl known ↦ at_once (rest_rule rest (Some l) (there_of s.item)) n (in_rules (there_of s.item) refl) known gives
+          | inr here ↦
+              let before_left = complete left (sym s.is_before ∙ here.2) all_follows here.0 in
+              later (rest_rule rest (Some l) None) p.left n (in_rules None here.1) (only_same p.left s.small_left) before_left gives
+        ]
 
-      abbrev keeps : Item → Bool
-      keeps item = keeps_alive ps set number earlier here item
+  -- ---- whether letters may follow the word
 
-      abbrev keeps_by : Item → Production → Bool
-      keeps_by item p = keeps_alive_in item set (unwrap_or (there_of item) here) (Some p)
+  module _ (ends : ℕ) (ends_are : (n : ℕ) → IsBitSet ends n ↔ CanEnd g A word n) (more : ℕ) (more_are : (n : ℕ) → IsBitSet more n ↔ CanGoOn g A word n) where
+    abbrev here : Future
+    here = record { ends = ends; more = more; alive = false }
 
-      keeps_is : (item : Item) (i : IsItem g word item) → keeps item ≡ keeps_by item i.production
-      keeps_is item i = ap (λ (o : Option Production). keeps_alive_in item set (unwrap_or (there_of item) here) o) i.found
+    record IsRow (before : List ℕ) (f : Future) : Type 0 where
+      row_ends : (n : ℕ) → IsBitSet f.ends n ↔ CanEnd g A before n
+      row_more : (n : ℕ) → IsBitSet f.more n ↔ CanGoOn g A before n
 
-      goes_on_with : (item : Item) (i : IsItem g word item) (behind follows : List ℕ) → Trees ps (drop item.dot i.production.symbols) behind
-          → IsRest ps g.start i.before i.production.left follows → IsWord g (word ++ (behind ++ follows))
-      goes_on_with item i behind follows trees rest =
-          continued g word (behind ++ follows) item (record { is_item = i; behind = behind; follows = follows; more_is = refl; trees = trees; rest = rest })
+    row_of : (item : Item) (i : IsItem g word item) → IsRow i.before (unwrap_or (there_of item) here)
+    row_of item i = elim (there_cases item i) [
+      | inl h ↦ subst (λ (o : Option Future). IsRow i.before (unwrap_or o here)) (sym h.1) (record { row_ends = h.2.ends; row_more = h.2.more })
+      | inr h ↦
+          let at_word : IsRow word here = record { row_ends = ends_are; row_more = more_are } in
+          subst (λ (o : Option Future). IsRow i.before (unwrap_or o here)) (sym h.0) (subst (λ (w : List ℕ). IsRow w here) (sym h.1) at_word)
+    ]
 
-      keeps_alive_word : (item : Item) → IsItem g word item → keeps item ≡ true → IsAlive g A word
-      keeps_alive_word item i h =
-          let row = row_of item i in
-          let left = i.production.left in
-          let symbols = drop item.dot i.production.symbols in
-          let both = and_parts _ _ (sym (keeps_is item i) ∙ h) in
-          elim (bool_cases _ _ both.1) [
-            | inl one ↦
-                let two = and_parts _ _ one in
-                let back = can_goes_on ps small.each set exact symbols both.0 two.0 in
-                let ends_there = (row.row_ends left).0 (has_set _ left two.1) in
-                (back.0 ++ ends_there.0, All-append (IsBitSet A) back.0 ends_there.0 back.1 ends_there.1, goes_on_with item i back.0 ends_there.0 back.2 ends_there.2, some_front back.0 ends_there.0 back.3)
-            | inr two ↦
-                let back = can_spells ps small.each set exact symbols both.0 in
-                let more_there = (row.row_more left).0 (has_set _ left two) in
-                (back.0 ++ more_there.0, All-append (IsBitSet A) back.0 more_there.0 back.1 more_there.1, goes_on_with item i back.0 more_there.0 back.2 more_there.2, some_back back.0 more_there.0 more_there.3)
-          ]
+    abbrev keeps : Item → Bool
+    keeps item = keeps_alive ps set number earlier here item
 
-      All-rest_of : (n : ℕ) (symbols : List GrammarSymbol) → All IsSmallSymbol symbols → All IsSmallSymbol (drop n symbols)
-      All-rest_of n symbols h = All-back IsSmallSymbol (take n symbols) (drop n symbols) (subst (λ (s : List GrammarSymbol). All IsSmallSymbol s) (sym (take-append-drop n symbols)) h)
+    abbrev keeps_by : Item → Production → Bool
+    keeps_by item p = keeps_alive_in item set (unwrap_or (there_of item) here) (Some p)
 
-      word_keeps : (item : Item) (letters : List ℕ) → (c : IsContinuation g word item letters) → All (IsBitSet A) letters → letters ≢ [] → keeps item ≡ true
-      word_keeps item letters c h some =
-          let i = c.is_item in
-          let row = row_of item i in
-          let p = i.production in
-          let few = All-contains IsSmallProduction ps p small.each (item_production g word item i) in
-          let few_behind = All-rest_of item.dot p.symbols few.symbols in
-          let parts : All (IsBitSet A) (c.behind ++ c.follows) = subst (λ (l : List ℕ). All (IsBitSet A) l) c.more_is h in
-          let front = All-front (IsBitSet A) c.behind c.follows parts in
-          let back = All-back (IsBitSet A) c.behind c.follows parts in
-          let spell = spells_can ps small.each set exact (drop item.dot p.symbols) c.behind c.trees few_behind front in
-          let kept : keeps_by item p ≡ true = elim (none_or_some c.behind) [
-            | inl none ↦
-                let rest_some : c.follows ≢ [] = λ f. some (c.more_is ∙ ap (λ (x : List ℕ). x ++ c.follows) none ∙ f) in
-                and_from _ _ spell (or_right _ _ (set_has _ p.left few.left ((row.row_more p.left).1 (c.follows, back, c.rest, rest_some))))
-            | inr one ↦
-                and_from _ _ spell (or_left _ _ (and_from _ _ (goes_on_can ps small.each set exact (drop item.dot p.symbols) c.behind c.trees few_behind front one)
-                (set_has _ p.left few.left ((row.row_ends p.left).1 (c.follows, back, c.rest)))))
-          ] in
-          keeps_is item i ∙ kept
+    keeps_is : (item : Item) (i : IsItem g word item) → keeps item ≡ keeps_by item i.production
+    keeps_is item i = ap (λ (o : Option Production). keeps_alive_in item set (unwrap_or (there_of item) here) o) i.found
 
-      pub alive_exact : (list_any keeps items ≡ true) ↔ IsAlive g A word
-      alive_exact = (
-        λ h. let one = Any-from_list_any keeps items h in
-            keeps_alive_word one.1 ((all one.1).0 (one.0, one.2, one.3)) one.4,
-        λ h. let there = found g word h.0 h.2 in
-            let inside = (all there.0).1 there.1.is_item in
-            list_any-from_Any keeps items (inside.0, there.0, inside.1, inside.2, word_keeps there.0 h.0 there.1 h.1 h.3),
-      )
+    goes_on_with : (item : Item) (i : IsItem g word item) (behind follows : List ℕ) → Trees ps (drop item.dot i.production.symbols) behind
+        → IsRest ps g.start i.before i.production.left follows → IsWord g (word ++ (behind ++ follows))
+    goes_on_with item i behind follows trees rest =
+        continued g word (behind ++ follows) item (record { is_item = i; behind = behind; follows = follows; more_is = refl; trees = trees; rest = rest })
+
+    keeps_alive_word : (item : Item) → IsItem g word item → keeps item ≡ true → IsAlive g A word
+    keeps_alive_word item i h =
+        let row = row_of item i in
+        let left = i.production.left in
+        let symbols = drop item.dot i.production.symbols in
+        let both = and_parts _ _ (sym (keeps_is item i) ∙ h) in
+        elim (bool_cases _ _ both.1) [
+          | inl one ↦
+              let two = and_parts _ _ one in
+              let back = can_goes_on ps small.each set exact symbols both.0 two.0 in
+              let ends_there = (row.row_ends left).0 (has_set _ left two.1) in
+              (back.0 ++ ends_there.0, All-append (IsBitSet A) back.0 ends_there.0 back.1 ends_there.1, goes_on_with item i back.0 ends_there.0 back.2 ends_there.2, some_front back.0 ends_there.0 back.3)
+          | inr two ↦
+              let back = can_spells ps small.each set exact symbols both.0 in
+              let more_there = (row.row_more left).0 (has_set _ left two) in
+              (back.0 ++ more_there.0, All-append (IsBitSet A) back.0 more_there.0 back.1 more_there.1, goes_on_with item i back.0 more_there.0 back.2 more_there.2, some_back back.0 more_there.0 more_there.3)
+        ]
+
+    All-rest_of : (n : ℕ) (symbols : List GrammarSymbol) → All IsSmallSymbol symbols → All IsSmallSymbol (drop n symbols)
+    All-rest_of n symbols h = All-back IsSmallSymbol (take n symbols) (drop n symbols) (subst (λ (s : List GrammarSymbol). All IsSmallSymbol s) (sym (take-append-drop n symbols)) h)
+
+    word_keeps : (item : Item) (letters : List ℕ) → (c : IsContinuation g word item letters) → All (IsBitSet A) letters → letters ≢ [] → keeps item ≡ true
+    word_keeps item letters c h some =
+        let i = c.is_item in
+        let row = row_of item i in
+        let p = i.production in
+        let few = All-contains IsSmallProduction ps p small.each (item_production g word item i) in
+        let few_behind = All-rest_of item.dot p.symbols few.symbols in
+        let parts : All (IsBitSet A) (c.behind ++ c.follows) = subst (λ (l : List ℕ). All (IsBitSet A) l) c.more_is h in
+        let front = All-front (IsBitSet A) c.behind c.follows parts in
+        let back = All-back (IsBitSet A) c.behind c.follows parts in
+        let spell = spells_can ps small.each set exact (drop item.dot p.symbols) c.behind c.trees few_behind front in
+        let kept : keeps_by item p ≡ true = elim (none_or_some c.behind) [
+          | inl none ↦
+              let rest_some : c.follows ≢ [] = λ f. some (c.more_is ∙ ap (λ (x : List ℕ). x ++ c.follows) none ∙ f) in
+              and_from _ _ spell (or_right _ _ (set_has _ p.left few.left ((row.row_more p.left).1 (c.follows, back, c.rest, rest_some))))
+          | inr one ↦
+              and_from _ _ spell (or_left _ _ (and_from _ _ (goes_on_can ps small.each set exact (drop item.dot p.symbols) c.behind c.trees few_behind front one)
+              (set_has _ p.left few.left ((row.row_ends p.left).1 (c.follows, back, c.rest)))))
+        ] in
+        keeps_is item i ∙ kept
+
+    pub alive_exact : (list_any keeps items ≡ true) ↔ IsAlive g A word
+    alive_exact = (
+      λ h. let one = Any-from_list_any keeps items h in
+          keeps_alive_word one.1 ((all one.1).0 (one.0, one.2, one.3)) one.4,
+      λ h. let there = found g word h.0 h.2 in
+          let inside = (all there.0).1 there.1.is_item in
+          list_any-from_Any keeps items (inside.0, there.0, inside.1, inside.2, word_keeps there.0 h.0 there.1 h.1 h.3),
+    )
 
   -- what the rules add is what may follow
   pub future_exact : (ends more : ℕ) (alive : Bool)
-      → ((n : ℕ) → IsBitSet ends n ↔ IsGained all_ends n)
-      → ((n : ℕ) → IsBitSet more n ↔ IsGained (more_rules ps ends set number earlier items) n)
+      → ((n : ℕ) → IsBitSet ends n ↔ IsGained (rest_rules g AnyLength set number earlier items) n)
+      → ((n : ℕ) → IsBitSet more n ↔ IsGained (rest_rules g (NotEmpty ends) set number earlier items) n)
       → alive ≡ list_any (keeps_alive ps set number earlier (record { ends = ends; more = more; alive = false })) items
       → IsFuture g A word (record { ends = ends; more = more; alive = alive })
   future_exact ends more alive ends_gained more_gained alive_is =
-      let ends_are : (n : ℕ) → IsBitSet ends n ↔ CanEnd g A word n = λ n. (λ h. ends_sound ((ends_gained n).0 h), λ h. (ends_gained n).1 (ends_complete h.2 refl h.1)) in
+      let ends_are : (n : ℕ) → IsBitSet ends n ↔ CanEnd g A word n =
+      λ n. (λ h. let e = sound AnyLength tt ((ends_gained n).0 h) in (e.0, e.1, e.2), λ h. (ends_gained n).1 (complete AnyLength tt h.2 refl h.1 tt)) in
       let more_are : (n : ℕ) → IsBitSet more n ↔ CanGoOn g A word n =
-      λ n. (λ h. more_sound ends ends_are ((more_gained n).0 h), λ h. (more_gained n).1 (more_complete ends ends_are h.2 refl h.1 h.3)) in
+      λ n. (λ h. sound (NotEmpty ends) ends_are ((more_gained n).0 h), λ h. (more_gained n).1 (complete (NotEmpty ends) ends_are h.2 refl h.1 h.3)) in
       record {
         ends = ends_are;
         more = more_are;

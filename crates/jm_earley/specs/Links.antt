@@ -1,13 +1,16 @@
 -- The rules that the items of a place give for what may follow there.
 use Rattle.std.specs.Prelude.{ℕ, ◌==◌, ◌&&◌, ◌||◌, Bool, false, List, [], ◌∷◌, Option, Some, None, length, drop, map, slice_get, unwrap_or, if◌then◌else◌}
-use Rattle.std.specs.Option.{option_and_then}
+use Rattle.std.specs.Option.{option_and_then, option_map_or}
 use Rattle.jm_grammar.specs.declared.grammar.GrammarSymbol.{GrammarSymbol}
 use Rattle.jm_grammar.specs.declared.grammar.GrammarSymbol.TheVariants.{Letter, Nonterminal}
 use Rattle.jm_grammar.specs.declared.grammar.Production.{Production}
+use Rattle.jm_grammar.specs.Grammars.{GrammarDefinition}
 use Rattle.jm_earley.specs.declared.item.Item.{Item}
 use Rattle.jm_earley.specs.declared.rule.Rule.{Rule}
 use Rattle.jm_earley.specs.declared.letter_set.LetterSet.{LetterSet}
 use Rattle.jm_earley.specs.declared.future.Future.{Future}
+use Rattle.jm_earley.specs.declared.future.Rest.{Rest}
+use Rattle.jm_earley.specs.declared.future.Rest.TheVariants.{AnyLength, NotEmpty}
 use Rattle.jm_earley.specs.declared.place.Place.{Place}
 use Rattle.jm_earley.specs.declared.link.Link.{Link}
 use Rattle.jm_earley.specs.Kept.{place_at}
@@ -34,31 +37,29 @@ abbrev pub future_at : List Place → ℕ → ℕ → Option Future
 future_at earlier number position =
     option_and_then (λ (p : Place). slice_get p.futures.futures.items number) (place_at earlier position)
 
--- a rest ends behind the next nonterminal, where one ends behind the left side
-abbrev pub ends_rule : Option Link → Option Future → Rule
-ends_rule None there = no_rule
-ends_rule (Some l) (Some there) = record { gives = only l.next; any = 0; always = has there.ends l.left }
-ends_rule (Some l) None = record { gives = only l.next; any = only l.left; always = false }
+-- such a rest may follow the next nonterminal, by what is known where the item began: at an earlier place all, and here
+-- what any rest may follow, where one with letters is asked for
+abbrev pub is_known : Rest → Link → Option Future → Bool
+is_known AnyLength l None = false
+is_known AnyLength l (Some there) = has there.ends l.left
+is_known (NotEmpty ends) l None = l.goes_on && has ends l.left
+is_known (NotEmpty ends) l (Some there) = l.goes_on && has there.ends l.left || has there.more l.left
 
--- a rest with letters ends there, where the symbols between or the rest behind the left side have letters
-abbrev pub more_rule : ℕ → Option Link → Option Future → Rule
-more_rule ends None there = no_rule
-more_rule ends (Some l) (Some there) =
-    record { gives = only l.next; any = 0; always = l.goes_on && has there.ends l.left || has there.more l.left }
-more_rule ends (Some l) None = record { gives = only l.next; any = only l.left; always = l.goes_on && has ends l.left }
+-- where the item began here, such a rest may follow the next nonterminal if one may follow the left side
+abbrev pub rest_rule : Rest → Option Link → Option Future → Rule
+rest_rule rest None there = no_rule
+rest_rule rest (Some l) there =
+    record { gives = only l.next; any = option_map_or (λ f. 0) there (only l.left); always = is_known rest l there }
 
--- at the first place nothing follows the start
-abbrev pub start_rule : ℕ → List Place → Rule
-start_rule start earlier = record { gives = only start; any = 0; always = length earlier == 0 }
+-- at the first place nothing follows the start, which is a rest without letters
+abbrev pub start_rule : Rest → ℕ → List Place → Rule
+start_rule AnyLength start earlier = record { gives = only start; any = 0; always = length earlier == 0 }
+start_rule (NotEmpty ends) start earlier = no_rule
 
-abbrev pub ends_rules : List Production → ℕ → LetterSet → ℕ → List Place → List Item → List Rule
-ends_rules productions start set number earlier items =
-    start_rule start earlier ∷ map (λ (item : Item). ends_rule (link_of productions set item)
+abbrev pub rest_rules : GrammarDefinition → Rest → LetterSet → ℕ → List Place → List Item → List Rule
+rest_rules g rest set number earlier items =
+    start_rule rest g.start earlier ∷ map (λ (item : Item). rest_rule rest (link_of g.productions set item)
     (future_at earlier number item.origin)) items
-
-abbrev pub more_rules : List Production → ℕ → LetterSet → ℕ → List Place → List Item → List Rule
-more_rules productions ends set number earlier items =
-    map (λ (item : Item). more_rule ends (link_of productions set item) (future_at earlier number item.origin)) items
 
 -- the symbols behind the dot and a rest behind the left side have letters, or one of the two
 abbrev pub keeps_alive_in : Item → LetterSet → Future → Option Production → Bool

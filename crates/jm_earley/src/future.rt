@@ -1,10 +1,11 @@
 //! What may follow the nonterminals that are awaited at a place.
-ghost use Rattle.std.specs.Prelude.{ℕ, ◌≡◌, ◌↔◌, List, All, IfOk, IsTrue, slice_get};
+ghost use Rattle.std.specs.Prelude.{ℕ, ◌≡◌, ◌↔◌, List, All, IfOk, IsBitSet, IsTrue, slice_get};
 ghost use Rattle.std.specs.List.{list_any};
-ghost use Rattle.jm_earley.specs.Links.{future_at, ends_rule, more_rule, start_rule, ends_rules, more_rules, keeps_alive_in, keeps_alive};
+ghost use Rattle.jm_earley.specs.Links.{future_at, is_known, rest_rule, start_rule, rest_rules, keeps_alive_in, keeps_alive};
 ghost use Rattle.jm_grammar.specs.Grammars.{GrammarDefinition};
 ghost use Rattle.jm_earley.specs.Items.{IsItemSet};
 ghost use Rattle.jm_earley.specs.LetterSets.{IsExact};
+ghost use Rattle.jm_earley.specs.Rules.{IsGained};
 ghost use Rattle.jm_earley.specs.DeadSets.{AreDeadSets};
 ghost use Rattle.jm_grammar.specs.Meanings.{IsHopeless};
 ghost use Rattle.jm_earley.specs.Places.{AllSpell, AreEarlier, AreFutures, IsFutureOf, IsAliveFor};
@@ -26,6 +27,13 @@ pub(crate) struct Future {
     pub ends: u64,
     pub more: u64,
     pub alive: bool,
+}
+
+/// Which rests are asked for: any, or those of one or more letters, where any may follow these nonterminals.
+#[derive(Clone, Copy)]
+pub(crate) enum Rest {
+    AnyLength,
+    NotEmpty(u64),
 }
 
 /// What may follow at a place, for each set of letters.
@@ -101,56 +109,49 @@ fn future_at(earlier: &Places, number: usize, position: u32) -> Option<Future>
     }
 }
 
-/// The rule for the nonterminals that a rest may follow, of an item that began at the position.
-fn ends_rule(link: Option<Link>, earlier: &Places, number: usize, position: u32) -> Rule
-    ensures { result ≡ ends_rule link (future_at earlier.now number position) }
+/// The rule of an item that began at the position, for the nonterminals that such a rest may follow.
+fn rest_rule(rest: Rest, link: Option<Link>, earlier: &Places, number: usize, position: u32) -> Rule
+    ensures { result ≡ rest_rule rest link (future_at earlier.now number position) }
 {
     let Some(link) = link else {
         return no_rule();
     };
-    match future_at(earlier, number, position) {
-        Some(there) => Rule {
-            gives: only(link.next),
-            any: 0,
-            always: has(there.ends, link.left),
+    let there = future_at(earlier, number, position);
+    Rule {
+        gives: only(link.next),
+        any: match there {
+            Some(_) => 0,
+            None => only(link.left),
         },
-        None => Rule {
-            gives: only(link.next),
-            any: only(link.left),
-            always: false,
-        },
+        always: is_known(rest, link, there),
     }
 }
 
-/// The rule for the nonterminals that a rest of one or more letters may follow, of an item that began at the position.
-fn more_rule(ends: u64, link: Option<Link>, earlier: &Places, number: usize, position: u32) -> Rule
-    ensures { result ≡ more_rule ends link (future_at earlier.now number position) }
+/// Whether such a rest may follow the next nonterminal of an item, by what is known where the item began.
+fn is_known(rest: Rest, link: Link, there: Option<Future>) -> bool
+    ensures { result ≡ is_known rest link there }
 {
-    let Some(link) = link else {
-        return no_rule();
-    };
-    match future_at(earlier, number, position) {
-        Some(there) => Rule {
-            gives: only(link.next),
-            any: 0,
-            always: link.goes_on && has(there.ends, link.left) || has(there.more, link.left),
-        },
-        None => Rule {
-            gives: only(link.next),
-            any: only(link.left),
-            always: link.goes_on && has(ends, link.left),
-        },
+    match (rest, there) {
+        (Rest::AnyLength, None) => false,
+        (Rest::AnyLength, Some(there)) => has(there.ends, link.left),
+        (Rest::NotEmpty(ends), None) => link.goes_on && has(ends, link.left),
+        (Rest::NotEmpty(_), Some(there)) => {
+            link.goes_on && has(there.ends, link.left) || has(there.more, link.left)
+        }
     }
 }
 
 /// Nothing follows the start at the first place.
-fn start_rule(start: u8, earlier: &Places) -> Rule
-    ensures { result ≡ start_rule start earlier.now }
+fn start_rule(rest: Rest, start: u8, earlier: &Places) -> Rule
+    ensures { result ≡ start_rule rest start earlier.now }
 {
-    Rule {
-        gives: only(start),
-        any: 0,
-        always: earlier.len() == 0,
+    match rest {
+        Rest::AnyLength => Rule {
+            gives: only(start),
+            any: 0,
+            always: earlier.len() == 0,
+        },
+        Rest::NotEmpty(_) => no_rule(),
     }
 }
 
@@ -169,45 +170,26 @@ fn keeps_alive(productions: &[Production], set: LetterSet, there: Future, item: 
     }
 }
 
-fn ends_rules(
+/// The nonterminals that such a rest of letters of the set may follow.
+fn followed(
     alloc: Global,
-    productions: &[Production],
-    start: u8,
+    grammar: &Grammar,
+    rest: Rest,
     set: LetterSet,
     number: usize,
     items: &[Item],
     earlier: &Places,
-) -> Result<Vec<Rule>, NoMemory>
-    ensures { IfOk result (λ rules. rules.items ≡ ends_rules productions.now start set number earlier.now items.now) }
+) -> Result<u64, NoMemory>
+    ensures { IfOk result (λ known. (n : ℕ) → IsBitSet known n
+        ↔ IsGained (rest_rules grammar.now rest set number earlier.now items.now) n) }
 {
     let mut rules = Vec::new(alloc);
-    rules.push(start_rule(start, earlier))?;
+    rules.push(start_rule(rest, grammar.start(), earlier))?;
     for item in items {
-        let link = link_of(productions, set, *item);
-        let rule = ends_rule(link, earlier, number, item.origin);
-        rules.push(rule)?;
+        let link = link_of(grammar.productions(), set, *item);
+        rules.push(rest_rule(rest, link, earlier, number, item.origin))?;
     }
-    Ok(rules)
-}
-
-fn more_rules(
-    alloc: Global,
-    productions: &[Production],
-    ends: u64,
-    set: LetterSet,
-    number: usize,
-    items: &[Item],
-    earlier: &Places,
-) -> Result<Vec<Rule>, NoMemory>
-    ensures { IfOk result (λ rules. rules.items ≡ more_rules productions.now ends set number earlier.now items.now) }
-{
-    let mut rules = Vec::new(alloc);
-    for item in items {
-        let link = link_of(productions, set, *item);
-        let rule = more_rule(ends, link, earlier, number, item.origin);
-        rules.push(rule)?;
-    }
-    Ok(rules)
+    Ok(gained(rules.as_slice()))
 }
 
 /// Whether letters of the set may go on behind one of the items.
@@ -241,24 +223,14 @@ fn future_of(
 ) -> Result<Future, NoMemory>
     ensures { IfOk result (λ future. IsFutureOf grammar.now set number items.now earlier.now future) }
 {
-    let productions = grammar.productions();
-    let rules = ends_rules(
-        alloc,
-        productions,
-        grammar.start(),
-        set,
-        number,
-        items,
-        earlier,
-    )?;
-    let ends = gained(rules.as_slice());
-    let rules = more_rules(alloc, productions, ends, set, number, items, earlier)?;
-    let more = gained(rules.as_slice());
+    let ends = followed(alloc, grammar, Rest::AnyLength, set, number, items, earlier)?;
+    let rest = Rest::NotEmpty(ends);
+    let more = followed(alloc, grammar, rest, set, number, items, earlier)?;
     let here = Future {
         ends,
         more,
         alive: false,
     };
-    let alive = is_alive(productions, set, number, items, earlier, here);
+    let alive = is_alive(grammar.productions(), set, number, items, earlier, here);
     Ok(Future { ends, more, alive })
 }
