@@ -46,38 +46,39 @@ abbrev pub AreItemSets : GrammarDefinition → Word → List Place → Type 0
 AreItemSets g word kept =
     (position : ℕ) (p : Place) → place_at kept position ≡ Some p → IsItemSet g (take position word) p.items
 
--- The place has the items of the word, by the nonterminals that they await too, and what may follow it.
-pub record IsPlaceOf (charts : ChartsDefinition) (word : Word) (p : Place) : Type 0 where
-  pub items : IsItemSet charts.grammar word p.items
-  pub waiting : IsWaiting charts.grammar p.items p.waiting
-  pub futures : AreFutures charts.grammar charts.letter_sets word p.futures
+module _ (charts : ChartsDefinition) where
+  -- The place has the items of the word, by the nonterminals that they await too, and what may follow it.
+  pub record IsPlaceOf (word : Word) (p : Place) : Type 0 where
+    pub items : IsItemSet charts.grammar word p.items
+    pub waiting : IsWaiting charts.grammar p.items p.waiting
+    pub futures : AreFutures charts.grammar charts.letter_sets word p.futures
 
--- The chart stands for the word: its last place is that at the word's end; each place that it keeps is that of a front
--- of the word; it keeps each place where an item of one of them began; and none that its last place doesn't reach.
-pub record IsChartOf (charts : ChartsDefinition) (word : Word) (chart : ChartDefinition) : Type 0 where
-  pub last : Place
-  pub ends : slice_get chart.places (length chart.places - 1) ≡ Some last
-  pub here : place_at chart.places (length word) ≡ Some last
-  pub each : (position : ℕ) (p : Place) → place_at chart.places position ≡ Some p → (position ≤ length word)
-      × IsPlaceOf charts (take position word) p
-  pub closed : (position : ℕ) (p : Place) → place_at chart.places position ≡ Some p → (x : Item) → Contains p.items x
-      → IsKept chart.places x.origin
-  pub linked : AreLinked chart.places
+  -- The chart stands for the word: its last place is that at the word's end; each place that it keeps is that of a
+  -- front of the word; it keeps each place where an item of one of them began; and none that its last place doesn't
+  -- reach.
+  pub record IsChartOf (word : Word) (chart : ChartDefinition) : Type 0 where
+    pub last : Place
+    pub ends : slice_get chart.places (length chart.places - 1) ≡ Some last
+    pub here : place_at chart.places (length word) ≡ Some last
+    pub each : (position : ℕ) (p : Place) → place_at chart.places position ≡ Some p → (position ≤ length word)
+        × IsPlaceOf (take position word) p
+    pub closed : (position : ℕ) (p : Place) → place_at chart.places position ≡ Some p → (x : Item)
+        → Contains p.items x → IsKept chart.places x.origin
+    pub linked : AreLinked chart.places
 
--- The place has this position and these items, and what may follow where these are the items behind earlier places.
-pub record IsPlaceWith (charts : ChartsDefinition) (earlier : List Place) (position : ℕ) (items : List Item)
-    (p : Place) : Type 0 where
-  pub position_is : p.position ≡ position
-  pub items_are : p.items ≡ items
-  pub waits : IsWaiting charts.grammar items p.waiting
-  pub follows : (word : Word) → IsItemSet charts.grammar word items
-      → AreEarlier charts.grammar charts.letter_sets word earlier
-      → AreFutures charts.grammar charts.letter_sets word p.futures
+module _ (charts : ChartsDefinition) (earlier : List Place) (position : ℕ) where
+  -- The place has this position and these items, and what may follow where these are the items behind earlier places.
+  pub record IsPlaceWith (items : List Item) (p : Place) : Type 0 where
+    pub position_is : p.position ≡ position
+    pub items_are : p.items ≡ items
+    pub waits : IsWaiting charts.grammar items p.waiting
+    pub follows : (word : Word) → IsItemSet charts.grammar word items
+        → AreEarlier charts.grammar charts.letter_sets word earlier
+        → AreFutures charts.grammar charts.letter_sets word p.futures
 
--- The chart has the place of what the rules make of the first items, and those of the earlier places that it reaches.
-pub record IsChartWith (charts : ChartsDefinition) (earlier : List Place) (position : ℕ) (first : List Item)
-    (chart : ChartDefinition) : Type 0 where
-  pub place : Place
-  pub closure : IsClosure charts.grammar earlier position first place.items
-  pub place_is : IsPlaceWith charts earlier position place.items place
-  pub follows : IsFollowedBy earlier place chart.places
+  -- The chart has the place of what the rules make of the first items, and those of the earlier places that it reaches.
+  pub record IsChartWith (first : List Item) (chart : ChartDefinition) : Type 0 where
+    pub place : Place
+    pub closure : IsClosure charts.grammar earlier position first place.items
+    pub place_is : IsPlaceWith place.items place
+    pub follows : IsFollowedBy earlier place chart.places

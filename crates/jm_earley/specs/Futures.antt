@@ -35,18 +35,18 @@ pub record IsContinuation (g : GrammarDefinition) (word : Word) (item : Item) (m
   pub trees : Trees g.productions (drop item.dot is_item.production.symbols) behind
   pub rest : IsRest g.productions g.start is_item.before is_item.production.left follows
 
--- some rest of these letters may follow the nonterminal behind the word
-abbrev pub CanEnd : GrammarDefinition → ℕ → Word → ℕ → Type 0
-CanEnd g letters word n = (rest : Word) × All (IsBitSet letters) rest × IsRest g.productions g.start word n rest
+module _ (g : GrammarDefinition) (letters : ℕ) (word : Word) where
+  -- some rest of these letters may follow the nonterminal behind the word
+  abbrev pub CanEnd : ℕ → Type 0
+  CanEnd n = (rest : Word) × All (IsBitSet letters) rest × IsRest g.productions g.start word n rest
 
--- and one that isn't empty
-abbrev pub CanGoOn : GrammarDefinition → ℕ → Word → ℕ → Type 0
-CanGoOn g letters word n =
-    (rest : Word) × All (IsBitSet letters) rest × IsRest g.productions g.start word n rest × (rest ≢ [])
+  -- and one that isn't empty
+  abbrev pub CanGoOn : ℕ → Type 0
+  CanGoOn n = (rest : Word) × All (IsBitSet letters) rest × IsRest g.productions g.start word n rest × (rest ≢ [])
 
--- some word of one or more of these letters, put after the word, gives a word of the grammar
-abbrev pub IsAlive : GrammarDefinition → ℕ → Word → Type 0
-IsAlive g letters word = (more : Word) × All (IsBitSet letters) more × IsWord g (word ++ more) × (more ≢ [])
+  -- some word of one or more of these letters, put after the word, gives a word of the grammar
+  abbrev pub IsAlive : Type 0
+  IsAlive = (more : Word) × All (IsBitSet letters) more × IsWord g (word ++ more) × (more ≢ [])
 
 -- the nonterminal spells some word of one or more of these letters
 abbrev pub DerivesLetters : List Production → ℕ → ℕ → Type 0

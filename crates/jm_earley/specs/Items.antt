@@ -21,36 +21,37 @@ pub data IsAwaited (productions : List Production) (start : ℕ) : Word → ℕ 
       → word ≡ before ++ spelled
       → IsAwaited productions start word n
 
--- The item is one of the word's: its production's left side is awaited behind the front of the word up to its origin,
--- and the symbols before its dot spell the rest.
-pub record IsItem (g : GrammarDefinition) (word : Word) (item : Item) : Type 0 where
-  pub production : Production
-  pub found : slice_get g.productions item.production ≡ Some production
-  pub dot : item.dot ≤ length production.symbols
-  pub before : Word
-  pub spelled : Word
-  pub word_is : word ≡ before ++ spelled
-  pub origin : length before ≡ item.origin
-  pub awaited : IsAwaited g.productions g.start before production.left
-  pub trees : Trees g.productions (take item.dot production.symbols) spelled
-
--- the items are those of the word, and no others
-abbrev pub IsItemSet : GrammarDefinition → Word → List Item → Type 0
-IsItemSet g word items = (item : Item) → Contains items item ↔ IsItem g word item
-
--- the symbol behind the item's dot
-abbrev pub symbol_after : GrammarDefinition → Item → Option GrammarSymbol
-symbol_after g item = option_and_then (λ p. slice_get p.symbols item.dot) (slice_get g.productions item.production)
-
--- the left side of an item whose dot is at the end
-abbrev pub finished_left : GrammarDefinition → Item → Option ℕ
-finished_left g item = option_and_then (λ p. if item.dot == length p.symbols then Some p.left
-    else None) (slice_get g.productions item.production)
-
 -- the item with one symbol more before its dot
 abbrev pub advanced : Item → Item
 advanced item = record item { dot = item.dot + 1 }
 
--- the item spells a whole word: it began at the front with a production of the start, and its dot is at the end
-abbrev pub IsWhole : GrammarDefinition → Item → Type 0
-IsWhole g item = (item.origin ≡ 0) × (finished_left g item ≡ Some g.start)
+module _ (g : GrammarDefinition) where
+  -- The item is one of the word's: its production's left side is awaited behind the front of the word up to its origin,
+  -- and the symbols before its dot spell the rest.
+  pub record IsItem (word : Word) (item : Item) : Type 0 where
+    pub production : Production
+    pub found : slice_get g.productions item.production ≡ Some production
+    pub dot : item.dot ≤ length production.symbols
+    pub before : Word
+    pub spelled : Word
+    pub word_is : word ≡ before ++ spelled
+    pub origin : length before ≡ item.origin
+    pub awaited : IsAwaited g.productions g.start before production.left
+    pub trees : Trees g.productions (take item.dot production.symbols) spelled
+
+  -- the items are those of the word, and no others
+  abbrev pub IsItemSet : Word → List Item → Type 0
+  IsItemSet word items = (item : Item) → Contains items item ↔ IsItem word item
+
+  -- the symbol behind the item's dot
+  abbrev pub symbol_after : Item → Option GrammarSymbol
+  symbol_after item = option_and_then (λ p. slice_get p.symbols item.dot) (slice_get g.productions item.production)
+
+  -- the left side of an item whose dot is at the end
+  abbrev pub finished_left : Item → Option ℕ
+  finished_left item = option_and_then (λ p. if item.dot == length p.symbols then Some p.left
+      else None) (slice_get g.productions item.production)
+
+  -- the item spells a whole word: it began at the front with a production of the start, and its dot is at the end
+  abbrev pub IsWhole : Item → Type 0
+  IsWhole item = (item.origin ≡ 0) × (finished_left item ≡ Some g.start)

@@ -3,54 +3,55 @@ use Rattle.std.specs.Prelude.{ℕ, ◌≡◌, ◌<◌, ◌≤◌, ◌+◌, ◌-�
 use Rattle.jm_earley.specs.declared.item.Item.{Item}
 use Rattle.jm_earley.specs.declared.place.Place.{Place}
 
--- positions increase
-abbrev pub IsSorted : List Place → Type 0
-IsSorted places = (i j : ℕ) (p q : Place) → i < j → slice_get places i ≡ Some p → slice_get places j ≡ Some q
-    → p.position < q.position
-
 -- the place at a position
 abbrev pub place_at : List Place → ℕ → Option Place
 place_at [] position = None
 place_at (p ∷ places) position = if p.position == position then Some p else place_at places position
 
--- a place at the position is there
-abbrev pub IsKept : List Place → ℕ → Type 0
-IsKept places position = (p : Place) × (place_at places position ≡ Some p)
+module _ (places : List Place) where
+  -- positions increase
+  abbrev pub IsSorted : Type 0
+  IsSorted = (i j : ℕ) (p q : Place) → i < j → slice_get places i ≡ Some p → slice_get places j ≡ Some q
+      → p.position < q.position
 
--- the place of this number is at the position
-abbrev pub IsPlaceNumber : List Place → ℕ → ℕ → Type 0
-IsPlaceNumber places position number = (p : Place) × (slice_get places number ≡ Some p) × (p.position ≡ position)
+  -- a place at the position is there
+  abbrev pub IsKept : ℕ → Type 0
+  IsKept position = (p : Place) × (place_at places position ≡ Some p)
 
--- one of the items began at the place of this number
-abbrev pub IsOrigin : List Place → List Item → ℕ → Type 0
-IsOrigin places items number = (x : Item) × Contains items x × IsPlaceNumber places x.origin number
+  -- the place of this number is at the position
+  abbrev pub IsPlaceNumber : ℕ → ℕ → Type 0
+  IsPlaceNumber position number = (p : Place) × (slice_get places number ≡ Some p) × (p.position ≡ position)
 
--- no item began behind its place
-abbrev pub AreBack : List Place → Type 0
-AreBack places = (position : ℕ) (p : Place) → place_at places position ≡ Some p → (x : Item) → Contains p.items x
-    → x.origin ≤ position
+  -- one of the items began at the place of this number
+  abbrev pub IsOrigin : List Item → ℕ → Type 0
+  IsOrigin items number = (x : Item) × Contains items x × IsPlaceNumber x.origin number
 
--- Each place but the last is one where an item of the next place began. So the last place reaches each: an item of it
--- began at the one before, an item of that one at the one before that, and so on to the first. A place that nothing
--- reaches isn't there.
-abbrev pub AreLinked : List Place → Type 0
-AreLinked places = (number : ℕ) (p q : Place) → slice_get places number ≡ Some p
-    → slice_get places (number + 1) ≡ Some q → (x : Item) × Contains q.items x × (x.origin ≡ p.position)
+  -- no item began behind its place
+  abbrev pub AreBack : Type 0
+  AreBack = (position : ℕ) (p : Place) → place_at places position ≡ Some p → (x : Item) → Contains p.items x
+      → x.origin ≤ position
 
--- ---- what is kept behind a new place
+  -- Each place but the last is one where an item of the next place began. So the last place reaches each: an item of it
+  -- began at the one before, an item of that one at the one before that, and so on to the first. A place that nothing
+  -- reaches isn't there.
+  abbrev pub AreLinked : Type 0
+  AreLinked = (number : ℕ) (p q : Place) → slice_get places number ≡ Some p
+      → slice_get places (number + 1) ≡ Some q → (x : Item) × Contains q.items x × (x.origin ≡ p.position)
 
--- the number behind the last place where one of the items began, and 0 where none did
-pub record IsReach (places : List Place) (items : List Item) (count : ℕ) : Type 0 where
-  pub within : count ≤ length places
-  pub all : (number : ℕ) → IsOrigin places items number → number < count
-  pub last : (number : ℕ) → number + 1 ≡ count → IsOrigin places items number
+  -- ---- what is kept behind a new place
 
--- the number behind the place at a position, if that is more than the number so far
-pub record IsReachTo (places : List Place) (position : ℕ) (old new : ℕ) : Type 0 where
-  pub within : new ≤ length places
-  pub kept : old ≤ new
-  pub all : (number : ℕ) → IsPlaceNumber places position number → number < new
-  pub last : (new ≡ old) ⊎ ((number : ℕ) × (number + 1 ≡ new) × IsPlaceNumber places position number)
+  -- the number behind the last place where one of the items began, and 0 where none did
+  pub record IsReach (items : List Item) (count : ℕ) : Type 0 where
+    pub within : count ≤ length places
+    pub all : (number : ℕ) → IsOrigin items number → number < count
+    pub last : (number : ℕ) → number + 1 ≡ count → IsOrigin items number
+
+  -- the number behind the place at a position, if that is more than the number so far
+  pub record IsReachTo (position : ℕ) (old new : ℕ) : Type 0 where
+    pub within : new ≤ length places
+    pub kept : old ≤ new
+    pub all : (number : ℕ) → IsPlaceNumber position number → number < new
+    pub last : (new ≡ old) ⊎ ((number : ℕ) × (number + 1 ≡ new) × IsPlaceNumber position number)
 
 -- The place is the last of the new ones, and the others are old ones: each where an item of a new one began, if no item
 -- began behind its place, and none that the last place doesn't reach, if it was so before.

@@ -16,14 +16,6 @@ pub record IsExact (productions : List Production) (set : LetterSet) : Type 0 wh
   pub spells : (n : ℕ) → IsBitSet set.spells n ↔ DerivesOf productions set.letters n
   pub goes_on : (n : ℕ) → IsBitSet set.goes_on n ↔ DerivesLetters productions set.letters n
 
--- the symbol is one of these letters and nonterminals
-abbrev pub is_spelled : ℕ → ℕ → GrammarSymbol → Bool
-is_spelled letters known (Letter a) = nat_lt a.0 32 && has_bit letters a.0
-is_spelled letters known (Nonterminal n) = has known n
-
-abbrev pub are_spelled : ℕ → ℕ → List GrammarSymbol → Bool
-are_spelled letters known symbols = list_all (is_spelled letters known) symbols
-
 abbrev pub is_letter : GrammarSymbol → Bool
 is_letter (Letter a) = true
 is_letter (Nonterminal n) = false
@@ -39,6 +31,22 @@ with_nonterminal known (Nonterminal n) = bit_or known (only n)
 abbrev pub nonterminals : List GrammarSymbol → ℕ
 nonterminals symbols = fold with_nonterminal 0 symbols
 
+module _ (letters known : ℕ) where
+  -- the symbol is one of these letters and nonterminals
+  abbrev pub is_spelled : GrammarSymbol → Bool
+  is_spelled (Letter a) = nat_lt a.0 32 && has_bit letters a.0
+  is_spelled (Nonterminal n) = has known n
+
+  abbrev pub are_spelled : List GrammarSymbol → Bool
+  are_spelled symbols = list_all is_spelled symbols
+
+  -- the left side goes on where one of the symbols does, if all of them spell a word
+  abbrev pub spelling_rule : Production → Rule
+  spelling_rule p =
+      if are_spelled p.symbols
+      then record { gives = only p.left; any = nonterminals p.symbols; always = has_letter p.symbols }
+      else no_rule
+
 -- the symbols spell a word of the set's letters
 abbrev pub can_spell : LetterSet → List GrammarSymbol → Bool
 can_spell set symbols = are_spelled set.letters set.spells symbols
@@ -46,10 +54,3 @@ can_spell set symbols = are_spelled set.letters set.spells symbols
 -- one of the symbols spells a word of one or more of them
 abbrev pub can_go_on : LetterSet → List GrammarSymbol → Bool
 can_go_on set symbols = has_letter symbols || meets (nonterminals symbols) set.goes_on
-
--- the left side goes on where one of the symbols does, if all of them spell a word
-abbrev pub spelling_rule : ℕ → ℕ → Production → Rule
-spelling_rule letters known p =
-    if are_spelled letters known p.symbols
-    then record { gives = only p.left; any = nonterminals p.symbols; always = has_letter p.symbols }
-    else no_rule

@@ -15,46 +15,45 @@ use Rattle.jm_earley.specs.LetterSets.{IsExact}
 use Rattle.jm_earley.specs.DeadSets.{IsAvailable}
 use Rattle.jm_earley.specs.Links.{future_at}
 
--- what may follow the word, of these letters
-pub record IsFuture (g : GrammarDefinition) (letters : ℕ) (word : Word) (f : Future) : Type 0 where
-  pub ends : (n : ℕ) → IsBitSet f.ends n ↔ CanEnd g letters word n
-  pub more : (n : ℕ) → IsBitSet f.more n ↔ CanGoOn g letters word n
-  pub alive : IsTrue f.alive ↔ IsAlive g letters word
+module _ (g : GrammarDefinition) where
+  -- what may follow the word, of these letters
+  pub record IsFuture (letters : ℕ) (word : Word) (f : Future) : Type 0 where
+    pub ends : (n : ℕ) → IsBitSet f.ends n ↔ CanEnd g letters word n
+    pub more : (n : ℕ) → IsBitSet f.more n ↔ CanGoOn g letters word n
+    pub alive : IsTrue f.alive ↔ IsAlive g letters word
 
--- what may follow the word, of the letters of each set
-abbrev pub AreFutures : GrammarDefinition → List LetterSet → Word → Futures → Type 0
-AreFutures g sets word futures =
-    (number : ℕ) (set : LetterSet) → slice_get sets number ≡ Some set → (f : Future)
-    × (slice_get futures.futures.items number ≡ Some f) × IsFuture g set.letters word f
+  -- what may follow the word, of the letters of each set
+  abbrev pub AreFutures : List LetterSet → Word → Futures → Type 0
+  AreFutures sets word futures =
+      (number : ℕ) (set : LetterSet) → slice_get sets number ≡ Some set → (f : Future)
+      × (slice_get futures.futures.items number ≡ Some f) × IsFuture set.letters word f
 
--- what may follow at each earlier place where an item of the word began; the first place has none before it, and each
--- other has
-pub record AreEarlier (g : GrammarDefinition) (sets : List LetterSet) (word : Word)
-    (earlier : List Place) : Type 0 where
-  pub none : (length earlier ≡ 0) ↔ (length word ≡ 0)
-  pub each : (x : Item) → IsItem g word x → x.origin < length word → (p : Place) × (place_at earlier x.origin ≡ Some p)
-      × AreFutures g sets (take x.origin word) p.futures
-  pub past : (position : ℕ) → length word ≤ position → place_at earlier position ≡ None
+  -- what may follow at each earlier place where an item of the word began; the first place has none before it, and each
+  -- other has
+  pub record AreEarlier (sets : List LetterSet) (word : Word) (earlier : List Place) : Type 0 where
+    pub none : (length earlier ≡ 0) ↔ (length word ≡ 0)
+    pub each : (x : Item) → IsItem g word x → x.origin < length word → (p : Place)
+        × (place_at earlier x.origin ≡ Some p) × AreFutures sets (take x.origin word) p.futures
+    pub past : (position : ℕ) → length word ≤ position → place_at earlier position ≡ None
 
--- the same, for one set of letters
-pub record AreEarlierOf (g : GrammarDefinition) (letters : ℕ) (number : ℕ) (word : Word)
-    (earlier : List Place) : Type 0 where
-  pub none : (length earlier ≡ 0) ↔ (length word ≡ 0)
-  pub each : (x : Item) → IsItem g word x → x.origin < length word → (f : Future)
-      × (future_at earlier number x.origin ≡ Some f) × IsFuture g letters (take x.origin word) f
-  pub past : (position : ℕ) → length word ≤ position → place_at earlier position ≡ None
+  -- the same, for one set of letters
+  pub record AreEarlierOf (letters : ℕ) (number : ℕ) (word : Word) (earlier : List Place) : Type 0 where
+    pub none : (length earlier ≡ 0) ↔ (length word ≡ 0)
+    pub each : (x : Item) → IsItem g word x → x.origin < length word → (f : Future)
+        × (future_at earlier number x.origin ≡ Some f) × IsFuture letters (take x.origin word) f
+    pub past : (position : ℕ) → length word ≤ position → place_at earlier position ≡ None
 
--- it is what may follow each word that has these items, and what may follow at the earlier places
-abbrev pub IsFutureOf : GrammarDefinition → LetterSet → ℕ → List Item → List Place → Future → Type 0
-IsFutureOf g set number items earlier f =
-    IsExact g.productions set → (word : Word) → IsItemSet g word items
-    → AreEarlierOf g set.letters number word earlier → IsFuture g set.letters word f
+  -- it is what may follow each word that has these items, and what may follow at the earlier places
+  abbrev pub IsFutureOf : LetterSet → ℕ → List Item → List Place → Future → Type 0
+  IsFutureOf set number items earlier f =
+      IsExact g.productions set → (word : Word) → IsItemSet g word items
+      → AreEarlierOf set.letters number word earlier → IsFuture set.letters word f
 
--- some word of one or more letters without a dead parameter, put after the word, gives a word of the grammar
-abbrev pub IsAliveFor : GrammarDefinition → List Mask → ℕ → Word → Type 0
-IsAliveFor g params dead word =
-    (more : Word) × All (IsAvailable params dead) more × IsWord g (word ++ more) × (more ≢ [])
+  -- some word of one or more letters without a dead parameter, put after the word, gives a word of the grammar
+  abbrev pub IsAliveFor : List Mask → ℕ → Word → Type 0
+  IsAliveFor params dead word =
+      (more : Word) × All (IsAvailable params dead) more × IsWord g (word ++ more) × (more ≢ [])
 
--- each nonterminal that is in a production spells a word
-abbrev pub AllSpell : GrammarDefinition → Type 0
-AllSpell g = (n : ℕ) → IsIn g.productions n → DerivesSome g.productions n
+  -- each nonterminal that is in a production spells a word
+  abbrev pub AllSpell : Type 0
+  AllSpell = (n : ℕ) → IsIn g.productions n → DerivesSome g.productions n

@@ -12,21 +12,22 @@ use Rattle.jm_earley.specs.Growth.{IsStep}
 abbrev pub IsEmpty : List (List Item) → Type 0
 IsEmpty lists = (n : ℕ) → slice_index_or lists n [] ≡ []
 
--- list n has those of the items that await nonterminal n
-abbrev pub IsWaiting : GrammarDefinition → List Item → List (List Item) → Type 0
-IsWaiting g items lists = (n : ℕ) (x : Item)
-    → Contains (slice_index_or lists n []) x ↔ (Contains items x × (symbol_after g x ≡ Some (Nonterminal n)))
+module _ (g : GrammarDefinition) where
+  -- list n has those of the items that await nonterminal n
+  abbrev pub IsWaiting : List Item → List (List Item) → Type 0
+  IsWaiting items lists = (n : ℕ) (x : Item)
+      → Contains (slice_index_or lists n []) x ↔ (Contains items x × (symbol_after g x ≡ Some (Nonterminal n)))
 
--- the lists after an item is added to that of the nonterminal that it awaits, if it does
-abbrev pub IsWithWaiting : GrammarDefinition → List (List Item) → Item → List (List Item) → Type 0
-IsWithWaiting g old x new =
-    (n : ℕ) (y : Item) → Contains (slice_index_or new n []) y ↔ (Contains (slice_index_or old n []) y
-    ⊎ ((x ≡ y) × (symbol_after g x ≡ Some (Nonterminal n))))
+  -- the lists after an item is added to that of the nonterminal that it awaits, if it does
+  abbrev pub IsWithWaiting : List (List Item) → Item → List (List Item) → Type 0
+  IsWithWaiting old x new =
+      (n : ℕ) (y : Item) → Contains (slice_index_or new n []) y ↔ (Contains (slice_index_or old n []) y
+      ⊎ ((x ≡ y) × (symbol_after g x ≡ Some (Nonterminal n))))
 
--- the lists of each place are those of its items
-abbrev pub AreWaiting : GrammarDefinition → List Place → Type 0
-AreWaiting g kept = (position : ℕ) (p : Place) → place_at kept position ≡ Some p → IsWaiting g p.items p.waiting
+  -- the lists of each place are those of its items
+  abbrev pub AreWaiting : List Place → Type 0
+  AreWaiting kept = (position : ℕ) (p : Place) → place_at kept position ≡ Some p → IsWaiting p.items p.waiting
 
--- the rules make the item of x, if the lists are those of the items
-abbrev pub IsStepOver : GrammarDefinition → List Place → ℕ → Item → Item → Type 0
-IsStepOver g kept place x made = AreWaiting g kept → IsStep g kept place x made
+  -- the rules make the item of x, if the lists are those of the items
+  abbrev pub IsStepOver : List Place → ℕ → Item → Item → Type 0
+  IsStepOver kept place x made = AreWaiting kept → IsStep g kept place x made
