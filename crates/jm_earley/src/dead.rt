@@ -2,7 +2,7 @@
 ghost use Rattle.std.specs.Prelude.{ℕ, ◌≡◌, ◌<◌, ◌≤◌, ◌↔◌, ◌++◌, List, All, IsBitSet, IfOk, IfSome, OnOk, Some, None, length, slice_get};
 ghost use Rattle.jm_earley.specs.declared.letter_set.LetterSet.{LetterSet};
 ghost use Rattle.jm_earley.specs.LetterSets.{IsExact};
-ghost use Rattle.jm_earley.specs.DeadSets.{IsAvailable, IsLeft, AreDeadSets};
+ghost use Rattle.jm_earley.specs.DeadSets.{IsAvailable, AreDeadSets};
 
 use crate::letter_set::LetterSet;
 use jm_grammar::Grammar;

@@ -1,7 +1,6 @@
 //! The items of a place: what is read is worked through item by item, until the rules add nothing.
-ghost use Rattle.std.specs.Prelude.{ℕ, ◌≡◌, ◌<◌, ◌↔◌, [], Some, None, IfOk, OnOk, Contains};
+ghost use Rattle.std.specs.Prelude.{ℕ, ◌≡◌, ◌<◌, [], Some, None, IfOk, OnOk, Contains};
 ghost use Rattle.jm_grammar.specs.declared.grammar.GrammarSymbol.{GrammarSymbol};
-ghost use Rattle.jm_grammar.specs.Grammars.{IsSmallSymbol};
 ghost use Rattle.jm_grammar.specs.Meanings.{Derives};
 ghost use Rattle.jm_earley.specs.declared.item.Item.{Item};
 ghost use Rattle.jm_earley.specs.Items.{symbol_after, finished_left, advanced};

@@ -1,5 +1,5 @@
 //! The items of a place.
-ghost use Rattle.std.specs.Prelude.{◌≡◌, ◌<◌, ◌^◌, [], Some, IfSome, OnOk, option_map, slice_get};
+ghost use Rattle.std.specs.Prelude.{◌≡◌, ◌<◌, ◌^◌, [], Some, IfSome, OnOk, slice_get};
 ghost use Rattle.jm_earley.specs.Growth.{IsWithItem};
 
 use crate::item::Item;
