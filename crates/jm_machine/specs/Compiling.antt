@@ -16,32 +16,32 @@ use Rattle.jm_machine.specs.Meanings.{RuleDefinition, rules_of}
 abbrev pub formula_of : List Token → SpecTree → List Token
 formula_of tokens tree = slice_range tokens tree.first tree.last
 
--- the tree's formula is this one
-abbrev pub IsFormula : Text → List Token → SpecTree → Formula → Type 0
-IsFormula bytes tokens tree formula = IsReadAs bytes (formula_of tokens tree) tree.table tree.logic formula
+module _ (bytes : Text) (tokens : List Token) (tree : SpecTree) where
+  -- the tree's formula is this one
+  abbrev pub IsFormula : Formula → Type 0
+  IsFormula formula = IsReadAs bytes (formula_of tokens tree) tree.table tree.logic formula
 
--- no step has a fault, and the tree says these rules
-pub record IsCompiledFrom (bytes : Text) (tokens : List Token) (tree : SpecTree) (r : RuleDefinition) : Type 0 where
-  pub read : IsFormula bytes tokens tree r.formula
-  pub handled : handlers_fault bytes tokens (category_names r.formula) tree.handlers.items ≡ None
-  pub settled : (fault : SpecFault) → IsTableFault r.formula (length tree.table.events) fault → ⊥
-  pub rules : r ≡ rules_of tree.table tree.full_binding r.formula (handler_names bytes tree.handlers.items)
+  -- no step has a fault, and the tree says these rules
+  pub record IsCompiledFrom (r : RuleDefinition) : Type 0 where
+    pub read : IsFormula r.formula
+    pub handled : handlers_fault bytes tokens (category_names r.formula) tree.handlers.items ≡ None
+    pub settled : (fault : SpecFault) → IsTableFault r.formula (length tree.table.events) fault → ⊥
+    pub rules : r ≡ rules_of tree.table tree.full_binding r.formula (handler_names bytes tree.handlers.items)
 
--- the first fault: that of the formula, that of the handlers, or that of the making of the formula's table
-pub data IsFaultyTree (bytes : Text) (tokens : List Token) (tree : SpecTree) (fault : SpecFault) : Type 0 where
-  in_formula : IsRefusedIn bytes (formula_of tokens tree) tree.table tree.logic fault
-      → IsFaultyTree bytes tokens tree fault
-  in_handlers : (formula : Formula)
-      → IsFormula bytes tokens tree formula
-      → handlers_fault bytes tokens (category_names formula) tree.handlers.items ≡ Some fault
-      → IsFaultyTree bytes tokens tree fault
-  in_table : (formula : Formula)
-      → IsFormula bytes tokens tree formula
-      → handlers_fault bytes tokens (category_names formula) tree.handlers.items ≡ None
-      → IsTableFault formula (length tree.table.events) fault
-      → IsFaultyTree bytes tokens tree fault
+  -- the first fault: that of the formula, that of the handlers, or that of the making of the formula's table
+  pub data IsFaultyTree (fault : SpecFault) : Type 0 where
+    in_formula : IsRefusedIn bytes (formula_of tokens tree) tree.table tree.logic fault → IsFaultyTree fault
+    in_handlers : (formula : Formula)
+        → IsFormula formula
+        → handlers_fault bytes tokens (category_names formula) tree.handlers.items ≡ Some fault
+        → IsFaultyTree fault
+    in_table : (formula : Formula)
+        → IsFormula formula
+        → handlers_fault bytes tokens (category_names formula) tree.handlers.items ≡ None
+        → IsTableFault formula (length tree.table.events) fault
+        → IsFaultyTree fault
 
--- the tree has this first fault, unless memory is short
-abbrev pub IsNotCompiled : Text → List Token → SpecTree → SpecError → Type 0
-IsNotCompiled bytes tokens tree NoMemory = Unit {0}
-IsNotCompiled bytes tokens tree (Bad fault) = IsFaultyTree bytes tokens tree fault
+  -- the tree has this first fault, unless memory is short
+  abbrev pub IsNotCompiled : SpecError → Type 0
+  IsNotCompiled NoMemory = Unit {0}
+  IsNotCompiled (Bad fault) = IsFaultyTree fault

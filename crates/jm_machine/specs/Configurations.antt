@@ -8,18 +8,19 @@ use Rattle.jm_machine.specs.Meanings.{rules_meaning}
 use Rattle.jm_machine.specs.Engines.{IsPlaceOf}
 use Rattle.jm_machine.specs.RuleSets.{CompiledRules}
 
--- the word has a letter, and its first one may begin an instance's life
-abbrev pub IsBegun : CompiledRules → Word → Type 0
-IsBegun r w = (w ≢ []) × IsCreated (rules_meaning r.definition) w
+module _ (r : CompiledRules) where
+  -- the word has a letter, and its first one may begin an instance's life
+  abbrev pub IsBegun : Word → Type 0
+  IsBegun w = (w ≢ []) × IsCreated (rules_meaning r.definition) w
 
--- the word has a letter, and its first one may not
-abbrev pub IsBarren : CompiledRules → Word → Type 0
-IsBarren r w = (w ≢ []) × (IsCreated (rules_meaning r.definition) w → ⊥)
+  -- the word has a letter, and its first one may not
+  abbrev pub IsBarren : Word → Type 0
+  IsBarren w = (w ≢ []) × (IsCreated (rules_meaning r.definition) w → ⊥)
 
--- the configuration of a word: that of the empty word, that of words that can't begin so, and those of the states and
--- charts that the others lead to
-abbrev pub IsConfigurationOf : CompiledRules → Configuration → Word → Type 0
-IsConfigurationOf r Start w = w ≡ []
-IsConfigurationOf r Barren w = IsBarren r w
-IsConfigurationOf r (State s) w = IsBegun r w × IsPlaceOf r.engine (State s) w
-IsConfigurationOf r (Parse c) w = IsBegun r w × IsPlaceOf r.engine (Parse c) w
+  -- the configuration of a word: that of the empty word, that of words that can't begin so, and those of the states and
+  -- charts that the others lead to
+  abbrev pub IsConfigurationOf : Configuration → Word → Type 0
+  IsConfigurationOf Start w = w ≡ []
+  IsConfigurationOf Barren w = IsBarren w
+  IsConfigurationOf (State s) w = IsBegun w × IsPlaceOf r.engine (State s) w
+  IsConfigurationOf (Parse c) w = IsBegun w × IsPlaceOf r.engine (Parse c) w

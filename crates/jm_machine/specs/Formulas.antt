@@ -40,20 +40,21 @@ CategoryHolds (Regular e) letters category word = ere.ExpressionHolds e letters 
 CategoryHolds (Temporal f) letters category word = past.PastHolds f category word
 CategoryHolds (Grammatical g) letters category word = grammar.GrammarHolds g category word
 
--- the tokens spell this formula of the logic, without a fault
-abbrev pub IsReadAs : Text → List Token → EventDefinitions → Logic → Formula → Type 0
-IsReadAs bytes tokens table Fsm (Machine m) = fsm_readings.IsReadFrom bytes tokens table m
-IsReadAs bytes tokens table Ere (Regular e) = ere_readings.IsReadFrom bytes tokens table e
-IsReadAs bytes tokens table Ptltl (Temporal f) = past_readings.IsReadFrom bytes tokens table f
-IsReadAs bytes tokens table Cfg (Grammatical g) = grammar_readings.IsReadFrom bytes tokens table g
-IsReadAs bytes tokens table _ _ = ⊥
+module _ (bytes : Text) (tokens : List Token) (table : EventDefinitions) where
+  -- the tokens spell this formula of the logic, without a fault
+  abbrev pub IsReadAs : Logic → Formula → Type 0
+  IsReadAs Fsm (Machine m) = fsm_readings.IsReadFrom bytes tokens table m
+  IsReadAs Ere (Regular e) = ere_readings.IsReadFrom bytes tokens table e
+  IsReadAs Ptltl (Temporal f) = past_readings.IsReadFrom bytes tokens table f
+  IsReadAs Cfg (Grammatical g) = grammar_readings.IsReadFrom bytes tokens table g
+  IsReadAs _ _ = ⊥
 
--- the tokens spell no formula of the logic, or one with this first fault
-abbrev pub IsRefusedIn : Text → List Token → EventDefinitions → Logic → SpecFault → Type 0
-IsRefusedIn bytes tokens table Fsm fault = fsm_readings.IsRefused bytes tokens table (Bad fault)
-IsRefusedIn bytes tokens table Ere fault = ere_readings.IsRefused bytes tokens table (Bad fault)
-IsRefusedIn bytes tokens table Ptltl fault = past_readings.IsRefused bytes tokens table (Bad fault)
-IsRefusedIn bytes tokens table Cfg fault = grammar_readings.IsRefused bytes tokens table (Bad fault)
+  -- the tokens spell no formula of the logic, or one with this first fault
+  abbrev pub IsRefusedIn : Logic → SpecFault → Type 0
+  IsRefusedIn Fsm fault = fsm_readings.IsRefused bytes tokens table (Bad fault)
+  IsRefusedIn Ere fault = ere_readings.IsRefused bytes tokens table (Bad fault)
+  IsRefusedIn Ptltl fault = past_readings.IsRefused bytes tokens table (Bad fault)
+  IsRefusedIn Cfg fault = grammar_readings.IsRefused bytes tokens table (Bad fault)
 
 -- this fault comes first in the making of the formula's table, over so many letters
 abbrev pub IsTableFault : Formula → ℕ → SpecFault → Type 0

@@ -12,10 +12,6 @@ use Rattle.jm_reading.specs.Tokens.{name_of}
 use Rattle.jm_reading.specs.Faults.{or_else}
 use Rattle.jm_spec.specs.declared.property.HandlerText.{HandlerText}
 
--- the names of the categories that are handled
-abbrev pub handler_names : Text → List HandlerText → List Text
-handler_names bytes handlers = map (λ h. name_of bytes h.category) handlers
-
 -- each of these names is one of the categories
 abbrev pub AreCategories : List Text → List Text → Type 0
 AreCategories categories names = All (λ name. list_any (bytes_eq name) categories ≡ true) names
@@ -24,34 +20,38 @@ AreCategories categories names = All (λ name. list_any (bytes_eq name) categori
 abbrev pub count_fault : List HandlerText → Option SpecFault
 count_fault handlers = if nat_le (length handlers) 16 then None else Some (TooMany Handlers)
 
--- the first one for a category that is among these or that one before it is for
-abbrev pub duplicate_fault : Text → List Text → List HandlerText → Option SpecFault
-duplicate_fault bytes earlier [] = None
-duplicate_fault bytes earlier (h ∷ hs) =
-    if list_any (bytes_eq (name_of bytes h.category)) earlier then Some (DuplicateHandler h.category.line)
-    else duplicate_fault bytes (earlier ++ name_of bytes h.category ∷ []) hs
+module _ (bytes : Text) where
+  -- the names of the categories that are handled
+  abbrev pub handler_names : List HandlerText → List Text
+  handler_names handlers = map (λ h. name_of bytes h.category) handlers
 
--- the first one for no category of these
-abbrev pub category_fault : Text → List Text → List HandlerText → Option SpecFault
-category_fault bytes categories [] = None
-category_fault bytes categories (h ∷ hs) =
-    if list_any (bytes_eq (name_of bytes h.category)) categories then category_fault bytes categories hs
-    else Some (UnknownCategory h.category.line)
+  -- the first one for a category that is among these or that one before it is for
+  abbrev pub duplicate_fault : List Text → List HandlerText → Option SpecFault
+  duplicate_fault earlier [] = None
+  duplicate_fault earlier (h ∷ hs) =
+      if list_any (bytes_eq (name_of bytes h.category)) earlier then Some (DuplicateHandler h.category.line)
+      else duplicate_fault (earlier ++ name_of bytes h.category ∷ []) hs
 
--- the first word `__RESET` of a block, and of all blocks
-abbrev pub reset_in : Text → List Token → Option SpecFault
-reset_in bytes [] = None
-reset_in bytes (t ∷ ts) =
-    if is_word bytes t (codes "__RESET") then Some (UnsupportedHandler t.line) else reset_in bytes ts
+  -- the first one for no category of these
+  abbrev pub category_fault : List Text → List HandlerText → Option SpecFault
+  category_fault categories [] = None
+  category_fault categories (h ∷ hs) =
+      if list_any (bytes_eq (name_of bytes h.category)) categories then category_fault categories hs
+      else Some (UnknownCategory h.category.line)
 
-abbrev pub reset_fault : Text → List Token → List HandlerText → Option SpecFault
-reset_fault bytes tokens [] = None
-reset_fault bytes tokens (h ∷ hs) =
-    or_else (reset_in bytes (slice_range tokens h.first h.last)) (reset_fault bytes tokens hs)
+  -- the first word `__RESET` of a block, and of all blocks
+  abbrev pub reset_in : List Token → Option SpecFault
+  reset_in [] = None
+  reset_in (t ∷ ts) =
+      if is_word bytes t (codes "__RESET") then Some (UnsupportedHandler t.line) else reset_in ts
 
--- the fault of the first step that has one, where the property has these categories
-unfoldable pub handlers_fault : Text → List Token → List Text → List HandlerText → Option SpecFault
-handlers_fault bytes tokens categories handlers =
-    or_else (count_fault handlers)
-    (or_else (duplicate_fault bytes [] handlers)
-    (or_else (category_fault bytes categories handlers) (reset_fault bytes tokens handlers)))
+  abbrev pub reset_fault : List Token → List HandlerText → Option SpecFault
+  reset_fault tokens [] = None
+  reset_fault tokens (h ∷ hs) = or_else (reset_in (slice_range tokens h.first h.last)) (reset_fault tokens hs)
+
+  -- the fault of the first step that has one, where the property has these categories
+  unfoldable pub handlers_fault : List Token → List Text → List HandlerText → Option SpecFault
+  handlers_fault tokens categories handlers =
+      or_else (count_fault handlers)
+      (or_else (duplicate_fault [] handlers)
+      (or_else (category_fault categories handlers) (reset_fault tokens handlers)))

@@ -19,46 +19,48 @@ pub record RuleDefinition : Type 0 where
   pub formula : Formula
   pub handlers : List Text
 
--- the category of this name holds of the word
-abbrev pub IsNamedCategory : RuleDefinition → Word → Text → Type 0
-IsNamedCategory r word name = IsSomeAnd (number_of (category_names r.formula) name)
-    (λ category. CategoryHolds r.formula (length r.masks) category word)
+module _ (r : RuleDefinition) where
+  -- the category of this name holds of the word
+  abbrev pub IsNamedCategory : Word → Text → Type 0
+  IsNamedCategory word name = IsSomeAnd (number_of (category_names r.formula) name)
+      (λ category. CategoryHolds r.formula (length r.masks) category word)
 
--- the property is a grammar, and `fail` is handled
-abbrev pub is_failing_grammar : RuleDefinition → Bool
-is_failing_grammar r = is_grammar r.formula && list_any (bytes_eq (codes "fail")) r.handlers
+  -- the property is a grammar, and `fail` is handled
+  abbrev pub is_failing_grammar : Bool
+  is_failing_grammar = is_grammar r.formula && list_any (bytes_eq (codes "fail")) r.handlers
 
--- what they mean: handler k is for the words of which its category holds
-abbrev pub rules_meaning : RuleDefinition → Meaning
-rules_meaning r = record {
-  letters = length r.masks;
-  params = λ e. unwrap_or (slice_get r.masks e) 0;
-  must_bind = r.must_bind;
-  creation = r.creation;
-  handlers = length r.handlers;
-  property_of = λ k. 0;
-  Holds = λ word k. IsSomeAnd (slice_get r.handlers k) (IsNamedCategory r word);
-  coarse_cut = λ j. is_failing_grammar r;
-}
+  -- what they mean: handler k is for the words of which its category holds
+  abbrev pub rules_meaning : Meaning
+  rules_meaning = record {
+    letters = length r.masks;
+    params = λ e. unwrap_or (slice_get r.masks e) 0;
+    must_bind = r.must_bind;
+    creation = r.creation;
+    handlers = length r.handlers;
+    property_of = λ k. 0;
+    Holds = λ word k. IsSomeAnd (slice_get r.handlers k) (IsNamedCategory word);
+    coarse_cut = λ j. is_failing_grammar;
+  }
 
 -- ---- the rules that events, modifiers, a property and handlers say
 
--- the letters of the creation events
-abbrev pub is_creation : EventDefinitions → ℕ → Bool
-is_creation t letter = option_map_or (λ e. e.creation) (slice_get t.events letter) false
+module _ (t : EventDefinitions) where
+  -- the letters of the creation events
+  abbrev pub is_creation : ℕ → Bool
+  is_creation letter = option_map_or (λ e. e.creation) (slice_get t.events letter) false
 
-abbrev pub creation_letters : EventDefinitions → List ℕ
-creation_letters t = filter (is_creation t) (range_with_len 0 (length t.events))
+  abbrev pub creation_letters : List ℕ
+  creation_letters = filter is_creation (range_with_len 0 (length t.events))
 
--- all parameters where the specification is for full bindings alone, else none
-abbrev pub must_bind_of : EventDefinitions → Bool → Mask
-must_bind_of t full_binding = if full_binding then 2 ^ length t.parameters - 1 else 0
+  -- all parameters where the specification is for full bindings alone, else none
+  abbrev pub must_bind_of : Bool → Mask
+  must_bind_of full_binding = if full_binding then 2 ^ length t.parameters - 1 else 0
 
-abbrev pub rules_of : EventDefinitions → Bool → Formula → List Text → RuleDefinition
-rules_of t full_binding formula handlers = record {
-  masks = map (λ e. e.mask) t.events;
-  creation = creation_letters t;
-  must_bind = must_bind_of t full_binding;
-  formula = formula;
-  handlers = handlers;
-}
+  abbrev pub rules_of : Bool → Formula → List Text → RuleDefinition
+  rules_of full_binding formula handlers = record {
+    masks = map (λ e. e.mask) t.events;
+    creation = creation_letters;
+    must_bind = must_bind_of full_binding;
+    formula = formula;
+    handlers = handlers;
+  }

@@ -33,30 +33,30 @@ AreHandlerMasks engine goal hits =
     (state : ℕ) → state < length hits → (word : Word) → IsPlaceOf engine (State state) word → (k : ℕ) →
     IsBitSet (slice_index hits state) k ↔ IsSomeAnd (slice_get goal.groups k) (λ group. EngineHolds engine group word)
 
--- the letter leaves the state as it is, which hits nothing
-pub record IsIdleLetter (t : Transitions) (hits : List ℕ) (state e : ℕ) : Type 0 where
-  pub letter : e < t.letters
-  pub stays : next_of t state e ≡ state
-  pub quiet : slice_index hits state ≡ 0
+module _ (t : Transitions) (hits : List ℕ) where
+  -- the letter leaves the state as it is, which hits nothing
+  pub record IsIdleLetter (state e : ℕ) : Type 0 where
+    pub letter : e < t.letters
+    pub stays : next_of t state e ≡ state
+    pub quiet : slice_index hits state ≡ 0
 
--- the letter leads from the state to one that hits nothing, and from which no word leads to a handled one
-pub record IsEndingLetter (t : Transitions) (hits : List ℕ) (needs : NeedSets) (state e : ℕ) : Type 0 where
-  pub letter : e < t.letters
-  pub quiet : slice_index hits (next_of t state e) ≡ 0
-  pub ends : (u : Transitions) (g : GoalDefinition) (v : EventDefinitions) → AreNeedsOf u g v needs
-      → IsAlive (IsNeededFrom u g v (next_of t state e)) 0 → ⊥
+  -- the letter leads from the state to one that hits nothing, and from which no word leads to a handled one
+  pub record IsEndingLetter (needs : NeedSets) (state e : ℕ) : Type 0 where
+    pub letter : e < t.letters
+    pub quiet : slice_index hits (next_of t state e) ≡ 0
+    pub ends : (u : Transitions) (g : GoalDefinition) (v : EventDefinitions) → AreNeedsOf u g v needs
+        → IsAlive (IsNeededFrom u g v (next_of t state e)) 0 → ⊥
+
+  abbrev pub AreIdle : List ℕ → Type 0
+  AreIdle idle = (state e : ℕ) → state < t.states → IsBitSet (slice_index idle state) e → IsIdleLetter state e
+
+  abbrev pub AreEnding : NeedSets → List ℕ → Type 0
+  AreEnding needs ending =
+      (state e : ℕ) → state < t.states → IsBitSet (slice_index ending state) e → IsEndingLetter needs state e
 
 -- words can't begin with the letter, or it leads from the start to such a state
 abbrev pub IsFirstEnding : Transitions → GoalDefinition → List ℕ → NeedSets → ℕ → Type 0
 IsFirstEnding t goal hits needs e = (e < t.letters) × ((may_begin goal e → ⊥) ⊎ IsEndingLetter t hits needs 0 e)
-
-abbrev pub AreIdle : Transitions → List ℕ → List ℕ → Type 0
-AreIdle t hits idle =
-    (state e : ℕ) → state < t.states → IsBitSet (slice_index idle state) e → IsIdleLetter t hits state e
-
-abbrev pub AreEnding : Transitions → List ℕ → NeedSets → List ℕ → Type 0
-AreEnding t hits needs ending =
-    (state e : ℕ) → state < t.states → IsBitSet (slice_index ending state) e → IsEndingLetter t hits needs state e
 
 -- the facts of a table for this goal, whose letters are the events
 pub record AreFactsOf (t : Transitions) (goal : GoalDefinition) (events : EventDefinitions)
@@ -83,27 +83,28 @@ pub record ParseFacts : Type 0 where
   pub firsts : List ChartDefinition
   pub failing : Bool
 
--- chart e is that of the word of letter e alone
-pub record AreFirstCharts (c : ChartsDefinition) (firsts : List ChartDefinition) : Type 0 where
-  pub count : length firsts ≡ length c.params
-  pub each : (e : ℕ) (chart : ChartDefinition) → slice_get firsts e ≡ Some chart → IsChartOf c (e ∷ []) chart
+module _ (c : ChartsDefinition) where
+  -- chart e is that of the word of letter e alone
+  pub record AreFirstCharts (firsts : List ChartDefinition) : Type 0 where
+    pub count : length firsts ≡ length c.params
+    pub each : (e : ℕ) (chart : ChartDefinition) → slice_get firsts e ≡ Some chart → IsChartOf c (e ∷ []) chart
 
--- the word of letter e alone is in the language, or one that goes on with letters without a dead parameter is
-abbrev pub GoesOn : ChartsDefinition → Mask → ℕ → Type 0
-GoesOn c dead e = IsWord c.grammar (e ∷ []) ⊎ IsAliveFor c.grammar c.params dead (e ∷ [])
+  -- the word of letter e alone is in the language, or one that goes on with letters without a dead parameter is
+  abbrev pub GoesOn : Mask → ℕ → Type 0
+  GoesOn dead e = IsWord c.grammar (e ∷ []) ⊎ IsAliveFor c.grammar c.params dead (e ∷ [])
 
--- words may begin with letter e, which has no dead parameter, and go on so
-abbrev pub BeginsWith : ChartsDefinition → GoalDefinition → Mask → ℕ → Type 0
-BeginsWith c goal dead e = may_begin goal e × IsAvailable c.params dead e × GoesOn c dead e
+  -- words may begin with letter e, which has no dead parameter, and go on so
+  abbrev pub BeginsWith : GoalDefinition → Mask → ℕ → Type 0
+  BeginsWith goal dead e = may_begin goal e × IsAvailable c.params dead e × GoesOn dead e
 
--- the configuration is that of a word, so far as its chart tells
-abbrev pub IsParseOf : ChartsDefinition → Configuration → Word → Type 0
-IsParseOf c (Parse chart) word = IsChartOf c word chart.value
-IsParseOf c _ word = Unit {0}
+  -- the configuration is that of a word, so far as its chart tells
+  abbrev pub IsParseOf : Configuration → Word → Type 0
+  IsParseOf (Parse chart) word = IsChartOf c word chart.value
+  IsParseOf _ word = Unit {0}
 
--- some word of one or more letters without a dead parameter, put after the configuration's word, is in the language;
--- after the empty word it is one that may begin so
-abbrev pub CanMatch : ChartsDefinition → GoalDefinition → Configuration → Word → Mask → Type 0
-CanMatch c goal Start word dead = (e : ℕ) × BeginsWith c goal dead e
-CanMatch c goal (Parse chart) word dead = IsAliveFor c.grammar c.params dead word
-CanMatch c goal _ word dead = ⊥
+  -- some word of one or more letters without a dead parameter, put after the configuration's word, is in the language;
+  -- after the empty word it is one that may begin so
+  abbrev pub CanMatch : GoalDefinition → Configuration → Word → Mask → Type 0
+  CanMatch goal Start word dead = (e : ℕ) × BeginsWith goal dead e
+  CanMatch goal (Parse chart) word dead = IsAliveFor c.grammar c.params dead word
+  CanMatch goal _ word dead = ⊥

@@ -53,7 +53,7 @@ pub record IsGoalOf (masks : List Mask) (formula : Formula) (handlers : List Tex
 abbrev pub may_begin : GoalDefinition → ℕ → Type 0
 may_begin goal letter = (goal.creation ≡ 0) ⊎ IsBitSet goal.creation letter
 
--- ---- where handlers configuration
+-- ---- where handlers are hit
 
 -- what runs the property says that the category of handler k holds of the word
 abbrev pub IsHandledBy : CompiledRules → Word → ℕ → Type 0
