@@ -1,5 +1,5 @@
 //! What runs the property of a specification.
-ghost use Rattle.std.specs.Prelude.{ℕ, ◌≡◌, ◌<◌, ◌↔◌, ◌++◌, ◌∷◌, [], List, All, Some, IsTrue, IsBitSet, IsSomeAnd, IfOk, slice_get};
+ghost use Rattle.std.specs.Prelude.{ℕ, ◌≡◌, ◌<◌, ◌↔◌, ◌++◌, ◌∷◌, [], List, All, IsTrue, IsBitSet, IsSomeAnd, IfOk, slice_get};
 ghost use Rattle.jm_table.specs.Tables.{IsTable, next_of, IsInGroup};
 ghost use Rattle.jm_grammar.specs.Categories.{GrammarHolds};
 ghost use Rattle.jm_earley.specs.Charts.{IsChartOf};

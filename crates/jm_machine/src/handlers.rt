@@ -1,5 +1,5 @@
 //! The handlers of a property: their categories, and what is wrong with them.
-ghost use Rattle.std.specs.Prelude.{ℕ, ◌≡◌, ◌<◌, ◌≤◌, Some, None, [], length, map, IfOk, IfErr};
+ghost use Rattle.std.specs.Prelude.{◌≡◌, ◌<◌, ◌≤◌, Some, [], length, map, IfOk, IfErr};
 ghost use Rattle.jm_text.specs.Spans.{LieWithin};
 ghost use Rattle.jm_reading.specs.Faults.{Checks};
 ghost use Rattle.jm_events.specs.Names.{number_of};

@@ -14,7 +14,6 @@ mod grammar_outlook;
 mod handlers;
 mod laws;
 mod outlook;
-mod ranges;
 mod rules;
 mod table_outlook;
 

@@ -4,11 +4,10 @@ ghost use Rattle.std.specs.List.{list_any};
 ghost use Rattle.std.specs.Str.{bytes_eq};
 ghost use Rattle.jm_table.specs.Minimal.{IsReduced};
 ghost use Rattle.jm_text.specs.Spans.{LieWithin};
-ghost use Rattle.jm_model.specs.declared.fault.SpecFault.{SpecFault};
 ghost use Rattle.jm_semantics.specs.Families.{IsFamily};
 ghost use Rattle.jm_machine.specs.Formulas.{category_names, is_grammar};
 ghost use Rattle.jm_machine.specs.Handlers.{AreCategories};
-ghost use Rattle.jm_machine.specs.Meanings.{rules_of, rules_meaning, is_failing_grammar};
+ghost use Rattle.jm_machine.specs.Meanings.{rules_of, rules_meaning};
 ghost use Rattle.jm_machine.specs.Engines.{letters_of_engine, categories_of_engine, is_parsing, HasParams, IsPlaceOf, IsCompiled, IsMinimal};
 ghost use Rattle.jm_machine.specs.RuleSets.{IsRuleSet, IsHandledBy};
 ghost use Rattle.jm_machine.specs.Compiling.{IsCompiledFrom, IsNotCompiled};
@@ -19,7 +18,6 @@ use crate::formula::Formula;
 use crate::goal::{goal_of, may_begin};
 use crate::handlers::handled;
 use crate::outlook::Outlook;
-use crate::ranges::line_before;
 use jm_events::Names;
 use jm_goal::Goal;
 use jm_model::{Letter, Monitor, NoMemory, SpecError};
@@ -234,6 +232,14 @@ impl Rules {
             (Outlook::Table(outlook), Configuration::State(state)) => outlook.hits(*state),
             _ => handlers_at(&self.goal, &self.engine, configuration),
         }
+    }
+}
+
+/// The line of the token before a place, or 1 where there is none.
+fn line_before(tokens: &[Token], place: u32) -> u32 {
+    match range_of(tokens, 0, place).last() {
+        Some(token) => token.line,
+        None => 1,
     }
 }
 
