@@ -7,7 +7,6 @@ mod files;
 mod making;
 mod script;
 mod specification;
-mod text;
 
 pub use files::{GenError, Workload};
 pub use making::workload;

@@ -1,8 +1,8 @@
 //! A script of a workload.
-ghost use Rattle.std.specs.Prelude.{◌≡◌, ◌≤◌, ◌<◌, ◌++◌, codes, IfOk, OnOk};
+ghost use Rattle.std.specs.Prelude.{◌≡◌, ◌≤◌, ◌<◌, ◌++◌, codes, decimal, string_bytes, IfOk, OnOk};
 ghost use Rattle.jm_gen.specs.Scripts.{object, step_line, create_line, round_over, passes_after, round_text, script_text};
 
-use crate::text::Text;
+use itoa::Buffer;
 use std::alloc::{AllocError, Global};
 
 /// After how many rounds a pass comes.
@@ -13,7 +13,7 @@ pub(crate) fn script(alloc: Global, number: u32, n: u32) -> Result<Vec<u8>, Allo
     requires { n ≤ 8000 }
     ensures { IfOk result (λ text. text.items ≡ script_text number n) }
 {
-    let mut text = Text::new(alloc);
+    let mut text = String::new(alloc);
     for round in 0..n {
         add_round(alloc, &mut text, number, round)?;
     }
@@ -22,33 +22,41 @@ pub(crate) fn script(alloc: Global, number: u32, n: u32) -> Result<Vec<u8>, Allo
 
 /// Adds a round, and the passes that follow it.
 #[tactic(auto, unfolding(crate::specs::Scripts::round_text))]
-fn add_round(alloc: Global, text: &mut Text, number: u32, round: u32) -> Result<(), AllocError>
+fn add_round(alloc: Global, text: &mut String, number: u32, round: u32) -> Result<(), AllocError>
     requires { round < 8000 }
-    ensures { OnOk result (text.new ≡ text.old ++ round_text number round) }
+    ensures { OnOk result (string_bytes text.new ≡ string_bytes text.old ++ round_text number round) }
 {
     let collection = object(alloc, "c", number, round)?;
     let iterator = object(alloc, "i", number, round)?;
-    add_steps(text, collection.as_slice(), iterator.as_slice())?;
+    add_steps(text, collection.as_str(), iterator.as_str())?;
     add_passes(text, round)
 }
 
 /// The name of an object of a round, behind the letter of its kind.
 #[tactic(auto, unfolding(crate::specs::Scripts::object))]
-fn object(alloc: Global, kind: &str, number: u32, round: u32) -> Result<Vec<u8>, AllocError>
-    ensures { IfOk result (λ text. text.items ≡ object kind.now number round) }
+fn object(alloc: Global, kind: &str, number: u32, round: u32) -> Result<String, AllocError>
+    ensures { IfOk result (λ text. string_bytes text ≡ object kind.now number round) }
 {
-    let mut text = Text::new(alloc);
-    text.push(kind)?;
-    text.number(number)?;
-    text.push("_")?;
-    text.number(round)?;
-    Ok(text.into_bytes())
+    let mut text = String::new(alloc);
+    text.push_str(kind)?;
+    push_number(&mut text, number)?;
+    text.push_str("_")?;
+    push_number(&mut text, round)?;
+    Ok(text)
+}
+
+/// Adds a number, without leading zeros.
+fn push_number(text: &mut String, number: u32) -> Result<(), AllocError>
+    ensures { OnOk result (string_bytes text.new ≡ string_bytes text.old ++ decimal number) }
+{
+    let mut buffer = Buffer::new();
+    text.push_str(buffer.format(number))
 }
 
 /// Adds the steps of a round over a collection and its iterator.
 #[tactic(auto, unfolding(crate::specs::Scripts::round_over))]
-fn add_steps(text: &mut Text, collection: &[u8], iterator: &[u8]) -> Result<(), AllocError>
-    ensures { OnOk result (text.new ≡ text.old ++ round_over collection.now iterator.now) }
+fn add_steps(text: &mut String, collection: &str, iterator: &str) -> Result<(), AllocError>
+    ensures { OnOk result (string_bytes text.new ≡ string_bytes text.old ++ round_over collection.now iterator.now) }
 {
     add_create(text, collection, iterator)?;
     add_step(text, "UnsafeIter.update ", collection)?;
@@ -61,35 +69,35 @@ fn add_steps(text: &mut Text, collection: &[u8], iterator: &[u8]) -> Result<(), 
 
 /// Adds the step that makes an iterator of a collection.
 #[tactic(auto, unfolding(crate::specs::Scripts::create_line))]
-fn add_create(text: &mut Text, collection: &[u8], iterator: &[u8]) -> Result<(), AllocError>
-    ensures { OnOk result (text.new ≡ text.old ++ create_line collection.now iterator.now) }
+fn add_create(text: &mut String, collection: &str, iterator: &str) -> Result<(), AllocError>
+    ensures { OnOk result (string_bytes text.new ≡ string_bytes text.old ++ create_line collection.now iterator.now) }
 {
-    text.push("UnsafeIter.create ")?;
-    text.bytes(collection)?;
-    text.push(" ")?;
-    text.bytes(iterator)?;
-    text.push("\n")?;
+    text.push_str("UnsafeIter.create ")?;
+    text.push_str(collection)?;
+    text.push_str(" ")?;
+    text.push_str(iterator)?;
+    text.push_str("\n")?;
     Ok(())
 }
 
 /// Adds a step on an object, behind the step's words.
 #[tactic(auto, unfolding(crate::specs::Scripts::step_line))]
-fn add_step(text: &mut Text, words: &str, object: &[u8]) -> Result<(), AllocError>
-    ensures { OnOk result (text.new ≡ text.old ++ step_line words.now object.now) }
+fn add_step(text: &mut String, words: &str, object: &str) -> Result<(), AllocError>
+    ensures { OnOk result (string_bytes text.new ≡ string_bytes text.old ++ step_line words.now object.now) }
 {
-    text.push(words)?;
-    text.bytes(object)?;
-    text.push("\n")
+    text.push_str(words)?;
+    text.push_str(object)?;
+    text.push_str("\n")
 }
 
 /// Adds a pass on each specification, where one follows the round.
 #[tactic(auto, unfolding(crate::specs::Scripts::passes_after))]
-fn add_passes(text: &mut Text, round: u32) -> Result<(), AllocError>
+fn add_passes(text: &mut String, round: u32) -> Result<(), AllocError>
     requires { round < 8000 }
-    ensures { OnOk result (text.new ≡ text.old ++ passes_after round) }
+    ensures { OnOk result (string_bytes text.new ≡ string_bytes text.old ++ passes_after round) }
 {
     if (round + 1) % ROUNDS_TO_A_PASS == 0 {
-        text.push("pass UnsafeIter\npass HasNext\n")?;
+        text.push_str("pass UnsafeIter\npass HasNext\n")?;
     }
     Ok(())
 }

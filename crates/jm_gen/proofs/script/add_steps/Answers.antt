@@ -1,4 +1,5 @@
 use Rattle.std.proofs.Common.{codes}
+use Rattle.std.specs.Prelude.{string_bytes}
 use Rattle.jm_gen.specs.Scripts.{round_over, create_line, step_line}
 use Rattle.jm_gen.proofs.Written.{then_written}
 use Rattle.jm_gen.proofs.script.add_steps.Goals as goal
@@ -6,7 +7,7 @@ use Rattle.jm_gen.proofs.script.add_steps.Goals as goal
 pub returns : goal.returns
 unfolding round_over
 returns c =
-    let s = c.args.text.now in
+    let s = string_bytes c.args.text.now in
     let o = c.args.collection.now in
     let i = c.args.iterator.now in
     let updated = then_written s (create_line o i) (step_line (codes "UnsafeIter.update ") o) c.in_ok-add_create.ensures c.in_ok-add_step.ensures in
