@@ -144,7 +144,8 @@ fn behind(word: &[u8], position: usize) -> &[u8]
 }
 
 fn is_event_line(spec: &[u8], event: &[u8], objects: &[&[u8]]) -> bool
-    ensures { result ≡ (is_name_text spec.now && is_name_text event.now && list_all is_object (map (λ w. w.now) objects.now)) }
+    ensures { result ≡ (is_name_text spec.now && is_name_text event.now
+        && list_all is_object (map (λ w. w.now) objects.now)) }
 {
     is_name_text(spec) && is_name_text(event) && are_objects(objects)
 }

@@ -11,18 +11,18 @@ use crate::moves::Move;
 use jm_model::{Binding, Firing, Firings, Monitor, NoMemory};
 use std::alloc::Global;
 
-/// Orders moves by their instances.
-pub(crate) fn arrange<S>(moves: &mut Vec<Move<S>>)
+/// Sorts moves by their instances.
+pub(crate) fn sort_by_instance<S>(moves: &mut Vec<Move<S>>)
     ensures same { IsPermutation moves.old.items moves.new.items }
     ensures ordered { IsSortedBy (λ x y. is_lt (binding_cmp x.monitor.instance y.monitor.instance)) moves.new.items }
 {
     if moves.len() > 1 {
-        sort_moves(moves);
+        sort_several(moves);
     }
 }
 
 /// The same, where there are several.
-fn sort_moves<S>(moves: &mut Vec<Move<S>>)
+fn sort_several<S>(moves: &mut Vec<Move<S>>)
     ensures same { IsPermutation moves.old.items moves.new.items }
     ensures ordered { IsSortedBy (λ x y. is_lt (binding_cmp x.monitor.instance y.monitor.instance)) moves.new.items }
 {

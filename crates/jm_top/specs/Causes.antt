@@ -31,8 +31,8 @@ IsFaulty (BadSpec file fault) = Unit {0}
 IsFaulty (BadScript script fault) = Unit {0}
 IsFaulty _ = ⊥
 
--- the file of this name, which has this number, wasn't loaded: it couldn't be read, memory was short, or it is too long,
--- which ends a command with this status
+-- the file of this name, which has this number, wasn't loaded: it couldn't be read, memory was short, or it is too
+-- long, which ends a command with this status
 abbrev pub IsNotLoaded : FileContents → Text → ℕ → Status → Status → Type 0
 IsNotLoaded contents name number too_long (ReadFailed file) = file ≡ number
 IsNotLoaded contents name number too_long NoMemory = Unit {0}

@@ -4,7 +4,7 @@ use Rattle.std.proofs.lemmas.List.Sorted.{ranks_by, answers_always}
 use Rattle.jm_model.specs.Bindings.{binding_cmp}
 use Rattle.jm_semantics.proofs.OrderLemmas.{binding_cmp_total}
 use Rattle.jm_store.specs.declared.moves.Move.{Move}
-use Rattle.jm_store.proofs.report.sort_moves.Goals as goal
+use Rattle.jm_store.proofs.report.sort_several.Goals as goal
 
 pub returns-clause-ordered : goal.returns-clause-ordered
 returns-clause-ordered g c =
