@@ -16,7 +16,8 @@ pub fn events_of(alloc: Global, text: &str) -> Result<EventTable, SpecError> {
     Ok(events)
 }
 
-/// The table of a text such as `c i create=3 next=2`: its parameters, and its events, each with the mask of what it binds.
+/// The table of a text such as `c i create=3 next=2`: its parameters, and its events, each with the mask of what it
+/// binds.
 pub fn table_of(alloc: Global, text: &str) -> Result<EventTable, SpecError> {
     let mut table = EventTable::new(alloc);
     for word in text.split_whitespace() {

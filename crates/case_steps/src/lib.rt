@@ -1,6 +1,6 @@
-//! Bindings, steps and outcomes as cases write them: `0=7,1=9` or `-`; `event:LETTER:BINDING`, `death:OBJECT` or `pass`;
-//! `fired:HANDLER@BINDING;..`, `refused:OBJECT`, `done`, `kept:COUNT` or `no-memory`. Beside them
-//! numbers and bindings that look random.
+//! Bindings, steps and outcomes as cases write them: `0=7,1=9` or `-`; `event:LETTER:BINDING`, `death:OBJECT` or
+//! `pass`; `fired:HANDLER@BINDING;..`, `refused:OBJECT`, `done`, `kept:COUNT` or `no-memory`. Beside them numbers and
+//! bindings that look random.
 #![tactic(auto)]
 
 mod bindings;

@@ -4,7 +4,8 @@ use cases::{byte_of, number_of, put};
 use jm_model::{Entry, Firing, Firings, NoMemory, Outcome};
 use std::alloc::{AllocError, Global};
 
-/// The outcome of a text: `fired:HANDLER@BINDING;..`, `refused:OBJECT`, `done`, `kept:COUNT`, or another for want of memory.
+/// The outcome of a text: `fired:HANDLER@BINDING;..`, `refused:OBJECT`, `done`, `kept:COUNT`, or another for want of
+/// memory.
 pub fn outcome_of(alloc: Global, text: &str) -> Result<Outcome, NoMemory> {
     let (kind, rest) = text.split_once(':').unwrap_or((text, ""));
     match kind {

@@ -3,7 +3,8 @@ use std::alloc::{AllocError, Global};
 use std::io;
 use std::io::Input;
 
-/// Reads cases from the standard input, answers each, and prints those that are answered wrongly and how many there are.
+/// Reads cases from the standard input, answers each, and prints those that are answered wrongly and how many there
+/// are.
 pub fn run<R: Input + Print + AllocGlobal, F: Fn(Global, &Case) -> Result<String, AllocError>>(
     rt: &R,
     answer: F,

@@ -104,8 +104,8 @@ fn shown(alloc: Global, status: &Status, out: &[u8], err: &[u8]) -> Result<Strin
     Ok(answer)
 }
 
-/// The same where nothing fails and the files are long: how many bytes are written, their last line, and that of what the
-/// error sink was given. In the files a `;` stands for a line feed.
+/// The same where nothing fails and the files are long: how many bytes are written, their last line, and that of what
+/// the error sink was given. In the files a `;` stands for a line feed.
 pub(crate) fn long<R: Threads + Wait + Sync>(
     rt: &R,
     alloc: Global,
@@ -129,8 +129,8 @@ fn with_line_feeds(alloc: Global, text: &[u8]) -> Result<Vec<u8>, AllocError> {
     Ok(out)
 }
 
-/// How the command ends on each front of the case's file, from the empty one on: a line for each front that doesn't end as
-/// the one before it, with the front's length.
+/// How the command ends on each front of the case's file, from the empty one on: a line for each front that doesn't end
+/// as the one before it, with the front's length.
 pub(crate) fn fronts<R: Threads + Wait + Sync>(
     rt: &R,
     alloc: Global,
@@ -152,8 +152,8 @@ pub(crate) fn fronts<R: Threads + Wait + Sync>(
     Ok(answer)
 }
 
-/// How the command ends where the file of this name holds these bytes and there is no other: what is written, and what the
-/// error sink is given.
+/// How the command ends where the file of this name holds these bytes and there is no other: what is written, and what
+/// the error sink is given.
 fn end_on<R: Threads + Wait + Sync>(
     rt: &R,
     alloc: Global,

@@ -56,7 +56,8 @@ impl Rig {
 
     /// The event of a line `LETTER OBJECT ..`.
     fn step_of(&self, line: &str) -> Result<Option<Step>, NoMemory>
-        ensures { IfOk result (λ step. IfSome step (λ step. IsEventOf (table_meaning self.now.prop.definition) 8 step)) }
+        ensures { IfOk result (λ step. IfSome step
+            (λ step. IsEventOf (table_meaning self.now.prop.definition) 8 step)) }
     {
         let (letter, objects) = line.split_once(' ').unwrap_or((line, ""));
         let objects = numbers_of(self.alloc, objects)?;
@@ -74,7 +75,8 @@ impl Rig {
 
     /// The events of lines `NUMBER LETTER OBJECT ..`, each with its number.
     fn steps(&self, text: &str) -> Result<Vec<(u32, Step)>, NoMemory>
-        ensures { IfOk result (λ steps. All (λ s. IsEventOf (table_meaning self.now.prop.definition) 8 s.1) steps.items) }
+        ensures { IfOk result (λ steps. All
+            (λ s. IsEventOf (table_meaning self.now.prop.definition) 8 s.1) steps.items) }
     {
         let mut steps = Vec::new(self.alloc);
         for line in text.lines() {

@@ -13,6 +13,7 @@ pub record AreLettersOf (m : Meaning) (l : Letters) : Type 0 where
 
 -- the letter is there, and has as many objects as parameters, each below n
 abbrev pub Suits : Letters → ℕ → Act → Type 0
-Suits l n (Emit letter args) = (letter.0 < l.count) × (length args.items ≡ count_ones (slice_index l.masks letter.0)) × All (λ o. o < n) args.items
+Suits l n (Emit letter args) = (letter.0 < l.count) × (length args.items ≡ count_ones (slice_index l.masks letter.0))
+    × All (λ o. o < n) args.items
 Suits l n (Die object) = object < n
 Suits l n PassBy = Unit {0}

@@ -17,8 +17,8 @@ use std::sync::Wait;
 use std::thread;
 use std::thread::Threads;
 
-/// What each seat does: as often as `times`, an event of the letter 1 on the next of its own objects; and in a storm the
-/// death of this object and a pass behind each.
+/// What each seat does: as often as `times`, an event of the letter 1 on the next of its own objects; and in a storm
+/// the death of this object and a pass behind each.
 #[derive(Clone, Copy)]
 pub(crate) struct Work {
     pub seats: u32,
@@ -87,7 +87,8 @@ where
         rt,
         seats,
         &|seat: Seat<M>| -> Result<Seat<M>, NoMemory>
-            requires { IsSeatOf watch.now seat × AreLettersOf (M.meaning watch.now.fixed.definition) letters.now × (objects ≡ watch.now.fixed.objects) }
+            requires { IsSeatOf watch.now seat × AreLettersOf (M.meaning watch.now.fixed.definition) letters.now
+                × (objects ≡ watch.now.fixed.objects) }
             ensures { IfOk result (λ s. IsSeatOf watch.entry.now s) }
         { at_work(rt, alloc, watch, letters, objects, seat, work) },
     )?;

@@ -12,8 +12,8 @@ use jm_model::{Monitor, NoMemory};
 use std::alloc::Global;
 use std::sync::Wait;
 
-/// What each step of the words is answered, `SEAT:LINE:ACT`, `SEAT:note` or `SEAT:hear`, and the entries after the end, a
-/// line each.
+/// What each step of the words is answered, `SEAT:LINE:ACT`, `SEAT:note` or `SEAT:hear`, and the entries after the end,
+/// a line each.
 pub(crate) fn by_two<M: Monitor>(
     rt: &impl Wait,
     alloc: Global,

@@ -2,8 +2,8 @@ use cases::{Case, number_of, put_line, text_of};
 use jm_gen::{GenError, Workload, workload};
 use std::alloc::{AllocError, Global};
 
-/// What is found in the workload of the rounds that the case's first word says. The verb says what is looked for: `spec` and
-/// `script` a file by its number, `size` how many lines each script has.
+/// What is found in the workload of the rounds that the case's first word says. The verb says what is looked for:
+/// `spec` and `script` a file by its number, `size` how many lines each script has.
 pub(crate) fn answer(alloc: Global, case: &Case) -> Result<String, AllocError> {
     let number = number_of(case.second.as_str()) as usize;
     match workload(alloc, number_of(case.first.as_str())) {

@@ -50,8 +50,9 @@ fn grammar_text(alloc: Global, grammar: &Grammar) -> Result<String, SpecError> {
     Ok(out)
 }
 
-/// Of the grammar of a case's productions and its start, if it is within the limits: how many productions there are, what
-/// is left without those that spell no word, and the nonterminals that spell a word of these letters, by their bits.
+/// Of the grammar of a case's productions and its start, if it is within the limits: how many productions there are,
+/// what is left without those that spell no word, and the nonterminals that spell a word of these letters, by their
+/// bits.
 pub(crate) fn made(alloc: Global, case: &Case) -> Result<String, AllocError> {
     or_fault(alloc, made_shown(alloc, case))
 }

@@ -71,7 +71,8 @@ impl<'a, M: Monitor> Rig<'a, M> {
         requires name { blank.name ≡ L.name }
         requires parts { blank.parts ≡ L.parts }
         requires one { blank.parts ≡ 1 }
-        requires event { IsLiveEvent (M.meaning (M.definition self.old.rules.now)) self.old.objects letter.0 binding.now }
+        requires event { IsLiveEvent (M.meaning (M.definition self.old.rules.now))
+            self.old.objects letter.0 binding.now }
         requires there { AreBelow (length self.old.objects) binding.now }
     {
         let mut steps = Steps::<L>::new(blank);

@@ -10,7 +10,8 @@ use jm_spec::Logic;
 use std::alloc::{AllocError, Global};
 
 /// What a specification declares. The words are its name, its logic and maybe `full-binding`; behind the `/` stand its
-/// categories. The first line has the parameters, and each other line an event: its name, its mask and maybe `creation`.
+/// categories. The first line has the parameters, and each other line an event: its name, its mask and maybe
+/// `creation`.
 pub(crate) fn check(alloc: Global, case: &Case) -> Result<String, SpecError> {
     let table = table_of(alloc, text_of(case.text.as_slice()))?;
     let (name, rest) = halves(case.first.as_str());
@@ -21,8 +22,8 @@ pub(crate) fn check(alloc: Global, case: &Case) -> Result<String, SpecError> {
     Ok(without_last_line_feed(alloc, page.as_slice())?)
 }
 
-/// The coenable sets of a specification of this name. The lines are as in `check`, and behind a `:` stand the masks of the
-/// event's family.
+/// The coenable sets of a specification of this name. The lines are as in `check`, and behind a `:` stand the masks of
+/// the event's family.
 pub(crate) fn coenable(alloc: Global, case: &Case) -> Result<String, SpecError> {
     let text = text_of(case.text.as_slice());
     let table = table_of(alloc, text)?;

@@ -30,7 +30,10 @@ fn none() -> Binding
 fn answer(alloc: Global) -> Result<Firings, NoMemory>
     ensures { IfOk result (λ f. f ≡
         record { instance = None ∷ None ∷ None ∷ None ∷ None ∷ None ∷ None ∷ None ∷ []; handler = 1 }
-        ∷ record { instance = Some 0 ∷ Some 1 ∷ Some 1 ∷ Some 1 ∷ Some 1 ∷ Some 1 ∷ Some 1 ∷ Some 0 ∷ []; handler = 0 } ∷ []) }
+        ∷ record {
+          instance = Some 0 ∷ Some 1 ∷ Some 1 ∷ Some 1 ∷ Some 1 ∷ Some 1 ∷ Some 1 ∷ Some 0 ∷ [];
+          handler = 0;
+        } ∷ []) }
 {
     let mut firings = Firings::new(alloc);
     firings.push(Firing {

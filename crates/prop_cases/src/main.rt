@@ -1,5 +1,5 @@
-//! Cases of the core: events, deaths and passes over rules that a text gives, what they are answered, and what is kept in
-//! memory.
+//! Cases of the core: events, deaths and passes over rules that a text gives, what they are answered, and what is kept
+//! in memory.
 #![tactic(auto)]
 
 mod answer;

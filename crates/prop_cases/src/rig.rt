@@ -58,7 +58,8 @@ impl<M: Monitor> Rig<M> {
     }
 
     fn steps(&self, words: &str) -> Result<Vec<(u32, Step)>, NoMemory>
-        ensures { IfOk result (λ steps. All (λ s. IsFitStep (M.meaning self.now.prop.definition) self.now.prop.objects s.1) steps.items) }
+        ensures { IfOk result (λ steps. All (λ s. IsFitStep (M.meaning self.now.prop.definition)
+            self.now.prop.objects s.1) steps.items) }
     {
         let mut steps = Vec::new(self.alloc);
         for word in words.split_whitespace() {
@@ -71,7 +72,8 @@ impl<M: Monitor> Rig<M> {
 
     /// The step of a word: `event:LETTER:OBJECT,..`, `death:OBJECT` or `pass`.
     fn step_of(&self, word: &str) -> Result<Option<Step>, NoMemory>
-        ensures { IfOk result (λ step. IfSome step (λ step. IsFitStep (M.meaning self.now.prop.definition) self.now.prop.objects step)) }
+        ensures { IfOk result (λ step. IfSome step (λ step. IsFitStep (M.meaning self.now.prop.definition)
+            self.now.prop.objects step)) }
     {
         let (verb, rest) = word.split_once(':').unwrap_or((word, ""));
         match verb {
@@ -92,7 +94,8 @@ impl<M: Monitor> Rig<M> {
     }
 
     fn event_of(&self, text: &str) -> Result<Option<Step>, NoMemory>
-        ensures { IfOk result (λ step. IfSome step (λ step. IsFitStep (M.meaning self.now.prop.definition) self.now.prop.objects step)) }
+        ensures { IfOk result (λ step. IfSome step (λ step. IsFitStep (M.meaning self.now.prop.definition)
+            self.now.prop.objects step)) }
     {
         let (letter, objects) = text.split_once(':').unwrap_or((text, ""));
         let objects = numbers(self.alloc, objects)?;

@@ -6,8 +6,8 @@ use jm_machine::Rules;
 use jm_model::{Letter, Monitor, SpecError};
 use std::alloc::{AllocError, Global};
 
-/// What the specification of a case says, or its fault: what has to be bound, the parameters of each event, the names of
-/// the handlers, and the hits of the empty word and after each letter of the case's word, whose digits are letters.
+/// What the specification of a case says, or its fault: what has to be bound, the parameters of each event, the names
+/// of the handlers, and the hits of the empty word and after each letter of the case's word, whose digits are letters.
 pub(crate) fn answer(alloc: Global, case: &Case) -> Result<String, AllocError> {
     or_fault(alloc, case_text(alloc, case))
 }

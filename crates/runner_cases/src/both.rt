@@ -19,8 +19,8 @@ use std::sync::atomic::{AtomicU64, Ordering};
 use std::sync::{Arc, Wait};
 use std::thread::Threads;
 
-/// Runs the two scripts of the case, one a line, over two watches whose steps meet, and shows the histories and how many
-/// steps waited in vain.
+/// Runs the two scripts of the case, one a line, over two watches whose steps meet, and shows the histories and how
+/// many steps waited in vain.
 pub(crate) fn both<R: Threads + Wait + Sync>(
     rt: &R,
     alloc: Global,

@@ -1,15 +1,17 @@
-//! What the definitions say of a history over doors and keys: the entries before an entry are kept as a list, and filtered.
+//! What the definitions say of a history over doors and keys: the entries before an entry are kept as a list, and
+//! filtered.
 use case_steps::outcome_shown;
 use jm_model::{Binding, Entry, Firing, Firings, NoMemory, Outcome, Step};
 use std::alloc::Global;
 
-/// The letters. A pass of a key is hit where, of the events of both before it that aren't passes, the last is an unlocking.
+/// The letters. A pass of a key is hit where, of the events of both before it that aren't passes, the last is an
+/// unlocking.
 const UNLOCK: u8 = 0;
 
 const PASS: u8 = 2;
 
-/// How many entries don't have the outcome that the definitions give their step after the entries before them. An event that
-/// may be answered may also meet want of memory, and then leaves no trace.
+/// How many entries don't have the outcome that the definitions give their step after the entries before them. An event
+/// that may be answered may also meet want of memory, and then leaves no trace.
 pub(crate) fn wrong(alloc: Global, entries: &[&Entry]) -> Result<usize, NoMemory> {
     let mut past = Past::new(alloc);
     let mut wrong = 0usize;
@@ -84,8 +86,8 @@ impl Past {
         Ok(Outcome::Done)
     }
 
-    /// How many instances aren't cut. One is cut where no letter is left to it, and that is where both its door and its key are
-    /// dead: an unlocking binds both, a locking the door, a pass the key.
+    /// How many instances aren't cut. One is cut where no letter is left to it, and that is where both its door and its
+    /// key are dead: an unlocking binds both, a locking the door, a pass the key.
     fn kept(&self) -> Result<Outcome, NoMemory> {
         let mut count = 0u64;
         for instance in &self.instances()? {

@@ -26,7 +26,8 @@ pub(crate) fn rounds_of<M: Monitor>(
     rules: &M,
     plan: Plan,
 ) -> Result<Vec<Vec<Step>>, NoMemory>
-    ensures { IfOk result (λ rounds. All (λ steps. AreFitSteps (M.meaning (M.definition rules.now)) plan.objects steps.items) rounds.items) }
+    ensures { IfOk result (λ rounds. All
+        (λ steps. AreFitSteps (M.meaning (M.definition rules.now)) plan.objects steps.items) rounds.items) }
 {
     let mut draw = Draw::new(plan.seed);
     let mut rounds = Vec::new(alloc);

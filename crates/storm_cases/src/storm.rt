@@ -44,7 +44,8 @@ fn all_rounds<R: Threads + Wait + Sync, M: Monitor + Send>(
 where
     M::State: Send,
     requires seats { All (λ s. IsSeatOf watch.now s) seats.items }
-    requires rounds { All (λ steps. AreFitSteps (M.meaning watch.now.fixed.definition) watch.now.fixed.objects steps.items) rounds.items }
+    requires rounds { All (λ steps. AreFitSteps (M.meaning watch.now.fixed.definition)
+        watch.now.fixed.objects steps.items) rounds.items }
     ensures count { IfOk result (λ back. vec_len back ≡ vec_len seats) }
     ensures seats { IfOk result (λ back. All (λ s. IsSeatOf watch.now s) back.items) }
 {
@@ -78,7 +79,8 @@ where
         rt,
         runners,
         &|runner: Runner<M>| -> Result<Seat<M>, NoMemory>
-            requires { IsRunnerOf watch.now runner × AreFitSteps (M.meaning watch.now.fixed.definition) watch.now.fixed.objects steps.now }
+            requires { IsRunnerOf watch.now runner
+                × AreFitSteps (M.meaning watch.now.fixed.definition) watch.now.fixed.objects steps.now }
             ensures { IfOk result (λ s. IsSeatOf watch.entry.now s) }
         { at_work(rt, alloc, watch, runner, steps, all) },
     )?;

@@ -24,8 +24,8 @@ abbrev pub has_letter : List ℕ → Bool
 has_letter [] = false
 has_letter (e ∷ w) = true
 
--- Handler k's category holds of a word where the state that it leads to has bit k. An instance is cut only where no letter
--- is available to it.
+-- Handler k's category holds of a word where the state that it leads to has bit k. An instance is cut only where no
+-- letter is available to it.
 abbrev pub table_meaning : Table → Meaning
 table_meaning t = record {
   letters = length t.params;
