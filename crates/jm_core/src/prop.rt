@@ -222,6 +222,7 @@ impl<M: Monitor> Prop<M> {
     }
 
     /// The same. The link that the entry doesn't take is spare then.
+    #[inline(always)]
     fn do_step(&mut self, node: Node, spare: &mut Spare) -> Outcome
         requires { IsFitStep (M.meaning self.old.definition) self.old.objects node.step }
         ensures added { IsExtended self.old self.new (answered node result ∷ []) }

@@ -3,7 +3,7 @@ ghost use Rattle.std.specs.Prelude.{ℕ, ◌≡◌, ◌<◌, [], Some, None, IfO
 ghost use Rattle.jm_grammar.specs.declared.grammar.GrammarSymbol.{GrammarSymbol};
 ghost use Rattle.jm_grammar.specs.Meanings.{Derives};
 ghost use Rattle.jm_earley.specs.declared.item.Item.{Item};
-ghost use Rattle.jm_earley.specs.Items.{symbol_after, finished_left, advanced};
+ghost use Rattle.jm_earley.specs.Items.{symbol_after, advanced};
 ghost use Rattle.jm_earley.specs.Growth.{Grows, IsAdvancedOver, AreAdvancedOver, IsPrediction, ArePredicted, IsPredictedSet, IsWorked, IsClosure};
 ghost use Rattle.jm_earley.specs.Waiting.{AreWaiting, IsStepOver};
 

@@ -127,6 +127,7 @@ fn alias(cursor: &mut Cursor<'_>) -> Result<Part, SpecError>
     Ok(Part::Alias { name, members })
 }
 
+/// State | Alias
 #[tactic(auto, unfolding(crate::specs::Rules::part_at))]
 fn part(cursor: &mut Cursor<'_>) -> Result<Part, SpecError>
     ensures { Takes cursor.old result cursor.new part_at }

@@ -1,5 +1,5 @@
 //! A script of a workload.
-ghost use Rattle.std.specs.Prelude.{◌≡◌, ◌≤◌, ◌<◌, ◌++◌, codes, decimal, string_bytes, IfOk, OnOk};
+ghost use Rattle.std.specs.Prelude.{◌≡◌, ◌≤◌, ◌<◌, ◌++◌, decimal, string_bytes, IfOk, OnOk};
 ghost use Rattle.jm_gen.specs.Scripts.{object, step_line, create_line, round_over, passes_after, round_text, script_text};
 
 use itoa::Buffer;

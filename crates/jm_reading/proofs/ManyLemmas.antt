@@ -1,9 +1,6 @@
 -- Items of a rule one after the other, and what they spell.
-use Rattle.std.proofs.Common.{◌≡◌, ℕ, zero, suc, ◌<◌, ◌≤◌, Bool, true, false, List, [], ◌∷◌, ◌++◌, length, Option, Some, None, Ok, refl, sym, ap, subst, ◌∙◌, inl, inr, arith, append_assoc, append-nil, length-append}
+use Rattle.std.proofs.Common.{◌≡◌, ℕ, zero, suc, ◌<◌, ◌≤◌, Bool, true, false, List, [], ◌∷◌, ◌++◌, length, Some, None, refl, sym, ap, subst, ◌∙◌, inl, inr, arith, append_assoc, append-nil, length-append}
 use Rattle.jm_text.specs.declared.token.Token.{Token}
-use Rattle.jm_model.specs.declared.fault.SpecError.{SpecError}
-use Rattle.jm_reading.specs.declared.cursor.Cursor.{Cursor}
-use Rattle.jm_reading.specs.Answers.{FailsAt}
 use Rattle.jm_reading.specs.Reading.{mark_at, at_most}
 use Rattle.jm_reading.specs.Taking.{Rule, gathered_at, with_item, many_at, more_at, parted_at}
 use Rattle.jm_reading.specs.Tokens.{IsMark, SpellsEach, SpellsMore, SpellsParted}

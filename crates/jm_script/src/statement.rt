@@ -1,5 +1,5 @@
 //! The three shapes of a line: an event with its objects, a death and a disposal pass.
-ghost use Rattle.std.specs.Prelude.{◌≡◌, ◌<◌, ◌≤◌, ◌==◌, ◌&&◌, ℕ, ◌+◌, List, drop, length, map, take, nat_le, not, IsTrue, OnOk, IfOk, IfErr, IfSome};
+ghost use Rattle.std.specs.Prelude.{◌≡◌, ◌<◌, ◌≤◌, ◌==◌, ◌&&◌, ℕ, ◌+◌, List, drop, length, map, take, nat_le, IsTrue, OnOk, IfOk, IfErr, IfSome};
 ghost use Rattle.std.specs.List.{list_all};
 ghost use Rattle.jm_text.specs.Texts.{is_name_text};
 ghost use Rattle.jm_script.specs.declared.script.Target.{Target};

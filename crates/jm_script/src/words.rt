@@ -4,8 +4,8 @@ ghost use Rattle.std.specs.Simd.Lanes.{chunk};
 ghost use Rattle.std.specs.List.{list_all, position_or_len};
 ghost use Rattle.std.specs.Str.{bytes_eq};
 ghost use Rattle.std.specs.Str.Lines.{strip_carriage_return};
-ghost use Rattle.jm_script.specs.Lines.{is_line_feed, is_hash, is_blank, is_end, is_some_word, first_line, lines_of, lines_left, bytes_left, content_of, words_of};
-ghost use Rattle.jm_script.specs.Statements.{is_dot, is_object_byte, is_object};
+ghost use Rattle.jm_script.specs.Lines.{is_line_feed, is_blank, is_end, is_some_word, first_line, lines_of, lines_left, bytes_left, content_of, words_of};
+ghost use Rattle.jm_script.specs.Statements.{is_object_byte, is_object};
 
 use jm_model::NoMemory;
 use std::simd::prelude::*;

@@ -1,5 +1,4 @@
 //! The properties of a body, with their handlers.
-ghost use Rattle.std.specs.Prelude.{◌≡◌};
 ghost use Rattle.jm_reading.specs.Taking.{Takes};
 ghost use Rattle.jm_spec.specs.Rules.{block_at, begins_handler, handler_at, goes_on, property_at};
 
