@@ -4,6 +4,7 @@ ghost use Rattle.jm_model.specs.declared.step.Step.TheVariants.{Pass};
 ghost use Rattle.jm_semantics.specs.Legality.{IsLegal};
 ghost use Rattle.jm_core.specs.Steps.{IsEventOf, IsDeathOf, IsFitStep};
 ghost use Rattle.jm_core.specs.Cores.{IsExtended, KeepsMemory, KeepsMemoryUnlessFired, FitsHistory, AreInOrder};
+ghost use Rattle.jm_core.specs.Memory.{StepKeepsMemory};
 ghost use Rattle.jm_core.specs.Replays.{Replayed, ReplayedInPart};
 
 use crate::firing::perform;
@@ -215,6 +216,7 @@ impl<M: Monitor> Prop<M> {
     pub fn step(&mut self, node: Node) -> Outcome
         requires { IsFitStep (M.meaning self.old.definition) self.old.objects node.step }
         ensures added { IsExtended self.old self.new (answered node result ∷ []) }
+        ensures memory { StepKeepsMemory node.step result self.old self.new }
         ensures legal { IsLegal (M.meaning self.new.definition) self.new.entries }
         ensures fits { FitsHistory (M.meaning self.new.definition) self.new.entries self.new.stored self.new.marks }
     {
@@ -226,6 +228,7 @@ impl<M: Monitor> Prop<M> {
     fn do_step(&mut self, node: Node, spare: &mut Spare) -> Outcome
         requires { IsFitStep (M.meaning self.old.definition) self.old.objects node.step }
         ensures added { IsExtended self.old self.new (answered node result ∷ []) }
+        ensures memory { StepKeepsMemory node.step result self.old self.new }
         ensures legal { IsLegal (M.meaning self.new.definition) self.new.entries }
         ensures fits { FitsHistory (M.meaning self.new.definition) self.new.entries self.new.stored self.new.marks }
     {
