@@ -10,7 +10,9 @@ pub record Meaning : Type 1 where
   pub creation : List ℕ  -- the creation letters; none: any letter may come first
   pub handlers : ℕ  -- its handlers are the numbers below this one
   pub property_of : ℕ → ℕ  -- the number of the property that a handler belongs to
-  pub Holds : Word → ℕ → Type 0  -- the category of handler k holds of word w
+  -- handler k runs after word w, if w begins as it may: its category holds of what is left of w since the last reset
+  -- of its property
+  pub Holds : Word → ℕ → Type 0
   pub coarse_cut : ℕ → Bool  -- property j is a grammar with a handler for `fail`: see `IsPropertyCut`
 
 -- the word may begin an instance's life: where creation letters exist, its first letter is one

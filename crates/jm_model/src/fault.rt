@@ -18,6 +18,7 @@ pub enum Counted {
     Nonterminals,
     Productions,
     Symbols,
+    Properties,
 }
 
 /// What is wrong with a specification. A line is that of the first token that offends, counted from 1.
@@ -42,6 +43,8 @@ pub enum SpecFault {
     NameClash { line: u32 },
     ReservedName { line: u32 },
     UnsupportedHandler { line: u32 },
+    ResetWithFullBinding { line: u32 },
+    UnsupportedSuffix { line: u32 },
     TooMany { what: Counted },
     TooManyStates,
     DuplicateSpec,
@@ -52,6 +55,16 @@ pub enum SpecFault {
 pub enum SpecError {
     Bad(SpecFault),
     NoMemory,
+}
+
+impl From<SpecFault> for SpecError {
+    ghost use Rattle.jm_model.specs.declared.fault.SpecError.TheVariants.{Bad};
+
+    ghost from_gives = { λ fault error. error ≡ Bad fault };
+
+    fn from(fault: SpecFault) -> SpecError {
+        SpecError::Bad(fault)
+    }
 }
 
 impl From<NoMemory> for SpecError {
@@ -94,6 +107,9 @@ pub enum ScriptFault {
     WrongCount { line: u32 },
     TooManyObjects { line: u32 },
     TooManyLines { line: u32 },
+    TooManyNotes { line: u32 },
+    DuplicatePost { line: u32 },
+    Stuck { line: u32 },
 }
 
 /// Why a script was not read.

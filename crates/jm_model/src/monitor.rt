@@ -26,7 +26,7 @@ pub trait Monitor: Drop {
     /// How many letters there are, at most 32. They are numbered from 0.
     fn letters(&self) -> u8
         ensures value { result ≡ (meaning (definition self.now)).letters }
-        ensures few { result ≤ 32 };
+        ensures bounded { result ≤ 32 };
 
     /// The parameters that an event of the letter binds: bit p stands for parameter p.
     fn params(&self, letter: Letter) -> u8
@@ -51,8 +51,8 @@ pub trait Monitor: Drop {
         ensures { IfOk result (λ s.
             (w : List ℕ) → StandsFor self.now state.now w → StandsFor self.now s (w ++ letter.0 ∷ [])) };
 
-    /// The handlers that the word hits: bit k is set exactly where the category of handler k holds of it. None is hit
-    /// by the empty word.
+    /// The handlers that the word hits: bit k is set exactly where handler k is hit by the word, whose category then
+    /// holds of what is left of the word since the last reset of the handler's property. None is hit by the empty word.
     fn hits(&self, state: &Self::State) -> u16
         ensures { (w : List ℕ) → StandsFor self.now state.now w →
             (k : ℕ) → (IsBitSet result k ↔ IsHit (meaning (definition self.now)) w k) };

@@ -5,7 +5,7 @@ use Rattle.jm_text.specs.declared.token.Token.{Token}
 use Rattle.jm_text.specs.Texts.{is_mark}
 
 module _ (bytes : Text) where
-  -- how many parentheses are open behind a token; one that closes nothing counts for nothing
+  -- how many parentheses are open after a token; one that closes nothing counts for nothing
   abbrev pub depth_after : ℕ → Token → ℕ
   depth_after depth t =
       if is_mark bytes t (codes "(") then depth + 1 else if is_mark bytes t (codes ")") then depth - 1 else depth

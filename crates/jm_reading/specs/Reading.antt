@@ -1,4 +1,4 @@
--- Reading from the front of a list of tokens: a rule gives what it reads and the tokens behind it, or nothing.
+-- Reading from the front of a list of tokens: a rule gives what it reads and the tokens after it, or nothing.
 use Rattle.std.specs.Prelude.{ℕ, zero, suc, ◌-◌, Bool, true, false, List, [], ◌∷◌, length, Option, Some, None, option_and_then, slice_get, if◌then◌else◌}
 use Rattle.std.specs.Option.{option_map_or}
 use Rattle.jm_model.specs.Words.{Text}
@@ -10,7 +10,7 @@ abbrev pub ◌>>=◌ : {A B : Type 0} → Option A → (A → Option B) → Opti
 o >>= f = option_and_then f o
 
 module _ (bytes : Text) where
-  -- the token so far on is this mark, this word, or a name
+  -- the token that many tokens ahead is this mark, this word, or a name
   abbrev pub is_mark_at : List Token → ℕ → Text → Bool
   is_mark_at tokens k mark = option_map_or (λ t. is_mark bytes t mark) (slice_get tokens k) false
 

@@ -31,11 +31,11 @@ unfoldable pub gathered_at : {X : Type 0} → (Text → List Token → Bool) →
 gathered_at goes_on rule first bytes tokens =
     at_most (goes_on bytes) (λ x. rule x bytes) (length tokens) first tokens
 
--- an item more, behind those that were read before
+-- an item more, after those that were read before
 abbrev pub with_item : {X : Type 0} → Rule X → List X → Rule (List X)
 with_item rule xs bytes tokens = rule bytes tokens >>= λ x. Some (xs ++ x.0 ∷ [], x.1)
 
--- the items of a rule one after the other, behind these, as long as the tokens go on so
+-- the items of a rule one after the other, after these, as long as the tokens go on so
 abbrev pub many_at : {X : Type 0} → (Text → List Token → Bool) → Rule X → List X → Rule (List X)
 many_at goes_on rule xs = gathered_at goes_on (with_item rule) xs
 

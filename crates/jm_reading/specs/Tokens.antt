@@ -1,4 +1,4 @@
--- What a token is, and what tokens spell one behind the other.
+-- What a token is, and what tokens spell one after the other.
 use Rattle.std.specs.Prelude.{◌≡◌, ◌&&◌, true, nat_le, List, [], ◌∷◌, ◌++◌, length, if◌then◌else◌}
 use Rattle.jm_model.specs.Words.{Text}
 use Rattle.jm_text.specs.declared.token.Token.{Token}
@@ -16,7 +16,7 @@ module _ (bytes : Text) where
   abbrev pub IsWord : Text → Token → Type 0
   IsWord word t = is_word bytes t word ≡ true
 
--- the items one behind the other
+-- the items one after the other
 module _ {X : Type 0} (SpellsOne : List Token → X → Type 0) where
   abbrev pub SpellsEach : List Token → List X → Type 0
   SpellsEach tokens [] = tokens ≡ []

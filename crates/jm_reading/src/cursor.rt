@@ -25,7 +25,7 @@ pub struct Cursor<'a> {
 impl<'a> Cursor<'a> {
     ghost use Rattle.jm_reading.specs.Taking.{TakesOne};
 
-    /// Before all of the tokens, which stand behind a token on this line.
+    /// Before all of the tokens, which follow a token on this line.
     pub fn new(alloc: Global, bytes: &'a [u8], tokens: &'a [Token], line: u32) -> Cursor<'a>
         requires { LieWithin bytes.now tokens.now }
         ensures bytes { result.bytes.now ≡ bytes.now }
@@ -61,7 +61,7 @@ impl<'a> Cursor<'a> {
         SpecError::Bad(SpecFault::Syntax { line: self.line() })
     }
 
-    /// Whether the token so far on is this mark.
+    /// Whether the token that many tokens ahead is this mark.
     pub fn is_mark_at(&self, k: usize, mark: &[u8]) -> bool
         ensures { result ≡ is_mark_at self.now.bytes.now self.now.rest.now k mark.now }
     {
@@ -71,7 +71,7 @@ impl<'a> Cursor<'a> {
         }
     }
 
-    /// Whether the token so far on is this word.
+    /// Whether the token that many tokens ahead is this word.
     pub fn is_word_at(&self, k: usize, word: &[u8]) -> bool
         ensures { result ≡ is_word_at self.now.bytes.now self.now.rest.now k word.now }
     {
@@ -81,7 +81,7 @@ impl<'a> Cursor<'a> {
         }
     }
 
-    /// Whether the token so far on is a name.
+    /// Whether the token that many tokens ahead is a name.
     pub fn is_name_at(&self, k: usize) -> bool
         ensures { result ≡ is_name_at self.now.bytes.now self.now.rest.now k }
     {
@@ -144,7 +144,7 @@ impl<'a> Cursor<'a> {
         }
     }
 
-    /// Passes over so many tokens.
+    /// Passes over a number of tokens.
     pub fn advance(&mut self, n: usize)
         requires { n ≤ length self.old.rest.now }
         ensures rest { self.new.rest.now ≡ drop n self.old.rest.now }

@@ -12,7 +12,7 @@ use jm_text::{Token, is_mark};
 /// How many parentheses may be open at once.
 const MAX_DEPTH: u32 = 64;
 
-/// How many parentheses are open behind a token.
+/// How many parentheses are open after a token.
 fn depth_after(bytes: &[u8], depth: u32, token: Token) -> u32
     requires few { depth ≤ 64 }
     requires within { LiesWithin bytes.now token }

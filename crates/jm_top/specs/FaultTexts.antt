@@ -3,7 +3,7 @@ use Rattle.std.specs.Prelude.{ℕ, ◌+◌, [], ◌∷◌, ◌++◌, codes, Opti
 use Rattle.std.specs.Fmt.{decimal}
 use Rattle.jm_model.specs.Words.{Text}
 use Rattle.jm_model.specs.declared.fault.Counted.{Counted}
-use Rattle.jm_model.specs.declared.fault.Counted.TheVariants.{Parameters, Events, Handlers, Aliases, Nodes, Nesting, Term, Subformulas, Nonterminals, Productions, Symbols}
+use Rattle.jm_model.specs.declared.fault.Counted.TheVariants.{Parameters, Events, Handlers, Aliases, Nodes, Nesting, Term, Subformulas, Nonterminals, Productions, Symbols, Properties}
 use Rattle.jm_model.specs.declared.fault.SpecFault.{SpecFault}
 use Rattle.jm_model.specs.declared.fault.SpecFault.TheVariants as spec
 use Rattle.jm_model.specs.declared.fault.ScriptFault.{ScriptFault}
@@ -24,6 +24,7 @@ counted_words Subformulas = codes "too many subformulas"
 counted_words Nonterminals = codes "too many nonterminals"
 counted_words Productions = codes "too many productions"
 counted_words Symbols = codes "too many symbols"
+counted_words Properties = codes "too many properties"
 
 -- what a fault of a specification is called
 abbrev pub spec_words : SpecFault → Text
@@ -46,6 +47,8 @@ spec_words (spec.UnknownCategory line) = codes "unknown category"
 spec_words (spec.NameClash line) = codes "name clash"
 spec_words (spec.ReservedName line) = codes "reserved name"
 spec_words (spec.UnsupportedHandler line) = codes "unsupported handler"
+spec_words (spec.ResetWithFullBinding line) = codes "reset with full binding"
+spec_words (spec.UnsupportedSuffix line) = codes "unsupported suffix"
 spec_words (spec.TooMany what) = counted_words what
 spec_words spec.TooManyStates = codes "too many states"
 spec_words spec.DuplicateSpec = codes "duplicate specification"
@@ -68,6 +71,8 @@ spec_line (spec.UnknownCategory line) = Some line
 spec_line (spec.NameClash line) = Some line
 spec_line (spec.ReservedName line) = Some line
 spec_line (spec.UnsupportedHandler line) = Some line
+spec_line (spec.ResetWithFullBinding line) = Some line
+spec_line (spec.UnsupportedSuffix line) = Some line
 spec_line _ = None
 
 -- what a fault of a script is called
@@ -79,6 +84,9 @@ script_words (script.UnknownEvent line) = codes "unknown event"
 script_words (script.WrongCount line) = codes "wrong count"
 script_words (script.TooManyObjects line) = codes "too many objects"
 script_words (script.TooManyLines line) = codes "too many lines"
+script_words (script.TooManyNotes line) = codes "too many notes"
+script_words (script.DuplicatePost line) = codes "duplicate post"
+script_words (script.Stuck line) = codes "stuck"
 
 -- its line, where it has one
 abbrev pub script_line : ScriptFault → Option ℕ
@@ -88,6 +96,9 @@ script_line (script.UnknownEvent line) = Some line
 script_line (script.WrongCount line) = Some line
 script_line (script.TooManyObjects line) = Some line
 script_line (script.TooManyLines line) = Some line
+script_line (script.TooManyNotes line) = Some line
+script_line (script.DuplicatePost line) = Some line
+script_line (script.Stuck line) = Some line
 script_line _ = None
 
 abbrev pub line_part : Option ℕ → Text

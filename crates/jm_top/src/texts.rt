@@ -92,6 +92,7 @@ fn counted_words(what: &Counted) -> &'static str
         Counted::Nonterminals => "too many nonterminals",
         Counted::Productions => "too many productions",
         Counted::Symbols => "too many symbols",
+        Counted::Properties => "too many properties",
     }
 }
 
@@ -118,6 +119,8 @@ fn spec_words(fault: &SpecFault) -> &'static str
         SpecFault::NameClash { .. } => "name clash",
         SpecFault::ReservedName { .. } => "reserved name",
         SpecFault::UnsupportedHandler { .. } => "unsupported handler",
+        SpecFault::ResetWithFullBinding { .. } => "reset with full binding",
+        SpecFault::UnsupportedSuffix { .. } => "unsupported suffix",
         SpecFault::TooMany { what } => counted_words(what),
         SpecFault::TooManyStates => "too many states",
         SpecFault::DuplicateSpec => "duplicate specification",
@@ -143,7 +146,9 @@ fn spec_line(fault: &SpecFault) -> Option<u32>
         | SpecFault::UnknownCategory { line }
         | SpecFault::NameClash { line }
         | SpecFault::ReservedName { line }
-        | SpecFault::UnsupportedHandler { line } => Some(*line),
+        | SpecFault::UnsupportedHandler { line }
+        | SpecFault::ResetWithFullBinding { line }
+        | SpecFault::UnsupportedSuffix { line } => Some(*line),
         _ => None,
     }
 }
@@ -159,6 +164,9 @@ fn script_words(fault: &ScriptFault) -> &'static str
         ScriptFault::WrongCount { .. } => "wrong count",
         ScriptFault::TooManyObjects { .. } => "too many objects",
         ScriptFault::TooManyLines { .. } => "too many lines",
+        ScriptFault::TooManyNotes { .. } => "too many notes",
+        ScriptFault::DuplicatePost { .. } => "duplicate post",
+        ScriptFault::Stuck { .. } => "stuck",
     }
 }
 
@@ -172,7 +180,10 @@ pub(crate) fn script_line(fault: &ScriptFault) -> Option<u32>
         | ScriptFault::UnknownEvent { line }
         | ScriptFault::WrongCount { line }
         | ScriptFault::TooManyObjects { line }
-        | ScriptFault::TooManyLines { line } => Some(*line),
+        | ScriptFault::TooManyLines { line }
+        | ScriptFault::TooManyNotes { line }
+        | ScriptFault::DuplicatePost { line }
+        | ScriptFault::Stuck { line } => Some(*line),
         _ => None,
     }
 }
