@@ -172,7 +172,7 @@ number_at_end (Err x) old new name e end = tt
 pub test_false : (a b : ℕ) → a ≢ b → (a == b) ≡ false
 test_false a b differ = elim (eqb_tells a b) [ inl same ↦ absurd (differ same.1) | inr other ↦ other.0 ]
 
--- ---- the first names
+-- ---- a copy of the names
 
 -- the first n elements, at a place among them
 pub slice_get-take : {X : Type 0} (n k : ℕ) (xs : List X) → k < n → slice_get (take n xs) k ≡ slice_get xs k

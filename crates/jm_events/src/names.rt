@@ -99,4 +99,15 @@ impl Names {
     {
         self.set.len() as u32
     }
+
+    /// Equal names, under equal numbers.
+    pub(crate) fn copy(&self) -> Result<Names, NoMemory>
+        ensures { IfOk result (λ names. names ≡ self.now) }
+    {
+        let mut copy = Names::new(*self.set.allocator());
+        for number in 0..self.len() {
+            copy.append(self.name(number))?;
+        }
+        Ok(copy)
+    }
 }

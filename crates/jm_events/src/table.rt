@@ -222,7 +222,7 @@ impl EventTable {
     /// How many events there are.
     pub fn letters(&self) -> u8
         ensures value { result ≡ length self.now.events }
-        ensures few { result ≤ 32 }
+        ensures bounded { result ≤ 32 }
         ensures distinct { IsDistinct bytes_eq (event_names self.now) }
     {
         self.events.len() as u8
@@ -231,7 +231,7 @@ impl EventTable {
     /// How many parameters there are.
     pub fn params(&self) -> u8
         ensures value { result ≡ length self.now.parameters }
-        ensures few { result ≤ 8 }
+        ensures bounded { result ≤ 8 }
         ensures distinct { IsDistinct bytes_eq self.now.parameters }
     {
         self.params.len() as u8
@@ -305,5 +305,19 @@ impl EventTable {
         ensures { slice_get self.now.parameters p ≡ Some result.now }
     {
         self.params.name(p as u32)
+    }
+
+    /// An equal table.
+    pub fn copy(&self) -> Result<EventTable, NoMemory>
+        ensures { IfOk result (λ table. table ≡ self.now) }
+    {
+        let rows = self.rows.clone()?;
+        let params = self.params.copy()?;
+        let events = self.events.copy()?;
+        Ok(EventTable {
+            params,
+            events,
+            rows,
+        })
     }
 }

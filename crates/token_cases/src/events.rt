@@ -41,12 +41,14 @@ fn name_at<'a>(names: &'a Names, number: &str) -> &'a str {
     }
 }
 
-/// What the steps of a case are answered, over a table that is empty at first, and on a line what the table tells then.
+/// What the steps of a case are answered, over a table that is empty at first, and on a line what a copy of the table
+/// tells then.
 /// The line of a mention is that of its step.
 pub(crate) fn events(alloc: Global, case: &Case) -> Result<String, SpecError> {
     let mut table = EventTable::new(alloc);
     let mut out = filled(alloc, &mut table, text_of(&case.text))?;
-    put_table(alloc, &mut out, &table, case.first.as_str())?;
+    let copy = table.copy()?;
+    put_table(alloc, &mut out, &copy, case.first.as_str())?;
     Ok(out)
 }
 
