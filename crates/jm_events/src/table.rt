@@ -222,7 +222,7 @@ impl EventTable {
     /// How many events there are.
     pub fn letters(&self) -> u8
         ensures value { result ≡ length self.now.events }
-        ensures bounded { result ≤ 32 }
+        ensures few { result ≤ 32 }
         ensures distinct { IsDistinct bytes_eq (event_names self.now) }
     {
         self.events.len() as u8
@@ -231,7 +231,7 @@ impl EventTable {
     /// How many parameters there are.
     pub fn params(&self) -> u8
         ensures value { result ≡ length self.now.parameters }
-        ensures bounded { result ≤ 8 }
+        ensures few { result ≤ 8 }
         ensures distinct { IsDistinct bytes_eq self.now.parameters }
     {
         self.params.len() as u8
