@@ -8,7 +8,8 @@ use Rattle.jm_model.specs.declared.fault.ScriptFault.TheVariants.{WrongCount}
 use Rattle.jm_events.specs.Names.{number_of}
 use Rattle.jm_events.specs.Events.{EventDefinitions, event_names}
 use Rattle.jm_text.specs.Texts.{is_name_text}
-use Rattle.jm_script.specs.Statements.{is_dot, is_object, event_statement}
+use Rattle.jm_script.specs.Statements.{is_dot, event_statement}
+use Rattle.jm_lines.specs.Objects.{is_object}
 use Rattle.jm_script.specs.Catalogs.{CatalogEntry, spec_names, table_of}
 use Rattle.jm_script.specs.Events.{mask_at, counted, event_in, event_at, named_event, spread}
 use Rattle.jm_script.specs.Fitting.{HasEvent}
@@ -16,7 +17,7 @@ use Rattle.jm_script.specs.Known.{IsEventOf}
 use Rattle.jm_script.specs.Meanings.{mentioning, statement_meaning}
 use Rattle.jm_script.specs.declared.event.NamedEvent.{NamedEvent}
 use Rattle.jm_script.specs.declared.script.Target.TheVariants as target
-use Rattle.jm_script.proofs.WordLemmas.{both_left}
+use Rattle.jm_lines.proofs.WordLemmas.{both_left}
 use Rattle.jm_script.proofs.MeaningLemmas.{event_steps}
 
 counted_line : (line other count : ℕ) (ev e : NamedEvent) → counted line count ev ≡ Ok e → counted other count ev ≡ Ok e

@@ -1,8 +1,6 @@
 pub mod SameLemmas
 pub mod CatalogLemmas
 pub mod NameLemmas
-pub mod WordLemmas
-pub mod LineLemmas
 pub mod ObjectLemmas
 pub mod EventLemmas
 pub mod ProjectionLemmas

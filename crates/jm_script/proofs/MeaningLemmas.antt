@@ -6,9 +6,10 @@ use Rattle.std.proofs.lemmas.Bool.Decides.{nat_tests}
 use Rattle.jm_model.specs.declared.fault.ScriptFault.{ScriptFault}
 use Rattle.jm_model.specs.declared.fault.ScriptError.{ScriptError}
 use Rattle.jm_events.specs.Names.{number_of}
-use Rattle.jm_script.specs.Lines.{words_of}
+use Rattle.jm_lines.specs.Lines.{words_of}
 use Rattle.jm_text.specs.Texts.{is_name_text}
-use Rattle.jm_script.specs.Statements.{Statement, Event, Death, Pass, is_dot, is_object, event_statement, death_statement, statement_of}
+use Rattle.jm_script.specs.Statements.{Statement, Event, Death, Pass, is_dot, event_statement, death_statement, statement_of}
+use Rattle.jm_lines.specs.Objects.{is_object}
 use Rattle.jm_script.specs.Objects.{mentioned, numbers_of, IsExtension}
 use Rattle.jm_script.specs.Catalogs.{CatalogEntry, spec_names}
 use Rattle.jm_script.specs.Events.{named_event, spread}
@@ -19,7 +20,7 @@ use Rattle.jm_script.specs.declared.script.Target.{Target}
 use Rattle.jm_script.specs.declared.script.Target.TheVariants as target
 use Rattle.jm_model.specs.declared.fault.ScriptFault.TheVariants.{TooManyLines, TooManyObjects}
 use Rattle.jm_script.proofs.ObjectLemmas.{IsExtension-none, IsExtension-mentioned}
-use Rattle.jm_script.proofs.WordLemmas.{both_left, both_right}
+use Rattle.jm_lines.proofs.WordLemmas.{both_left, both_right}
 
 room_left : (count : ℕ) → nat_le 200000 count ≡ false → nat_lt count 200000 ≡ true
 room_left count h = grind (arith, nat_tests)

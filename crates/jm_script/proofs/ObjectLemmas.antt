@@ -10,9 +10,9 @@ use Rattle.std.proofs.lemmas.List.{drop_more, take_all}
 use Rattle.std.proofs.lemmas.List.Folds.{list_any-append}
 use Rattle.jm_events.specs.Names.{number_of, with_name}
 use Rattle.jm_script.specs.Objects.{mentioned, number_at_mention, numbers_of, IsExtension}
-use Rattle.jm_script.specs.Statements.{is_object}
+use Rattle.jm_lines.specs.Objects.{is_object}
 use Rattle.jm_script.proofs.NameLemmas.{list_any-number_of, number-mentioned}
-use Rattle.jm_script.proofs.WordLemmas.{both_left, both_right}
+use Rattle.jm_lines.proofs.WordLemmas.{both_left, both_right}
 
 -- the texts of words
 abbrev pub texts : List (Bor (List ℕ)) → List (List ℕ)

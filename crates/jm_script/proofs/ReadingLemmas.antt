@@ -2,7 +2,7 @@
 use Rattle.std.proofs.Common.{◌≡◌, ℕ, ◌+◌, ◌≤◌, List, [], ◌∷◌, ◌++◌, length, Option, Some, None, Result, Ok, Err, refl, sym, ap, ◌∙◌, append_assoc, arith}
 use Rattle.std.proofs.lemmas.List.{length_push}
 use Rattle.jm_model.specs.declared.fault.ScriptFault.{ScriptFault}
-use Rattle.jm_script.specs.Lines.{lines_of}
+use Rattle.jm_lines.specs.Lines.{lines_of}
 use Rattle.jm_script.specs.Objects.{IsExtension}
 use Rattle.jm_script.specs.Catalogs.{CatalogEntry}
 use Rattle.jm_script.specs.Meanings.{LineMeaning, ScriptMeaning, line_meaning, with_line, steps_of, led_by, lines_meaning, script_meaning, RisesFrom}

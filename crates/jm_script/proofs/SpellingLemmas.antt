@@ -7,9 +7,10 @@ use Rattle.std.proofs.lemmas.Bool.Decides.{nat_tests}
 use Rattle.std.proofs.lemmas.List.Folds.{list_any-append}
 use Rattle.std.proofs.lemmas.Slice.Eq.{bytes_eq-Decides}
 use Rattle.jm_text.specs.Texts.{is_name_byte, is_name_text}
-use Rattle.jm_script.specs.Statements.{Statement, Event, Death, Pass, death_word, pass_word, is_dot, is_object, event_statement, death_statement, pass_statement}
+use Rattle.jm_script.specs.Statements.{Statement, Event, Death, Pass, death_word, pass_word, is_dot, event_statement, death_statement, pass_statement}
+use Rattle.jm_lines.specs.Objects.{is_object}
 use Rattle.jm_script.specs.Spelling.{Spells, SpelledIsRead, OneReading, ReadIsSpelled}
-use Rattle.jm_script.proofs.WordLemmas.{both_left, both_right}
+use Rattle.jm_lines.proofs.WordLemmas.{both_left, both_right}
 
 no_dot : (b : ℕ) → is_name_byte b ≡ true → is_dot b ≡ false
 no_dot b h = grind (arith, nat_tests)

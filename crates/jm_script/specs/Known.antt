@@ -4,7 +4,8 @@ use Rattle.std.specs.List.{list_all, before_first, after_first}
 use Rattle.jm_model.specs.Words.{Text}
 use Rattle.jm_model.specs.declared.fault.ScriptError.{ScriptError}
 use Rattle.jm_text.specs.Texts.{is_name_text}
-use Rattle.jm_script.specs.Statements.{is_dot, is_object, event_statement}
+use Rattle.jm_script.specs.Statements.{is_dot, event_statement}
+use Rattle.jm_lines.specs.Objects.{is_object}
 use Rattle.jm_script.specs.Catalogs.{CatalogEntry}
 use Rattle.jm_script.specs.Events.{named_event}
 use Rattle.jm_script.specs.Fitting.{HasEvent}

@@ -1,4 +1,3 @@
-pub mod Lines
 pub mod Statements
 pub mod Objects
 pub mod Catalogs

@@ -4,7 +4,7 @@ use Rattle.jm_model.specs.Words.{Text}
 use Rattle.jm_model.specs.declared.fault.ScriptFault.{ScriptFault}
 use Rattle.jm_model.specs.declared.fault.ScriptFault.TheVariants.{BadLine, TooManyLines, UnknownSpec, TooManyObjects}
 use Rattle.jm_events.specs.Names.{number_of}
-use Rattle.jm_script.specs.Lines.{lines_of, words_of}
+use Rattle.jm_lines.specs.Lines.{lines_of, words_of}
 use Rattle.jm_script.specs.Statements.{Statement, Event, Death, Pass, statement_of}
 use Rattle.jm_script.specs.Objects.{mentioned, numbers_of}
 use Rattle.jm_script.specs.Catalogs.{CatalogEntry, spec_names}

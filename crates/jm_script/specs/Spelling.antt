@@ -3,7 +3,8 @@ use Rattle.std.specs.Prelude.{◌≡◌, true, List, [], ◌∷◌, ◌++◌, So
 use Rattle.std.specs.List.{list_all}
 use Rattle.jm_model.specs.Words.{Text}
 use Rattle.jm_text.specs.Texts.{is_name_text}
-use Rattle.jm_script.specs.Statements.{Statement, Event, Death, Pass, death_word, pass_word, is_object, statement_of}
+use Rattle.jm_script.specs.Statements.{Statement, Event, Death, Pass, death_word, pass_word, statement_of}
+use Rattle.jm_lines.specs.Objects.{is_object}
 
 -- the words of a line spell an event with its objects: `SPEC.EVENT OBJECT..`
 pub record SpellsEvent (word : Text) (words : List Text) (spec event : Text)

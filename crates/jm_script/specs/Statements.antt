@@ -3,7 +3,8 @@ use Rattle.std.specs.Prelude.{ℕ, Bool, ◌&&◌, ◌||◌, ◌==◌, nat_le, L
 use Rattle.std.specs.List.{list_all, before_first, after_first}
 use Rattle.std.specs.Str.{bytes_eq}
 use Rattle.jm_model.specs.Words.{Text}
-use Rattle.jm_text.specs.Texts.{is_name_byte, is_name_text}
+use Rattle.jm_text.specs.Texts.{is_name_text}
+use Rattle.jm_lines.specs.Objects.{is_object}
 
 -- what a line says, by the texts that it names
 pub data Statement : Type 0 where
@@ -21,14 +22,6 @@ pass_word = 112 ∷ 97 ∷ 115 ∷ 115 ∷ []
 
 abbrev pub is_dot : ℕ → Bool
 is_dot b = b == 46
-
--- a byte of a name, `.`, `@` or `-`
-abbrev pub is_object_byte : ℕ → Bool
-is_object_byte b = is_name_byte b || b == 46 || b == 64 || b == 45
-
--- 1 to 255 of these bytes: the name of an object
-abbrev pub is_object : Text → Bool
-is_object word = nat_le 1 (length word) && nat_le (length word) 255 && list_all is_object_byte word
 
 -- `SPEC.EVENT OBJECT..`
 abbrev pub event_statement : Text → List Text → Option Statement

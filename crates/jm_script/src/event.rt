@@ -4,7 +4,7 @@ ghost use Rattle.jm_script.specs.Events.{named_event};
 ghost use Rattle.jm_script.specs.Fitting.{HasEvent};
 
 use crate::catalog::Catalog;
-use crate::words::text;
+use jm_lines::text;
 use jm_model::{Letter, ScriptFault};
 
 /// An event of a specification, with the set of its parameters.

@@ -13,7 +13,6 @@ mod objects;
 mod reader;
 mod script;
 mod statement;
-mod words;
 
 pub use catalog::Catalog;
 pub use laws::one_reading;

@@ -1,6 +1,6 @@
 //! What a line means.
 ghost use Rattle.std.specs.Prelude.{◌≡◌, ◌≤◌, ℕ, List, length, map, IfOk, IfSome};
-ghost use Rattle.jm_script.specs.Lines.{words_of};
+ghost use Rattle.jm_lines.specs.Lines.{words_of};
 ghost use Rattle.jm_script.specs.Meanings.{line_meaning};
 ghost use Rattle.jm_script.specs.Answers.{IsReadAs};
 ghost use Rattle.jm_script.specs.Fitting.{FitsTarget};
@@ -10,8 +10,8 @@ use crate::catalog::Catalog;
 use crate::known::KnownWords;
 use crate::script::Target;
 use crate::statement::{Position, death_line, event_line, pass_line};
-use crate::words::is_word;
 use jm_events::Names;
+use jm_lines::is_word;
 use jm_model::ScriptError;
 use std::alloc::Global;
 

@@ -2,11 +2,11 @@
 ghost use Rattle.std.specs.Prelude.{◌≡◌, ◌<◌, ◌≤◌, nat_le, ◌++◌, ◌+◌, ◌-◌, ◌^◌, length, map, take, IfOk, IfSome, OnOk, OnErr, IsSome, IsTrue};
 ghost use Rattle.std.specs.List.{list_all};
 ghost use Rattle.jm_events.specs.Names.{with_name};
-ghost use Rattle.jm_script.specs.Statements.{is_object};
+ghost use Rattle.jm_lines.specs.Objects.{is_object};
 ghost use Rattle.jm_script.specs.Objects.{mentioned, number_at_mention, numbers_of, IsExtension};
 
-use crate::words::{is_object, text};
 use jm_events::Names;
+use jm_lines::{is_object, text};
 use jm_model::NoMemory;
 use std::alloc::Global;
 

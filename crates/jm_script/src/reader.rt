@@ -9,8 +9,8 @@ use crate::known::KnownWords;
 use crate::line::read_line;
 use crate::script::{Script, ScriptLine};
 use crate::statement::{MOST_STEPS, Position};
-use crate::words::{behind_line, first_words};
 use jm_events::Names;
+use jm_lines::{behind_line, first_words};
 use jm_model::ScriptError;
 use std::alloc::Global;
 

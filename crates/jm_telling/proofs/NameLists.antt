@@ -12,7 +12,7 @@ use Rattle.jm_events.specs.Names.{with_name}
 use Rattle.jm_events.proofs.NameLemmas.{list_any-place}
 use Rattle.jm_reading.specs.Tokens.{name_of}
 use Rattle.jm_print.specs.Told.{IsName, AreNames}
-use Rattle.jm_script.proofs.WordLemmas.{both_left, both_right}
+use Rattle.jm_lines.proofs.WordLemmas.{both_left, both_right}
 
 -- ---- lists
 

@@ -9,15 +9,16 @@ use Rattle.jm_print.specs.Told.{IsName, AreNames}
 use Rattle.jm_script.specs.declared.event.NamedEvent.{NamedEvent}
 use Rattle.jm_script.specs.declared.script.Target.{Target}
 use Rattle.jm_script.specs.declared.script.Target.TheVariants as target
-use Rattle.jm_script.specs.Lines.{lines_of, words_of}
-use Rattle.jm_script.specs.Statements.{Statement, Event, Death, Pass, is_object_byte, is_object, statement_of}
+use Rattle.jm_lines.specs.Lines.{lines_of, words_of}
+use Rattle.jm_script.specs.Statements.{Statement, Event, Death, Pass, statement_of}
+use Rattle.jm_lines.specs.Objects.{is_object_byte, is_object}
 use Rattle.jm_script.specs.Objects.{mentioned, numbers_of}
 use Rattle.jm_script.specs.Catalogs.{CatalogEntry, spec_names}
 use Rattle.jm_script.specs.Events.{named_event, spread}
 use Rattle.jm_script.specs.Meanings.{LineMeaning, ScriptMeaning, mentioning, event_meaning, pass_meaning, step_meaning, statement_meaning, words_meaning, line_meaning, with_line, steps_of, led_by, lines_meaning, script_meaning}
 use Rattle.jm_script.specs.Spelling.{Spells}
 use Rattle.jm_script.proofs.SpellingLemmas.{read_is_spelled}
-use Rattle.jm_script.proofs.WordLemmas.{both_left, both_right}
+use Rattle.jm_lines.proofs.WordLemmas.{both_left, both_right}
 use Rattle.std.specs.Prelude.{slice_index}
 use Rattle.jm_telling.proofs.NameLists.{name_mentioned, plain_bytes}
 

@@ -15,7 +15,7 @@ use Rattle.jm_script.specs.declared.script.Target.{Target}
 use Rattle.jm_script.specs.declared.script.Target.TheVariants as target
 use Rattle.jm_script.specs.declared.script.Target.TheVariants.{Event, Death, Pass}
 use Rattle.jm_script.specs.declared.script.ScriptLine.{ScriptLine}
-use Rattle.jm_script.specs.Lines.{is_line_feed, lines_of, words_of}
+use Rattle.jm_lines.specs.Lines.{is_line_feed, lines_of, words_of}
 use Rattle.jm_script.specs.Statements as say
 use Rattle.jm_script.specs.Statements.{Statement, statement_of}
 use Rattle.jm_script.specs.Objects.{mentioned, numbers_of}

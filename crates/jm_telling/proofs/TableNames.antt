@@ -15,7 +15,7 @@ use Rattle.jm_text.specs.Texts.{is_name}
 use Rattle.jm_events.specs.Names.{with_name}
 use Rattle.jm_events.specs.Events.{EventDefinition, EventDefinitions, event_names, parameter_fault, with_parameter, event_fault, after_mention, with_event}
 use Rattle.jm_print.specs.Told.{IsName, AreNames}
-use Rattle.jm_script.proofs.WordLemmas.{both_right}
+use Rattle.jm_lines.proofs.WordLemmas.{both_right}
 use Rattle.jm_spec.specs.declared.events.Advice.{Advice}
 use Rattle.jm_spec.specs.declared.events.Advice.TheVariants.{Known, Other}
 use Rattle.jm_spec.specs.declared.events.Mention.{Mention}

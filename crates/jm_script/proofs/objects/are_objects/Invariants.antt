@@ -1,6 +1,6 @@
 use Rattle.std.proofs.Common.{◌≡◌, drop, map}
 use Rattle.std.specs.List.{list_all}
-use Rattle.jm_script.specs.Statements.{is_object}
+use Rattle.jm_lines.specs.Objects.{is_object}
 use Rattle.jm_script.proofs.objects.are_objects.Given as goal
 
 abbrev pub invariant-loop-word : goal.invariant-loop-word

@@ -3,7 +3,7 @@ use Rattle.std.proofs.Math.ListN.{length-set}
 use Rattle.std.proofs.lemmas.List.{take_more_set}
 use Rattle.jm_events.specs.Names.{number_of, with_name}
 use Rattle.jm_script.specs.Objects.{mentioned}
-use Rattle.jm_script.proofs.WordLemmas.{object_utf8}
+use Rattle.jm_lines.proofs.WordLemmas.{object_utf8}
 use Rattle.jm_script.proofs.NameLemmas.{with_name-known, number-known}
 use Rattle.jm_script.proofs.ObjectLemmas.{texts, texts_more, object_at, numbered_more}
 use Rattle.jm_script.proofs.objects.known_numbers.Goals as goal

@@ -1,4 +1,4 @@
-use Rattle.jm_script.proofs.WordLemmas.{object_utf8}
+use Rattle.jm_lines.proofs.WordLemmas.{object_utf8}
 use Rattle.jm_script.proofs.ObjectLemmas.{number_of_mentioned}
 use Rattle.jm_script.proofs.objects.mention_one.Goals as goal
 

@@ -1,7 +1,7 @@
 use Rattle.std.proofs.Common.{◌+◌, ◌<◌, [], length, not, get_or, drop, sym, ap, ◌∙◌, arith}
 use Rattle.jm_events.specs.Names.{number_of}
 use Rattle.jm_script.specs.Objects.{mentioned}
-use Rattle.jm_script.proofs.WordLemmas.{object_utf8}
+use Rattle.jm_lines.proofs.WordLemmas.{object_utf8}
 use Rattle.jm_script.proofs.ObjectLemmas.{texts, texts_more, object_at, length-with_name, left_new, left_known, none_is}
 use Rattle.jm_script.proofs.objects.new_names.Goals as goal
 use Rattle.jm_script.proofs.objects.new_names.Goals.{then-is_none+in_ok-add, else-is_none}

@@ -1,7 +1,7 @@
 use Rattle.std.proofs.Common.{◌≡◌, ◌+◌, Some, None, length, refl, ap, ◌∙◌, arith}
 use Rattle.std.proofs.lemmas.Result.{err_from_is_err_and}
 use Rattle.std.proofs.lemmas.List.Elements.{All-nil, All-push}
-use Rattle.jm_script.specs.Lines.{first_line, lines_left, bytes_left}
+use Rattle.jm_lines.specs.Lines.{first_line, lines_left, bytes_left}
 use Rattle.jm_script.specs.Fitting.{FitsTarget}
 use Rattle.jm_script.proofs.ObjectLemmas.{texts, IsExtension-none}
 use Rattle.jm_script.proofs.ReadingLemmas.{read_nothing, more_names, no_step, one_step, abandoned, ended, all_read, script_rises}

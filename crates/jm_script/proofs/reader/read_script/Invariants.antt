@@ -1,6 +1,6 @@
 use Rattle.std.proofs.Common.{◌≡◌, ◌+◌, ◌≤◌, length}
 use Rattle.jm_script.specs.Known.{AreSound}
-use Rattle.jm_script.specs.Lines.{lines_left, bytes_left}
+use Rattle.jm_lines.specs.Lines.{lines_left, bytes_left}
 use Rattle.jm_script.specs.Meanings.{script_meaning}
 use Rattle.jm_script.specs.Fitting.{FitsCatalog}
 use Rattle.jm_script.proofs.ReadingLemmas.{HasRead}

@@ -3,7 +3,7 @@ use Rattle.std.specs.Prelude.{slice_index}
 use Rattle.std.proofs.lemmas.Result.{err_from_is_err_and}
 use Rattle.jm_script.specs.declared.script.Target.TheVariants as target
 use Rattle.jm_script.proofs.ObjectLemmas.{texts, length-texts}
-use Rattle.jm_script.proofs.WordLemmas.{both_left}
+use Rattle.jm_lines.proofs.WordLemmas.{both_left}
 use Rattle.jm_script.proofs.MeaningLemmas.{death_steps, stopped}
 use Rattle.jm_script.proofs.FittingLemmas.{first_below}
 use Rattle.jm_script.proofs.statement.death_line.Goals as goal

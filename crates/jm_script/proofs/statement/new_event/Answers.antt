@@ -1,6 +1,6 @@
 use Rattle.std.proofs.Common.{◌+◌, take, drop, sym, ap, ◌∙◌}
 use Rattle.jm_text.proofs.Names.{name_utf8}
-use Rattle.jm_script.proofs.WordLemmas.{both_left, both_right}
+use Rattle.jm_lines.proofs.WordLemmas.{both_left, both_right}
 use Rattle.jm_script.proofs.ObjectLemmas.{texts}
 use Rattle.jm_script.proofs.KnownLemmas.{looked_up, has_room}
 use Rattle.jm_script.proofs.statement.new_event.Goals as goal

@@ -2,7 +2,7 @@ use Rattle.std.proofs.Common.{ltb, sym, ap, ◌∙◌, arith, w8}
 use lib.Count.{count_trailing_zeros}
 use lib.Lanes.{chunk}
 use Rattle.std.proofs.lemmas.Simd.{length-chunk, bitmask_splat, leading_from_mask_l, trailing_mask_l}
-use Rattle.jm_script.proofs.words.high_run.Goals as goal
+use Rattle.jm_lines.proofs.words.high_run.Goals as goal
 
 pub returns-then-low-eq0 : goal.returns-then-low-eq0
 returns-then-low-eq0 c =

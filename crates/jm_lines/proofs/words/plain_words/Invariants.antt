@@ -1,6 +1,6 @@
 use Rattle.std.proofs.Common.{◌-◌, map, length}
-use Rattle.jm_script.proofs.LineLemmas.{HasFound}
-use Rattle.jm_script.proofs.words.plain_words.Given as goal
+use Rattle.jm_lines.proofs.LineLemmas.{HasFound}
+use Rattle.jm_lines.proofs.words.plain_words.Given as goal
 
 abbrev pub invariant-loop-b : goal.invariant-loop-b
 invariant-loop-b l = HasFound l.text (map (λ w. w.now) l.words.items) l.at

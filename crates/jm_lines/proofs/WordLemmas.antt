@@ -5,8 +5,8 @@ use Rattle.std.specs.Str.{IsUtf8, IsAscii}
 use Rattle.std.proofs.lemmas.Bool.Decides.{nat_tests}
 use Rattle.std.proofs.lemmas.List.{at_drop_more, drop_all}
 use Rattle.std.proofs.lemmas.Str.{IsUtf8-from_ascii}
-use Rattle.jm_script.specs.Lines.{is_some_word}
-use Rattle.jm_script.specs.Statements.{is_object_byte, is_object}
+use Rattle.jm_lines.specs.Lines.{is_some_word}
+use Rattle.jm_lines.specs.Objects.{is_object_byte, is_object}
 
 object_byte_ascii : (b : ℕ) → is_object_byte b ≡ true → b < 128
 object_byte_ascii b h = grind (arith, nat_tests)

@@ -1,6 +1,6 @@
 use Rattle.std.proofs.Common.{◌==◌, eq-eqb, sym, arith}
 use Rattle.std.proofs.lemmas.List.Sums.{position_or_len_is}
-use Rattle.jm_script.proofs.words.position_of.Goals as goal
+use Rattle.jm_lines.proofs.words.position_of.Goals as goal
 
 pub returns-then-b-byte-clause-value : goal.returns-then-b-byte-clause-value
 returns-then-b-byte-clause-value c =

@@ -1,6 +1,6 @@
 use Rattle.std.proofs.Common.{◌+◌, sym, ap, ◌∙◌, arith}
-use Rattle.jm_script.proofs.LineLemmas.{run_to_end}
-use Rattle.jm_script.proofs.words.word_end.Goals as goal
+use Rattle.jm_lines.proofs.LineLemmas.{run_to_end}
+use Rattle.jm_lines.proofs.words.word_end.Goals as goal
 
 pub returns-then-is_end-clause-value : goal.returns-then-is_end-clause-value
 returns-then-is_end-clause-value c =

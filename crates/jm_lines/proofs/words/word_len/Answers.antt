@@ -1,7 +1,7 @@
 use Rattle.std.proofs.Common.{sym, ◌∙◌, arith}
 use Rattle.std.proofs.lemmas.List.Sums.{position_or_len_is}
-use Rattle.jm_script.specs.Lines.{is_end}
-use Rattle.jm_script.proofs.words.word_len.Goals as goal
+use Rattle.jm_lines.specs.Lines.{is_end}
+use Rattle.jm_lines.proofs.words.word_len.Goals as goal
 
 pub returns-then-is_end-clause-value : goal.returns-then-is_end-clause-value
 returns-then-is_end-clause-value c =

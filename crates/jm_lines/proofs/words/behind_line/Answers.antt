@@ -1,8 +1,8 @@
 use Rattle.std.proofs.Common.{◌+◌, ◌-◌, ◌∷◌, length, drop, sym, ap, ◌∙◌, arith, length-drop}
 use Rattle.std.proofs.lemmas.List.{take_all}
-use Rattle.jm_script.specs.Lines.{is_line_feed, first_line, lines_of}
-use Rattle.jm_script.proofs.LineLemmas.{place_fits, lines_end, lines_more}
-use Rattle.jm_script.proofs.words.behind_line.Goals as goal
+use Rattle.jm_lines.specs.Lines.{is_line_feed, first_line, lines_of}
+use Rattle.jm_lines.proofs.LineLemmas.{place_fits, lines_end, lines_more}
+use Rattle.jm_lines.proofs.words.behind_line.Goals as goal
 
 pub returns-then-end-text-clause-lines : goal.returns-then-end-text-clause-lines
 returns-then-end-text-clause-lines c = lines_end c.args.text.now (omega (arith, c.requires, place_fits is_line_feed c.args.text.now))

@@ -2,9 +2,9 @@ use Rattle.std.proofs.Common.{refl, sym, ◌∙◌, rules, tests}
 use Rattle.std.proofs.lemmas.List.{length_push, map-append}
 use Rattle.std.proofs.lemmas.Iterator.Splits.{YieldsList-from_slice_split}
 use Rattle.std.proofs.lemmas.Iterator.Consumers.{YieldsList-turn, YieldsList-end}
-use Rattle.jm_script.specs.Lines.{is_blank, content_of}
-use Rattle.jm_script.proofs.WordLemmas.{empty_more, word_more, all_found}
-use Rattle.jm_script.proofs.words.read_words.Goals as goal
+use Rattle.jm_lines.specs.Lines.{is_blank, content_of}
+use Rattle.jm_lines.proofs.WordLemmas.{empty_more, word_more, all_found}
+use Rattle.jm_lines.proofs.words.read_words.Goals as goal
 
 pub loop-word-preserved-then-is_empty : goal.loop-word-preserved-then-is_empty
 loop-word-preserved-then-is_empty c =

@@ -11,7 +11,7 @@ use Rattle.std.proofs.lemmas.List.Sums.{prefix_len-le-length, fails_before_first
 use Rattle.std.specs.Simd.Lanes.{chunk}
 use Rattle.std.proofs.lemmas.Simd.{run_in_chunk_fails}
 use Rattle.std.proofs.lemmas.List.Splits.{slice_split_none, slice_split_at, slice_split_first}
-use Rattle.jm_script.specs.Lines.{is_line_feed, is_hash, is_blank, is_end, is_some_word, first_line, content_of, words_of, lines_of}
+use Rattle.jm_lines.specs.Lines.{is_line_feed, is_hash, is_blank, is_end, is_some_word, first_line, content_of, words_of, lines_of}
 
 -- none of these bytes passes
 abbrev pub NonePass : (ℕ → Bool) → List ℕ → Type 0

@@ -1,6 +1,6 @@
 use Rattle.std.proofs.Common.{eq-eqb, map, get_or, take, drop, ◌-◌, refl, sym, ◌∙◌, arith}
-use Rattle.jm_script.proofs.LineLemmas.{last_words, last_place, line_words, line_place, found_more}
-use Rattle.jm_script.proofs.words.plain_words.Goals as goal
+use Rattle.jm_lines.proofs.LineLemmas.{last_words, last_place, line_words, line_place, found_more}
+use Rattle.jm_lines.proofs.words.plain_words.Goals as goal
 
 pub returns-then-end-text-clause-words : goal.returns-then-end-text-clause-words
 returns-then-end-text-clause-words c =

@@ -4,8 +4,8 @@ ghost use Rattle.std.specs.Simd.Lanes.{chunk};
 ghost use Rattle.std.specs.List.{list_all, position_or_len};
 ghost use Rattle.std.specs.Str.{bytes_eq};
 ghost use Rattle.std.specs.Str.Lines.{strip_carriage_return};
-ghost use Rattle.jm_script.specs.Lines.{is_line_feed, is_blank, is_end, is_some_word, first_line, lines_of, lines_left, bytes_left, content_of, words_of};
-ghost use Rattle.jm_script.specs.Statements.{is_object_byte, is_object};
+ghost use Rattle.jm_lines.specs.Lines.{is_line_feed, is_blank, is_end, is_some_word, first_line, lines_of, lines_left, bytes_left, content_of, words_of};
+ghost use Rattle.jm_lines.specs.Objects.{is_object_byte, is_object};
 
 use jm_model::NoMemory;
 use std::simd::prelude::*;
@@ -22,7 +22,7 @@ pub fn first_words<'a>(text: &'a [u8], words: &mut Vec<&'a [u8]>) -> Result<usiz
     }
 }
 
-/// The same in one walk over the line, if no comment and no carriage return stands in it.
+/// First words read in one walk over the line; none if a comment or a carriage return may stand in it.
 fn plain_words<'a>(text: &'a [u8], words: &mut Vec<&'a [u8]>) -> Result<Option<usize>, NoMemory>
     ensures words { IfOk result (λ end. IfSome end (λ _.
         map (λ w. w.now) words.new.items ≡ words_of (first_line text.now))) }
@@ -47,7 +47,7 @@ fn plain_words<'a>(text: &'a [u8], words: &mut Vec<&'a [u8]>) -> Result<Option<u
     }
 }
 
-/// The same in several walks.
+/// First words read in several walks: over the line, its content and its words.
 fn marked_words<'a>(text: &'a [u8], words: &mut Vec<&'a [u8]>) -> Result<usize, NoMemory>
     ensures words { OnOk result (map (λ w. w.now) words.new.items ≡ words_of (first_line text.now)) }
     ensures line { IfOk result (λ end. end ≡ position_or_len is_line_feed text.now) }

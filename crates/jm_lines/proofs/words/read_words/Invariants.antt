@@ -1,7 +1,7 @@
 use Rattle.std.proofs.Common.{◌≡◌, ◌++◌, map, filter, length, drop}
 use Rattle.std.specs.List.{slice_split}
-use Rattle.jm_script.specs.Lines.{is_blank, content_of, is_some_word, words_of}
-use Rattle.jm_script.proofs.words.read_words.Given as goal
+use Rattle.jm_lines.specs.Lines.{is_blank, content_of, is_some_word, words_of}
+use Rattle.jm_lines.proofs.words.read_words.Given as goal
 
 abbrev pub invariant-loop-word : goal.invariant-loop-word
 invariant-loop-word l =
