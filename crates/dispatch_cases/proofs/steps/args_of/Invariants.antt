@@ -1,5 +1,0 @@
-use Rattle.std.specs.Prelude.{◌<◌, All}
-use Rattle.dispatch_cases.proofs.steps.args_of.Given as goal
-
-abbrev pub invariant-loop-word : goal.invariant-loop-word
-invariant-loop-word l = All (λ o. o < l.objects) l.args.items

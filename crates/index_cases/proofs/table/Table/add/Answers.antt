@@ -1,4 +1,0 @@
-use Rattle.index_cases.proofs.table.Table.add.Goals as goal
-
-pub invariant_of-self : goal.invariant_of-self
-invariant_of-self c = record { fits = c.add.ensures.fits _ (c.remove.ensures.fits _ c.args.self.now.fits) (c.within.ensures c.if-within.true) }

@@ -1,8 +1,0 @@
-use Rattle.std.proofs.Common.{arith}
-use Rattle.print_cases.proofs.Printable.{are_printable, has_enough}
-use Rattle.print_cases.proofs.print.rendered.Goals as goal
-
-pub render_history-requires : goal.render_history-requires
-render_history-requires c =
-    let a = c.args in
-    are_printable _ (has_enough a.name.now a.table.now a.categories.now a.objects.now a.handlers.now (omega arith) (omega arith) (omega arith) (omega arith)) a.history.now c.requires

@@ -1,6 +1,0 @@
-use Rattle.std.proofs.Common.{All}
-use Rattle.jm_core.specs.Steps.{IsFitStep}
-use Rattle.prop_cases.proofs.rig.Rig.steps.Given as goal
-
-abbrev pub invariant-loop-word : goal.invariant-loop-word
-invariant-loop-word g l = All (λ s. IsFitStep (g.M.Monitor.meaning l.self.prop.definition) l.self.prop.objects s.1) l.steps.items

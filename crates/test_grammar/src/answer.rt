@@ -1,0 +1,21 @@
+use crate::grammar;
+use std::alloc::{AllocError, Global};
+use testkit::Case;
+
+/// The answer to a case.
+pub(crate) fn answer(alloc: Global, case: &Case) -> Result<String, AllocError> {
+    match case.verb.as_str() {
+        "grammar" | "reduce" | "size" | "productive" => grammar::answer(alloc, case),
+        "made" => grammar::made(alloc, case),
+        "laws" => laws(alloc),
+        _ => String::from_str(alloc, "no such verb"),
+    }
+}
+
+/// The laws are proved: that they can be called is all that is to be seen.
+fn laws(alloc: Global) -> Result<String, AllocError> {
+    jm_grammar::one_reading();
+    jm_grammar::productions_as_written();
+    jm_grammar::letters_are_events();
+    String::from_str(alloc, "called")
+}

@@ -1,0 +1,14 @@
+//! The cases of what may still follow: which dead parameters cut an instance after each letter of a word, the coenable
+//! families, and the letters at which an instance rests or ends.
+#![tactic(auto)]
+
+mod answer;
+mod cuts;
+mod families;
+
+use answer::answer;
+use std::io;
+
+fn main(rt: HostRuntime) -> io::Result<()> {
+    testkit::run(&rt, answer)
+}

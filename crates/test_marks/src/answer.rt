@@ -1,0 +1,20 @@
+use crate::{marks, objects};
+use jm_model::NoMemory;
+use std::alloc::{AllocError, Global};
+use testkit::Case;
+
+/// What the case's verb answers.
+pub(crate) fn answer(alloc: Global, case: &Case) -> Result<String, AllocError> {
+    match answered(alloc, case) {
+        Ok(text) => Ok(text),
+        Err(NoMemory) => String::from_str(alloc, "want of memory"),
+    }
+}
+
+fn answered(alloc: Global, case: &Case) -> Result<String, NoMemory> {
+    match case.verb.as_str() {
+        "objects" => objects::objects(alloc, case),
+        "marks" => marks::marks(alloc, case),
+        _ => Ok(String::from_str(alloc, "no such verb")?),
+    }
+}

@@ -1,0 +1,12 @@
+//! The cases of scripts.
+#![tactic(auto)]
+
+mod answer;
+mod catalog;
+mod script;
+
+use std::io;
+
+fn main(rt: HostRuntime) -> io::Result<()> {
+    testkit::run(&rt, answer::answer)
+}

@@ -1,0 +1,19 @@
+use crate::spec;
+use jm_model::SpecError;
+use std::alloc::{AllocError, Global};
+use testkit::Case;
+use testkit_tokens::or_fault;
+
+/// What the case's verb answers, or the fault that it meets.
+pub(crate) fn answer(alloc: Global, case: &Case) -> Result<String, AllocError> {
+    or_fault(alloc, answered(alloc, case))
+}
+
+fn answered(alloc: Global, case: &Case) -> Result<String, SpecError> {
+    match case.verb.as_str() {
+        "spec" => spec::spec(alloc, case),
+        "prefixes" => spec::prefixes(alloc, case),
+        "laws" => spec::laws(alloc),
+        _ => Ok(String::from_str(alloc, "no such verb")?),
+    }
+}
