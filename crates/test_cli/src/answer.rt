@@ -25,7 +25,7 @@ fn spelled(alloc: Global, case: &Case) -> Result<String, AllocError> {
     match read_words(alloc, words.as_slice()) {
         Ok(command) => told(alloc, &command),
         Err(WordsError::Usage) => String::from_str(alloc, "usage"),
-        Err(WordsError::NoMemory) => String::from_str(alloc, "want of memory"),
+        Err(WordsError::NoMemory) => String::from_str(alloc, "out of memory"),
     }
 }
 

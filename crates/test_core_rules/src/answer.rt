@@ -6,7 +6,7 @@ use jm_model::{Monitor, NoMemory, SpecError};
 use std::alloc::{AllocError, Global};
 use testkit::{Case, number_of, put};
 use testkit_rules::rules_of;
-use testkit_steps::outcome_shown;
+use testkit_steps::{or_no_memory, outcome_shown};
 
 /// What the runs of a case answer, over the specification in its text and so many objects, with a `|` between two.
 pub(crate) fn answer(alloc: Global, case: &Case) -> Result<String, AllocError> {
@@ -20,15 +20,8 @@ pub(crate) fn answer(alloc: Global, case: &Case) -> Result<String, AllocError> {
 
 fn told(alloc: Global, case: &Case, words: &str) -> Result<String, AllocError> {
     match rules_of(alloc, &case.text) {
-        Ok(rules) => wanting(alloc, answered(alloc, case, words, rules)),
+        Ok(rules) => or_no_memory(alloc, answered(alloc, case, words, rules)),
         Err(fault) => format!(in alloc; "{fault:?}"),
-    }
-}
-
-fn wanting(alloc: Global, text: Result<String, NoMemory>) -> Result<String, AllocError> {
-    match text {
-        Ok(text) => Ok(text),
-        Err(NoMemory) => String::from_str(alloc, "want of memory"),
     }
 }
 

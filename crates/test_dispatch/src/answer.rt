@@ -8,6 +8,7 @@ use std::thread::Threads;
 use testkit::{Case, number_of};
 use testkit_monitor::Table;
 use testkit_rules::rules_of;
+use testkit_steps::or_no_memory;
 
 /// What the case's verb answers.
 pub(crate) fn answer<R: Threads + Wait + Sync>(
@@ -19,10 +20,7 @@ pub(crate) fn answer<R: Threads + Wait + Sync>(
         "table" => stingy(rt, alloc, case),
         _ => ruled(rt, alloc, case),
     };
-    match told {
-        Ok(text) => Ok(text),
-        Err(NoMemory) => String::from_str(alloc, "want of memory"),
-    }
+    or_no_memory(alloc, told)
 }
 
 /// The steps of the case's words over a table whose call of `next` with this number is refused memory.

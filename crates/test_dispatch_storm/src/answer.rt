@@ -7,6 +7,7 @@ use std::sync::Wait;
 use std::thread::Threads;
 use testkit::{Case, numbers_of};
 use testkit_monitor::Table;
+use testkit_steps::or_no_memory;
 
 /// What the storm of the case's words comes to: `storm SEATS ROUNDS STEPS OBJECTS / SEED`.
 pub(crate) fn answer<R: Threads + Wait + Sync>(
@@ -26,10 +27,7 @@ pub(crate) fn answer<R: Threads + Wait + Sync>(
         objects: *objects,
         seed,
     };
-    match told(rt, alloc, plan) {
-        Ok(text) => Ok(text),
-        Err(NoMemory) => String::from_str(alloc, "want of memory"),
-    }
+    or_no_memory(alloc, told(rt, alloc, plan))
 }
 
 /// How many entries there are, how many objects died, whether an event fired and one was refused, and how many entries

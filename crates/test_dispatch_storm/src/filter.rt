@@ -11,7 +11,7 @@ const UNLOCK: u8 = 0;
 const PASS: u8 = 2;
 
 /// How many entries don't have the outcome that the definitions give their step after the entries before them. An event
-/// that may be answered may also meet want of memory, and then leaves no trace.
+/// that may be answered may also be out of memory, and then leaves no trace.
 pub(crate) fn wrong(alloc: Global, entries: &[&Entry]) -> Result<usize, NoMemory> {
     let mut past = Past::new(alloc);
     let mut wrong = 0usize;
@@ -42,7 +42,7 @@ impl Past {
         }
     }
 
-    /// Whether the entry is an event on objects that live, and met want of memory.
+    /// Whether the entry is an event on objects that live, and was out of memory.
     fn met_want(&self, entry: &Entry) -> bool {
         match (&entry.step, &entry.outcome) {
             (Step::Event { binding, .. }, Outcome::NoMemory) => self.first_dead(binding).is_none(),

@@ -13,7 +13,7 @@ pub(crate) fn answer(alloc: Global, case: &Case) -> Result<String, AllocError> {
             _ => sizes(alloc, &files),
         },
         Err(GenError::OutOfRange) => String::from_str(alloc, "out of range"),
-        Err(GenError::NoMemory) => String::from_str(alloc, "want of memory"),
+        Err(GenError::NoMemory) => String::from_str(alloc, "out of memory"),
     }
 }
 

@@ -7,7 +7,7 @@ use testkit::Case;
 pub(crate) fn answer(alloc: Global, case: &Case) -> Result<String, AllocError> {
     match answered(alloc, case) {
         Ok(text) => Ok(text),
-        Err(SpecError::NoMemory) => String::from_str(alloc, "want of memory"),
+        Err(SpecError::NoMemory) => String::from_str(alloc, "out of memory"),
         Err(SpecError::Bad(fault)) => format!(in alloc; "{fault:?}"),
     }
 }

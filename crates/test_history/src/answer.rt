@@ -2,13 +2,11 @@ use crate::{bindings, entries};
 use jm_model::NoMemory;
 use std::alloc::{AllocError, Global};
 use testkit::Case;
+use testkit_steps::or_no_memory;
 
 /// What the case's verb answers.
 pub(crate) fn answer(alloc: Global, case: &Case) -> Result<String, AllocError> {
-    match answered(alloc, case) {
-        Ok(text) => Ok(text),
-        Err(NoMemory) => String::from_str(alloc, "want of memory"),
-    }
+    or_no_memory(alloc, answered(alloc, case))
 }
 
 fn answered(alloc: Global, case: &Case) -> Result<String, NoMemory> {

@@ -1,20 +1,19 @@
-use crate::{marks, objects};
+use crate::{marks, objects, random};
 use jm_model::NoMemory;
 use std::alloc::{AllocError, Global};
 use testkit::Case;
+use testkit_steps::or_no_memory;
 
 /// What the case's verb answers.
 pub(crate) fn answer(alloc: Global, case: &Case) -> Result<String, AllocError> {
-    match answered(alloc, case) {
-        Ok(text) => Ok(text),
-        Err(NoMemory) => String::from_str(alloc, "want of memory"),
-    }
+    or_no_memory(alloc, answered(alloc, case))
 }
 
 fn answered(alloc: Global, case: &Case) -> Result<String, NoMemory> {
     match case.verb.as_str() {
         "objects" => objects::objects(alloc, case),
         "marks" => marks::marks(alloc, case),
+        "random_marks" => random::random_marks(alloc, case),
         _ => Ok(String::from_str(alloc, "no such verb")?),
     }
 }

@@ -1,9 +1,11 @@
-//! Cases of what stands below the store: the table of objects and the marks.
+//! Cases of what stands below the store: the table of objects and the marks, also rows of random steps over marks
+//! against a plain list of bindings.
 #![tactic(auto)]
 
 mod answer;
 mod marks;
 mod objects;
+mod random;
 
 use std::io;
 

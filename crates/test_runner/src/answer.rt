@@ -1,10 +1,10 @@
 use crate::both::both;
 use crate::command::{counted, met};
-use jm_model::NoMemory;
 use std::alloc::{AllocError, Global};
 use std::sync::Wait;
 use std::thread::Threads;
 use testkit::Case;
+use testkit_steps::or_no_memory;
 
 /// What the case's verb answers.
 pub(crate) fn answer<R: Threads + Wait + Sync>(
@@ -15,10 +15,7 @@ pub(crate) fn answer<R: Threads + Wait + Sync>(
     match case.verb.as_str() {
         "met" => met(rt, alloc, case),
         "counted" => counted(rt, alloc, case),
-        "both" => match both(rt, alloc, case) {
-            Ok(shown) => Ok(shown),
-            Err(NoMemory) => String::from_str(alloc, "want of memory"),
-        },
+        "both" => or_no_memory(alloc, both(rt, alloc, case)),
         _ => String::from_str(alloc, "no such verb"),
     }
 }

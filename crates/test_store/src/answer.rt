@@ -5,14 +5,11 @@ use std::alloc::{AllocError, Global};
 use testkit::{Case, byte_of, number_of, numbers_of, put};
 use testkit_monitor::Table;
 use testkit_rules::rules_of;
-use testkit_steps::step_of;
+use testkit_steps::{or_no_memory, step_of};
 
 /// What the case's verb answers.
 pub(crate) fn answer(alloc: Global, case: &Case) -> Result<String, AllocError> {
-    match answered(alloc, case) {
-        Ok(text) => Ok(text),
-        Err(NoMemory) => String::from_str(alloc, "want of memory"),
-    }
+    or_no_memory(alloc, answered(alloc, case))
 }
 
 /// The answer over the number of objects behind the `/`. The rules are those of the case's text, or the table whose

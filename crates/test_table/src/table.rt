@@ -7,7 +7,7 @@ use crate::circle::Circle;
 use jm_model::{Letter, SpecError};
 use jm_table::{Table, build};
 use std::alloc::{AllocError, Global};
-use testkit::{Case, text_of};
+use testkit::{Case, put_number, small_number_of, small_numbers_of, text_of};
 use testkit_tokens::or_fault;
 
 const NOWHERE: u32 = 100_000;
@@ -51,7 +51,7 @@ pub(crate) fn next(alloc: Global, case: &Case) -> Result<String, AllocError> {
 fn next_text(alloc: Global, case: &Case) -> Result<String, SpecError> {
     let (table, _nodes) = build_circle(alloc, case)?;
     let (state, letter) = text_of(&case.text).split_once(' ').unwrap_or(("", ""));
-    let next = next_of(&table, number_of(state), number_of(letter));
+    let next = next_of(&table, small_number_of(state), small_number_of(letter));
     Ok(format!(in alloc; "{next}")?)
 }
 
@@ -116,7 +116,7 @@ fn add_group(alloc: Global, table: &mut Table, states: &str) -> Result<u16, Spec
     ensures number { IfOk result (λ group. group < length table.new.groups) }
     ensures one { OnOk result (length table.new.groups ≡ length table.old.groups + 1) }
 {
-    let states = numbers_of(alloc, states)?;
+    let states = small_numbers_of(alloc, states)?;
     if !are_states(&states, table.len()) {
         return Err(SpecError::NoMemory);
     }
@@ -143,19 +143,14 @@ fn members_text(alloc: Global, table: &Table, first: u16, second: u16) -> Result
 fn add_members(out: &mut String, alloc: Global, table: &Table, group: u16) -> Result<(), AllocError>
     requires { group < length table.now.groups }
 {
-    add_number(out, alloc, "", group)?;
+    put_number(out, alloc, "", group)?;
     out.push(':')?;
     for state in 0..table.len() {
         if table.in_group(state, group) {
-            add_number(out, alloc, " ", state)?;
+            put_number(out, alloc, " ", state)?;
         }
     }
     Ok(())
-}
-
-fn add_number(out: &mut String, alloc: Global, front: &str, number: u16) -> Result<(), AllocError> {
-    let text = format!(in alloc; "{front}{number}")?;
-    out.push_str(&text)
 }
 
 fn build_circle(alloc: Global, case: &Case) -> Result<(Table, Vec<u32>), SpecError>
@@ -169,16 +164,4 @@ fn build_circle(alloc: Global, case: &Case) -> Result<(Table, Vec<u32>), SpecErr
     };
     let letters = case.second.parse::<u8>().unwrap_or(0);
     build(alloc, &circle, letters.min(32))
-}
-
-fn numbers_of(alloc: Global, text: &str) -> Result<Vec<u16>, AllocError> {
-    let mut numbers = Vec::new(alloc);
-    for word in text.split_whitespace() {
-        numbers.push(number_of(word))?;
-    }
-    Ok(numbers)
-}
-
-fn number_of(digits: &str) -> u16 {
-    digits.parse::<u16>().unwrap_or(u16::MAX)
 }

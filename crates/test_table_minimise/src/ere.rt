@@ -1,12 +1,13 @@
 //! Tables of regular expressions.
 
-use crate::shown::{counts_text, or_fault};
+use crate::shown::counts_text;
 use jm_ere::read;
 use jm_events::EventTable;
 use jm_model::SpecError;
 use jm_text::tokens;
 use std::alloc::{AllocError, Global};
 use testkit::Case;
+use testkit_tokens::or_fault;
 
 /// How many states the table of the text's expression and its minimal table have. A case has the events.
 pub(crate) fn answer(alloc: Global, case: &Case) -> Result<String, AllocError> {

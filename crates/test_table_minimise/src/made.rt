@@ -3,11 +3,12 @@
 ghost use Rattle.std.specs.Prelude.{◌≡◌, ◌<◌, ◌+◌, ◌↔◌, All, IsTrue, IfOk, OnOk, length};
 
 use crate::rows::Rows;
-use crate::shown::{counts_text, or_fault, table_text};
+use crate::shown::{counts_text, table_text};
 use jm_model::{NoMemory, SpecError};
 use jm_table::{Table, build};
 use std::alloc::{AllocError, Global};
-use testkit::Case;
+use testkit::{Case, small_number_of, small_numbers_of};
+use testkit_tokens::or_fault;
 
 /// The minimal table of the rows of the text. A case has how many letters there are, and the states of the two
 /// groups with a semicolon between them.
@@ -16,7 +17,7 @@ pub(crate) fn table(alloc: Global, case: &Case) -> Result<String, AllocError> {
 }
 
 fn minimal_text(alloc: Global, case: &Case) -> Result<String, SpecError> {
-    let next = numbers_of(alloc, std::str::from_utf8(&case.text).unwrap_or(""))?;
+    let next = small_numbers_of(alloc, std::str::from_utf8(&case.text).unwrap_or(""))?;
     let table = table_of(alloc, letters_of(&case.first), next, &case.second)?;
     let table = table.minimise()?;
     Ok(table_text(alloc, &table)?)
@@ -29,7 +30,7 @@ pub(crate) fn chain(alloc: Global, case: &Case) -> Result<String, AllocError> {
 }
 
 fn chain_text(alloc: Global, case: &Case) -> Result<String, SpecError> {
-    let states = number_of(&case.first);
+    let states = small_number_of(&case.first);
     let next = chain_rows(alloc, states, letters_of(&case.second))?;
     let last = format!(in alloc; "{}", states.saturating_sub(1))?;
     counts_text(
@@ -57,7 +58,11 @@ pub(crate) fn circle(alloc: Global, case: &Case) -> Result<String, AllocError> {
 }
 
 fn circle_text(alloc: Global, case: &Case) -> Result<String, SpecError> {
-    let next = circle_rows(alloc, number_of(&case.first), letters_of(&case.second))?;
+    let next = circle_rows(
+        alloc,
+        small_number_of(&case.first),
+        letters_of(&case.second),
+    )?;
     counts_text(alloc, table_of(alloc, letters_of(&case.second), next, "")?)
 }
 
@@ -89,7 +94,7 @@ fn add_group(alloc: Global, table: &mut Table, states: &str) -> Result<(), NoMem
     requires { length table.old.groups < 65535 }
     ensures { OnOk result (length table.new.groups ≡ length table.old.groups + 1) }
 {
-    let states = numbers_of(alloc, states)?;
+    let states = small_numbers_of(alloc, states)?;
     if !are_below(&states, table.len()) {
         return Err(NoMemory);
     }
@@ -101,18 +106,6 @@ fn are_below(numbers: &[u16], end: u16) -> bool
     ensures { IsTrue result ↔ All (λ number. number < end) numbers.now }
 {
     numbers.iter().all(|number| *number < end)
-}
-
-fn numbers_of(alloc: Global, text: &str) -> Result<Vec<u16>, AllocError> {
-    let mut numbers = Vec::new(alloc);
-    for word in text.split_whitespace() {
-        numbers.push(number_of(word))?;
-    }
-    Ok(numbers)
-}
-
-fn number_of(digits: &str) -> u16 {
-    digits.parse::<u16>().unwrap_or(u16::MAX)
 }
 
 fn letters_of(digits: &str) -> u8 {

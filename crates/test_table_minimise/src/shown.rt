@@ -5,17 +5,7 @@ ghost use Rattle.std.specs.Prelude.{◌≡◌, ◌<◌, length};
 use jm_model::{Letter, SpecError};
 use jm_table::Table;
 use std::alloc::{AllocError, Global};
-
-/// The text, or the fault.
-pub(crate) fn or_fault(
-    alloc: Global,
-    shown: Result<String, SpecError>,
-) -> Result<String, AllocError> {
-    match shown {
-        Ok(text) => Ok(text),
-        Err(fault) => format!(in alloc; "{fault:?}"),
-    }
-}
+use testkit::put_number;
 
 /// How many states a table and its minimal table have.
 pub(crate) fn counts_text(alloc: Global, table: Table) -> Result<String, SpecError> {
@@ -33,7 +23,7 @@ pub(crate) fn table_text(alloc: Global, table: &Table) -> Result<String, AllocEr
         if state > 0 {
             out.push('\n')?;
         }
-        add_number(&mut out, alloc, "", state)?;
+        put_number(&mut out, alloc, "", state)?;
         add_next(&mut out, alloc, table, state)?;
         out.push(':')?;
         add_groups(&mut out, table, state)?;
@@ -46,7 +36,7 @@ fn add_next(out: &mut String, alloc: Global, table: &Table, state: u16) -> Resul
 {
     for letter in 0..table.letters() {
         let next = table.next(state, Letter(letter));
-        add_number(out, alloc, " ", next)?;
+        put_number(out, alloc, " ", next)?;
     }
     Ok(())
 }
@@ -62,9 +52,4 @@ fn add_groups(out: &mut String, table: &Table, state: u16) -> Result<(), AllocEr
         out.push_str(" 1")?;
     }
     Ok(())
-}
-
-fn add_number(out: &mut String, alloc: Global, front: &str, number: u16) -> Result<(), AllocError> {
-    let text = format!(in alloc; "{front}{number}")?;
-    out.push_str(&text)
 }

@@ -13,4 +13,7 @@ mod words;
 
 pub use case::{Case, cases};
 pub use program::run;
-pub use words::{byte_of, number_of, numbers_of, put, put_line, put_word, text_of};
+pub use words::{
+    byte_of, number_of, numbers_of, put, put_line, put_number, put_word, small_number_of,
+    small_numbers_of, text_of,
+};

@@ -10,5 +10,5 @@ mod steps;
 
 pub use bindings::{binding_of, binding_shown, with_pair};
 pub use draw::Draw;
-pub use outcomes::{entry_shown, outcome_of, outcome_shown};
+pub use outcomes::{entry_shown, or_no_memory, outcome_of, outcome_shown};
 pub use steps::{step_of, step_shown};

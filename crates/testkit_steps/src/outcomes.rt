@@ -4,8 +4,8 @@ use jm_model::{Entry, Firing, Firings, NoMemory, Outcome};
 use std::alloc::{AllocError, Global};
 use testkit::{byte_of, number_of, put};
 
-/// The outcome of a text: `fired:HANDLER@BINDING;..`, `refused:OBJECT`, `done`, `kept:COUNT`, or another for want of
-/// memory.
+/// The outcome of a text: `fired:HANDLER@BINDING;..`, `refused:OBJECT`, `done`, `kept:COUNT`, or another where it is out
+/// of memory.
 pub fn outcome_of(alloc: Global, text: &str) -> Result<Outcome, NoMemory> {
     let (kind, rest) = text.split_once(':').unwrap_or((text, ""));
     match kind {
@@ -60,4 +60,12 @@ pub fn entry_shown(alloc: Global, entry: &Entry) -> Result<String, AllocError> {
     let step = step_shown(alloc, &entry.step)?;
     let outcome = outcome_shown(alloc, &entry.outcome)?;
     format!(in alloc; "{} {} {step} {outcome}", entry.caller, entry.line)
+}
+
+/// The text, or that memory is refused.
+pub fn or_no_memory(alloc: Global, shown: Result<String, NoMemory>) -> Result<String, AllocError> {
+    match shown {
+        Ok(text) => Ok(text),
+        Err(NoMemory) => String::from_str(alloc, "out of memory"),
+    }
 }
