@@ -16,7 +16,7 @@ use Rattle.jm_store.specs.Contents.{Contents, IsFit, ArePaired, with_ending}
 use Rattle.jm_store.specs.Housing.{IsHoused, IsKept}
 use Rattle.jm_store.specs.declared.monitors.Slot.TheVariants.{Taken}
 use Rattle.jm_store.proofs.SlotLemmas.{place_of}
-use Rattle.jm_store.proofs.GivenLemmas.{pairs_cons, pairs_none}
+use Rattle.jm_store.proofs.GivenLemmas.{one_pair}
 use Rattle.jm_store.proofs.CommitLemmas.{housed_within}
 
 module _ {S : Type 0} where
@@ -55,9 +55,6 @@ module _ {S : Type 0} where
     where
       only : {X : Type 0} (x y : X) → Contains (x ∷ []) y → x ≡ y
       only x y there = elim (Contains-cons_cases x [] y there) [ inl same ↦ same | inr none ↦ absurd (Contains-none y none) ]
-
-      one_pair : {X : Type 0} (Q : X → X → Type 0) (x : X) → AllPairs Q (x ∷ [])
-      one_pair Q x = pairs_cons Q x [] (λ y there. absurd (Contains-none y there)) (pairs_none Q)
 
       used : (p : Pair) → record { binding = s.instance; slot = 0 } ≡ p → IsUsed (slot_at (Taken s ∷ []) p.slot)
       used p e = subst (λ (q : Pair). IsUsed (slot_at (Taken s ∷ []) q.slot)) e tt

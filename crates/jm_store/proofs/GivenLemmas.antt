@@ -78,6 +78,9 @@ all_from {X} P xs h k d lt = h (get_or xs k d) (k, lt, get_or_default xs k (get_
 pub pairs_cons : {X : Type 0} (Q : X → X → Type 0) (x : X) (xs : List X) → ((y : X) → Contains xs y → Q x y) → AllPairs Q xs → AllPairs Q (x ∷ xs)
 pairs_cons Q x xs first rest = AllPairs-cons Q x xs (all_from (Q x) xs first) rest
 
+pub one_pair : {X : Type 0} (Q : X → X → Type 0) (x : X) → AllPairs Q (x ∷ [])
+one_pair Q x = pairs_cons Q x [] (λ y there. absurd (Contains-none y there)) (pairs_none Q)
+
 -- two lists in a row
 pub pairs_append : {X : Type 0} (Q : X → X → Type 0) (xs ys : List X) → AllPairs Q xs → AllPairs Q ys → ((x y : X) → Contains xs x → Contains ys y → Q x y) → AllPairs Q (xs ++ ys)
 pairs_append Q [] ys h g cross = g

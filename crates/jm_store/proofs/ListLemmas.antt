@@ -1,10 +1,11 @@
-use Rattle.std.proofs.Common.{◌≡◌, ℕ, ◌+◌, ◌<◌, List, [], ◌∷◌, ◌++◌, length, take, sym, ◌∙◌, ap, subst, inl, inr, ◌⊎◌, arith}
-use Rattle.std.specs.Prelude.{Contains}
+use Rattle.std.proofs.Common.{◌≡◌, ℕ, zero, suc, ◌+◌, ◌<◌, List, [], ◌∷◌, ◌++◌, length, take, sym, ◌∙◌, ap, subst, inl, inr, ◌⊎◌, arith}
+use Rattle.std.specs.Prelude.{Contains, Some, slice_get}
 use Rattle.std.specs.List.{AllByRecursion}
 use Rattle.std.specs.List.Sorted.{IsStrictlySortedBy}
 use Rattle.std.specs.declared.cmp.Ordering.{Ordering}
 use Rattle.std.specs.declared.cmp.Ordering.TheVariants.{Less}
 use Rattle.std.proofs.lemmas.Bool.{cases_lt}
+use Rattle.std.proofs.lemmas.Option.{none-some, same_Some}
 use Rattle.std.proofs.lemmas.List.{get_or_default, take_more, length-append, length-take, length-take-le, get_or_append_left, get_or_push, get_or-take}
 use Rattle.std.proofs.lemmas.List.Elements.{Contains-append_left, Contains-push, Contains-push_cases}
 use Rattle.jm_semantics.proofs.ListLemmas.{Contains-head, Contains-cons}
@@ -96,3 +97,12 @@ module _ {X : Type 0} where
       let size = length-take i xs in
       let lt : k < i = omega (arith, size, h.0) in
       ((omega (arith, size, h.0), sym (get_or-take i xs k y lt) ∙ h.1), lt)
+
+-- what is at a place
+get_at : {X : Type 0} (xs : List X) (i : ℕ) (x : X) → slice_get xs i ≡ Some x → IsAt xs i x
+get_at [] i x e = absurd (none-some x e)
+get_at (y ∷ xs) zero x e = (omega arith, same_Some y x e)
+get_at (y ∷ xs) (suc i) x e = let g = get_at xs i x e in (omega (arith, g.0), g.1)
+
+pub take_got : {X : Type 0} (xs : List X) (i : ℕ) (x : X) → slice_get xs i ≡ Some x → take (i + 1) xs ≡ take i xs ++ x ∷ []
+take_got {X} xs i x e = let at = get_at xs i x e in take_more xs i x at.0 ∙ ap (λ (y : X). take i xs ++ y ∷ []) at.1

@@ -1,4 +1,4 @@
--- Sorted lists of distinct bindings.
+-- Bindings that tie in the order.
 use Rattle.std.proofs.Common.{◌≡◌, ℕ, ◌+◌, ◌<◌, List, [], ◌∷◌, length, get_or, refl, sym, ◌∙◌, ap, subst, false, arith}
 use Rattle.std.specs.Prelude.{Option, Some, None}
 use Rattle.std.specs.List.Sorted.{IsSortedBy, IsStrictlySortedBy}
@@ -24,7 +24,7 @@ then-Equal Less p h = absurd (cc)
 then-Equal Equal p h = (refl, h)
 then-Equal Greater p h = absurd (cc)
 
-nat-Equal : (x y : ℕ) → nat_cmp x y ≡ Equal → x ≡ y
+pub nat-Equal : (x y : ℕ) → nat_cmp x y ≡ Equal → x ≡ y
 nat-Equal x y h = at_equal _ _ (nat_cmp x y) (ranked x y (nat_cmp x y) refl) h
   where
     at_equal : (P Q : Type 0) (o : Ordering) → MatchOrdering o P (x ≡ y) Q → o ≡ Equal → x ≡ y
@@ -48,31 +48,3 @@ same_from_tie (x ∷ b) (y ∷ t) h =
     let first : x ≡ y = option-Equal x y parts.0 in
     let rest : b ≡ t = same_from_tie b t parts.1 in
     cc
-
-strict : (a b : Binding) → is_lt (binding_cmp b a) ≡ false → (a ≡ b → ⊥) → binding_cmp a b ≡ Less
-strict a b not apart = by (binding_cmp a b) refl
-  where
-    by : (o : Ordering) → binding_cmp a b ≡ o → binding_cmp a b ≡ Less
-    by Less e = e
-    by Equal e = absurd (apart (same_from_tie a b e))
-    by Greater e =
-        let back : binding_cmp b a ≡ Less = binding_cmp_total.antisymm b a ∙ ap ordering_reverse e in
-        absurd (false≢true (sym not ∙ ap is_lt back))
-
--- moves in order of distinct instances are strictly in order
-pub strictly : {S : Type 0} (moves : List (Move S)) → IsSortedBy (λ x y. is_lt (binding_cmp x.monitor.instance y.monitor.instance)) moves → AreDistinct moves
-    → IsStrictlySortedBy binding_cmp (instances_of (reached_by moves))
-strictly {S} [] sorted distinct = sorted_from_all_adjacent binding_cmp_total [] [] (λ k lt. absurd (omega (arith, lt)))
-strictly {S} (x ∷ moves) sorted distinct =
-    let all : List (Move S) = x ∷ moves in
-    let size : length (instances_of (reached_by all)) ≡ length all = length-map (reached_by all) (λ (s : Stored S). s.instance) ∙ length-map all (λ (y : Move S). y.monitor) in
-    let read : (k : ℕ) → k < length all → get_or (instances_of (reached_by all)) k [] ≡ (get_or all k x).monitor.instance = λ k lt.
-    get_or-map (λ (s : Stored S). s.instance) (reached_by all) k x.monitor [] (omega (arith, lt, length-map all (λ (y : Move S). y.monitor)))
-    ∙ ap (λ (s : Stored S). s.instance) (get_or-map (λ (y : Move S). y.monitor) all k x x.monitor lt) in
-    sorted_from_all_adjacent binding_cmp_total (instances_of (reached_by all)) []
-    (λ k lt.
-    let next : k + 1 < length all = omega (arith, lt, size) in
-    let here : k < length all = omega (arith, next) in
-    let less = strict (get_or all k x).monitor.instance (get_or all (k + 1) x).monitor.instance (sorted k x (omega arith) next) (distinct k (k + 1) x (omega arith) next) in
-    subst (λ (v : Binding). binding_cmp v (get_or (instances_of (reached_by all)) (k + 1) []) ≡ Less) (sym (read k here))
-    (subst (λ (v : Binding). binding_cmp (get_or all k x).monitor.instance v ≡ Less) (sym (read (k + 1) next)) less))

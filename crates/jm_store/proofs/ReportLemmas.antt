@@ -1,15 +1,16 @@
 -- Loops that list firings.
-use Rattle.std.proofs.Common.{◌≡◌, ℕ, zero, suc, ◌+◌, ◌*◌, ◌^◌, ◌<◌, inl, inr, Bool, true, false, cond, eqb, List, [], ◌∷◌, ◌++◌, take, get_or, pow-suc, refl, sym, ◌∙◌, ap, subst, arith}
-use Rattle.std.specs.Prelude.{◌==◌, Contains, IsBitSet, ◌↔◌}
+use Rattle.std.proofs.Common.{◌≡◌, ◌≢◌, ℕ, zero, suc, ◌+◌, ◌*◌, ◌^◌, ◌<◌, ◌≤◌, inl, inr, length, Bool, true, false, cond, eqb, List, [], ◌∷◌, ◌++◌, take, get_or, pow-suc, refl, sym, ◌∙◌, ap, subst, arith}
+use Rattle.std.specs.Prelude.{◌==◌, AllPairs, Contains, IsBitSet, ◌↔◌}
 use Rattle.std.specs.Int.{bit_at}
-use Rattle.std.specs.List.Sorted.{IsStrictlySortedBy}
-use Rattle.std.specs.Ordering.{nat_cmp, ordering_then}
+use Rattle.std.specs.List.Sorted.{IsStrictlySortedBy, IsSortedBy, IsPermutation}
+use Rattle.std.specs.Ordering.{nat_cmp, is_lt, ordering_then, ordering_reverse}
 use Rattle.std.specs.declared.cmp.Ordering.{Ordering}
 use Rattle.std.specs.declared.cmp.Ordering.TheVariants.{Less, Equal, Greater}
-use Rattle.std.proofs.lemmas.List.{append-nil, length-map, get_or-map}
-use Rattle.std.proofs.lemmas.Bool.{ne_eqb, eqb-true, eq-eqb, lt-ltb, cases_lt}
+use Rattle.std.proofs.lemmas.List.{append-nil, get_or_default}
+use Rattle.std.proofs.lemmas.List.Sorted.{Contains-permutation, IsPermutation-sym}
+use Rattle.std.proofs.lemmas.Bool.{false≢true, ne_eqb, eqb-true, eq-eqb, lt-ltb, cases_lt}
 use Rattle.std.proofs.lemmas.Cmp.{tied_itself}
-use Rattle.std.proofs.lemmas.Map.Keys.{Less-from_sorted}
+use Rattle.std.proofs.lemmas.Map.Keys.{Less-from_sorted, sorted_from_all_adjacent}
 use Rattle.std.proofs.lemmas.List.Elements.{Contains-append_left, Contains-append_right, Contains-append_cases}
 use Rattle.std.proofs.lemmas.Nat.Bits.{bit_at-zero, and_pow, bit_at-lt, bit_at_above}
 use Rattle.jm_model.specs.Bindings.{binding_cmp}
@@ -18,22 +19,14 @@ use Rattle.jm_model.specs.declared.binding.Binding.{Binding}
 use Rattle.jm_model.specs.declared.firings.Firing.{Firing}
 use Rattle.jm_semantics.specs.Answers.{firing_cmp}
 use Rattle.jm_semantics.proofs.ListLemmas.{Contains-nil, Contains-head, Contains-cons_cases}
-use Rattle.jm_semantics.proofs.OrderLemmas.{binding_cmp_total}
+use Rattle.jm_semantics.proofs.OrderLemmas.{binding_cmp_total, firing_cmp_total}
 use Rattle.jm_monitors.specs.declared.stored.Stored.{Stored}
-use Rattle.jm_store.specs.Reports.{IsAt, instances_of}
-use Rattle.jm_store.specs.Reports.{firings_below}
+use Rattle.jm_store.specs.Reports.{IsAt, firings_below, AreHitsOf}
 use Rattle.jm_monitors.specs.Steps.{IsFull, IsReported, IsReport}
+use Rattle.jm_store.proofs.GivenLemmas.{pairs_none, pairs_append}
 use Rattle.jm_store.proofs.ListLemmas.{Contains-take_more, Contains-take_older, Contains-take_here, at_from_take, sorted-append, sorted-one, sorted-nil}
-
--- of two monitors in order the one at the lower place comes first
-earlier_in_store : {S : Type 0} (stored : List (Stored S)) (j k : ℕ) (s r : Stored S) → IsStrictlySortedBy binding_cmp (instances_of stored) → IsAt stored j s → IsAt stored k r → j < k → binding_cmp s.instance r.instance ≡ Less
-earlier_in_store {S} stored j k s r up at_j at_k lt =
-    let of : Stored S → Binding = λ x. x.instance in
-    let size = length-map stored of in
-    let less = Less-from_sorted binding_cmp (instances_of stored) j k s.instance up lt (omega (arith, size, at_k.0)) in
-    let first : get_or (instances_of stored) j s.instance ≡ s.instance = get_or-map of stored j s s.instance at_j.0 ∙ ap of at_j.1 in
-    let second : get_or (instances_of stored) k s.instance ≡ r.instance = get_or-map of stored k r s.instance at_k.0 ∙ ap of at_k.1 in
-    subst (λ (b : Binding). binding_cmp b r.instance ≡ Less) first (subst (λ (b : Binding). binding_cmp (get_or (instances_of stored) j s.instance) b ≡ Less) second less)
+use Rattle.jm_store.proofs.OrderLemmas.{then-Equal, nat-Equal, same_from_tie}
+use Rattle.jm_store.proofs.PermuteLemmas.{pairs_permuted}
 
 -- ---- the firings of one instance
 -- a firing of them is of a handler below n, whose bit is set
@@ -114,7 +107,7 @@ handlers-order f g same lt =
     let tie : binding_cmp f.instance g.instance ≡ Equal = ap (λ (t : Binding). binding_cmp t g.instance) same ∙ tied_itself binding_cmp_total g.instance in
     ap (λ (o : Ordering). ordering_then o (nat_cmp f.handler g.handler)) tie ∙ nat-Less f.handler g.handler lt
 
-firings_below-increasing : (t : Binding) (hits n : ℕ) → IsStrictlySortedBy firing_cmp (firings_below t hits n)
+pub firings_below-increasing : (t : Binding) (hits n : ℕ) → IsStrictlySortedBy firing_cmp (firings_below t hits n)
 unfolding firings_below
 firings_below-increasing t hits zero = sorted-nil firing_cmp
 firings_below-increasing t hits (suc n) =
@@ -166,11 +159,49 @@ set_from_bit n k one none =
     positive zero e = omega (arith, e)
     positive (suc j) e = positive j (omega (arith, e, pow-suc 2 j))
 
+-- ---- distinct firings in order
+distinct_sorted : (firings : List Firing) → IsStrictlySortedBy firing_cmp firings → AllPairs (λ f g. f ≢ g) firings
+distinct_sorted firings up i j d lt within same =
+    let less = Less-from_sorted firing_cmp firings i j d up lt within in
+    let tie = tied_itself firing_cmp_total (get_or firings i d) in
+    apart (sym tie ∙ ap (firing_cmp (get_or firings i d)) same ∙ less)
+  where
+    apart : Equal ≡ Less → ⊥
+    apart e = cc
+
+firing_tie : (f g : Firing) → firing_cmp f g ≡ Equal → f ≡ g
+firing_tie f g tie =
+    let parts = then-Equal (binding_cmp f.instance g.instance) (nat_cmp f.handler g.handler) tie in
+    let instance : f.instance ≡ g.instance = same_from_tie f.instance g.instance parts.0 in
+    let handler : f.handler ≡ g.handler = nat-Equal f.handler g.handler parts.1 in
+    λ i. record { instance = instance i; handler = handler i }
+
+strict : (f g : Firing) → is_lt (firing_cmp g f) ≡ false → (f ≡ g → ⊥) → firing_cmp f g ≡ Less
+strict f g not apart = by (firing_cmp f g) refl
+  where
+    by : (o : Ordering) → firing_cmp f g ≡ o → firing_cmp f g ≡ Less
+    by Less e = e
+    by Equal e = absurd (apart (firing_tie f g e))
+    by Greater e =
+        let back : firing_cmp g f ≡ Less = firing_cmp_total.antisymm g f ∙ ap ordering_reverse e in
+        absurd (false≢true (sym not ∙ ap is_lt back))
+
+strictly : (firings : List Firing) → IsSortedBy (λ f g. is_lt (firing_cmp f g)) firings → AllPairs (λ f g. f ≢ g) firings → IsStrictlySortedBy firing_cmp firings
+strictly [] sorted distinct = sorted-nil firing_cmp
+strictly (x ∷ firings) sorted distinct =
+    let all : List Firing = x ∷ firings in
+    sorted_from_all_adjacent firing_cmp_total all x
+    (λ k lt. strict (get_or all k x) (get_or all (k + 1) x) (sorted k x (omega arith) lt) (distinct k (k + 1) x (omega arith) lt))
+
+few_sorted : (firings : List Firing) → length firings ≤ 1 → IsStrictlySortedBy firing_cmp firings
+few_sorted [] few = sorted-nil firing_cmp
+few_sorted (x ∷ firings) few = sorted_from_all_adjacent firing_cmp_total (x ∷ firings) x (λ k lt. absurd (omega (arith, lt, few)))
+
 -- ---- the loop
 module _ (m : Meaning) {S : Type 0} (Stands : S → List ℕ → Type 0) (monitors : List (Stored S)) where
-  pub report_none : IsReport m Stands (take 0 monitors) []
-  report_none = record {
-    increasing = sorted-nil firing_cmp;
+  pub hits_of_none : AreHitsOf m Stands (take 0 monitors) []
+  hits_of_none = record {
+    distinct = pairs_none (λ f g. f ≢ g);
     each = λ f h. absurd (Contains-nil f h);
     all = λ s w k h full stands hit. absurd (Contains-nil s h);
   }
@@ -184,9 +215,9 @@ module _ (m : Meaning) {S : Type 0} (Stands : S → List ℕ → Type 0) (monito
     hit = h.hit;
   }
 
-  pub report_skip : (i : ℕ) (s : Stored S) (firings : List Firing) → IsAt monitors i s → (IsFull m s.instance → ⊥) → IsReport m Stands (take i monitors) firings → IsReport m Stands (take (i + 1) monitors) firings
-  report_skip i s firings at few h = record {
-    increasing = h.increasing;
+  pub hits_of_skip : (i : ℕ) (s : Stored S) (firings : List Firing) → IsAt monitors i s → (IsFull m s.instance → ⊥) → AreHitsOf m Stands (take i monitors) firings → AreHitsOf m Stands (take (i + 1) monitors) firings
+  hits_of_skip i s firings at few h = record {
+    distinct = h.distinct;
     each = λ f c. older i s at f (h.each f c);
     all = λ r w k c full stands hit. elim (Contains-take_more monitors i s r at c) [
       | inl before ↦ h.all r w k before full stands hit
@@ -194,20 +225,23 @@ module _ (m : Meaning) {S : Type 0} (Stands : S → List ℕ → Type 0) (monito
     ];
   }
 
-  pub report_more : (i : ℕ) (s : Stored S) (firings : List Firing) (hits : ℕ) → IsStrictlySortedBy binding_cmp (instances_of monitors) → IsAt monitors i s → IsFull m s.instance → hits < 2 ^ 16
-      → ((w : List ℕ) → Stands s.state w → (k : ℕ) → (IsBitSet hits k ↔ IsHit m w k)) → IsReport m Stands (take i monitors) firings → IsReport m Stands (take (i + 1) monitors) (firings ++ firings_below s.instance hits 16)
-  report_more i s firings hits up at full fits is h =
+  -- of distinct monitors one at a lower place is of another instance
+  earlier_apart : AllPairs (λ r s. r.instance ≢ s.instance) monitors → (j i : ℕ) (r s : Stored S) → IsAt monitors j r → IsAt monitors i s → j < i → r.instance ≢ s.instance
+  earlier_apart distinct j i r s at_j at_i lt same =
+      distinct j i r lt at_i.0
+      (ap (λ (x : Stored S). x.instance) at_j.1 ∙ same ∙ sym (ap (λ (x : Stored S). x.instance) (get_or_default monitors i r s at_i.0 ∙ at_i.1)))
+
+  pub hits_of_more : (i : ℕ) (s : Stored S) (firings : List Firing) (hits : ℕ) → AllPairs (λ r s. r.instance ≢ s.instance) monitors → IsAt monitors i s → IsFull m s.instance → hits < 2 ^ 16
+      → ((w : List ℕ) → Stands s.state w → (k : ℕ) → (IsBitSet hits k ↔ IsHit m w k)) → AreHitsOf m Stands (take i monitors) firings → AreHitsOf m Stands (take (i + 1) monitors) (firings ++ firings_below s.instance hits 16)
+  hits_of_more i s firings hits distinct at full fits is h =
       let new = firings_below s.instance hits 16 in
       record {
-        increasing = sorted-append firing_cmp firings new h.increasing (firings_below-increasing s.instance hits 16)
-            (λ f x c d.
+        distinct = pairs_append (λ f g. f ≢ g) firings new h.distinct (distinct_sorted new (firings_below-increasing s.instance hits 16))
+            (λ f x c d same.
             let r = h.each f c in
             let p = firings_below-parts s.instance hits 16 x d in
             let place = at_from_take monitors i r.among.0 r.monitor (r.among.1, r.among.2) in
-            let less : binding_cmp r.monitor.instance s.instance ≡ Less = earlier_in_store monitors r.among.0 i r.monitor s up place.0 at place.1 in
-            let less' : binding_cmp f.instance x.instance ≡ Less =
-            subst (λ (t : Binding). binding_cmp f.instance t ≡ Less) (sym p.instance) (subst (λ (t : Binding). binding_cmp t s.instance ≡ Less) r.instance less) in
-            ap (λ (o : Ordering). ordering_then o (nat_cmp f.handler x.handler)) less');
+            earlier_apart distinct r.among.0 i r.monitor s place.0 at place.1 (r.instance ∙ ap (λ (y : Firing). y.instance) same ∙ p.instance));
         each = λ f c. elim (Contains-append_cases firings new f c) [
           | inl before ↦ older i s at f (h.each f before)
           | inr here ↦
@@ -232,3 +266,20 @@ module _ (m : Meaning) {S : Type 0} (Stands : S → List ℕ → Type 0) (monito
     where
       low : (k : ℕ) → bit_at hits k ≡ 1 → k < 16
       low k bit = elim (cases_lt k 16) [ inl lt ↦ lt | inr ge ↦ absurd (omega (arith, bit_at_above hits 16 k fits ge)) ]
+
+  -- ---- from the firings to the report
+  pub report_of : (firings : List Firing) → IsStrictlySortedBy firing_cmp firings → AreHitsOf m Stands monitors firings → IsReport m Stands monitors firings
+  report_of firings up h = record { increasing = up; each = h.each; all = h.all }
+
+  pub report_none : IsReport m Stands (take 0 monitors) []
+  report_none = record { increasing = sorted-nil firing_cmp; each = hits_of_none.each; all = hits_of_none.all }
+
+  pub report_of_few : (firings : List Firing) → length firings ≤ 1 → AreHitsOf m Stands monitors firings → IsReport m Stands monitors firings
+  report_of_few firings few h = report_of firings (few_sorted firings few) h
+
+  pub report_of_sorted : (firings sorted : List Firing) → IsPermutation firings sorted → IsSortedBy (λ f g. is_lt (firing_cmp f g)) sorted → AreHitsOf m Stands monitors firings → IsReport m Stands monitors sorted
+  report_of_sorted firings sorted same order h = record {
+    increasing = strictly sorted order (pairs_permuted (λ f g. f ≢ g) (λ f g q e. q (sym e)) firings sorted same h.distinct);
+    each = λ f there. h.each f (Contains-permutation sorted firings f (IsPermutation-sym firings sorted same) there);
+    all = λ s w k there full stands hit. Contains-permutation firings sorted _ same (h.all s w k there full stands hit);
+  }

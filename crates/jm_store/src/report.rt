@@ -1,43 +1,42 @@
 //! The answer of an event.
-ghost use Rattle.std.specs.Prelude.{◌≡◌, ◌++◌, ℕ, List, [], ◌∷◌, IfOk, OnOk, map};
-ghost use Rattle.std.specs.List.Sorted.{IsStrictlySortedBy, IsPermutation, IsSortedBy};
+ghost use Rattle.std.specs.Prelude.{◌≡◌, ◌≢◌, ◌++◌, ℕ, AllPairs, List, [], ◌∷◌, IfOk, OnOk};
+ghost use Rattle.std.specs.List.Sorted.{IsPermutation, IsSortedBy};
 ghost use Rattle.std.specs.Ordering.{is_lt};
-ghost use Rattle.jm_model.specs.Bindings.{binding_cmp};
+ghost use Rattle.jm_semantics.specs.Answers.{firing_cmp};
 ghost use Rattle.jm_monitors.specs.Steps.{IsReport};
 ghost use Rattle.jm_store.specs.Moves.{reached_by};
-ghost use Rattle.jm_store.specs.Reports.{firings_below};
+ghost use Rattle.jm_store.specs.Reports.{firings_below, AreHitsOf};
 
 use crate::moves::Move;
 use jm_model::{Binding, Firing, Firings, Monitor, NoMemory};
 use std::alloc::Global;
 
-/// Sorts moves by their instances.
-pub(crate) fn sort_by_instance<S>(moves: &mut Vec<Move<S>>)
-    ensures same { IsPermutation moves.old.items moves.new.items }
-    ensures ordered { IsSortedBy (λ x y. is_lt (binding_cmp x.monitor.instance y.monitor.instance)) moves.new.items }
-{
-    if moves.len() > 1 {
-        sort_several(moves);
-    }
-}
-
-/// The same, where there are several.
-fn sort_several<S>(moves: &mut Vec<Move<S>>)
-    ensures same { IsPermutation moves.old.items moves.new.items }
-    ensures ordered { IsSortedBy (λ x y. is_lt (binding_cmp x.monitor.instance y.monitor.instance)) moves.new.items }
-{
-    moves.sort_unstable_by(|x, y| x.monitor.instance.cmp(&y.monitor.instance));
-}
-
-/// The handlers that the monitors' states hit, monitor by monitor and in the order of handlers. A monitor is left out
-/// where its instance doesn't bind what a reported instance has to bind.
+/// The handlers that the monitors' states hit, in the order of firings. A monitor is left out where its instance doesn't
+/// bind what a reported instance has to bind.
 pub(crate) fn report<M: Monitor>(
     alloc: Global,
     rules: &M,
     moves: &[Move<M::State>],
 ) -> Result<Firings, NoMemory>
-    ensures { IfOk result (λ firings. IsStrictlySortedBy binding_cmp (map (λ s. s.instance) (reached_by moves.now))
+    ensures { IfOk result (λ firings. AllPairs (λ r s. r.instance ≢ s.instance) (reached_by moves.now)
         → IsReport (M.meaning (M.definition rules.now)) (M.StandsFor rules.now) (reached_by moves.now) firings) }
+{
+    let firings = list_hits(alloc, rules, moves)?;
+    if firings.len() > 1 {
+        let sorted = in_order(alloc, &firings)?;
+        return Ok(sorted);
+    }
+    Ok(firings)
+}
+
+/// The same, monitor by monitor.
+fn list_hits<M: Monitor>(
+    alloc: Global,
+    rules: &M,
+    moves: &[Move<M::State>],
+) -> Result<Firings, NoMemory>
+    ensures { IfOk result (λ firings. AllPairs (λ r s. r.instance ≢ s.instance) (reached_by moves.now)
+        → AreHitsOf (M.meaning (M.definition rules.now)) (M.StandsFor rules.now) (reached_by moves.now) firings) }
 {
     let must_bind = rules.must_bind();
     let mut firings = Firings::new(alloc);
@@ -51,6 +50,31 @@ pub(crate) fn report<M: Monitor>(
         }
     }
     Ok(firings)
+}
+
+/// The firings in their order.
+fn in_order(alloc: Global, firings: &Firings) -> Result<Firings, NoMemory>
+    ensures same { IfOk result (λ sorted. IsPermutation firings.now sorted) }
+    ensures ordered { IfOk result (λ sorted. IsSortedBy (λ f g. is_lt (firing_cmp f g)) sorted) }
+{
+    let mut list = list_of(alloc, firings)?;
+    list.sort_unstable_by(|f, g| f.instance.cmp(&g.instance).then(f.handler.cmp(&g.handler)));
+    let mut sorted = Firings::new(alloc);
+    for firing in &list {
+        sorted.push(*firing)?;
+    }
+    Ok(sorted)
+}
+
+/// The firings as a vector.
+fn list_of(alloc: Global, firings: &Firings) -> Result<Vec<Firing>, NoMemory>
+    ensures { IfOk result (λ list. list.items ≡ firings.now) }
+{
+    let mut list = Vec::new(alloc);
+    for i in 0..firings.len() {
+        list.push(firings.get(i))?;
+    }
+    Ok(list)
 }
 
 /// The handlers that the state of one monitor hits, in their order; none where its instance doesn't bind what a

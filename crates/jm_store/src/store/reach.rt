@@ -11,7 +11,7 @@ use super::Store;
 use crate::ending::end_fewer_by;
 use crate::event::Event;
 use crate::moves::{Move, Plan};
-use crate::report::{report, sort_by_instance};
+use crate::report::report;
 use jm_model::{Binding, Letter, Monitor, NoMemory, Steps};
 use jm_objects::Objects;
 use std::mem;
@@ -112,8 +112,7 @@ impl<M: Monitor> Store<M> {
             binding,
             known,
         };
-        let mut moves = self.reach(&event, slots, moves, steps)?;
-        sort_by_instance(&mut moves);
+        let moves = self.reach(&event, slots, moves, steps)?;
         let answer = report(*self.domains.allocator(), rules, &moves)?;
         let copy = answer.copy()?;
         let moves = self.open_plan(moves)?;

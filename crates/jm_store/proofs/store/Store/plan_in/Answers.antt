@@ -1,8 +1,8 @@
-use Rattle.std.proofs.Common.{◌≡◌, List, refl, sym, ap, subst, length}
+use Rattle.std.proofs.Common.{◌≡◌, ◌≢◌, List, refl, sym, ap, subst, length}
 use Rattle.std.specs.Prelude.{Contains, IsTrue}
 use Rattle.jm_model.specs.declared.binding.Binding.{Binding}
 use Rattle.std.proofs.lemmas.Result.{err_from_is_err_and}
-use Rattle.std.proofs.lemmas.List.Sorted.{Contains-permutation, IsPermutation-sym}
+use Rattle.std.proofs.lemmas.List.Sorted.{IsPermutation-refl}
 use Rattle.jm_semantics.specs.Traces.{ParametricEvent}
 use Rattle.jm_monitors.proofs.BaseLemmas.{object-among}
 use Rattle.jm_store.specs.declared.moves.Move.{Move}
@@ -10,10 +10,10 @@ use Rattle.jm_store.specs.Moves.{AreMovesOf, EndsFewer, asks_by}
 use Rattle.jm_store.specs.Contents.{stored_of, with_ending, IsFit, IsStoreAfter}
 use Rattle.jm_store.proofs.FitLemmas.{fit_ending}
 use Rattle.jm_store.proofs.EndingLemmas.{fewer-refl}
-use Rattle.jm_store.proofs.PlanningLemmas.{apart_moves, apart_permuted, leads_moves, moves_within, fit_same, sorted_distinct, plan_works, plan_for_ending, may_reach}
+use Rattle.jm_store.proofs.PlanningLemmas.{apart_moves, leads_moves, moves_within, fit_same, sorted_distinct, plan_works, plan_for_ending, may_reach}
 use Rattle.jm_store.proofs.SparedLemmas.{opened_fewer}
 use Rattle.jm_store.proofs.StoreLemmas.{store_same}
-use Rattle.jm_store.proofs.OrderLemmas.{strictly}
+use Rattle.jm_store.proofs.GivenLemmas.{pairs_map}
 use Rattle.jm_store.proofs.store.Store.plan_in.Goals as goal
 
 pub reach-requires-clause-live : goal.reach-requires-clause-live
@@ -26,7 +26,7 @@ pub open_plan-requires-clause-apart : goal.open_plan-requires-clause-apart
 open_plan-requires-clause-apart g c =
     let m = g.M.Monitor.meaning (g.M.Monitor.definition c.args.rules.now) in
     let Stands = g.M.Monitor.StandsFor c.args.rules.now in
-    apart_permuted _ _ c.sort_by_instance.ensures.same (apart_moves m Stands _ _ _ _ _ _ _ c.in_ok-moves.ensures.moves)
+    apart_moves m Stands _ _ _ _ _ _ _ c.in_ok-moves.ensures.moves
 
 pub open_plan-requires-clause-leads : goal.open_plan-requires-clause-leads
 open_plan-requires-clause-leads g c =
@@ -34,17 +34,15 @@ open_plan-requires-clause-leads g c =
     let Stands = g.M.Monitor.StandsFor c.args.rules.now in
     let all = rw (← c.self.view_is) at c.in_ok-moves.ensures.moves in
     rw (← c.self.view_is)
-    (λ move k there slot.
-    leads_moves m Stands _ _ _ _ _ _ _ all _ c.self.invariant.housed.paired move k (Contains-permutation _ _ move (IsPermutation-sym _ _ c.sort_by_instance.ensures.same) there) slot)
+    (λ move k there slot. leads_moves m Stands _ _ _ _ _ _ _ all _ c.self.invariant.housed.paired move k there slot)
 
 pub returns-in_err-moves-2-clause-plans : goal.returns-in_err-moves-2-clause-plans
 returns-in_err-moves-2-clause-plans g c =
     let m = g.M.Monitor.meaning (g.M.Monitor.definition c.args.rules.now) in
     let Stands = g.M.Monitor.StandsFor c.args.rules.now in
     let opened = c.in_err-moves-2.ensures in
-    let within = λ (move : Move g.row.M-State.Denot) (there : Contains c.sort_by_instance.new.moves.items move).
-    moves_within m Stands _ _ _ _ _ _ _ c.in_ok-moves.ensures.moves (length c.args.objects.now) c.requires.can.fits.instances c.requires.can.there move
-    (Contains-permutation _ _ move (IsPermutation-sym _ _ c.sort_by_instance.ensures.same) there) in
+    let within = λ (move : Move g.row.M-State.Denot) (there : Contains c.in_ok-moves.moves.items move).
+    moves_within m Stands _ _ _ _ _ _ _ c.in_ok-moves.ensures.moves (length c.args.objects.now) c.requires.can.fits.instances c.requires.can.there move there in
     let fewer : EndsFewer c.args.self.now.ending c.open_plan.new.self.ending = rw opened.ending (fewer-refl _) in
     let failed = err_from_is_err_and c.from_residual-in_err-moves-2.result c.from_residual-in_err-moves-2.ensures.1 in
     rw failed.1
@@ -59,7 +57,7 @@ returns-in_err-moves-2-clause-plans g c =
       plan = tt;
       keeps = λ trace.
           store_same m Stands trace c.args.objects.now c.args.self.now c.open_plan.new.self opened.stored opened.marks fewer
-          (opened_fewer c.args.self.now.index c.open_plan.new.self.index c.args.objects.now c.sort_by_instance.new.moves.items c.requires.can.fits.index within opened.fits);
+          (opened_fewer c.args.self.now.index c.open_plan.new.self.index c.args.objects.now c.in_ok-moves.moves.items c.requires.can.fits.index within opened.fits);
       works = tt;
     })
 
@@ -71,9 +69,8 @@ returns-clause-plans g c =
     let new = c.open_plan.new.self in
     let opened = c.in_ok-moves-2.ensures in
     let placed = opened.placed in
-    let within = λ (move : Move g.row.M-State.Denot) (there : Contains c.sort_by_instance.new.moves.items move).
-    moves_within m Stands _ _ _ _ _ _ _ c.in_ok-moves.ensures.moves (length c.args.objects.now) c.requires.can.fits.instances c.requires.can.there move
-    (Contains-permutation _ _ move (IsPermutation-sym _ _ c.sort_by_instance.ensures.same) there) in
+    let within = λ (move : Move g.row.M-State.Denot) (there : Contains c.in_ok-moves.moves.items move).
+    moves_within m Stands _ _ _ _ _ _ _ c.in_ok-moves.ensures.moves (length c.args.objects.now) c.requires.can.fits.instances c.requires.can.there move there in
     let fewer : EndsFewer old.ending c.end_fewer.new.self.ending = rw opened.ending at c.end_fewer.ensures.fewer in
     let known : IsTrue c.args.known → Contains new.marks c.args.binding.now = λ e.
     subst (λ (l : List Binding). Contains l c.args.binding.now) (sym opened.marks) (c.requires.known.0 e) in
@@ -83,7 +80,7 @@ returns-clause-plans g c =
     let keeps : (trace : List ParametricEvent) → IsStoreAfter m Stands trace c.args.objects.now old → IsStoreAfter m Stands trace c.args.objects.now c.end_fewer.new.self = λ trace.
     rw c.end_fewer.ensures.same
     (store_same m Stands trace c.args.objects.now old (with_ending new c.end_fewer.new.self.ending) opened.stored opened.marks fewer
-    (opened_fewer old.index new.index c.args.objects.now c.sort_by_instance.new.moves.items c.requires.can.fits.index within opened.fits)) in
+    (opened_fewer old.index new.index c.args.objects.now c.in_ok-moves.moves.items c.requires.can.fits.index within opened.fits)) in
     let asks = asks_by c.args.known old.ending c.args.letter.0 c.args.binding.now in
     let marks : c.self.inside.marks.list ≡ old.marks = ap (λ v. v.marks) c.self.view_is in
     let all = subst (λ (l : List Binding). AreMovesOf m Stands c.args.letter.0 c.args.binding.now c.args.objects.now l asks old.monitors c.in_ok-moves.moves.items) marks
@@ -103,10 +100,10 @@ returns-clause-plans g c =
       keeps = keeps;
       works = λ trace holds.
           let may = may_reach m Stands c.args.letter.0 c.args.binding.now c.args.objects.now old.marks c.args.known old.ending (stored_of old) c.requires.known.0 holds.ended in
-          let distinct = sorted_distinct m Stands c.args.letter.0 c.args.binding.now c.args.objects.now asks old new c.in_ok-moves.moves.items c.sort_by_instance.new.moves.items _
-          all may c.sort_by_instance.ensures.same opened.placed opened.housed opened.monitors opened.stored opened.marks trace holds.monitors c.requires.can.event in
+          let distinct = sorted_distinct m Stands c.args.letter.0 c.args.binding.now c.args.objects.now asks old new c.in_ok-moves.moves.items c.in_ok-moves.moves.items _
+          all may (IsPermutation-refl _) opened.placed opened.housed opened.monitors opened.stored opened.marks trace holds.monitors c.requires.can.event in
           rw c.end_fewer.ensures.same
-          (plan_works m Stands c.args.letter.0 c.args.binding.now c.args.objects.now asks old new c.in_ok-moves.moves.items c.sort_by_instance.new.moves.items _
-          all may c.sort_by_instance.ensures.same opened.placed opened.housed opened.monitors opened.stored opened.marks trace holds.monitors c.requires.can.event
-          _ (report (strictly _ c.sort_by_instance.ensures.ordered distinct)) _ refl refl refl _ fewer holds.ended moved (rw c.end_fewer.ensures.same at (keeps trace holds).spared) (rw c.end_fewer.ensures.same at fits.index.reached));
+          (plan_works m Stands c.args.letter.0 c.args.binding.now c.args.objects.now asks old new c.in_ok-moves.moves.items c.in_ok-moves.moves.items _
+          all may (IsPermutation-refl _) opened.placed opened.housed opened.monitors opened.stored opened.marks trace holds.monitors c.requires.can.event
+          _ (report (pairs_map (λ r s. r.instance ≢ s.instance) (λ x. x.monitor) _ distinct)) _ refl refl refl _ fewer holds.ended moved (rw c.end_fewer.ensures.same at (keeps trace holds).spared) (rw c.end_fewer.ensures.same at fits.index.reached));
     }
