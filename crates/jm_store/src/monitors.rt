@@ -1,5 +1,5 @@
 //! The container of the monitors.
-ghost use Rattle.std.specs.Prelude.{◌≡◌, ℕ, ◌+◌, ◌↔◌, [], ◌∷◌, ◌<◌, true, false, List, map, length, slice_set, IfOk, OnErr, MatchOption, IsTrue, Some, None};
+ghost use Rattle.std.specs.Prelude.{◌≡◌, ℕ, ◌+◌, ◌↔◌, [], ◌∷◌, ◌<◌, true, false, List, map, length, slice_set, IfOk, OnOk, OnErr, MatchOption, IsTrue, Some, None};
 ghost use Rattle.jm_monitors.specs.declared.stored.Stored.{Stored as Kept};
 ghost use Rattle.jm_monitors.specs.Steps.{IsCutState, IsAliveState};
 ghost use Rattle.jm_marks.specs.Marks.{dead_mask_of};
@@ -84,9 +84,9 @@ impl<S: Drop> Monitors<S> {
             (λ s. monitor_at (monitors_of self.now.slots) slot ≡ Some s.now) }
         ensures steps { MatchOption result (steps.new ≡ steps.old) (λ s. steps.new ≡ steps.old + 1) }
     {
-        let monitor = self.peek(slot)?;
+        let lent = self.peek(slot)?;
         steps.tick();
-        Some(monitor)
+        Some(lent)
     }
 
     fn peek(&self, slot: usize) -> Option<&Stored<S>>
@@ -187,13 +187,19 @@ impl<S: Drop> Monitors<S> {
         self.taken as u64
     }
 
-    /// The instances of the monitors, in the order of their slots.
-    pub(crate) fn instances(&self) -> Result<Vec<Binding>, NoMemory>
-        ensures { IfOk result (λ list. list.items ≡ map (λ s. s.instance) (stored_in (monitors_of self.now.slots))) }
+    /// The instances of the monitors, in the order of their slots. Each monitor is one step.
+    pub(crate) fn instances<L: Ledger>(
+        &self,
+        steps: &mut Steps<L>,
+    ) -> Result<Vec<Binding>, NoMemory>
+        ensures value { IfOk result
+            (λ list. list.items ≡ map (λ s. s.instance) (stored_in (monitors_of self.now.slots))) }
+        ensures steps { OnOk result (steps.new ≡ steps.old + length (stored_in (monitors_of self.now.slots))) }
     {
         let mut list = Vec::new(*self.slots.allocator());
         for slot in &self.slots {
             if let Slot::Taken(monitor) = slot {
+                steps.tick();
                 list.push(monitor.instance)?;
             }
         }

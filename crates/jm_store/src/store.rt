@@ -17,11 +17,12 @@ use crate::moves::Move;
 pub use advance::Done;
 use jm_index::Index;
 use jm_marks::Marks;
-use jm_model::{Binding, Monitor, NoMemory};
+use jm_model::{Binding, Monitor, NoMemory, Steps};
 use jm_monitors::Stored;
 use std::alloc::Global;
-use std::marker::Model;
+use std::marker::{Brand, Model};
 use std::mem;
+use std::sync::ledger::{Blank, Ledger};
 
 /// The stored monitors of one specification, and its marks.
 pub struct Store<M: Monitor> {
@@ -165,9 +166,20 @@ impl<M: Monitor> Store<M> {
         ensures same { IfOk result (λ list. IsPermutation (map (λ s. s.instance) (stored_of self.now)) list.items) }
         ensures ordered { IfOk result (λ list. IsSortedBy (λ a b. is_lt (binding_cmp a b)) list.items) }
     {
-        let mut list = self.monitors.instances()?;
+        let mut list = self.counted_instances::<Brand>(Blank::new(1))?;
         list.sort_unstable_by(|a, b| a.cmp(b));
         Ok(list)
+    }
+
+    /// The stored bindings, in the order of their slots, with a counter made of a ledger of one part.
+    fn counted_instances<L: Ledger>(&self, blank: Blank) -> Result<Vec<Binding>, NoMemory>
+        requires name { blank.name ≡ L.name }
+        requires parts { blank.parts ≡ L.parts }
+        requires one { blank.parts ≡ 1 }
+        ensures { IfOk result (λ list. list.items ≡ map (λ s. s.instance) (stored_of self.now)) }
+    {
+        let mut steps = Steps::<L>::new(blank);
+        self.monitors.instances(&mut steps)
     }
 
     /// The marks, in the order of bindings.
