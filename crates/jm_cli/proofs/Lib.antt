@@ -1,6 +1,11 @@
-mod Named
 mod Numbers
-mod Positions
-mod Runs
+pub mod Positions
 pub mod Saying
-mod Reading
+pub mod Reading
+pub mod Levels
+pub mod Walking
+pub mod Values
+pub mod Entering
+pub mod Lines
+pub mod Runs
+pub mod Found

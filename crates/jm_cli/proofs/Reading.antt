@@ -1,5 +1,5 @@
 -- The words of the table spell their command.
-use Rattle.std.proofs.Common.{ℕ, ◌≡◌, ◌+◌, ◌<◌, ◌≤◌, Bool, true, false, not, List, [], ◌∷◌, ◌++◌, length, get_or, Some, codes, decimal, inl, inr, refl, sym, ◌∙◌, ap, subst, position, bytes_eq, nat_eq, nat_lt, nat_le, arith, rules}
+use Rattle.std.proofs.Common.{ℕ, ◌≡◌, ◌+◌, ◌<◌, ◌≤◌, Bool, true, false, not, List, [], ◌∷◌, ◌++◌, length, get_or, Some, None, codes, decimal, inl, inr, refl, sym, ◌∙◌, ap, subst, position, bytes_eq, nat_eq, nat_lt, nat_le, arith, rules}
 use Rattle.std.specs.List.{list_all, starts_with, position_or_len}
 use Rattle.std.specs.Char.{is_ascii_digit}
 use Rattle.std.specs.Str.Parse.{digits_value}
@@ -14,7 +14,7 @@ use Rattle.jm_cli.specs.Spelling.{AreNames, Spells}
 use Rattle.jm_cli.proofs.Numbers.{own}
 use Rattle.jm_cli.proofs.Saying.{both, same_bytes}
 
-names_told : (words : List (List ℕ)) → AreNames words → are_names words ≡ true
+pub names_told : (words : List (List ℕ)) → AreNames words → are_names words ≡ true
 names_told words names = search (rules, names.some, names.few, names.each)
 
 -- ---- the separator
@@ -34,13 +34,28 @@ first_separator (x ∷ specs) rest names =
     let up : 1 + length specs ≡ length (x ∷ specs) = omega arith in
     rw other (ap (λ n. 1 + n) (first_separator specs rest b.1) ∙ up)
 
-separator_at : (specs scripts : List (List ℕ)) → list_all is_name specs ≡ true
+pub separator_at : (specs scripts : List (List ℕ)) → list_all is_name specs ≡ true
     → position (bytes_eq (codes "--")) (specs ++ codes "--" ∷ scripts) ≡ Some (length specs)
 separator_at specs scripts names =
     let first = first_separator specs scripts names in
     let within : nat_lt (length specs) (length (specs ++ codes "--" ∷ scripts)) ≡ true =
     lt-ltb (length specs) (length (specs ++ codes "--" ∷ scripts)) (omega (arith, length-append specs (codes "--" ∷ scripts))) in
     rw (first, within) refl
+
+-- it stands nowhere in names
+names_end : (words : List (List ℕ)) → list_all is_name words ≡ true → position_or_len (bytes_eq (codes "--")) words ≡ length words
+names_end [] names = refl
+names_end (x ∷ words) names =
+    let b = both (is_name x) (list_all is_name words) names in
+    let other : bytes_eq (codes "--") x ≡ false = no_separator_by x (bytes_eq (codes "--") x) refl b.0 in
+    let up : 1 + length words ≡ length (x ∷ words) = omega arith in
+    rw other (ap (λ n. 1 + n) (names_end words b.1) ∙ up)
+
+pub run_of_names : (words : List (List ℕ)) → list_all is_name words ≡ true → run_of words ≡ None
+run_of_names words names =
+    let end = names_end words names in
+    let without : nat_lt (length words) (length words) ≡ false = search rules in
+    rw (end, without) refl
 
 run_told : (specs scripts : List (List ℕ)) → AreNames specs → AreNames scripts
     → run_of (specs ++ codes "--" ∷ scripts) ≡ Some (Run specs scripts)
@@ -49,21 +64,25 @@ run_told specs scripts first second =
     rw (at, take-append_seam specs (codes "--" ∷ scripts), drop-append-add specs (codes "--" ∷ scripts) 1, names_told specs first, names_told scripts second) refl
 
 -- ---- the number
-begins_past_zero : (word : List ℕ) → 48 < get_or word 0 0 → not (starts_with nat_eq word (codes "0")) ≡ true
-begins_past_zero [] past = refl
-begins_past_zero (d ∷ word) past =
-    let other : nat_eq 48 d ≡ false = elim (eqb_tells 48 d) [
-      | inl same ↦ absurd (omega (arith, past, same.1))
+-- a text whose first byte lies past another doesn't begin with that
+begins_past : (byte : ℕ) (word : List ℕ) → byte ≤ 48 → 48 < get_or word 0 0 → not (starts_with nat_eq word (byte ∷ [])) ≡ true
+begins_past byte [] low past = refl
+begins_past byte (d ∷ word) low past =
+    let other : nat_eq byte d ≡ false = elim (eqb_tells byte d) [
+      | inl same ↦ absurd (omega (arith, low, past, same.1))
       | inr other ↦ other.0
     ] in
     rw other refl
+
+pub decimal_name : (n : ℕ) → 1 ≤ n → n ≤ 8000 → is_name (decimal n) ≡ true
+decimal_name n some few = begins_past 45 (decimal n) (omega arith) (first_decimal n (omega arith) (omega arith))
 
 short_decimal : (n : ℕ) → 1 ≤ n → n ≤ 8000 → is_short_number (decimal n) ≡ true
 short_decimal n some few =
     let nonempty = decimal_nonempty n (omega arith) in
     let short = length-decimal-le 4 n (omega arith) (omega arith) (omega arith) in
     let all : list_all is_ascii_digit (decimal n) ≡ true = digits_decimal own n (omega arith) in
-    let front = begins_past_zero (decimal n) (first_decimal n (omega arith) (omega arith)) in
+    let front = begins_past 48 (decimal n) (omega arith) (first_decimal n (omega arith) (omega arith)) in
     search (rules, nonempty, short, all, front)
 
 rounds_told : (n : ℕ) → 1 ≤ n → n ≤ 8000 → rounds_of (decimal n) ≡ Some n

@@ -15,11 +15,11 @@ use Rattle.jm_cli.specs.Spelling.{AreNames, Spells}
 use Rattle.jm_cli.proofs.Numbers.{own, digits, some}
 
 -- ---- choices
-chosen : {X : Type 0} (b : Bool) (x y : Option X) (c : X) → (if b then x else y) ≡ Some c → ((b ≡ true) × (x ≡ Some c)) ⊎ ((b ≡ false) × (y ≡ Some c))
+pub chosen : {X : Type 0} (b : Bool) (x y : Option X) (c : X) → (if b then x else y) ≡ Some c → ((b ≡ true) × (x ≡ Some c)) ⊎ ((b ≡ false) × (y ≡ Some c))
 chosen true x y c e = inl (refl, e)
 chosen false x y c e = inr (refl, e)
 
-taken : {X : Type 0} (b : Bool) (x c : X) → (if b then Some x else None) ≡ Some c → (b ≡ true) × (x ≡ c)
+pub taken : {X : Type 0} (b : Bool) (x c : X) → (if b then Some x else None) ≡ Some c → (b ≡ true) × (x ≡ c)
 taken true x c e = (refl, same_Some x c e)
 taken false x c e = absurd (none-some c e)
 
@@ -39,7 +39,7 @@ pub same_bytes : (xs ys : List ℕ) → bytes_eq xs ys ≡ true → xs ≡ ys
 same_bytes xs ys e = (bytes_eq-Decides xs ys).0 e
 
 -- ---- names
-names_spelled : (words : List (List ℕ)) → are_names words ≡ true → AreNames words
+pub names_spelled : (words : List (List ℕ)) → are_names words ≡ true → AreNames words
 names_spelled words e = record { some = search rules; few = search rules; each = search rules }
 
 -- ---- the commands

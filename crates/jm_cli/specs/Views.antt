@@ -1,5 +1,5 @@
 -- What a command that was read holds, in the words of `Words`.
-use Rattle.std.specs.Prelude.{◌≡◌, map, string_bytes, Option, Some, None, Result, Err, MatchResult}
+use Rattle.std.specs.Prelude.{◌≡◌, ◌⊎◌, map, string_bytes, Option, Some, None, Result, MatchResult}
 use Rattle.jm_cli.specs.declared.command.Command.{Command}
 use Rattle.jm_cli.specs.declared.command.Command.TheVariants as read
 use Rattle.jm_cli.specs.declared.command.WordsError.{WordsError}
@@ -15,7 +15,8 @@ command_words (read.Check specs) = Check (map string_bytes specs.items)
 command_words (read.Coenable specs) = Coenable (map string_bytes specs.items)
 command_words (read.Gen n) = Gen n
 
--- words that spell this command, or none, were read
+-- the command that the words spell was read, or out of memory came between, or the words spell none
 abbrev pub Reads : Option CommandWords → Result Command WordsError → Type 0
-Reads None result = result ≡ Err Usage
-Reads (Some c) result = MatchResult result (λ command. command_words command ≡ c) (λ e. e ≡ NoMemory)
+Reads spelled result =
+    MatchResult result (λ command. spelled ≡ Some (command_words command))
+    (λ e. (e ≡ NoMemory) ⊎ ((e ≡ Usage) × (spelled ≡ None)))

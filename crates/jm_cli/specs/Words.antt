@@ -70,3 +70,9 @@ command_of (command ∷ words) =
     else (if bytes_eq command (codes "check") then check_of words
     else (if bytes_eq command (codes "coenable") then coenable_of words
     else (if bytes_eq command (codes "gen") then gen_of words else None))))
+
+-- the command that words around a separator spell
+abbrev pub command_around : List Text → List Text → Option CommandWords
+command_around [] after = None
+command_around (command ∷ before) after =
+    if bytes_eq command (codes "run") then run_around before after else None

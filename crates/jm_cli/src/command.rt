@@ -1,9 +1,16 @@
 //! The commands.
-ghost use Rattle.std.specs.Prelude.{◌≡◌, ◌∷◌, map, string_bytes, Some, None, IfOk, IfNone};
-ghost use Rattle.jm_cli.specs.Words.{command_of, replay_of, run_of, run_around, check_of, coenable_of, gen_of};
+ghost use Rattle.std.specs.Prelude.{codes, ◌≡◌, ◌⊎◌, true, map, string_bytes, position, Some, None, IfOk, IfNone, IsSome};
+ghost use Rattle.std.specs.List.{list_all};
+ghost use Rattle.std.specs.Str.{bytes_eq};
+ghost use Rattle.clap.specs.Walk.{all_of, first_of, rows_of};
+ghost use Rattle.clap.specs.Matches.{found_of};
+ghost use Rattle.jm_cli.specs.Words.{is_name, command_of, command_around};
+ghost use Rattle.jm_cli.specs.Line.{is_whole, found_command, replay_found, check_found, coenable_found, gen_found};
 ghost use Rattle.jm_cli.specs.Views.{command_words, Reads};
 
-use crate::words::{are_names, copies, copy, is_name, rounds, separator};
+use crate::line::{names, parse_line, parse_names, text};
+use crate::words::{copy, is_each_a_name, rounds, separator};
+use clap::ArgMatches;
 use std::alloc::{AllocError, AllocFailed, Global};
 
 /// What the words of a command line ask for. Names of files are as they were given, and none begins with `-`.
@@ -66,94 +73,115 @@ impl<T: Drop> From<AllocFailed<T>> for WordsError {
 /// `coenable` and 1 to 16 names; `gen` and a number from 1 to 8000. A name is a word that doesn't begin with `-`, and a
 /// number has neither a sign nor a leading zero.
 ///
-/// The answer is `Usage` exactly where the words spell no command.
+/// The answer is `Usage` only where the words spell no command, and `NoMemory` where memory is short.
 pub fn read_words(alloc: Global, words: &[String]) -> Result<Command, WordsError>
     ensures command { IfOk result (λ command. command_of (map string_bytes words.now) ≡ Some (command_words command)) }
     ensures usage { result ≡ Err WordsError.Usage → command_of (map string_bytes words.now) ≡ None }
-    ensures refused { IfNone (command_of (map string_bytes words.now)) (result ≡ Err WordsError.Usage) }
-{
-    let Some((command, words)) = words.split_first() else {
-        return Err(WordsError::Usage);
-    };
-    read_command(alloc, command.as_str(), words)
-}
-
-/// The command that its own word and the words behind it spell.
-fn read_command(alloc: Global, command: &str, words: &[String]) -> Result<Command, WordsError>
-    ensures { Reads (command_of (command.now ∷ map string_bytes words.now)) result }
-{
-    match command {
-        "replay" => replay(alloc, words),
-        "run" => run(alloc, words),
-        "check" => check(alloc, words),
-        "coenable" => coenable(alloc, words),
-        "gen" => generate(words),
-        _ => Err(WordsError::Usage),
-    }
-}
-
-fn replay(alloc: Global, words: &[String]) -> Result<Command, WordsError>
-    ensures { Reads (replay_of (map string_bytes words.now)) result }
-{
-    match words {
-        [spec, script] if is_name(spec.as_str()) && is_name(script.as_str()) => {
-            let spec = copy(alloc, spec.as_str())?;
-            let script = copy(alloc, script.as_str())?;
-            Ok(Command::Replay { spec, script })
-        }
-        _ => Err(WordsError::Usage),
-    }
-}
-
-fn run(alloc: Global, words: &[String]) -> Result<Command, WordsError>
-    ensures { Reads (run_of (map string_bytes words.now)) result }
+    ensures refused { IfNone (command_of (map string_bytes words.now)) ((result ≡ Err WordsError.Usage)
+        ⊎ (result ≡ Err WordsError.NoMemory)) }
 {
     match separator(words) {
-        Some(place) => run_around(alloc, &words[..place], &words[place + 1..]),
+        Some(place) => read_around(alloc, &words[..place], &words[place + 1..]),
+        None => read_plain(alloc, words),
+    }
+}
+
+/// The command that words around a separator spell.
+fn read_around(alloc: Global, before: &[String], after: &[String]) -> Result<Command, WordsError>
+    ensures { Reads (command_around (map string_bytes before.now) (map string_bytes after.now)) result }
+{
+    if !is_each_a_name(before) || !is_each_a_name(after) {
+        return Err(WordsError::Usage);
+    }
+    read_run(alloc, before, after)
+}
+
+/// The command that names around a separator spell.
+fn read_run(alloc: Global, before: &[String], after: &[String]) -> Result<Command, WordsError>
+    requires before { list_all is_name (map string_bytes before.now) ≡ true }
+    requires after { list_all is_name (map string_bytes after.now) ≡ true }
+    ensures { Reads (command_around (map string_bytes before.now) (map string_bytes after.now)) result }
+{
+    let line = parse_line(alloc, before)?;
+    match line.subcommand_matches("run") {
+        Some(found) => {
+            let specs = names(alloc, found)?;
+            let scripts = parse_names(alloc, after)?;
+            Ok(Command::Run { specs, scripts })
+        }
         None => Err(WordsError::Usage),
     }
 }
 
-/// The words around the separator.
-fn run_around(alloc: Global, before: &[String], after: &[String]) -> Result<Command, WordsError>
-    ensures { Reads (run_around (map string_bytes before.now) (map string_bytes after.now)) result }
+/// The command that words without a separator spell.
+fn read_plain(alloc: Global, words: &[String]) -> Result<Command, WordsError>
+    requires { position (λ word. bytes_eq (codes "--") (string_bytes word)) words.now ≡ None }
+    ensures { Reads (command_of (map string_bytes words.now)) result }
 {
-    if !are_names(before) || !are_names(after) {
+    if !is_each_a_name(words) {
         return Err(WordsError::Usage);
     }
-    let specs = copies(alloc, before)?;
-    let scripts = copies(alloc, after)?;
-    Ok(Command::Run { specs, scripts })
+    read_names(alloc, words)
 }
 
-fn check(alloc: Global, words: &[String]) -> Result<Command, WordsError>
-    ensures { Reads (check_of (map string_bytes words.now)) result }
+/// The command that names spell.
+fn read_names(alloc: Global, words: &[String]) -> Result<Command, WordsError>
+    requires { list_all is_name (map string_bytes words.now) ≡ true }
+    ensures { Reads (command_of (map string_bytes words.now)) result }
 {
-    if !are_names(words) {
-        return Err(WordsError::Usage);
+    let line = parse_line(alloc, words)?;
+    match line.subcommand() {
+        Some((name, found)) => read_found(alloc, name, found),
+        None => unreachable!(),
     }
-    let specs = copies(alloc, words)?;
+}
+
+/// The command of which clap found the values.
+fn read_found(alloc: Global, name: &str, found: &ArgMatches<'_>) -> Result<Command, WordsError>
+    requires { is_whole name.now (rows_of (found_of found.now)) ≡ true }
+    ensures { Reads (found_command name.now (rows_of (found_of found.now))) result }
+{
+    match name {
+        "replay" => replay(alloc, found),
+        "check" => check(alloc, found),
+        "coenable" => coenable(alloc, found),
+        "gen" => generate(found),
+        _ => Err(WordsError::Usage),
+    }
+}
+
+fn replay(alloc: Global, found: &ArgMatches<'_>) -> Result<Command, WordsError>
+    requires spec { IsSome (first_of (codes "spec") (rows_of (found_of found.now))) }
+    requires script { IsSome (first_of (codes "script") (rows_of (found_of found.now))) }
+    ensures { Reads (replay_found (rows_of (found_of found.now))) result }
+{
+    let spec = copy(alloc, text(found, "spec"))?;
+    let script = copy(alloc, text(found, "script"))?;
+    Ok(Command::Replay { spec, script })
+}
+
+fn check(alloc: Global, found: &ArgMatches<'_>) -> Result<Command, WordsError>
+    requires { IsSome (all_of (codes "names") (rows_of (found_of found.now))) }
+    ensures { Reads (check_found (rows_of (found_of found.now))) result }
+{
+    let specs = names(alloc, found)?;
     Ok(Command::Check { specs })
 }
 
-fn coenable(alloc: Global, words: &[String]) -> Result<Command, WordsError>
-    ensures { Reads (coenable_of (map string_bytes words.now)) result }
+fn coenable(alloc: Global, found: &ArgMatches<'_>) -> Result<Command, WordsError>
+    requires { IsSome (all_of (codes "names") (rows_of (found_of found.now))) }
+    ensures { Reads (coenable_found (rows_of (found_of found.now))) result }
 {
-    if !are_names(words) {
-        return Err(WordsError::Usage);
-    }
-    let specs = copies(alloc, words)?;
+    let specs = names(alloc, found)?;
     Ok(Command::Coenable { specs })
 }
 
-fn generate(words: &[String]) -> Result<Command, WordsError>
-    ensures { Reads (gen_of (map string_bytes words.now)) result }
+fn generate(found: &ArgMatches<'_>) -> Result<Command, WordsError>
+    requires { IsSome (first_of (codes "n") (rows_of (found_of found.now))) }
+    ensures { Reads (gen_found (rows_of (found_of found.now))) result }
 {
-    match words {
-        [word] => match rounds(word.as_str()) {
-            Some(n) => Ok(Command::Gen { n }),
-            None => Err(WordsError::Usage),
-        },
-        _ => Err(WordsError::Usage),
+    match rounds(text(found, "n")) {
+        Some(n) => Ok(Command::Gen { n }),
+        None => Err(WordsError::Usage),
     }
 }

@@ -1,47 +1,29 @@
 //! Names and numbers among the words.
-ghost use Rattle.std.specs.Prelude.{◌&&◌, nat_lt, nat_le, ◌≡◌, ◌<◌, length, map, string_bytes, codes, Some, None, IfOk, IfSome, IsOkUnless, position};
+ghost use Rattle.std.specs.Prelude.{◌≡◌, ◌<◌, length, map, string_bytes, codes, Some, None, IfOk, IfSome, IsOkUnless, position};
 ghost use Rattle.std.specs.Char.{is_ascii_digit};
 ghost use Rattle.std.specs.List.{list_all};
 ghost use Rattle.std.specs.Str.{bytes_eq};
-ghost use Rattle.jm_cli.specs.Words.{is_name, are_names, is_short_number, rounds_of};
+ghost use Rattle.jm_cli.specs.Words.{is_name, is_short_number, rounds_of};
 
 use crate::command::WordsError;
 use std::alloc::Global;
-
-/// The most names of one kind.
-const MAX_NAMES: usize = 16;
 
 /// The most digits of a number, and its greatest value.
 const MAX_DIGITS: usize = 4;
 
 const MAX_ROUNDS: u32 = 8000;
 
-/// Whether a word may name a file.
-pub(crate) fn is_name(word: &str) -> bool
-    ensures { result ≡ is_name word.now }
-{
-    !word.as_bytes().starts_with(b"-")
-}
-
-/// Whether each word is a name.
-fn is_each_a_name(words: &[String]) -> bool
+/// Whether each word may name a file.
+pub(crate) fn is_each_a_name(words: &[String]) -> bool
     ensures { result ≡ list_all (λ word. is_name (string_bytes word)) words.now }
 {
     words.iter().all(|word| is_name(word.as_str()))
 }
 
-/// Whether there is a word, and no more than a command may have.
-fn are_few(words: &[String]) -> bool
-    ensures { result ≡ (nat_lt 0 (length words.now) && nat_le (length words.now) 16) }
+fn is_name(word: &str) -> bool
+    ensures { result ≡ is_name word.now }
 {
-    !words.is_empty() && words.len() <= MAX_NAMES
-}
-
-/// Whether the words are as many names as a command may have.
-pub(crate) fn are_names(words: &[String]) -> bool
-    ensures { result ≡ are_names (map string_bytes words.now) }
-{
-    are_few(words) && is_each_a_name(words)
+    !word.as_bytes().starts_with(b"-")
 }
 
 /// The place of the first separator.
@@ -52,24 +34,12 @@ pub(crate) fn separator(words: &[String]) -> Option<usize>
     words.iter().position(|word| word.as_str() == "--")
 }
 
-/// The same text.
+/// The text, as a string.
 pub(crate) fn copy(alloc: Global, word: &str) -> Result<String, WordsError>
     ensures ok { IfOk result (λ copy. string_bytes copy ≡ word.now) }
     ensures err { IsOkUnless result WordsError.NoMemory }
 {
     Ok(String::from_str(alloc, word)?)
-}
-
-/// The same texts.
-pub(crate) fn copies(alloc: Global, words: &[String]) -> Result<Vec<String>, WordsError>
-    ensures ok { IfOk result (λ copies. map string_bytes copies.items ≡ map string_bytes words.now) }
-    ensures err { IsOkUnless result WordsError.NoMemory }
-{
-    let mut copies = Vec::new(alloc);
-    for word in words {
-        copies.push(copy(alloc, word.as_str())?)?;
-    }
-    Ok(copies)
 }
 
 /// The number of rounds that a word gives.

@@ -1,0 +1,94 @@
+-- What clap is told of the command line, and what its findings are.
+use Rattle.std.specs.Prelude.{◌≡◌, Bool, true, false, ◌&&◌, List, [], ◌∷◌, Option, Some, None, option_map, is_some, codes, if◌then◌else◌}
+use Rattle.std.specs.Option.{option_and_then}
+use Rattle.std.specs.Str.{bytes_eq}
+use Rattle.clap.specs.Walk.{Rule, Row, all_of, first_of}
+use Rattle.clap.specs.Simple.{App, Shape, app_of, new_rule, new_shape}
+use Rattle.clap.specs.declared.builder.command.Command.{Command}
+use Rattle.clap.specs.declared.builder.command.Command.TheViews.{out-Command}
+use Rattle.jm_model.specs.Words.{Text}
+use Rattle.jm_cli.specs.Words.{CommandWords, rounds_of}
+use Rattle.jm_cli.specs.Words.CommandWords.{Replay, Check, Coenable, Gen}
+
+-- one value, which has to be there
+abbrev pub value_rule : Text → Rule
+value_rule id = record (new_rule id) { required = true }
+
+-- 1 to 16 names
+abbrev pub names_rule : Rule
+names_rule = record (value_rule (codes "names")) {
+  range = Some (record { start_inclusive = 1; end_inclusive = 16 });
+}
+
+-- a command of such names, by itself or below another
+abbrev pub names_shape : Text → Shape
+names_shape name = record (new_shape name) {
+  rules = names_rule ∷ [];
+  no_binary_name = true;
+  disable_help_flag = true;
+}
+
+abbrev pub replay_shape : Shape
+replay_shape =
+    record (new_shape (codes "replay")) { rules = value_rule (codes "spec") ∷ value_rule (codes "script") ∷ [] }
+
+abbrev pub gen_shape : Shape
+gen_shape = record (new_shape (codes "gen")) { rules = value_rule (codes "n") ∷ [] }
+
+abbrev pub line_shape : Shape
+line_shape = record (new_shape (codes "jmop")) {
+  is_leaf = false;
+  no_binary_name = true;
+  disable_help_flag = true;
+  disable_help_subcommand = true;
+  subcommand_required = true;
+}
+
+-- the whole command line
+abbrev pub line_app : App
+line_app = record {
+  top = line_shape;
+  subs = replay_shape ∷ names_shape (codes "run") ∷ names_shape (codes "check") ∷ names_shape (codes "coenable")
+      ∷ gen_shape ∷ [];
+}
+
+-- a command without subcommands
+abbrev pub alone : Shape → App
+alone s = record { top = s; subs = [] }
+
+-- the command has this shape and no subcommands
+pub record Makes (s : Shape) (command : Command) : Type 0 where
+  pub app : app_of command ≡ alone s
+  pub local : (out-Command command).has_globals ≡ false
+
+-- ---- what was found
+
+-- the command has a value for each of its arguments
+abbrev pub is_whole : Text → List Row → Bool
+is_whole name rows =
+    if bytes_eq name (codes "replay")
+    then is_some (first_of (codes "spec") rows) && is_some (first_of (codes "script") rows)
+    else (if bytes_eq name (codes "gen") then is_some (first_of (codes "n") rows)
+    else is_some (all_of (codes "names") rows))
+
+abbrev pub replay_found : List Row → Option CommandWords
+replay_found rows =
+    option_and_then (λ spec. option_map (λ script. Replay spec script) (first_of (codes "script") rows))
+    (first_of (codes "spec") rows)
+
+abbrev pub check_found : List Row → Option CommandWords
+check_found rows = option_map (λ specs. Check specs) (all_of (codes "names") rows)
+
+abbrev pub coenable_found : List Row → Option CommandWords
+coenable_found rows = option_map (λ specs. Coenable specs) (all_of (codes "names") rows)
+
+abbrev pub gen_found : List Row → Option CommandWords
+gen_found rows = option_map (λ n. Gen n) (option_and_then rounds_of (first_of (codes "n") rows))
+
+-- the command that was found, where it is one without scripts
+abbrev pub found_command : Text → List Row → Option CommandWords
+found_command name rows =
+    if bytes_eq name (codes "replay") then replay_found rows
+    else (if bytes_eq name (codes "check") then check_found rows
+    else (if bytes_eq name (codes "coenable") then coenable_found rows
+    else (if bytes_eq name (codes "gen") then gen_found rows else None)))
