@@ -15,8 +15,8 @@ import java.util.Map;
 import java.util.Set;
 
 /**
- * Writes what a program does as a script for jmop: a line for each event, in the order in which {@link #event} was called.
- * It needs Java 11 and no library. Give it the package of your program.
+ * Writes what a program does as a script for jmop: a line for each event, in the order in which {@link #event} was
+ * called. It needs Java 11 and no library. Give it the package of your program.
  *
  * <p>An object is named by its class and a number that no other object gets. It is found again by identity, so its
  * {@code equals} and {@code hashCode} are never called, and it isn't kept from being collected.
