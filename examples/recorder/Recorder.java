@@ -24,8 +24,8 @@ import java.util.Set;
  * <p>Call {@link #event} while you hold the lock that guards the object: then the lines stand in the order in which
  * things happened. The recorder has a lock of its own, under which it calls nothing of yours.
  *
- * <p>Close it at the end, by a shutdown hook where the program ends by {@code System.exit}: a script that isn't closed may
- * lack its last lines.
+ * <p>Close it at the end, by a shutdown hook where the program ends by {@code System.exit}: a script that isn't closed
+ * may lack its last lines.
  */
 public final class Recorder implements Closeable {
   /** What jmop takes in one command. */
