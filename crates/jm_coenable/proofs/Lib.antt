@@ -5,3 +5,4 @@ pub mod FillLemmas
 pub mod StartLemmas
 pub mod MadeLemmas
 pub mod RiseLemmas
+pub mod ResetLemmas

@@ -1,21 +1,21 @@
 use Rattle.std.proofs.Common.{ℕ, ◌≡◌, ◌<◌, ◌↔◌, List, [], ◌∷◌, length, Contains, subst, ◌∙◌, arith}
 use Rattle.jm_events.specs.Events.{EventDefinitions}
 use Rattle.jm_goal.specs.Goals.{GoalDefinition}
-use Rattle.jm_table.specs.Tables.{Transitions, IsTable, IsWord, next_of, state_from}
-use Rattle.jm_coenable.specs.Needs.{set_at, IsNeededFrom, IsArrival, AreNeedsOf}
+use Rattle.jm_table.specs.Tables.{Transitions, IsTable, IsWord}
+use Rattle.jm_coenable.specs.Needs.{set_at, step_of, run_from, IsNeededFrom, IsArrival, AreNeedsOf}
 use Rattle.jm_coenable.specs.Searches.{AreDeadSets, IsFamilySet, IsStart}
-use Rattle.jm_coenable.proofs.NeedLemmas.{word_head, word_tail, next_within}
+use Rattle.jm_coenable.proofs.NeedLemmas.{word_head, word_tail, step_within}
 use Rattle.jm_coenable.proofs.StartLemmas.{start_sound, start_complete}
 
-word_within : (t : Transitions) (word : List ℕ) (state : ℕ) → IsTable t → state < t.states → IsWord t word → state_from t state word < t.states
-word_within t [] state table lt word = lt
-word_within t (first ∷ rest) state table lt word =
-    word_within t rest (next_of t state first) table (next_within t state first table lt (word_head t first rest word)) (word_tail t first rest word)
+word_within : (t : Transitions) (g : GoalDefinition) (word : List ℕ) (state : ℕ) → IsTable t → state < t.states → IsWord t word → run_from t g state word < t.states
+word_within t g [] state table lt word = lt
+word_within t g (first ∷ rest) state table lt word =
+    word_within t g rest (step_of t g state first) table (step_within t g state first table lt (word_head t first rest word)) (word_tail t first rest word)
 
 arrival_within : (t : Transitions) (g : GoalDefinition) (state last : ℕ) → IsTable t → IsArrival t g state last → state < t.states
 arrival_within t g state last table a =
     let lt : 0 < t.states = table.some_states in
-    subst (λ (s : ℕ). s < t.states) a.leads (word_within t (a.first ∷ a.rest) 0 table lt a.letters)
+    subst (λ (s : ℕ). s < t.states) a.leads (word_within t g (a.first ∷ a.rest) 0 table lt a.letters)
 
 -- what was made of needed masks and last letters are the needs
 pub needs_made : (t : Transitions) (g : GoalDefinition) (v : EventDefinitions) (arrivals needed alive families : List (List ℕ)) (first start : List ℕ) → IsTable t → length needed ≡ t.states

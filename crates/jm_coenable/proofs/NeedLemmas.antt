@@ -1,5 +1,5 @@
-use Rattle.std.proofs.Common.{ℕ, zero, suc, ◌≡◌, ◌<◌, ◌+◌, ◌*◌, ◌↔◌, inl, inr, Bool, true, List, [], ◌∷◌, length, get_or, Contains, bit_or, refl, sym, ap, subst, ◌∙◌, arith, ◌||◌}
-use Rattle.std.specs.Prelude.{slice_get, option_map, unwrap_or, Some, Option}
+use Rattle.std.proofs.Common.{ℕ, zero, suc, ◌≡◌, ◌<◌, ◌+◌, ◌*◌, ◌↔◌, inl, inr, Bool, true, false, List, [], ◌∷◌, length, get_or, Contains, bit_or, refl, sym, ap, subst, ◌∙◌, arith, ◌||◌}
+use Rattle.std.specs.Prelude.{slice_get, option_map, unwrap_or, Some, Option, if◌then◌else◌}
 use Rattle.std.proofs.lemmas.Nat.{or_lt}
 use Rattle.std.specs.Int.Bits.{or_zero_r}
 use Rattle.std.proofs.lemmas.List.{get_or_default}
@@ -7,7 +7,7 @@ use borrow.Author.Count.{below_more}
 use Rattle.jm_events.specs.Events.{EventDefinitions}
 use Rattle.jm_goal.specs.Goals.{GoalDefinition}
 use Rattle.jm_table.specs.Tables.{Transitions, IsTable, IsWord, next_of}
-use Rattle.jm_coenable.specs.Needs.{params_at, params_of, set_at, IsHandled, IsHitBy, IsNeededFrom}
+use Rattle.jm_coenable.specs.Needs.{params_at, params_of, set_at, is_reset, origin_of, step_of, IsHandled, IsHitBy, IsNeededFrom}
 use Rattle.jm_coenable.proofs.SetLemmas.{part_put, part_then}
 use Rattle.jm_coenable.specs.Rounds.{IsPut, IsPart, AreNeeded, IsClosedBelow, IsClosed}
 
@@ -23,9 +23,19 @@ word_head t first rest word = word 0 0 (omega arith)
 pub word_tail : (t : Transitions) (first : ℕ) (rest : List ℕ) → IsWord t (first ∷ rest) → IsWord t rest
 word_tail t first rest word = λ k d lt. word (suc k) d (omega (arith, lt))
 
-pub next_within : (t : Transitions) (state letter : ℕ) → IsTable t → state < t.states → letter < t.letters → next_of t state letter < t.states
+next_within : (t : Transitions) (state letter : ℕ) → IsTable t → state < t.states → letter < t.letters → next_of t state letter < t.states
 next_within t state letter table lt below =
     table.within (state * t.letters + letter) 0 (grind (arith, table.whole))
+
+origin_within : (t : Transitions) (g : GoalDefinition) (state : ℕ) → IsTable t → state < t.states → origin_of t g state < t.states
+origin_within t g state table lt = by_case (is_reset t g state)
+  where
+    by_case : (b : Bool) → (if b then 0 else state) < t.states
+    by_case true = table.some_states
+    by_case false = lt
+
+pub step_within : (t : Transitions) (g : GoalDefinition) (state letter : ℕ) → IsTable t → state < t.states → letter < t.letters → step_of t g state letter < t.states
+step_within t g state letter table lt below = next_within t (origin_of t g state) letter table (origin_within t g state table lt) below
 
 pub or_none : (n : ℕ) → bit_or n 0 ≡ n
 or_none n = or_zero_r n
@@ -38,10 +48,10 @@ params_few t v few (letter ∷ rest) word =
 -- ---- sound
 
 module _ (t : Transitions) (g : GoalDefinition) (v : EventDefinitions) (state letter : ℕ) where
-  pub needs_one : letter < t.letters → IsHandled t g (next_of t state letter) → IsNeededFrom t g v state (params_at v letter)
+  pub needs_one : letter < t.letters → IsHandled t g (step_of t g state letter) → IsNeededFrom t g v state (params_at v letter)
   needs_one lt hit = (letter, [], record { letters = word_cons t letter [] lt (λ k d h. absurd (omega (arith, h))); hit = hit; params = sym (or_none (params_at v letter)) })
 
-  pub needs_more : (mask : ℕ) → letter < t.letters → IsNeededFrom t g v (next_of t state letter) mask → IsNeededFrom t g v state (bit_or (params_at v letter) mask)
+  pub needs_more : (mask : ℕ) → letter < t.letters → IsNeededFrom t g v (step_of t g state letter) mask → IsNeededFrom t g v state (bit_or (params_at v letter) mask)
   needs_more mask lt need =
       let h = need.2 in
       (letter, need.0 ∷ need.1, record { letters = word_cons t letter (need.0 ∷ need.1) lt h.letters; hit = h.hit; params = ap (λ (m : ℕ). bit_or (params_at v letter) m) h.params })
@@ -56,7 +66,7 @@ needs_put t g v a b wanted place member changed put need sound state mask lt h =
 
 -- ---- the part of a round for a letter
 
-module _ (t : Transitions) (g : GoalDefinition) (v : EventDefinitions) (state letter next params : ℕ) (below : letter < t.letters) (leads : next ≡ next_of t state letter)
+module _ (t : Transitions) (g : GoalDefinition) (v : EventDefinitions) (state letter next params : ℕ) (below : letter < t.letters) (leads : next ≡ step_of t g state letter)
     (bound : option_map (λ e. e.mask) (slice_get v.events letter) ≡ Some params) where
   params_is : params_at v letter ≡ params
   params_is = ap (λ (o : Option ℕ). unwrap_or o 0) bound
@@ -79,20 +89,20 @@ module _ (t : Transitions) (g : GoalDefinition) (v : EventDefinitions) (state le
   follow_more a b c found number wanted changed more within count is tells part put =
       let at : found ≡ get_or b next [] = is ∙ get_or_default b next found [] (omega (arith, within, count)) in
       let Here : List (List ℕ) → Type 0 =
-      λ sets. Contains (set_at sets (next_of t state letter)) number → Contains (set_at sets state) (bit_or (params_at v letter) number) in
+      λ sets. Contains (set_at sets (step_of t g state letter)) number → Contains (set_at sets state) (bit_or (params_at v letter) number) in
       part_then (AreNeeded t g v) (IsClosedBelow t g v state letter number) Here (IsClosedBelow t g v state letter (number + 1)) a b c changed more part
       (part_put (AreNeeded t g v) Here b c wanted state (bit_or params number) more put
       (needs_put t g v b c wanted state (bit_or params number) more put (λ sound is_wanted.
       subst (λ (m : ℕ). IsNeededFrom t g v state (bit_or m number)) params_is (needs_more t g v state letter number below
       (subst (λ (s : ℕ). IsNeededFrom t g v s number) leads (sound next number within (subst (λ (s : List ℕ). Contains s number) at (tells.0 is_wanted)))))))
       (λ same there.
-      let before : Contains (set_at b (next_of t state letter)) number = subst (λ (s : List (List ℕ)). Contains (set_at s (next_of t state letter)) number) same there in
+      let before : Contains (set_at b (step_of t g state letter)) number = subst (λ (s : List (List ℕ)). Contains (set_at s (step_of t g state letter)) number) same there in
       let held : Contains found number = subst (λ (s : List ℕ). Contains s number) (sym at) (subst (λ (s : ℕ). Contains (set_at b s) number) (sym leads) before) in
       subst (λ (m : ℕ). Contains (set_at c state) (bit_or m number)) (sym params_is) (put.here (tells.1 held))))
       (λ closed here. record {
         few = closed.few;
         hit = closed.hit;
-        more = below_more (λ (mask : ℕ). Contains (set_at c (next_of t state letter)) mask → Contains (set_at c state) (bit_or (params_at v letter) mask)) number closed.more here;
+        more = below_more (λ (mask : ℕ). Contains (set_at c (step_of t g state letter)) mask → Contains (set_at c state) (bit_or (params_at v letter) mask)) number closed.more here;
       })
 
 -- ---- complete
@@ -108,6 +118,6 @@ needs_all t g v sets table closed (second ∷ rest) state first mask lt h =
     let word = word_tail t first (second ∷ rest) h.letters in
     let here = closed state lt first below in
     let few : (letter : ℕ) → letter < t.letters → params_at v letter < 256 = λ letter l. (closed state lt letter l).few in
-    let there = needs_all t g v sets table closed rest (next_of t state first) second (params_of v (second ∷ rest)) (next_within t state first table lt below)
+    let there = needs_all t g v sets table closed rest (step_of t g state first) second (params_of v (second ∷ rest)) (step_within t g state first table lt below)
     (record { letters = word; hit = h.hit; params = refl }) in
     subst (λ (m : ℕ). Contains (set_at sets state) m) (sym h.params) (here.more (params_of v (second ∷ rest)) (params_few t v few (second ∷ rest) word) there)

@@ -3,10 +3,10 @@ use Rattle.std.proofs.Common.{ℕ, ◌≡◌, ◌<◌, ◌+◌, ◌↔◌, ◌�
 use Rattle.std.proofs.lemmas.Bool.Decides.{eqb_tells}
 use Rattle.jm_events.specs.Events.{EventDefinitions}
 use Rattle.jm_goal.specs.Goals.{GoalDefinition}
-use Rattle.jm_table.specs.Tables.{Transitions, IsTable, next_of}
-use Rattle.jm_coenable.specs.Needs.{params_at, params_of, set_at, IsHandled, IsFirst, IsHitBy, IsNeededFrom, IsNeededAtStart}
+use Rattle.jm_table.specs.Tables.{Transitions, IsTable}
+use Rattle.jm_coenable.specs.Needs.{params_at, params_of, set_at, step_of, IsHandled, IsFirst, IsHitBy, IsNeededFrom, IsNeededAtStart}
 use Rattle.jm_coenable.specs.Searches.{IsJoined, IsStep, IsStart}
-use Rattle.jm_coenable.proofs.NeedLemmas.{next_within, word_cons, word_head, word_tail, or_none}
+use Rattle.jm_coenable.proofs.NeedLemmas.{step_within, word_cons, word_head, word_tail, or_none}
 
 -- the masks that are joined with those below a number, with the next number asked
 pub joined_more : (params : ℕ) (rests begin before after : List ℕ) (number : ℕ) (wanted : Bool)
@@ -29,12 +29,12 @@ joined_more params rests begin before after number wanted so_far tells step m = 
 
 -- what a letter needs at the start was put
 pub step_is : (t : Transitions) (g : GoalDefinition) (v : EventDefinitions) (needed : List (List ℕ)) (letter next params : ℕ) (found old middle new : List ℕ) (hit : Bool)
-    → next ≡ next_of t 0 letter → option_map (λ e. e.mask) (slice_get v.events letter) ≡ Some params → found ≡ set_at needed next → (hit ≡ true ↔ IsHandled t g next)
+    → next ≡ step_of t g 0 letter → option_map (λ e. e.mask) (slice_get v.events letter) ≡ Some params → found ≡ set_at needed next → (hit ≡ true ↔ IsHandled t g next)
     → ((m : ℕ) → Contains middle m ↔ (Contains old m ⊎ ((hit ≡ true) × (m ≡ params)))) → ((m : ℕ) → Contains new m ↔ (Contains middle m ⊎ IsJoined params found m))
     → (m : ℕ) → Contains new m ↔ (Contains old m ⊎ IsStep t g v needed letter m)
 step_is t g v needed letter next params found old middle new hit leads bound is tells one more m =
     let params_is : params_at v letter ≡ params = ap (λ (o : Option ℕ). unwrap_or o 0) bound in
-    let at : found ≡ set_at needed (next_of t 0 letter) = is ∙ ap (λ (k : ℕ). set_at needed k) leads in (
+    let at : found ≡ set_at needed (step_of t g 0 letter) = is ∙ ap (λ (k : ℕ). set_at needed k) leads in (
       λ h. elim ((more m).0 h) [
         | inl kept ↦ elim ((one m).0 kept) [
           | inl before ↦ inl before
@@ -69,8 +69,8 @@ start_more First Step before after letter so_far step m = (
 -- what the letters need at the start is what is needed there
 module _ (t : Transitions) (g : GoalDefinition) (v : EventDefinitions) (needed : List (List ℕ)) (table : IsTable t)
     (needs : (state mask : ℕ) → state < t.states → Contains (set_at needed state) mask ↔ IsNeededFrom t g v state mask) where
-  within : (letter : ℕ) → letter < t.letters → next_of t 0 letter < t.states
-  within letter lt = next_within t 0 letter table table.some_states lt
+  within : (letter : ℕ) → letter < t.letters → step_of t g 0 letter < t.states
+  within letter lt = step_within t g 0 letter table table.some_states lt
 
   pub start_sound : (mask : ℕ) → IsStart t g v needed t.letters mask → IsNeededAtStart t g v mask
   start_sound mask s =
@@ -79,7 +79,7 @@ module _ (t : Transitions) (g : GoalDefinition) (v : EventDefinitions) (needed :
         | inl last ↦
             (letter, [], s.2, record { letters = word_cons t letter [] s.1 (λ k d h. absurd (omega (arith, h))); hit = last.0; params = last.1 ∙ sym (or_none (params_at v letter)) })
         | inr j ↦
-            let need = (needs (next_of t 0 letter) j.0 (within letter s.1)).0 j.1 in (
+            let need = (needs (step_of t g 0 letter) j.0 (within letter s.1)).0 j.1 in (
               letter,
               need.0 ∷ need.1,
               s.2,
@@ -96,6 +96,6 @@ module _ (t : Transitions) (g : GoalDefinition) (v : EventDefinitions) (needed :
       (first, word_head t first [] h.letters, begins, inl (h.hit, h.params ∙ or_none (params_at v first)))
   start_complete (second ∷ rest) mask first begins h =
       let lt = word_head t first (second ∷ rest) h.letters in
-      let there = (needs (next_of t 0 first) (params_of v (second ∷ rest)) (within first lt)).1
+      let there = (needs (step_of t g 0 first) (params_of v (second ∷ rest)) (within first lt)).1
       (second, rest, record { letters = word_tail t first (second ∷ rest) h.letters; hit = h.hit; params = refl }) in
       (first, lt, begins, inr (params_of v (second ∷ rest), there, h.params))

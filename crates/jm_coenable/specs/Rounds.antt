@@ -2,8 +2,8 @@
 use Rattle.std.specs.Prelude.{ℕ, ◌≡◌, ◌<◌, ◌≤◌, ◌-◌, ◌⊎◌, Bool, true, false, List, Contains, length, sum_by, bit_or}
 use Rattle.jm_events.specs.Events.{EventDefinitions}
 use Rattle.jm_goal.specs.Goals.{GoalDefinition}
-use Rattle.jm_table.specs.Tables.{Transitions, next_of}
-use Rattle.jm_coenable.specs.Needs.{params_at, set_at, IsHandled, IsFirst, IsNeededFrom, IsArrival}
+use Rattle.jm_table.specs.Tables.{Transitions}
+use Rattle.jm_coenable.specs.Needs.{params_at, set_at, step_of, IsHandled, IsFirst, IsNeededFrom, IsArrival}
 
 -- how many numbers below 256 the sets don't have
 abbrev pub room_of : List (List ℕ) → ℕ
@@ -39,8 +39,8 @@ AreNeeded t g v sets =
 pub record IsClosedBelow (t : Transitions) (g : GoalDefinition) (v : EventDefinitions) (state letter below : ℕ)
     (sets : List (List ℕ)) : Type 0 where
   pub few : params_at v letter < 256
-  pub hit : IsHandled t g (next_of t state letter) → Contains (set_at sets state) (params_at v letter)
-  pub more : (mask : ℕ) → mask < below → Contains (set_at sets (next_of t state letter)) mask
+  pub hit : IsHandled t g (step_of t g state letter) → Contains (set_at sets state) (params_at v letter)
+  pub more : (mask : ℕ) → mask < below → Contains (set_at sets (step_of t g state letter)) mask
       → Contains (set_at sets state) (bit_or (params_at v letter) mask)
 
 abbrev pub IsClosedAt : Transitions → GoalDefinition → EventDefinitions → ℕ → ℕ → List (List ℕ) → Type 0
@@ -61,9 +61,9 @@ AreArrivals t g sets =
 -- the letter is in the set of the state that it leads to, so far as last letters below this number go
 pub record IsSpreadBelow (t : Transitions) (g : GoalDefinition) (state letter below : ℕ)
     (sets : List (List ℕ)) : Type 0 where
-  pub first : state ≡ 0 → IsFirst g letter → Contains (set_at sets (next_of t state letter)) letter
+  pub first : state ≡ 0 → IsFirst g letter → Contains (set_at sets (step_of t g state letter)) letter
   pub more : (last : ℕ) → last < below → Contains (set_at sets state) last
-      → Contains (set_at sets (next_of t state letter)) letter
+      → Contains (set_at sets (step_of t g state letter)) letter
 
 abbrev pub IsSpreadAt : Transitions → GoalDefinition → ℕ → ℕ → List (List ℕ) → Type 0
 IsSpreadAt t g state letter sets = IsSpreadBelow t g state letter t.letters sets

@@ -2,8 +2,8 @@
 use Rattle.std.specs.Prelude.{ℕ, ◌≡◌, ◌<◌, ◌↔◌, ◌⊎◌, List, Contains, length, bit_or}
 use Rattle.jm_events.specs.Events.{EventDefinitions}
 use Rattle.jm_goal.specs.Goals.{GoalDefinition}
-use Rattle.jm_table.specs.Tables.{Transitions, next_of}
-use Rattle.jm_coenable.specs.Needs.{params_at, set_at, IsHandled, IsFirst, IsAlive}
+use Rattle.jm_table.specs.Tables.{Transitions}
+use Rattle.jm_coenable.specs.Needs.{params_at, set_at, step_of, IsHandled, IsFirst, IsAlive}
 
 -- some state has this last letter, and needs this mask
 abbrev pub IsTold : List (List ℕ) → List (List ℕ) → ℕ → ℕ → Type 0
@@ -26,8 +26,8 @@ IsJoined params rests mask = (rest : ℕ) × Contains rests rest × (mask ≡ bi
 -- the mask is needed of this letter at the start: it leads to a handled state, or more is needed from where it leads
 abbrev pub IsStep : Transitions → GoalDefinition → EventDefinitions → List (List ℕ) → ℕ → ℕ → Type 0
 IsStep t g v needed letter mask =
-    (IsHandled t g (next_of t 0 letter) × (mask ≡ params_at v letter))
-    ⊎ IsJoined (params_at v letter) (set_at needed (next_of t 0 letter)) mask
+    (IsHandled t g (step_of t g 0 letter) × (mask ≡ params_at v letter))
+    ⊎ IsJoined (params_at v letter) (set_at needed (step_of t g 0 letter)) mask
 
 -- the mask is needed of one of so many letters, with which a word may begin
 abbrev pub IsStart : Transitions → GoalDefinition → EventDefinitions → List (List ℕ) → ℕ → ℕ → Type 0

@@ -1,9 +1,9 @@
-ghost use Rattle.std.specs.Prelude.{ℕ, ◌≡◌, ◌<◌, ◌↔◌, true, Contains, IfOk, length};
+ghost use Rattle.std.specs.Prelude.{ℕ, ◌≡◌, ◌<◌, ◌↔◌, true, All, Contains, IfOk, length};
 ghost use Rattle.jm_coenable.specs.Needs.{IsArrival, IsFirst, set_at};
 ghost use Rattle.jm_coenable.specs.Rounds.{IsPart, AreArrivals, IsSpreadAt, IsSpreadState, IsSpread};
 
 use crate::mask_set::MaskSet;
-use crate::property::is_first;
+use crate::property::{is_first, step};
 use crate::sets::{empty_sets, put};
 use jm_goal::Goal;
 use jm_model::{Letter, NoMemory};
@@ -18,6 +18,7 @@ pub(crate) fn last_letters(
     table: &Table,
     goal: &Goal,
 ) -> Result<Vec<MaskSet>, NoMemory>
+    requires groups { All (λ group. group < length table.now.groups) goal.now.groups }
     ensures count { IfOk result (λ sets. length sets.items ≡ table.now.states) }
     ensures exact { IfOk result (λ sets. (state last : ℕ) → state < table.now.states →
         Contains (set_at sets.items state) last ↔ IsArrival table.now goal.now state last) }
@@ -29,7 +30,8 @@ pub(crate) fn last_letters(
 
 /// One round over the states. Whether it changed a set.
 fn go_on(table: &Table, goal: &Goal, arrivals: &mut Vec<MaskSet>) -> bool
-    requires { length arrivals.old.items ≡ table.now.states }
+    requires groups { All (λ group. group < length table.now.groups) goal.now.groups }
+    requires count { length arrivals.old.items ≡ table.now.states }
     ensures { IsPart (AreArrivals table.now goal.now)
         (IsSpread table.now goal.now) arrivals.old.items arrivals.new.items result }
 {
@@ -43,6 +45,7 @@ fn go_on(table: &Table, goal: &Goal, arrivals: &mut Vec<MaskSet>) -> bool
 
 /// The part of a round for a state.
 fn spread(table: &Table, goal: &Goal, arrivals: &mut Vec<MaskSet>, state: u16) -> bool
+    requires groups { All (λ group. group < length table.now.groups) goal.now.groups }
     requires count { length arrivals.old.items ≡ table.now.states }
     requires state { state < table.now.states }
     ensures { IsPart (AreArrivals table.now goal.now)
@@ -64,13 +67,14 @@ fn arrive(
     state: u16,
     letter: Letter,
 ) -> bool
+    requires groups { All (λ group. group < length table.now.groups) goal.now.groups }
     requires count { length arrivals.old.items ≡ table.now.states }
     requires state { state < table.now.states }
     requires letter { letter.0 < table.now.letters }
     ensures { IsPart (AreArrivals table.now goal.now)
         (IsSpreadAt table.now goal.now state letter.0) arrivals.old.items arrivals.new.items result }
 {
-    let next = table.next(state, letter);
+    let next = step(table, goal, state, letter);
     let letters = table.letters();
     let first = begins(goal, state, letter);
     let mut changed = put(arrivals, first, next, letter.0);

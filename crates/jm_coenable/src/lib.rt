@@ -14,3 +14,4 @@ mod sets;
 mod start;
 
 pub use needs::Needs;
+pub use property::step;

@@ -3,7 +3,7 @@ ghost use Rattle.jm_coenable.specs.Needs.{AreFit, IsNeededFrom, set_at};
 ghost use Rattle.jm_coenable.specs.Rounds.{IsPart, AreNeeded, IsClosedAt, IsClosedState, IsClosed};
 
 use crate::mask_set::MaskSet;
-use crate::property::is_handled;
+use crate::property::{is_handled, step};
 use crate::sets::{empty_sets, put};
 use jm_events::EventTable;
 use jm_goal::Goal;
@@ -85,7 +85,7 @@ fn follow(
     ensures { IsPart (AreNeeded table.now goal.now events.now)
         (IsClosedAt table.now goal.now events.now state letter.0) needed.old.items needed.new.items result }
 {
-    let next = table.next(state, letter);
+    let next = step(table, goal, state, letter);
     let params = events.mask(letter);
     let hit = is_handled(table, goal, next);
     let mut changed = put(needed, hit, state, params);

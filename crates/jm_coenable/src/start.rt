@@ -3,7 +3,7 @@ ghost use Rattle.jm_coenable.specs.Needs.{AreFit, IsFirst};
 ghost use Rattle.jm_coenable.specs.Searches.{IsStart, IsStep};
 
 use crate::mask_set::MaskSet;
-use crate::property::{is_first, is_handled};
+use crate::property::{is_first, is_handled, step};
 use jm_events::EventTable;
 use jm_goal::Goal;
 use jm_model::Letter;
@@ -72,7 +72,7 @@ fn add_step(
         ⊎ IsStep table.now goal.now events.now needed.now letter.0 mask) }
 {
     let first = table.start();
-    let next = table.next(first, letter);
+    let next = step(table, goal, first, letter);
     let params = events.mask(letter);
     let hit = is_handled(table, goal, next);
     start.insert_if(hit, params);

@@ -1,8 +1,9 @@
 use Rattle.std.specs.Prelude.{ℕ, List}
 
--- a goal: the group of each handler, the creation letters as a mask, and the parameters that a reported instance has to
--- bind, as a mask
+-- a goal: the group of each handler, the creation letters as a mask, the parameters that a reported instance has to
+-- bind, as a mask, and the handlers that reset their property, as a mask
 pub record GoalDefinition : Type 0 where
   pub groups : List ℕ
   pub creation : ℕ
   pub must_bind : ℕ
+  pub resets : ℕ

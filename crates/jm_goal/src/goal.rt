@@ -1,15 +1,17 @@
-ghost use Rattle.std.specs.Prelude.{◌≡◌, ◌<◌, ◌≤◌, Some, length, slice_get, vec_len};
+ghost use Rattle.std.specs.Prelude.{◌≡◌, ◌<◌, ◌≤◌, ◌^◌, ◌⊎◌, Some, length, slice_get, vec_len};
 
 use std::marker::Model;
 
 /// The handlers of a specification, at most 16, each with the group of the states that it is for; the creation letters,
-/// of which bit k stands for letter k; and the parameters that a reported instance has to bind, of which bit p stands
-/// for parameter p. Contracts see it as its `GoalDefinition`.
+/// of which bit k stands for letter k; the parameters that a reported instance has to bind, of which bit p stands for
+/// parameter p; and the handlers that reset their property, of which bit k stands for handler k. Contracts see it as its
+/// `GoalDefinition`.
 #[derive(Drop)]
 pub struct Goal {
     groups: Vec<u16>,
     creation: u32,
     must_bind: u8,
+    resets: u16,
 }
 
 impl Model for Goal {
@@ -18,21 +20,35 @@ impl Model for Goal {
 
     ghost Value = { GoalDefinition };
 
-    ghost view = { λ g. record { groups = g.groups.items; creation = g.creation; must_bind = g.must_bind } };
+    ghost view = { λ g. record {
+      groups = g.groups.items;
+      creation = g.creation;
+      must_bind = g.must_bind;
+      resets = g.resets;
+    } };
 
     ghost invariant = { λ g. length g.groups.items ≤ 16 };
 }
 
 impl Goal {
-    /// The goal of these handlers: handler k has group `groups[k]`.
-    pub fn new(groups: Vec<u16>, creation: u32, must_bind: u8) -> Goal
-        requires { vec_len groups ≤ 16 }
-        ensures { result ≡ record { groups = groups.items; creation = creation; must_bind = must_bind } }
+    /// The goal of these handlers: handler k has group `groups[k]`, and resets its property where bit k of `resets` is set.
+    /// None does where a reported instance has to bind something.
+    pub fn new(groups: Vec<u16>, creation: u32, must_bind: u8, resets: u16) -> Goal
+        requires few { vec_len groups ≤ 16 }
+        requires there { resets < 2 ^ vec_len groups }
+        requires apart { (resets ≡ 0) ⊎ (must_bind ≡ 0) }
+        ensures { result ≡ record {
+          groups = groups.items;
+          creation = creation;
+          must_bind = must_bind;
+          resets = resets;
+        } }
     {
         Goal {
             groups,
             creation,
             must_bind,
+            resets,
         }
     }
 
@@ -64,5 +80,12 @@ impl Goal {
         ensures { result ≡ self.now.must_bind }
     {
         self.must_bind
+    }
+
+    /// The handlers that reset their property: bit k stands for handler k.
+    pub fn resets(&self) -> u16
+        ensures { result ≡ self.now.resets }
+    {
+        self.resets
     }
 }

@@ -5,14 +5,14 @@ use Rattle.jm_coenable.proofs.needed.follow.Goals as goal
 
 pub loop-number-init : goal.loop-number-init
 loop-number-init c =
-    follow_begins c.args.table.now c.args.goal.now c.args.events.now c.args.state c.args.letter.0 c.next-next.result c.mask-params.result c.requires.letter c.next-next.ensures.value
+    follow_begins c.args.table.now c.args.goal.now c.args.events.now c.args.state c.args.letter.0 c.step-next.result c.mask-params.result c.requires.letter c.step-next.ensures.value
     c.mask-params.ensures.value c.args.needed.now.items c.put-changed.new.sets.items c.is_handled-hit.result c.put-changed.result c.mask-params.type_inv c.is_handled-hit.ensures c.put-changed.ensures
 
 pub loop-number-preserved : goal.loop-number-preserved
 loop-number-preserved c =
-    follow_more c.args.table.now c.args.goal.now c.args.events.now c.args.state c.args.letter.0 c.next-next.result c.mask-params.result c.requires.letter c.next-next.ensures.value
+    follow_more c.args.table.now c.args.goal.now c.args.events.now c.args.state c.args.letter.0 c.step-next.result c.mask-params.result c.requires.letter c.step-next.ensures.value
     c.mask-params.ensures.value c.args.needed.now.items c.loop-number.needed.items c.put-more.new.sets.items c.index.result.now c.loop-number.number c.contains-wanted.result
-    c.loop-number.changed c.put-more.result c.next-next.ensures.within (c.loop-number.invariant.count ∙ c.requires.count) c.index.ensures c.contains-wanted.ensures.member
+    c.loop-number.changed c.put-more.result c.step-next.ensures.within (c.loop-number.invariant.count ∙ c.requires.count) c.index.ensures c.contains-wanted.ensures.member
     c.loop-number.invariant c.put-more.ensures
 
 pub returns : goal.returns
