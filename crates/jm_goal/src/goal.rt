@@ -4,8 +4,8 @@ use std::marker::Model;
 
 /// The handlers of a specification, at most 16, each with the group of the states that it is for; the creation letters,
 /// of which bit k stands for letter k; the parameters that a reported instance has to bind, of which bit p stands for
-/// parameter p; and the handlers that reset their property, of which bit k stands for handler k. Contracts see it as its
-/// `GoalDefinition`.
+/// parameter p; and the handlers that reset their property, of which bit k stands for handler k. Contracts see it as
+/// its `GoalDefinition`.
 #[derive(Drop)]
 pub struct Goal {
     groups: Vec<u16>,
@@ -31,8 +31,8 @@ impl Model for Goal {
 }
 
 impl Goal {
-    /// The goal of these handlers: handler k has group `groups[k]`, and resets its property where bit k of `resets` is set.
-    /// None does where a reported instance has to bind something.
+    /// The goal of these handlers: handler k has group `groups[k]`, and resets its property where bit k of `resets` is
+    /// set. None does where a reported instance has to bind something.
     pub fn new(groups: Vec<u16>, creation: u32, must_bind: u8, resets: u16) -> Goal
         requires few { vec_len groups ≤ 16 }
         requires there { resets < 2 ^ vec_len groups }

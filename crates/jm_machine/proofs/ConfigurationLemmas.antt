@@ -25,12 +25,21 @@ word_within t state (e ∷ w) table a word =
 pub state_within : (t : Transitions) (w : List ℕ) → IsTable t → IsWord t w → state_after_of t w < t.states
 state_within t w table word = word_within t 0 w table table.some_states word
 
+-- a word with a letter more, where the letter leads on from the state of the word
+pub push_word : (t : Transitions) (state next e : ℕ) (w : List ℕ) → e < t.letters → next ≡ next_of t state e → IsWord t w × (state ≡ state_after_of t w) → IsWord t (w ++ e ∷ []) × (next ≡ state_after_of t (w ++ e ∷ []))
+push_word t state next e w letter step place =
+    (All-push (λ x. x < t.letters) w e place.0 letter, step ∙ ap (λ n. next_of t n e) place.1 ∙ sym (fold_push (next_of t) 0 w e))
+
+-- the empty word is one of each table
+pub no_letters : (t : Transitions) → IsWord t []
+no_letters t = λ k d less. absurd (omega (arith, less))
+
 -- a letter more leads to the next state
 pub state_next : (t : Transitions) (state next e : ℕ) (w : List ℕ) → IsTable t → e < t.letters → (state < t.states → next ≡ next_of t state e) → IsWord t w × (state ≡ state_after_of t w)
     → IsWord t (w ++ e ∷ []) × (next ≡ state_after_of t (w ++ e ∷ []))
 state_next t state next e w table letter step place =
     let within : state < t.states = subst (λ n. n < t.states) (sym place.1) (state_within t w table place.0) in
-    (All-push (λ x. x < t.letters) w e place.0 letter, step within ∙ ap (λ n. next_of t n e) place.1 ∙ sym (fold_push (next_of t) 0 w e))
+    push_word t state next e w letter (step within) place
 
 -- the groups of a state are those after its words
 pub group_after : (t : Transitions) (state group : ℕ) (w : List ℕ) (P : Type 0) → IsTable t → (state < t.states → P ↔ IsInGroup t state group) → IsWord t w × (state ≡ state_after_of t w) → P ↔ IsInGroup t (state_after_of t w) group

@@ -1,29 +1,34 @@
 -- When an instance of the rules of a table is cut.
 use Rattle.std.proofs.Common.{◌≡◌, ◌≢◌, ℕ, ◌<◌, ◌⊎◌, Bool, true, false, not, List, [], ◌∷◌, ◌++◌, Option, Some, None, map, bit_and, bit_or, refl, sym, ◌∙◌, ap, subst, arith}
-use Rattle.std.specs.Prelude.{All, Contains, ◌↔◌, IsTrue, IsSomeAnd, slice_get, unwrap_or, MatchBool}
+use Rattle.std.specs.Prelude.{All, Contains, ◌↔◌, IsTrue, IsBitSet, IsSomeAnd, slice_get, unwrap_or, MatchBool, if◌then◌else◌}
 use Rattle.std.specs.List.{AllByRecursion}
 use Rattle.std.proofs.lemmas.Bool.{false≢true}
 use Rattle.std.proofs.lemmas.Option.{slice_get-map}
-use Rattle.std.proofs.lemmas.List.Elements.{All-head, All-tail, All-cons, All-append}
-use Rattle.std.proofs.lemmas.List.Sums.{fold-append}
+use Rattle.std.proofs.lemmas.List.Elements.{All-head, All-tail, All-cons}
+use Rattle.std.proofs.lemmas.List.{append-nil, append_assoc}
 use Rattle.jm_model.specs.Meanings.{Meaning, IsAvailable, IsCreated, IsHit, CanHit, IsCutWord}
 use Rattle.jm_semantics.specs.Families.{params_of, IsNeeded}
 use Rattle.jm_events.specs.Names.{number_of}
 use Rattle.jm_events.specs.Events.{EventDefinition, EventDefinitions}
 use Rattle.jm_goal.specs.Goals.{GoalDefinition}
-use Rattle.jm_table.specs.Tables.{Transitions, next_of, state_from, state_after_of, IsWord, IsInGroup}
+use Rattle.jm_table.specs.Tables.{Transitions, next_of, state_after_of, IsWord, IsInGroup}
 use Rattle.jm_coenable.specs.Needs as needs
+use Rattle.jm_coenable.specs.Needs.{is_reset, step_of, run_from}
+use Rattle.jm_coenable.proofs.ResetLemmas.{IsResettingAt, reset_tells}
 use Rattle.jm_machine.specs.declared.engine.Engine.TheVariants.{States}
 use Rattle.jm_machine.specs.declared.configuration.Configuration.{Configuration}
 use Rattle.jm_machine.specs.declared.configuration.Configuration.TheVariants.{Start, Barren, State, Parse}
 use Rattle.jm_machine.specs.Formulas.{category_names}
 use Rattle.jm_machine.specs.Engines.{EngineHolds}
-use Rattle.jm_machine.specs.Meanings.{RuleDefinition, rules_meaning, is_failing_grammar}
+use Rattle.jm_machine.specs.Meanings.{RuleDefinition, Resets, rules_meaning, is_failing_grammar}
 use Rattle.jm_machine.specs.RuleSets.{CompiledRules, IsRuleSet, IsHandledBy, may_begin}
-use Rattle.jm_machine.specs.Configurations.{IsConfigurationOf, IsBegun}
+use Rattle.jm_machine.specs.Configurations.{IsConfigurationOf, IsBegun, Stands}
 use Rattle.jm_machine.specs.Outlooks.{CanHitFrom}
 use Rattle.jm_machine.proofs.OptionLemmas.{looked_up}
-use Rattle.jm_machine.proofs.RuleLemmas.{hit_handled, created_later}
+use Rattle.jm_machine.proofs.GoalLemmas.{one_is_set}
+use Rattle.jm_machine.proofs.ConfigurationLemmas.{push_word, no_letters}
+use Rattle.jm_machine.proofs.RestLemmas.{asked_some, asked_anew, asked_on, asked_first}
+use Rattle.jm_machine.proofs.RuleLemmas.{handled_told, hit_handled, created_later}
 use Rattle.jm_machine.proofs.NeedLemmas.{can_hit_needed}
 
 -- ---- lists by recursion and by places
@@ -60,11 +65,16 @@ cut_words d w dead other = (
 pub barren_never : (d : RuleDefinition) (w : List ℕ) (mask : ℕ) → w ≢ [] → (IsCreated (rules_meaning d) w → ⊥) → IsNeeded (rules_meaning d) w mask → ⊥
 barren_never d w mask some never need = never ((created_later (rules_meaning d) w (need.next ∷ need.rest) some).1 need.hit.1)
 
+pub barren_quiet : (d : RuleDefinition) (w : List ℕ) (dead : ℕ) → w ≢ [] → (IsCreated (rules_meaning d) w → ⊥) → CanHit (rules_meaning d) w dead 0 → ⊥
+barren_quiet d w dead some never can =
+    let need = (can_hit_needed (rules_meaning d) dead w 0 (λ k. refl)).0 can in
+    barren_never d w need.0 some never need.1
+
 -- ---- the words of a table
 
 module _ (d : RuleDefinition) (t : Transitions) (goal : GoalDefinition) (v : EventDefinitions) (set : IsRuleSet (record { definition = d; engine = States t }))
     (masks : d.masks ≡ map (λ (e : EventDefinition). e.mask) v.events) (found : map {A = ℕ} {B = Option ℕ} Some goal.groups ≡ map (number_of (category_names d.formula)) d.handlers)
-    (firsts : (e : ℕ) → may_begin goal e ↔ ((d.creation ≡ []) ⊎ Contains d.creation e)) where
+    (firsts : (e : ℕ) → may_begin goal e ↔ ((d.creation ≡ []) ⊎ Contains d.creation e)) (marks : (k : ℕ) → IsBitSet goal.resets k ↔ Contains d.resets k) where
   abbrev rules : CompiledRules
   rules = record { definition = d; engine = States t }
 
@@ -78,82 +88,155 @@ module _ (d : RuleDefinition) (t : Transitions) (goal : GoalDefinition) (v : Eve
   word_params [] = refl
   word_params (e ∷ u) = ap (λ (n : ℕ). bit_or n (params_of m u)) (params_same e) ∙ ap (λ (n : ℕ). bit_or (needs.params_at v e) n) (word_params u)
 
-  -- a word's handler is hit where its state is handled
-  handled_at : (w : List ℕ) → IsWord t w → IsBegun rules w → ((k : ℕ) × IsHit m w k) ↔ needs.IsHandled t goal (state_after_of t w)
-  handled_at w word begun = (
-    λ h. to_state h.0 (slice_get goal.groups h.0) refl ((same h.0).1 ((hit_handled rules set w word begun h.0).1 h.1)),
-    λ h. (h.0, (hit_handled rules set w word begun h.0).0 ((same h.0).0 (subst (λ (o : Option ℕ). IsSomeAnd o (λ group. IsInGroup t (state_after_of t w) group)) (sym h.2) h.3))),
+  -- the group of a handler says whether its category holds of the words of a state
+  in_group : (x : List ℕ) (k : ℕ) → IsSomeAnd (slice_get goal.groups k) (λ group. IsInGroup t (state_after_of t x) group) ↔ IsHandledBy rules x k
+  in_group x k = looked_up (λ group. EngineHolds (States t) group x) (number_of (category_names d.formula)) goal.groups d.handlers k found
+
+  -- ---- a state tells whether its words reset the property
+
+  pub tells : (x : List ℕ) → x ≢ [] → IsWord t x → (is_reset t goal (state_after_of t x) ≡ true) ↔ Resets d x
+  tells x some word = (
+    λ test. to ((reset_tells t goal (state_after_of t x)).0 test),
+    λ reset. (reset_tells t goal (state_after_of t x)).1 (from reset.0 (slice_get goal.groups reset.0) refl ((marks reset.0).1 reset.1) ((in_group x reset.0).1 ((handled_told rules set x word some reset.0).1 reset.2))),
   )
     where
-      same : (k : ℕ) → IsSomeAnd (slice_get goal.groups k) (λ group. EngineHolds (States t) group w) ↔ IsHandledBy rules w k
-      same k = looked_up (λ group. EngineHolds (States t) group w) (number_of (category_names d.formula)) goal.groups d.handlers k found
+      to : IsResettingAt t goal (state_after_of t x) → Resets d x
+      to at =
+          let held = subst (λ (o : Option ℕ). IsSomeAnd o (λ group. IsInGroup t (state_after_of t x) group)) (sym at.there) at.inside in
+          (at.handler, (marks at.handler).0 ((one_is_set goal.resets at.handler).0 at.resets), (handled_told rules set x word some at.handler).0 ((in_group x at.handler).0 held))
 
-      to_state : (k : ℕ) (o : Option ℕ) → slice_get goal.groups k ≡ o → IsSomeAnd o (λ group. IsInGroup t (state_after_of t w) group) → needs.IsHandled t goal (state_after_of t w)
+      from : (k : ℕ) (o : Option ℕ) → slice_get goal.groups k ≡ o → IsBitSet goal.resets k → IsSomeAnd o (λ group. IsInGroup t (state_after_of t x) group) → IsResettingAt t goal (state_after_of t x)
+      from k None at bit h = absurd h
+      from k (Some group) at bit h = record {
+        handler = k;
+        group = group;
+        there = at;
+        resets = (one_is_set goal.resets k).1 bit;
+        inside = h;
+      }
+
+  -- ---- states stand for words
+
+  abbrev pub Stood : ℕ → List ℕ → Type 0
+  Stood s w = Stands rules (State s) w
+
+  pub stood_more : (s e : ℕ) (w : List ℕ) → e < t.letters → Stood s w → Stood (step_of t goal s e) (w ++ e ∷ [])
+  stood_more s e w letter h = by_case (is_reset t goal s) refl
+    where
+      at : is_reset t goal s ≡ is_reset t goal (state_after_of t h.0)
+      at = ap (is_reset t goal) h.2.1
+
+      here : (is_reset t goal (state_after_of t h.0) ≡ true) ↔ Resets d h.0
+      here = tells h.0 (asked_some (Resets d) w h.0 h.1).1 h.2.0
+
+      by_case : (b : Bool) → is_reset t goal s ≡ b → Stood (step_of t goal s e) (w ++ e ∷ [])
+      by_case true starts =
+          let reset = here.0 (sym at ∙ starts) in
+          let step : step_of t goal s e ≡ next_of t 0 e = ap (λ (b : Bool). next_of t (if b then 0 else s) e) starts in
+          (e ∷ [], asked_anew (Resets d) w h.0 e h.1 reset, push_word t 0 (step_of t goal s e) e [] letter step (no_letters t, refl))
+      by_case false stays =
+          let never : Resets d h.0 → ⊥ = λ reset. false≢true (sym stays ∙ at ∙ here.1 reset) in
+          let step : step_of t goal s e ≡ next_of t s e = ap (λ (b : Bool). next_of t (if b then 0 else s) e) stays in
+          (h.0 ++ e ∷ [], asked_on (Resets d) w h.0 e h.1 never, push_word t s (step_of t goal s e) e h.0 letter step h.2)
+
+  pub stood_on : (u : List ℕ) (s : ℕ) (w : List ℕ) → AllByRecursion (λ e. e < t.letters) u → Stood s w → Stood (run_from t goal s u) (w ++ u)
+  stood_on [] s w there h = subst (Stood s) (sym (append-nil w)) h
+  stood_on (e ∷ u) s w there h =
+      subst (Stood (run_from t goal (step_of t goal s e) u)) (append_assoc w (e ∷ []) u) (stood_on u (step_of t goal s e) (w ++ e ∷ []) there.1 (stood_more s e w there.0 h))
+
+  -- from the start a letter leads on as it does where nothing was reset
+  pub start_step : (e : ℕ) → step_of t goal 0 e ≡ next_of t 0 e
+  start_step e = by_case (is_reset t goal 0)
+    where
+      by_case : (b : Bool) → next_of t (if b then 0 else 0) e ≡ next_of t 0 e
+      by_case true = refl
+      by_case false = refl
+
+  pub stood_first : (e : ℕ) → e < t.letters → Stood (step_of t goal 0 e) (e ∷ [])
+  stood_first e letter = (e ∷ [], asked_first (Resets d) e, push_word t 0 (step_of t goal 0 e) e [] letter (start_step e) (no_letters t, refl))
+
+  -- the state of a word of letters that are there
+  pub stood_word : (e : ℕ) (u : List ℕ) → AllByRecursion (λ e. e < t.letters) (e ∷ u) → Stood (run_from t goal 0 (e ∷ u)) (e ∷ u)
+  stood_word e u there = stood_on u (step_of t goal 0 e) (e ∷ []) there.1 (stood_first e there.0)
+
+  -- ---- what a state says of its words
+
+  -- a handler is hit where the state is handled
+  handled_at : (s : ℕ) (w : List ℕ) → Stood s w → IsBegun rules w → ((k : ℕ) × IsHit m w k) ↔ needs.IsHandled t goal s
+  handled_at s w stood begun = (
+    λ h. to_state h.0 (slice_get goal.groups h.0) refl ((in_group stood.0 h.0).1 ((hit_handled rules set w stood.0 stood.2.0 begun stood.1 h.0).1 h.1)),
+    λ h.
+        let here = subst (λ (n : ℕ). IsInGroup t n h.1) stood.2.1 h.3 in
+        (h.0, (hit_handled rules set w stood.0 stood.2.0 begun stood.1 h.0).0 ((in_group stood.0 h.0).0 (subst (λ (o : Option ℕ). IsSomeAnd o (λ group. IsInGroup t (state_after_of t stood.0) group)) (sym h.2) here))),
+  )
+    where
+      to_state : (k : ℕ) (o : Option ℕ) → slice_get goal.groups k ≡ o → IsSomeAnd o (λ group. IsInGroup t (state_after_of t stood.0) group) → needs.IsHandled t goal s
       to_state k None at h = absurd h
-      to_state k (Some group) at h = (k, group, at, h)
+      to_state k (Some group) at h = (k, group, at, subst (λ (n : ℕ). IsInGroup t n group) (sym stood.2.1) h)
 
-  some_letters : (u : List ℕ) → AllByRecursion (λ e. e < m.letters) u → IsWord t u
-  some_letters u h = all_places (λ e. e < t.letters) u (subst (λ (n : ℕ). AllByRecursion (λ e. e < n) u) (sym set.letters) h)
+  to_letters : (u : List ℕ) → AllByRecursion (λ e. e < m.letters) u → AllByRecursion (λ e. e < t.letters) u
+  to_letters u h = subst (λ (n : ℕ). AllByRecursion (λ e. e < n) u) (sym set.letters) h
 
-  pub back_letters : (u : List ℕ) → IsWord t u → AllByRecursion (λ e. e < m.letters) u
-  back_letters u h = subst (λ (n : ℕ). AllByRecursion (λ e. e < n) u) set.letters (all_recursion (λ e. e < t.letters) u h)
+  pub back_letters : (u : List ℕ) → AllByRecursion (λ e. e < t.letters) u → AllByRecursion (λ e. e < m.letters) u
+  back_letters u h = subst (λ (n : ℕ). AllByRecursion (λ e. e < n) u) set.letters h
 
   -- after a word that began so
-  pub needed_from : (w : List ℕ) (state mask : ℕ) → IsWord t w → IsBegun rules w → state ≡ state_after_of t w → IsNeeded m w mask ↔ needs.IsNeededFrom t goal v state mask
-  needed_from w state mask word begun at = (
+  pub needed_from : (w : List ℕ) (s mask : ℕ) → Stood s w → IsBegun rules w → IsNeeded m w mask ↔ needs.IsNeededFrom t goal v s mask
+  needed_from w s mask stood begun = (
     λ need.
         let u = need.next ∷ need.rest in
-        let letters = some_letters u need.letters in
-        let here = (handled_at (w ++ u) (All-append (λ e. e < t.letters) w u word letters) (word_there w need.next need.rest, (created_later m w u begun.0).0 begun.1)).0 (need.handler, need.hit) in (
+        let letters = to_letters u need.letters in (
           need.next,
           need.rest,
           record {
-            letters = letters;
-            hit = subst (needs.IsHandled t goal) (leads u) here;
+            letters = all_places (λ e. e < t.letters) u letters;
+            hit = (handled_at (run_from t goal s u) (w ++ u) (stood_on u s w letters stood) (later need.next need.rest)).0 (need.handler, need.hit);
             params = need.params ∙ word_params u;
           },
         ),
     λ h.
         let u = h.0 ∷ h.1 in
         let by = h.2 in
-        let there = (handled_at (w ++ u) (All-append (λ e. e < t.letters) w u word by.letters) (word_there w h.0 h.1, (created_later m w u begun.0).0 begun.1)).1 (subst (needs.IsHandled t goal) (sym (leads u)) by.hit) in
+        let letters = all_recursion (λ e. e < t.letters) u by.letters in
+        let there = (handled_at (run_from t goal s u) (w ++ u) (stood_on u s w letters stood) (later h.0 h.1)).1 by.hit in
         record {
           next = h.0;
           rest = h.1;
           handler = there.0;
-          letters = back_letters u by.letters;
+          letters = back_letters u letters;
           hit = there.1;
           params = by.params ∙ sym (word_params u);
         },
   )
     where
-      leads : (u : List ℕ) → state_after_of t (w ++ u) ≡ state_from t state u
-      leads u = fold-append (next_of t) 0 w u ∙ ap (λ (n : ℕ). state_from t n u) (sym at)
+      later : (e : ℕ) (u : List ℕ) → IsBegun rules (w ++ e ∷ u)
+      later e u = (word_there w e u, (created_later m w (e ∷ u) begun.0).0 begun.1)
 
   -- after the empty word
   pub needed_start : (mask : ℕ) → IsNeeded m [] mask ↔ needs.IsNeededAtStart t goal v mask
   needed_start mask = (
     λ need.
         let u = need.next ∷ need.rest in
-        let letters = some_letters u need.letters in (
+        let letters = to_letters u need.letters in (
           need.next,
           need.rest,
           (firsts need.next).1 need.hit.1,
           record {
-            letters = letters;
-            hit = (handled_at u letters (need.hit.0, need.hit.1)).0 (need.handler, need.hit);
+            letters = all_places (λ e. e < t.letters) u letters;
+            hit = (handled_at (run_from t goal 0 u) u (stood_word need.next need.rest letters) (need.hit.0, need.hit.1)).0 (need.handler, need.hit);
             params = need.params ∙ word_params u;
           },
         ),
     λ h.
         let u = h.0 ∷ h.1 in
         let by = h.3 in
-        let there = (handled_at u by.letters (word_there [] h.0 h.1, (firsts h.0).0 h.2)).1 by.hit in
+        let letters = all_recursion (λ e. e < t.letters) u by.letters in
+        let there = (handled_at (run_from t goal 0 u) u (stood_word h.0 h.1 letters) (word_there [] h.0 h.1, (firsts h.0).0 h.2)).1 by.hit in
         record {
           next = h.0;
           rest = h.1;
           handler = there.0;
-          letters = back_letters u by.letters;
+          letters = back_letters u letters;
           hit = there.1;
           params = by.params ∙ sym (word_params u);
         },
@@ -169,11 +252,10 @@ module _ (d : RuleDefinition) (t : Transitions) (goal : GoalDefinition) (v : Eve
       (let by = can_hit_needed m dead [] 0 (λ k. refl) in
       let same = alive_same (IsNeeded m []) (needs.IsNeededAtStart t goal v) dead needed_start in
       (λ can. same.0 (by.0 can), λ alive. by.1 (same.1 alive)))
-  can_hit_run Barren w dead within h =
-      (λ can. let need = (can_hit_needed m dead w 0 (λ k. refl)).0 can in barren_never d w need.0 h.0 h.1 need.1, λ never. absurd never)
+  can_hit_run Barren w dead within h = (λ can. barren_quiet d w dead h.0 h.1 can, λ never. absurd never)
   can_hit_run (State s) w dead within h =
       let by = can_hit_needed m dead w 0 (λ k. refl) in
-      let same = alive_same (IsNeeded m w) (needs.IsNeededFrom t goal v s) dead (λ mask. needed_from w s mask h.1.0 h.0 h.1.1) in
-      let less : s < t.states = subst (λ (n : ℕ). n < t.states) (sym h.1.1) (within w h.1.0) in
+      let same = alive_same (IsNeeded m w) (needs.IsNeededFrom t goal v s) dead (λ mask. needed_from w s mask h.1 h.0) in
+      let less : s < t.states = subst (λ (n : ℕ). n < t.states) (sym h.1.2.1) (within h.1.0 h.1.2.0) in
       (λ can. (less, same.0 (by.0 can)), λ alive. by.1 (same.1 alive.1))
-  can_hit_run (Parse c) w dead within h = absurd h.1
+  can_hit_run (Parse c) w dead within h = absurd h.1.2

@@ -1,6 +1,6 @@
 -- What the rules know of what may still follow, in the words of the meaning.
-use Rattle.std.proofs.Common.{◌≡◌, ◌≢◌, ℕ, ◌<◌, ◌⊎◌, inl, inr, Bool, true, false, not, ◌&&◌, List, [], ◌∷◌, ◌++◌, length, refl, sym, ◌∙◌, ap, subst, arith}
-use Rattle.std.specs.Prelude.{Contains, codes, ◌↔◌, IsTrue, IsBitSet, slice_index}
+use Rattle.std.proofs.Common.{◌≡◌, ◌≢◌, ℕ, ◌<◌, ◌⊎◌, inl, inr, Bool, true, false, not, ◌&&◌, List, [], ◌∷◌, ◌++◌, length, refl, sym, ◌∙◌, ap, subst}
+use Rattle.std.specs.Prelude.{All, Contains, codes, ◌↔◌, IsTrue, IsBitSet, slice_index}
 use Rattle.std.specs.List.{list_any}
 use Rattle.std.specs.List.Sorted.{IsStrictlySortedBy}
 use Rattle.std.specs.Ordering.{nat_cmp}
@@ -10,8 +10,10 @@ use Rattle.jm_semantics.specs.Families.{IsFamily}
 use Rattle.jm_events.specs.Names.{number_of}
 use Rattle.jm_events.specs.Events.{EventDefinitions}
 use Rattle.jm_goal.specs.Goals.{GoalDefinition}
-use Rattle.jm_table.specs.Tables.{Transitions, next_of, state_after_of, IsWord}
-use Rattle.jm_coenable.specs.Needs.{AreNeedsOf, IsInFamily}
+use Rattle.std.proofs.lemmas.Bool.{false≢true}
+use Rattle.std.proofs.lemmas.List.Elements.{All-nil}
+use Rattle.jm_table.specs.Tables.{Transitions}
+use Rattle.jm_coenable.specs.Needs.{AreNeedsOf, IsInFamily, step_of}
 use Rattle.jm_earley.specs.Charts.{ChartsDefinition}
 use Rattle.jm_earley.specs.DeadSets as charts
 use Rattle.jm_machine.specs.declared.formula.Formula.{Formula}
@@ -19,20 +21,22 @@ use Rattle.jm_machine.specs.declared.engine.Engine.{Engine}
 use Rattle.jm_machine.specs.declared.engine.Engine.TheVariants.{States, Parses}
 use Rattle.jm_machine.specs.declared.outlook.Outlook.TheVariants.{Table, Grammar}
 use Rattle.jm_machine.specs.declared.configuration.Configuration.{Configuration}
-use Rattle.jm_machine.specs.declared.configuration.Configuration.TheVariants.{State}
+use Rattle.jm_machine.specs.declared.configuration.Configuration.TheVariants.{Start, Barren, State, Parse}
 use Rattle.jm_machine.specs.Formulas.{category_names}
 use Rattle.jm_machine.specs.Engines.{IsPlaceOf, EngineHolds}
-use Rattle.jm_machine.specs.Meanings.{RuleDefinition, rules_meaning, is_failing_grammar}
+use Rattle.jm_machine.specs.Rests.{IsRest}
+use Rattle.jm_machine.specs.Meanings.{RuleDefinition, Resets, rules_meaning, is_failing_grammar}
 use Rattle.jm_machine.specs.RuleSets.{CompiledRules, IsRuleSet, IsGoalOf, IsHandledBy, definition_of, may_begin}
-use Rattle.jm_machine.specs.Configurations.{IsConfigurationOf, IsBegun}
-use Rattle.jm_machine.specs.Outlooks.{StateFacts, ParseFacts, AreFactsOf, IsEndingLetter, CanHitFrom, IsParseOf, CanMatch}
+use Rattle.jm_machine.specs.Configurations.{IsConfigurationOf, IsBegun, Stands}
+use Rattle.jm_machine.specs.Outlooks.{StateFacts, ParseFacts, AreFactsOf, IsEndingLetter, CanHitFrom, IsLeftOf, CanMatch}
 use Rattle.jm_machine.specs.Known.{IsKnown}
 use Rattle.jm_machine.proofs.OptionLemmas.{looked_up}
-use Rattle.jm_machine.proofs.GoalLemmas.{begins_as_listed}
-use Rattle.jm_machine.proofs.ConfigurationLemmas.{state_within, state_next}
-use Rattle.jm_machine.proofs.RuleLemmas.{hit_handled, begun_later, created_later, letter_there}
-use Rattle.jm_machine.proofs.CutLemmas.{not_so, cut_words, can_hit_run}
-use Rattle.jm_machine.proofs.ParseLemmas.{failing_cut, matching_cut, parse_of_run}
+use Rattle.jm_machine.proofs.GoalLemmas.{begins_as_listed, number_in, number_set}
+use Rattle.jm_machine.proofs.ConfigurationLemmas.{state_within, push_word}
+use Rattle.jm_machine.proofs.RestLemmas.{letter_there, asked_some, asked_on, left_anew, left_on}
+use Rattle.jm_machine.proofs.RuleLemmas.{handled_told, hit_handled, begun_later, created_later}
+use Rattle.jm_machine.proofs.CutLemmas.{not_so, cut_words, can_hit_run, barren_quiet, stood_more, stood_first}
+use Rattle.jm_machine.proofs.ParseLemmas.{failing_cut, matching_cut}
 use Rattle.jm_machine.proofs.FamilyLemmas.{family_is}
 use Rattle.jm_machine.proofs.OutlookLemmas.{no_bit_of_zero}
 
@@ -51,82 +55,96 @@ module _ (masks : List ℕ) (formula : Formula) (handlers : List (List ℕ)) (go
   listed : (e : ℕ) → may_begin goal e ↔ ((d.creation ≡ []) ⊎ Contains d.creation e)
   listed e = begins_as_listed goal.creation (length masks) e g.creation
 
+  marked : (k : ℕ) → IsBitSet goal.resets k ↔ Contains d.resets k
+  marked k = (λ bit. number_in goal.resets (length handlers) k (g.resets k bit) bit, number_set goal.resets (length handlers) k)
+
   module _ (t : Transitions) (facts : StateFacts) (set : IsRuleSet (rules_with (States t))) (known : IsKnown d goal (States t) (Table facts)) where
+    abbrev r : CompiledRules
+    r = rules_with (States t)
+
     told : AreFactsOf t goal known.events facts
     told = known.told
 
     not_failing : is_failing_grammar d ≡ false
     not_failing = ap (λ (b : Bool). b && list_any (bytes_eq (codes "fail")) handlers) (sym known.kind)
 
-    handled_state : (s : ℕ) (word : List ℕ) → IsPlaceOf (States t) (State s) word → (k : ℕ) → IsBitSet (slice_index facts.hits s) k ↔ IsHandledBy (rules_with (States t)) word k
-    handled_state s word place k =
-        let less : s < length facts.hits = subst (λ (n : ℕ). s < n) (sym told.count) (subst (λ (n : ℕ). n < t.states) (sym place.1) (state_within t word told.table place.0)) in
-        let bit = told.hits s less word place k in
-        let same = looked_up (λ group. EngineHolds (States t) group word) (number_of (category_names formula)) goal.groups handlers k g.groups in
+    there : (s : ℕ) (x : List ℕ) → IsPlaceOf (States t) (State s) x → s < t.states
+    there s x place = subst (λ (n : ℕ). n < t.states) (sym place.1) (state_within t x told.table place.0)
+
+    handled_state : (s : ℕ) (x : List ℕ) → IsPlaceOf (States t) (State s) x → (k : ℕ) → IsBitSet (slice_index facts.hits s) k ↔ IsHandledBy r x k
+    handled_state s x place k =
+        let bit = told.hits s (subst (λ (n : ℕ). s < n) (sym told.count) (there s x place)) x place k in
+        let same = looked_up (λ group. EngineHolds (States t) group x) (number_of (category_names formula)) goal.groups handlers k g.groups in
         (λ set. same.0 (bit.0 set), λ held. bit.1 (same.1 held))
 
-    -- a word that leads to a state without handlers hits none
-    silent : (s : ℕ) (word : List ℕ) → IsBegun (rules_with (States t)) word → IsPlaceOf (States t) (State s) word → slice_index facts.hits s ≡ 0 → (k : ℕ) → IsHit m word k → ⊥
-    silent s word begun place quiet k hit =
-        let handled = (hit_handled (rules_with (States t)) set word place.0 begun k).1 hit in
-        no_bit_of_zero k (subst (λ (n : ℕ). IsBitSet n k) quiet ((handled_state s word place k).1 handled))
+    -- a word that leads to a state without handlers is in no handled category
+    unhandled : (s : ℕ) (x : List ℕ) → IsPlaceOf (States t) (State s) x → slice_index facts.hits s ≡ 0 → (k : ℕ) → IsHandledBy r x k → ⊥
+    unhandled s x place quiet k held = no_bit_of_zero k (subst (λ (n : ℕ). IsBitSet n k) quiet ((handled_state s x place k).1 held))
 
-    can_run : (configuration : Configuration) (w : List ℕ) (dead : ℕ) → IsConfigurationOf (rules_with (States t)) configuration w → CanHit m w dead 0 ↔ CanHitFrom t goal known.events configuration dead
-    can_run configuration w dead h = can_hit_run d t goal known.events set known.masks g.groups listed configuration w dead (λ w word. state_within t w told.table word) h
+    -- so it hits none, and doesn't reset the property
+    silent : (s : ℕ) (word : List ℕ) → IsBegun r word → Stands r (State s) word → slice_index facts.hits s ≡ 0 → (k : ℕ) → IsHit m word k → ⊥
+    silent s word begun stood quiet k hit =
+        unhandled s stood.0 stood.2 quiet k ((hit_handled r set word stood.0 stood.2.0 begun stood.1 k).1 hit)
 
-    -- where nothing can be hit from the state that a word leads to, the word is cut
-    lost : (s : ℕ) (word : List ℕ) → IsBegun (rules_with (States t)) word → IsPlaceOf (States t) (State s) word → (CanHitFrom t goal known.events (State s) 0 → ⊥) → CanHit m word 0 0 → ⊥
-    lost s word begun place never can = never ((can_run (State s) word 0 (begun, place)).0 can)
+    unreset : (s : ℕ) (x : List ℕ) → IsPlaceOf (States t) (State s) x → x ≢ [] → slice_index facts.hits s ≡ 0 → Resets d x → ⊥
+    unreset s x place some quiet reset = unhandled s x place quiet reset.0 ((handled_told r set x place.0 some reset.0).1 reset.2)
 
-    table_cut : (configuration : Configuration) (dead : ℕ) (can : Bool) → IsTrue can ↔ CanHitFrom t goal known.events configuration dead → (w : List ℕ) → IsConfigurationOf (rules_with (States t)) configuration w → IsTrue (not can) ↔ IsCutWord m w dead
+    can_run : (configuration : Configuration) (w : List ℕ) (dead : ℕ) → IsConfigurationOf r configuration w → CanHit m w dead 0 ↔ CanHitFrom t goal known.events configuration dead
+    can_run configuration w dead h = can_hit_run d t goal known.events set known.masks g.groups listed marked configuration w dead (λ w word. state_within t w told.table word) h
+
+    -- where nothing can be hit from the state that stands for a word, the word is cut
+    lost : (s : ℕ) (word : List ℕ) → IsBegun r word → Stands r (State s) word → (CanHitFrom t goal known.events (State s) 0 → ⊥) → CanHit m word 0 0 → ⊥
+    lost s word begun stood never can = never ((can_run (State s) word 0 (begun, stood)).0 can)
+
+    table_cut : (configuration : Configuration) (dead : ℕ) (can : Bool) → IsTrue can ↔ CanHitFrom t goal known.events configuration dead → (w : List ℕ) → IsConfigurationOf r configuration w → IsTrue (not can) ↔ IsCutWord m w dead
     table_cut configuration dead can says w h =
         let by = can_run configuration w dead h in
         let cut = cut_words d w dead not_failing in
         let no = not_so can (CanHit m w dead 0) (λ yes. by.1 (says.0 yes), λ hit. says.1 (by.0 hit)) in
         (λ yes. cut.0 (no.0 yes), λ is_cut. no.1 (cut.1 is_cut))
 
-    table_stays : (s e : ℕ) → IsBitSet (slice_index facts.idle s) e → (w : List ℕ) → IsConfigurationOf (rules_with (States t)) (State s) w → IsConfigurationOf (rules_with (States t)) (State s) (w ++ e ∷ [])
+    table_stays : (s e : ℕ) → IsBitSet (slice_index facts.idle s) e → (w : List ℕ) → IsConfigurationOf r (State s) w → IsConfigurationOf r (State s) (w ++ e ∷ [])
     table_stays s e set w h =
-        let less : s < t.states = subst (λ (n : ℕ). n < t.states) (sym h.1.1) (state_within t w told.table h.1.0) in
-        let idle = told.idle s e less set in
-        (begun_later (rules_with (States t)) w e h.0, state_next t s s e w told.table idle.letter (λ _. sym idle.stays) h.1)
+        let x = h.1.0 in
+        let idle = told.idle s e (there s x h.1.2) set in
+        let never = unreset s x h.1.2 (asked_some (Resets d) w x h.1.1).1 idle.quiet in
+        (begun_later r w e h.0, (x ++ e ∷ [], asked_on (Resets d) w x e h.1.1 never, push_word t s s e x idle.letter (sym idle.stays) h.1.2))
 
-    table_rests : (s e : ℕ) → IsBitSet (slice_index facts.idle s) e → (w : List ℕ) → IsConfigurationOf (rules_with (States t)) (State s) w → (k : ℕ) → IsHit m (w ++ e ∷ []) k → ⊥
+    table_rests : (s e : ℕ) → IsBitSet (slice_index facts.idle s) e → (w : List ℕ) → IsConfigurationOf r (State s) w → (k : ℕ) → IsHit m (w ++ e ∷ []) k → ⊥
     table_rests s e bit w h k hit =
-        let less : s < t.states = subst (λ (n : ℕ). n < t.states) (sym h.1.1) (state_within t w told.table h.1.0) in
-        let idle = told.idle s e less bit in
+        let idle = told.idle s e (there s h.1.0 h.1.2) bit in
         let after = table_stays s e bit w h in
         silent s (w ++ e ∷ []) after.0 after.1 idle.quiet k hit
 
     -- a letter that ends what leads to a state
-    ended : (s e : ℕ) (w : List ℕ) → IsWord t w × (s ≡ state_after_of t w) → IsEndingLetter t facts.hits facts.needs s e → IsPlaceOf (States t) (State (next_of t s e)) (w ++ e ∷ [])
-    ended s e w place ends = state_next t s (next_of t s e) e w told.table ends.letter (λ _. refl) place
+    ended : (s e : ℕ) (w : List ℕ) → Stands r (State s) w → IsEndingLetter t facts.hits goal facts.needs s e → Stands r (State (step_of t goal s e)) (w ++ e ∷ [])
+    ended s e w stood ends = stood_more d t goal known.events set known.masks g.groups listed marked s e w ends.letter stood
 
-    ended_quiet : (s e : ℕ) (w : List ℕ) → IsWord t w × (s ≡ state_after_of t w) → IsEndingLetter t facts.hits facts.needs s e → (k : ℕ) → IsHit m (w ++ e ∷ []) k → ⊥
-    ended_quiet s e w place ends k hit = silent (next_of t s e) (w ++ e ∷ []) (hit.0, hit.1) (ended s e w place ends) ends.quiet k hit
+    first_ended : (e : ℕ) → IsEndingLetter t facts.hits goal facts.needs 0 e → Stands r (State (step_of t goal 0 e)) (e ∷ [])
+    first_ended e ends = stood_first d t goal known.events set known.masks g.groups listed marked e ends.letter
 
-    ended_cut : (s e : ℕ) (w : List ℕ) → IsWord t w × (s ≡ state_after_of t w) → IsEndingLetter t facts.hits facts.needs s e → IsCutWord m (w ++ e ∷ []) 0
-    ended_cut s e w place ends =
-        (cut_words d (w ++ e ∷ []) 0 not_failing).0
+    ended_quiet : (s e : ℕ) (word : List ℕ) → Stands r (State (step_of t goal s e)) word → IsEndingLetter t facts.hits goal facts.needs s e → (k : ℕ) → IsHit m word k → ⊥
+    ended_quiet s e word stood ends k hit = silent (step_of t goal s e) word (hit.0, hit.1) stood ends.quiet k hit
+
+    ended_cut : (s e : ℕ) (word : List ℕ) → word ≢ [] → Stands r (State (step_of t goal s e)) word → IsEndingLetter t facts.hits goal facts.needs s e → IsCutWord m word 0
+    ended_cut s e word some stood ends =
+        (cut_words d word 0 not_failing).0
         (λ can.
-        let created = (created_later m (w ++ e ∷ []) (can.next ∷ can.rest) (letter_there w e)).1 can.hit.1 in
-        lost (next_of t s e) (w ++ e ∷ []) (letter_there w e, created) (ended s e w place ends) (λ alive. ends.ends t goal known.events told.needs alive.1) can)
-
-    empty_word : IsWord t []
-    empty_word = λ k d less. absurd (omega (arith, less))
+        let created = (created_later m word (can.next ∷ can.rest) some).1 can.hit.1 in
+        lost (step_of t goal s e) word (some, created) stood (λ alive. ends.ends t goal known.events told.needs alive.1) can)
 
     first_quiet : (e : ℕ) → IsBitSet facts.first_ending e → (k : ℕ) → IsHit m (e ∷ []) k → ⊥
     first_quiet e bit k hit =
         elim (told.first_ending e bit).1 [
           | inl never ↦ never ((listed e).1 hit.1)
-          | inr ends ↦ ended_quiet 0 e [] (empty_word, refl) ends k hit
+          | inr ends ↦ ended_quiet 0 e (e ∷ []) (first_ended e ends) ends k hit
         ]
 
     first_cut : (e : ℕ) → IsBitSet facts.first_ending e → IsCutWord m (e ∷ []) 0
     first_cut e bit =
         elim (told.first_ending e bit).1 [
           | inl never ↦ (cut_words d (e ∷ []) 0 not_failing).0 (λ can. never ((listed e).1 can.hit.1))
-          | inr ends ↦ ended_cut 0 e [] (empty_word, refl) ends
+          | inr ends ↦ ended_cut 0 e (e ∷ []) (letter_there [] e) (first_ended e ends) ends
         ]
 
   -- ---- whatever runs the property
@@ -135,7 +153,7 @@ module _ (masks : List ℕ) (formula : Formula) (handlers : List (List ℕ)) (go
     pub known_hits : (engine : Engine) → IsRuleSet (rules_with engine) → IsKnown d goal engine (Table facts) → (s : ℕ) (bits : ℕ) → (s < length facts.hits → bits ≡ slice_index facts.hits s) → (word : List ℕ) → IsPlaceOf engine (State s) word → (k : ℕ) → IsBitSet bits k ↔ IsHandledBy (rules_with engine) word k
     known_hits (States t) set known s bits is word place k =
         let told : AreFactsOf t goal known.events facts = known.told in
-        let less : s < length facts.hits = subst (λ (n : ℕ). s < n) (sym told.count) (subst (λ (n : ℕ). n < t.states) (sym place.1) (state_within t word told.table place.0)) in
+        let less : s < length facts.hits = subst (λ (n : ℕ). s < n) (sym told.count) (there t facts set known s word place) in
         subst (λ (n : ℕ). IsBitSet n k ↔ IsHandledBy (rules_with (States t)) word k) (sym (is less)) (handled_state t facts set known s word place k)
     known_hits (Parses c) set known s bits is word place k = absurd place
 
@@ -155,18 +173,21 @@ module _ (masks : List ℕ) (formula : Formula) (handlers : List (List ℕ)) (go
     known_rests (States t) set known s e bits is bit w h k hit = table_rests t facts set known s e (subst (λ (n : ℕ). IsBitSet n e) is bit) w h k hit
     known_rests (Parses c) set known s e bits is bit w h k hit = absurd known.told
 
-    ending_at : (t : Transitions) (set : IsRuleSet (rules_with (States t))) (known : IsKnown d goal (States t) (Table facts)) (s e bits : ℕ) → bits ≡ slice_index facts.ending s → IsBitSet bits e → (w : List ℕ) → IsConfigurationOf (rules_with (States t)) (State s) w → IsEndingLetter t facts.hits facts.needs s e
+    ending_at : (t : Transitions) (set : IsRuleSet (rules_with (States t))) (known : IsKnown d goal (States t) (Table facts)) (s e bits : ℕ) → bits ≡ slice_index facts.ending s → IsBitSet bits e → (w : List ℕ) → IsConfigurationOf (rules_with (States t)) (State s) w → IsEndingLetter t facts.hits goal facts.needs s e
     ending_at t set known s e bits is bit w h =
         let told : AreFactsOf t goal known.events facts = known.told in
-        let less : s < t.states = subst (λ (n : ℕ). n < t.states) (sym h.1.1) (state_within t w told.table h.1.0) in
-        told.ending s e less (subst (λ (n : ℕ). IsBitSet n e) is bit)
+        told.ending s e (there t facts set known s h.1.0 h.1.2) (subst (λ (n : ℕ). IsBitSet n e) is bit)
 
     pub known_quiet : (engine : Engine) → IsRuleSet (rules_with engine) → IsKnown d goal engine (Table facts) → (s e bits : ℕ) → bits ≡ slice_index facts.ending s → IsBitSet bits e → (w : List ℕ) → IsConfigurationOf (rules_with engine) (State s) w → (k : ℕ) → IsHit m (w ++ e ∷ []) k → ⊥
-    known_quiet (States t) set known s e bits is bit w h k hit = ended_quiet t facts set known s e w h.1 (ending_at t set known s e bits is bit w h) k hit
+    known_quiet (States t) set known s e bits is bit w h k hit =
+        let ends = ending_at t set known s e bits is bit w h in
+        ended_quiet t facts set known s e (w ++ e ∷ []) (ended t facts set known s e w h.1 ends) ends k hit
     known_quiet (Parses c) set known s e bits is bit w h k hit = absurd known.told
 
     pub known_ends : (engine : Engine) → IsRuleSet (rules_with engine) → IsKnown d goal engine (Table facts) → (s e bits : ℕ) → bits ≡ slice_index facts.ending s → IsBitSet bits e → (w : List ℕ) → IsConfigurationOf (rules_with engine) (State s) w → IsCutWord m (w ++ e ∷ []) 0
-    known_ends (States t) set known s e bits is bit w h = ended_cut t facts set known s e w h.1 (ending_at t set known s e bits is bit w h)
+    known_ends (States t) set known s e bits is bit w h =
+        let ends = ending_at t set known s e bits is bit w h in
+        ended_cut t facts set known s e (w ++ e ∷ []) (letter_there w e) (ended t facts set known s e w h.1 ends) ends
     known_ends (Parses c) set known s e bits is bit w h = absurd known.told
 
     pub known_first_quiet : (engine : Engine) → IsRuleSet (rules_with engine) → IsKnown d goal engine (Table facts) → (e bits : ℕ) → bits ≡ facts.first_ending → IsBitSet bits e → (w : List ℕ) → w ≡ [] → (k : ℕ) → IsHit m (w ++ e ∷ []) k → ⊥
@@ -183,22 +204,50 @@ module _ (masks : List ℕ) (formula : Formula) (handlers : List (List ℕ)) (go
         → ((t : Transitions) (g : GoalDefinition) (v : EventDefinitions) → AreNeedsOf t g v facts.needs → (mask : ℕ) → mask < 256 → Contains family mask ↔ IsInFamily t g v e mask) → IsFamily m e family
     known_family (States t) set known e family less bytes rising exact =
         let told : AreFactsOf t goal known.events facts = known.told in
-        family_is d t goal known.events set known.masks g.groups listed e family (subst (λ (n : ℕ). e < n) (sym set.letters) less) known.few bytes rising (exact t goal known.events told.needs)
+        family_is d t goal known.events set known.masks g.groups listed marked e family (subst (λ (n : ℕ). e < n) (sym set.letters) less) known.few bytes rising (exact t goal known.events told.needs)
     known_family (Parses c) set known e family less bytes rising exact = absurd known.told
 
-  module _ (facts : ParseFacts) where
-    pub known_parse_cut : (c : ChartsDefinition) → IsRuleSet (rules_with (Parses c)) → IsKnown d goal (Parses c) (Grammar facts) → (configuration : Configuration) (dead : ℕ) (cut : Bool)
+  module _ (facts : ParseFacts) (c : ChartsDefinition) (set : IsRuleSet (rules_with (Parses c))) (known : IsKnown d goal (Parses c) (Grammar facts)) where
+    -- so much is left of a configuration's word, by what tells whether it reset the property
+    left_of_run : (configuration : Configuration) (reset : Bool) → ((x : List ℕ) → x ≢ [] → IsPlaceOf (Parses c) configuration x → IsTrue reset ↔ Resets d x) → (w : List ℕ) → IsConfigurationOf (rules_with (Parses c)) configuration w
+        → (configuration ≡ Barren → ⊥) → (rest : List ℕ) × IsRest (Resets d) w rest × All (λ e. e < length c.params) rest × IsLeftOf c configuration reset rest
+    left_of_run Start reset says w h run = ([], subst (λ (x : List ℕ). IsRest (Resets d) x []) (sym h) refl, All-nil (λ e. e < length c.params), tt)
+    left_of_run Barren reset says w h run = absurd (run refl)
+    left_of_run (State s) reset says w h run = absurd h.1.2
+    left_of_run (Parse chart) true says w h run =
+        let x = h.1.0 in
+        let reset = (says x (asked_some (Resets d) w x h.1.1).1 h.1.2).0 refl in
+        ([], left_anew (Resets d) w x h.1.1 reset, All-nil (λ e. e < length c.params), refl)
+    left_of_run (Parse chart) false says w h run =
+        let x = h.1.0 in
+        let never = λ (reset : Resets d x). false≢true ((says x (asked_some (Resets d) w x h.1.1).1 h.1.2).1 reset) in
+        (x, left_on (Resets d) w x h.1.1 never, h.1.2.0, h.1.2.1)
+
+    pub known_parse_cut : (configuration : Configuration) (dead : ℕ) (reset cut : Bool)
+        → ((x : List ℕ) → x ≢ [] → IsPlaceOf (Parses c) configuration x → IsTrue reset ↔ Resets d x)
         → (facts.failing ≡ true → IsTrue cut ↔ ((e : ℕ) → charts.IsAvailable c.params dead e → ⊥))
-        → (facts.failing ≡ false → (word : List ℕ) → IsParseOf c configuration word → IsTrue cut ↔ ((goal.groups ≢ []) × CanMatch c goal configuration word dead → ⊥))
+        → (facts.failing ≡ false → (word : List ℕ) → IsLeftOf c configuration reset word → IsTrue cut ↔ ((goal.groups ≢ []) × CanMatch c goal configuration word dead → ⊥))
         → (w : List ℕ) → IsConfigurationOf (rules_with (Parses c)) configuration w → IsTrue cut ↔ IsCutWord m w dead
-    known_parse_cut c set known configuration dead cut failing matching w h = by_case facts.failing refl
+    known_parse_cut configuration dead reset cut says failing matching w h = by_case facts.failing refl
       where
+        by_matching : facts.failing ≡ false → (configuration : Configuration) → ((x : List ℕ) → x ≢ [] → IsPlaceOf (Parses c) configuration x → IsTrue reset ↔ Resets d x)
+            → ((word : List ℕ) → IsLeftOf c configuration reset word → IsTrue cut ↔ ((goal.groups ≢ []) × CanMatch c goal configuration word dead → ⊥)) → IsConfigurationOf (rules_with (Parses c)) configuration w → IsTrue cut ↔ IsCutWord m w dead
+        by_matching is Barren says told h =
+            let meant = (cut_words d w dead (sym known.told.2 ∙ is)).0 (λ can. barren_quiet d w dead h.0 h.1 can) in
+            (λ _. meant, λ _. (told [] tt).1 (λ both. both.1))
+        by_matching is Start says told h =
+            let left = left_of_run Start reset says w h (λ e. absurd cc) in
+            let meant = matching_cut d c goal set known.bound (sym known.kind) g.groups listed (sym known.told.2 ∙ is) Start w left.0 dead h left.1 left.2 in
+            (λ yes. meant.0 ((told left.0 left.3).0 yes), λ is_cut. (told left.0 left.3).1 (meant.1 is_cut))
+        by_matching is (State s) says told h = absurd h.1.2
+        by_matching is (Parse chart) says told h =
+            let left = left_of_run (Parse chart) reset says w h (λ e. absurd cc) in
+            let meant = matching_cut d c goal set known.bound (sym known.kind) g.groups listed (sym known.told.2 ∙ is) (Parse chart) w left.0 dead h left.1 left.2 in
+            (λ yes. meant.0 ((told left.0 left.3).0 yes), λ is_cut. (told left.0 left.3).1 (meant.1 is_cut))
+
         by_case : (b : Bool) → facts.failing ≡ b → IsTrue cut ↔ IsCutWord m w dead
         by_case true is =
             let says = failing is in
-            let meant = failing_cut d c goal set known.bound (sym known.kind) g.groups listed w dead (sym known.told.1 ∙ is) in
+            let meant = failing_cut d c goal set known.bound (sym known.kind) g.groups listed w dead (sym known.told.2 ∙ is) in
             (λ yes. meant.0 (says.0 yes), λ is_cut. says.1 (meant.1 is_cut))
-        by_case false is =
-            let says = matching is w (parse_of_run d c configuration w h) in
-            let meant = matching_cut d c goal set known.bound (sym known.kind) g.groups listed (sym known.told.1 ∙ is) configuration w dead h in
-            (λ yes. meant.0 (says.0 yes), λ is_cut. says.1 (meant.1 is_cut))
+        by_case false is = by_matching is configuration says (matching is) h

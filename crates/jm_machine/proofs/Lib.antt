@@ -4,11 +4,15 @@ pub mod HandlerLemmas
 pub mod GoalLemmas
 pub mod FormulaLemmas
 pub mod ReadingLemmas
+pub mod RestLemmas
 pub mod RuleLemmas
+pub mod ResetLemmas
 pub mod CompileLemmas
 pub mod NeedLemmas
 pub mod CutLemmas
+pub mod QuietLemmas
 pub mod ParseLemmas
 pub mod FamilyLemmas
 pub mod OutlookLemmas
 pub mod KnownLemmas
+pub mod LawLemmas

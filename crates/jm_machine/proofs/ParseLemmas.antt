@@ -7,7 +7,7 @@ use Rattle.std.proofs.lemmas.Bool.{false≢true}
 use Rattle.std.proofs.lemmas.Option.{unwrap_or-slice_get}
 use Rattle.std.proofs.lemmas.List.Quantifiers.{position-Some}
 use Rattle.std.proofs.lemmas.List.Elements.{All-append, All-cons}
-use Rattle.jm_model.specs.Meanings.{Meaning, IsAvailable, IsHit, CanHit, IsCutWord}
+use Rattle.jm_model.specs.Meanings.{Meaning, IsAvailable, IsCreated, CanHit, IsCutWord}
 use Rattle.jm_events.specs.Names.{number_of}
 use Rattle.jm_events.proofs.NameLemmas.{same_name, list_any-place}
 use Rattle.jm_goal.specs.Goals.{GoalDefinition}
@@ -23,13 +23,14 @@ use Rattle.jm_machine.specs.declared.engine.Engine.TheVariants.{Parses}
 use Rattle.jm_machine.specs.declared.configuration.Configuration.{Configuration}
 use Rattle.jm_machine.specs.declared.configuration.Configuration.TheVariants.{Start, Barren, State, Parse}
 use Rattle.jm_machine.specs.Formulas.{category_names, is_grammar}
-use Rattle.jm_machine.specs.Meanings.{RuleDefinition, rules_meaning, is_failing_grammar}
+use Rattle.jm_machine.specs.Rests.{IsRest}
+use Rattle.jm_machine.specs.Meanings.{RuleDefinition, IsNamedCategory, IsInCategory, Resets, rules_meaning, is_failing_grammar}
 use Rattle.jm_machine.specs.RuleSets.{CompiledRules, IsRuleSet, IsHandledBy, may_begin}
 use Rattle.jm_machine.specs.Configurations.{IsConfigurationOf, IsBegun}
-use Rattle.jm_machine.specs.Outlooks.{IsParseOf, GoesOn, BeginsWith, CanMatch}
-use Rattle.jm_machine.proofs.RuleLemmas.{hit_handled, created_later}
-use Rattle.jm_machine.proofs.NeedLemmas.{can_hit_needed}
-use Rattle.jm_machine.proofs.CutLemmas.{all_places, all_recursion, word_there, barren_never, cut_words}
+use Rattle.jm_machine.specs.Outlooks.{GoesOn, BeginsWith, CanMatch}
+use Rattle.jm_machine.proofs.RuleLemmas.{handled_told, some_within, created_later}
+use Rattle.jm_machine.proofs.CutLemmas.{all_places, all_recursion, word_there, barren_quiet, cut_words}
+use Rattle.jm_machine.proofs.QuietLemmas.{IsPlain, never_plainly}
 
 names_of_grammar : (f : Formula) → is_grammar f ≡ true → category_names f ≡ categories.category_names
 names_of_grammar (Grammatical g) is = refl
@@ -102,28 +103,32 @@ module _ (d : RuleDefinition) (c : ChartsDefinition) (goal : GoalDefinition) (se
           | inr fails ↦ absurd (false≢true (sym no_fail ∙ subst (λ (n : List ℕ). list_any (bytes_eq n) d.handlers ≡ true) fails (list_any-place d.handlers name k at)))
         ]
 
-    -- a word that hits a handler is one of the grammar
-    hit_is_word : (w : List ℕ) → All (λ e. e < length c.params) w → IsBegun rules w → (k : ℕ) → IsHit m w k → grammar.IsWord c.grammar w
-    hit_is_word w letters begun k hit = by_name (slice_get d.handlers k) refl ((hit_handled rules set w letters begun k).1 hit)
+    -- a word in a handled category is one of the grammar
+    hit_is_word : (x : List ℕ) → All (λ e. e < length c.params) x → x ≢ [] → (k : ℕ) → IsInCategory d x k → grammar.IsWord c.grammar x
+    hit_is_word x letters some k hit = by_name (slice_get d.handlers k) refl ((handled_told rules set x letters some k).1 hit)
       where
-        by_number : (name : List ℕ) → slice_get d.handlers k ≡ Some name → (o : Option ℕ) → number_of (category_names d.formula) name ≡ o → IsSomeAnd o (λ category. GrammarHolds c.grammar category w) → grammar.IsWord c.grammar w
+        by_number : (name : List ℕ) → slice_get d.handlers k ≡ Some name → (o : Option ℕ) → number_of (category_names d.formula) name ≡ o → IsSomeAnd o (λ category. GrammarHolds c.grammar category x) → grammar.IsWord c.grammar x
         by_number name at None number h = absurd h
-        by_number name at (Some category) number h = subst (λ (n : ℕ). GrammarHolds c.grammar n w) (only_match k name category at number) h
+        by_number name at (Some category) number h = subst (λ (n : ℕ). GrammarHolds c.grammar n x) (only_match k name category at number) h
 
-        by_name : (o : Option (List ℕ)) → slice_get d.handlers k ≡ o → IsSomeAnd o (λ name. IsSomeAnd (number_of (category_names d.formula) name) (λ category. GrammarHolds c.grammar category w)) → grammar.IsWord c.grammar w
+        by_name : (o : Option (List ℕ)) → slice_get d.handlers k ≡ o → IsSomeAnd o (λ name. IsSomeAnd (number_of (category_names d.formula) name) (λ category. GrammarHolds c.grammar category x)) → grammar.IsWord c.grammar x
         by_name None at h = absurd h
         by_name (Some name) at h = by_number name at (number_of (category_names d.formula) name) refl h
 
-    -- a word of the grammar hits the first handler
-    word_is_hit : (w : List ℕ) → All (λ e. e < length c.params) w → IsBegun rules w → goal.groups ≢ [] → grammar.IsWord c.grammar w → IsHit m w 0
-    word_is_hit w letters begun some word =
+    -- a word of the grammar is in the category of the first handler
+    word_is_hit : (x : List ℕ) → All (λ e. e < length c.params) x → x ≢ [] → goal.groups ≢ [] → grammar.IsWord c.grammar x → IsInCategory d x 0
+    word_is_hit x letters more some word =
         let first = first_handler (number_of (category_names d.formula)) goal.groups d.handlers found some in
         let zero_category : first.1 ≡ 0 = only_match 0 first.0 first.1 first.2 first.3 in
         let number : number_of (category_names d.formula) first.0 ≡ Some 0 = first.3 ∙ ap (λ (n : ℕ). Some n) zero_category in
-        let handled : IsHandledBy rules w 0 =
-        subst (λ (o : Option (List ℕ)). IsSomeAnd o (λ name. IsSomeAnd (number_of (category_names d.formula) name) (λ category. GrammarHolds c.grammar category w))) (sym first.2)
-        (subst (λ (o : Option ℕ). IsSomeAnd o (λ category. GrammarHolds c.grammar category w)) (sym number) word) in
-        (hit_handled rules set w letters begun 0).0 handled
+        let handled : IsHandledBy rules x 0 =
+        subst (λ (o : Option (List ℕ)). IsSomeAnd o (λ name. IsSomeAnd (number_of (category_names d.formula) name) (λ category. GrammarHolds c.grammar category x))) (sym first.2)
+        (subst (λ (o : Option ℕ). IsSomeAnd o (λ category. GrammarHolds c.grammar category x)) (sym number) word) in
+        (handled_told rules set x letters more 0).0 handled
+
+    -- where a word is in a handled category, there is a handler
+    handled_some : (x : List ℕ) (k : ℕ) → IsInCategory d x k → goal.groups ≢ []
+    handled_some x k hit = no_handler (number_of (category_names d.formula)) goal.groups d.handlers k found (some_within (IsNamedCategory d x) d.handlers k hit)
 
     all_available : (dead : ℕ) (u : List ℕ) → AllByRecursion (IsAvailable m dead) u ↔ All (charts.IsAvailable c.params dead) u
     all_available dead [] = (λ h. all_places (charts.IsAvailable c.params dead) [] tt, λ h. tt)
@@ -140,88 +145,69 @@ module _ (d : RuleDefinition) (c : ChartsDefinition) (goal : GoalDefinition) (se
         go [] h = tt
         go (e ∷ u) h = (((available_same dead e).0 h.0).0, go u h.1)
 
-    -- a word that began so can be hit again where it is alive
-    pub word_can_hit : (w : List ℕ) (dead : ℕ) → All (λ e. e < length c.params) w → IsBegun rules w → CanHit m w dead 0 ↔ ((goal.groups ≢ []) × IsAliveFor c.grammar c.params dead w)
-    word_can_hit w dead letters begun = (
-      λ can.
-          let u = can.next ∷ can.rest in
-          let more = below dead u can.available in (
-            no_handler (number_of (category_names d.formula)) goal.groups d.handlers can.handler found can.hit.2,
-            (
-              u,
-              (all_available dead u).0 can.available,
-              hit_is_word (w ++ u) (All-append (λ e. e < length c.params) w u letters more) (later can.next can.rest) can.handler can.hit,
-              word_there [] can.next can.rest,
-            ),
-          ),
-      λ h. back h.0 h.1.0 h.1.1 h.1.2 h.1.3,
+    -- a word that began so can't be hit again exactly where what is left of it isn't alive
+    word_never_hit : (w rest : List ℕ) (dead : ℕ) → IsRest (Resets d) w rest → All (λ e. e < length c.params) rest → IsBegun rules w → (CanHit m w dead 0 → ⊥) ↔ ((goal.groups ≢ []) × IsAliveFor c.grammar c.params dead rest → ⊥)
+    word_never_hit w rest dead left letters begun = (
+      λ never alive. to never alive.0 alive.1.0 alive.1.1 alive.1.2 alive.1.3,
+      λ quiet. never.1 (λ e may created u later hits.
+          let available : AllByRecursion (IsAvailable m dead) (e ∷ u) = (may, later) in
+          let all = All-append (λ e. e < length c.params) rest (e ∷ u) letters (below dead (e ∷ u) available) in
+          quiet (
+            handled_some (rest ++ e ∷ u) hits.0 hits.1,
+            (e ∷ u, (all_available dead (e ∷ u)).0 available, hit_is_word (rest ++ e ∷ u) all (word_there rest e u) hits.0 hits.1, word_there [] e u),
+          )),
     )
       where
-        later : (e : ℕ) (u : List ℕ) → IsBegun rules (w ++ e ∷ u)
-        later e u = (word_there w e u, (created_later m w (e ∷ u) begun.0).0 begun.1)
+        never : (CanHit m w dead 0 → ⊥) ↔ ((e : ℕ) → IsAvailable m dead e → IsCreated m (w ++ e ∷ []) → IsPlain d dead rest e)
+        never = never_plainly d w rest dead left
 
-        back : goal.groups ≢ [] → (u : List ℕ) → All (charts.IsAvailable c.params dead) u → grammar.IsWord c.grammar (w ++ u) → u ≢ [] → CanHit m w dead 0
-        back some [] avail word more = absurd (more refl)
-        back some (e ∷ u) avail word more =
+        to : (CanHit m w dead 0 → ⊥) → goal.groups ≢ [] → (u : List ℕ) → All (charts.IsAvailable c.params dead) u → grammar.IsWord c.grammar (rest ++ u) → u ≢ [] → ⊥
+        to cut some [] avail word more = more refl
+        to cut some (e ∷ u) avail word more =
             let by = (all_available dead (e ∷ u)).1 avail in
-            record {
-              next = e;
-              rest = u;
-              handler = 0;
-              available = by;
-              hit = word_is_hit (w ++ e ∷ u) (All-append (λ e. e < length c.params) w (e ∷ u) letters (below dead (e ∷ u) by)) (later e u) some word;
-              owner = refl;
-            }
+            let all = All-append (λ e. e < length c.params) rest (e ∷ u) letters (below dead (e ∷ u) by) in
+            never.0 cut e by.0 ((created_later m w (e ∷ []) begun.0).0 begun.1) u by.1 (0, word_is_hit (rest ++ e ∷ u) all (word_there rest e u) some word)
 
-    -- the empty word can be hit where some first letter goes on
-    pub start_can_hit : (dead : ℕ) → CanHit m [] dead 0 ↔ ((goal.groups ≢ []) × ((e : ℕ) × BeginsWith c goal dead e))
-    start_can_hit dead = (
-      λ can.
-          let u = can.next ∷ can.rest in
-          let word = hit_is_word u (below dead u can.available) (can.hit.0, can.hit.1) can.handler can.hit in (
-            no_handler (number_of (category_names d.formula)) goal.groups d.handlers can.handler found can.hit.2,
-            (can.next, ((firsts can.next).1 can.hit.1, (available_same dead can.next).0 can.available.0, on can.next can.rest can.available.1 word)),
-          ),
-      λ h.
-          let first = h.1 in
-          back first.0 h.0 first.1.0 first.1.1 first.1.2,
+    -- the empty word can't be hit exactly where no first letter goes on
+    start_never_hit : (dead : ℕ) → (CanHit m [] dead 0 → ⊥) ↔ ((goal.groups ≢ []) × ((e : ℕ) × BeginsWith c goal dead e) → ⊥)
+    start_never_hit dead = (
+      λ cut begins. to cut begins.0 begins.1.0 begins.1.1.0 begins.1.1.1 begins.1.1.2,
+      λ quiet. never.1 (λ e may created u later hits.
+          let available : AllByRecursion (IsAvailable m dead) (e ∷ u) = (may, later) in
+          let word = hit_is_word (e ∷ u) (below dead (e ∷ u) available) (word_there [] e u) hits.0 hits.1 in
+          quiet (
+            handled_some (e ∷ u) hits.0 hits.1,
+            (e, ((firsts e).1 created, (available_same dead e).0 may, on e u later word)),
+          )),
     )
       where
+        never : (CanHit m [] dead 0 → ⊥) ↔ ((e : ℕ) → IsAvailable m dead e → IsCreated m (e ∷ []) → IsPlain d dead [] e)
+        never = never_plainly d [] [] dead refl
+
         on : (e : ℕ) (u : List ℕ) → AllByRecursion (IsAvailable m dead) u → grammar.IsWord c.grammar (e ∷ u) → GoesOn c dead e
         on e [] avail word = inl word
         on e (x ∷ u) avail word = inr (x ∷ u, (all_available dead (x ∷ u)).0 avail, word, word_there [] x u)
 
-        made : (e : ℕ) (u : List ℕ) → goal.groups ≢ [] → may_begin goal e → AllByRecursion (IsAvailable m dead) (e ∷ u) → grammar.IsWord c.grammar (e ∷ u) → CanHit m [] dead 0
-        made e u some begins avail word = record {
-          next = e;
-          rest = u;
-          handler = 0;
-          available = avail;
-          hit = word_is_hit (e ∷ u) (below dead (e ∷ u) avail) (word_there [] e u, (firsts e).0 begins) some word;
-          owner = refl;
-        }
+        hits_on : (e : ℕ) (u : List ℕ) → (CanHit m [] dead 0 → ⊥) → goal.groups ≢ [] → may_begin goal e → AllByRecursion (IsAvailable m dead) (e ∷ u) → grammar.IsWord c.grammar (e ∷ u) → ⊥
+        hits_on e u cut some begins avail word =
+            never.0 cut e avail.0 ((firsts e).0 begins) u avail.1 (0, word_is_hit (e ∷ u) (below dead (e ∷ u) avail) (word_there [] e u) some word)
 
-        back : (e : ℕ) → goal.groups ≢ [] → may_begin goal e → charts.IsAvailable c.params dead e → GoesOn c dead e → CanHit m [] dead 0
-        back e some begins avail (inl word) = made e [] some begins ((available_same dead e).1 avail, tt) word
-        back e some begins avail (inr more) = made e more.0 some begins ((available_same dead e).1 avail, (all_available dead more.0).1 more.1) more.2
+        to : (CanHit m [] dead 0 → ⊥) → goal.groups ≢ [] → (e : ℕ) → may_begin goal e → charts.IsAvailable c.params dead e → GoesOn c dead e → ⊥
+        to cut some e begins avail (inl word) = hits_on e [] cut some begins ((available_same dead e).1 avail, tt) word
+        to cut some e begins avail (inr more) = hits_on e more.0 cut some begins ((available_same dead e).1 avail, (all_available dead more.0).1 more.1) more.2
 
-    -- the runs of the charts
-    pub parse_can_hit : (configuration : Configuration) (w : List ℕ) (dead : ℕ) → IsConfigurationOf rules configuration w → CanHit m w dead 0 ↔ ((goal.groups ≢ []) × CanMatch c goal configuration w dead)
-    parse_can_hit Start w dead h = subst (λ (x : List ℕ). CanHit m x dead 0 ↔ ((goal.groups ≢ []) × ((e : ℕ) × BeginsWith c goal dead e))) (sym h) (start_can_hit dead)
-    parse_can_hit Barren w dead h =
-        (λ can. let need = (can_hit_needed m dead w 0 (λ k. refl)).0 can in absurd (barren_never d w need.0 h.0 h.1 need.1), λ never. absurd never.1)
-    parse_can_hit (Parse chart) w dead h = word_can_hit w dead h.1.0 h.0
-    parse_can_hit (State s) w dead h = absurd h.1
+    -- of a configuration's word this is left
+    parse_never_hit : (configuration : Configuration) (w rest : List ℕ) (dead : ℕ) → IsConfigurationOf rules configuration w → IsRest (Resets d) w rest → All (λ e. e < length c.params) rest
+        → (CanHit m w dead 0 → ⊥) ↔ ((goal.groups ≢ []) × CanMatch c goal configuration rest dead → ⊥)
+    parse_never_hit Start w rest dead h left letters = subst (λ (x : List ℕ). (CanHit m x dead 0 → ⊥) ↔ ((goal.groups ≢ []) × ((e : ℕ) × BeginsWith c goal dead e) → ⊥)) (sym h) (start_never_hit dead)
+    parse_never_hit Barren w rest dead h left letters =
+        (λ never both. both.1, λ _ can. barren_quiet d w dead h.0 h.1 can)
+    parse_never_hit (Parse chart) w rest dead h left letters = word_never_hit w rest dead left letters h.0
+    parse_never_hit (State s) w rest dead h left letters = absurd h.1.2
 
-  pub matching_cut : is_failing_grammar d ≡ false → (configuration : Configuration) (w : List ℕ) (dead : ℕ) → IsConfigurationOf rules configuration w → ((goal.groups ≢ []) × CanMatch c goal configuration w dead → ⊥) ↔ IsCutWord m w dead
-  matching_cut matching configuration w dead h =
-      let can = parse_can_hit matching configuration w dead h in
+  pub matching_cut : is_failing_grammar d ≡ false → (configuration : Configuration) (w rest : List ℕ) (dead : ℕ) → IsConfigurationOf rules configuration w → IsRest (Resets d) w rest → All (λ e. e < length c.params) rest
+      → ((goal.groups ≢ []) × CanMatch c goal configuration rest dead → ⊥) ↔ IsCutWord m w dead
+  matching_cut matching configuration w rest dead h left letters =
+      let never = parse_never_hit matching configuration w rest dead h left letters in
       let cut = cut_words d w dead matching in
-      (λ never. cut.0 (λ hit. never (can.0 hit)), λ is_cut both. cut.1 is_cut (can.1 both))
-
--- the configuration of a word is one of it, so far as its chart tells
-pub parse_of_run : (d : RuleDefinition) (c : ChartsDefinition) (configuration : Configuration) (w : List ℕ) → IsConfigurationOf (record { definition = d; engine = Parses c }) configuration w → IsParseOf c configuration w
-parse_of_run d c (Parse chart) w h = h.1.1
-parse_of_run d c Start w h = tt
-parse_of_run d c Barren w h = tt
-parse_of_run d c (State s) w h = tt
+      (λ quiet. cut.0 (never.1 quiet), λ is_cut. never.0 (cut.1 is_cut))

@@ -13,7 +13,7 @@ use Rattle.jm_grammar.proofs.ReadLemmas as grammar_reading
 use Rattle.jm_machine.specs.declared.formula.Formula.{Formula}
 use Rattle.jm_machine.specs.declared.formula.Formula.TheVariants.{Machine, Regular, Temporal, Grammatical}
 use Rattle.jm_machine.specs.Formulas.{category_names, IsReadAs, IsRefusedIn, IsTableFault}
-use Rattle.jm_machine.specs.Handlers.{handler_names, handlers_fault}
+use Rattle.jm_machine.specs.Handlers.{handler_names, handlers_fault, resetting_handlers}
 use Rattle.jm_machine.specs.Meanings.{RuleDefinition, rules_of}
 use Rattle.jm_machine.specs.Compiling.{formula_of, IsCompiledFrom, IsFaultyTree, in_formula, in_handlers, in_table}
 use Rattle.jm_machine.proofs.OptionLemmas.{never_some}
@@ -75,11 +75,11 @@ module _ (bytes : List ℕ) (tokens : List Token) (tree : SpecTree) (r : RuleDef
 
   pub one_rules : (s : RuleDefinition) → IsCompiledFrom bytes tokens tree s → r ≡ s
   one_rules s other =
-      told.rules ∙ ap (λ f. rules_of tree.table tree.full_binding f (handler_names bytes tree.handlers.items)) (same_formula s.formula other.read) ∙ sym other.rules
+      told.rules ∙ ap (λ f. rules_of tree.table tree.full_binding f (handler_names bytes tree.handlers.items) (resetting_handlers bytes tokens tree.handlers.items)) (same_formula s.formula other.read) ∙ sym other.rules
 
   pub rules_or_fault : (fault : SpecFault) → IsFaultyTree bytes tokens tree fault → ⊥
   rules_or_fault fault (in_formula refused) = formula_or_fault bytes (formula_of tokens tree) tree.table tree.logic r.formula fault told.read refused
   rules_or_fault fault (in_handlers f read bad) =
-      never_some (sym told.handled ∙ ap (λ g. handlers_fault bytes tokens (category_names g) tree.handlers.items) (same_formula f read) ∙ bad)
+      never_some (sym told.handled ∙ ap (λ g. handlers_fault bytes tree.full_binding tokens (category_names g) tree.handlers.items) (same_formula f read) ∙ bad)
   rules_or_fault fault (in_table f read handled bad) =
       told.settled fault (subst (λ g. IsTableFault g (length tree.table.events) fault) (sym (same_formula f read)) bad)

@@ -1,7 +1,8 @@
 -- What compiled rules know beside their property: the outlook of what runs it.
-use Rattle.std.specs.Prelude.{◌≡◌, ◌<◌, Bool, All, map}
+use Rattle.std.specs.Prelude.{◌≡◌, ◌<◌, Bool, [], All, map}
 use Rattle.jm_events.specs.Events.{EventDefinitions}
 use Rattle.jm_goal.specs.Goals.{GoalDefinition}
+use Rattle.jm_earley.specs.Charts.{IsChartOf}
 use Rattle.jm_machine.specs.declared.engine.Engine.{Engine}
 use Rattle.jm_machine.specs.declared.engine.Engine.TheVariants.{States, Parses}
 use Rattle.jm_machine.specs.declared.outlook.Outlook.{Outlook}
@@ -14,7 +15,8 @@ use Rattle.jm_machine.specs.Outlooks.{AreFactsOf, AreFirstCharts}
 -- which outlook is that of what runs a property
 abbrev pub IsOutlookOf : Engine → GoalDefinition → EventDefinitions → Bool → Outlook → Type 0
 IsOutlookOf (States t) goal events failing (Table facts) = AreFactsOf t goal events facts
-IsOutlookOf (Parses c) goal events failing (Grammar facts) = AreFirstCharts c facts.firsts × (facts.failing ≡ failing)
+IsOutlookOf (Parses c) goal events failing (Grammar facts) =
+    IsChartOf c [] facts.begin × AreFirstCharts c facts.firsts × (facts.failing ≡ failing)
 IsOutlookOf _ goal events failing _ = ⊥
 
 -- what the rules keep: events of these masks, charts for a grammar alone, and the outlook

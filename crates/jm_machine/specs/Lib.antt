@@ -1,4 +1,5 @@
 pub mod Formulas
+pub mod Rests
 pub mod Handlers
 pub mod Meanings
 pub mod Compiling

@@ -1,23 +1,26 @@
 -- What a specification means.
-use Rattle.std.specs.Prelude.{ℕ, ◌^◌, ◌-◌, Bool, false, ◌&&◌, codes, List, length, map, filter, IsSomeAnd, slice_get, unwrap_or, if◌then◌else◌}
+use Rattle.std.specs.Prelude.{ℕ, ◌^◌, ◌-◌, Bool, false, ◌&&◌, codes, List, Contains, length, map, filter, IsSomeAnd, slice_get, unwrap_or, if◌then◌else◌}
 use Rattle.std.specs.List.{range_with_len, list_any}
 use Rattle.std.specs.Str.{bytes_eq}
 use Rattle.std.specs.Option.{option_map_or}
 use Rattle.jm_model.specs.Words.{Text, Word, Mask}
-use Rattle.jm_model.specs.Meanings.{Meaning}
+use Rattle.jm_model.specs.Meanings.{Meaning, IsHit}
 use Rattle.jm_events.specs.Names.{number_of}
 use Rattle.jm_events.specs.Events.{EventDefinitions}
 use Rattle.jm_machine.specs.declared.formula.Formula.{Formula}
 use Rattle.jm_machine.specs.Formulas.{category_names, is_grammar, CategoryHolds}
+use Rattle.jm_machine.specs.Rests.{IsAsked}
 
 -- The rules of a specification: the parameters of each letter; the creation letters; the parameters that a reported
--- instance has to bind; the property; and the name of the category that each handler is for.
+-- instance has to bind; the property; the name of the category that each handler is for; and the handlers that reset
+-- the property, by their numbers.
 pub record RuleDefinition : Type 0 where
   pub masks : List Mask
   pub creation : List ℕ
   pub must_bind : Mask
   pub formula : Formula
   pub handlers : List Text
+  pub resets : List ℕ
 
 module _ (r : RuleDefinition) where
   -- the category of this name holds of the word
@@ -25,11 +28,24 @@ module _ (r : RuleDefinition) where
   IsNamedCategory word name = IsSomeAnd (number_of (category_names r.formula) name)
       (λ category. CategoryHolds r.formula (length r.masks) category word)
 
+  -- the category of handler k holds of the word
+  abbrev pub IsInCategory : Word → ℕ → Type 0
+  IsInCategory word k = IsSomeAnd (slice_get r.handlers k) (IsNamedCategory word)
+
+  -- the word resets the property: the category of a handler that resets it holds of the word
+  abbrev pub Resets : Word → Type 0
+  Resets word = (k : ℕ) × Contains r.resets k × IsInCategory word k
+
+  -- handler k runs after the word, if that begins as it may: its category holds of what is left of the word since the
+  -- last reset
+  abbrev pub Runs : Word → ℕ → Type 0
+  Runs word k = (asked : Word) × IsAsked Resets word asked × IsInCategory asked k
+
   -- the property is a grammar, and `fail` is handled
   abbrev pub is_failing_grammar : Bool
   is_failing_grammar = is_grammar r.formula && list_any (bytes_eq (codes "fail")) r.handlers
 
-  -- what they mean: handler k is for the words of which its category holds
+  -- what they mean
   abbrev pub rules_meaning : Meaning
   rules_meaning = record {
     letters = length r.masks;
@@ -38,9 +54,13 @@ module _ (r : RuleDefinition) where
     creation = r.creation;
     handlers = length r.handlers;
     property_of = λ k. 0;
-    Holds = λ word k. IsSomeAnd (slice_get r.handlers k) (IsNamedCategory word);
+    Holds = Runs;
     coarse_cut = λ j. is_failing_grammar;
   }
+
+  -- the word hits a handler that resets the property
+  abbrev pub IsResetBy : Word → Type 0
+  IsResetBy word = (k : ℕ) × Contains r.resets k × IsHit rules_meaning word k
 
 -- ---- the rules that events, modifiers, a property and handlers say
 
@@ -56,11 +76,12 @@ module _ (t : EventDefinitions) where
   abbrev pub must_bind_of : Bool → Mask
   must_bind_of full_binding = if full_binding then 2 ^ length t.parameters - 1 else 0
 
-  abbrev pub rules_of : Bool → Formula → List Text → RuleDefinition
-  rules_of full_binding formula handlers = record {
+  abbrev pub rules_of : Bool → Formula → List Text → List ℕ → RuleDefinition
+  rules_of full_binding formula handlers resets = record {
     masks = map (λ e. e.mask) t.events;
     creation = creation_letters;
     must_bind = must_bind_of full_binding;
     formula = formula;
     handlers = handlers;
+    resets = resets;
   }

@@ -1,10 +1,10 @@
 -- What may still follow the runs of compiled rules, as it is kept.
-use Rattle.std.specs.Prelude.{ℕ, ◌≡◌, ◌<◌, ◌↔◌, ◌⊎◌, Bool, List, [], ◌∷◌, Some, IsBitSet, IsSomeAnd, length, slice_get, slice_index}
+use Rattle.std.specs.Prelude.{ℕ, ◌≡◌, ◌<◌, ◌↔◌, ◌⊎◌, Bool, true, false, List, [], ◌∷◌, Some, IsBitSet, IsSomeAnd, length, slice_get, slice_index}
 use Rattle.jm_model.specs.Words.{Word, Mask}
 use Rattle.jm_events.specs.Events.{EventDefinitions}
 use Rattle.jm_goal.specs.Goals.{GoalDefinition}
 use Rattle.jm_table.specs.Tables.{Transitions, IsTable, next_of}
-use Rattle.jm_coenable.specs.Needs.{NeedSets, AreNeedsOf, IsAlive, IsNeededFrom, IsNeededAtStart}
+use Rattle.jm_coenable.specs.Needs.{NeedSets, AreNeedsOf, IsAlive, IsNeededFrom, IsNeededAtStart, step_of}
 use Rattle.jm_grammar.specs.Meanings.{IsWord}
 use Rattle.jm_earley.specs.Charts.{ChartsDefinition, ChartDefinition, IsChartOf}
 use Rattle.jm_earley.specs.DeadSets.{IsAvailable}
@@ -40,23 +40,24 @@ module _ (t : Transitions) (hits : List ℕ) where
     pub stays : next_of t state e ≡ state
     pub quiet : slice_index hits state ≡ 0
 
-  -- the letter leads from the state to one that hits nothing, and from which no word leads to a handled one
-  pub record IsEndingLetter (needs : NeedSets) (state e : ℕ) : Type 0 where
+  -- the letter leads from the state to one that hits nothing, and from which no word leads to a handled one; from the
+  -- start where the property is reset at the state
+  pub record IsEndingLetter (goal : GoalDefinition) (needs : NeedSets) (state e : ℕ) : Type 0 where
     pub letter : e < t.letters
-    pub quiet : slice_index hits (next_of t state e) ≡ 0
+    pub quiet : slice_index hits (step_of t goal state e) ≡ 0
     pub ends : (u : Transitions) (g : GoalDefinition) (v : EventDefinitions) → AreNeedsOf u g v needs
-        → IsAlive (IsNeededFrom u g v (next_of t state e)) 0 → ⊥
+        → IsAlive (IsNeededFrom u g v (step_of t goal state e)) 0 → ⊥
 
   abbrev pub AreIdle : List ℕ → Type 0
   AreIdle idle = (state e : ℕ) → state < t.states → IsBitSet (slice_index idle state) e → IsIdleLetter state e
 
-  abbrev pub AreEnding : NeedSets → List ℕ → Type 0
-  AreEnding needs ending =
-      (state e : ℕ) → state < t.states → IsBitSet (slice_index ending state) e → IsEndingLetter needs state e
+  abbrev pub AreEnding : GoalDefinition → NeedSets → List ℕ → Type 0
+  AreEnding goal needs ending =
+      (state e : ℕ) → state < t.states → IsBitSet (slice_index ending state) e → IsEndingLetter goal needs state e
 
 -- words can't begin with the letter, or it leads from the start to such a state
 abbrev pub IsFirstEnding : Transitions → GoalDefinition → List ℕ → NeedSets → ℕ → Type 0
-IsFirstEnding t goal hits needs e = (e < t.letters) × ((may_begin goal e → ⊥) ⊎ IsEndingLetter t hits needs 0 e)
+IsFirstEnding t goal hits needs e = (e < t.letters) × ((may_begin goal e → ⊥) ⊎ IsEndingLetter t hits goal needs 0 e)
 
 -- the facts of a table for this goal, whose letters are the events
 pub record AreFactsOf (t : Transitions) (goal : GoalDefinition) (events : EventDefinitions)
@@ -65,7 +66,7 @@ pub record AreFactsOf (t : Transitions) (goal : GoalDefinition) (events : EventD
   pub count : length f.hits ≡ t.states
   pub hits : AreHandlerMasks (States t) goal f.hits
   pub idle : AreIdle t f.hits f.idle
-  pub ending : AreEnding t f.hits f.needs f.ending
+  pub ending : AreEnding t f.hits goal f.needs f.ending
   pub first_ending : (e : ℕ) → IsBitSet f.first_ending e → IsFirstEnding t goal f.hits f.needs e
   pub needs : AreNeedsOf t goal events f.needs
 
@@ -78,8 +79,9 @@ CanHitFrom t g v _ dead = ⊥
 
 -- ---- of a grammar
 
--- The charts of the words of one letter, and whether `fail` is handled.
+-- The chart of the empty word, the charts of the words of one letter, and whether `fail` is handled.
 pub record ParseFacts : Type 0 where
+  pub begin : ChartDefinition
   pub firsts : List ChartDefinition
   pub failing : Bool
 
@@ -97,13 +99,14 @@ module _ (c : ChartsDefinition) where
   abbrev pub BeginsWith : GoalDefinition → Mask → ℕ → Type 0
   BeginsWith goal dead e = may_begin goal e × IsAvailable c.params dead e × GoesOn dead e
 
-  -- the configuration is that of a word, so far as its chart tells
-  abbrev pub IsParseOf : Configuration → Word → Type 0
-  IsParseOf (Parse chart) word = IsChartOf c word chart.value
-  IsParseOf _ word = Unit {0}
+  -- so much is left of the words of the configuration, so far as its chart tells: nothing where the property was reset
+  abbrev pub IsLeftOf : Configuration → Bool → Word → Type 0
+  IsLeftOf (Parse chart) true word = word ≡ []
+  IsLeftOf (Parse chart) false word = IsChartOf c word chart.value
+  IsLeftOf _ reset word = Unit {0}
 
-  -- some word of one or more letters without a dead parameter, put after the configuration's word, is in the language;
-  -- after the empty word it is one that may begin so
+  -- some word of one or more letters without a dead parameter, put after what is left of the configuration's word, is
+  -- in the language; after the empty word it is one that may begin so
   abbrev pub CanMatch : GoalDefinition → Configuration → Word → Mask → Type 0
   CanMatch goal Start word dead = (e : ℕ) × BeginsWith goal dead e
   CanMatch goal (Parse chart) word dead = IsAliveFor c.grammar c.params dead word

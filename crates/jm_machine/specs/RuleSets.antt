@@ -24,30 +24,32 @@ pub record IsRuleSet (r : CompiledRules) : Type 0 where
 
 -- ---- the rules that a goal says
 
--- the letters below a number whose bits are set
-abbrev pub has_letter_bit : ℕ → ℕ → Bool
-has_letter_bit mask letter = not (bit_and mask (2 ^ letter) == 0)
+-- the numbers below another whose bits are set
+abbrev pub has_bit : ℕ → ℕ → Bool
+has_bit mask number = not (bit_and mask (2 ^ number) == 0)
 
-abbrev pub letters_of : ℕ → ℕ → List ℕ
-letters_of mask count = filter (has_letter_bit mask) (range_with_len 0 count)
+abbrev pub numbers_of : ℕ → ℕ → List ℕ
+numbers_of mask count = filter (has_bit mask) (range_with_len 0 count)
 
 -- what masks, a formula, handled categories and a goal mean
 abbrev pub definition_of : List Mask → Formula → List Text → GoalDefinition → RuleDefinition
 definition_of masks formula handlers goal = record {
   masks = masks;
-  creation = letters_of goal.creation (length masks);
+  creation = numbers_of goal.creation (length masks);
   must_bind = goal.must_bind;
   formula = formula;
   handlers = handlers;
+  resets = numbers_of goal.resets (length handlers);
 }
 
--- there are at most 32 letters, the creation letters are some of them, and the group of each handler is the number of
--- its category
+-- there are at most 32 letters, the creation letters are some of them, the group of each handler is the number of its
+-- category, and the handlers that reset are some of them
 pub record IsGoalOf (masks : List Mask) (formula : Formula) (handlers : List Text)
     (goal : GoalDefinition) : Type 0 where
   pub few : length masks ≤ 32
   pub creation : (letter : ℕ) → IsBitSet goal.creation letter → letter < length masks
   pub groups : map Some goal.groups ≡ map (number_of (category_names formula)) handlers
+  pub resets : (handler : ℕ) → IsBitSet goal.resets handler → handler < length handlers
 
 -- a word may begin with the letter: its bit is set, or none is
 abbrev pub may_begin : GoalDefinition → ℕ → Type 0

@@ -1,5 +1,5 @@
 //! What the rules of a specification are run for.
-ghost use Rattle.std.specs.Prelude.{ℕ, ◌≡◌, ◌<◌, ◌≤◌, ◌^◌, ◌-◌, ◌↔◌, Some, IsTrue, IsBitSet, IfOk, IfErr, length, map};
+ghost use Rattle.std.specs.Prelude.{ℕ, ◌≡◌, ◌<◌, ◌≤◌, ◌^◌, ◌-◌, ◌↔◌, ◌⊎◌, Some, false, IsTrue, IsBitSet, IfOk, IfErr, length, map};
 ghost use Rattle.jm_events.specs.Names.{number_of};
 ghost use Rattle.jm_events.specs.Events.{IsCreation};
 ghost use Rattle.jm_machine.specs.Handlers.{AreCategories};
@@ -13,24 +13,29 @@ use jm_model::{Letter, SpecError};
 use jm_spec::SpecTree;
 use std::alloc::Global;
 
-/// The goal of these handlers, over the categories of the property and the events of the tree.
+/// The goal of these handlers, over the categories of the property and the events of the tree. Bit k of `resets` says
+/// that handler k resets the property, which none does where the specification is for full bindings alone.
 pub(crate) fn goal_of(
     alloc: Global,
     tree: &SpecTree,
     categories: &Names,
     handlers: &Names,
+    resets: u16,
 ) -> Result<Goal, SpecError>
     requires categories { length categories.now ≤ 65535 }
     requires handlers { length handlers.now ≤ 16 }
     requires known { AreCategories categories.now handlers.now }
+    requires there { resets < 2 ^ length handlers.now }
+    requires apart { (resets ≡ 0) ⊎ (tree.now.full_binding ≡ false) }
     ensures groups { IfOk result (λ goal. map Some goal.groups ≡ map (number_of categories.now) handlers.now) }
     ensures creation { IfOk result (λ goal. (k : ℕ) → IsBitSet goal.creation k ↔ IsCreation tree.now.table k) }
     ensures must_bind { IfOk result (λ goal. goal.must_bind ≡ must_bind_of tree.now.table tree.now.full_binding) }
+    ensures resets { IfOk result (λ goal. goal.resets ≡ resets) }
     ensures err { IfErr result (λ e. e ≡ SpecError.NoMemory) }
 {
     let groups = groups_of(alloc, categories, handlers)?;
     let must_bind = must_bind_of(&tree.table, tree.full_binding);
-    Ok(Goal::new(groups, tree.table.creation(), must_bind))
+    Ok(Goal::new(groups, tree.table.creation(), must_bind, resets))
 }
 
 /// All parameters where the specification is for full bindings alone, else none.

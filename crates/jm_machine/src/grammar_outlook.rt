@@ -1,9 +1,10 @@
 //! What may still follow the charts of a grammar.
 ghost use Rattle.std.specs.Prelude.{ℕ, ◌≡◌, ◌≢◌, ◌<◌, ◌≤◌, ◌↔◌, ◌∷◌, [], List, true, false, IsTrue, IfOk, length};
+ghost use Rattle.jm_earley.specs.Charts.{IsChartOf};
 ghost use Rattle.jm_earley.specs.DeadSets.{IsAvailable};
 ghost use Rattle.jm_machine.specs.declared.engine.Engine.TheVariants.{Parses};
 ghost use Rattle.jm_machine.specs.Engines.{IsPlaceOf};
-ghost use Rattle.jm_machine.specs.Outlooks.{AreFirstCharts, BeginsWith, GoesOn, IsParseOf, CanMatch};
+ghost use Rattle.jm_machine.specs.Outlooks.{AreFirstCharts, BeginsWith, GoesOn, IsLeftOf, CanMatch};
 
 use crate::configuration::Configuration;
 use crate::engine::configuration_of;
@@ -14,8 +15,10 @@ use jm_model::{Letter, NoMemory};
 use std::alloc::Global;
 use std::marker::Model;
 
-/// The charts of the words of one letter, and whether `fail` is handled. Contracts see it as its `ParseFacts`.
+/// The chart of the empty word, the charts of the words of one letter, and whether `fail` is handled. Contracts see it
+/// as its `ParseFacts`.
 pub(crate) struct GrammarOutlook {
+    begin: Chart,
     firsts: Vec<Chart>,
     failing: bool,
 }
@@ -24,6 +27,7 @@ pub(crate) struct GrammarOutlook {
 impl Drop for GrammarOutlook {
     fn drop(self) {
         let GrammarOutlook {
+            begin: _,
             firsts: _,
             failing: _,
         } = self;
@@ -35,7 +39,7 @@ impl Model for GrammarOutlook {
 
     ghost Value = { ParseFacts };
 
-    ghost view = { λ o. record { firsts = o.firsts.items; failing = o.failing } };
+    ghost view = { λ o. record { begin = o.begin; firsts = o.firsts.items; failing = o.failing } };
 }
 
 impl GrammarOutlook {
@@ -47,11 +51,17 @@ impl GrammarOutlook {
         failing: bool,
     ) -> Result<GrammarOutlook, NoMemory>
         requires { letters ≡ length charts.now.params }
+        ensures begin { IfOk result (λ o. IsChartOf charts.now [] o.begin) }
         ensures firsts { IfOk result (λ o. AreFirstCharts charts.now o.firsts) }
         ensures failing { IfOk result (λ o. o.failing ≡ failing) }
     {
-        let firsts = first_charts(alloc, charts, letters)?;
-        Ok(GrammarOutlook { firsts, failing })
+        let begin = charts.begin()?;
+        let firsts = first_charts(alloc, charts, &begin, letters)?;
+        Ok(GrammarOutlook {
+            begin,
+            firsts,
+            failing,
+        })
     }
 
     /// The configuration of the word of one letter.
@@ -70,8 +80,9 @@ impl GrammarOutlook {
         configuration_of(alloc, chart)
     }
 
-    /// Whether an instance with this configuration can never fire again. Where `fail` is handled that is so only where
-    /// no letter is without a dead parameter. The masks are the parameters of the letters.
+    /// Whether an instance with this configuration, whose property may have been reset there, can never fire again.
+    /// Where `fail` is handled that is so only where no letter is without a dead parameter. The masks are the
+    /// parameters of the letters.
     #[inline(never)]
     pub(crate) fn is_cut(
         &self,
@@ -79,41 +90,48 @@ impl GrammarOutlook {
         goal: &Goal,
         masks: &[u8],
         configuration: &Configuration,
+        reset: bool,
         dead: u8,
     ) -> bool
+        requires begin { IsChartOf charts.now [] self.now.begin }
         requires firsts { AreFirstCharts charts.now self.now.firsts }
         requires masks { masks.now ≡ charts.now.params }
         requires few { length masks.now ≤ 32 }
         ensures failing { self.now.failing ≡ true →
             IsTrue result ↔ ((e : ℕ) → IsAvailable charts.now.params dead e → ⊥) }
-        ensures matching { self.now.failing ≡ false → (word : List ℕ) → IsParseOf charts.now configuration.now word →
+        ensures matching { self.now.failing ≡ false → (word : List ℕ)
+            → IsLeftOf charts.now configuration.now reset word →
             IsTrue result ↔ ((goal.now.groups ≢ []) × CanMatch charts.now goal.now configuration.now word dead → ⊥) }
     {
         if self.failing {
             masks.iter().all(|mask| mask & dead != 0)
         } else {
-            goal.handlers() == 0 || !self.can_match(charts, goal, masks, configuration, dead)
+            goal.handlers() == 0 || !self.can_match(charts, goal, masks, configuration, reset, dead)
         }
     }
 
-    /// Whether some word of one or more letters without a dead parameter, put after the word of the configuration, is
-    /// in the language. After the empty word it is one that may begin so. The masks are the parameters of the letters.
+    /// Whether some word of one or more letters without a dead parameter, put after what is left of the configuration's
+    /// word, is in the language. After the empty word it is one that may begin so. The masks are the parameters of the
+    /// letters.
     pub(crate) fn can_match(
         &self,
         charts: &Charts,
         goal: &Goal,
         masks: &[u8],
         configuration: &Configuration,
+        reset: bool,
         dead: u8,
     ) -> bool
+        requires begin { IsChartOf charts.now [] self.now.begin }
         requires firsts { AreFirstCharts charts.now self.now.firsts }
         requires masks { masks.now ≡ charts.now.params }
         requires few { length masks.now ≤ 32 }
-        ensures { (word : List ℕ) → IsParseOf charts.now configuration.now word →
+        ensures { (word : List ℕ) → IsLeftOf charts.now configuration.now reset word →
             IsTrue result ↔ CanMatch charts.now goal.now configuration.now word dead }
     {
         match configuration {
             Configuration::Start => self.can_begin(charts, goal, masks, dead),
+            Configuration::Parse(_) if reset => charts.alive(&self.begin, dead),
             Configuration::Parse(chart) => charts.alive(chart, dead),
             _ => false,
         }
@@ -167,15 +185,20 @@ impl GrammarOutlook {
     }
 }
 
-/// The charts of the words of one letter.
-fn first_charts(alloc: Global, charts: &Charts, letters: u8) -> Result<Vec<Chart>, NoMemory>
-    requires { letters ≡ length charts.now.params }
+/// The charts of the words of one letter, from the chart of the empty word.
+fn first_charts(
+    alloc: Global,
+    charts: &Charts,
+    begin: &Chart,
+    letters: u8,
+) -> Result<Vec<Chart>, NoMemory>
+    requires begin { IsChartOf charts.now [] begin.now }
+    requires letters { letters ≡ length charts.now.params }
     ensures { IfOk result (λ firsts. AreFirstCharts charts.now firsts.items) }
 {
-    let start = charts.begin()?;
     let mut firsts = Vec::with_capacity(alloc, letters as usize)?;
     for letter in 0..letters {
-        firsts.push(charts.next(&start, Letter(letter))?)?;
+        firsts.push(charts.next(begin, Letter(letter))?)?;
     }
     Ok(firsts)
 }

@@ -1,9 +1,9 @@
-//! The handlers of a property: their categories, and what is wrong with them.
-ghost use Rattle.std.specs.Prelude.{◌≡◌, ◌<◌, ◌≤◌, Some, [], length, map, IfOk, IfErr};
+//! The handlers of a property: their categories, what is wrong with them, and which of them reset the property.
+ghost use Rattle.std.specs.Prelude.{ℕ, ◌≡◌, ◌<◌, ◌≤◌, ◌^◌, ◌↔◌, Some, true, [], IsBitSet, IsSomeAnd, length, map, slice_get, slice_range, IfOk, IfErr};
 ghost use Rattle.jm_text.specs.Spans.{LieWithin};
 ghost use Rattle.jm_reading.specs.Faults.{Checks};
 ghost use Rattle.jm_events.specs.Names.{number_of};
-ghost use Rattle.jm_machine.specs.Handlers.{handler_names, AreCategories, count_fault, duplicate_fault, category_fault, reset_in, reset_fault, handlers_fault};
+ghost use Rattle.jm_machine.specs.Handlers.{handler_names, AreCategories, count_fault, duplicate_fault, category_fault, reset_in, reset_fault, binding_fault, handlers_fault, has_reset};
 
 use jm_events::Names;
 use jm_model::{Counted, SpecError, SpecFault};
@@ -16,7 +16,7 @@ const MAX_HANDLERS: usize = 16;
 
 /// The names of the categories that are handled, or what is wrong with the handlers, where the property has these
 /// categories. Each of these steps is done for all handlers before the next: how many there are, whether two are for
-/// one category, whether each category is there, and what stands in the blocks.
+/// one category, whether each category is there, and, for full bindings alone, whether one resets the property.
 #[tactic(auto, unfolding(crate::specs::Handlers::handlers_fault))]
 pub(crate) fn handled(
     alloc: Global,
@@ -24,17 +24,19 @@ pub(crate) fn handled(
     tokens: &[Token],
     categories: &Names,
     handlers: &[HandlerText],
+    full_binding: bool,
 ) -> Result<Names, SpecError>
     requires { LieWithin bytes.now tokens.now }
     ensures names { IfOk result (λ names. names ≡ handler_names bytes.now handlers.now) }
     ensures few { IfOk result (λ names. length names ≤ 16) }
     ensures known { IfOk result (AreCategories categories.now) }
-    ensures checked { Checks result (handlers_fault bytes.now tokens.now categories.now handlers.now) }
+    ensures checked { Checks result
+        (handlers_fault bytes.now full_binding tokens.now categories.now handlers.now) }
 {
     check_count(handlers)?;
     let names = distinct(alloc, bytes, handlers)?;
     check_categories(bytes, categories, handlers)?;
-    without_reset(bytes, tokens, handlers)?;
+    check_bindings(bytes, tokens, handlers, full_binding)?;
     Ok(names)
 }
 
@@ -85,6 +87,23 @@ fn check_categories(
     Ok(())
 }
 
+/// Where the specification is for full bindings alone, the first word `__RESET` of all blocks.
+fn check_bindings(
+    bytes: &[u8],
+    tokens: &[Token],
+    handlers: &[HandlerText],
+    full_binding: bool,
+) -> Result<(), SpecError>
+    requires { LieWithin bytes.now tokens.now }
+    ensures { Checks result (binding_fault bytes.now full_binding tokens.now handlers.now) }
+{
+    if full_binding {
+        without_reset(bytes, tokens, handlers)
+    } else {
+        Ok(())
+    }
+}
+
 /// The first word `__RESET` of all blocks.
 fn without_reset(bytes: &[u8], tokens: &[Token], handlers: &[HandlerText]) -> Result<(), SpecError>
     requires { LieWithin bytes.now tokens.now }
@@ -104,10 +123,41 @@ fn block_without_reset(bytes: &[u8], block: &[Token]) -> Result<(), SpecError>
     for token in block {
         if is_word(bytes, *token, b"__RESET") {
             let line = token.line;
-            return Err(SpecError::Bad(SpecFault::UnsupportedHandler { line }));
+            return Err(SpecError::Bad(SpecFault::ResetWithFullBinding { line }));
         }
     }
     Ok(())
+}
+
+/// The handlers whose block has the word `__RESET`: bit k stands for handler k.
+pub(crate) fn resets_of(bytes: &[u8], tokens: &[Token], handlers: &[HandlerText]) -> u16
+    requires tokens { LieWithin bytes.now tokens.now }
+    requires few { length handlers.now ≤ 16 }
+    ensures bits { (k : ℕ) → IsBitSet result k ↔ IsSomeAnd (slice_get handlers.now k)
+        (λ h. has_reset bytes.now (slice_range tokens.now h.first h.last) ≡ true) }
+    ensures below { result < 2 ^ length handlers.now }
+{
+    let mut resets = 0;
+    for place in 0..handlers.len() {
+        let handler = &handlers[place];
+        if has_reset(bytes, range_of(tokens, handler.first, handler.last)) {
+            resets |= 1 << place;
+        }
+    }
+    resets
+}
+
+/// Whether a block has the word `__RESET`.
+fn has_reset(bytes: &[u8], block: &[Token]) -> bool
+    requires { LieWithin bytes.now block.now }
+    ensures { result ≡ has_reset bytes.now block.now }
+{
+    for token in block {
+        if is_word(bytes, *token, b"__RESET") {
+            return true;
+        }
+    }
+    false
 }
 
 /// The number of each handled category, which is there.

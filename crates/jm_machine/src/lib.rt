@@ -2,8 +2,9 @@
 //! bindings, as a monitor.
 //!
 //! `Rules::compile` makes them of the tree of a specification. What they mean stands in `specs`, apart from any table
-//! and any chart: the category of a handler holds of a word by the meaning of the logic, and a word hits nothing where
-//! it is empty or where creation events exist and its first letter isn't one.
+//! and any chart: the category of a handler holds by the meaning of the logic of what is left of a word since a handler
+//! last reset the property, and a word hits nothing where it is empty or where creation events exist and its first
+//! letter isn't one.
 #![tactic(auto)]
 
 mod configuration;
@@ -20,5 +21,5 @@ mod table_outlook;
 pub use configuration::Configuration;
 pub use engine::Engine;
 pub use formula::Formula;
-pub use laws::one_reading;
+pub use laws::{one_letter_more, one_reading, without_resets};
 pub use rules::Rules;

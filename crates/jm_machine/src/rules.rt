@@ -1,5 +1,5 @@
 //! The monitor of a specification.
-ghost use Rattle.std.specs.Prelude.{ℕ, ◌&&◌, codes, ◌≡◌, ◌<◌, ◌≤◌, ◌^◌, ◌↔◌, ◌⊎◌, [], ◌∷◌, ◌++◌, List, All, Contains, Some, None, true, false, IsTrue, IsSomeAnd, IsNone, IsBitSet, IfOk, IfErr, IfSome, length, map, slice_get};
+ghost use Rattle.std.specs.Prelude.{ℕ, ◌&&◌, codes, ◌≡◌, ◌≢◌, ◌<◌, ◌≤◌, ◌^◌, ◌↔◌, ◌⊎◌, [], ◌∷◌, ◌++◌, List, All, Contains, Some, None, true, false, IsTrue, IsSomeAnd, IsNone, IsBitSet, IfOk, IfErr, IfSome, length, map, slice_get};
 ghost use Rattle.std.specs.List.{list_any};
 ghost use Rattle.std.specs.Str.{bytes_eq};
 ghost use Rattle.jm_table.specs.Minimal.{IsReduced};
@@ -7,16 +7,17 @@ ghost use Rattle.jm_text.specs.Spans.{LieWithin};
 ghost use Rattle.jm_semantics.specs.Families.{IsFamily};
 ghost use Rattle.jm_machine.specs.Formulas.{category_names, is_grammar};
 ghost use Rattle.jm_machine.specs.Handlers.{AreCategories};
-ghost use Rattle.jm_machine.specs.Meanings.{rules_of, rules_meaning};
+ghost use Rattle.jm_machine.specs.Meanings.{Resets, rules_of, rules_meaning};
+ghost use Rattle.jm_machine.specs.Configurations.{Stands};
 ghost use Rattle.jm_machine.specs.Engines.{letters_of_engine, categories_of_engine, is_parsing, HasParams, IsPlaceOf, IsCompiled, IsMinimal};
-ghost use Rattle.jm_machine.specs.RuleSets.{IsRuleSet, IsHandledBy};
+ghost use Rattle.jm_machine.specs.RuleSets.{numbers_of, IsRuleSet, IsHandledBy};
 ghost use Rattle.jm_machine.specs.Compiling.{IsCompiledFrom, IsNotCompiled};
 
 use crate::configuration::Configuration;
 use crate::engine::{Engine, handlers_at, next_state};
 use crate::formula::Formula;
 use crate::goal::{goal_of, may_begin};
-use crate::handlers::handled;
+use crate::handlers::{handled, resets_of};
 use crate::outlook::Outlook;
 use jm_events::Names;
 use jm_goal::Goal;
@@ -79,8 +80,8 @@ impl Rules {
     /// The rules that the tree of these tokens says.
     ///
     /// The fault is the first one of the steps: those of the formula's reader; `TooMany` handlers, past 16;
-    /// `DuplicateHandler`, `UnknownCategory` and `UnsupportedHandler`, the word `__RESET` in a block; and those of the
-    /// formula's table, `TooManyStates` and `TooMany` term.
+    /// `DuplicateHandler` and `UnknownCategory`; `ResetWithFullBinding`, the word `__RESET` in a block where the
+    /// specification is for full bindings alone; and those of the formula's table, `TooManyStates` and `TooMany` term.
     pub fn compile(
         alloc: Global,
         bytes: &[u8],
@@ -98,24 +99,29 @@ impl Rules {
         let formula = Formula::read(alloc, bytes, text, line, tree)?;
         let categories = formula.categories(alloc)?;
         let texts = tree.handlers.as_slice();
-        let handlers = handled(alloc, bytes, tokens, &categories, texts)?;
+        let handlers = handled(alloc, bytes, tokens, &categories, texts, tree.full_binding)?;
+        let resets = resets_of(bytes, tokens, texts);
         let engine = formula.compile(alloc, &tree.table)?;
-        Rules::new(alloc, tree, formula, &categories, handlers, engine)
+        Rules::new(alloc, tree, formula, &categories, handlers, resets, engine)
     }
 
-    /// The rules of a formula with what runs it, and of these handled categories.
+    /// The rules of a formula with what runs it, and of these handled categories. Bit k of `resets` says that handler k
+    /// resets the property.
     fn new(
         alloc: Global,
         tree: &SpecTree,
         formula: Formula,
         categories: &Names,
         handlers: Names,
+        resets: u16,
         engine: Engine,
     ) -> Result<Rules, SpecError>
         requires categories { categories.now ≡ category_names formula }
         requires many { length categories.now ≤ 65535 }
         requires few { length handlers ≤ 16 }
         requires known { AreCategories categories.now handlers }
+        requires there { resets < 2 ^ length handlers }
+        requires apart { (resets ≡ 0) ⊎ (tree.now.full_binding ≡ false) }
         requires letters { letters_of_engine engine ≡ length tree.now.table.events }
         requires groups { categories_of_engine engine ≡ length categories.now }
         requires compiled { IsCompiled formula engine }
@@ -123,12 +129,12 @@ impl Rules {
         requires kind { is_parsing engine ≡ is_grammar formula }
         requires params { HasParams (map (λ e. e.mask) tree.now.table.events) engine }
         ensures rules { IfOk result (λ r. r.definition
-            ≡ rules_of tree.now.table tree.now.full_binding formula handlers) }
+            ≡ rules_of tree.now.table tree.now.full_binding formula handlers (numbers_of resets (length handlers))) }
         ensures fit { IfOk result (λ r. All (λ mask. mask < 2 ^ length tree.now.table.parameters) r.definition.masks) }
         ensures err { IfErr result (λ e. e ≡ SpecError.NoMemory) }
     {
         let masks = tree.table.masks(alloc)?;
-        let goal = goal_of(alloc, tree, categories, &handlers)?;
+        let goal = goal_of(alloc, tree, categories, &handlers, resets)?;
         let failing = is_failing(&formula, &handlers);
         let outlook = Outlook::new(alloc, &engine, &goal, &tree.table, failing)?;
         Ok(Rules {
@@ -216,10 +222,44 @@ impl Rules {
     fn step(&self, configuration: &Configuration, letter: Letter) -> Result<Configuration, NoMemory>
         requires { letter.0 < length self.now.definition.masks }
         ensures { IfOk result (λ next. (word : List ℕ) →
-            IsPlaceOf self.now.engine configuration.now word → IsPlaceOf self.now.engine next (word ++ letter.0 ∷ [])) }
+            Stands self.now configuration.now word → Stands self.now next (word ++ letter.0 ∷ [])) }
     {
-        self.engine
-            .next(*self.masks.allocator(), configuration, letter)
+        if self.goal.resets() == 0 {
+            self.engine
+                .next(*self.masks.allocator(), configuration, letter)
+        } else {
+            self.step_past_reset(configuration, letter)
+        }
+    }
+
+    /// The configuration of the words that have one letter more, of which there is one already, where the property may
+    /// be reset: from the start where it is, and else from the configuration.
+    #[inline(never)]
+    fn step_past_reset(
+        &self,
+        configuration: &Configuration,
+        letter: Letter,
+    ) -> Result<Configuration, NoMemory>
+        requires { letter.0 < length self.now.definition.masks }
+        ensures { IfOk result (λ next. (word : List ℕ) →
+            Stands self.now configuration.now word → Stands self.now next (word ++ letter.0 ∷ [])) }
+    {
+        if self.is_reset(configuration) {
+            self.first(letter)
+        } else {
+            self.engine
+                .next(*self.masks.allocator(), configuration, letter)
+        }
+    }
+
+    /// Whether the property is reset at a configuration, so that the next letter leads on from the start.
+    #[inline(never)]
+    fn is_reset(&self, configuration: &Configuration) -> bool
+        ensures { (asked : List ℕ) → asked ≢ [] → IsPlaceOf self.now.engine configuration.now asked →
+            IsTrue result ↔ Resets self.now.definition asked }
+    {
+        let resets = self.goal.resets();
+        resets != 0 && self.handlers_at(configuration) & resets != 0
     }
 
     /// The handlers whose categories hold of the words of a configuration: bit k stands for handler k.
@@ -311,7 +351,15 @@ impl Monitor for Rules {
         match (&self.outlook, &self.engine) {
             (Outlook::Table(outlook), _) => !outlook.can_hit(state, dead),
             (Outlook::Grammar(outlook), Engine::Parses(charts)) => {
-                outlook.is_cut(charts, &self.goal, self.masks.as_slice(), state, dead)
+                let reset = self.is_reset(state);
+                outlook.is_cut(
+                    charts,
+                    &self.goal,
+                    self.masks.as_slice(),
+                    state,
+                    reset,
+                    dead,
+                )
             }
             _ => unreachable!(),
         }

@@ -13,7 +13,7 @@ ghost use Rattle.jm_machine.specs.Outlooks.{AreHandlerMasks, IsIdleLetter, IsEnd
 use crate::configuration::Configuration;
 use crate::engine::{Engine, handlers_at};
 use crate::goal::may_begin;
-use jm_coenable::Needs;
+use jm_coenable::{Needs, step};
 use jm_events::EventTable;
 use jm_goal::Goal;
 use jm_model::{Letter, NoMemory};
@@ -78,7 +78,7 @@ impl TableOutlook {
         let needs = Needs::new(alloc, table, goal, events)?;
         let hits = handler_masks(alloc, goal, engine, table.len())?;
         let idle = idle_masks(alloc, table, hits.as_slice())?;
-        let ending = ending_masks(alloc, table, hits.as_slice(), &needs)?;
+        let ending = ending_masks(alloc, table, goal, hits.as_slice(), &needs)?;
         let first_ending = first_ending(table, goal, hits.as_slice(), &needs);
         Ok(TableOutlook {
             hits,
@@ -220,50 +220,63 @@ fn is_idle(table: &Table, hits: &[u16], state: u16, letter: Letter) -> bool
 fn ending_masks(
     alloc: Global,
     table: &Table,
+    goal: &Goal,
     hits: &[u16],
     needs: &Needs,
 ) -> Result<Vec<u32>, NoMemory>
+    requires groups { All (λ group. group < length table.now.groups) goal.now.groups }
     requires count { length hits.now ≡ table.now.states }
     requires needs { length needs.now.alive ≡ table.now.states }
-    ensures { IfOk result (λ masks. AreEnding table.now hits.now needs.now masks.items) }
+    ensures { IfOk result (λ masks. AreEnding table.now hits.now goal.now needs.now masks.items) }
 {
     let mut masks = Vec::with_capacity(alloc, hits.len())?;
     for state in 0..table.len() {
-        masks.push(ending_letters(table, hits, needs, state))?;
+        masks.push(ending_letters(table, goal, hits, needs, state))?;
     }
     Ok(masks)
 }
 
 /// The letters that end an instance whose words lead to a state.
-fn ending_letters(table: &Table, hits: &[u16], needs: &Needs, state: u16) -> u32
+fn ending_letters(table: &Table, goal: &Goal, hits: &[u16], needs: &Needs, state: u16) -> u32
+    requires groups { All (λ group. group < length table.now.groups) goal.now.groups }
     requires state { state < table.now.states }
     requires count { length hits.now ≡ table.now.states }
     requires needs { length needs.now.alive ≡ table.now.states }
-    ensures { (e : ℕ) → IsBitSet result e → IsEndingLetter table.now hits.now needs.now state e }
+    ensures { (e : ℕ) → IsBitSet result e → IsEndingLetter table.now hits.now goal.now needs.now state e }
 {
     let mut ending = 0;
     for letter in 0..table.letters() {
-        if is_ending(table, hits, needs, state, Letter(letter)) {
+        if is_ending(table, goal, hits, needs, state, Letter(letter)) {
             ending |= 1 << letter;
         }
     }
     ending
 }
 
-/// Whether a letter leads from a state to one that hits nothing, and from which nothing is hit.
-fn is_ending(table: &Table, hits: &[u16], needs: &Needs, state: u16, letter: Letter) -> bool
+/// Whether a letter leads from a state, or from the start where the property is reset there, to one that hits nothing,
+/// and from which nothing is hit.
+fn is_ending(
+    table: &Table,
+    goal: &Goal,
+    hits: &[u16],
+    needs: &Needs,
+    state: u16,
+    letter: Letter,
+) -> bool
+    requires groups { All (λ group. group < length table.now.groups) goal.now.groups }
     requires state { state < table.now.states }
     requires count { length hits.now ≡ table.now.states }
     requires needs { length needs.now.alive ≡ table.now.states }
     requires letter { letter.0 < table.now.letters }
-    ensures { IsTrue result → IsEndingLetter table.now hits.now needs.now state letter.0 }
+    ensures { IsTrue result → IsEndingLetter table.now hits.now goal.now needs.now state letter.0 }
 {
-    let next = table.next(state, letter);
+    let next = step(table, goal, state, letter);
     hits[next as usize] == 0 && !needs.alive(next, true, 0)
 }
 
 /// The letters that end an instance of the empty word: words can't begin with them, or they end one at the start.
 fn first_ending(table: &Table, goal: &Goal, hits: &[u16], needs: &Needs) -> u32
+    requires groups { All (λ group. group < length table.now.groups) goal.now.groups }
     requires count { length hits.now ≡ table.now.states }
     requires needs { length needs.now.alive ≡ table.now.states }
     ensures { (e : ℕ) → IsBitSet result e → IsFirstEnding table.now goal.now hits.now needs.now e }
@@ -279,6 +292,7 @@ fn first_ending(table: &Table, goal: &Goal, hits: &[u16], needs: &Needs) -> u32
 
 /// Whether words can't begin with a letter, or it ends an instance at the start.
 fn is_first_ending(table: &Table, goal: &Goal, hits: &[u16], needs: &Needs, letter: Letter) -> bool
+    requires groups { All (λ group. group < length table.now.groups) goal.now.groups }
     requires count { length hits.now ≡ table.now.states }
     requires needs { length needs.now.alive ≡ table.now.states }
     requires letter { letter.0 < table.now.letters }
@@ -287,5 +301,5 @@ fn is_first_ending(table: &Table, goal: &Goal, hits: &[u16], needs: &Needs, lett
     let start = table.start();
     // A table has few letters: the proof learns it from the call.
     letter.0 < table.letters()
-        && (!may_begin(goal, letter) || is_ending(table, hits, needs, start, letter))
+        && (!may_begin(goal, letter) || is_ending(table, goal, hits, needs, start, letter))
 }

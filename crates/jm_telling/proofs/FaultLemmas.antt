@@ -120,13 +120,13 @@ module _ (bytes : List ℕ) (tokens : List Token) (tree : SpecTree) where
   one_tree_fault fault other (in_table f read sound bad) (in_formula b) = absurd (formula_or_fault bytes (formula_of tokens tree) tree.table tree.logic f other read b)
   one_tree_fault fault other (in_handlers f read bad) (in_handlers g says worse) =
       let one = one_formula bytes (formula_of tokens tree) tree.table tree.logic f g read says in
-      inl (same_some (sym bad ∙ ap (λ x. handlers_fault bytes tokens (category_names x) tree.handlers.items) one ∙ worse))
+      inl (same_some (sym bad ∙ ap (λ x. handlers_fault bytes tree.full_binding tokens (category_names x) tree.handlers.items) one ∙ worse))
   one_tree_fault fault other (in_handlers f read bad) (in_table g says sound worse) =
       let one = one_formula bytes (formula_of tokens tree) tree.table tree.logic g f says read in
-      absurd (never_some (sym sound ∙ ap (λ x. handlers_fault bytes tokens (category_names x) tree.handlers.items) one ∙ bad))
+      absurd (never_some (sym sound ∙ ap (λ x. handlers_fault bytes tree.full_binding tokens (category_names x) tree.handlers.items) one ∙ bad))
   one_tree_fault fault other (in_table f read sound bad) (in_handlers g says worse) =
       let one = one_formula bytes (formula_of tokens tree) tree.table tree.logic f g read says in
-      absurd (never_some (sym sound ∙ ap (λ x. handlers_fault bytes tokens (category_names x) tree.handlers.items) one ∙ worse))
+      absurd (never_some (sym sound ∙ ap (λ x. handlers_fault bytes tree.full_binding tokens (category_names x) tree.handlers.items) one ∙ worse))
   one_tree_fault fault other (in_table f read sound bad) (in_table g says also worse) =
       let one = one_formula bytes (formula_of tokens tree) tree.table tree.logic g f says read in
       inl (one_table_fault f (length tree.table.events) fault other bad (subst (λ x. IsTableFault x (length tree.table.events) other) one worse))

@@ -8,7 +8,7 @@ use Rattle.jm_text.specs.declared.token.Token.{Token}
 use Rattle.jm_reading.specs.Tokens.{name_of}
 use Rattle.jm_reading.specs.Faults.{or_else}
 use Rattle.jm_spec.specs.declared.property.HandlerText.{HandlerText}
-use Rattle.jm_machine.specs.Handlers.{handler_names, count_fault, duplicate_fault, category_fault, reset_fault, handlers_fault}
+use Rattle.jm_machine.specs.Handlers.{handler_names, count_fault, duplicate_fault, category_fault, binding_fault, handlers_fault}
 use Rattle.jm_print.specs.Told.{AreNames}
 use Rattle.jm_telling.proofs.NameLists.{no_names, name_more, plain_name}
 
@@ -36,9 +36,9 @@ next_none None b e = e
 next_none (Some fault) b e = absurd cc
 
 -- the handlers of a specification without a fault
-pub handlers_named : (bytes : List ℕ) (tokens : List Token) (categories : List (List ℕ)) (hs : List HandlerText) → handlers_fault bytes tokens categories hs ≡ None → AreNames (handler_names bytes hs)
+pub handlers_named : (bytes : List ℕ) (full_binding : Bool) (tokens : List Token) (categories : List (List ℕ)) (hs : List HandlerText) → handlers_fault bytes full_binding tokens categories hs ≡ None → AreNames (handler_names bytes hs)
 unfolding handlers_fault
-handlers_named bytes tokens categories hs none =
-    let later = or_else (category_fault bytes categories hs) (reset_fault bytes tokens hs) in
+handlers_named bytes full_binding tokens categories hs none =
+    let later = or_else (category_fault bytes categories hs) (binding_fault bytes full_binding tokens hs) in
     let behind_count = next_none (count_fault hs) (or_else (duplicate_fault bytes [] hs) later) none in
     distinct_handlers bytes [] hs no_names (first_none (duplicate_fault bytes [] hs) later behind_count)

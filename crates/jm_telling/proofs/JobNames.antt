@@ -22,7 +22,7 @@ specification_tables bytes s is = subst HasTableNames (sym is.table) (table_name
 
 specification_handlers : (bytes : List ℕ) (s : Specification) → IsSpecification bytes s → AreNames s.rules.handlers
 specification_handlers bytes s is =
-    subst AreNames (sym (ap (λ (r : RuleDefinition). r.handlers) is.rules.rules)) (handlers_named bytes is.tokens (category_names s.rules.formula) is.tree.handlers.items is.rules.handled)
+    subst AreNames (sym (ap (λ (r : RuleDefinition). r.handlers) is.rules.rules)) (handlers_named bytes is.tree.full_binding is.tokens (category_names s.rules.formula) is.tree.handlers.items is.rules.handled)
 
 specification_names : (objects : List (List ℕ)) → AreNames objects → (bytes : List ℕ) (s : Specification) → IsSpecification bytes s → HasNames (lexicon objects s)
 specification_names objects named bytes s is =

@@ -21,7 +21,7 @@ use Rattle.jm_spec.specs.Trees.{IsTreeOf, IsTreeOfTokens, IsFaultOfTokens, Tells
 use Rattle.jm_spec.proofs.CompleteLemmas.{spelled_is_frame}
 use Rattle.jm_machine.specs.declared.formula.Formula.{Formula}
 use Rattle.jm_machine.specs.Formulas.{category_names, IsTableFault}
-use Rattle.jm_machine.specs.Handlers.{handler_names, handlers_fault}
+use Rattle.jm_machine.specs.Handlers.{handler_names, handlers_fault, resetting_handlers}
 use Rattle.jm_machine.specs.Meanings.{RuleDefinition, rules_of}
 use Rattle.jm_machine.specs.Compiling.{IsFormula, IsCompiledFrom}
 use Rattle.jm_machine.proofs.ReadingLemmas.{one_rules, rules_or_fault}
@@ -111,14 +111,14 @@ module _ (bytes : List ℕ) (ts us : List Token) (a b : SpecTree) (same : IsSame
   pub read_moved : (f : Formula) → IsFormula bytes ts a f → IsFormula bytes us b f
   read_moved f h = rw (sym same.tokens, sym same.tree.first, sym same.tree.last, sym same.tree.table, sym same.tree.logic) h
 
-  pub handled_moved : (names : List (List ℕ)) → handlers_fault bytes ts names a.handlers.items ≡ handlers_fault bytes us names b.handlers.items
-  handled_moved names = λ i. handlers_fault bytes (same.tokens i) names (same.tree.handlers i)
+  pub handled_moved : (names : List (List ℕ)) → handlers_fault bytes a.full_binding ts names a.handlers.items ≡ handlers_fault bytes b.full_binding us names b.handlers.items
+  handled_moved names = λ i. handlers_fault bytes (same.tree.full i) (same.tokens i) names (same.tree.handlers i)
 
   pub letters_moved : length a.table.events ≡ length b.table.events
   letters_moved = ap (λ (t : EventDefinitions). length t.events) same.tree.table
 
-  rules_moved : (f : Formula) → rules_of a.table a.full_binding f (handler_names bytes a.handlers.items) ≡ rules_of b.table b.full_binding f (handler_names bytes b.handlers.items)
-  rules_moved f = λ i. rules_of (same.tree.table i) (same.tree.full i) f (handler_names bytes (same.tree.handlers i))
+  rules_moved : (f : Formula) → rules_of a.table a.full_binding f (handler_names bytes a.handlers.items) (resetting_handlers bytes ts a.handlers.items) ≡ rules_of b.table b.full_binding f (handler_names bytes b.handlers.items) (resetting_handlers bytes us b.handlers.items)
+  rules_moved f = λ i. rules_of (same.tree.table i) (same.tree.full i) f (handler_names bytes (same.tree.handlers i)) (resetting_handlers bytes (same.tokens i) (same.tree.handlers i))
 
   pub compiled_moved : (r : RuleDefinition) → IsCompiledFrom bytes ts a r → IsCompiledFrom bytes us b r
   compiled_moved r h = record {

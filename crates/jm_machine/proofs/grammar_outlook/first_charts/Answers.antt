@@ -6,5 +6,5 @@ use Rattle.jm_machine.proofs.grammar_outlook.first_charts.Goals as goal
 pub loop-letter-preserved : goal.loop-letter-preserved
 loop-letter-preserved c = record {
   count = rw c.in_ok-push.ensures.items (count_push c.loop-letter.firsts.items _ c.loop-letter.letter c.loop-letter.invariant.count);
-  each = rw c.in_ok-push.ensures.items (get_push (λ e chart. IsChartOf c.args.charts.now (e ∷ []) chart) c.loop-letter.firsts.items _ c.loop-letter.letter c.loop-letter.invariant.count c.loop-letter.invariant.each (c.in_ok-next.ensures [] c.in_ok-start.ensures));
+  each = rw c.in_ok-push.ensures.items (get_push (λ e chart. IsChartOf c.args.charts.now (e ∷ []) chart) c.loop-letter.firsts.items _ c.loop-letter.letter c.loop-letter.invariant.count c.loop-letter.invariant.each (c.in_ok-next.ensures [] c.requires.begin));
 }

@@ -4,4 +4,4 @@ use Rattle.jm_machine.specs.Outlooks.{IsEndingLetter}
 use Rattle.jm_machine.proofs.table_outlook.ending_letters.Given as goal
 
 abbrev pub invariant-loop-letter : goal.invariant-loop-letter
-invariant-loop-letter l = (e : ℕ) → IsBitSet l.ending e → IsEndingLetter l.table l.hits l.needs l.state e
+invariant-loop-letter l = (e : ℕ) → IsBitSet l.ending e → IsEndingLetter l.table l.hits l.goal l.needs l.state e

@@ -6,5 +6,5 @@ use Rattle.jm_machine.proofs.table_outlook.ending_masks.Given as goal
 abbrev pub invariant-loop-state : goal.invariant-loop-state
 invariant-loop-state l = record {
   count : length l.masks.items ≡ l.state;
-  each : (s e : ℕ) → IsBitSet (slice_index l.masks.items s) e → IsEndingLetter l.table l.hits l.needs s e;
+  each : (s e : ℕ) → IsBitSet (slice_index l.masks.items s) e → IsEndingLetter l.table l.hits l.goal l.needs s e;
 }

@@ -1,6 +1,9 @@
-use Rattle.std.proofs.Common.{sym, subst}
+use Rattle.std.proofs.Common.{◌<◌, ◌^◌, length, sym, ap, ◌∙◌, subst}
 use Rattle.jm_machine.specs.Engines.{HasParams, categories_of_engine}
 use Rattle.jm_machine.specs.Known.{IsOutlookOf}
+use Rattle.jm_machine.specs.Meanings.{rules_of}
+use Rattle.jm_machine.specs.RuleSets.{numbers_of}
+use Rattle.jm_machine.proofs.GoalLemmas.{bits_below}
 use Rattle.jm_machine.proofs.CompileLemmas.{made_rules, made_goal, made_set}
 use Rattle.jm_machine.proofs.RuleLemmas.{groups_within}
 use Rattle.jm_machine.proofs.rules.Rules.new.Goals as goal
@@ -11,7 +14,8 @@ new-requires-clause-groups c = groups_within c.args.categories.now c.args.handle
 pub invariant_of-result : goal.invariant_of-result
 invariant_of-result c =
     let t = c.args.tree.now.table in (
-      made_goal t c.args.formula c.in_ok-masks.masks.items c.args.handlers c.in_ok-goal.goal c.in_ok-masks.ensures.value c.in_ok-goal.ensures.creation c.args.categories.now c.requires.categories c.in_ok-goal.ensures.groups c.in_ok-masks.ensures.few,
+      made_goal t c.args.formula c.in_ok-masks.masks.items c.args.handlers c.in_ok-goal.goal c.in_ok-masks.ensures.value c.in_ok-goal.ensures.creation c.args.categories.now c.requires.categories c.in_ok-goal.ensures.groups c.in_ok-masks.ensures.few
+          (bits_below c.in_ok-goal.goal.resets (length c.args.handlers) (subst (λ n. n < 2 ^ length c.args.handlers) (sym c.in_ok-goal.ensures.resets) c.requires.there)),
       made_set t c.args.formula c.in_ok-masks.masks.items c.args.handlers c.in_ok-goal.goal c.in_ok-masks.ensures.value c.in_ok-goal.ensures.creation c.args.categories.now c.args.engine c.requires.categories c.requires.letters c.requires.groups c.requires.compiled c.requires.minimal,
       record {
         events = t;
@@ -26,3 +30,4 @@ invariant_of-result c =
 pub returns-clause-rules : goal.returns-clause-rules
 returns-clause-rules c =
     made_rules c.args.tree.now.table c.args.formula c.in_ok-masks.masks.items c.args.handlers c.in_ok-goal.goal c.in_ok-masks.ensures.value c.in_ok-goal.ensures.creation c.args.tree.now.full_binding c.in_ok-goal.ensures.must_bind
+    ∙ ap (λ n. rules_of c.args.tree.now.table c.args.tree.now.full_binding c.args.formula c.args.handlers (numbers_of n (length c.args.handlers))) c.in_ok-goal.ensures.resets

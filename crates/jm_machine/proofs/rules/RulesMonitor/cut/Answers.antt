@@ -14,4 +14,5 @@ returns-in-Grammar-Parses c =
     let known = rw (c.in-Grammar-Parses.is-0, c.in-Grammar-Parses.is-1) at c.self.invariant.2 in
     let set = rw c.in-Grammar-Parses.is-1 at c.self.invariant.1 in
     rw (← c.self.view_is, c.in-Grammar-Parses.is-1)
-    (known_parse_cut i.masks.items i.formula i.handlers i.goal c.self.invariant.0 c.in-Grammar-Parses.outlook c.in-Grammar-Parses.charts set known c.args.state.now c.args.dead c.is_cut.result c.is_cut.ensures.failing c.is_cut.ensures.matching)
+    (known_parse_cut i.masks.items i.formula i.handlers i.goal c.self.invariant.0 c.in-Grammar-Parses.outlook c.in-Grammar-Parses.charts set known c.args.state.now c.args.dead c.is_reset-reset.result c.is_cut.result
+    (rw (← c.self.view_is, c.in-Grammar-Parses.is-1) at c.is_reset-reset.ensures) c.is_cut.ensures.failing c.is_cut.ensures.matching)
