@@ -5,7 +5,7 @@ use testkit::Case;
 /// What the case's verb answers.
 pub(crate) fn answer(alloc: Global, case: &Case) -> Result<String, AllocError> {
     match case.verb.as_str() {
-        "needs" => match needs(alloc, case) {
+        "needs" | "resetting" => match needs(alloc, case) {
             Ok(text) => Ok(text),
             Err(fault) => format!(in alloc; "{fault:?}"),
         },

@@ -1,15 +1,14 @@
-ghost use Rattle.std.specs.Prelude.{◌≡◌, ◌<◌, length};
+ghost use Rattle.std.specs.Prelude.{◌≡◌, ◌<◌, All, length};
 ghost use Rattle.jm_coenable.specs.Needs.{AreFit};
 
 use crate::property::{events_of, goal_of, table_of};
-use jm_coenable::Needs;
+use jm_coenable::{Needs, step};
 use jm_events::EventTable;
 use jm_goal::Goal;
 use jm_model::{Letter, NoMemory, SpecError};
 use jm_table::Table;
 use std::alloc::{AllocError, Global};
 use testkit::Case;
-use testkit_tokens::next;
 
 /// For the empty word, and for each word of the case, whose digits are letters, whether some word that follows leads to
 /// a match and has none of the dead parameters, `+` or `-` for each of the case's sets of dead parameters; and then the
@@ -35,7 +34,8 @@ fn over_table(
     if events.letters() != table.letters() {
         return Err(SpecError::NoMemory);
     }
-    let goal = goal_of(alloc, events.creation())?;
+    let resetting = case.verb.as_str() == "resetting";
+    let goal = goal_of(alloc, events.creation(), resetting)?;
     Ok(over_goal(alloc, case, events, table, &goal)?)
 }
 
@@ -50,13 +50,7 @@ fn over_goal(
 {
     let needs = Needs::new(alloc, table, goal, events)?;
     let mut out = String::new(alloc);
-    put_words(
-        &mut out,
-        case.second.as_str(),
-        table,
-        goal.creation(),
-        &needs,
-    )?;
+    put_words(&mut out, case.second.as_str(), table, goal, &needs)?;
     put_families(alloc, &mut out, table.letters(), &needs)?;
     Ok(out)
 }
@@ -65,15 +59,16 @@ fn put_words(
     out: &mut String,
     words: &str,
     table: &Table,
-    creation: u32,
+    goal: &Goal,
     needs: &Needs,
 ) -> Result<(), AllocError>
-    requires { length needs.now.alive ≡ table.now.states }
+    requires count { length needs.now.alive ≡ table.now.states }
+    requires groups { All (λ group. group < length table.now.groups) goal.now.groups }
 {
     let (words, sets) = words.split_once(" | ").unwrap_or((words, ""));
     put_start(out, sets, needs)?;
     for word in words.split_whitespace() {
-        put_word(out, word, sets, table, is_started(creation, word), needs)?;
+        put_word(out, word, sets, table, goal, needs)?;
     }
     Ok(())
 }
@@ -93,18 +88,17 @@ fn put_word(
     word: &str,
     sets: &str,
     table: &Table,
-    started: bool,
+    goal: &Goal,
     needs: &Needs,
 ) -> Result<(), AllocError>
-    requires { length needs.now.alive ≡ table.now.states }
+    requires count { length needs.now.alive ≡ table.now.states }
+    requires groups { All (λ group. group < length table.now.groups) goal.now.groups }
 {
     out.push_str(word)?;
     out.push(' ')?;
-    let state = state_after(table, word);
-    if state < table.len() {
-        put_sets(out, sets, needs, state, started)?;
-    }
-    Ok(())
+    let state = state_after(table, goal, word);
+    let started = is_started(goal.creation(), word);
+    put_sets(out, sets, needs, state, started)
 }
 
 fn put_sets(
@@ -124,10 +118,16 @@ fn put_sets(
 }
 
 /// The state after the letters of a word that there are.
-fn state_after(table: &Table, word: &str) -> u16 {
+fn state_after(table: &Table, goal: &Goal, word: &str) -> u16
+    requires { All (λ group. group < length table.now.groups) goal.now.groups }
+    ensures { result < table.now.states }
+{
     let mut state = table.start();
     for digit in word.bytes() {
-        state = next(table, state, letter_of(digit));
+        let letter = letter_of(digit);
+        if letter < table.letters() {
+            state = step(table, goal, state, Letter(letter));
+        }
     }
     state
 }

@@ -44,10 +44,11 @@ pub(crate) fn table_of(
     ere.compile(alloc, events)
 }
 
-/// One handler, for the words of the expression.
-pub(crate) fn goal_of(alloc: Global, creation: u32) -> Result<Goal, NoMemory>
+/// One handler, for the words of the expression, which may reset the property.
+pub(crate) fn goal_of(alloc: Global, creation: u32, resetting: bool) -> Result<Goal, NoMemory>
     ensures { IfOk result (λ goal. goal.groups ≡ 0 ∷ []) }
 {
     let groups = vec![in alloc; 0u16; 1]?;
-    Ok(Goal::new(groups, creation, 0))
+    let resets = if resetting { 1 } else { 0 };
+    Ok(Goal::new(groups, creation, 0, resets))
 }

@@ -12,8 +12,10 @@ pub(crate) fn answer(alloc: Global, case: &Case) -> Result<String, AllocError> {
     }
 }
 
-/// The law is proved: that it can be called is all that is to be seen.
+/// The laws are proved: that they can be called is all that is to be seen.
 fn laws(alloc: Global) -> Result<String, AllocError> {
     jm_machine::one_reading();
+    jm_machine::one_letter_more();
+    jm_machine::without_resets();
     String::from_str(alloc, "called")
 }

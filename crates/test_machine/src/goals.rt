@@ -6,16 +6,25 @@ use jm_goal::Goal;
 use std::alloc::{AllocError, Global};
 use testkit::Case;
 
-/// The goal of the groups behind the verb, with the creation letters and what has to be bound behind them.
+/// The goal of the groups behind the verb, with the creation letters, what has to be bound and the handlers that reset
+/// behind them.
 pub(crate) fn goal(alloc: Global, case: &Case) -> Result<String, AllocError> {
     let groups = groups_of(alloc, &case.first)?;
-    let (creation, must_bind) = case.second.split_once(' ').unwrap_or(("", ""));
+    let (creation, rest) = case.second.split_once(' ').unwrap_or(("", ""));
+    let (must_bind, resets) = rest.split_once(' ').unwrap_or(("", ""));
     let creation = creation.parse::<u32>().unwrap_or(0);
     let must_bind = must_bind.parse::<u8>().unwrap_or(0);
+    let resets = resets.parse::<u16>().unwrap_or(0);
     if groups.len() > 16 {
         return String::from_str(alloc, "too many handlers");
     }
-    goal_text(alloc, &Goal::new(groups, creation, must_bind))
+    if resets as u32 >= 1u32 << groups.len() {
+        return String::from_str(alloc, "no such handler");
+    }
+    if resets != 0 && must_bind != 0 {
+        return String::from_str(alloc, "a reset and full bindings");
+    }
+    goal_text(alloc, &Goal::new(groups, creation, must_bind, resets))
 }
 
 fn groups_of(alloc: Global, text: &str) -> Result<Vec<u16>, AllocError> {
@@ -33,7 +42,12 @@ fn goal_text(alloc: Global, goal: &Goal) -> Result<String, AllocError> {
         let group = format!(in alloc; " {}", goal.group(handler))?;
         out.push_str(&group)?;
     }
-    let rest = format!(in alloc; " / {} {}", goal.creation(), goal.must_bind())?;
-    out.push_str(&rest)?;
+    let bits = format!(in alloc;
+        " / {} {} {}",
+        goal.creation(),
+        goal.must_bind(),
+        goal.resets()
+    )?;
+    out.push_str(&bits)?;
     Ok(out)
 }
