@@ -7,8 +7,19 @@ ghost use Rattle.jm_turn.specs.TableSeats.{HasActed, HasDrawn, HasPassedOn, HasR
 use crate::kept::{Act, Kept};
 use crate::rule::{SERVING, SharedTable, TICKET, TableSeat, VALUE};
 use crate::steps::{Draw, Look, PassOn};
+use std::hint;
 use std::sync::Wait;
-use std::thread;
+use std::sync::atomic::{AtomicU64, Ordering};
+use std::time::Duration;
+
+// How many looks a seat with a ticket has before it sleeps.
+const LOOKS: u32 = 1000;
+
+// For how many seconds it sleeps at most.
+const LONGEST_SLEEP: u64 = 10;
+
+// A sleep on a word compares the word modulo this number.
+const SLEEP_MODULUS: u64 = 1 << 32;
 
 // Draws a ticket: the word has the next one, modulo 2^64.
 pub fn draw<V: Kept>(table: &SharedTable<V>, place: &mut TableSeat<V>) -> u64
@@ -20,10 +31,12 @@ pub fn draw<V: Kept>(table: &SharedTable<V>, place: &mut TableSeat<V>) -> u64
     table.fetch_add::<Draw>(place, TICKET, 1)
 }
 
-// Looks until the ticket is served. No other call of the lock waits.
+// Looks until the ticket is served. After so many looks it sleeps between them, and is counted among the sleepers until
+// its turn has come. No other loop of the lock may wait without an end.
 pub fn await_turn<V: Kept, R: Wait>(
     rt: &R,
     table: &SharedTable<V>,
+    sleepers: &AtomicU64,
     place: &mut TableSeat<V>,
     ticket: u64,
 )
@@ -32,11 +45,26 @@ pub fn await_turn<V: Kept, R: Wait>(
     ensures same { IsSameSeat place.old place.new }
     ensures turn { TurnComes V.entries V.caller_of V.fixed_part place.old.me place.new.me }
 {
+    let mut looks = LOOKS;
+    let mut is_counted = false;
     for _ in rt.forever() {
-        if table.load::<Look>(place, SERVING) == ticket {
+        let served = table.load::<Look>(place, SERVING);
+        if served == ticket {
             break;
         }
-        thread::yield_now();
+        if looks > 0 {
+            looks -= 1;
+            hint::spin_loop();
+        } else if !is_counted {
+            sleepers.fetch_add(1, Ordering::SeqCst);
+            is_counted = true;
+        } else {
+            let longest = Duration::from_secs(LONGEST_SLEEP);
+            table.park_timeout(rt, SERVING, (served % SLEEP_MODULUS) as u32, longest);
+        }
+    }
+    if is_counted {
+        sleepers.fetch_sub(1, Ordering::SeqCst);
     }
 }
 
@@ -72,4 +100,13 @@ pub fn pass_on<V: Kept>(table: &SharedTable<V>, place: &mut TableSeat<V>)
     ensures passed { HasPassedOn V.entries place.old.me place.new.me }
 {
     table.fetch_add::<PassOn>(place, SERVING, 1);
+}
+
+// Wakes the seats that sleep on the serving number, if there are any.
+pub fn wake_sleepers<V: Kept>(table: &SharedTable<V>, sleepers: &AtomicU64)
+    requires shape { IsShaped table.now.table_id }
+{
+    if sleepers.load(Ordering::SeqCst) > 0 {
+        table.wake_all(SERVING);
+    }
 }

@@ -2,8 +2,8 @@ use Rattle.std.proofs.Common.{arith, ◌∙◌}
 use Rattle.jm_turn.proofs.TurnSteps.{looks_at}
 use Rattle.jm_turn.proofs.turning.await_turn.Goals as goal
 
-pub load-requires : goal.load-requires
-load-requires g c =
+pub load-served-requires : goal.load-served-requires
+load-served-requires g c =
     let s = c.requires.shape in let k = c.requires.waiting.1 in (
       c.loop.invariant.0.0 ∙ c.requires.waiting.0,
       omega arith,
