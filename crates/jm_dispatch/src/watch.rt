@@ -74,7 +74,7 @@ impl<M: Monitor> Watch<M> {
         ensures seats { IfOk result (λ r. AreNewcomers r.0 r.1.items) }
     {
         let masks = masks_of(&rules);
-        let prop = Prop::new(alloc, rules, objects)?;
+        let prop = Box::new(alloc, Prop::new(alloc, rules, objects)?)?;
         let (lock, seats) = Lock::new(alloc, Watched { prop }, seats)?;
         Ok((Watch { lock, masks }, seats))
     }
@@ -206,6 +206,7 @@ impl<M: Monitor> Watch<M> {
     {
         let Watch { lock, masks: _ } = self;
         let Watched { prop } = lock.close(seats);
+        let prop = Box::into_inner(prop);
         let _history = prop.history();
         prop
     }

@@ -8,10 +8,11 @@ pub struct Fixed<D> {
     pub objects: u32,
 }
 
-/// The core under the lock. It stands for its history.
+/// The core under the lock. It stands for its history. It lies in a box, since each turn moves it out of the lock and
+/// back.
 #[derive(Drop)]
 pub struct Watched<M: Monitor> {
-    pub(crate) prop: Prop<M>,
+    pub(crate) prop: Box<Prop<M>>,
 }
 
 impl<M: Monitor> Kept for Watched<M> {
@@ -21,9 +22,9 @@ impl<M: Monitor> Kept for Watched<M> {
 
     ghost use Rattle.std.specs.Prelude.{ℕ, List};
 
-    ghost entries = { λ w. w.prop.entries };
+    ghost entries = { λ w. w.prop.value.entries };
 
     ghost caller_of = { λ x. x.caller };
 
-    ghost fixed_part = { λ w. record { definition = w.prop.definition; objects = w.prop.objects } };
+    ghost fixed_part = { λ w. record { definition = w.prop.value.definition; objects = w.prop.value.objects } };
 }
