@@ -42,7 +42,7 @@ fn turns<R: Wait>(
     Some(seat)
 }
 
-fn lock_of_two(alloc: Global) -> Option<(Lock<Tally>, Seat<Tally>, Seat<Tally>)>
+pub(crate) fn lock_of_two(alloc: Global) -> Option<(Lock<Tally>, Seat<Tally>, Seat<Tally>)>
     ensures { IfSome result (λ r. (r.1 ≡ newcomer r.0 0) × (r.2 ≡ newcomer r.0 1) × (r.0.seats ≡ 2)) }
 {
     let Ok((lock, mut seats)) = Lock::new(alloc, Tally::new(), 2) else {
@@ -53,7 +53,7 @@ fn lock_of_two(alloc: Global) -> Option<(Lock<Tally>, Seat<Tally>, Seat<Tally>)>
     Some((lock, first, second))
 }
 
-fn pair(alloc: Global, a: Seat<Tally>, b: Seat<Tally>) -> Option<Vec<Seat<Tally>>>
+pub(crate) fn pair(alloc: Global, a: Seat<Tally>, b: Seat<Tally>) -> Option<Vec<Seat<Tally>>>
     ensures { IfSome result (λ v. v.items ≡ a ∷ b ∷ []) }
 {
     let mut seats = Vec::with_capacity(alloc, 2).ok()?;
