@@ -90,7 +90,10 @@ module _ (m : Meaning) {S : Type 0} (Stands : S → List ℕ → Type 0) (trace 
         marked = (marks plan.binding).1 (inr refl);
         each = λ s there below. elim (works.each s (there_after s there)) [
           | inl moved ↦ (subst (λ (x : Stored S). IsResting m Stands letter x.state) moved.2 (when_rests yes' moved.0 moved.1 moved.3), works.none_cut s (there_after s there) below)
-          | inr other ↦ absurd (both_ways (is_below plan.binding s.instance) other.1 below)
+          | inr other ↦ elim other [
+            | inl apart ↦ absurd (both_ways (is_below plan.binding s.instance) apart.1 below)
+            | inr resting ↦ (resting.1.1, resting.1.2)
+          ]
         ];
       }
 
@@ -99,7 +102,7 @@ module _ (m : Meaning) {S : Type 0} (Stands : S → List ℕ → Type 0) (trace 
         marked = (marks old.binding).1 (inl (rested was).marked);
         each = λ s there below. elim (works.each s (there_after s there)) [
           | inl moved ↦ absurd (both_ways moved.0.stays (when_drops yes' moved.0 moved.1) moved.3)
-          | inr other ↦ (rested was).each s other.0 below
+          | inr other ↦ (rested was).each s (elim other [ inl apart ↦ apart.0 | inr resting ↦ resting.0 ]) below
         ];
       }
 

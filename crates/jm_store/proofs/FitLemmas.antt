@@ -1,6 +1,6 @@
 -- Stores that fit a table of objects.
 use Rattle.std.proofs.Common.{◌≡◌, ◌≢◌, ℕ, zero, suc, inl, inr, Bool, false, List, [], ◌∷◌, length, refl, subst}
-use Rattle.std.specs.Prelude.{Some, Contains, AllPairs}
+use Rattle.std.specs.Prelude.{Some, Contains}
 use Rattle.std.proofs.lemmas.Bool.{false≢true}
 use Rattle.std.proofs.lemmas.Option.{none-some}
 use Rattle.jm_model.specs.Bindings.{mask_of, empty}

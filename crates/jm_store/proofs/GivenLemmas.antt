@@ -11,7 +11,7 @@ use Rattle.jm_semantics.proofs.ListLemmas.{Contains-cons_cases, Contains-head}
 use Rattle.jm_store.specs.Moves.{AreGiven, IsPushed}
 
 module _ {X Y : Type 0} (R : X → Option Y → Type 0) where
-  cons-append : (o : Option Y) (ys zs : List Y) → cons_option o ys ++ zs ≡ cons_option o (ys ++ zs)
+  pub cons-append : (o : Option Y) (ys zs : List Y) → cons_option o ys ++ zs ≡ cons_option o (ys ++ zs)
   cons-append None ys zs = refl
   cons-append (Some y) ys zs = refl
 

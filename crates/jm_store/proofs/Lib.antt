@@ -18,6 +18,7 @@ pub mod ListLemmas
 pub mod ReportLemmas
 pub mod EndingLemmas
 pub mod RestLemmas
+pub mod RestingLemmas
 pub mod SparedLemmas
 pub mod StoreLemmas
 mod AdvanceLemmas

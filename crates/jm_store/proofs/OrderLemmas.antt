@@ -1,23 +1,13 @@
 -- Bindings that tie in the order.
-use Rattle.std.proofs.Common.{◌≡◌, ℕ, ◌+◌, ◌<◌, List, [], ◌∷◌, length, get_or, refl, sym, ◌∙◌, ap, subst, false, arith}
+use Rattle.std.proofs.Common.{◌≡◌, ℕ, [], ◌∷◌, refl, ap}
 use Rattle.std.specs.Prelude.{Option, Some, None}
-use Rattle.std.specs.List.Sorted.{IsSortedBy, IsStrictlySortedBy}
 use Rattle.std.specs.Option.{option_cmp}
-use Rattle.std.specs.Ordering.{nat_cmp, is_lt, ordering_then, ordering_reverse, MatchOrdering}
+use Rattle.std.specs.Ordering.{nat_cmp, ordering_then, MatchOrdering}
 use Rattle.std.specs.declared.cmp.Ordering.{Ordering}
 use Rattle.std.specs.declared.cmp.Ordering.TheVariants.{Less, Equal, Greater}
 use Rattle.std.proofs.lemmas.Cmp.{ranked}
-use Rattle.std.proofs.lemmas.Bool.{false≢true}
-use Rattle.std.proofs.lemmas.List.{get_or-map, length-map}
-use Rattle.std.proofs.lemmas.Map.Keys.{sorted_from_all_adjacent}
 use Rattle.jm_model.specs.Bindings.{binding_cmp}
 use Rattle.jm_model.specs.declared.binding.Binding.{Binding}
-use Rattle.jm_semantics.proofs.OrderLemmas.{binding_cmp_total}
-use Rattle.jm_monitors.specs.declared.stored.Stored.{Stored}
-use Rattle.jm_store.specs.declared.moves.Move.{Move}
-use Rattle.jm_store.specs.Moves.{reached_by}
-use Rattle.jm_store.specs.Contents.{AreDistinct}
-use Rattle.jm_store.specs.Reports.{instances_of}
 
 pub then-Equal : (o p : Ordering) → ordering_then o p ≡ Equal → (o ≡ Equal) × (p ≡ Equal)
 then-Equal Less p h = absurd (cc)

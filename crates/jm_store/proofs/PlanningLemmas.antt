@@ -25,7 +25,7 @@ use Rattle.jm_monitors.proofs.EventLemmas.{event_keeps_store-lem}
 use Rattle.jm_store.specs.declared.moves.Move.{Move}
 use Rattle.jm_store.specs.declared.moves.Plan.{Plan}
 use Rattle.jm_store.specs.Slots.{monitor_at, stored_in}
-use Rattle.jm_store.specs.Moves.{IsOutcomeAt, AreMovesOf, AreApart, reached_by, after_moves, AreEnding, EndsFewer, asks_by}
+use Rattle.jm_store.specs.Moves.{IsOutcomeAt, IsAtRest, AreMovesOf, AreApart, reached_by, after_moves, AreEnding, EndsFewer, asks_by}
 use Rattle.jm_store.specs.Contents.{Contents, stored_of, IsFit, IsStoreAfter, IsPlacedFrom, AreDistinct, ArePlacedOf, ArePaired, IsPlanFor, IsPlanOf, with_ending}
 use Rattle.jm_store.proofs.SlotLemmas.{stored_at, place_of}
 use Rattle.jm_store.proofs.GivenLemmas.{given_pairs, pairs_map, pairs_weaker, Contains-from_map}
@@ -330,13 +330,14 @@ module _ (m : Meaning) {S : Type 0} (Stands : S → List ℕ → Type 0) (letter
   sorted_distinct = distinct_permuted moves sorted order distinct
 
   -- the plan of the event
-  pub plan_works : (firings : List Firing) → IsReport m Stands (reached_by sorted) firings → (plan : Plan S) → plan.binding ≡ b → plan.moves.items ≡ placed → plan.answer ≡ firings
+  pub plan_works : (firings : List Firing) → IsReport m Stands (reached_by sorted) firings → (plan : Plan S) → plan.binding ≡ b → after_moves plan.moves.items new.monitors ≡ after_moves placed new.monitors
+      → ((move : Move S) → Contains placed move → Contains plan.moves.items move ⊎ (Contains (stored_of new) move.monitor × IsAtRest m Stands letter b dead move.monitor)) → plan.answer ≡ firings
       → (ending : List ℕ) → EndsFewer old.ending ending → AreEnding m Stands old.ending (stored_of old) → AreEnding m Stands ending (reached_by placed)
       → AreSpared m Stands new.index.dropped (stored_of new) → ((o : ℕ) → flag_of new.index.dropped o ≡ true → flag_of dead o ≡ true) → IsPlanOf m Stands trace dead letter (with_ending new ending) plan
-  plan_works firings report plan is moves' answer ending fewer before moved spared dropped = record {
+  plan_works firings report plan is moves' real answer ending fewer before moved spared dropped = record {
     answer = rw (is, answer) (answer_sorted firings report);
     store = λ after done.
-        let monitors : after.monitors ≡ after_moves placed new.monitors = done.monitors ∙ ap (λ (l : List (Move S)). after_moves l new.monitors) moves' in
+        let monitors : after.monitors ≡ after_moves placed new.monitors = done.monitors ∙ moves' in
         let marked : AreMarksAfter b old.marks after.marks = subst (λ (t : Binding). AreMarksAfter t old.marks after.marks) is (subst (λ (l : List Binding). AreMarksAfter plan.binding l after.marks) marks_same done.marks) in
         subst (λ (t : Binding). IsStoreAfter m Stands (trace ++ record { letter = letter; binding = t } ∷ []) dead after) (sym is)
         (record {
@@ -348,7 +349,13 @@ module _ (m : Meaning) {S : Type 0} (Stands : S → List ℕ → Type 0) (letter
               (spared_after m Stands new.index.dropped dead placed new.monitors dropped spared (stay_alive m Stands letter b dead old.marks asks old.monitors old new moves sorted placed all order p)));
         });
     none_cut = rw (is, moves') (carried_out (old.marks ++ b ∷ []) (marks_push old.marks b)).1;
-    each = rw (is, moves') each_after;
+    each = rw (is, moves') (λ s there. elim (each_after s there) [
+      | inl moved ↦ elim (real moved.0 moved.1) [
+        | inl one ↦ inl (moved.0, one, moved.2, moved.3)
+        | inr rest ↦ inr (inr (subst (λ (x : Stored S). Contains (stored_of new) x × IsAtRest m Stands letter b dead x) moved.2 rest))
+      ]
+      | inr kept ↦ inr (inl kept)
+    ]);
   }
 
 -- what an event may reach is asked for, unless the event ends it

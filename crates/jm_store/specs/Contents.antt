@@ -14,7 +14,7 @@ use Rattle.jm_monitors.specs.Steps.{AreMarksAfter, NoneCutAbove, AreSpared, IsRe
 use Rattle.jm_store.specs.declared.moves.Move.{Move}
 use Rattle.jm_store.specs.declared.moves.Plan.{Plan}
 use Rattle.jm_store.specs.Slots.{monitor_at, stored_in}
-use Rattle.jm_store.specs.Moves.{after_moves, AreApart, IsEnding, AreEnding, EndsFewer, IsNext, IsSwept, AreVisited, has_all}
+use Rattle.jm_store.specs.Moves.{after_moves, AreApart, IsEnding, AreEnding, EndsFewer, IsNext, IsSwept, AreVisited, has_all, IsAtRest}
 
 -- The monitors by slot, the marks, whether a plan is open, and the index, which has a pair for each monitor. What the
 -- store is to have where a plan is open isn't among the monitors. Last, for each set of parameters letters that end the
@@ -95,7 +95,7 @@ pub record IsCarriedOut {S : Type 0} (before after : Contents S) (plan : Plan S)
 
 -- The plan is that of the event with this letter after the trace: its answer is the event's, and once it is carried out
 -- the contents are a store of the trace with the event, in which no monitor above the event's binding is cut. Each
--- monitor is then that of a move, or a stored one that the event's binding isn't below.
+-- monitor is then that of a move, or a stored one that the event's binding isn't below, or that is at rest.
 pub record IsPlanOf (m : Meaning) {S : Type 0} (Stands : S → Word → Type 0) (trace : List ParametricEvent)
     (dead : List Bool) (letter : ℕ) (contents : Contents S) (plan : Plan S) : Type 0 where
   pub answer : IsAnswer m trace (record { letter = letter; binding = plan.binding }) plan.answer
@@ -105,6 +105,7 @@ pub record IsPlanOf (m : Meaning) {S : Type 0} (Stands : S → Word → Type 0) 
   pub each : (s : Stored S) → Contains (stored_in (monitors_after contents plan)) s
       → ((move : Move S) × Contains plan.moves.items move × (move.monitor ≡ s) × (move.stays ≡ true))
       ⊎ (Contains (stored_of contents) s × (is_below plan.binding s.instance ≡ false))
+      ⊎ (Contains (stored_of contents) s × IsAtRest m Stands letter plan.binding dead s)
 
 -- Instance t has the pair of a slot which no pair had and in which there was no monitor; or it had a pair before.
 abbrev pub IsPlaced : {S : Type 0} → Contents S → Contents S → Binding → Option ℕ → Type 0

@@ -9,7 +9,7 @@ use Rattle.jm_model.specs.Meanings.{Meaning}
 use Rattle.jm_model.specs.declared.binding.Binding.{Binding}
 use Rattle.jm_marks.specs.Marks.{dead_mask_of}
 use Rattle.jm_monitors.specs.declared.stored.Stored.{Stored}
-use Rattle.jm_monitors.specs.Steps.{Follows, IsBase, IsOverAfter, IsCutState, IsAliveState}
+use Rattle.jm_monitors.specs.Steps.{Follows, IsBase, IsOverAfter, IsCutState, IsAliveState, IsResting}
 use Rattle.jm_index.specs.Index.{Pair, AreBelow, asked_slots, without}
 use Rattle.jm_store.specs.declared.moves.Move.{Move}
 use Rattle.jm_store.specs.Slots.{monitor_at}
@@ -28,6 +28,12 @@ module _ (m : Meaning) {S : Type 0} (Stands : S → Word → Type 0) (letter : �
     pub next : Follows Stands letter base move.monitor.state
     pub alive : move.stays ≡ true → IsAliveState m Stands move.monitor.state (dead_mask_of dead t)
     pub cut : move.stays ≡ false → IsCutState m Stands move.monitor.state (dead_mask_of dead t)
+
+  -- The event with binding b leaves the monitor s, above b, as it is, and no dead object cuts it.
+  abbrev pub IsAtRest : Binding → List Bool → Stored S → Type 0
+  IsAtRest b dead s =
+      (is_below b s.instance ≡ true) × IsResting m Stands letter s.state
+      × IsAliveState m Stands s.state (dead_mask_of dead s.instance)
 
 module _ (m : Meaning) {S : Type 0} (Stands : S → Word → Type 0) (letter : ℕ) (b : Binding) (dead : List Bool)
     (marks : List Binding) where
@@ -57,6 +63,18 @@ module _ (m : Meaning) {S : Type 0} (Stands : S → Word → Type 0) (letter : �
 
   abbrev pub IsOutcomeAt : List (Option (Stored S)) → ℕ → Option (Move S) → Type 0
   IsOutcomeAt monitors k move = IsOutcomeIn k (monitor_at monitors k) move
+
+  -- and where it passes over monitors that are at rest
+  abbrev pub IsRead : ℕ → Stored S → Option (Move S) → Type 0
+  IsRead k s None = IsLeft s ⊎ IsAtRest m Stands letter b dead s
+  IsRead k s (Some move) = IsMoved k s move
+
+  abbrev pub IsReadIn : ℕ → Option (Stored S) → Option (Move S) → Type 0
+  IsReadIn k None move = move ≡ None
+  IsReadIn k (Some s) move = IsRead k s move
+
+  abbrev pub IsReadAt : List (Option (Stored S)) → ℕ → Option (Move S) → Type 0
+  IsReadAt monitors k move = IsReadIn k (monitor_at monitors k) move
 
 -- ys has what R gives for each of xs, in order, where it gives something
 abbrev pub AreGiven : {X Y : Type 0} → (X → Option Y → Type 0) → List X → List Y → Type 0
@@ -115,6 +133,14 @@ pub record AreMovesOf (m : Meaning) {S : Type 0} (Stands : S → Word → Type 0
   pub slots : List ℕ
   pub visit : AreVisited asks b monitors slots
   pub given : AreGiven (IsOutcomeAt m Stands letter b dead marks monitors) slots moves
+
+-- the moves that an event makes, for all slots that it reads, but of monitors that are at rest
+pub record AreMovesRead (m : Meaning) {S : Type 0} (Stands : S → Word → Type 0) (letter : ℕ) (b : Binding)
+    (dead : List Bool) (marks : List Binding) (asks : Mask → Bool) (monitors : List (Option (Stored S)))
+    (moves : List (Move S)) : Type 0 where
+  pub slots : List ℕ
+  pub visit : AreVisited asks b monitors slots
+  pub given : AreGiven (IsReadAt m Stands letter b dead marks monitors) slots moves
 
 -- the monitors by slot after a move
 abbrev pub moved_at : {S : Type 0} → Option ℕ → Option (Stored S) → List (Option (Stored S)) → List (Option (Stored S))

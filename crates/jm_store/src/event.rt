@@ -4,9 +4,10 @@ ghost use Rattle.std.specs.Int.{bit_at};
 ghost use Rattle.jm_model.specs.Bindings.{is_compatible, is_below, mask_of, join as union};
 ghost use Rattle.jm_model.specs.Meanings.{IsHit};
 ghost use Rattle.jm_marks.specs.Marks.{dead_mask_of};
-ghost use Rattle.jm_store.specs.Moves.{IsNext, IsOutcome, IsPushed, is_asked};
+ghost use Rattle.jm_monitors.specs.Steps.{IsResting, IsAliveState};
+ghost use Rattle.jm_store.specs.Moves.{IsNext, IsRead, IsPushed, is_asked};
 
-use crate::moves::Move;
+use crate::moves::{Move, is_resting};
 use jm_marks::{Marks, dead_mask};
 use jm_model::{Binding, Letter, Monitor, NoMemory};
 use jm_monitors::Stored;
@@ -37,7 +38,7 @@ impl<M: Monitor> Event<'_, M> {
     }
 
     /// Puts what the monitor of a slot becomes, or the new instance that it makes, at the end of the moves, if it does
-    /// either.
+    /// either. One that is at rest is passed over.
     pub(crate) fn add_outcome(
         &self,
         slot: usize,
@@ -48,11 +49,14 @@ impl<M: Monitor> Event<'_, M> {
         requires known { IsTrue self.now.known ↔ Contains self.now.marks.now.list self.now.binding.now }
         requires compatible { IsTrue (is_compatible base.now.instance self.now.binding.now) }
         ensures { OnOk result (IsPushed
-            (IsOutcome (M.meaning (M.definition self.now.rules.now)) (M.StandsFor self.now.rules.now)
+            (IsRead (M.meaning (M.definition self.now.rules.now)) (M.StandsFor self.now.rules.now)
             self.now.letter.0 self.now.binding.now self.now.objects.now self.now.marks.now.list slot)
             base.now moves.old.items moves.new.items) }
     {
         if self.binding.le(&base.instance) {
+            if self.rests(base) {
+                return Ok(());
+            }
             let (state, stays) = self.advance(&base.instance, &base.state)?;
             moves.push(Move {
                 slot: Some(slot),
@@ -91,6 +95,21 @@ impl<M: Monitor> Event<'_, M> {
         let state = self.rules.next(base, self.letter)?;
         let stays = !self.rules.cut(&state, dead_mask(self.objects, instance));
         Ok((state, stays))
+    }
+
+    /// Whether the event leaves a monitor as it is, if it moves it, and no dead object cuts it.
+    fn rests(&self, base: &Stored<M::State>) -> bool
+        requires { self.now.letter.0 < (M.meaning (M.definition self.now.rules.now)).letters }
+        ensures resting { IsTrue result → IsResting (M.meaning (M.definition self.now.rules.now))
+            (M.StandsFor self.now.rules.now) self.now.letter.0 base.now.state }
+        ensures alive { IsTrue result → IsAliveState (M.meaning (M.definition self.now.rules.now))
+            (M.StandsFor self.now.rules.now) base.now.state
+            (dead_mask_of self.now.objects.now base.now.instance) }
+    {
+        is_resting(self.rules, &base.state, self.letter)
+            && !self
+                .rules
+                .cut(&base.state, dead_mask(self.objects, &base.instance))
     }
 
     /// Whether a new instance hits nothing and is cut at once.

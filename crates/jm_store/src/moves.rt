@@ -6,7 +6,7 @@ ghost use Rattle.jm_store.specs.declared.moves.Move.{Move as Change};
 use jm_model::{Binding, Firings, Letter, Monitor};
 use jm_monitors::Stored;
 
-/// From so many moves on it is worth finding out whether the event leaves the monitors as they are from now on.
+/// From so many monitors on it is worth finding out whether the event leaves the monitors as they are from now on.
 const MANY: usize = 8;
 
 /// What a monitor that an event reaches becomes.
@@ -26,12 +26,14 @@ pub struct Plan<S> {
     /// Whether the binding is a mark already.
     pub(crate) known: bool,
     pub(crate) moves: Vec<Move<S>>,
+    /// How many monitors were met, those at rest among them.
+    pub(crate) met: usize,
     pub(crate) answer: Firings,
     pub(crate) copy: Firings,
 }
 
 impl<S> Plan<S> {
-    /// Whether no monitor changes or is made: all that the event reaches goes.
+    /// Whether no monitor changes or is made: all that the event reaches goes, or is at rest.
     pub fn only_drops(&self) -> bool
         ensures { IsTrue result → (move : Change S) → Contains self.now.moves.items move → move.stays ≡ false }
     {
@@ -43,13 +45,13 @@ impl<S> Plan<S> {
         true
     }
 
-    /// Whether many monitors are reached, and the letter leaves each that stays as it is then.
+    /// Whether many monitors are met, and the letter leaves each that moves and stays as it is then.
     pub fn rests<M: Monitor<State = S>>(&self, rules: &M, letter: Letter) -> bool
         requires { letter.0 < (M.meaning (M.definition rules.now)).letters }
         ensures { IsTrue result → (move : Change S) → Contains self.now.moves.items move → move.stays ≡ true
             → IsResting (M.meaning (M.definition rules.now)) (M.StandsFor rules.now) letter.0 move.monitor.state }
     {
-        if self.moves.len() < MANY {
+        if self.met < MANY {
             return false;
         }
         for step in &self.moves {
@@ -62,7 +64,7 @@ impl<S> Plan<S> {
 }
 
 /// Whether a letter leaves a state as it is, and the state hits nothing.
-fn is_resting<M: Monitor>(rules: &M, state: &M::State, letter: Letter) -> bool
+pub(crate) fn is_resting<M: Monitor>(rules: &M, state: &M::State, letter: Letter) -> bool
     requires { letter.0 < (M.meaning (M.definition rules.now)).letters }
     ensures { IsTrue result → IsResting (M.meaning (M.definition rules.now))
         (M.StandsFor rules.now) letter.0 state.now }

@@ -34,6 +34,7 @@ impl<M: Monitor> Store<M> {
             binding,
             known,
             mut moves,
+            met: _,
             answer,
             copy,
         } = plan;

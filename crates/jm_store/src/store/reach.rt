@@ -3,7 +3,7 @@ ghost use Rattle.std.specs.Prelude.{◌≡◌, ℕ, ◌+◌, ◌<◌, ◌≤◌,
 ghost use Rattle.jm_model.specs.Bindings.{empty, is_compatible};
 ghost use Rattle.jm_index.specs.Index.{AreLive, IsFitting};
 ghost use Rattle.jm_store.specs.Slots.{monitor_at};
-ghost use Rattle.jm_store.specs.Moves.{AreGiven, IsOutcomeAt, IsPushed, IsCompatibleAt, AreMovesOf, asks_by, EndsFewer, AreEnding, reached_by};
+ghost use Rattle.jm_store.specs.Moves.{AreGiven, IsReadAt, IsPushed, IsCompatibleAt, AreMovesRead, asks_by, EndsFewer, AreEnding, reached_by};
 ghost use Rattle.jm_store.specs.Contents.{stored_of, with_ending};
 ghost use Rattle.jm_store.specs.Plans.{CanPlan, Plans};
 
@@ -112,7 +112,8 @@ impl<M: Monitor> Store<M> {
             binding,
             known,
         };
-        let moves = self.reach(&event, slots, moves, steps)?;
+        let mut met = 0;
+        let moves = self.reach(&event, slots, moves, &mut met, steps)?;
         let answer = report(*self.domains.allocator(), rules, &moves)?;
         let copy = answer.copy()?;
         let moves = self.open_plan(moves)?;
@@ -121,6 +122,7 @@ impl<M: Monitor> Store<M> {
             binding: *binding,
             known,
             moves,
+            met,
             answer,
             copy,
         })
@@ -137,12 +139,13 @@ impl<M: Monitor> Store<M> {
         moves
     }
 
-    /// What the event makes of the stored monitors.
+    /// What the event makes of the stored monitors, and how many it met.
     fn reach<L: Ledger>(
         &self,
         event: &Event<'_, M>,
         slots: &mut Vec<usize>,
         mut moves: Vec<Move<M::State>>,
+        met: &mut usize,
         steps: &mut Steps<L>,
     ) -> Result<Vec<Move<M::State>>, NoMemory>
         requires closed { self.now.is_open ≡ false }
@@ -151,7 +154,7 @@ impl<M: Monitor> Store<M> {
         requires fits { IsFitting self.now.index event.now.objects.now }
         requires live { AreLive event.now.objects.now event.now.binding.now }
         requires none { moves.items ≡ [] }
-        ensures moves { IfOk result (λ moves. AreMovesOf (M.meaning (M.definition event.now.rules.now))
+        ensures moves { IfOk result (λ moves. AreMovesRead (M.meaning (M.definition event.now.rules.now))
             (M.StandsFor event.now.rules.now) event.now.letter.0 event.now.binding.now
             event.now.objects.now event.now.marks.now.list
             (asks_by event.now.known self.now.ending event.now.letter.0 event.now.binding.now)
@@ -163,6 +166,7 @@ impl<M: Monitor> Store<M> {
             if event.asks(self.ending[*domain as usize], *domain) {
                 self.index
                     .compatible_into(event.objects, *domain, event.binding, slots)?;
+                *met = met.saturating_add(slots.len());
                 self.reach_slots(event, slots.as_slice(), &mut moves, steps)?;
             }
         }
@@ -182,10 +186,10 @@ impl<M: Monitor> Store<M> {
         requires compatible { (k : ℕ) → Contains slots.now k
             → IsCompatibleAt event.now.binding.now (monitor_at self.now.monitors k) }
         ensures moves { OnOk result ((slots_before : List ℕ)
-            → AreGiven (IsOutcomeAt (M.meaning (M.definition event.now.rules.now))
+            → AreGiven (IsReadAt (M.meaning (M.definition event.now.rules.now))
             (M.StandsFor event.now.rules.now) event.now.letter.0 event.now.binding.now
             event.now.objects.now event.now.marks.now.list self.now.monitors) slots_before moves.old.items
-            → AreGiven (IsOutcomeAt (M.meaning (M.definition event.now.rules.now))
+            → AreGiven (IsReadAt (M.meaning (M.definition event.now.rules.now))
             (M.StandsFor event.now.rules.now) event.now.letter.0 event.now.binding.now
             event.now.objects.now event.now.marks.now.list self.now.monitors)
             (slots_before ++ slots.now) moves.new.items) }
@@ -209,7 +213,7 @@ impl<M: Monitor> Store<M> {
         requires known { IsTrue event.now.known ↔ Contains event.now.marks.now.list event.now.binding.now }
         requires compatible { IsCompatibleAt event.now.binding.now (monitor_at self.now.monitors slot) }
         ensures moves { OnOk result (IsPushed
-            (IsOutcomeAt (M.meaning (M.definition event.now.rules.now))
+            (IsReadAt (M.meaning (M.definition event.now.rules.now))
             (M.StandsFor event.now.rules.now) event.now.letter.0 event.now.binding.now
             event.now.objects.now event.now.marks.now.list self.now.monitors) slot moves.old.items moves.new.items) }
         ensures steps { steps.new ≤ steps.old + 1 }

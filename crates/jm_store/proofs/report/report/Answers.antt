@@ -1,4 +1,4 @@
-use Rattle.std.proofs.Common.{◌≡◌, ◌≤◌, List, length, sym, subst, arith}
+use Rattle.std.proofs.Common.{arith}
 use Rattle.jm_store.specs.Moves.{reached_by}
 use Rattle.jm_store.proofs.ReportLemmas.{report_of_few, report_of_sorted}
 use Rattle.jm_store.proofs.report.report.Goals as goal

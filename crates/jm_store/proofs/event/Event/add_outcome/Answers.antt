@@ -1,4 +1,4 @@
-use Rattle.std.proofs.Common.{sym, ◌∙◌, append-nil}
+use Rattle.std.proofs.Common.{inl, inr, sym, ◌∙◌, append-nil}
 use Rattle.std.specs.Prelude.{Some, None}
 use Rattle.std.proofs.lemmas.Bool.{both_ways}
 use Rattle.jm_store.specs.declared.moves.Move.{Move}
@@ -14,10 +14,10 @@ returns-then-self g c =
     let apart = sym c.le.ensures ∙ c.if-le.false in (
       None,
       elim c.then-self.branch [
-        | then-self-via-then-self w ↦ left_known m Stands _ _ _ _ c.args.base.now apart (c.requires.known.0 w.if-self.true)
+        | then-self-via-then-self w ↦ inl (left_known m Stands _ _ _ _ c.args.base.now apart (c.requires.known.0 w.if-self.true))
         | then-self-via-else-self+then-not-covers w ↦
-            left_uncovered m Stands _ _ _ _ c.args.base.now c.join-instance.result c.join-instance.ensures apart
-            (λ covered. both_ways w.covers.result w.if-not-covers.true (w.covers.ensures.1 covered))
+            inl (left_uncovered m Stands _ _ _ _ c.args.base.now c.join-instance.result c.join-instance.ensures apart
+            (λ covered. both_ways w.covers.result w.if-not-covers.true (w.covers.ensures.1 covered)))
       ],
       sym (append-nil _),
     )
@@ -29,8 +29,8 @@ returns-then-is_lost g c =
     let apart = sym c.le.ensures ∙ c.if-le.false in
     let made : Move g.row.M-State.Denot = record { slot = None; monitor = record { instance = c.join-instance.result; state = c.in_ok-state-2.state }; stays = c.in_ok-state-2.stays } in (
       None,
-      left_lost m Stands _ _ _ _ c.args.base.now c.join-instance.result made c.join-instance.ensures apart (advanced_next m Stands _ _ None _ _ _ _ c.in_ok-state-2.ensures) (c.is_lost.ensures.cut c.if-is_lost.true)
-          (c.is_lost.ensures.quiet c.if-is_lost.true),
+      inl (left_lost m Stands _ _ _ _ c.args.base.now c.join-instance.result made c.join-instance.ensures apart (advanced_next m Stands _ _ None _ _ _ _ c.in_ok-state-2.ensures) (c.is_lost.ensures.cut c.if-is_lost.true)
+          (c.is_lost.ensures.quiet c.if-is_lost.true)),
       sym (append-nil _),
     )
 
@@ -57,3 +57,6 @@ returns g c =
           (λ there. both_ways c.args.self.now.known c.if-self.false (c.requires.known.1 there)) (c.covers.ensures.0 c.if-not-covers.false) (advanced_next m Stands _ _ None _ _ _ _ c.in_ok-state-2.ensures),
       c.in_ok-push-2.ensures.items,
     )
+
+pub returns-then-rests : goal.returns-then-rests
+returns-then-rests g c = (None, inr (sym c.le.ensures ∙ c.if-le.true, c.rests.ensures.resting c.if-rests.true, c.rests.ensures.alive c.if-rests.true), sym (append-nil _))

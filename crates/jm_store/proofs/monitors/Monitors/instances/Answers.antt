@@ -1,8 +1,7 @@
 use Rattle.std.proofs.Common.{◌++◌, ◌∷◌, [], List, length, map, sym, ap, ◌∙◌, arith, length-append}
 use Rattle.jm_model.specs.declared.binding.Binding.{Binding}
 use Rattle.jm_monitors.specs.declared.stored.Stored.{Stored}
-use Rattle.std.proofs.lemmas.List.{map_push, length-map, take_all}
-use Rattle.jm_store.specs.Slots.{monitors_of, stored_in}
+use Rattle.std.proofs.lemmas.List.{map_push}
 use Rattle.jm_store.proofs.SlotLemmas.{stored_taken, stored_other}
 use Rattle.jm_store.proofs.monitors.Monitors.instances.Goals as goal
 use Rattle.jm_store.proofs.monitors.Monitors.instances.Goals.{in-Taken+in_ok-push, in_default}
