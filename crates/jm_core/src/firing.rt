@@ -16,6 +16,7 @@ use std::sync::ledger::{Blank, Ledger};
 
 /// What an event comes to, twice: it is refused where it binds a dead object, with the first one. Unless it is
 /// answered, monitors and marks stay as they are.
+#[inline(always)]
 pub(crate) fn perform<M: Monitor>(
     alloc: Global,
     rules: &M,
