@@ -1,15 +1,17 @@
 -- A recording, cut line after line.
-use Rattle.std.proofs.Common.{◌≡◌, ℕ, ◌+◌, ◌-◌, ◌<◌, ◌≤◌, true, false, List, [], ◌∷◌, ◌++◌, map, length, get_or, take, drop, max, refl, sym, ap, ◌∙◌, append_assoc, append-nil, arith, length-append, length-drop, drop-drop}
-use Rattle.std.proofs.lemmas.Bool.{eqb-true}
-use Rattle.std.specs.Prelude.{All}
-use Rattle.std.specs.List.{slice_split, position_or_len, join_with_byte}
-use Rattle.std.proofs.lemmas.List.{take_all, map-append}
+use Rattle.std.proofs.Common.{◌≡◌, ℕ, zero, suc, ◌+◌, ◌-◌, ◌<◌, ◌≤◌, true, false, List, [], ◌∷◌, ◌++◌, map, length, get_or, take, drop, max, refl, sym, ap, ◌∙◌, append_assoc, append-nil, arith, length-append, length-drop, drop-drop}
+use Rattle.std.proofs.lemmas.Bool.{eqb-true, ltb-true, ne_eqb, false≢true}
+use Rattle.std.specs.Prelude.{All, Bool, ◌==◌, filter, eqb, nat_lt, slice_index, slice_index_or, if◌then◌else◌}
+use Rattle.std.specs.List.{slice_split, onto_first, position_or_len, before_first, join_with_byte}
+use Rattle.std.specs.Str.Lines.{strip_carriage_return}
+use Rattle.std.proofs.lemmas.Bool.Decides.{nat_tests}
+use Rattle.std.proofs.lemmas.List.{take_all, map-append, length_push}
 use Rattle.std.proofs.lemmas.List.Elements.{All-nil, All-push}
 use Rattle.std.proofs.lemmas.List.Sums.{split_at_first, passes_at_first}
-use Rattle.std.proofs.lemmas.List.Splits.{slice_split_none, slice_split_at, join_with_byte-slice_split}
-use Rattle.jm_lines.specs.Lines.{is_line_feed, first_line, lines_of}
+use Rattle.std.proofs.lemmas.List.Splits.{slice_split-cons_no, slice_split_none, slice_split_at, join_with_byte-slice_split}
+use Rattle.jm_lines.specs.Lines.{is_line_feed, is_hash, is_blank, is_some_word, first_line, content_of, lines_of}
 use Rattle.jm_lines.proofs.LineLemmas.{lines_end, lines_more}
-use Rattle.jm_sweep.specs.Recordings.{is_parting, parts_of, span_text, LiesWithin}
+use Rattle.jm_sweep.specs.Recordings.{are_parting, is_parting, parts_of, span_text, LiesWithin}
 
 -- lines, each with its line feed
 abbrev pub fed_lines : List (List ℕ) → List ℕ
@@ -40,6 +42,60 @@ unfed (line ∷ lines) rest n e =
     let count : n - 1 ≡ length j = omega (arith, e, ap length whole, length-append j (10 ∷ [])) in
     ap (λ k. take k (fed_lines (line ∷ lines) ++ rest)) count ∙ ap (λ t. take (length j) (t ++ rest)) whole ∙ ap (take (length j)) (append_assoc j (10 ∷ []) rest) ∙ front_of j (10 ∷ rest)
 
+-- ---- a line that begins with a byte above `-`
+
+short_word : (b : ℕ) (word : List ℕ) (words : List (List ℕ)) → 45 < b → are_parting ((b ∷ word) ∷ words) ≡ false
+short_word b word (x ∷ words) above = refl
+short_word b word [] above =
+    let other : eqb b 45 ≡ false = ne_eqb b 45 (λ e. omega (arith, e, above)) in
+    rw other refl
+
+some_word : (b : ℕ) (word : List ℕ) → is_some_word (b ∷ word) ≡ true
+some_word b word =
+    let some : eqb (length (b ∷ word)) 0 ≡ false = ne_eqb (length (b ∷ word)) 0 (λ e. omega (arith, e)) in
+    rw some refl
+
+first_part : (b : ℕ) (parts : List (List ℕ)) → 45 < b → are_parting (filter is_some_word (onto_first b parts)) ≡ false
+first_part b [] above = short_word b [] [] above
+first_part b (part ∷ parts) above = rw (some_word b part) (short_word b part (filter is_some_word parts) above)
+
+skips : (p : ℕ → Bool) (b : ℕ) (rest : List ℕ) → p b ≡ false → before_first p (b ∷ rest) ≡ b ∷ before_first p rest
+skips p b rest here =
+    let more : (n : ℕ) → 1 + n ≡ suc n = λ n. omega arith in
+    rw (here, more (position_or_len p rest)) refl
+
+begins_so : (b : ℕ) (line : List ℕ) → (b == 13) ≡ false → (rest : List ℕ) × (strip_carriage_return (b ∷ line) ≡ b ∷ rest)
+begins_so b [] h = ([], rw h refl)
+begins_so b (y ∷ line) h =
+    let longer : suc (suc (length line)) - 1 ≡ suc (length line) = omega arith in
+    let there = either (slice_index (y ∷ line) (length line) == 13) (take (length line) (y ∷ line)) (y ∷ line) in
+    (there.0, rw longer there.1)
+  where
+    either : (c : Bool) (short long : List ℕ) → (rest : List ℕ) × ((if c then b ∷ short else b ∷ long) ≡ b ∷ rest)
+    either true short long = (short, refl)
+    either false short long = (long, refl)
+
+-- no parting line does
+pub above_dash : (b : ℕ) (rest : List ℕ) → 45 < b → is_parting (first_line (b ∷ rest)) ≡ false
+above_dash b rest above =
+    let feed : is_line_feed b ≡ false = ne_eqb b 10 (λ e. omega (arith, e, above)) in
+    let return : (b == 13) ≡ false = ne_eqb b 13 (λ e. omega (arith, e, above)) in
+    let hash : is_hash b ≡ false = ne_eqb b 35 (λ e. omega (arith, e, above)) in
+    let blank : is_blank b ≡ false = grind (arith, nat_tests) in
+    let line = before_first is_line_feed rest in
+    let stripped = begins_so b line return in
+    let content : content_of (first_line (b ∷ rest)) ≡ b ∷ before_first is_hash stripped.0 =
+    ap content_of (skips is_line_feed b rest feed) ∙ ap (before_first is_hash) stripped.1 ∙ skips is_hash b stripped.0 hash in
+    ap (λ l. are_parting (filter is_some_word (slice_split is_blank l))) content
+    ∙ ap (λ l. are_parting (filter is_some_word l)) (slice_split-cons_no is_blank b (before_first is_hash stripped.0) blank)
+    ∙ first_part b (slice_split is_blank (before_first is_hash stripped.0)) above
+
+pub above_dash_first : (text : List ℕ) → nat_lt 45 (slice_index_or text 0 0) ≡ true → is_parting (first_line text) ≡ false
+above_dash_first [] h = absurd (omega (arith, ltb-true 45 0 h))
+above_dash_first (b ∷ rest) h = above_dash b rest (ltb-true 45 b h)
+
+-- ---- the parts
+
 -- these are the spans of the parts before the one that begins here, and the lines of that one so far end here
 pub record IsCut (bytes : List ℕ) (spans : List (ℕ × ℕ)) (begin at : ℕ) : Type 0 where
   pub part : List (List ℕ)
@@ -50,6 +106,7 @@ pub record IsCut (bytes : List ℕ) (spans : List (ℕ × ℕ)) (begin at : ℕ)
   pub lines : lines_of (drop begin bytes) ≡ part ++ lines_of (drop at bytes)
   pub cut : map (span_text bytes) spans ++ map (join_with_byte 10) (slice_split is_parting (lines_of (drop begin bytes))) ≡ parts_of bytes
   pub within : All (LiesWithin bytes) spans
+  pub few : length spans ≤ begin
 
 pub nothing_cut : (bytes : List ℕ) → IsCut bytes [] 0 0
 nothing_cut bytes = record {
@@ -61,6 +118,7 @@ nothing_cut bytes = record {
   lines = refl;
   cut = refl;
   within = All-nil (LiesWithin bytes);
+  few = omega arith;
 }
 
 module _ (bytes : List ℕ) (spans : List (ℕ × ℕ)) (begin at : ℕ) (before : IsCut bytes spans begin at) (found : ℕ) (is : found ≡ position_or_len is_line_feed (drop at bytes)) where
@@ -90,6 +148,9 @@ module _ (bytes : List ℕ) (spans : List (ℕ × ℕ)) (begin at : ℕ) (before
         let whole : span_text bytes (begin, at + found) ≡ drop begin bytes = take_all (at + found - begin) (drop begin bytes) (omega (arith, length-drop begin bytes, all)) in
         sym (append-nil (texts (spans ++ (begin, at + found) ∷ []))) ∙ more_texts (begin, at + found) [] ∙ ap (λ t. texts spans ++ t ∷ []) whole ∙ ap (λ l. texts spans ++ l) (sym joined) ∙ before.cut
 
+    pub last_few : (s : ℕ × ℕ) → length (spans ++ s ∷ []) ≤ length bytes + 1
+    last_few s = omega (arith, length_push spans s, before.few, before.ordered, before.bounded)
+
   span_is : span_text bytes (begin, max (at - 1) begin) ≡ join_with_byte 10 before.part
   span_is =
       let count : max (at - 1) begin - begin ≡ (at - begin) - 1 = omega (arith, before.ordered) in
@@ -109,6 +170,17 @@ module _ (bytes : List ℕ) (spans : List (ℕ × ℕ)) (begin at : ℕ) (before
     parted_last all =
         let none : at + found - (at + found) ≡ 0 = omega arith in
         map-append (span_text bytes) (spans ++ (begin, max (at - 1) begin) ∷ []) ((at + found, at + found) ∷ []) ∙ ap (λ k. texts (spans ++ (begin, max (at - 1) begin) ∷ []) ++ take k (drop (at + found) bytes) ∷ []) none ∙ parted [] (last_line all)
+
+    -- a parting line has some bytes
+    some_bytes : (n : ℕ) → n ≡ found → 1 ≤ n
+    some_bytes zero e = absurd (false≢true (sym none ∙ parting))
+      where
+        none : is_parting line ≡ false
+        none = ap (λ k. is_parting (take k (drop at bytes))) (sym (e ∙ is))
+    some_bytes (suc n) e = omega arith
+
+    pub parted_few : (s t : ℕ × ℕ) → at + found ≡ length bytes → length ((spans ++ s ∷ []) ++ t ∷ []) ≤ length bytes + 1
+    parted_few s t all = omega (arith, length_push (spans ++ s ∷ []) t, length_push spans s, before.few, before.ordered, all, some_bytes found refl)
 
   -- a line feed ends the line
   module _ (lt : at + found < length bytes) where
@@ -140,6 +212,7 @@ module _ (bytes : List ℕ) (spans : List (ℕ × ℕ)) (begin at : ℕ) (before
       lines = lines_here ∙ sym (append_assoc before.part (line ∷ []) (lines_of (drop (at + found + 1) bytes)));
       cut = before.cut;
       within = before.within;
+      few = before.few;
     }
 
     -- or parts it from the next
@@ -153,4 +226,5 @@ module _ (bytes : List ℕ) (spans : List (ℕ × ℕ)) (begin at : ℕ) (before
       lines = refl;
       cut = parted parting (lines_of (drop (at + found + 1) bytes)) lines_here;
       within = All-push (LiesWithin bytes) spans (begin, max (at - 1) begin) before.within (omega arith, omega (arith, before.ordered, before.bounded));
+      few = omega (arith, length_push spans (begin, max (at - 1) begin), before.few, before.ordered);
     }
