@@ -8,7 +8,8 @@ ghost use Rattle.jm_semantics.specs.Families.{IsFamily};
 ghost use Rattle.jm_machine.specs.Formulas.{category_names, is_grammar};
 ghost use Rattle.jm_machine.specs.Handlers.{AreCategories};
 ghost use Rattle.jm_machine.specs.Meanings.{Resets, rules_of, rules_meaning};
-ghost use Rattle.jm_machine.specs.Configurations.{Stands};
+ghost use Rattle.jm_model.specs.Meanings.{IsCutWord};
+ghost use Rattle.jm_machine.specs.Configurations.{Stands, IsConfigurationOf};
 ghost use Rattle.jm_machine.specs.Engines.{letters_of_engine, categories_of_engine, is_parsing, HasParams, IsPlaceOf, IsCompiled, IsMinimal};
 ghost use Rattle.jm_machine.specs.RuleSets.{numbers_of, IsRuleSet, IsHandledBy};
 ghost use Rattle.jm_machine.specs.Compiling.{IsCompiledFrom, IsNotCompiled};
@@ -262,6 +263,24 @@ impl Rules {
         resets != 0 && self.handlers_at(configuration) & resets != 0
     }
 
+    /// Whether an instance with this configuration can never fire again, whatever runs the property. A call of its own,
+    /// so that what is asked of a table at each event stays short.
+    #[inline(never)]
+    fn is_cut(&self, configuration: &Configuration, dead: u8) -> bool
+        ensures { (w : List ℕ) → IsConfigurationOf self.now configuration.now w →
+            IsTrue result ↔ IsCutWord (rules_meaning self.now.definition) w dead }
+    {
+        match (&self.outlook, &self.engine) {
+            (Outlook::Table(outlook), _) => !outlook.can_hit(configuration, dead),
+            (Outlook::Grammar(outlook), Engine::Parses(charts)) => {
+                let reset = self.is_reset(configuration);
+                let masks = self.masks.as_slice();
+                outlook.is_cut(charts, &self.goal, masks, configuration, reset, dead)
+            }
+            _ => unreachable!(),
+        }
+    }
+
     /// The handlers whose categories hold of the words of a configuration: bit k stands for handler k.
     fn handlers_at(&self, configuration: &Configuration) -> u16
         ensures hits { (word : List ℕ) → IsPlaceOf self.now.engine configuration.now word →
@@ -348,20 +367,9 @@ impl Monitor for Rules {
     }
 
     fn cut(&self, state: &Configuration, dead: u8) -> bool {
-        match (&self.outlook, &self.engine) {
-            (Outlook::Table(outlook), _) => !outlook.can_hit(state, dead),
-            (Outlook::Grammar(outlook), Engine::Parses(charts)) => {
-                let reset = self.is_reset(state);
-                outlook.is_cut(
-                    charts,
-                    &self.goal,
-                    self.masks.as_slice(),
-                    state,
-                    reset,
-                    dead,
-                )
-            }
-            _ => unreachable!(),
+        match &self.outlook {
+            Outlook::Table(outlook) => !outlook.can_hit(state, dead),
+            Outlook::Grammar(_) => self.is_cut(state, dead),
         }
     }
 
