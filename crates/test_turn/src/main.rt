@@ -1,5 +1,5 @@
-//! A list of callers' numbers under a turn lock: turns by one thread, by two, by eight that pass notes round, and by pairs
-//! that sleep until their turn comes.
+//! A list of callers' numbers under a turn lock: turns by one thread, by two, by eight that pass notes round, and by
+//! pairs that sleep until their turn comes.
 #![tactic(auto)]
 
 mod rounds;
