@@ -1,0 +1,248 @@
+//! How an event is worked out: which monitors it reaches, and what becomes of them.
+ghost use Rattle.std.specs.Prelude.{◌≡◌, ℕ, ◌+◌, ◌<◌, ◌≤◌, ◌↔◌, ◌++◌, List, [], false, Contains, IfOk, OnOk, IsTrue, Some, length, count_by};
+ghost use Rattle.jm_model.specs.Bindings.{empty, is_compatible};
+ghost use Rattle.jm_index.specs.Index.{AreLive, IsFitting};
+ghost use Rattle.jm_store.specs.Slots.{monitor_at};
+ghost use Rattle.jm_store.specs.Moves.{AreGiven, IsOutcomeAt, IsPushed, IsCompatibleAt, AreMovesOf, asks_by, EndsFewer, AreEnding, reached_by};
+ghost use Rattle.jm_store.specs.Contents.{stored_of, with_ending};
+ghost use Rattle.jm_store.specs.Plans.{CanPlan, Plans};
+
+use super::Store;
+use crate::awake::path_of;
+use crate::ending::end_fewer_by;
+use crate::event::Event;
+use crate::moves::{Move, Plan};
+use crate::report::report;
+use jm_model::{Binding, Letter, Monitor, NoMemory, Steps};
+use jm_objects::Objects;
+use std::mem;
+use std::sync::ledger::Ledger;
+
+/// A pass has room for so many slots, and for one for each few slots that there are, so that it needn't look at all of
+/// them where few are to be looked at.
+const MANY: usize = 64;
+
+const FEW: usize = 4;
+
+/// Makes the room that a pass has for slots, where there are so many.
+fn make_room(slots: &mut Vec<usize>, count: usize) -> Result<(), NoMemory>
+    ensures { slots.new.items ≡ slots.old.items }
+{
+    let room = count / FEW + MANY;
+    if slots.capacity() < room {
+        slots.reserve(room)?;
+    }
+    Ok(())
+}
+
+impl<M: Monitor> Store<M> {
+    /// Works out an event, and makes all growths. The contents are as before. Only monitors that are compatible with
+    /// the binding are read, each once.
+    pub fn plan<L: Ledger>(
+        &mut self,
+        rules: &M,
+        objects: &Objects,
+        letter: Letter,
+        binding: &Binding,
+        steps: &mut Steps<L>,
+    ) -> Result<Plan<M::State>, NoMemory>
+        requires { CanPlan (M.meaning (M.definition rules.now)) objects.now letter.0 binding.now self.old }
+        ensures plans { Plans (M.meaning (M.definition rules.now)) (M.StandsFor rules.now) objects.now letter.0
+            binding.now self.old self.new result }
+        ensures steps { steps.new ≤ steps.old + count_by (λ s. is_compatible s.instance binding.now)
+            (stored_of self.old) }
+    {
+        let known = self.marks.contains(binding);
+        self.plan_as(rules, objects, letter, binding, known, steps)
+    }
+
+    /// The same, where it is known whether the binding is a mark.
+    pub fn plan_as<L: Ledger>(
+        &mut self,
+        rules: &M,
+        objects: &Objects,
+        letter: Letter,
+        binding: &Binding,
+        known: bool,
+        steps: &mut Steps<L>,
+    ) -> Result<Plan<M::State>, NoMemory>
+        requires can { CanPlan (M.meaning (M.definition rules.now)) objects.now letter.0 binding.now self.old }
+        requires known { IsTrue known ↔ Contains self.old.marks binding.now }
+        ensures plans { Plans (M.meaning (M.definition rules.now)) (M.StandsFor rules.now) objects.now letter.0
+            binding.now self.old self.new result }
+        ensures steps { steps.new ≤ steps.old + count_by (λ s. is_compatible s.instance binding.now)
+            (stored_of self.old) }
+    {
+        let moves = self.take_moves();
+        let mut slots = self.take_slots();
+        let plan = self.plan_in(
+            rules, objects, letter, binding, known, steps, &mut slots, moves,
+        );
+        self.give_slots(slots);
+        plan
+    }
+
+    /// The same, in this room.
+    #[tactic(auto, using(crate::proofs::PlanLemmas::plans_untouched))]
+    fn plan_in<L: Ledger>(
+        &mut self,
+        rules: &M,
+        objects: &Objects,
+        letter: Letter,
+        binding: &Binding,
+        known: bool,
+        steps: &mut Steps<L>,
+        slots: &mut Vec<usize>,
+        moves: Vec<Move<M::State>>,
+    ) -> Result<Plan<M::State>, NoMemory>
+        requires can { CanPlan (M.meaning (M.definition rules.now)) objects.now letter.0 binding.now self.old }
+        requires known { IsTrue known ↔ Contains self.old.marks binding.now }
+        requires none { moves.items ≡ [] }
+        ensures plans { Plans (M.meaning (M.definition rules.now)) (M.StandsFor rules.now) objects.now letter.0
+            binding.now self.old self.new result }
+        ensures steps { steps.new ≤ steps.old + count_by (λ s. is_compatible s.instance binding.now)
+            (stored_of self.old) }
+    {
+        slots.clear();
+        make_room(slots, self.monitors.count_slots())?;
+        let moves = if known && self.is_listed(letter, binding) {
+            self.awake
+                .copy_into(letter, path_of(binding).unwrap_or(0), slots)?;
+            let event = Event {
+                rules,
+                objects,
+                marks: &self.marks,
+                letter,
+                binding,
+                known,
+            };
+            self.reach_listed(&event, slots.as_slice(), moves, steps)?
+        } else {
+            let event = Event {
+                rules,
+                objects,
+                marks: &self.marks,
+                letter,
+                binding,
+                known,
+            };
+            self.reach(&event, slots, moves, steps)?
+        };
+        let answer = report(*self.domains.allocator(), rules, &moves)?;
+        let copy = answer.copy()?;
+        let moves = self.open_plan(moves)?;
+        self.end_fewer(rules, &moves);
+        self.list_moves(rules, letter, binding, slots, &moves, known);
+        Ok(Plan {
+            binding: *binding,
+            known,
+            moves,
+            answer,
+            copy,
+        })
+    }
+
+    /// Takes the room for moves, which is empty then.
+    fn take_moves(&mut self) -> Vec<Move<M::State>>
+        ensures same { self.new ≡ self.old }
+        ensures none { result.items ≡ [] }
+    {
+        let alloc = *self.domains.allocator();
+        let mut moves = mem::replace(&mut self.moves, Vec::new(alloc));
+        moves.clear();
+        moves
+    }
+
+    /// What the event makes of the stored monitors.
+    fn reach<L: Ledger>(
+        &self,
+        event: &Event<'_, M>,
+        slots: &mut Vec<usize>,
+        mut moves: Vec<Move<M::State>>,
+        steps: &mut Steps<L>,
+    ) -> Result<Vec<Move<M::State>>, NoMemory>
+        requires closed { self.now.is_open ≡ false }
+        requires letter { event.now.letter.0 < (M.meaning (M.definition event.now.rules.now)).letters }
+        requires known { IsTrue event.now.known ↔ Contains event.now.marks.now.list event.now.binding.now }
+        requires fits { IsFitting self.now.index event.now.objects.now }
+        requires live { AreLive event.now.objects.now event.now.binding.now }
+        requires none { moves.items ≡ [] }
+        ensures moves { IfOk result (λ moves. AreMovesOf (M.meaning (M.definition event.now.rules.now))
+            (M.StandsFor event.now.rules.now) event.now.letter.0 event.now.binding.now
+            event.now.objects.now event.now.marks.now.list
+            (asks_by event.now.known self.now.ending event.now.letter.0 event.now.binding.now)
+            self.now.monitors moves.items) }
+        ensures steps { steps.new ≤ steps.old + count_by (λ s. is_compatible s.instance event.now.binding.now)
+            (stored_of self.now) }
+    {
+        for domain in &self.domains {
+            if event.asks(self.ending[*domain as usize], *domain) {
+                self.index
+                    .compatible_into(event.objects, *domain, event.binding, slots)?;
+                self.reach_slots(event, slots.as_slice(), &mut moves, steps)?;
+            }
+        }
+        Ok(moves)
+    }
+
+    /// What it makes of those in some slots.
+    fn reach_slots<L: Ledger>(
+        &self,
+        event: &Event<'_, M>,
+        slots: &[usize],
+        moves: &mut Vec<Move<M::State>>,
+        steps: &mut Steps<L>,
+    ) -> Result<(), NoMemory>
+        requires letter { event.now.letter.0 < (M.meaning (M.definition event.now.rules.now)).letters }
+        requires known { IsTrue event.now.known ↔ Contains event.now.marks.now.list event.now.binding.now }
+        requires compatible { (k : ℕ) → Contains slots.now k
+            → IsCompatibleAt event.now.binding.now (monitor_at self.now.monitors k) }
+        ensures moves { OnOk result ((slots_before : List ℕ)
+            → AreGiven (IsOutcomeAt (M.meaning (M.definition event.now.rules.now))
+            (M.StandsFor event.now.rules.now) event.now.letter.0 event.now.binding.now
+            event.now.objects.now event.now.marks.now.list self.now.monitors) slots_before moves.old.items
+            → AreGiven (IsOutcomeAt (M.meaning (M.definition event.now.rules.now))
+            (M.StandsFor event.now.rules.now) event.now.letter.0 event.now.binding.now
+            event.now.objects.now event.now.marks.now.list self.now.monitors)
+            (slots_before ++ slots.now) moves.new.items) }
+        ensures steps { steps.new ≤ steps.old + length slots.now }
+    {
+        for slot in slots {
+            self.reach_slot(event, *slot, moves, steps)?;
+        }
+        Ok(())
+    }
+
+    /// What it makes of the one in a slot.
+    fn reach_slot<L: Ledger>(
+        &self,
+        event: &Event<'_, M>,
+        slot: usize,
+        moves: &mut Vec<Move<M::State>>,
+        steps: &mut Steps<L>,
+    ) -> Result<(), NoMemory>
+        requires letter { event.now.letter.0 < (M.meaning (M.definition event.now.rules.now)).letters }
+        requires known { IsTrue event.now.known ↔ Contains event.now.marks.now.list event.now.binding.now }
+        requires compatible { IsCompatibleAt event.now.binding.now (monitor_at self.now.monitors slot) }
+        ensures moves { OnOk result (IsPushed
+            (IsOutcomeAt (M.meaning (M.definition event.now.rules.now))
+            (M.StandsFor event.now.rules.now) event.now.letter.0 event.now.binding.now
+            event.now.objects.now event.now.marks.now.list self.now.monitors) slot moves.old.items moves.new.items) }
+        ensures steps { steps.new ≤ steps.old + 1 }
+    {
+        let Some(base) = self.monitors.lend(slot, steps) else {
+            return Ok(());
+        };
+        event.add_outcome(slot, base, moves)
+    }
+
+    /// Keeps of the letters that end monitors those that end the moved ones too.
+    fn end_fewer(&mut self, rules: &M, moves: &[Move<M::State>])
+        ensures same { self.new ≡ with_ending self.old self.new.ending }
+        ensures fewer { EndsFewer self.old.ending self.new.ending }
+        ensures ended { AreEnding (M.meaning (M.definition rules.now)) (M.StandsFor rules.now) self.new.ending
+            (reached_by moves.now) }
+    {
+        end_fewer_by(&mut self.ending, rules, moves);
+    }
+}
