@@ -45,7 +45,10 @@ pub(crate) fn in_place<R: Wait>(rt: &R, alloc: Global) -> Option<(Taken, Taken)>
 }
 
 /// One thread waits for an item and then for a name that is given up; the other posts it.
-pub(crate) fn handed_over<R: Threads + Wait + Sync>(rt: &R, alloc: Global) -> Option<(Taken, Taken)> {
+pub(crate) fn handed_over<R: Threads + Wait + Sync>(
+    rt: &R,
+    alloc: Global,
+) -> Option<(Taken, Taken)> {
     let board = Board::<Item, GaveUp>::new(alloc, 2).ok()?;
     let posted = items(alloc, 0, &[7])?;
     let (taken, _done) = thread::join(
