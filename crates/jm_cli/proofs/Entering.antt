@@ -7,12 +7,12 @@ use Rattle.clap.specs.Simple.{App, Shape, built, names_of, subcommand_of}
 use Rattle.clap.specs.Kinds.{or_else}
 use Rattle.clap.specs.Faults.{fault_of, defaults_fault, turn_fault, walk_fault}
 use Rattle.jm_cli.specs.Words.{is_name, are_names, names_of as names_in, command_of}
-use Rattle.jm_cli.specs.Words.CommandWords.{Replay, Check, Coenable}
-use Rattle.jm_cli.specs.Line.{line_app, names_shape, replay_shape, gen_shape, is_whole, found_command}
+use Rattle.jm_cli.specs.Words.CommandWords.{Replay, Check, Coenable, Sweep}
+use Rattle.jm_cli.specs.Line.{line_app, names_shape, pair_shape, gen_shape, is_whole, found_command}
 use Rattle.jm_cli.proofs.Saying.{both, same_bytes}
 use Rattle.jm_cli.proofs.Reading.{run_of_names}
 use Rattle.jm_cli.proofs.Walking.{no_hyphen, takes_names, names_found}
-use Rattle.jm_cli.proofs.Values.{takes_pair, pair_rows, takes_one, one_rows}
+use Rattle.jm_cli.proofs.Values.{row, takes_pair, pair_rows, takes_one, one_rows}
 use Rattle.jm_cli.proofs.Levels.{level, rows, IsFault, no_fault, first_fault}
 
 abbrev line : App
@@ -35,11 +35,12 @@ free_rest name front (w ∷ ws) = free_rest name (front ++ w ∷ []) ws
 -- the shape of the command of a name
 abbrev pub shape_of : Text → Option Shape
 shape_of name =
-    if bytes_eq name (codes "replay") then Some replay_shape
+    if bytes_eq name (codes "replay") then Some (pair_shape name)
     else (if bytes_eq name (codes "run") then Some (names_shape name)
     else (if bytes_eq name (codes "check") then Some (names_shape name)
     else (if bytes_eq name (codes "coenable") then Some (names_shape name)
-    else (if bytes_eq name (codes "gen") then Some gen_shape else None))))
+    else (if bytes_eq name (codes "gen") then Some gen_shape
+    else (if bytes_eq name (codes "sweep") then Some (pair_shape name) else None)))))
 
 -- the words behind a name are those of its command
 pub record Enters (name : Text) (s : Shape) : Type 0 where
@@ -74,6 +75,10 @@ coenable_first : walked line.top.rules (names_of line) (walk_from nothing_held) 
 unfolding walked
 coenable_first = refl
 
+sweep_first : walked line.top.rules (names_of line) (walk_from nothing_held) (codes "sweep") ≡ met (codes "sweep") []
+unfolding walked
+sweep_first = refl
+
 gen_first : walked line.top.rules (names_of line) (walk_from nothing_held) (codes "gen") ≡ met (codes "gen") []
 unfolding walked
 gen_first = refl
@@ -89,17 +94,34 @@ module _ (name : Text) (ws : List Text) (names : list_all is_name ws ≡ true) (
   same_names : all_of (codes "names") (rows (names_shape name) ws) ≡ names_in ws
   same_names = found_names ∙ sym (names_in_is ws (takes_names name ws names free))
 
--- the two names behind `replay`
-pair_command : (ws : List Text) → list_all is_name ws ≡ true → level replay_shape ws ≡ []
-    → (is_whole (codes "replay") (rows replay_shape ws) ≡ true) × (found_command (codes "replay") (rows replay_shape ws) ≡ command_of (codes "replay" ∷ ws))
-pair_command ws names free =
-    let two = takes_pair ws names free in
-    let a = two.0 in
-    let b = two.1 in
-    let found_is = ap (rows replay_shape) two.2 ∙ pair_rows a b two.3 two.4 in
-    let spelled : command_of (codes "replay" ∷ a ∷ b ∷ []) ≡ Some (Replay a b) = rw (two.3, two.4) refl in (
+-- the two names behind `replay` and `sweep`
+module _ (name : Text) (ws : List Text) (names : list_all is_name ws ≡ true) (free : level (pair_shape name) ws ≡ []) where
+  two_names : (a : Text) × (b : Text) × (ws ≡ a ∷ b ∷ []) × (is_name a ≡ true) × (is_name b ≡ true)
+  two_names = takes_pair name ws names free
+
+  two_rows : rows (pair_shape name) ws ≡ row (codes "first") two_names.0 ∷ row (codes "second") two_names.1 ∷ []
+  two_rows = ap (rows (pair_shape name)) two_names.2 ∙ pair_rows name two_names.0 two_names.1 two_names.3 two_names.4
+
+replay_command : (ws : List Text) → list_all is_name ws ≡ true → level (pair_shape (codes "replay")) ws ≡ []
+    → (is_whole (codes "replay") (rows (pair_shape (codes "replay")) ws) ≡ true)
+    × (found_command (codes "replay") (rows (pair_shape (codes "replay")) ws) ≡ command_of (codes "replay" ∷ ws))
+replay_command ws names free =
+    let two = two_names (codes "replay") ws names free in
+    let found_is = two_rows (codes "replay") ws names free in
+    let spelled : command_of (codes "replay" ∷ two.0 ∷ two.1 ∷ []) ≡ Some (Replay two.0 two.1) = rw (two.3, two.4) refl in (
       ap (is_whole (codes "replay")) found_is,
       ap (found_command (codes "replay")) found_is ∙ sym spelled ∙ sym (ap (λ x. command_of (codes "replay" ∷ x)) two.2),
+    )
+
+sweep_command : (ws : List Text) → list_all is_name ws ≡ true → level (pair_shape (codes "sweep")) ws ≡ []
+    → (is_whole (codes "sweep") (rows (pair_shape (codes "sweep")) ws) ≡ true)
+    × (found_command (codes "sweep") (rows (pair_shape (codes "sweep")) ws) ≡ command_of (codes "sweep" ∷ ws))
+sweep_command ws names free =
+    let two = two_names (codes "sweep") ws names free in
+    let found_is = two_rows (codes "sweep") ws names free in
+    let spelled : command_of (codes "sweep" ∷ two.0 ∷ two.1 ∷ []) ≡ Some (Sweep two.0 two.1) = rw (two.3, two.4) refl in (
+      ap (is_whole (codes "sweep")) found_is,
+      ap (found_command (codes "sweep")) found_is ∙ sym spelled ∙ sym (ap (λ x. command_of (codes "sweep" ∷ x)) two.2),
     )
 
 -- the word behind `gen`
@@ -112,14 +134,14 @@ one_command ws names free =
       ap (found_command (codes "gen")) found_is ∙ sym (ap (λ x. command_of (codes "gen" ∷ x)) one.1),
     )
 
-pub replay_enters : Enters (codes "replay") replay_shape
+pub replay_enters : Enters (codes "replay") (pair_shape (codes "replay"))
 unfolding defaults_fault
 replay_enters = record {
   shape = refl;
   fault = λ ws. rw (meets (codes "replay") replay_first refl ws, meets_free (codes "replay") replay_first refl ws) refl;
   found = λ ws. rw (meets (codes "replay") replay_first refl ws) refl;
-  whole = λ ws names free. (pair_command ws names free).0;
-  command = λ ws names free. (pair_command ws names free).1;
+  whole = λ ws names free. (replay_command ws names free).0;
+  command = λ ws names free. (replay_command ws names free).1;
 }
 
 pub run_enters : Enters (codes "run") (names_shape (codes "run"))
@@ -162,22 +184,32 @@ gen_enters = record {
   command = λ ws names free. (one_command ws names free).1;
 }
 
+pub sweep_enters : Enters (codes "sweep") (pair_shape (codes "sweep"))
+unfolding defaults_fault
+sweep_enters = record {
+  shape = refl;
+  fault = λ ws. rw (meets (codes "sweep") sweep_first refl ws, meets_free (codes "sweep") sweep_first refl ws) refl;
+  found = λ ws. rw (meets (codes "sweep") sweep_first refl ws) refl;
+  whole = λ ws names free. (sweep_command ws names free).0;
+  command = λ ws names free. (sweep_command ws names free).1;
+}
+
 -- ---- another word is refused
 stray : (word : Text) → is_name word ≡ true
     → bytes_eq (codes "replay") word ≡ false → bytes_eq (codes "run") word ≡ false → bytes_eq (codes "check") word ≡ false
     → bytes_eq (codes "coenable") word ≡ false → bytes_eq (codes "gen") word ≡ false
-    → IsFault (turn_fault line.top (names_of line) (walk_from nothing_held) word)
-stray [] n a b c d e = tt
-stray (x ∷ xs) n a b c d e =
+    → bytes_eq (codes "sweep") word ≡ false → IsFault (turn_fault line.top (names_of line) (walk_from nothing_held) word)
+stray [] n a b c d e f = tt
+stray (x ∷ xs) n a b c d e f =
     let h = no_hyphen x xs n in
-    rw (a, b, c, d, e, h) (rw h tt)
+    rw (a, b, c, d, e, f, h) (rw h tt)
 
 refused : (word : Text) (words : List Text) → is_name word ≡ true
     → bytes_eq (codes "replay") word ≡ false → bytes_eq (codes "run") word ≡ false → bytes_eq (codes "check") word ≡ false
     → bytes_eq (codes "coenable") word ≡ false → bytes_eq (codes "gen") word ≡ false
-    → IsFault (fault_of line_app (word ∷ words))
+    → bytes_eq (codes "sweep") word ≡ false → IsFault (fault_of line_app (word ∷ words))
 unfolding walk_fault
-refused word words n a b c d e = first_fault _ _ (first_fault _ _ (stray word n a b c d e))
+refused word words n a b c d e f = first_fault _ _ (first_fault _ _ (stray word n a b c d e f))
 
 nothing_missing : IsFault (fault_of line_app [])
 unfolding walk_fault defaults_fault
@@ -196,7 +228,7 @@ pub enters : (words : List Text) → list_all is_name words ≡ true → fault_o
 enters [] names none = absurd (no_fault (fault_of line_app []) nothing_missing none)
 enters (w ∷ ws) names none =
     elim (decided (codes "replay") w) [
-      | inl is ↦ (codes "replay", ws, replay_shape, ap (λ x. x ∷ ws) is, replay_enters)
+      | inl is ↦ (codes "replay", ws, pair_shape (codes "replay"), ap (λ x. x ∷ ws) is, replay_enters)
       | inr a ↦ elim (decided (codes "run") w) [
         | inl is ↦ (codes "run", ws, names_shape (codes "run"), ap (λ x. x ∷ ws) is, run_enters)
         | inr b ↦ elim (decided (codes "check") w) [
@@ -205,7 +237,10 @@ enters (w ∷ ws) names none =
             | inl is ↦ (codes "coenable", ws, names_shape (codes "coenable"), ap (λ x. x ∷ ws) is, coenable_enters)
             | inr d ↦ elim (decided (codes "gen") w) [
               | inl is ↦ (codes "gen", ws, gen_shape, ap (λ x. x ∷ ws) is, gen_enters)
-              | inr e ↦ absurd (no_fault (fault_of line_app (w ∷ ws)) (refused w ws (both (is_name w) (list_all is_name ws) names).0 a b c d e) none)
+              | inr e ↦ elim (decided (codes "sweep") w) [
+                | inl is ↦ (codes "sweep", ws, pair_shape (codes "sweep"), ap (λ x. x ∷ ws) is, sweep_enters)
+                | inr f ↦ absurd (no_fault (fault_of line_app (w ∷ ws)) (refused w ws (both (is_name w) (list_all is_name ws) names).0 a b c d e f) none)
+              ]
             ]
           ]
         ]

@@ -14,7 +14,7 @@ use Rattle.clap.specs.Faults.{fault_of}
 use Rattle.jm_cli.specs.declared.command.WordsError.{WordsError}
 use Rattle.jm_cli.specs.declared.command.WordsError.TheVariants.{Usage, NoMemory}
 use Rattle.jm_cli.specs.Words.{CommandWords, is_name, are_names, command_of}
-use Rattle.jm_cli.specs.Words.CommandWords.{Replay, Run, Check, Coenable, Gen}
+use Rattle.jm_cli.specs.Words.CommandWords.{Replay, Run, Check, Coenable, Gen, Sweep}
 use Rattle.jm_cli.specs.Spelling.{Spells}
 use Rattle.jm_cli.specs.Line.{line_app, names_shape, is_whole, found_command, Makes}
 use Rattle.jm_cli.proofs.Saying.{both, spelled}
@@ -22,7 +22,7 @@ use Rattle.jm_cli.proofs.Reading.{names_told, separator_at, decimal_name}
 use Rattle.jm_cli.proofs.Levels.{level, rows, before_nothing, by_itself}
 use Rattle.jm_cli.proofs.Walking.{takes_names, names_free, names_found}
 use Rattle.jm_cli.proofs.Values.{pair_free, one_free}
-use Rattle.jm_cli.proofs.Entering.{Enters, enters, replay_enters, check_enters, coenable_enters, gen_enters, run_enters}
+use Rattle.jm_cli.proofs.Entering.{Enters, enters, replay_enters, check_enters, coenable_enters, gen_enters, run_enters, sweep_enters}
 
 -- where no command fits, none is spelled
 pub none_if : (o : Option CommandWords) → ((c : CommandWords) → o ≡ Some c → ⊥) → o ≡ None
@@ -86,13 +86,15 @@ run_free specs are = run_enters.fault specs ∙ ap (λ k. or_else k []) (names_f
 -- words that spell a command, each a name, are taken by clap
 pub free_by : (words : List Text) → list_all is_name words ≡ true → (c : CommandWords) → Spells words c → fault_of line_app words ≡ []
 free_by words names (Replay a b) s =
-    ap (fault_of line_app) s.0 ∙ replay_enters.fault (a ∷ b ∷ []) ∙ ap (λ k. or_else k []) (pair_free a b s.1 s.2)
+    ap (fault_of line_app) s.0 ∙ replay_enters.fault (a ∷ b ∷ []) ∙ ap (λ k. or_else k []) (pair_free (codes "replay") a b s.1 s.2)
 free_by words names (Run specs scripts) s =
     absurd (no_separator (codes "run" ∷ specs) scripts (subst (λ x. list_all is_name x ≡ true) s.0 names))
 free_by words names (Check specs) s =
     ap (fault_of line_app) s.0 ∙ check_enters.fault specs ∙ ap (λ k. or_else k []) (names_free (codes "check") specs (names_told specs s.1))
 free_by words names (Coenable specs) s =
     ap (fault_of line_app) s.0 ∙ coenable_enters.fault specs ∙ ap (λ k. or_else k []) (names_free (codes "coenable") specs (names_told specs s.1))
+free_by words names (Sweep a b) s =
+    ap (fault_of line_app) s.0 ∙ sweep_enters.fault (a ∷ b ∷ []) ∙ ap (λ k. or_else k []) (pair_free (codes "sweep") a b s.1 s.2)
 free_by words names (Gen n) s =
     let name : is_name (decimal n) ≡ true = (both (is_name (decimal n)) true (subst (λ x. list_all is_name x ≡ true) s.0 names)).0 in
     ap (fault_of line_app) s.0 ∙ gen_enters.fault (decimal n ∷ []) ∙ ap (λ k. or_else k []) (one_free (decimal n) name)
@@ -110,6 +112,7 @@ names_apart words (Replay a b) apart s = rw (s.0, s.1, s.2) refl
 names_apart words (Run specs scripts) apart s = absurd apart
 names_apart words (Check specs) apart s = rw s.0 s.1.each
 names_apart words (Coenable specs) apart s = rw s.0 s.1.each
+names_apart words (Sweep a b) apart s = rw (s.0, s.1, s.2) refl
 names_apart words (Gen n) apart s = rw (s.0, decimal_name n s.1 s.2) refl
 
 -- so are those without a separator
@@ -119,6 +122,7 @@ names_by words none (Run specs scripts) s =
 names_by words none (Replay a b) s = names_apart words (Replay a b) tt s
 names_by words none (Check specs) s = names_apart words (Check specs) tt s
 names_by words none (Coenable specs) s = names_apart words (Coenable specs) tt s
+names_by words none (Sweep a b) s = names_apart words (Sweep a b) tt s
 names_by words none (Gen n) s = names_apart words (Gen n) tt s
 
 -- ---- a command of names by itself

@@ -9,7 +9,7 @@ use Rattle.std.proofs.lemmas.Bool.Decides.{eqb_tells}
 use Rattle.std.proofs.lemmas.List.{length-append}
 use Rattle.std.proofs.lemmas.Fmt.{decimal_nonempty, length-decimal-le, digits_decimal, digits_value-decimal, first_decimal}
 use Rattle.jm_cli.specs.Words.{CommandWords, is_name, are_names, is_short_number, rounds_of, run_of, command_of}
-use Rattle.jm_cli.specs.Words.CommandWords.{Replay, Run, Check, Coenable, Gen}
+use Rattle.jm_cli.specs.Words.CommandWords.{Replay, Run, Check, Coenable, Gen, Sweep}
 use Rattle.jm_cli.specs.Spelling.{AreNames, Spells}
 use Rattle.jm_cli.proofs.Numbers.{own}
 use Rattle.jm_cli.proofs.Saying.{both, same_bytes}
@@ -96,4 +96,5 @@ told words (Replay spec script) s = rw (s.0, s.1, s.2) refl
 told words (Run specs scripts) s = rw s.0 (run_told specs scripts s.1 s.2)
 told words (Check specs) s = rw (s.0, names_told specs s.1) refl
 told words (Coenable specs) s = rw (s.0, names_told specs s.1) refl
+told words (Sweep spec recording) s = rw (s.0, s.1, s.2) refl
 told words (Gen n) s = rw (s.0, rounds_told n s.1 s.2) refl

@@ -17,7 +17,7 @@ use Rattle.jm_cli.specs.declared.command.WordsError.{WordsError}
 use Rattle.jm_cli.specs.declared.command.WordsError.TheVariants.{Usage, NoMemory}
 use Rattle.jm_model.specs.Words.{Text}
 use Rattle.jm_cli.specs.Words.{CommandWords, is_name, are_names, command_of, command_around, run_around}
-use Rattle.jm_cli.specs.Words.CommandWords.{Replay, Run, Check, Coenable, Gen}
+use Rattle.jm_cli.specs.Words.CommandWords.{Replay, Run, Check, Coenable, Gen, Sweep}
 use Rattle.jm_cli.specs.Spelling.{Spells}
 use Rattle.jm_cli.specs.Views.{Reads, command_words}
 use Rattle.jm_cli.specs.Line.{line_app}
@@ -83,6 +83,7 @@ module _ (words : List Text) (place : ℕ) (at : position (bytes_eq (codes "--")
   told_around (Replay a b) s = absurd (not_names (names_apart words (Replay a b) tt s))
   told_around (Check specs) s = absurd (not_names (names_apart words (Check specs) tt s))
   told_around (Coenable specs) s = absurd (not_names (names_apart words (Coenable specs) tt s))
+  told_around (Sweep a b) s = absurd (not_names (names_apart words (Sweep a b) tt s))
   told_around (Gen n) s = absurd (not_names (names_apart words (Gen n) tt s))
 
   said_around : (before after : List Text) → words ≡ before ++ codes "--" ∷ after → (c : CommandWords) → command_around before after ≡ Some c → Spells words c

@@ -9,8 +9,8 @@ use Rattle.std.proofs.lemmas.List.{take-append-drop, drop_more}
 use Rattle.std.proofs.lemmas.List.Quantifiers.{position-Some}
 use Rattle.std.proofs.lemmas.Slice.Eq.{bytes_eq-Decides}
 use Rattle.std.proofs.lemmas.Fmt.{decimal-digits_value, decimal_digit}
-use Rattle.jm_cli.specs.Words.{CommandWords, is_name, are_names, names_of, is_short_number, rounds_of, replay_of, run_around, run_of, check_of, coenable_of, gen_of, command_of}
-use Rattle.jm_cli.specs.Words.CommandWords.{Replay, Run, Check, Coenable, Gen}
+use Rattle.jm_cli.specs.Words.{CommandWords, is_name, are_names, names_of, is_short_number, rounds_of, replay_of, run_around, run_of, check_of, coenable_of, gen_of, sweep_of, command_of}
+use Rattle.jm_cli.specs.Words.CommandWords.{Replay, Run, Check, Coenable, Gen, Sweep}
 use Rattle.jm_cli.specs.Spelling.{AreNames, Spells}
 use Rattle.jm_cli.proofs.Numbers.{own, digits, some}
 
@@ -51,6 +51,15 @@ replay_spelled (spec ∷ script ∷ []) c e =
     let b = both (is_name spec) (is_name script) t.0 in
     subst (Spells (codes "replay" ∷ spec ∷ script ∷ [])) t.1 (refl, b.0, b.1)
 replay_spelled (x ∷ y ∷ z ∷ words) c e = absurd (none-some c e)
+
+sweep_spelled : (words : List (List ℕ)) (c : CommandWords) → sweep_of words ≡ Some c → Spells (codes "sweep" ∷ words) c
+sweep_spelled [] c e = absurd (none-some c e)
+sweep_spelled (x ∷ []) c e = absurd (none-some c e)
+sweep_spelled (spec ∷ script ∷ []) c e =
+    let t = taken (is_name spec && is_name script) (Sweep spec script) c e in
+    let b = both (is_name spec) (is_name script) t.0 in
+    subst (Spells (codes "sweep" ∷ spec ∷ script ∷ [])) t.1 (refl, b.0, b.1)
+sweep_spelled (x ∷ y ∷ z ∷ words) c e = absurd (none-some c e)
 
 run_spelled : (words : List (List ℕ)) (c : CommandWords) → run_of words ≡ Some c → Spells (codes "run" ∷ words) c
 run_spelled words c e =
@@ -123,7 +132,10 @@ spelled (w ∷ words) c e =
             | inl h ↦ rw (same_bytes w (codes "coenable") h.0) (coenable_spelled words c h.1)
             | inr h ↦ elim (chosen (bytes_eq w (codes "gen")) _ _ c h.1) [
               | inl h ↦ rw (same_bytes w (codes "gen") h.0) (gen_spelled words c h.1)
-              | inr h ↦ absurd (none-some c h.1)
+              | inr h ↦ elim (chosen (bytes_eq w (codes "sweep")) _ _ c h.1) [
+                | inl h ↦ rw (same_bytes w (codes "sweep") h.0) (sweep_spelled words c h.1)
+                | inr h ↦ absurd (none-some c h.1)
+              ]
             ]
           ]
         ]

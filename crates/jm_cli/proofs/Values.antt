@@ -7,12 +7,12 @@ use Rattle.clap.specs.Facts.{parser_of_value}
 use Rattle.clap.specs.declared.parser.matches.ValueSource.TheVariants.{CommandLine}
 use Rattle.clap.specs.Faults.{defaults_fault, turn_fault, walk_fault}
 use Rattle.jm_cli.specs.Words.{is_name}
-use Rattle.jm_cli.specs.Line.{replay_shape, gen_shape}
+use Rattle.jm_cli.specs.Line.{pair_shape, gen_shape}
 use Rattle.jm_cli.proofs.Saying.{both}
 use Rattle.jm_cli.proofs.Walking.{no_hyphen}
 use Rattle.jm_cli.proofs.Levels.{leaf, level, rows, IsFault, no_fault, first_fault}
 
-abbrev row : Text → Text → Row
+abbrev pub row : Text → Text → Row
 row id w = record { id = id; values = w ∷ []; count = None; source = Some CommandLine; reading = reading_of (parser_of_value None) }
 
 -- after the value of the first positional, and of the second
@@ -27,73 +27,74 @@ after_one id w = record {
 
 abbrev after_two : Text → Text → Walk
 after_two a b = record {
-  held = record { rows = row (codes "spec") a ∷ []; pending = Some (codes "script", b ∷ []); skip = 0 };
+  held = record { rows = row (codes "first") a ∷ []; pending = Some (codes "second", b ∷ []); skip = 0 };
   waiting = idle;
   position = 3;
   is_trailing = false;
   stopped = None;
 }
 
--- ---- `replay`
-first_step : (w : Text) → is_name w ≡ true → walked (leaf replay_shape).rules [] (walk_from nothing_held) w ≡ after_one (codes "spec") w
-unfolding walked
-first_step [] n = refl
-first_step (x ∷ xs) n = rw (no_hyphen x xs n) (rw (no_hyphen x xs n) refl)
+-- ---- two names
+module _ (name : Text) where
+  first_step : (w : Text) → is_name w ≡ true → walked (leaf (pair_shape name)).rules [] (walk_from nothing_held) w ≡ after_one (codes "first") w
+  unfolding walked
+  first_step [] n = refl
+  first_step (x ∷ xs) n = rw (no_hyphen x xs n) (rw (no_hyphen x xs n) refl)
 
-first_free : (w : Text) → is_name w ≡ true → turn_fault (leaf replay_shape) [] (walk_from nothing_held) w ≡ []
-first_free [] n = refl
-first_free (x ∷ xs) n = rw (no_hyphen x xs n) (rw (no_hyphen x xs n) refl)
+  first_free : (w : Text) → is_name w ≡ true → turn_fault (leaf (pair_shape name)) [] (walk_from nothing_held) w ≡ []
+  first_free [] n = refl
+  first_free (x ∷ xs) n = rw (no_hyphen x xs n) (rw (no_hyphen x xs n) refl)
 
-second_step : (a w : Text) → is_name w ≡ true → walked (leaf replay_shape).rules [] (after_one (codes "spec") a) w ≡ after_two a w
-unfolding walked
-second_step a [] n = refl
-second_step a (x ∷ xs) n = rw (no_hyphen x xs n) (rw (no_hyphen x xs n) refl)
+  second_step : (a w : Text) → is_name w ≡ true → walked (leaf (pair_shape name)).rules [] (after_one (codes "first") a) w ≡ after_two a w
+  unfolding walked
+  second_step a [] n = refl
+  second_step a (x ∷ xs) n = rw (no_hyphen x xs n) (rw (no_hyphen x xs n) refl)
 
-second_free : (a w : Text) → is_name w ≡ true → turn_fault (leaf replay_shape) [] (after_one (codes "spec") a) w ≡ []
-second_free a [] n = refl
-second_free a (x ∷ xs) n = rw (no_hyphen x xs n) (rw (no_hyphen x xs n) refl)
+  second_free : (a w : Text) → is_name w ≡ true → turn_fault (leaf (pair_shape name)) [] (after_one (codes "first") a) w ≡ []
+  second_free a [] n = refl
+  second_free a (x ∷ xs) n = rw (no_hyphen x xs n) (rw (no_hyphen x xs n) refl)
 
-third_stray : (a b w : Text) → is_name w ≡ true → IsFault (turn_fault (leaf replay_shape) [] (after_two a b) w)
-third_stray a b [] n = tt
-third_stray a b (x ∷ xs) n = rw (no_hyphen x xs n) (rw (no_hyphen x xs n) tt)
+  third_stray : (a b w : Text) → is_name w ≡ true → IsFault (turn_fault (leaf (pair_shape name)) [] (after_two a b) w)
+  third_stray a b [] n = tt
+  third_stray a b (x ∷ xs) n = rw (no_hyphen x xs n) (rw (no_hyphen x xs n) tt)
 
-pub pair_free : (a b : Text) → is_name a ≡ true → is_name b ≡ true → level replay_shape (a ∷ b ∷ []) ≡ []
-unfolding walk_fault defaults_fault
-pair_free a b m n = rw (first_free a m, first_step a m) (rw (second_free a b n, second_step a b n) refl)
+  pub pair_free : (a b : Text) → is_name a ≡ true → is_name b ≡ true → level (pair_shape name) (a ∷ b ∷ []) ≡ []
+  unfolding walk_fault defaults_fault
+  pair_free a b m n = rw (first_free a m, first_step a m) (rw (second_free a b n, second_step a b n) refl)
 
-pub pair_rows : (a b : Text) → is_name a ≡ true → is_name b ≡ true
-    → rows replay_shape (a ∷ b ∷ []) ≡ row (codes "spec") a ∷ row (codes "script") b ∷ []
-pair_rows a b m n = rw (first_step a m) (rw (second_step a b n) refl)
+  pub pair_rows : (a b : Text) → is_name a ≡ true → is_name b ≡ true
+      → rows (pair_shape name) (a ∷ b ∷ []) ≡ row (codes "first") a ∷ row (codes "second") b ∷ []
+  pair_rows a b m n = rw (first_step a m) (rw (second_step a b n) refl)
 
-no_pair : IsFault (level replay_shape [])
-unfolding walk_fault defaults_fault walked
-no_pair = tt
+  no_pair : IsFault (level (pair_shape name) [])
+  unfolding walk_fault defaults_fault walked
+  no_pair = tt
 
-half_pair : (a : Text) → is_name a ≡ true → IsFault (level replay_shape (a ∷ []))
-unfolding walk_fault defaults_fault
-half_pair a m = rw (first_free a m, first_step a m) tt
+  half_pair : (a : Text) → is_name a ≡ true → IsFault (level (pair_shape name) (a ∷ []))
+  unfolding walk_fault defaults_fault
+  half_pair a m = rw (first_free a m, first_step a m) tt
 
-more_than_pair : (a b w : Text) (ws : List Text) → is_name a ≡ true → is_name b ≡ true → is_name w ≡ true
-    → IsFault (level replay_shape (a ∷ b ∷ w ∷ ws))
-unfolding walk_fault
-more_than_pair a b w ws m n o =
-    let stray = third_stray a b w o in
-    rw (first_free a m, first_step a m) (rw (second_free a b n, second_step a b n) (first_fault _ _ (first_fault _ _ stray)))
+  more_than_pair : (a b w : Text) (ws : List Text) → is_name a ≡ true → is_name b ≡ true → is_name w ≡ true
+      → IsFault (level (pair_shape name) (a ∷ b ∷ w ∷ ws))
+  unfolding walk_fault
+  more_than_pair a b w ws m n o =
+      let stray = third_stray a b w o in
+      rw (first_free a m, first_step a m) (rw (second_free a b n, second_step a b n) (first_fault _ _ (first_fault _ _ stray)))
 
--- clap takes exactly two names
-pub takes_pair : (ws : List Text) → list_all is_name ws ≡ true → level replay_shape ws ≡ []
-    → (a : Text) × (b : Text) × (ws ≡ a ∷ b ∷ []) × (is_name a ≡ true) × (is_name b ≡ true)
-takes_pair [] names none = absurd (no_fault (level replay_shape []) no_pair none)
-takes_pair (a ∷ []) names none = absurd (no_fault (level replay_shape (a ∷ [])) (half_pair a (both (is_name a) true names).0) none)
-takes_pair (a ∷ b ∷ []) names none =
-    let m = both (is_name a) (list_all is_name (b ∷ [])) names in
-    let n = both (is_name b) true m.1 in
-    (a, b, refl, m.0, n.0)
-takes_pair (a ∷ b ∷ w ∷ ws) names none =
-    let m = both (is_name a) (list_all is_name (b ∷ w ∷ ws)) names in
-    let n = both (is_name b) (list_all is_name (w ∷ ws)) m.1 in
-    let o = both (is_name w) (list_all is_name ws) n.1 in
-    absurd (no_fault (level replay_shape (a ∷ b ∷ w ∷ ws)) (more_than_pair a b w ws m.0 n.0 o.0) none)
+  -- clap takes exactly two names
+  pub takes_pair : (ws : List Text) → list_all is_name ws ≡ true → level (pair_shape name) ws ≡ []
+      → (a : Text) × (b : Text) × (ws ≡ a ∷ b ∷ []) × (is_name a ≡ true) × (is_name b ≡ true)
+  takes_pair [] names none = absurd (no_fault (level (pair_shape name) []) no_pair none)
+  takes_pair (a ∷ []) names none = absurd (no_fault (level (pair_shape name) (a ∷ [])) (half_pair a (both (is_name a) true names).0) none)
+  takes_pair (a ∷ b ∷ []) names none =
+      let m = both (is_name a) (list_all is_name (b ∷ [])) names in
+      let n = both (is_name b) true m.1 in
+      (a, b, refl, m.0, n.0)
+  takes_pair (a ∷ b ∷ w ∷ ws) names none =
+      let m = both (is_name a) (list_all is_name (b ∷ w ∷ ws)) names in
+      let n = both (is_name b) (list_all is_name (w ∷ ws)) m.1 in
+      let o = both (is_name w) (list_all is_name ws) n.1 in
+      absurd (no_fault (level (pair_shape name) (a ∷ b ∷ w ∷ ws)) (more_than_pair a b w ws m.0 n.0 o.0) none)
 
 -- ---- `gen`
 only_step : (w : Text) → is_name w ≡ true → walked (leaf gen_shape).rules [] (walk_from nothing_held) w ≡ after_one (codes "n") w

@@ -8,7 +8,7 @@ use Rattle.clap.specs.declared.builder.command.Command.{Command}
 use Rattle.clap.specs.declared.builder.command.Command.TheViews.{out-Command}
 use Rattle.jm_model.specs.Words.{Text}
 use Rattle.jm_cli.specs.Words.{CommandWords, rounds_of}
-use Rattle.jm_cli.specs.Words.CommandWords.{Replay, Check, Coenable, Gen}
+use Rattle.jm_cli.specs.Words.CommandWords.{Replay, Check, Coenable, Gen, Sweep}
 
 -- one value, which has to be there
 abbrev pub value_rule : Text → Rule
@@ -28,9 +28,10 @@ names_shape name = record (new_shape name) {
   disable_help_flag = true;
 }
 
-abbrev pub replay_shape : Shape
-replay_shape =
-    record (new_shape (codes "replay")) { rules = value_rule (codes "spec") ∷ value_rule (codes "script") ∷ [] }
+-- a command of two names
+abbrev pub pair_shape : Text → Shape
+pair_shape name =
+    record (new_shape name) { rules = value_rule (codes "first") ∷ value_rule (codes "second") ∷ [] }
 
 abbrev pub gen_shape : Shape
 gen_shape = record (new_shape (codes "gen")) { rules = value_rule (codes "n") ∷ [] }
@@ -48,8 +49,8 @@ line_shape = record (new_shape (codes "jmop")) {
 abbrev pub line_app : App
 line_app = record {
   top = line_shape;
-  subs = replay_shape ∷ names_shape (codes "run") ∷ names_shape (codes "check") ∷ names_shape (codes "coenable")
-      ∷ gen_shape ∷ [];
+  subs = pair_shape (codes "replay") ∷ names_shape (codes "run") ∷ names_shape (codes "check")
+      ∷ names_shape (codes "coenable") ∷ gen_shape ∷ pair_shape (codes "sweep") ∷ [];
 }
 
 -- a command without subcommands
@@ -63,18 +64,28 @@ pub record Makes (s : Shape) (command : Command) : Type 0 where
 
 -- ---- what was found
 
+abbrev pub is_whole_pair : List Row → Bool
+is_whole_pair rows = is_some (first_of (codes "first") rows) && is_some (first_of (codes "second") rows)
+
 -- the command has a value for each of its arguments
 abbrev pub is_whole : Text → List Row → Bool
 is_whole name rows =
-    if bytes_eq name (codes "replay")
-    then is_some (first_of (codes "spec") rows) && is_some (first_of (codes "script") rows)
+    if bytes_eq name (codes "replay") then is_whole_pair rows
+    else (if bytes_eq name (codes "sweep") then is_whole_pair rows
     else (if bytes_eq name (codes "gen") then is_some (first_of (codes "n") rows)
-    else is_some (all_of (codes "names") rows))
+    else is_some (all_of (codes "names") rows)))
+
+-- what two names make
+abbrev pub pair_found : (Text → Text → CommandWords) → List Row → Option CommandWords
+pair_found made rows =
+    option_and_then (λ first. option_map (λ second. made first second) (first_of (codes "second") rows))
+    (first_of (codes "first") rows)
 
 abbrev pub replay_found : List Row → Option CommandWords
-replay_found rows =
-    option_and_then (λ spec. option_map (λ script. Replay spec script) (first_of (codes "script") rows))
-    (first_of (codes "spec") rows)
+replay_found rows = pair_found (λ spec script. Replay spec script) rows
+
+abbrev pub sweep_found : List Row → Option CommandWords
+sweep_found rows = pair_found (λ spec recording. Sweep spec recording) rows
 
 abbrev pub check_found : List Row → Option CommandWords
 check_found rows = option_map (λ specs. Check specs) (all_of (codes "names") rows)
@@ -91,4 +102,5 @@ found_command name rows =
     if bytes_eq name (codes "replay") then replay_found rows
     else (if bytes_eq name (codes "check") then check_found rows
     else (if bytes_eq name (codes "coenable") then coenable_found rows
-    else (if bytes_eq name (codes "gen") then gen_found rows else None)))
+    else (if bytes_eq name (codes "gen") then gen_found rows
+    else (if bytes_eq name (codes "sweep") then sweep_found rows else None))))

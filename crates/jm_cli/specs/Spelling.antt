@@ -3,7 +3,7 @@ use Rattle.std.specs.Prelude.{◌≡◌, ◌≤◌, true, List, [], ◌∷◌, �
 use Rattle.std.specs.List.{list_all}
 use Rattle.jm_model.specs.Words.{Text}
 use Rattle.jm_cli.specs.Words.{CommandWords, is_name}
-use Rattle.jm_cli.specs.Words.CommandWords.{Replay, Run, Check, Coenable, Gen}
+use Rattle.jm_cli.specs.Words.CommandWords.{Replay, Run, Check, Coenable, Gen, Sweep}
 
 -- 1 to 16 words, each of which may name a file
 pub record AreNames (words : List Text) : Type 0 where
@@ -19,3 +19,5 @@ Spells words (Run specs scripts) =
 Spells words (Check specs) = (words ≡ codes "check" ∷ specs) × AreNames specs
 Spells words (Coenable specs) = (words ≡ codes "coenable" ∷ specs) × AreNames specs
 Spells words (Gen n) = (words ≡ codes "gen" ∷ decimal n ∷ []) × (1 ≤ n) × (n ≤ 8000)
+Spells words (Sweep spec recording) =
+    (words ≡ codes "sweep" ∷ spec ∷ recording ∷ []) × (is_name spec ≡ true) × (is_name recording ≡ true)

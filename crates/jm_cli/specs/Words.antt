@@ -7,13 +7,14 @@ use Rattle.std.specs.Str.{bytes_eq}
 use Rattle.std.specs.Str.Parse.{digits_value}
 use Rattle.jm_model.specs.Words.{Text}
 
--- a command: the names of its specifications and scripts, or how many rounds a workload has
+-- a command: the names of its specifications and scripts, or of its recording, or how many rounds a workload has
 pub data CommandWords : Type 0 where
   Replay : (spec script : Text) → CommandWords
   Run : (specs scripts : List Text) → CommandWords
   Check : (specs : List Text) → CommandWords
   Coenable : (specs : List Text) → CommandWords
   Gen : (n : ℕ) → CommandWords
+  Sweep : (spec recording : Text) → CommandWords
 
 -- a word that may name a file: one that doesn't begin with `-`
 abbrev pub is_name : Text → Bool
@@ -43,6 +44,11 @@ abbrev pub replay_of : List Text → Option CommandWords
 replay_of (spec ∷ script ∷ []) = if is_name spec && is_name script then Some (Replay spec script) else None
 replay_of _ = None
 
+abbrev pub sweep_of : List Text → Option CommandWords
+sweep_of (spec ∷ recording ∷ []) =
+    if is_name spec && is_name recording then Some (Sweep spec recording) else None
+sweep_of _ = None
+
 abbrev pub run_around : List Text → List Text → Option CommandWords
 run_around before after = if are_names before && are_names after then Some (Run before after) else None
 
@@ -69,7 +75,8 @@ command_of (command ∷ words) =
     else (if bytes_eq command (codes "run") then run_of words
     else (if bytes_eq command (codes "check") then check_of words
     else (if bytes_eq command (codes "coenable") then coenable_of words
-    else (if bytes_eq command (codes "gen") then gen_of words else None))))
+    else (if bytes_eq command (codes "gen") then gen_of words
+    else (if bytes_eq command (codes "sweep") then sweep_of words else None)))))
 
 -- the command that words around a separator spell
 abbrev pub command_around : List Text → List Text → Option CommandWords

@@ -5,7 +5,7 @@ ghost use Rattle.std.specs.Str.{bytes_eq};
 ghost use Rattle.clap.specs.Walk.{all_of, first_of, rows_of};
 ghost use Rattle.clap.specs.Matches.{found_of};
 ghost use Rattle.jm_cli.specs.Words.{is_name, command_of, command_around};
-ghost use Rattle.jm_cli.specs.Line.{is_whole, found_command, replay_found, check_found, coenable_found, gen_found};
+ghost use Rattle.jm_cli.specs.Line.{is_whole, found_command, replay_found, check_found, coenable_found, gen_found, sweep_found};
 ghost use Rattle.jm_cli.specs.Views.{command_words, Reads};
 
 use crate::line::{names, parse_line, parse_names, text};
@@ -37,6 +37,11 @@ pub enum Command {
     /// Runs a workload of `n` rounds.
     Gen {
         n: u32,
+    },
+    /// Replays each part of a recording by itself over a specification.
+    Sweep {
+        spec: String,
+        recording: String,
     },
 }
 
@@ -70,7 +75,7 @@ impl<T: Drop> From<AllocFailed<T>> for WordsError {
 }
 
 /// The command that words spell: `replay` and two names; `run`, 1 to 16 names, `--` and 1 to 16 names; `check` or
-/// `coenable` and 1 to 16 names; `gen` and a number from 1 to 8000. A name is a word that doesn't begin with `-`, and a
+/// `coenable` and 1 to 16 names; `gen` and a number from 1 to 8000; `sweep` and two names. A name is a word that doesn't begin with `-`, and a
 /// number has neither a sign nor a leading zero.
 ///
 /// The answer is `Usage` only where the words spell no command, and `NoMemory` where memory is short.
@@ -146,17 +151,18 @@ fn read_found(alloc: Global, name: &str, found: &ArgMatches<'_>) -> Result<Comma
         "check" => check(alloc, found),
         "coenable" => coenable(alloc, found),
         "gen" => generate(found),
+        "sweep" => sweep(alloc, found),
         _ => Err(WordsError::Usage),
     }
 }
 
 fn replay(alloc: Global, found: &ArgMatches<'_>) -> Result<Command, WordsError>
-    requires spec { IsSome (first_of (codes "spec") (rows_of (found_of found.now))) }
-    requires script { IsSome (first_of (codes "script") (rows_of (found_of found.now))) }
+    requires first { IsSome (first_of (codes "first") (rows_of (found_of found.now))) }
+    requires second { IsSome (first_of (codes "second") (rows_of (found_of found.now))) }
     ensures { Reads (replay_found (rows_of (found_of found.now))) result }
 {
-    let spec = copy(alloc, text(found, "spec"))?;
-    let script = copy(alloc, text(found, "script"))?;
+    let spec = copy(alloc, text(found, "first"))?;
+    let script = copy(alloc, text(found, "second"))?;
     Ok(Command::Replay { spec, script })
 }
 
@@ -184,4 +190,14 @@ fn generate(found: &ArgMatches<'_>) -> Result<Command, WordsError>
         Some(n) => Ok(Command::Gen { n }),
         None => Err(WordsError::Usage),
     }
+}
+
+fn sweep(alloc: Global, found: &ArgMatches<'_>) -> Result<Command, WordsError>
+    requires first { IsSome (first_of (codes "first") (rows_of (found_of found.now))) }
+    requires second { IsSome (first_of (codes "second") (rows_of (found_of found.now))) }
+    ensures { Reads (sweep_found (rows_of (found_of found.now))) result }
+{
+    let spec = copy(alloc, text(found, "first"))?;
+    let recording = copy(alloc, text(found, "second"))?;
+    Ok(Command::Sweep { spec, recording })
 }

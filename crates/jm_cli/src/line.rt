@@ -7,7 +7,7 @@ ghost use Rattle.clap.specs.Faults.{fault_of, is_simple_and_free};
 ghost use Rattle.clap.specs.Matches.{found_of};
 ghost use Rattle.clap.specs.Values.{kind_of};
 ghost use Rattle.jm_cli.specs.Words.{is_name, are_names};
-ghost use Rattle.jm_cli.specs.Line.{value_rule, names_rule, names_shape, replay_shape, gen_shape, line_app, alone, Makes};
+ghost use Rattle.jm_cli.specs.Line.{value_rule, names_rule, names_shape, pair_shape, gen_shape, line_app, alone, Makes};
 
 use crate::command::WordsError;
 use crate::words::copy;
@@ -41,11 +41,12 @@ fn names_command<'a>(alloc: Global, name: &'a str) -> Result<Command<'a>, AllocE
         .arg(names_value(alloc))
 }
 
-fn replay_command<'a>(alloc: Global) -> Result<Command<'a>, AllocError>
-    ensures { IfOk result (Makes replay_shape) }
+/// A command of two names.
+fn pair_command<'a>(alloc: Global, name: &'a str) -> Result<Command<'a>, AllocError>
+    ensures { IfOk result (Makes (pair_shape name.now)) }
 {
-    let command = Command::new(alloc, "replay").arg(value(alloc, "spec"))?;
-    command.arg(value(alloc, "script"))
+    let command = Command::new(alloc, name).arg(value(alloc, "first"))?;
+    command.arg(value(alloc, "second"))
 }
 
 fn gen_command<'a>(alloc: Global) -> Result<Command<'a>, AllocError>
@@ -63,11 +64,12 @@ fn line_command<'a>(alloc: Global) -> Result<Command<'a>, AllocError>
         .disable_help_flag(true)
         .disable_help_subcommand(true)
         .subcommand_required(true);
-    let line = line.subcommand(replay_command(alloc)?)?;
+    let line = line.subcommand(pair_command(alloc, "replay")?)?;
     let line = line.subcommand(names_command(alloc, "run")?)?;
     let line = line.subcommand(names_command(alloc, "check")?)?;
     let line = line.subcommand(names_command(alloc, "coenable")?)?;
-    line.subcommand(gen_command(alloc)?)
+    let line = line.subcommand(gen_command(alloc)?)?;
+    line.subcommand(pair_command(alloc, "sweep")?)
 }
 
 /// How clap's error is told.

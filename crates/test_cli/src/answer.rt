@@ -52,6 +52,11 @@ fn told(alloc: Global, command: &Command) -> Result<String, AllocError> {
             put_word(&mut out, "coenable")?;
             put_names(&mut out, specs.as_slice())?;
         }
+        Command::Sweep { spec, recording } => {
+            put_word(&mut out, "sweep")?;
+            put_word(&mut out, spec.as_str())?;
+            put_word(&mut out, recording.as_str())?;
+        }
         Command::Gen { n } => return format!(in alloc; "gen {n}"),
     }
     Ok(out)
