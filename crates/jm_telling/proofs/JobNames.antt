@@ -41,5 +41,5 @@ scripts_names contents specs count names (source ∷ sources) scripts objects be
     scripts_names contents specs (count + length said.1) said.3 sources said.2 objects (subst AreNames (sym said.6.named) (script_named (catalog_of specs) count said.0 names before)) said.7
 
 pub job_names : (words : List (List ℕ)) (contents : List ℕ → Option (List ℕ)) (command : CommandWords) (specs : List Specification) (scripts : List (List ScriptLine)) (objects : List (List ℕ)) → IsJob words contents (Accepted command specs scripts objects) → HaveNames (map (lexicon objects) specs)
-job_names words contents _ _ _ _ (accepted command specs scripts objects spelled said tells) =
+job_names words contents _ _ _ _ (accepted command specs scripts objects spelled said tells separate) =
     specifications_names objects (scripts_names contents specs 0 [] _ scripts objects no_names tells) contents _ [] _ specs said

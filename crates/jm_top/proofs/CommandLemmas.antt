@@ -10,21 +10,25 @@ use Rattle.jm_model.specs.declared.fault.SpecFault.TheVariants.{UnsupportedLogic
 use Rattle.jm_events.specs.Names.{number_of}
 use Rattle.jm_machine.specs.Formulas.{is_grammar}
 use Rattle.jm_script.specs.Catalogs.{spec_names}
-use Rattle.jm_cli.specs.Words.CommandWords.{Replay, Run, Check, Coenable, Gen}
+use Rattle.jm_cli.specs.Words.CommandWords.{Replay, Run, Check, Coenable, Gen, Sweep}
 use Rattle.jm_top.specs.declared.status.Status.{Status}
-use Rattle.jm_top.specs.declared.status.Status.TheVariants.{ReadFailed}
+use Rattle.jm_model.specs.declared.fault.ScriptFault.TheVariants as script
+use Rattle.jm_top.specs.declared.status.Status.TheVariants.{Done, Usage, BadSpec, BadScript, ReadFailed, WriteFailed, NoMemory}
 use Rattle.jm_top.specs.declared.library.Library.{Library}
 use Rattle.jm_top.specs.declared.scripts.Scripts.{Scripts}
 use Rattle.jm_top.specs.declared.inputs.Inputs.{Inputs}
-use Rattle.jm_top.specs.Sources.{Source, Given, IsFile}
+use Rattle.jm_top.specs.Sources.{Source, Named, Given, Gives, IsFile}
 use Rattle.jm_top.specs.Commands.{named, given_files, workload_specs, workload_scripts}
 use Rattle.jm_top.specs.Specifications.{Specification}
 use Rattle.jm_top.specs.Scripts.{catalog_of}
 use Rattle.jm_top.specs.Inputs.{SaySpecifications, step_count}
 use Rattle.jm_top.specs.Histories.{IsTextOfHistories, IsTextOfSummaries}
 use Rattle.jm_top.specs.Texts.{declared_text, IsTextOfFamilies}
-use Rattle.jm_top.specs.Causes.{IsNoSpec, IsNoScript, StopsSpecs, StopsScripts, StopsInputs, StopsCommand, short, at_spec, at_script, IsTextOfCommand, IsCarriedOut}
+use Rattle.jm_top.specs.Causes.{IsNotLoaded, IsNoSpec, IsNoScript, IsNoRecording, StopsSpecs, StopsScripts, StopsInputs, StopsCommand, short, at_spec, at_script, at_recording, IsTextOfCommand, of_scripts, of_recording, IsNoRecordingIn, IsCarriedOut}
 use Rattle.jm_top.specs.Reading.{Listed, listed_in, specification_of, specs_in, IsLibraryOf, AreScriptsOf, AreInputsOf}
+use Rattle.jm_top.specs.Recordings.{too_long}
+use Rattle.jm_top.specs.Sweeps.{IsSweptWhole}
+use Rattle.jm_top.proofs.JobLemmas.{too_long_bytes}
 use Rattle.jm_top.proofs.OneReadingLemmas.{never_some, same_err}
 use Rattle.jm_top.proofs.LibraryLemmas.{length-specs_in}
 use Rattle.jm_top.proofs.InputLemmas.{length-said, length-scripts}
@@ -38,6 +42,13 @@ module _ (contents later : List ℕ → Option (List ℕ)) (same : (name : List 
   pub scripts_before : (specs : List Specification) (sources : List Source) (scripts : Scripts) → AreScriptsOf later specs sources scripts → AreScriptsOf contents specs sources scripts
   scripts_before specs sources scripts h = subst (λ (v : List ℕ → Option (List ℕ)). AreScriptsOf v specs sources scripts) held h
 
+  -- nor was a file loaded, or what it gives
+  pub not_loaded_before : (name : List ℕ) (number : ℕ) (too_long status : Status) → IsNotLoaded later name number too_long status → IsNotLoaded contents name number too_long status
+  not_loaded_before name number too_long status h = subst (λ (v : List ℕ → Option (List ℕ)). IsNotLoaded v name number too_long status) held h
+
+  pub given_before : (name bytes : List ℕ) → Gives later (Named name) bytes → Gives contents (Named name) bytes
+  given_before name bytes h = subst (λ (v : List ℕ → Option (List ℕ)). Gives v (Named name) bytes) held h
+
   -- the scripts weren't read, behind these specifications
   pub stopped_behind : (specs scripts : List Source) (library : Library) (status : Status) → IsLibraryOf contents false specs library → length library.specs.items ≡ length specs
       → StopsScripts later (specs_in library) (length library.specs.items) scripts status → StopsInputs contents specs scripts status
@@ -47,11 +58,11 @@ module _ (contents later : List ℕ → Option (List ℕ)) (same : (name : List 
 module _ (contents : List ℕ → Option (List ℕ)) where
   pub replay_stops : (spec script : List ℕ) (status : Status) → StopsInputs contents (named (spec ∷ [])) (named (script ∷ [])) status → StopsCommand contents (Replay spec script) status
   replay_stops spec script status (inl h) = at_spec status h
-  replay_stops spec script status (inr h) = at_script h.0 status h.1 h.2
+  replay_stops spec script status (inr h) = at_script h.0 status h.1 h.2 refl
 
   pub run_stops : (specs scripts : List (List ℕ)) (status : Status) → StopsInputs contents (named specs) (named scripts) status → StopsCommand contents (Run specs scripts) status
   run_stops specs scripts status (inl h) = at_spec status h
-  run_stops specs scripts status (inr h) = at_script h.0 status h.1 h.2
+  run_stops specs scripts status (inr h) = at_script h.0 status h.1 h.2 refl
 
   pub check_stops : (specs : List (List ℕ)) (status : Status) → StopsSpecs contents false (named specs) status → StopsCommand contents (Check specs) status
   check_stops specs status h = at_spec status h
@@ -64,39 +75,88 @@ module _ (contents : List ℕ → Option (List ℕ)) where
     where
       stops : StopsInputs contents (given_files workload_specs) (given_files (workload_scripts n)) status → StopsCommand contents (Gen n) status
       stops (inl h) = at_spec status h
-      stops (inr h) = at_script h.0 status h.1 h.2
+      stops (inr h) = at_script h.0 status h.1 h.2 refl
 
   pub replay_made : (spec script : List ℕ) (inputs : Inputs) (text : List ℕ) → AreInputsOf contents (named (spec ∷ [])) (named (script ∷ [])) inputs
       → IsTextOfHistories (specs_in inputs.library) inputs.scripts.list.items inputs.scripts.objects text → IsTextOfCommand contents (Replay spec script) text
-  replay_made spec script inputs text h made = record {
+  replay_made spec script inputs text h made = of_scripts (record {
     specs = specs_in inputs.library;
     scripts = inputs.scripts.list.items;
     objects = inputs.scripts.objects;
     said = h.library.said;
     told = h.read.said;
+    separate = refl;
     is_text = made;
-  }
+  })
 
   pub run_made : (specs scripts : List (List ℕ)) (inputs : Inputs) (text : List ℕ) → AreInputsOf contents (named specs) (named scripts) inputs
       → IsTextOfHistories (specs_in inputs.library) inputs.scripts.list.items inputs.scripts.objects text → IsTextOfCommand contents (Run specs scripts) text
-  run_made specs scripts inputs text h made = record {
+  run_made specs scripts inputs text h made = of_scripts (record {
     specs = specs_in inputs.library;
     scripts = inputs.scripts.list.items;
     objects = inputs.scripts.objects;
     said = h.library.said;
     told = h.read.said;
+    separate = refl;
     is_text = made;
-  }
+  })
 
   pub gen_made : (n : ℕ) (inputs : Inputs) (text : List ℕ) → AreInputsOf contents (given_files workload_specs) (given_files (workload_scripts n)) inputs → IsTextOfSummaries (specs_in inputs.library) inputs.scripts.list.items text → IsTextOfCommand contents (Gen n) text
-  gen_made n inputs text h made = record {
+  gen_made n inputs text h made = of_scripts (record {
     specs = specs_in inputs.library;
     scripts = inputs.scripts.list.items;
     objects = inputs.scripts.objects;
     said = h.library.said;
     told = h.read.said;
+    separate = refl;
     is_text = made;
-  }
+  })
+
+  pub sweep_stops : (spec recording : List ℕ) (status : Status) → StopsSpecs contents false (named (spec ∷ [])) status → StopsCommand contents (Sweep spec recording) status
+  sweep_stops spec recording status h = at_spec status h
+
+  -- the recording wasn't loaded, or says no parts
+  recording_not_loaded : (specs : List Specification) (recording : List ℕ) (status : Status) → IsNotLoaded contents recording 1 (BadScript 0 script.TooLong) status → IsNoRecording contents specs recording status
+  recording_not_loaded specs recording (ReadFailed f) h = h
+  recording_not_loaded specs recording NoMemory h = tt
+  recording_not_loaded specs recording (BadScript n x) h =
+      let first : n ≡ 0 = cc (h.0) in
+      let fault : x ≡ script.TooLong = cc (h.0) in
+      let long = too_long_bytes (contents recording) h.1 in
+      (long.0, long.1, rw (first, fault) (too_long long.2))
+  recording_not_loaded specs recording Done h = absurd (cc (h.0))
+  recording_not_loaded specs recording Usage h = absurd (cc (h.0))
+  recording_not_loaded specs recording (BadSpec f x) h = absurd (cc (h.0))
+  recording_not_loaded specs recording WriteFailed h = absurd (cc (h.0))
+
+  recording_from : (specs : List Specification) (recording bytes : List ℕ) → Gives contents (Named recording) bytes → (status : Status) → IsNoRecordingIn specs bytes status → IsNoRecording contents specs recording status
+  recording_from specs recording bytes given (BadScript n x) h = (bytes, given, h)
+  recording_from specs recording bytes given NoMemory h = tt
+  recording_from specs recording bytes given (ReadFailed f) h = absurd h
+  recording_from specs recording bytes given Done h = absurd h
+  recording_from specs recording bytes given Usage h = absurd h
+  recording_from specs recording bytes given (BadSpec f x) h = absurd h
+  recording_from specs recording bytes given WriteFailed h = absurd h
+
+  pub sweep_unloaded : (spec recording : List ℕ) (library : Library) (status : Status) → IsLibraryOf contents false (named (spec ∷ [])) library → IsNotLoaded contents recording 1 (BadScript 0 script.TooLong) status → StopsCommand contents (Sweep spec recording) status
+  sweep_unloaded spec recording library status read h = at_recording spec recording (specs_in library) status refl read.said (recording_not_loaded (specs_in library) recording status h)
+
+  pub sweep_faulty : (spec recording bytes : List ℕ) (library : Library) (status : Status) → IsLibraryOf contents false (named (spec ∷ [])) library → Gives contents (Named recording) bytes → IsNoRecordingIn (specs_in library) bytes status → StopsCommand contents (Sweep spec recording) status
+  sweep_faulty spec recording bytes library status read given h = at_recording spec recording (specs_in library) status refl read.said (recording_from (specs_in library) recording bytes given status h)
+
+  pub sweep_made : (spec recording bytes text : List ℕ) (library : Library) → IsLibraryOf contents false (named (spec ∷ [])) library → Gives contents (Named recording) bytes → IsSweptWhole (specs_in library) bytes text → IsTextOfCommand contents (Sweep spec recording) text
+  sweep_made spec recording bytes text library read given made = of_recording (record {
+    spec = spec;
+    recording = recording;
+    specs = specs_in library;
+    bytes = bytes;
+    parts = made.parts;
+    is = refl;
+    said = read.said;
+    given = given;
+    told = made.said;
+    is_text = made.is_text;
+  })
 
   -- what was read of files that are those of a workload
   pub inputs_are : (n : ℕ) (specs scripts : List (List ℕ)) (r : Result Inputs Status) → specs ≡ workload_specs → scripts ≡ workload_scripts n → IfOk r (AreInputsOf contents (given_files specs) (given_files scripts))
@@ -105,10 +165,10 @@ module _ (contents : List ℕ → Option (List ℕ)) where
       subst (λ v. IfOk r (AreInputsOf contents (given_files workload_specs) (given_files v))) second (subst (λ v. IfOk r (AreInputsOf contents (given_files v) (given_files scripts))) first h)
 
   pub check_made : (specs : List (List ℕ)) (library : Library) (text : List ℕ) → IsLibraryOf contents false (named specs) library → text ≡ flat_map declared_text (specs_in library) → IsTextOfCommand contents (Check specs) text
-  check_made specs library text h made = record { specs = specs_in library; scripts = []; objects = []; said = h.said; told = (refl, refl); is_text = made }
+  check_made specs library text h made = of_scripts (record { specs = specs_in library; scripts = []; objects = []; said = h.said; told = (refl, refl); separate = refl; is_text = made })
 
   pub coenable_made : (specs : List (List ℕ)) (library : Library) (text : List ℕ) → IsLibraryOf contents true (named specs) library → IsTextOfFamilies (specs_in library) text → IsTextOfCommand contents (Coenable specs) text
-  coenable_made specs library text h made = record { specs = specs_in library; scripts = []; objects = []; said = h.said; told = (refl, refl); is_text = made }
+  coenable_made specs library text h made = of_scripts (record { specs = specs_in library; scripts = []; objects = []; said = h.said; told = (refl, refl); separate = refl; is_text = made })
 
 -- ---- files that are given
 
@@ -150,7 +210,8 @@ module _ (contents : List ℕ → Option (List ℕ)) (file : ℕ) where
   unread : (n : ℕ) (status : Status) → StopsCommand contents (Gen n) status → status ≡ ReadFailed file → ⊥
   unread n _ short is = absurd cc
   unread n _ (at_spec status h) is = given_specs_unread workload_specs status h is
-  unread n _ (at_script specs status said h) is = given_scripts_unread specs (length (given_files workload_specs)) (workload_scripts n) status h is
+  unread n _ (at_recording spec recording specs status same said h) is = absurd (cc same)
+  unread n _ (at_script specs status said h separate) is = given_scripts_unread specs (length (given_files workload_specs)) (workload_scripts n) status h is
 
   -- so none fails to be read
   pub gen_reads_none : (n : ℕ) (r : Result (Vec ℕ) Status) → IsCarriedOut contents (Gen n) r → r ≡ Err (ReadFailed file) → ⊥

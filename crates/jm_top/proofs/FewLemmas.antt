@@ -1,7 +1,7 @@
 -- A command that words spell keeps within its limits.
 use Rattle.std.proofs.Common.{◌≡◌, ℕ, List, Some}
 use Rattle.jm_cli.specs.Words.{CommandWords, command_of}
-use Rattle.jm_cli.specs.Words.CommandWords.{Replay, Run, Check, Coenable, Gen}
+use Rattle.jm_cli.specs.Words.CommandWords.{Replay, Run, Check, Coenable, Gen, Sweep}
 use Rattle.jm_cli.specs.Spelling.{Spells}
 use Rattle.jm_cli.proofs.Saying.{spelled}
 use Rattle.jm_top.specs.Commands.{IsWithin}
@@ -12,6 +12,7 @@ within_spelled words (Run specs scripts) h = ((h.1.some, h.1.few), (h.2.some, h.
 within_spelled words (Check specs) h = (h.1.some, h.1.few)
 within_spelled words (Coenable specs) h = (h.1.some, h.1.few)
 within_spelled words (Gen n) h = (h.1, h.2)
+within_spelled words (Sweep spec recording) h = tt
 
 pub few_named : (words : List (List ℕ)) (c : CommandWords) → command_of words ≡ Some c → IsWithin c
 few_named words c e = within_spelled words c (spelled words c e)

@@ -146,7 +146,7 @@ one_caller (x ∷ xs) h =
     let here : (x.caller == 0) ≡ true = grind (arith, nat_tests) in
     rw here (ap (λ ys. x ∷ ys) (one_caller xs h.1))
 
-woven : (own : List (ℕ × Step)) (h : List Entry) → AreEntriesOf 0 own h → All (λ x. x.outcome ≢ NoMemory) h → IsInterleaving h (own ∷ [])
+pub woven : (own : List (ℕ × Step)) (h : List Entry) → AreEntriesOf 0 own h → All (λ x. x.outcome ≢ NoMemory) h → IsInterleaving h (own ∷ [])
 woven own h each done = record {
   callers = All-weaker (λ (x : Entry). x.caller ≡ 0) (λ (x : Entry). x.caller < 1) (λ x is. omega (arith, is)) h each.by_caller;
   done = done;

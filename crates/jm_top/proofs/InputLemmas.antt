@@ -75,7 +75,7 @@ told_one : (o : Option (List ℕ)) (a b : List ℕ) → IsSome o → IfSome o (�
 told_one None a b told ha hb = absurd cc
 told_one (Some held) a b told ha hb = ha ∙ sym hb
 
-one_given : (contents : List ℕ → Option (List ℕ)) (source : Source) (a b : List ℕ) → IsTold contents source → Gives contents source a → Gives contents source b → a ≡ b
+pub one_given : (contents : List ℕ → Option (List ℕ)) (source : Source) (a b : List ℕ) → IsTold contents source → Gives contents source a → Gives contents source b → a ≡ b
 one_given contents (Named name) a b told ha hb = told_one (contents name) a b told ha hb
 one_given contents (Given given) a b told ha hb = ha ∙ sym hb
 
@@ -147,7 +147,7 @@ module _ (contents : List ℕ → Option (List ℕ)) (specs : List Specification
         scripts_more (count + length first) later sources more middle source bytes script objects rest given (subst (λ n. IsScript specs n middle bytes script objects) counts is),
       )
 
-script_has_no_fault : (specs : List Specification) (count : ℕ) (names : List (List ℕ)) (bytes : List ℕ) (script : List ScriptLine) (objects : List (List ℕ)) (fault : ScriptFault) → IsScript specs count names bytes script objects → IsScriptFault specs count names bytes fault → ⊥
+pub script_has_no_fault : (specs : List Specification) (count : ℕ) (names : List (List ℕ)) (bytes : List ℕ) (script : List ScriptLine) (objects : List (List ℕ)) (fault : ScriptFault) → IsScript specs count names bytes script objects → IsScriptFault specs count names bytes fault → ⊥
 script_has_no_fault specs count names bytes script objects _ h (too_long more) = omega (arith, more, h.small)
 script_has_no_fault specs count names bytes script objects _ h (in_line fault small some) = never_some (sym h.sound ∙ some)
 

@@ -1,54 +1,88 @@
 -- What the status of a command says of its job.
-use Rattle.std.proofs.Common.{◌≡◌, ℕ, zero, suc, ◌+◌, ◌<◌, ◌≤◌, ◌⊎◌, inl, inr, Bool, List, [], ◌∷◌, length, Option, Some, None, Result, Ok, Err, IfErr, refl, sym, subst, ◌∙◌, arith}
+use Rattle.std.proofs.Common.{◌≡◌, ℕ, zero, suc, ◌+◌, ◌<◌, ◌≤◌, ◌⊎◌, inl, inr, Bool, true, false, List, [], ◌∷◌, length, Option, Some, None, Result, Ok, Err, IfErr, refl, sym, ap, subst, ◌∙◌, arith}
 use Rattle.std.specs.Prelude.{IfSome}
 use Rattle.jm_port.specs.Faults.{HasRisen}
 use Rattle.jm_model.specs.declared.fault.SpecFault.TheVariants as spec
 use Rattle.jm_model.specs.declared.fault.ScriptFault.TheVariants as script
 use Rattle.jm_script.specs.declared.script.ScriptLine.{ScriptLine}
+use Rattle.std.proofs.lemmas.Bool.{false≢true}
 use Rattle.jm_cli.specs.Words.{CommandWords, command_of}
+use Rattle.jm_cli.specs.Words.CommandWords.{Sweep}
 use Rattle.jm_top.specs.declared.status.Status.{Status}
 use Rattle.jm_top.specs.declared.status.Status.TheVariants.{Done, Usage, BadSpec, BadScript, ReadFailed, WriteFailed, NoMemory}
 use Rattle.jm_top.specs.Sources.{Source, Named, Gives}
-use Rattle.jm_top.specs.Commands.{spec_sources, script_sources, needs_families}
+use Rattle.jm_top.specs.Commands.{named, spec_sources, script_sources, reads_recording, needs_families}
 use Rattle.jm_top.specs.Specifications.{Specification, too_long as spec_too_long, most_bytes}
 use Rattle.jm_top.specs.Scripts.{IsScriptFault, too_long}
 use Rattle.jm_top.specs.Inputs.{IsRefusal, faulty, SaySpecifications, AreReadUpTo, step_count, AreScriptsUpTo}
-use Rattle.jm_top.specs.Jobs.{Refused, Accepted, IsJob, no_command, bad_spec, bad_script, accepted, ReachesFile, spec_file, script_file, IsCaused, AreTold}
-use Rattle.jm_top.specs.Causes.{IsBeforeWriting, IsFaulty, IsNotLoaded, IsNoSpec, IsNoSpecIn, StopsSpecs, IsNoScript, IsNoScriptIn, StopsScripts, StopsCommand, short, at_spec, at_script, IsTextOfCommand}
+use Rattle.jm_top.specs.Recordings.{RecordedPart, IsRecording, IsRecordingFault}
+use Rattle.jm_top.specs.Jobs.{Job, Refused, Accepted, AcceptedParts, IsSound, IsJob, no_command, bad_spec, bad_script, accepted, bad_part, accepted_parts, ReachesFile, spec_file, script_file, IsCaused, AreTold}
+use Rattle.jm_top.specs.Causes.{IsBeforeWriting, IsFaulty, IsNotLoaded, IsNoSpec, IsNoSpecIn, StopsSpecs, IsNoScript, IsNoScriptIn, StopsScripts, IsNoRecording, StopsCommand, short, at_spec, at_script, at_recording, IsTextOfCommand, of_scripts, of_recording}
 use Rattle.jm_top.specs.Endings.{IsText}
 use Rattle.jm_top.proofs.OneReadingLemmas.{same_some, same_err, never_some}
-use Rattle.jm_top.proofs.InputLemmas.{say_one, specs_not_refused, scripts_not_refused}
+use Rattle.jm_top.proofs.InputLemmas.{one_given, say_one, specs_not_refused, scripts_not_refused}
+use Rattle.jm_top.proofs.RecordingLemmas.{recording_has_no_fault}
 
 module _ (words : List (List ℕ)) (contents : List ℕ → Option (List ℕ)) (told : AreTold words contents) where
   same_command : (c d : CommandWords) → command_of words ≡ Some c → command_of words ≡ Some d → d ≡ c
   same_command c d a b = same_some (sym b ∙ a)
 
+  -- a command that reads a recording reads no scripts
+  never_both : (c : CommandWords) (spec recording : List ℕ) → Sweep spec recording ≡ c → reads_recording c ≡ false → ⊥
+  never_both c spec recording same separate = false≢true (sym separate ∙ ap reads_recording (sym same))
+
   -- a job that isn't refused is refused for nothing
-  pub not_refused : (status : Status) (c : CommandWords) (specs : List Specification) (scripts : List (List ScriptLine)) (objects : List (List ℕ)) → IsJob words contents (Accepted c specs scripts objects) → IsJob words contents (Refused status) → ⊥
-  not_refused status _ _ _ _ (accepted c specs scripts objects spelled said tells) (no_command none) = never_some (sym none ∙ spelled)
-  not_refused _ _ _ _ _ (accepted c specs scripts objects spelled said tells) (bad_spec d number source before bytes fault names reached given is) =
+  accepted_not_refused : (status : Status) (c : CommandWords) (specs : List Specification) (scripts : List (List ScriptLine)) (objects : List (List ℕ)) → IsJob words contents (Accepted c specs scripts objects) → IsJob words contents (Refused status) → ⊥
+  accepted_not_refused status _ _ _ _ (accepted c specs scripts objects spelled said tells separate) (no_command none) = never_some (sym none ∙ spelled)
+  accepted_not_refused _ _ _ _ _ (accepted c specs scripts objects spelled said tells separate) (bad_spec d number source before bytes fault names reached given is) =
       let same = same_command c d spelled names in
       let all = told c spelled in
       specs_not_refused contents (needs_families c) (spec_sources c) number source specs before bytes fault all.0 said
       (subst (λ (x : CommandWords). AreReadUpTo contents (needs_families x) (spec_sources x) number source before) same reached) given (subst (λ (x : CommandWords). IsRefusal (needs_families x) before bytes fault) same is)
-  not_refused _ _ _ _ _ (accepted c specs scripts objects spelled said tells) (bad_script d others number source before names bytes fault spells says reached given is) =
+  accepted_not_refused _ _ _ _ _ (accepted c specs scripts objects spelled said tells separate) (bad_script d others number source before names bytes fault spells says reached given is apart) =
       let same = same_command c d spelled spells in
       let all = told c spelled in
       let one = say_one contents (needs_families c) [] (spec_sources c) others specs all.0 (subst (λ (x : CommandWords). SaySpecifications contents (needs_families x) [] (spec_sources x) others) same says) said in
       scripts_not_refused contents specs (script_sources c) number source scripts before objects names bytes fault all.1 tells
       (subst (λ v. AreScriptsUpTo contents v (script_sources c) number source before names) one (subst (λ (x : CommandWords). AreScriptsUpTo contents others (script_sources x) number source before names) same reached)) given
       (subst (λ v. IsScriptFault v (step_count before) names bytes fault) one is)
+  accepted_not_refused _ _ _ _ _ (accepted c specs scripts objects spelled said tells separate) (bad_part spec recording others bytes number fault spells says given is) =
+      never_both c spec recording (same_command c (Sweep spec recording) spelled spells) separate
+
+  -- nor one over the parts of a recording
+  parts_not_refused : (status : Status) (specs : List Specification) (parts : List RecordedPart) → IsJob words contents (AcceptedParts specs parts) → IsJob words contents (Refused status) → ⊥
+  parts_not_refused status _ _ (accepted_parts spec recording specs bytes parts spelled said given tells) (no_command none) = never_some (sym none ∙ spelled)
+  parts_not_refused _ _ _ (accepted_parts spec recording specs bytes parts spelled said given tells) (bad_spec d number source before held fault names reached gives is) =
+      let same = same_command (Sweep spec recording) d spelled names in
+      let all = told (Sweep spec recording) spelled in
+      specs_not_refused contents false (named (spec ∷ [])) number source specs before held fault all.0 said
+      (subst (λ (x : CommandWords). AreReadUpTo contents (needs_families x) (spec_sources x) number source before) same reached) gives (subst (λ (x : CommandWords). IsRefusal (needs_families x) before held fault) same is)
+  parts_not_refused _ _ _ (accepted_parts spec recording specs bytes parts spelled said given tells) (bad_script d others number source before names held fault spells says reached gives is apart) =
+      never_both d spec recording (same_command d (Sweep spec recording) spells spelled) apart
+  parts_not_refused _ _ _ (accepted_parts spec recording specs bytes parts spelled said given tells) (bad_part again from others held number fault spells says gives is) =
+      let same = same_command (Sweep spec recording) (Sweep again from) spelled spells in
+      let all = told (Sweep spec recording) spelled in
+      let one_spec : again ≡ spec = cc same in
+      let one_recording : from ≡ recording = cc same in
+      let one = say_one contents false [] (named (spec ∷ [])) others specs all.0 (subst (λ v. SaySpecifications contents false [] (named (v ∷ [])) others) one_spec says) said in
+      let same_bytes = one_given contents (Named recording) held bytes all.1.0 (subst (λ v. Gives contents (Named v) held) one_recording gives) given in
+      recording_has_no_fault specs bytes parts number fault tells (subst (λ v. IsRecordingFault specs v number fault) same_bytes (subst (λ v. IsRecordingFault v held number fault) one is))
+
+  not_refused : (status : Status) (job : Job) → IsSound job → IsJob words contents job → IsJob words contents (Refused status) → ⊥
+  not_refused status (Refused other) sound job refused = sound
+  not_refused status (Accepted c specs scripts objects) sound job refused = accepted_not_refused status c specs scripts objects job refused
+  not_refused status (AcceptedParts specs parts) sound job refused = parts_not_refused status specs parts job refused
 
   -- A command whose job isn't refused, and that met no fault of the folder or the sink, was done, or memory was short.
-  pub completes : (c : CommandWords) (specs : List Specification) (scripts : List (List ScriptLine)) (objects : List (List ℕ)) → IsJob words contents (Accepted c specs scripts objects) → (status : Status) → IsCaused words contents status
+  pub completes : (job : Job) → IsSound job → IsJob words contents job → (status : Status) → IsCaused words contents status
       → ((file : ℕ) → status ≡ ReadFailed file → ⊥) → (status ≡ WriteFailed → ⊥) → (status ≡ Done) ⊎ (status ≡ NoMemory)
-  completes c specs scripts objects job Done caused no_read no_write = inl refl
-  completes c specs scripts objects job NoMemory caused no_read no_write = inr refl
-  completes c specs scripts objects job Usage caused no_read no_write = absurd (not_refused Usage c specs scripts objects job caused)
-  completes c specs scripts objects job (BadSpec f x) caused no_read no_write = absurd (not_refused (BadSpec f x) c specs scripts objects job caused)
-  completes c specs scripts objects job (BadScript f x) caused no_read no_write = absurd (not_refused (BadScript f x) c specs scripts objects job caused)
-  completes c specs scripts objects job (ReadFailed f) caused no_read no_write = absurd (no_read f refl)
-  completes c specs scripts objects job WriteFailed caused no_read no_write = absurd (no_write refl)
+  completes job sound is Done caused no_read no_write = inl refl
+  completes job sound is NoMemory caused no_read no_write = inr refl
+  completes job sound is Usage caused no_read no_write = absurd (not_refused Usage job sound is caused)
+  completes job sound is (BadSpec f x) caused no_read no_write = absurd (not_refused (BadSpec f x) job sound is caused)
+  completes job sound is (BadScript f x) caused no_read no_write = absurd (not_refused (BadScript f x) job sound is caused)
+  completes job sound is (ReadFailed f) caused no_read no_write = absurd (no_read f refl)
+  completes job sound is WriteFailed caused no_read no_write = absurd (no_write refl)
 
 -- ---- the causes, in the order of the work
 
@@ -66,27 +100,44 @@ module _ (words : List (List ℕ)) (contents : List ℕ → Option (List ℕ)) (
   specs_stopped (BadScript n x) h = absurd h.stopped
   specs_stopped WriteFailed h = absurd h.stopped
 
-  scripts_stopped : (specs : List Specification) → SaySpecifications contents (needs_families c) [] (spec_sources c) specs → (status : Status) → StopsScripts contents specs (length (spec_sources c)) (script_sources c) status → IsCaused words contents status
-  scripts_stopped specs said (BadScript k x) h =
+  scripts_stopped : (specs : List Specification) → SaySpecifications contents (needs_families c) [] (spec_sources c) specs → reads_recording c ≡ false → (status : Status) → StopsScripts contents specs (length (spec_sources c)) (script_sources c) status → IsCaused words contents status
+  scripts_stopped specs said separate (BadScript k x) h =
       let same : h.number ≡ k = sym h.stopped.0 in
-      bad_script c specs k h.source h.before h.names h.stopped.1.0 x spelled said (subst (λ n. AreScriptsUpTo contents specs (script_sources c) n h.source h.before h.names) same h.reached) h.stopped.1.1 h.stopped.1.2
-  scripts_stopped specs said (ReadFailed f) h =
+      bad_script c specs k h.source h.before h.names h.stopped.1.0 x spelled said (subst (λ n. AreScriptsUpTo contents specs (script_sources c) n h.source h.before h.names) same h.reached) h.stopped.1.1 h.stopped.1.2 separate
+  scripts_stopped specs said separate (ReadFailed f) h =
       subst (λ n. ReachesFile words contents n) (sym h.stopped.0) (script_file c specs h.number h.source h.before h.names spelled said h.reached h.stopped.1)
-  scripts_stopped specs said NoMemory h = tt
-  scripts_stopped specs said Done h = absurd h.stopped
-  scripts_stopped specs said Usage h = absurd h.stopped
-  scripts_stopped specs said (BadSpec n x) h = absurd h.stopped
-  scripts_stopped specs said WriteFailed h = absurd h.stopped
+  scripts_stopped specs said separate NoMemory h = tt
+  scripts_stopped specs said separate Done h = absurd h.stopped
+  scripts_stopped specs said separate Usage h = absurd h.stopped
+  scripts_stopped specs said separate (BadSpec n x) h = absurd h.stopped
+  scripts_stopped specs said separate WriteFailed h = absurd h.stopped
+
+  recording_stopped : (spec recording : List ℕ) (specs : List Specification) → c ≡ Sweep spec recording → SaySpecifications contents false [] (named (spec ∷ [])) specs → (status : Status) → IsNoRecording contents specs recording status → IsCaused words contents status
+  recording_stopped spec recording specs is said (BadScript k x) h = bad_part spec recording specs h.0 k x (spelled ∙ ap (λ v. Some v) is) said h.1 h.2
+  recording_stopped spec recording specs is said (ReadFailed f) h =
+      subst (λ n. ReachesFile words contents n) (sym h)
+      (script_file (Sweep spec recording) specs 0 (Named recording) [] [] (spelled ∙ ap (λ v. Some v) is) said (record { first = []; rest = []; split = refl; numbered = refl; read = (refl, refl) }) tt)
+  recording_stopped spec recording specs is said NoMemory h = tt
+  recording_stopped spec recording specs is said Done h = absurd h
+  recording_stopped spec recording specs is said Usage h = absurd h
+  recording_stopped spec recording specs is said (BadSpec n x) h = absurd h
+  recording_stopped spec recording specs is said WriteFailed h = absurd h
 
   pub stopped_caused : (status : Status) → StopsCommand contents c status → IsCaused words contents status
   stopped_caused _ short = tt
   stopped_caused _ (at_spec status h) = specs_stopped status h
-  stopped_caused _ (at_script specs status said h) = scripts_stopped specs said status h
+  stopped_caused _ (at_script specs status said h separate) = scripts_stopped specs said separate status h
+  stopped_caused _ (at_recording spec recording specs status is said h) = recording_stopped spec recording specs is said status h
 
   pub text_made : (text : List ℕ) → IsTextOfCommand contents c text → IsText words contents text
-  text_made text h = record {
+  text_made text (of_scripts h) = record {
     job = Accepted c h.specs h.scripts h.objects;
-    is_job = accepted c h.specs h.scripts h.objects spelled h.said h.told;
+    is_job = accepted c h.specs h.scripts h.objects spelled h.said h.told h.separate;
+    is_text = h.is_text;
+  }
+  text_made text (of_recording h) = record {
+    job = AcceptedParts h.specs h.parts;
+    is_job = accepted_parts h.spec h.recording h.specs h.bytes h.parts (spelled ∙ ap (λ v. Some v) h.is) h.said h.given h.told;
     is_text = h.is_text;
   }
 
@@ -110,10 +161,20 @@ before_script contents specs files count names number source (BadScript f x) h =
 before_script contents specs files count names number source (ReadFailed f) h = tt
 before_script contents specs files count names number source NoMemory h = tt
 
+before_recording : (contents : List ℕ → Option (List ℕ)) (specs : List Specification) (name : List ℕ) (status : Status) → IsNoRecording contents specs name status → IsBeforeWriting status
+before_recording contents specs name Done h = h
+before_recording contents specs name WriteFailed h = h
+before_recording contents specs name Usage h = tt
+before_recording contents specs name (BadSpec f x) h = tt
+before_recording contents specs name (BadScript f x) h = tt
+before_recording contents specs name (ReadFailed f) h = tt
+before_recording contents specs name NoMemory h = tt
+
 pub stopped_before : (contents : List ℕ → Option (List ℕ)) (c : CommandWords) (status : Status) → StopsCommand contents c status → IsBeforeWriting status
 stopped_before contents c _ short = tt
 stopped_before contents c _ (at_spec status h) = before_spec contents (needs_families c) h.before h.number h.source status h.stopped
-stopped_before contents c _ (at_script specs status said h) = before_script contents specs (length (spec_sources c)) (step_count h.before) h.names h.number h.source status h.stopped
+stopped_before contents c _ (at_recording spec recording specs status is said h) = before_recording contents specs recording status h
+stopped_before contents c _ (at_script specs status said h separate) = before_script contents specs (length (spec_sources c)) (step_count h.before) h.names h.number h.source status h.stopped
 
 -- ---- files
 
@@ -122,7 +183,7 @@ more_than : (n : ℕ) → (bytes : List ℕ) × (n < length bytes)
 more_than zero = (0 ∷ [], omega arith)
 more_than (suc n) = let more = more_than n in (0 ∷ more.0, omega (arith, more.1))
 
-too_long_bytes : (o : Option (List ℕ)) → IfSome o (λ held. most_bytes < length held) → (bytes : List ℕ) × IfSome o (λ held. bytes ≡ held) × (most_bytes < length bytes)
+pub too_long_bytes : (o : Option (List ℕ)) → IfSome o (λ held. most_bytes < length held) → (bytes : List ℕ) × IfSome o (λ held. bytes ≡ held) × (most_bytes < length bytes)
 too_long_bytes None h = let more = more_than most_bytes in (more.0, tt, more.1)
 too_long_bytes (Some held) h = (held, refl, h)
 

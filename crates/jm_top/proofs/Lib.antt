@@ -3,6 +3,7 @@ pub mod OneReadingLemmas
 pub mod TreeLemmas
 pub mod BlockLemmas
 pub mod InputLemmas
+pub mod RecordingLemmas
 pub mod EndingLemmas
 pub mod JobLemmas
 pub mod LibraryLemmas
@@ -11,5 +12,6 @@ pub mod FewLemmas
 pub mod ScriptLemmas
 pub mod RunLemmas
 pub mod TextLemmas
+pub mod SweepLemmas
 pub mod CommandLemmas
 pub mod CrossingLemmas

@@ -1,18 +1,20 @@
 -- Why the work of a command ends before its text is written.
-use Rattle.std.specs.Prelude.{ℕ, ◌+◌, ◌≡◌, ◌<◌, ◌⊎◌, Bool, false, List, [], length, Result, Ok, Err, IfSome}
+use Rattle.std.specs.Prelude.{ℕ, ◌+◌, ◌≡◌, ◌<◌, ◌⊎◌, Bool, false, List, [], ◌∷◌, length, Result, Ok, Err, IfSome}
 use Rattle.std.specs.Global.{Vec}
 use Rattle.jm_model.specs.Words.{Text}
 use Rattle.jm_port.specs.Faults.{HasRisen}
 use Rattle.jm_script.specs.declared.script.ScriptLine.{ScriptLine}
 use Rattle.jm_top.specs.declared.status.Status.{Status}
 use Rattle.jm_top.specs.declared.status.Status.TheVariants.{Done, BadSpec, BadScript, ReadFailed, WriteFailed, NoMemory}
-use Rattle.jm_top.specs.Sources.{FileContents, Source, IsFile, Gives}
+use Rattle.jm_top.specs.Sources.{FileContents, Source, Named, IsFile, Gives}
 use Rattle.jm_top.specs.Specifications.{Specification, most_bytes}
 use Rattle.jm_top.specs.Scripts.{IsScriptFault}
 use Rattle.jm_top.specs.Inputs.{IsRefusal, SaySpecifications, AreReadUpTo, step_count, SayScripts, AreScriptsUpTo}
 use Rattle.jm_cli.specs.Words.{CommandWords}
-use Rattle.jm_top.specs.Commands.{spec_sources, script_sources, needs_families}
-use Rattle.jm_top.specs.Jobs.{Accepted}
+use Rattle.jm_cli.specs.Words.CommandWords.{Sweep}
+use Rattle.jm_top.specs.Commands.{named, spec_sources, script_sources, reads_recording, needs_families}
+use Rattle.jm_top.specs.Recordings.{RecordedPart, IsRecording, IsRecordingFault}
+use Rattle.jm_top.specs.Jobs.{Accepted, AcceptedParts}
 use Rattle.jm_top.specs.Texts.{IsTextOf}
 
 -- where it answers that a read failed, a fault was counted meanwhile
@@ -87,6 +89,20 @@ module _ (contents : FileContents) where
     pub reached : AreScriptsUpTo contents specs sources number source before names
     pub stopped : IsNoScript specs files (step_count before) names number source status
 
+-- these bytes are no recording over these specifications
+abbrev pub IsNoRecordingIn : List Specification → Text → Status → Type 0
+IsNoRecordingIn specs bytes (BadScript part fault) = IsRecordingFault specs bytes part fault
+IsNoRecordingIn specs bytes NoMemory = Unit {0}
+IsNoRecordingIn specs bytes _ = ⊥
+
+-- the file of this name, which is the second one of its command, is none
+abbrev pub IsNoRecording : FileContents → List Specification → Text → Status → Type 0
+IsNoRecording contents specs name (BadScript part fault) =
+    (bytes : Text) × Gives contents (Named name) bytes × IsRecordingFault specs bytes part fault
+IsNoRecording contents specs name (ReadFailed file) = file ≡ 1
+IsNoRecording contents specs name NoMemory = Unit {0}
+IsNoRecording contents specs name _ = ⊥
+
 -- why specifications from some sources, and scripts from others, aren't read
 abbrev pub StopsInputs : FileContents → List Source → List Source → Status → Type 0
 StopsInputs contents specs scripts status =
@@ -102,16 +118,41 @@ pub data StopsCommand (contents : FileContents) (command : CommandWords) : Statu
   at_script : (specs : List Specification) (status : Status)
       → SaySpecifications contents (needs_families command) [] (spec_sources command) specs
       → StopsScripts contents specs (length (spec_sources command)) (script_sources command) status
+      → reads_recording command ≡ false
+      → StopsCommand contents command status
+  at_recording : (spec recording : Text) (specs : List Specification) (status : Status)
+      → command ≡ Sweep spec recording
+      → SaySpecifications contents false [] (named (spec ∷ [])) specs
+      → IsNoRecording contents specs recording status
       → StopsCommand contents command status
 
--- the text is one of the command, whose files were read
-pub record IsTextOfCommand (contents : FileContents) (command : CommandWords) (text : Text) : Type 0 where
+-- the text is one of the command, whose specifications and scripts were read
+pub record IsTextOfScripts (contents : FileContents) (command : CommandWords) (text : Text) : Type 0 where
   pub specs : List Specification
   pub scripts : List (List ScriptLine)
   pub objects : List Text
   pub said : SaySpecifications contents (needs_families command) [] (spec_sources command) specs
   pub told : SayScripts contents specs 0 [] (script_sources command) scripts objects
+  pub separate : reads_recording command ≡ false
   pub is_text : IsTextOf (Accepted command specs scripts objects) text
+
+-- the text is one of the command, whose specification and recording were read
+pub record IsTextOfRecording (contents : FileContents) (command : CommandWords) (text : Text) : Type 0 where
+  pub spec : Text
+  pub recording : Text
+  pub specs : List Specification
+  pub bytes : Text
+  pub parts : List RecordedPart
+  pub is : command ≡ Sweep spec recording
+  pub said : SaySpecifications contents false [] (named (spec ∷ [])) specs
+  pub given : Gives contents (Named recording) bytes
+  pub told : IsRecording specs bytes parts
+  pub is_text : IsTextOf (AcceptedParts specs parts) text
+
+-- the text is one of the command, whose files were read
+pub data IsTextOfCommand (contents : FileContents) (command : CommandWords) (text : Text) : Type 0 where
+  of_scripts : IsTextOfScripts contents command text → IsTextOfCommand contents command text
+  of_recording : IsTextOfRecording contents command text → IsTextOfCommand contents command text
 
 -- it answers a text of the command, or why the command ends before its text is written
 abbrev pub IsCarriedOut : FileContents → CommandWords → Result (Vec ℕ) Status → Type 0

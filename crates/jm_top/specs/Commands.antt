@@ -2,7 +2,7 @@
 use Rattle.std.specs.Prelude.{ℕ, ◌≤◌, Bool, true, false, List, [], ◌∷◌, length, map}
 use Rattle.jm_model.specs.Words.{Text}
 use Rattle.jm_cli.specs.Words.{CommandWords}
-use Rattle.jm_cli.specs.Words.CommandWords.{Replay, Run, Check, Coenable, Gen}
+use Rattle.jm_cli.specs.Words.CommandWords.{Replay, Run, Check, Coenable, Gen, Sweep}
 use Rattle.jm_gen.specs.Specifications.{unsafe_iter, has_next}
 use Rattle.jm_gen.specs.Scripts.{IsInRange, script_text}
 use Rattle.jm_top.specs.Sources.{Source, Named, Given}
@@ -28,14 +28,21 @@ spec_sources (Run specs scripts) = named specs
 spec_sources (Check specs) = named specs
 spec_sources (Coenable specs) = named specs
 spec_sources (Gen n) = given_files workload_specs
+spec_sources (Sweep spec recording) = named (spec ∷ [])
 
--- its scripts, in order
+-- its scripts, in order; or its one recording
 abbrev pub script_sources : CommandWords → List Source
 script_sources (Replay spec script) = named (script ∷ [])
 script_sources (Run specs scripts) = named scripts
 script_sources (Check specs) = []
 script_sources (Coenable specs) = []
 script_sources (Gen n) = given_files (workload_scripts n)
+script_sources (Sweep spec recording) = named (recording ∷ [])
+
+-- the command reads no scripts but a recording, which is cut into parts
+abbrev pub reads_recording : CommandWords → Bool
+reads_recording (Sweep spec recording) = true
+reads_recording _ = false
 
 -- the command asks for coenable families, which grammars don't have
 abbrev pub needs_families : CommandWords → Bool
@@ -53,3 +60,4 @@ IsWithin (Run specs scripts) = AreFew specs × AreFew scripts
 IsWithin (Check specs) = AreFew specs
 IsWithin (Coenable specs) = AreFew specs
 IsWithin (Gen n) = IsInRange n
+IsWithin (Sweep spec recording) = Unit {0}

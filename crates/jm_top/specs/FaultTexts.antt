@@ -122,6 +122,7 @@ usage_text =
     ++ codes "       jmop check SPEC.." ++ 10 ∷ []
     ++ codes "       jmop coenable SPEC.." ++ 10 ∷ []
     ++ codes "       jmop gen N" ++ 10 ∷ []
+    ++ codes "       jmop sweep SPEC RECORDING" ++ 10 ∷ []
 
 -- what the error sink is given
 abbrev pub fault_text_of : Status → Text

@@ -1,27 +1,36 @@
 -- What a command is to do, by its words and the contents of its files.
-use Rattle.std.specs.Prelude.{ℕ, ◌+◌, ◌≡◌, List, [], length, Some, None}
+use Rattle.std.specs.Prelude.{ℕ, ◌+◌, ◌≡◌, false, List, [], ◌∷◌, length, Some, None}
 use Rattle.jm_model.specs.Words.{Text}
 use Rattle.jm_model.specs.declared.fault.SpecFault.{SpecFault}
 use Rattle.jm_model.specs.declared.fault.ScriptFault.{ScriptFault}
 use Rattle.jm_script.specs.declared.script.ScriptLine.{ScriptLine}
 use Rattle.jm_cli.specs.Words.{CommandWords, command_of}
+use Rattle.jm_cli.specs.Words.CommandWords.{Sweep}
 use Rattle.jm_top.specs.declared.status.Status.{Status}
 use Rattle.jm_top.specs.declared.status.Status.TheVariants.{Usage, BadSpec, BadScript, ReadFailed}
-use Rattle.jm_top.specs.Sources.{FileContents, Source, IsFile, Gives, AllTold}
-use Rattle.jm_top.specs.Commands.{spec_sources, script_sources, needs_families}
+use Rattle.jm_top.specs.Sources.{FileContents, Source, Named, IsFile, Gives, AllTold}
+use Rattle.jm_top.specs.Commands.{named, spec_sources, script_sources, reads_recording, needs_families}
 use Rattle.jm_top.specs.Specifications.{Specification}
 use Rattle.jm_top.specs.Scripts.{IsScriptFault}
+use Rattle.jm_top.specs.Recordings.{RecordedPart, IsRecording, IsRecordingFault}
 use Rattle.jm_top.specs.Inputs.{IsRefusal, SaySpecifications, AreReadUpTo, step_count, SayScripts, AreScriptsUpTo}
 
--- either the command is refused, or it is done over these specifications and scripts, by these names of objects
+-- either the command is refused, or it is done over these specifications and scripts, by these names of objects; or over
+-- these specifications and the parts of a recording
 pub data Job : Type 0 where
   Refused : (status : Status) → Job
   Accepted : (command : CommandWords) (specs : List Specification) (scripts : List (List ScriptLine))
       (objects : List Text) → Job
+  AcceptedParts : (specs : List Specification) (parts : List RecordedPart) → Job
+
+-- the job has no fault
+abbrev pub IsSound : Job → Type 0
+IsSound (Refused status) = ⊥
+IsSound _ = Unit {0}
 
 module _ (words : List Text) (contents : FileContents) where
-  -- The job: the first fault in the order of the work, which is the words, each specification in order, each script in
-  -- order; or, where there is none, what was read.
+  -- The job: the first fault in the order of the work, which is the words, each specification in order, each script or
+  -- each part of the recording in order; or, where there is none, what was read.
   pub data IsJob : Job → Type 0 where
     no_command : command_of words ≡ None → IsJob (Refused Usage)
     bad_spec : (command : CommandWords) (number : ℕ) (source : Source) (before : List Specification) (bytes : Text)
@@ -38,13 +47,27 @@ module _ (words : List Text) (contents : FileContents) where
         → AreScriptsUpTo contents specs (script_sources command) number source before names
         → Gives contents source bytes
         → IsScriptFault specs (step_count before) names bytes fault
+        → reads_recording command ≡ false
         → IsJob (Refused (BadScript number fault))
     accepted : (command : CommandWords) (specs : List Specification) (scripts : List (List ScriptLine))
         (objects : List Text)
         → command_of words ≡ Some command
         → SaySpecifications contents (needs_families command) [] (spec_sources command) specs
         → SayScripts contents specs 0 [] (script_sources command) scripts objects
+        → reads_recording command ≡ false
         → IsJob (Accepted command specs scripts objects)
+    bad_part : (spec recording : Text) (specs : List Specification) (bytes : Text) (number : ℕ) (fault : ScriptFault)
+        → command_of words ≡ Some (Sweep spec recording)
+        → SaySpecifications contents false [] (named (spec ∷ [])) specs
+        → Gives contents (Named recording) bytes
+        → IsRecordingFault specs bytes number fault
+        → IsJob (Refused (BadScript number fault))
+    accepted_parts : (spec recording : Text) (specs : List Specification) (bytes : Text) (parts : List RecordedPart)
+        → command_of words ≡ Some (Sweep spec recording)
+        → SaySpecifications contents false [] (named (spec ∷ [])) specs
+        → Gives contents (Named recording) bytes
+        → IsRecording specs bytes parts
+        → IsJob (AcceptedParts specs parts)
 
   -- nothing has a fault that comes before the file of this number is loaded: files are counted in the order of the
   -- words

@@ -5,6 +5,7 @@ pub mod Commands
 pub mod Specifications
 pub mod Scripts
 pub mod Inputs
+pub mod Recordings
 pub mod Jobs
 pub mod Histories
 pub mod Texts
@@ -13,3 +14,4 @@ pub mod Reading
 pub mod Causes
 pub mod Replays
 pub mod Runs
+pub mod Sweeps

@@ -5,10 +5,11 @@ use Rattle.jm_model.specs.Words.{Text, Mask}
 use Rattle.jm_semantics.specs.Families.{IsFamily}
 use Rattle.jm_print.specs.Checks.{check_text}
 use Rattle.jm_print.specs.Coenables.{coenable_text}
-use Rattle.jm_cli.specs.Words.CommandWords.{Replay, Run, Check, Coenable, Gen}
+use Rattle.jm_cli.specs.Words.CommandWords.{Replay, Run, Check, Coenable, Gen, Sweep}
 use Rattle.jm_top.specs.Specifications.{Specification, meaning_of}
 use Rattle.jm_top.specs.Histories.{IsTextOfHistories, IsTextOfSummaries}
-use Rattle.jm_top.specs.Jobs.{Job, Refused, Accepted}
+use Rattle.jm_top.specs.Recordings.{IsTextOfParts}
+use Rattle.jm_top.specs.Jobs.{Job, Refused, Accepted, AcceptedParts}
 
 -- what a specification declares
 abbrev pub declared_text : Specification → Text
@@ -39,3 +40,5 @@ IsTextOf (Accepted (Run names files) specs scripts objects) text = IsTextOfHisto
 IsTextOf (Accepted (Check names) specs scripts objects) text = text ≡ flat_map declared_text specs
 IsTextOf (Accepted (Coenable names) specs scripts objects) text = IsTextOfFamilies specs text
 IsTextOf (Accepted (Gen n) specs scripts objects) text = IsTextOfSummaries specs scripts text
+IsTextOf (Accepted (Sweep spec recording) specs scripts objects) text = ⊥
+IsTextOf (AcceptedParts specs parts) text = IsTextOfParts specs parts text

@@ -1,12 +1,10 @@
 //! The commands, from the words to the status.
-ghost use Rattle.std.specs.Prelude.{◌≡◌, ◌⊎◌, ℕ, List, map, string_bytes, None, Some, IfOk, IfErr};
+ghost use Rattle.std.specs.Prelude.{◌≡◌, ◌⊎◌, ℕ, map, string_bytes, None, Some, IfOk, IfErr};
 ghost use Rattle.jm_port.specs.Faults.{HasRisen};
-ghost use Rattle.jm_script.specs.declared.script.ScriptLine.{ScriptLine};
-ghost use Rattle.jm_cli.specs.Words.{CommandWords, command_of};
+ghost use Rattle.jm_cli.specs.Words.{command_of};
 ghost use Rattle.jm_cli.specs.Views.{command_words};
 ghost use Rattle.jm_top.specs.Commands.{IsWithin};
-ghost use Rattle.jm_top.specs.Specifications.{Specification};
-ghost use Rattle.jm_top.specs.Jobs.{IsJob, Accepted, IsCaused, AreTold};
+ghost use Rattle.jm_top.specs.Jobs.{Job, IsJob, IsSound, IsCaused, AreTold};
 ghost use Rattle.jm_top.specs.Endings.{Writes, WritesText, Ends, Reports};
 
 use crate::job::make_text;
@@ -22,13 +20,15 @@ use std::thread::Threads;
 /// Does a command, and tells how it ended. `words` are those of the command line without the program's name.
 ///
 /// The order of work, and of refusals, is: the words; each specification in order, loaded, read and compiled; each
-/// script in order, loaded and read; their steps; the whole text; the text given to `out`; and last, where the status
+/// script in order, loaded and read, or the recording, loaded, and each of its parts in order, read; their steps; the
+/// whole text; the text given to `out`; and last, where the status
 /// isn't `Done`, its text given to `err`. Want of memory may end the work at any point.
 ///
 /// At `Done` the text is that of the command's job. For `replay` and `run` it is, for each specification in order, a
 /// printed history that is legal for what the specification means, and an interleaving of the scripts' steps for it;
 /// for `gen` the summaries of such histories over the workload's files; for `check` what the specifications declare,
-/// and for `coenable` their families. A refusal is the job's first fault in the order of work. `ReadFailed` and
+/// and for `coenable` their families. For `sweep` it is, for each part of the recording in order, a text of `replay` for
+/// that part, whatever number of threads works. A refusal is the job's first fault in the order of work. `ReadFailed` and
 /// `WriteFailed` come only where the folder or the sink counted a fault. So where the job has no fault, it is told what
 /// the files hold, and no fault was counted, the whole text was written, or memory was short.
 pub fn jmop<R: Threads + Wait + Sync, F: Folder, S: Sink, E: Sink, G: Gate>(
@@ -48,9 +48,8 @@ pub fn jmop<R: Threads + Wait + Sync, F: Folder, S: Sink, E: Sink, G: Gate>(
     ensures read_failed { (file : ℕ) → result ≡ Status.ReadFailed file
         → HasRisen (F.faults files.old) (F.faults files.new) }
     ensures write_failed { result ≡ Status.WriteFailed → HasRisen (S.faults out.old) (S.faults out.new) }
-    ensures complete { (command : CommandWords) (specs : List Specification) (scripts : List (List ScriptLine))
-        (objects : List (List ℕ)) → AreTold (map string_bytes words.now) (F.holds files.old)
-        → IsJob (map string_bytes words.now) (F.holds files.old) (Accepted command specs scripts objects)
+    ensures complete { (job : Job) → AreTold (map string_bytes words.now) (F.holds files.old)
+        → IsJob (map string_bytes words.now) (F.holds files.old) job → IsSound job
         → ¬ HasRisen (F.faults files.old) (F.faults files.new) → ¬ HasRisen (S.faults out.old) (S.faults out.new)
         → (result ≡ Status.Done) ⊎ (result ≡ Status.NoMemory) }
     ensures reported { Reports (Ends (map string_bytes words.now) (F.holds files.old) (F.faults files.old)

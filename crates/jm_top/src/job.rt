@@ -1,6 +1,6 @@
 //! The text of each command.
 ghost use Rattle.std.specs.Prelude.{map, string_bytes};
-ghost use Rattle.jm_cli.specs.Words.CommandWords.{Replay, Run, Check, Coenable, Gen};
+ghost use Rattle.jm_cli.specs.Words.CommandWords.{Replay, Run, Check, Coenable, Gen, Sweep};
 ghost use Rattle.jm_cli.specs.Views.{command_words};
 ghost use Rattle.jm_gen.specs.Scripts.{IsInRange};
 ghost use Rattle.jm_top.specs.Sources.{FileContents};
@@ -8,11 +8,14 @@ ghost use Rattle.jm_top.specs.Commands.{AreFew, IsWithin};
 ghost use Rattle.jm_top.specs.Causes.{CountsFailedReads, IsCarriedOut};
 
 use crate::blocks::{declared, families};
+use crate::files::load;
 use crate::inputs::{read_inputs, read_workload};
 use crate::library::read_specifications;
 use crate::replay::replay;
 use crate::run::{run, run_in_short};
+use crate::scripts::too_long;
 use crate::status::Status;
+use crate::sweep::sweep;
 use jm_cli::Command;
 use jm_port::Folder;
 use jm_runner::Gate;
@@ -41,6 +44,7 @@ pub(crate) fn make_text<R: Threads + Wait + Sync, F: Folder, G: Gate>(
         Command::Check { specs } => checked(alloc, specs.as_slice(), files),
         Command::Coenable { specs } => coenabled(alloc, specs.as_slice(), files),
         Command::Gen { n } => generated(rt, alloc, *n, gate),
+        Command::Sweep { spec, recording } => swept(rt, alloc, spec, recording, files),
     }
 }
 
@@ -115,4 +119,21 @@ fn generated<R: Threads + Wait + Sync, G: Gate>(
     let inputs = read_workload(alloc, n)?;
     let text = run_in_short(rt, alloc, inputs.library, &inputs.scripts, gate)?;
     Ok(text)
+}
+
+/// The text of `sweep`.
+fn swept<R: Threads + Sync, F: Folder>(
+    rt: &R,
+    alloc: Global,
+    spec: &String,
+    recording: &String,
+    files: &mut F,
+) -> Result<Vec<u8>, Status>
+    ensures carried_out { IsCarriedOut (F.holds files.old)
+        (Sweep (string_bytes spec.now) (string_bytes recording.now)) result }
+    ensures read_failed { CountsFailedReads result (F.faults files.old) (F.faults files.new) }
+{
+    let library = read_specifications(alloc, slice::from_ref(spec), false, files)?;
+    let bytes = load(recording.as_str(), 1, too_long(0), files)?;
+    sweep(rt, alloc, &library, bytes.as_slice())
 }

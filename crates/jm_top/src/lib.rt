@@ -1,7 +1,7 @@
 //! The top call: a command from the words of its command line to its status.
 //!
 //! `jmop` reads the words, loads the files from a folder, does the command, and writes its text to a sink and what went
-//! wrong to another. It knows `replay`, `run`, `check`, `coenable` and `gen`, over all four logics and over scripts of
+//! wrong to another. It knows `replay`, `run`, `check`, `coenable`, `gen` and `sweep`, over all four logics and over scripts of
 //! events, deaths and passes.
 //!
 //! What a command is to do stands in `specs`, apart from how it is done: `Jobs.antt` says what its words and the
@@ -17,6 +17,7 @@
 //! | `library`, `specification` | specifications, read one behind the other |
 //! | `scripts` | scripts, read one behind the other |
 //! | `replay`, `run` | the histories of scripts |
+//! | `sweep` | the histories of a recording's parts |
 //! | `histories`, `blocks`, `texts` | what is printed |
 #![tactic(auto)]
 
@@ -33,6 +34,7 @@ mod run;
 mod scripts;
 mod specification;
 mod status;
+mod sweep;
 mod texts;
 
 pub use command::jmop;

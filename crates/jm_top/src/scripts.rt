@@ -135,7 +135,7 @@ fn read_next<F: Folder>(
 }
 
 /// The end of a command whose script of this number is too long.
-fn too_long(number: u32) -> Status
+pub(crate) fn too_long(number: u32) -> Status
     ensures { result ≡ Status.BadScript number ScriptFault.TooLong }
 {
     let fault = ScriptFault::TooLong;

@@ -11,6 +11,7 @@ const USAGE: &str = "usage: jmop replay SPEC SCRIPT
        jmop check SPEC..
        jmop coenable SPEC..
        jmop gen N
+       jmop sweep SPEC RECORDING
 ";
 
 /// The text for the error sink: nothing for `Done`, the commands for `Usage`, and else one line.

@@ -4,10 +4,10 @@ use Rattle.jm_top.proofs.EndingLemmas.{reports_ending}
 use Rattle.jm_top.proofs.command.jmop.Goals as goal
 
 pub returns-clause-complete : goal.returns-clause-complete
-returns-clause-complete g c = λ command specs scripts objects told job quiet still.
+returns-clause-complete g c = λ job told is sound quiet still.
     let ends = c.carry_out-status.ensures.ends in
-    let ending = completes _ (g.F.Folder.holds c.args.files.now) told command specs scripts objects job c.carry_out-status.result ends.caused
-    (λ file is. quiet (ends.read_failed file is)) (λ is. still (ends.write_failed is)) in
+    let ending = completes _ (g.F.Folder.holds c.args.files.now) told job sound is c.carry_out-status.result ends.caused
+    (λ file at. quiet (ends.read_failed file at)) (λ at. still (ends.write_failed at)) in
     elim c.report.ensures.kept [
       | inl same ↦ elim ending [ inl done ↦ inl (same ∙ done) | inr short ↦ inr (same ∙ short) ]
       | inr short ↦ inr short

@@ -1,0 +1,33 @@
+use Rattle.std.proofs.Common.{◌∙◌, sym, ap, Err, arith}
+use Rattle.std.specs.Prelude.{string_bytes}
+use Rattle.std.proofs.lemmas.Result.{err_from_is_err_and}
+use Rattle.jm_top.specs.Sources.{Named}
+use Rattle.jm_top.proofs.OneReadingLemmas.{same_err}
+use Rattle.jm_top.proofs.JobLemmas.{risen_before, for_err}
+use Rattle.jm_top.proofs.LibraryLemmas.{library_length}
+use Rattle.jm_top.proofs.CommandLemmas.{not_loaded_before, given_before, sweep_stops, sweep_unloaded, sweep_faulty, sweep_made}
+use Rattle.jm_top.proofs.job.swept.Goals as goal
+
+pub returns-in_err-library-clause-carried_out : goal.returns-in_err-library-clause-carried_out
+returns-in_err-library-clause-carried_out g c =
+    let p = err_from_is_err_and c.from_residual.result c.from_residual.ensures.1 in
+    rw (p.1, p.2) (sweep_stops (g.F.Folder.holds c.args.files.now) (string_bytes c.args.spec.now) (string_bytes c.args.recording.now) _ (rw c.from_ref.ensures.value at c.in_err-library.ensures.err))
+
+pub returns-in_err-bytes-clause-carried_out : goal.returns-in_err-bytes-clause-carried_out
+returns-in_err-bytes-clause-carried_out g c =
+    let p = err_from_is_err_and c.from_residual-in_err-bytes.result c.from_residual-in_err-bytes.ensures.1 in
+    let contents = g.F.Folder.holds c.args.files.now in
+    let later = g.F.Folder.holds c.read_specifications.new.files in
+    rw (p.1, p.2) (sweep_unloaded contents (string_bytes c.args.spec.now) (string_bytes c.args.recording.now) c.in_ok-library.library _ (rw c.from_ref.ensures.value at c.in_ok-library.ensures.read)
+    (not_loaded_before contents later c.read_specifications.ensures.same _ 1 _ _ (rw (c.too_long.ensures, c.as_str.ensures.value) at c.in_err-bytes.ensures.err)))
+
+pub returns-in_err-bytes-clause-read_failed : goal.returns-in_err-bytes-clause-read_failed
+returns-in_err-bytes-clause-read_failed g c = λ file is.
+    let p = err_from_is_err_and c.from_residual-in_err-bytes.result c.from_residual-in_err-bytes.ensures.1 in
+    let same = same_err (sym p.1 ∙ is) in
+    risen_before c.read_specifications.ensures.never_falls (c.in_err-bytes.ensures.read_failed file (ap (λ e. Err e) (sym p.2 ∙ same)))
+
+pub sweep-requires-clause-library : goal.sweep-requires-clause-library
+sweep-requires-clause-library g c =
+    let many = library_length (λ n. Named n) string_bytes (g.F.Folder.holds c.args.files.now) _ c.from_ref.result.now c.in_ok-library.library c.in_ok-library.ensures.read in
+    record { one = many ∙ c.from_ref.ensures.len; catalogued = c.in_ok-library.ensures.read.catalogued }

@@ -1,0 +1,42 @@
+use Rattle.std.proofs.Common.{length, sym, subst, ◌∙◌, arith}
+use Rattle.std.proofs.lemmas.Result.{err_from_is_err_and}
+use Rattle.jm_model.specs.declared.fault.ScriptError.{ScriptError}
+use Rattle.jm_script.specs.Answers.{IsLeft}
+use Rattle.jm_script.specs.Fitting.{FitsCatalog}
+use Rattle.jm_script.specs.Meanings.{script_meaning}
+use Rattle.jm_top.specs.Reading.{specs_in}
+use Rattle.jm_top.proofs.OneReadingLemmas.{same_err}
+use Rattle.jm_top.proofs.LibraryLemmas.{its_catalog}
+use Rattle.jm_top.proofs.SweepLemmas.{part_said, part_refused}
+use Rattle.jm_top.proofs.sweep.piece_of.Goals as goal
+
+pub returns-in_err-script-clause-fault : goal.returns-in_err-script-clause-fault
+returns-in_err-script-clause-fault c = λ fault is.
+    let p = err_from_is_err_and c.from_residual.result c.from_residual.ensures.1 in
+    let same = same_err (sym p.1 ∙ is) in
+    let library = c.args.library.now in
+    let left = rw c.new-objects.ensures at c.in_err-script.ensures.err in
+    part_refused (specs_in library) library.catalog (sym (its_catalog library c.requires.library.catalogued)) c.args.part.now c.requires.small c.args.count fault c.read_script.new.objects c.read_script.new.count
+    (subst (λ (e : ScriptError). IsLeft (script_meaning library.catalog c.args.count c.args.part.now []) c.args.count [] e c.read_script.new.objects c.read_script.new.count) (sym p.2 ∙ same) left)
+
+pub replay_script-requires-clause-library : goal.replay_script-requires-clause-library
+replay_script-requires-clause-library c = c.requires.library
+
+pub replay_script-requires-clause-fits : goal.replay_script-requires-clause-fits
+replay_script-requires-clause-fits c =
+    let library = c.args.library.now in
+    subst (λ v. FitsCatalog v (length c.read_script.new.objects) c.in_ok-script.script) (sym (its_catalog library c.requires.library.catalogued)) c.in_ok-script.ensures.fitting
+
+pub returns-clause-ok : goal.returns-clause-ok
+returns-clause-ok c =
+    let library = c.args.library.now in
+    let whole = rw c.new-objects.ensures at c.in_ok-script.ensures.ok in
+    record {
+      part = record { script = c.in_ok-script.script; objects = c.read_script.new.objects };
+      said = part_said (specs_in library) library.catalog (sym (its_catalog library c.requires.library.catalogued)) c.args.part.now c.requires.small c.args.count c.in_ok-script.script c.read_script.new.objects c.read_script.new.count whole;
+      counted = omega (arith, whole.counted);
+      is_text = c.in_ok-text.ensures;
+    }
+
+pub returns-clause-few : goal.returns-clause-few
+returns-clause-few c = omega (arith, c.in_ok-script.ensures.ok.counted, c.in_ok-script.ensures.bounded.0)

@@ -1,0 +1,11 @@
+use Rattle.std.proofs.Common.{◌≡◌, map, take}
+use Rattle.jm_sweep.specs.Recordings.{span_text}
+use Rattle.jm_top.specs.Reading.{specs_in}
+use Rattle.jm_top.specs.Sweeps.{IsSwept}
+use Rattle.jm_top.proofs.sweep.put_together.Given as goal
+
+abbrev pub invariant-loop-span : goal.invariant-loop-span
+invariant-loop-span l = record {
+  numbered : l.number ≡ l.span-index;
+  swept : IsSwept (specs_in l.library) (map (span_text l.bytes) (take l.span-index l.spans)) l.count l.text.items;
+}

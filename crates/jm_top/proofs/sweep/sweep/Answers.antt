@@ -1,0 +1,13 @@
+use Rattle.std.proofs.Common.{length, subst, arith}
+use Rattle.std.specs.Prelude.{All}
+use Rattle.std.proofs.lemmas.List.Elements.{All-weaker}
+use Rattle.jm_sweep.specs.Recordings.{LiesWithin}
+use Rattle.jm_top.specs.Sweeps.{CanReplay}
+use Rattle.jm_top.proofs.SweepLemmas.{can_replay}
+use Rattle.jm_top.proofs.sweep.sweep.Goals as goal
+
+pub pieces_of-requires : goal.pieces_of-requires
+pieces_of-requires c = rw c.as_slice.ensures.value (can_replay c.args.library.now c.args.bytes.now c.requires.library c.requires.small c.in_ok-spans.spans.items c.in_ok-spans.ensures.within)
+
+pub put_together-requires-clause-replayable : goal.put_together-requires-clause-replayable
+put_together-requires-clause-replayable c = rw c.as_slice-2.ensures.value (can_replay c.args.library.now c.args.bytes.now c.requires.library c.requires.small c.in_ok-spans.spans.items c.in_ok-spans.ensures.within)

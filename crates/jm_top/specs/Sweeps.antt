@@ -1,0 +1,53 @@
+-- What the calls that sweep a recording answer.
+use Rattle.std.specs.Prelude.{ℕ, ◌+◌, ◌≡◌, ◌≤◌, List, [], ◌∷◌, ◌++◌, length}
+use Rattle.jm_model.specs.Words.{Text}
+use Rattle.jm_sweep.specs.Recordings.{LiesWithin}
+use Rattle.jm_top.specs.declared.library.Library.{Library}
+use Rattle.jm_top.specs.declared.sweep.Piece.{Piece}
+use Rattle.jm_top.specs.Specifications.{Specification, most_bytes}
+use Rattle.jm_top.specs.Scripts.{IsScript}
+use Rattle.jm_top.specs.Histories.{IsTextOfHistories}
+use Rattle.jm_top.specs.Recordings.{RecordedPart, steps_of_parts, SayParts, IsRecording, IsTextOfParts}
+use Rattle.jm_top.specs.Reading.{IsCatalogued}
+
+-- a library of one specification
+pub record IsOfOne (library : Library) : Type 0 where
+  pub one : length library.specs.items ≡ 1
+  pub catalogued : IsCatalogued library
+
+-- the bytes of a span can be replayed over the specification of the library
+pub record CanReplay (library : Library) (bytes : Text) (span : ℕ × ℕ) : Type 0 where
+  pub library : IsOfOne library
+  pub small : length bytes ≤ most_bytes
+  pub within : LiesWithin bytes span
+
+-- the bytes say a part, after so many steps, of which the piece has the number of steps and the text
+pub record IsPieceOf (specs : List Specification) (count : ℕ) (bytes : Text) (piece : Piece) : Type 0 where
+  pub part : RecordedPart
+  pub said : IsScript specs count [] bytes part.script part.objects
+  pub counted : piece.steps ≡ length part.script
+  pub is_text : IsTextOfHistories specs (part.script ∷ []) part.objects piece.text.items
+
+-- the bytes say one part more, after so many steps, whose text was added; and how many steps there are then
+pub record HasPart (specs : List Specification) (count : ℕ) (bytes old new : Text) (count_then : ℕ) : Type 0 where
+  pub part : RecordedPart
+  pub text : Text
+  pub said : IsScript specs count [] bytes part.script part.objects
+  pub counted : count_then ≡ count + length part.script
+  pub few : count_then ≤ 200000
+  pub added : new ≡ old ++ text
+  pub is_text : IsTextOfHistories specs (part.script ∷ []) part.objects text
+
+-- these are the parts that the texts say, how many steps they have, and their text
+pub record IsSwept (specs : List Specification) (texts : List Text) (count : ℕ) (text : Text) : Type 0 where
+  pub parts : List RecordedPart
+  pub said : SayParts specs 0 texts parts
+  pub counted : count ≡ steps_of_parts parts
+  pub few : count ≤ 200000
+  pub is_text : IsTextOfParts specs parts text
+
+-- the bytes say parts, none of which has a fault, and this is their text
+pub record IsSweptWhole (specs : List Specification) (bytes text : Text) : Type 0 where
+  pub parts : List RecordedPart
+  pub said : IsRecording specs bytes parts
+  pub is_text : IsTextOfParts specs parts text
