@@ -15,8 +15,8 @@ use Rattle.jm_top.specs.Scripts.{IsScriptFault}
 use Rattle.jm_top.specs.Recordings.{RecordedPart, IsRecording, IsRecordingFault}
 use Rattle.jm_top.specs.Inputs.{IsRefusal, SaySpecifications, AreReadUpTo, step_count, SayScripts, AreScriptsUpTo}
 
--- either the command is refused, or it is done over these specifications and scripts, by these names of objects; or over
--- these specifications and the parts of a recording
+-- either the command is refused, or it is done over these specifications and scripts, by these names of objects; or
+-- over these specifications and the parts of a recording
 pub data Job : Type 0 where
   Refused : (status : Status) → Job
   Accepted : (command : CommandWords) (specs : List Specification) (scripts : List (List ScriptLine))

@@ -20,8 +20,8 @@ steps_of_parts [] = 0
 steps_of_parts (part ∷ parts) = length part.script + steps_of_parts parts
 
 module _ (specs : List Specification) where
-  -- the texts say these parts, in order, after so many steps: each is a script by itself, whose lines are counted from 1
-  -- and whose objects are its own
+  -- the texts say these parts, in order, after so many steps: each is a script by itself, whose lines are counted
+  -- from 1 and whose objects are its own
   abbrev pub SayParts : ℕ → List Text → List RecordedPart → Type 0
   SayParts count [] parts = parts ≡ []
   SayParts count (text ∷ texts) parts =
@@ -34,8 +34,8 @@ module _ (specs : List Specification) where
     pub small : length bytes ≤ most_bytes
     pub said : SayParts 0 (parts_of bytes) parts
 
-  -- The first fault of the bytes: they are too many; or the part of this number has it, counted from 0, and those before
-  -- it have none.
+  -- The first fault of the bytes: they are too many; or the part of this number has it, counted from 0, and those
+  -- before it have none.
   pub data IsRecordingFault (bytes : Text) : ℕ → ScriptFault → Type 0 where
     too_long : most_bytes < length bytes → IsRecordingFault bytes 0 TooLong
     in_part : (number : ℕ) (first rest : List Text) (text : Text) (before : List RecordedPart) (fault : ScriptFault)

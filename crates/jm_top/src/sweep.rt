@@ -69,7 +69,8 @@ fn pieces_of<R: Threads + Sync>(
 ) -> Result<Vec<Result<Piece, ScriptError>>, AllocError>
     requires { All (CanReplay library.now bytes.now) spans.now }
     ensures { IfOk result (λ pieces. AllZip
-        (λ span piece. IfOk piece (IsPieceOf (specs_in library.now) 0 (span_text bytes.now span))) spans.now pieces.items) }
+        (λ span piece. IfOk piece (IsPieceOf (specs_in library.now) 0 (span_text bytes.now span)))
+        spans.now pieces.items) }
 {
     spans
         .par_iter()
@@ -118,7 +119,8 @@ fn put_together(
     requires small { length bytes.now ≤ most_bytes }
     requires replayable { All (CanReplay library.now bytes.now) spans.now }
     requires pieces { AllZip
-        (λ span piece. IfOk piece (IsPieceOf (specs_in library.now) 0 (span_text bytes.now span))) spans.now pieces.now }
+        (λ span piece. IfOk piece (IsPieceOf (specs_in library.now) 0 (span_text bytes.now span)))
+        spans.now pieces.now }
     ensures ok { IfOk result (λ text. IsSweptWhole (specs_in library.now) bytes.now text.items) }
     ensures err { IfErr result (IsNoRecordingIn (specs_in library.now) bytes.now) }
 {
