@@ -9,3 +9,4 @@ pub mod HistorySteps
 pub mod JobTold
 pub mod FaultLemmas
 pub mod TokenLemmas
+pub mod PartLemmas

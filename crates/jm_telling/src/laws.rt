@@ -1,17 +1,21 @@
 //! What holds of the histories of all accepted commands, of the first faults of all files, and of the tokens of all
 //! specifications.
 ghost use Rattle.std.specs.Prelude.{◌≡◌, ℕ, List, Option, map};
+ghost use Rattle.std.specs.List.{AllZip};
 ghost use Rattle.jm_model.specs.declared.fault.ScriptFault.{ScriptFault};
 ghost use Rattle.jm_model.specs.declared.fault.SpecFault.{SpecFault};
 ghost use Rattle.jm_model.specs.declared.step.Entry.{Entry};
 ghost use Rattle.jm_script.specs.declared.script.ScriptLine.{ScriptLine};
 ghost use Rattle.jm_cli.specs.Words.{CommandWords};
 ghost use Rattle.jm_print.specs.Told.{HaveNames, AreToldBy, texts_of};
+ghost use Rattle.jm_sweep.specs.Recordings.{parts_of};
 ghost use Rattle.jm_top.specs.Specifications.{Specification, IsSpecFault};
 ghost use Rattle.jm_top.specs.Scripts.{IsScriptFault};
+ghost use Rattle.jm_top.specs.Recordings.{RecordedPart, IsRecording};
 ghost use Rattle.jm_top.specs.Histories.{AreHistoriesFrom, lexicon};
 ghost use Rattle.jm_top.specs.Jobs.{IsJob, Accepted};
 ghost use Rattle.jm_telling.specs.FirstFaults.{IsSameFault};
+ghost use Rattle.jm_telling.specs.Parts.{IsPartAlone};
 ghost use Rattle.jm_telling.specs.TokenLaws.{TokensTile, WordsAreMaximal, MarksAreLongest};
 
 /// The names of an accepted command are fit to be printed: in each of its specifications the parameters, the events and
@@ -41,6 +45,13 @@ pub fn text_tells_histories()
         → AreHistoriesFrom 0 specs scripts others
         → texts_of (map (lexicon objects) specs) hs ≡ texts_of (map (lexicon objects) specs) others
         → hs ≡ others }
+{}
+
+/// Each part of an accepted recording is a script by itself, with the same steps and objects as behind the parts before
+/// it. So its text in `sweep` is one that `replay` writes for a file of the part's bytes.
+pub fn parts_are_scripts()
+    ensures { (specs : List Specification) (bytes : List ℕ) (parts : List RecordedPart)
+        → IsRecording specs bytes parts → AllZip (IsPartAlone specs) (parts_of bytes) parts }
 {}
 
 /// The first fault of a script is one, over the same specifications and behind the same scripts.

@@ -9,6 +9,6 @@
 mod laws;
 
 pub use laws::{
-    inputs_have_names, marks_are_longest, one_script_fault, one_spec_fault, text_tells_histories,
-    tokens_tile, words_are_maximal,
+    inputs_have_names, marks_are_longest, one_script_fault, one_spec_fault, parts_are_scripts,
+    text_tells_histories, tokens_tile, words_are_maximal,
 };

@@ -129,11 +129,11 @@ module _ (catalog : List CatalogEntry) (count less : ℕ) (line : ℕ) (names : 
   unfolding line_meaning
   line_later bytes e room = words_later (words_of bytes) e room
 
-with_line_fault : (line : ℕ) (target : Option Target) (m : ScriptMeaning) → (with_line line target m).fault ≡ m.fault
+pub with_line_fault : (line : ℕ) (target : Option Target) (m : ScriptMeaning) → (with_line line target m).fault ≡ m.fault
 with_line_fault line None m = refl
 with_line_fault line (Some target) m = refl
 
-with_line_length : (line : ℕ) (target : Option Target) (m : ScriptMeaning) → length (with_line line target m).lines ≡ steps_of target + length m.lines
+pub with_line_length : (line : ℕ) (target : Option Target) (m : ScriptMeaning) → length (with_line line target m).lines ≡ steps_of target + length m.lines
 with_line_length line None m = omega arith
 with_line_length line (Some target) m = omega arith
 
@@ -158,14 +158,14 @@ module _ (catalog : List CatalogEntry) where
           let same = lines_later (count + steps_of m.target) (less + steps_of m.target) (n + 1) m.names lines whole (omega (arith, long, room)) in
           ap (λ r. led_by n count names r (λ c o. lines_meaning catalog c (n + 1) o lines)) there ∙ ap (with_line n m.target) same ∙ sym here
 
-  script_later : (count : ℕ) (bytes : List ℕ) (names : List (List ℕ)) → (script_meaning catalog 0 bytes names).fault ≡ None → count + length (script_meaning catalog 0 bytes names).lines ≤ 200000 → script_meaning catalog count bytes names ≡ script_meaning catalog 0 bytes names
+  pub script_later : (count less : ℕ) (bytes : List ℕ) (names : List (List ℕ)) → (script_meaning catalog less bytes names).fault ≡ None → count + length (script_meaning catalog less bytes names).lines ≤ 200000 → script_meaning catalog count bytes names ≡ script_meaning catalog less bytes names
   unfolding script_meaning
-  script_later count bytes names sound room = lines_later count 0 1 names _ sound room
+  script_later count less bytes names sound room = lines_later count less 1 names _ sound room
 
--- a script that is sound by itself is so after other steps, if there is room for its own
-pub sound_later : (specs : List Specification) (count : ℕ) (bytes : List ℕ) (script : List ScriptLine) (objects : List (List ℕ)) → IsScript specs 0 [] bytes script objects → count + length script ≤ 200000 → IsScript specs count [] bytes script objects
-sound_later specs count bytes script objects h room =
-    let same = script_later (catalog_of specs) count bytes [] h.sound (omega (arith, room, ap (λ v. length v) h.lines)) in
+-- a script that is sound after some steps is so after others, if there is room for its own
+pub sound_later : (specs : List Specification) (count less : ℕ) (bytes : List ℕ) (script : List ScriptLine) (objects : List (List ℕ)) → IsScript specs less [] bytes script objects → count + length script ≤ 200000 → IsScript specs count [] bytes script objects
+sound_later specs count less bytes script objects h room =
+    let same = script_later (catalog_of specs) count less bytes [] h.sound (omega (arith, room, ap (λ v. length v) h.lines)) in
     record {
       small = h.small;
       sound = ap (λ (m : ScriptMeaning). m.fault) same ∙ h.sound;

@@ -99,7 +99,7 @@ pub early_part : (specs : List Specification) (count : ℕ) (bytes : List ℕ) (
 early_part specs count bytes piece old new count_then is room counted added = record {
   part = is.part;
   text = piece.text.items;
-  said = sound_later specs count bytes is.part.script is.part.objects is.said (omega (arith, room, is.counted));
+  said = sound_later specs count 0 bytes is.part.script is.part.objects is.said (omega (arith, room, is.counted));
   counted = counted ∙ ap (λ n. count + n) is.counted;
   few = omega (arith, room, counted);
   added = added;

@@ -21,14 +21,14 @@ use std::thread::Threads;
 ///
 /// The order of work, and of refusals, is: the words; each specification in order, loaded, read and compiled; each
 /// script in order, loaded and read, or the recording, loaded, and each of its parts in order, read; their steps; the
-/// whole text; the text given to `out`; and last, where the status
-/// isn't `Done`, its text given to `err`. Want of memory may end the work at any point.
+/// whole text; the text given to `out`; and last, where the status isn't `Done`, its text given to `err`. Out of memory
+/// may end the work at any point.
 ///
 /// At `Done` the text is that of the command's job. For `replay` and `run` it is, for each specification in order, a
 /// printed history that is legal for what the specification means, and an interleaving of the scripts' steps for it;
-/// for `gen` the summaries of such histories over the workload's files; for `check` what the specifications declare,
-/// and for `coenable` their families. For `sweep` it is, for each part of the recording in order, a text of `replay` for
-/// that part, whatever number of threads works. A refusal is the job's first fault in the order of work. `ReadFailed` and
+/// for `sweep` such a text of `replay` for each part of the recording, in order, whatever number of threads works; for
+/// `gen` the summaries of such histories over the workload's files; for `check` what the specifications declare, and
+/// for `coenable` their families. A refusal is the job's first fault in the order of work. `ReadFailed` and
 /// `WriteFailed` come only where the folder or the sink counted a fault. So where the job has no fault, it is told what
 /// the files hold, and no fault was counted, the whole text was written, or memory was short.
 pub fn jmop<R: Threads + Wait + Sync, F: Folder, S: Sink, E: Sink, G: Gate>(

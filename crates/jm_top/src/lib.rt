@@ -1,8 +1,8 @@
 //! The top call: a command from the words of its command line to its status.
 //!
 //! `jmop` reads the words, loads the files from a folder, does the command, and writes its text to a sink and what went
-//! wrong to another. It knows `replay`, `run`, `check`, `coenable`, `gen` and `sweep`, over all four logics and over scripts of
-//! events, deaths and passes.
+//! wrong to another. It knows `replay`, `run`, `check`, `coenable`, `gen` and `sweep`, over all four logics and over
+//! scripts of events, deaths and passes.
 //!
 //! What a command is to do stands in `specs`, apart from how it is done: `Jobs.antt` says what its words and the
 //! contents of its files ask for or which fault is the first, `Inputs.antt` what files say one behind the other, and
