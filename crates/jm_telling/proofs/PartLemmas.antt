@@ -14,20 +14,24 @@ use Rattle.jm_top.proofs.RecordingLemmas.{with_line_fault, with_line_length, sou
 use Rattle.jm_telling.specs.Parts.{IsPartAlone}
 
 module _ (catalog : List CatalogEntry) where
+  -- a line in front of lines that keep within the limit of steps
+  few_before : (count n : ℕ) (names : List (List ℕ)) (bytes : List ℕ) (lines : List (List ℕ)) → length names ≤ 65536 → count ≤ 200000
+      → ((c : ℕ) (o : List (List ℕ)) → length o ≤ 65536 → c ≤ 200000 → (lines_meaning catalog c (n + 1) o lines).fault ≡ None → c + length (lines_meaning catalog c (n + 1) o lines).lines ≤ 200000)
+      → (r : Result LineMeaning ScriptFault) → line_meaning catalog count n bytes names ≡ r → (lines_meaning catalog count n names (bytes ∷ lines)).fault ≡ None → count + length (lines_meaning catalog count n names (bytes ∷ lines)).lines ≤ 200000
+  few_before count n names bytes lines few room behind (Err fault) e sound = absurd (never_some (sym sound ∙ ap (λ r. (led_by n count names r (λ c o. lines_meaning catalog c (n + 1) o lines)).fault) e))
+  few_before count n names bytes lines few room behind (Ok m) e sound =
+      let kept = line_keeps catalog count n bytes names m few room e in
+      let after = lines_meaning catalog (count + steps_of m.target) (n + 1) m.names lines in
+      let here : lines_meaning catalog count n names (bytes ∷ lines) ≡ with_line n m.target after = ap (λ r. led_by n count names r (λ c o. lines_meaning catalog c (n + 1) o lines)) e in
+      let whole : after.fault ≡ None = sym (with_line_fault n m.target after) ∙ ap (λ (x : ScriptMeaning). x.fault) (sym here) ∙ sound in
+      let long = ap (λ (x : ScriptMeaning). length x.lines) here ∙ with_line_length n m.target after in
+      omega (arith, long, behind (count + steps_of m.target) m.names kept.few kept.room whole)
+
   -- lines without a fault keep within the limit of steps
   few_steps : (count n : ℕ) (names lines : List (List ℕ)) → length names ≤ 65536 → count ≤ 200000 → (lines_meaning catalog count n names lines).fault ≡ None → count + length (lines_meaning catalog count n names lines).lines ≤ 200000
   few_steps count n names [] few room sound = omega (arith, room)
-  few_steps count n names (bytes ∷ lines) few room sound = by_case (line_meaning catalog count n bytes names) refl
-    where
-      by_case : (r : Result LineMeaning ScriptFault) → line_meaning catalog count n bytes names ≡ r → count + length (lines_meaning catalog count n names (bytes ∷ lines)).lines ≤ 200000
-      by_case (Err fault) e = absurd (never_some (sym sound ∙ ap (λ r. (led_by n count names r (λ c o. lines_meaning catalog c (n + 1) o lines)).fault) e))
-      by_case (Ok m) e =
-          let kept = line_keeps catalog count n bytes names m few room e in
-          let after = lines_meaning catalog (count + steps_of m.target) (n + 1) m.names lines in
-          let here : lines_meaning catalog count n names (bytes ∷ lines) ≡ with_line n m.target after = ap (λ r. led_by n count names r (λ c o. lines_meaning catalog c (n + 1) o lines)) e in
-          let whole : after.fault ≡ None = sym (with_line_fault n m.target after) ∙ ap (λ (x : ScriptMeaning). x.fault) (sym here) ∙ sound in
-          let long = ap (λ (x : ScriptMeaning). length x.lines) here ∙ with_line_length n m.target after in
-          omega (arith, long, few_steps (count + steps_of m.target) (n + 1) m.names lines kept.few kept.room whole)
+  few_steps count n names (bytes ∷ lines) few room sound =
+      few_before count n names bytes lines few room (λ c o. few_steps c (n + 1) o lines) (line_meaning catalog count n bytes names) refl sound
 
   few_in_script : (count : ℕ) (bytes : List ℕ) → count ≤ 200000 → (script_meaning catalog count bytes []).fault ≡ None → count + length (script_meaning catalog count bytes []).lines ≤ 200000
   unfolding script_meaning

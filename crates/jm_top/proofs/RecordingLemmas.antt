@@ -1,14 +1,16 @@
 -- The parts of a recording, one after another.
-use Rattle.std.proofs.Common.{◌≡◌, ℕ, ◌+◌, ◌<◌, ◌≤◌, Bool, true, false, List, [], ◌∷◌, ◌++◌, length, Option, Some, None, Result, Ok, Err, if◌then◌else◌, nat_lt, nat_le, refl, sym, ap, subst, ◌∙◌, arith, append_assoc, append-nil}
+use Rattle.std.proofs.Common.{◌≡◌, ℕ, ◌+◌, ◌<◌, ◌≤◌, Bool, true, false, List, [], ◌∷◌, ◌++◌, length, Option, Some, None, Result, Ok, Err, if◌then◌else◌, nat_lt, nat_le, slice_index, refl, sym, ap, subst, ◌∙◌, arith, append_assoc, append-nil}
 use Rattle.std.proofs.lemmas.Bool.{lt-ltb}
 use Rattle.jm_model.specs.declared.fault.ScriptFault.{ScriptFault}
 use Rattle.jm_lines.specs.Lines.{words_of}
-use Rattle.jm_script.specs.Catalogs.{CatalogEntry}
-use Rattle.jm_script.specs.Events.{named_event}
+use Rattle.jm_events.specs.Names.{number_of}
+use Rattle.jm_script.specs.Catalogs.{CatalogEntry, spec_names}
+use Rattle.jm_script.specs.Events.{named_event, spread}
 use Rattle.jm_script.specs.Meanings.{LineMeaning, ScriptMeaning, mentioning, event_meaning, pass_meaning, step_meaning, statement_meaning, words_meaning, line_meaning, with_line, steps_of, led_by, lines_meaning, script_meaning}
 use Rattle.jm_script.specs.Statements.{Statement, Event, Death, Pass, statement_of}
 use Rattle.jm_script.specs.declared.event.NamedEvent.{NamedEvent}
 use Rattle.jm_script.specs.declared.script.Target.{Target}
+use Rattle.jm_script.specs.declared.script.Target.TheVariants as target
 use Rattle.jm_script.specs.declared.script.ScriptLine.{ScriptLine}
 use Rattle.jm_script.specs.Objects.{numbers_of, mentioned}
 use Rattle.jm_sweep.specs.Recordings.{parts_of}
@@ -91,7 +93,7 @@ mentions_some line names objects target_of m e =
 
 event_some : (line : ℕ) (names objects : List (List ℕ)) (r : Result NamedEvent ScriptFault) (m : LineMeaning) → event_meaning line names objects r ≡ Ok m → steps_of m.target ≡ 1
 event_some line names objects (Err fault) m e = absurd cc
-event_some line names objects (Ok event) m e = mentions_some line names objects _ m e
+event_some line names objects (Ok event) m e = mentions_some line names objects (λ numbers. target.Event event.spec event.letter (spread 8 event.mask numbers)) m e
 
 pass_some : (line : ℕ) (names : List (List ℕ)) (o : Option ℕ) (m : LineMeaning) → pass_meaning line names o ≡ Ok m → steps_of m.target ≡ 1
 pass_some line names None m e = absurd cc
@@ -102,8 +104,8 @@ pass_some line names (Some spec) m e = ap (λ (x : LineMeaning). steps_of x.targ
 
 step_some : (catalog : List CatalogEntry) (line : ℕ) (names : List (List ℕ)) (statement : Statement) (m : LineMeaning) → step_meaning catalog line names statement ≡ Ok m → steps_of m.target ≡ 1
 step_some catalog line names (Event spec event objects) m e = event_some line names objects (named_event catalog line spec event (length objects)) m e
-step_some catalog line names (Death object) m e = mentions_some line names (object ∷ []) _ m e
-step_some catalog line names (Pass spec) m e = pass_some line names _ m e
+step_some catalog line names (Death object) m e = mentions_some line names (object ∷ []) (λ numbers. target.Death (slice_index numbers 0)) m e
+step_some catalog line names (Pass spec) m e = pass_some line names (number_of (spec_names catalog) spec) m e
 
 module _ (catalog : List CatalogEntry) (count less : ℕ) (line : ℕ) (names : List (List ℕ)) (m : LineMeaning) where
   step_later : (statement : Statement) (b : Bool) → nat_lt less 200000 ≡ b → statement_meaning catalog less line names (Some statement) ≡ Ok m → count + steps_of m.target ≤ 200000 → statement_meaning catalog count line names (Some statement) ≡ Ok m
@@ -138,25 +140,27 @@ with_line_length line None m = omega arith
 with_line_length line (Some target) m = omega arith
 
 module _ (catalog : List CatalogEntry) where
-  -- lines without a fault mean the same after more steps, if there is room for theirs
+  -- a line in front of lines that mean the same after other steps
+  line_before : (count less n : ℕ) (names : List (List ℕ)) (bytes : List ℕ) (lines : List (List ℕ))
+      → ((c k : ℕ) (o : List (List ℕ)) → (lines_meaning catalog k (n + 1) o lines).fault ≡ None → c + length (lines_meaning catalog k (n + 1) o lines).lines ≤ 200000 → lines_meaning catalog c (n + 1) o lines ≡ lines_meaning catalog k (n + 1) o lines)
+      → (r : Result LineMeaning ScriptFault) → line_meaning catalog less n bytes names ≡ r → (lines_meaning catalog less n names (bytes ∷ lines)).fault ≡ None → count + length (lines_meaning catalog less n names (bytes ∷ lines)).lines ≤ 200000
+      → lines_meaning catalog count n names (bytes ∷ lines) ≡ lines_meaning catalog less n names (bytes ∷ lines)
+  line_before count less n names bytes lines behind (Err fault) e sound room = absurd (never_some (sym sound ∙ ap (λ r. (led_by n less names r (λ c o. lines_meaning catalog c (n + 1) o lines)).fault) e))
+  line_before count less n names bytes lines behind (Ok m) e sound room =
+      let after = lines_meaning catalog (less + steps_of m.target) (n + 1) m.names lines in
+      let here : lines_meaning catalog less n names (bytes ∷ lines) ≡ with_line n m.target after = ap (λ r. led_by n less names r (λ c o. lines_meaning catalog c (n + 1) o lines)) e in
+      let whole : after.fault ≡ None = sym (with_line_fault n m.target after) ∙ ap (λ (x : ScriptMeaning). x.fault) (sym here) ∙ sound in
+      let long = ap (λ (x : ScriptMeaning). length x.lines) here ∙ with_line_length n m.target after in
+      let there = line_later catalog count less n names m bytes e (omega (arith, long, room)) in
+      let same = behind (count + steps_of m.target) (less + steps_of m.target) m.names whole (omega (arith, long, room)) in
+      ap (λ r. led_by n count names r (λ c o. lines_meaning catalog c (n + 1) o lines)) there ∙ ap (with_line n m.target) same ∙ sym here
+
+  -- lines without a fault mean the same after other steps, if there is room for theirs
   lines_later : (count less n : ℕ) (names : List (List ℕ)) (lines : List (List ℕ)) → (lines_meaning catalog less n names lines).fault ≡ None → count + length (lines_meaning catalog less n names lines).lines ≤ 200000
       → lines_meaning catalog count n names lines ≡ lines_meaning catalog less n names lines
   lines_later count less n names [] sound room = refl
-  lines_later count less n names (bytes ∷ lines) sound room = by_case (line_meaning catalog less n bytes names) refl
-    where
-      rest : ℕ → ℕ → List (List ℕ) → ScriptMeaning
-      rest c k o = lines_meaning catalog c k o lines
-
-      by_case : (r : Result LineMeaning ScriptFault) → line_meaning catalog less n bytes names ≡ r → lines_meaning catalog count n names (bytes ∷ lines) ≡ lines_meaning catalog less n names (bytes ∷ lines)
-      by_case (Err fault) e = absurd (never_some (sym sound ∙ ap (λ r. (led_by n less names r (λ c o. lines_meaning catalog c (n + 1) o lines)).fault) e))
-      by_case (Ok m) e =
-          let after = lines_meaning catalog (less + steps_of m.target) (n + 1) m.names lines in
-          let here : lines_meaning catalog less n names (bytes ∷ lines) ≡ with_line n m.target after = ap (λ r. led_by n less names r (λ c o. lines_meaning catalog c (n + 1) o lines)) e in
-          let whole : after.fault ≡ None = sym (with_line_fault n m.target after) ∙ ap (λ (x : ScriptMeaning). x.fault) (sym here) ∙ sound in
-          let long = ap (λ (x : ScriptMeaning). length x.lines) here ∙ with_line_length n m.target after in
-          let there = line_later catalog count less n names m bytes e (omega (arith, long, room)) in
-          let same = lines_later (count + steps_of m.target) (less + steps_of m.target) (n + 1) m.names lines whole (omega (arith, long, room)) in
-          ap (λ r. led_by n count names r (λ c o. lines_meaning catalog c (n + 1) o lines)) there ∙ ap (with_line n m.target) same ∙ sym here
+  lines_later count less n names (bytes ∷ lines) sound room =
+      line_before count less n names bytes lines (λ c k o. lines_later c k (n + 1) o lines) (line_meaning catalog less n bytes names) refl sound room
 
   pub script_later : (count less : ℕ) (bytes : List ℕ) (names : List (List ℕ)) → (script_meaning catalog less bytes names).fault ≡ None → count + length (script_meaning catalog less bytes names).lines ≤ 200000 → script_meaning catalog count bytes names ≡ script_meaning catalog less bytes names
   unfolding script_meaning

@@ -1,6 +1,6 @@
 -- A part of a recording, from its bytes to its text.
 use Rattle.std.proofs.Common.{◌≡◌, ℕ, zero, suc, ◌+◌, ◌<◌, ◌≤◌, List, [], ◌∷◌, ◌++◌, length, get_or, take, drop, map, Option, Some, Result, Ok, Err, slice_get, refl, sym, ap, subst, ◌∙◌, arith, ◌-◌, length-take, length-drop}
-use Rattle.std.specs.Prelude.{All, IfOk, IfErr, option_map}
+use Rattle.std.specs.Prelude.{All, IfOk, IfErr, OnOk, option_map}
 use Rattle.std.specs.List.{AllZip}
 use Rattle.std.proofs.lemmas.List.{take-append-drop, take_more, drop_more, map-append, length-map, take_all, length-take-le}
 use Rattle.std.proofs.lemmas.List.Elements.{All-weaker}
@@ -41,7 +41,7 @@ pub is_replay : (m : Meaning) (steps : List (ℕ × Step)) (h : List Entry) → 
 is_replay m steps h is = record { legal = is.legal; woven = woven steps h is.each is.done }
 
 pub can_replay : (library : Library) (bytes : List ℕ) → IsOfOne library → length bytes ≤ most_bytes → (spans : List (ℕ × ℕ)) → All (LiesWithin bytes) spans → All (CanReplay library bytes) spans
-can_replay library bytes one small spans within = All-weaker (LiesWithin bytes) (CanReplay library bytes) (λ span h. record { library = one; small = small; within = h }) spans within
+can_replay library bytes one small spans within = All-weaker (LiesWithin bytes) (CanReplay library bytes) (λ span h. record { of_one = one; small = small; within = h }) spans within
 
 pub are_replays : {E : Type 0} (m : Meaning) (steps : List (ℕ × Step)) (r : Result (List Entry) E) → IfOk r (λ h. IsReplayOfPart m steps h) → IfOk r (λ h. IsReplayOf m steps h)
 are_replays m steps (Ok h) is = is_replay m steps h is
@@ -118,6 +118,17 @@ late_part specs count bytes piece old new count_then is room counted added = rec
   added = added;
   is_text = is.is_text;
 }
+
+-- its text was added, where there was memory
+pub early_added : (specs : List Specification) (count : ℕ) (bytes : List ℕ) (piece : Piece) (old new : List ℕ) (r : Result ℕ Status) → IsPieceOf specs 0 bytes piece → count + piece.steps ≤ 200000 → IfOk r (λ n. n ≡ count + piece.steps) → OnOk r (new ≡ old ++ piece.text.items)
+    → IfOk r (HasPart specs count bytes old new)
+early_added specs count bytes piece old new (Ok n) is room counted added = early_part specs count bytes piece old new n is room counted added
+early_added specs count bytes piece old new (Err e) is room counted added = tt
+
+pub late_added : (specs : List Specification) (count : ℕ) (bytes : List ℕ) (piece : Piece) (old new : List ℕ) (r : Result ℕ Status) → IsPieceOf specs count bytes piece → count + piece.steps ≤ 200000 → IfOk r (λ n. n ≡ count + piece.steps) → OnOk r (new ≡ old ++ piece.text.items)
+    → IfOk r (HasPart specs count bytes old new)
+late_added specs count bytes piece old new (Ok n) is room counted added = late_part specs count bytes piece old new n is room counted added
+late_added specs count bytes piece old new (Err e) is room counted added = tt
 
 -- ---- the loop over the parts
 

@@ -17,7 +17,7 @@ pub record IsOfOne (library : Library) : Type 0 where
 
 -- the bytes of a span can be replayed over the specification of the library
 pub record CanReplay (library : Library) (bytes : Text) (span : ℕ × ℕ) : Type 0 where
-  pub library : IsOfOne library
+  pub of_one : IsOfOne library
   pub small : length bytes ≤ most_bytes
   pub within : LiesWithin bytes span
 

@@ -1,3 +1,8 @@
 use Rattle.std.proofs.Common.{arith}
-use Rattle.jm_top.proofs.SweepLemmas.{early_part, late_part}
+use Rattle.jm_top.specs.Reading.{specs_in}
+use Rattle.jm_top.proofs.SweepLemmas.{early_added}
 use Rattle.jm_top.proofs.sweep.add_part.Goals as goal
+
+pub returns-in-Ok-clause-ok : goal.returns-in-Ok-clause-ok
+returns-in-Ok-clause-ok c =
+    early_added (specs_in c.args.library.now) c.args.count c.args.part.now c.in-Ok.piece c.args.text.now.items c.add_piece.new.text.items c.add_piece.result (rw c.in-Ok.is at c.requires.piece) (omega (arith, c.if-piece-count.true, c.requires.few)) c.add_piece.ensures.value c.add_piece.ensures.text

@@ -18,7 +18,7 @@ part_of-requires c =
     can.within
 
 pub add_part-requires-clause-library : goal.add_part-requires-clause-library
-add_part-requires-clause-library c = (c.requires.replayable c.loop-span.span-index c.span-item.result c.loop-span-test.true).library
+add_part-requires-clause-library c = (c.requires.replayable c.loop-span.span-index c.span-item.result c.loop-span-test.true).of_one
 
 pub add_part-requires-clause-small : goal.add_part-requires-clause-small
 add_part-requires-clause-small c =

@@ -18,7 +18,7 @@ pub printed_part-requires-clause-steps : goal.printed_part-requires-clause-steps
 printed_part-requires-clause-steps c =
     let library = c.args.library.now in
     let own = c.in_ok-steps.ensures.fitting (catalog_of (specs_in library)) (length c.args.objects.now) c.requires.fits in
-    part_fits library c.requires.library c.index.result.now c.index.ensures c.name.result.now c.table.result.now c.name.ensures c.table.ensures c.args.objects.now c.in_ok-steps.steps.items own _ c.len.ensures
+    part_fits library c.requires.library c.index.result.now c.index.ensures c.name.result.now c.table.result.now c.name.ensures c.table.ensures c.args.objects.now c.in_ok-steps.steps.items own _ c.len.ensures.value
 
 pub printed_part-requires-clause-printable : goal.printed_part-requires-clause-printable
 printed_part-requires-clause-printable c = λ h is.
