@@ -1,5 +1,5 @@
 -- The commands, by what was read.
-use Rattle.std.proofs.Common.{◌≡◌, ℕ, inl, inr, Bool, true, false, ◌&&◌, List, [], ◌∷◌, ◌++◌, length, Option, Some, None, Result, Ok, Err, IfOk, refl, sym, ap, subst, ◌∙◌}
+use Rattle.std.proofs.Common.{◌≡◌, ℕ, inl, inr, Bool, true, false, ◌&&◌, List, [], ◌∷◌, ◌++◌, length, Option, Some, None, Result, Ok, Err, IfOk, IfErr, refl, sym, ap, subst, ◌∙◌}
 use Rattle.std.specs.Prelude.{All, map, option_map, if◌then◌else◌}
 use Rattle.std.specs.List.{flat_map}
 use Rattle.std.specs.Global.{Vec}
@@ -43,8 +43,8 @@ module _ (contents later : List ℕ → Option (List ℕ)) (same : (name : List 
   scripts_before specs sources scripts h = subst (λ (v : List ℕ → Option (List ℕ)). AreScriptsOf v specs sources scripts) held h
 
   -- nor was a file loaded, or what it gives
-  pub not_loaded_before : (name : List ℕ) (number : ℕ) (too_long status : Status) → IsNotLoaded later name number too_long status → IsNotLoaded contents name number too_long status
-  not_loaded_before name number too_long status h = subst (λ (v : List ℕ → Option (List ℕ)). IsNotLoaded v name number too_long status) held h
+  pub not_loaded_before : (name : List ℕ) (number : ℕ) (long status : Status) → IsNotLoaded later name number long status → IsNotLoaded contents name number long status
+  not_loaded_before name number long status h = subst (λ (v : List ℕ → Option (List ℕ)). IsNotLoaded v name number long status) held h
 
   pub given_before : (name bytes : List ℕ) → Gives later (Named name) bytes → Gives contents (Named name) bytes
   given_before name bytes h = subst (λ (v : List ℕ → Option (List ℕ)). Gives v (Named name) bytes) held h
@@ -157,6 +157,11 @@ module _ (contents : List ℕ → Option (List ℕ)) where
     told = made.said;
     is_text = made.is_text;
   })
+
+  pub sweep_carried_out : (spec recording bytes : List ℕ) (library : Library) (r : Result (Vec ℕ) Status) → IsLibraryOf contents false (named (spec ∷ [])) library → Gives contents (Named recording) bytes → IfOk r (λ text. IsSweptWhole (specs_in library) bytes text.items)
+      → IfErr r (IsNoRecordingIn (specs_in library) bytes) → IsCarriedOut contents (Sweep spec recording) r
+  sweep_carried_out spec recording bytes library (Ok text) read given made none = sweep_made spec recording bytes text.items library read given made
+  sweep_carried_out spec recording bytes library (Err status) read given made none = sweep_faulty spec recording bytes library status read given none
 
   -- what was read of files that are those of a workload
   pub inputs_are : (n : ℕ) (specs scripts : List (List ℕ)) (r : Result Inputs Status) → specs ≡ workload_specs → scripts ≡ workload_scripts n → IfOk r (AreInputsOf contents (given_files specs) (given_files scripts))

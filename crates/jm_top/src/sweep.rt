@@ -67,7 +67,7 @@ fn pieces_of<R: Threads + Sync>(
     bytes: &[u8],
     spans: &[(u32, u32)],
 ) -> Result<Vec<Result<Piece, ScriptError>>, AllocError>
-    requires { All (CanReplay library.now bytes.now) spans.now }
+    requires replayable { All (CanReplay library.now bytes.now) spans.now }
     ensures { IfOk result (λ pieces. AllZip
         (λ span piece. IfOk piece (IsPieceOf (specs_in library.now) 0 (span_text bytes.now span)))
         spans.now pieces.items) }
@@ -94,13 +94,13 @@ fn early_piece(
     requires { CanReplay library.now bytes.now span }
     ensures { IfOk result (IsPieceOf (specs_in library.now) 0 (span_text bytes.now span)) }
 {
-    piece_of(alloc, library, part_of(bytes, span), 0)
+    piece_of(alloc, library, part_of(bytes, &span), 0)
 }
 
 /// The bytes of a part.
-fn part_of(bytes: &[u8], span: (u32, u32)) -> &[u8]
-    requires { LiesWithin bytes.now span }
-    ensures { result.now ≡ span_text bytes.now span }
+fn part_of<'a>(bytes: &'a [u8], span: &(u32, u32)) -> &'a [u8]
+    requires { LiesWithin bytes.now span.now }
+    ensures { result.now ≡ span_text bytes.now span.now }
 {
     &bytes[span.0 as usize..span.1 as usize]
 }
@@ -126,12 +126,10 @@ fn put_together(
 {
     let mut text = Vec::new(alloc);
     let mut count = 0;
-    let mut number = 0;
-    for span in spans {
-        let part = part_of(bytes, *span);
-        let piece = &pieces[number as usize];
-        count = add_part(alloc, library, part, number, count, piece, &mut text)?;
-        number += 1;
+    for number in 0..spans.len() {
+        let part = part_of(bytes, &spans[number]);
+        let piece = &pieces[number];
+        count = add_part(alloc, library, part, number as u32, count, piece, &mut text)?;
     }
     Ok(text)
 }

@@ -5,7 +5,7 @@ use Rattle.jm_top.specs.Sources.{Named}
 use Rattle.jm_top.proofs.OneReadingLemmas.{same_err}
 use Rattle.jm_top.proofs.JobLemmas.{risen_before, for_err}
 use Rattle.jm_top.proofs.LibraryLemmas.{library_length}
-use Rattle.jm_top.proofs.CommandLemmas.{not_loaded_before, given_before, sweep_stops, sweep_unloaded, sweep_faulty, sweep_made}
+use Rattle.jm_top.proofs.CommandLemmas.{not_loaded_before, given_before, sweep_stops, sweep_unloaded, sweep_carried_out}
 use Rattle.jm_top.proofs.job.swept.Goals as goal
 
 pub returns-in_err-library-clause-carried_out : goal.returns-in_err-library-clause-carried_out
@@ -30,4 +30,11 @@ returns-in_err-bytes-clause-read_failed g c = λ file is.
 pub sweep-requires-clause-library : goal.sweep-requires-clause-library
 sweep-requires-clause-library g c =
     let many = library_length (λ n. Named n) string_bytes (g.F.Folder.holds c.args.files.now) _ c.from_ref.result.now c.in_ok-library.library c.in_ok-library.ensures.read in
-    record { one = many ∙ c.from_ref.ensures.len; catalogued = c.in_ok-library.ensures.read.catalogued }
+    λ κs within. record { one = many ∙ c.from_ref.ensures.len; catalogued = c.in_ok-library.ensures.read.catalogued }
+
+pub returns-clause-carried_out : goal.returns-clause-carried_out
+returns-clause-carried_out g c =
+    let contents = g.F.Folder.holds c.args.files.now in
+    let later = g.F.Folder.holds c.read_specifications.new.files in
+    sweep_carried_out contents (string_bytes c.args.spec.now) (string_bytes c.args.recording.now) c.in_ok-bytes.bytes.items c.in_ok-library.library c.sweep.result (rw c.from_ref.ensures.value at c.in_ok-library.ensures.read)
+    (given_before contents later c.read_specifications.ensures.same _ _ (rw c.as_str.ensures.value at c.in_ok-bytes.ensures.held)) (rw c.as_slice.ensures.value at c.sweep.ensures.ok) (rw c.as_slice.ensures.value at c.sweep.ensures.err)

@@ -1,4 +1,4 @@
-use Rattle.std.proofs.Common.{◌∙◌}
+use Rattle.std.proofs.Common.{◌∙◌, ap}
 use Rattle.std.specs.Prelude.{IfOk}
 use Rattle.rayon.proofs.ListFacts.{IfOk-then}
 use Rattle.rayon.proofs.ToStd.{slice-AllZip}
@@ -9,6 +9,7 @@ use Rattle.jm_top.proofs.sweep.pieces_of.Goals as goal
 
 pub returns : goal.returns
 returns g c =
+    let slice = ap (λ it. it.base.slice.now) c.map.ensures.base ∙ ap (λ it. it.slice.now) c.with_min_len.ensures.base ∙ c.par_iter.ensures in
     IfOk-then c.collect.result _ _ c.collect.ensures (λ v h.
-        let chain = rw (c.map.ensures.base, c.map.ensures.f, c.with_min_len.ensures.base) at h.1 in
-        rw h.2 (slice-AllZip chain.0 c.args.spans.now (chain.1 ∙ c.par_iter.ensures) (λ span r. IfOk r (IsPieceOf (specs_in c.args.library.now) 0 (span_text c.args.bytes.now span))) h.0 chain.2))
+    let chain = h.1 in
+    rw h.2 (slice-AllZip chain.0 c.args.spans.now (chain.1 ∙ slice) (λ span r. IfOk r (IsPieceOf (specs_in c.args.library.now) 0 (span_text c.args.bytes.now span))) h.0 (rw c.map.ensures.f at chain.2)))

@@ -4,8 +4,5 @@ use Rattle.jm_top.specs.Reading.{specs_in}
 use Rattle.jm_top.specs.Sweeps.{IsSwept}
 use Rattle.jm_top.proofs.sweep.put_together.Given as goal
 
-abbrev pub invariant-loop-span : goal.invariant-loop-span
-invariant-loop-span l = record {
-  numbered : l.number ≡ l.span-index;
-  swept : IsSwept (specs_in l.library) (map (span_text l.bytes) (take l.span-index l.spans)) l.count l.text.items;
-}
+abbrev pub invariant-loop-number : goal.invariant-loop-number
+invariant-loop-number l = IsSwept (specs_in l.library) (map (span_text l.bytes) (take l.number l.spans)) l.count l.text.items
