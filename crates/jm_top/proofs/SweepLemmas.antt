@@ -4,6 +4,7 @@ use Rattle.std.specs.Prelude.{All, IfOk, IfErr, OnOk, option_map}
 use Rattle.std.specs.List.{AllZip}
 use Rattle.std.proofs.lemmas.List.{take-append-drop, take_more, drop_more, map-append, length-map, take_all, length-take-le}
 use Rattle.std.proofs.lemmas.List.Elements.{All-weaker}
+use Rattle.std.proofs.lemmas.Option.{none-some}
 use Rattle.jm_model.specs.Meanings.{Meaning}
 use Rattle.jm_model.specs.declared.fault.ScriptFault.{ScriptFault}
 use Rattle.jm_model.specs.declared.step.Step.{Step}
@@ -33,6 +34,7 @@ use Rattle.jm_top.specs.Recordings.{SayParts, IsRecording}
 use Rattle.jm_top.specs.Replays.{IsReplayOf, IsPrintedReplay}
 use Rattle.jm_top.specs.Causes.{IsNoScriptIn, IsNoRecordingIn}
 use Rattle.jm_top.specs.Sweeps.{IsOfOne, CanReplay, IsPieceOf, HasPart, IsSwept, IsSweptWhole}
+use Rattle.jm_top.proofs.OneReadingLemmas.{same_some}
 use Rattle.jm_top.proofs.HistoryLemmas.{woven, doable, first_of, alone_is, alone_whole, alone_there, replay_printable, replay_text}
 use Rattle.jm_top.proofs.RecordingLemmas.{swept_more, swept_fault, sound_later}
 
@@ -144,6 +146,11 @@ zip_at P [] ys h i x y lt here there = absurd (omega (arith, lt))
 zip_at P (a ∷ xs) [] h i x y lt here there = absurd h
 zip_at P (a ∷ xs) (b ∷ ys) h zero x y lt here there = subst (λ v. P v y) (sym here) (subst (P a) (sym there) h.0)
 zip_at P (a ∷ xs) (b ∷ ys) h (suc i) x y lt here there = zip_at P xs ys h.1 i x y (omega (arith, lt)) here there
+
+pub at_place : {X : Type 0} (xs : List X) (i : ℕ) (x : X) → slice_get xs i ≡ Some x → x ≡ get_or xs i x
+at_place [] i x at = absurd (none-some x at)
+at_place (y ∷ xs) zero x at = sym (same_some at)
+at_place (y ∷ xs) (suc i) x at = at_place xs i x at
 
 module _ (library : Library) (bytes : List ℕ) (spans : List (ℕ × ℕ)) (split : map (span_text bytes) spans ≡ parts_of bytes) where
   -- a turn

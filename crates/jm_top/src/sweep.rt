@@ -1,5 +1,5 @@
 //! Sweeping a recording: each of its parts is read, replayed and printed by itself.
-ghost use Rattle.std.specs.Prelude.{◌≡◌, ◌≤◌, ◌+◌, [], ◌∷◌, ◌++◌, List, All, length, map, IfOk, IfErr, OnOk};
+ghost use Rattle.std.specs.Prelude.{◌≡◌, ◌<◌, ◌≤◌, ◌+◌, [], ◌∷◌, ◌++◌, List, All, length, map, slice_get, Some, IfOk, IfErr, OnOk};
 ghost use Rattle.std.specs.List.{AllZip};
 ghost use Rattle.jm_machine.specs.Meanings.{rules_meaning};
 ghost use Rattle.jm_model.specs.declared.fault.ScriptFault.{ScriptFault};
@@ -94,15 +94,23 @@ fn early_piece(
     requires { CanReplay library.now bytes.now span }
     ensures { IfOk result (IsPieceOf (specs_in library.now) 0 (span_text bytes.now span)) }
 {
-    piece_of(alloc, library, part_of(bytes, &span), 0)
+    piece_of(alloc, library, part_of(bytes, span), 0)
 }
 
 /// The bytes of a part.
-fn part_of<'a>(bytes: &'a [u8], span: &(u32, u32)) -> &'a [u8]
-    requires { LiesWithin bytes.now span.now }
-    ensures { result.now ≡ span_text bytes.now span.now }
+fn part_of(bytes: &[u8], span: (u32, u32)) -> &[u8]
+    requires { LiesWithin bytes.now span }
+    ensures { result.now ≡ span_text bytes.now span }
 {
     &bytes[span.0 as usize..span.1 as usize]
+}
+
+/// Where the part of this number begins and ends.
+fn span_at(spans: &[(u32, u32)], number: usize) -> (u32, u32)
+    requires { number < length spans.now }
+    ensures { slice_get spans.now number ≡ Some result }
+{
+    spans[number]
 }
 
 /// The texts of these pieces, one after another. A part that has none, or too many steps after those before it, is read
@@ -127,7 +135,8 @@ fn put_together(
     let mut text = Vec::new(alloc);
     let mut count = 0;
     for number in 0..spans.len() {
-        let part = part_of(bytes, &spans[number]);
+        let span = span_at(spans, number);
+        let part = part_of(bytes, span);
         let piece = &pieces[number];
         count = add_part(alloc, library, part, number as u32, count, piece, &mut text)?;
     }
