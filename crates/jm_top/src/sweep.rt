@@ -211,12 +211,7 @@ fn piece_after(
 }
 
 /// The piece of a part that stands after so many steps.
-fn piece_of(
-    alloc: Global,
-    library: &Library,
-    part: &[u8],
-    count: u32,
-) -> Result<Piece, ScriptError>
+fn piece_of(alloc: Global, library: &Library, part: &[u8], count: u32) -> Result<Piece, ScriptError>
     requires library { IsOfOne library.now }
     requires small { length part.now ≤ most_bytes }
     requires few { count ≤ 200000 }
