@@ -34,15 +34,14 @@ fn spans(alloc: Global, text: &[u8]) -> Result<String, NoMemory> {
 }
 
 /// The histories of the parts of a case, over the specification in its text.
-fn replayed<R: Threads + Sync>(
-    rt: &R,
-    alloc: Global,
-    case: &Case,
-) -> Result<String, AllocError> {
+fn replayed<R: Threads + Sync>(rt: &R, alloc: Global, case: &Case) -> Result<String, AllocError> {
     let objects = number_of(case.second.as_str());
     match rules_of(alloc, &case.text) {
         Ok(rules) if case.verb.as_str() == "sweep" => {
-            or_no_memory(alloc, swept(rt, alloc, &rules, objects, case.first.as_str()))
+            or_no_memory(
+                alloc,
+                swept(rt, alloc, &rules, objects, case.first.as_str()),
+            )
         }
         Ok(rules) => or_no_memory(alloc, alone(alloc, &rules, objects, case.first.as_str())),
         Err(fault) => format!(in alloc; "{fault:?}"),
