@@ -1,5 +1,5 @@
 //! The parts of a case.
-ghost use Rattle.std.specs.Prelude.{◌<◌, true, IfSome, IfOk, All};
+ghost use Rattle.std.specs.Prelude.{◌≡◌, ◌<◌, true, IfSome, IfOk, All};
 ghost use Rattle.jm_core.specs.Steps.{IsFitStep};
 ghost use Rattle.jm_sweep.specs.Sweeps.{Fits};
 
