@@ -2,8 +2,9 @@
 use Rattle.std.specs.Prelude.{ℕ, ◌^◌, Bool, ◌&&◌, List, [], ◌∷◌, length, Option, Some, None, Result, Ok, Err, codes, nat_le, bit_or, if◌then◌else◌}
 use Rattle.std.specs.Str.{bytes_eq}
 use Rattle.jm_model.specs.Words.{Text, Mask}
+use Rattle.jm_model.specs.declared.fault.Counted.TheVariants.{Properties}
 use Rattle.jm_model.specs.declared.fault.SpecFault.{SpecFault}
-use Rattle.jm_model.specs.declared.fault.SpecFault.TheVariants.{UnsupportedModifier, UnsupportedAdvice, NoProperty, SecondProperty, UnsupportedLogic}
+use Rattle.jm_model.specs.declared.fault.SpecFault.TheVariants.{UnsupportedModifier, UnsupportedAdvice, NoProperty, TooMany, UnsupportedLogic}
 use Rattle.jm_text.specs.declared.token.Token.{Token}
 use Rattle.jm_text.specs.Spans.{text_of}
 use Rattle.jm_text.specs.Texts.{is_name}
@@ -40,7 +41,7 @@ advice_fault (e ∷ es) = advice_or e.advice (advice_fault es)
 abbrev pub property_fault : List Property → Option SpecFault
 property_fault [] = Some NoProperty
 property_fault (p ∷ []) = None
-property_fault (p ∷ q ∷ ps) = Some (SecondProperty q.logic.line)
+property_fault (p ∷ q ∷ ps) = Some (TooMany Properties)
 
 -- the name that a token of the bytes says, if it says one
 unfoldable pub name_of : Text → Token → Option Text

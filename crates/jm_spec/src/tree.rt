@@ -10,7 +10,7 @@ use crate::frame::Frame;
 use crate::head::Modifier;
 use crate::property::{HandlerText, Property};
 use jm_events::EventTable;
-use jm_model::{SpecError, SpecFault};
+use jm_model::{Counted, SpecError, SpecFault};
 use jm_reading::Items;
 use jm_text::{Token, name};
 use std::alloc::Global;
@@ -122,9 +122,10 @@ fn only_property(properties: Items<Property>) -> Result<Property, SpecError>
     ensures only { IfOk result (λ p. properties ≡ p ∷ []) }
     ensures checked { Checks result (property_fault properties) }
 {
-    if let [_, second, ..] = properties.as_slice() {
-        let line = second.logic.line;
-        return Err(SpecError::Bad(SpecFault::SecondProperty { line }));
+    if let [_, _, ..] = properties.as_slice() {
+        return Err(SpecError::Bad(SpecFault::TooMany {
+            what: Counted::Properties,
+        }));
     }
     match properties.into_vec().pop() {
         Some(property) => Ok(property),

@@ -108,7 +108,6 @@ fn spec_words(fault: &SpecFault) -> &'static str
         SpecFault::UnsupportedModifier { .. } => "unsupported modifier",
         SpecFault::UnsupportedAdvice { .. } => "unsupported advice",
         SpecFault::NoProperty => "no property",
-        SpecFault::SecondProperty { .. } => "second property",
         SpecFault::UnsupportedLogic { .. } => "unsupported logic",
         SpecFault::DuplicateParameter { .. } => "duplicate parameter",
         SpecFault::DuplicateEvent { .. } => "duplicate event",
@@ -119,7 +118,6 @@ fn spec_words(fault: &SpecFault) -> &'static str
         SpecFault::UnknownCategory { .. } => "unknown category",
         SpecFault::NameClash { .. } => "name clash",
         SpecFault::ReservedName { .. } => "reserved name",
-        SpecFault::UnsupportedHandler { .. } => "unsupported handler",
         SpecFault::ResetWithFullBinding { .. } => "reset with full binding",
         SpecFault::UnsupportedSuffix { .. } => "unsupported suffix",
         SpecFault::TooMany { what } => counted_words(what),
@@ -136,7 +134,6 @@ fn spec_line(fault: &SpecFault) -> Option<u32>
         | SpecFault::Syntax { line }
         | SpecFault::UnsupportedModifier { line }
         | SpecFault::UnsupportedAdvice { line }
-        | SpecFault::SecondProperty { line }
         | SpecFault::UnsupportedLogic { line }
         | SpecFault::DuplicateParameter { line }
         | SpecFault::DuplicateEvent { line }
@@ -147,7 +144,6 @@ fn spec_line(fault: &SpecFault) -> Option<u32>
         | SpecFault::UnknownCategory { line }
         | SpecFault::NameClash { line }
         | SpecFault::ReservedName { line }
-        | SpecFault::UnsupportedHandler { line }
         | SpecFault::ResetWithFullBinding { line }
         | SpecFault::UnsupportedSuffix { line } => Some(*line),
         _ => None,
