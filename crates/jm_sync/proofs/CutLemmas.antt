@@ -8,6 +8,7 @@ use Rattle.std.proofs.lemmas.Bool.Decides.{nat_tests}
 use Rattle.std.proofs.lemmas.List.{append-nil, length_push}
 use Rattle.std.proofs.lemmas.List.Elements.{All-nil, All-append, All-push, All-weaker}
 use Rattle.std.proofs.lemmas.List.Splits.{length-slice_split}
+use Rattle.std.proofs.lemmas.List.Sums.{count_by-le-length}
 use Rattle.jm_events.specs.Names.{number_of, with_name}
 use Rattle.jm_events.proofs.NameLemmas.{list_any-number_of, with_name-new}
 use Rattle.jm_lines.specs.Lines.{is_line_feed, first_line, lines_of, lines_left, words_of}
@@ -208,3 +209,24 @@ lines_rise n names (line ∷ lines) = line_rises n names (request_of line) _ (li
 pub script_rises : (names : List (List ℕ)) (bytes : List ℕ) → RisesFrom 1 (sync_lines_of names bytes)
 unfolding sync_lines_of
 script_rises names bytes = lines_rise 1 names (lines_of bytes)
+
+-- ---- how many names there are
+
+length-names_with_more : (names : List (List ℕ)) (r : Option Request) → length (names_with names r) ≤ length names + 1
+length-names_with_more names None = omega arith
+length-names_with_more names (Some r) = by_case (list_any (bytes_eq r.name) names)
+  where
+    by_case : (b : Bool) → length (cond b names (names ++ r.name ∷ [])) ≤ length names + 1
+    by_case true = omega arith
+    by_case false = omega (arith, length-append names (r.name ∷ []))
+
+length-names_behind_more : (names lines : List (List ℕ)) → length (names_behind names lines) ≤ length names + length lines
+length-names_behind_more names [] = omega arith
+length-names_behind_more names (line ∷ lines) =
+    omega (arith, length-names_behind_more (names_with names (request_of line)) lines, length-names_with_more names (request_of line))
+
+-- a script adds at most one name a line, and has at most one line more than bytes
+pub length-names_after : (names : List (List ℕ)) (bytes : List ℕ) → length (names_after names bytes) ≤ length names + length bytes + 1
+unfolding names_after
+length-names_after names bytes =
+    omega (arith, length-names_behind_more names (lines_of bytes), length-slice_split is_line_feed bytes, count_by-le-length is_line_feed bytes)

@@ -1,14 +1,21 @@
-//! The board: items that are taken by whoever waits for them, on one thread and on several.
+//! What is cut of scripts that ask for order, and whether they can be run so. The board: items that are taken by whoever
+//! waits for them, on one thread and on several.
 #![tactic(auto)]
 
+mod rows;
 mod scenes;
 
+use jm_model::NoMemory;
 use jm_sync::GaveUp;
+use rows::{checked, cut_text, many};
 use scenes::{Taken, given_up, handed_over, in_place, shared};
+use std::alloc::Global;
 use std::io;
 
 fn main(rt: HostRuntime) -> io::Result<()> {
     let alloc = rt.alloc();
+    print_rows(&rt, alloc)?;
+    print_many(&rt, alloc)?;
     print_taken(
         &rt,
         "a second post stands in the place of the first",
@@ -25,6 +32,54 @@ fn main(rt: HostRuntime) -> io::Result<()> {
         given_up(&rt, alloc),
     )?;
     print_taken(&rt, "two threads take an item each", shared(&rt, alloc))
+}
+
+/// What is cut of some scripts, and what is wrong with others.
+fn print_rows<R: Print>(rt: &R, alloc: Global) -> io::Result<()> {
+    let row = |text| print_row(rt, text);
+    row(cut_text(
+        alloc,
+        b"  post i\t# i is a name\r\nHasNext.next i\r\nwait i\r\n",
+    ))?;
+    row(cut_text(alloc, b"post a b\npost # a\nwait\n\npost a,b\npost a"))?;
+    row(cut_text(alloc, b"wait b\npost a\nwait b\npasses x"))?;
+    row(checked(alloc, &[b"s\ns\npost ready", b"wait ready\ns"]))?;
+    row(checked(alloc, &[b"post x\nc\nwait x\nwait x\nu"]))?;
+    row(checked(alloc, &[b"c\nwait x\npost x"]))?;
+    row(checked(alloc, &[b"n", b"n\nwait nobody"]))?;
+    row(checked(alloc, &[b"post x", b"n\npost x"]))?;
+    row(checked(alloc, &[b"wait a\npost b", b"wait b\npost a"]))?;
+    row(checked(alloc, &[b"post a\npost a"]))?;
+    row(checked(
+        alloc,
+        &[
+            b"post s\nwait a\npost b",
+            b"wait s\nwait b\npost c",
+            b"wait c\npost a",
+        ],
+    ))?;
+    row(checked(alloc, &[b"wait never", b"post x\npost x"]))
+}
+
+fn print_row<R: Print>(rt: &R, text: Result<String, NoMemory>) -> io::Result<()> {
+    match text {
+        Ok(text) => println!(rt; "{text}"),
+        Err(NoMemory) => println!(rt; "out of memory"),
+    }
+}
+
+/// Scripts with as many lines as there may be, and one line more.
+fn print_many<R: Print>(rt: &R, alloc: Global) -> io::Result<()> {
+    print_row(rt, many_checked(alloc, b"", b""))?;
+    print_row(rt, many_checked(alloc, b"wait n0", b""))?;
+    print_row(rt, many_checked(alloc, b"post n0", b""))?;
+    print_row(rt, many_checked(alloc, b"", b"\npost x"))
+}
+
+/// The same of 65,536 lines with some lines behind them, and another script.
+fn many_checked(alloc: Global, last: &[u8], other: &[u8]) -> Result<String, NoMemory> {
+    let first = many(alloc, 65_536, last)?;
+    checked(alloc, &[&first, other])
 }
 
 /// Prints what was taken, in order of the items.
