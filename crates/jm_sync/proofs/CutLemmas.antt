@@ -7,7 +7,7 @@ use Rattle.std.specs.Str.{bytes_eq}
 use Rattle.std.proofs.lemmas.Bool.Decides.{nat_tests}
 use Rattle.std.proofs.lemmas.List.{append-nil, length_push}
 use Rattle.std.proofs.lemmas.List.Elements.{All-nil, All-append, All-push, All-weaker}
-use Rattle.std.proofs.lemmas.List.Splits.{length-slice_split}
+use Rattle.std.proofs.lemmas.List.Splits.{join_with_byte-slice_split, length-slice_split}
 use Rattle.std.proofs.lemmas.List.Sums.{count_by-le-length}
 use Rattle.jm_events.specs.Names.{number_of, with_name}
 use Rattle.jm_events.proofs.NameLemmas.{list_any-number_of, with_name-new}
@@ -91,6 +91,24 @@ some_line text e = omega (arith, length-slice_split is_line_feed text, ap length
 joined_more : (line : List ℕ) (lines : List (List ℕ)) → (lines ≡ [] → ⊥) → join_with_byte 10 (line ∷ map rest_of_line lines) ≡ (line ++ 10 ∷ []) ++ join_with_byte 10 (map rest_of_line lines)
 joined_more line [] some = absurd (some refl)
 joined_more line (next ∷ lines) some = sym (append_assoc line (10 ∷ []) (join_with_byte 10 (map rest_of_line (next ∷ lines))))
+
+-- a line that is taken out leaves no byte, and the others stay
+length-rest_of_line : (line : List ℕ) → length (rest_of_line line) ≤ length line
+length-rest_of_line line = by_case (is_some (request_of line))
+  where
+    by_case : (b : Bool) → length (cond b [] line) ≤ length line
+    by_case true = omega arith
+    by_case false = omega arith
+
+joined_shorter : (lines : List (List ℕ)) → length (join_with_byte 10 (map rest_of_line lines)) ≤ length (join_with_byte 10 lines)
+joined_shorter [] = omega arith
+joined_shorter (line ∷ []) = length-rest_of_line line
+joined_shorter (line ∷ next ∷ lines) =
+    omega (arith, length-rest_of_line line, joined_shorter (next ∷ lines), length-append (rest_of_line line) (10 ∷ join_with_byte 10 (map rest_of_line (next ∷ lines))), length-append line (10 ∷ join_with_byte 10 (next ∷ lines)))
+
+pub length-rest_of : (bytes : List ℕ) → length (rest_of bytes) ≤ length bytes
+unfolding rest_of
+length-rest_of bytes = omega (arith, joined_shorter (lines_of bytes), ap length (join_with_byte-slice_split 10 bytes))
 
 -- ---- a line more
 

@@ -1,6 +1,6 @@
 use Rattle.std.proofs.Common.{sym, ap, ◌∙◌, arith}
 use Rattle.jm_lines.specs.Lines.{lines_left, bytes_left}
-use Rattle.jm_sync.proofs.CutLemmas.{cut_nothing, few_names, next_line, last_line, all_cut, line_here, none_left, some_left, script_rises}
+use Rattle.jm_sync.proofs.CutLemmas.{cut_nothing, few_names, next_line, last_line, all_cut, line_here, none_left, some_left, length-rest_of, script_rises}
 use Rattle.jm_sync.proofs.cutting.cut.Goals as goal
 
 pub loop-left-init : goal.loop-left-init
@@ -35,3 +35,8 @@ pub returns-clause-rising : goal.returns-clause-rising
 returns-clause-rising c =
     let whole = all_cut _ _ _ _ _ _ _ c.loop-left.invariant.cut (ap lines_left c.in_default.is) in
     rw whole.1 (script_rises c.args.names.now c.args.bytes.now)
+
+pub returns-clause-shorter : goal.returns-clause-shorter
+returns-clause-shorter c =
+    let whole = all_cut _ _ _ _ _ _ _ c.loop-left.invariant.cut (ap lines_left c.in_default.is) in
+    rw whole.0 (length-rest_of c.args.bytes.now)
