@@ -1,5 +1,5 @@
 -- No tokens say two formulas, or a formula and a fault; and no tree says two rules, or rules and a fault.
-use Rattle.std.proofs.Common.{◌≡◌, ℕ, List, length, sym, ap, subst, ◌∙◌}
+use Rattle.std.proofs.Common.{◌≡◌, ℕ, false, List, length, sym, ap, subst, ◌∙◌}
 use Rattle.jm_model.specs.declared.fault.SpecFault.{SpecFault}
 use Rattle.jm_text.specs.declared.token.Token.{Token}
 use Rattle.jm_events.specs.Events.{EventDefinitions}
@@ -41,7 +41,7 @@ module _ (bytes : List ℕ) (tokens : List Token) (table : EventDefinitions) whe
   one_formula Ptltl (Machine x) g h k = absurd h
   one_formula Ptltl (Regular x) g h k = absurd h
   one_formula Ptltl (Grammatical x) g h k = absurd h
-  one_formula Cfg (Grammatical x) (Grammatical y) h k = ap Grammatical (grammar_reading.one_grammar bytes tokens table x y h k)
+  one_formula Cfg (Grammatical x) (Grammatical y) h k = ap Grammatical (grammar_reading.one_grammar bytes tokens table false x y h k)
   one_formula Cfg (Grammatical x) (Machine y) h k = absurd k
   one_formula Cfg (Grammatical x) (Regular y) h k = absurd k
   one_formula Cfg (Grammatical x) (Temporal y) h k = absurd k
@@ -62,7 +62,7 @@ module _ (bytes : List ℕ) (tokens : List Token) (table : EventDefinitions) whe
   formula_or_fault Ptltl (Machine x) fault h k = h
   formula_or_fault Ptltl (Regular x) fault h k = h
   formula_or_fault Ptltl (Grammatical x) fault h k = h
-  formula_or_fault Cfg (Grammatical x) fault h k = grammar_reading.never_both bytes tokens table x fault h k
+  formula_or_fault Cfg (Grammatical x) fault h k = grammar_reading.never_both bytes tokens table false x fault h k
   formula_or_fault Cfg (Machine x) fault h k = h
   formula_or_fault Cfg (Regular x) fault h k = h
   formula_or_fault Cfg (Temporal x) fault h k = h

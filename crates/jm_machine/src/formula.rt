@@ -63,7 +63,7 @@ impl Formula {
                 Ok(Formula::Temporal(past))
             }
             Logic::Cfg => {
-                let grammar = jm_grammar::read(alloc, bytes, tokens, line, &tree.table)?;
+                let grammar = jm_grammar::read(alloc, bytes, tokens, line, &tree.table, false)?;
                 Ok(Formula::Grammatical(grammar))
             }
         }

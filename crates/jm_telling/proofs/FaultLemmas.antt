@@ -1,5 +1,5 @@
 -- The first fault of a script is one, and that of a specification is one but for the line of `Syntax`.
-use Rattle.std.proofs.Common.{◌≡◌, ℕ, ◌⊎◌, inl, inr, Bool, List, length, Option, Some, Err, refl, sym, ap, subst, ◌∙◌, arith}
+use Rattle.std.proofs.Common.{◌≡◌, ℕ, ◌⊎◌, inl, inr, Bool, false, List, length, Option, Some, Err, refl, sym, ap, subst, ◌∙◌, arith}
 use Rattle.std.proofs.lemmas.Bool.{false≢true}
 use Rattle.std.specs.Prelude.{true, false, IsUtf8}
 use Rattle.jm_model.specs.declared.fault.Counted.TheVariants.{Nesting}
@@ -99,7 +99,7 @@ module _ (bytes : List ℕ) (tokens : List Token) (table : EventDefinitions) whe
       one_within (ere_spelling.Spells bytes tokens) (ere_faults.first_fault bytes table) (ere_grammar.one_formula bytes tokens) (is_too_deep bytes 0 tokens) fault other a b
   one_formula_fault Ptltl fault other a b =
       one_within (past_spelling.Spells bytes tokens) (past_faults.first_fault bytes table) (past_grammar.one_formula bytes tokens) (is_too_deep bytes 0 tokens) fault other a b
-  one_formula_fault Cfg fault other a b = one_refused (grammar_spelling.Spells bytes tokens) (grammar_faults.first_fault bytes table) (grammar.one_formula bytes tokens) fault other a b
+  one_formula_fault Cfg fault other a b = one_refused (grammar_spelling.Spells bytes tokens) (grammar_faults.first_fault bytes table false) (grammar.one_formula bytes tokens) fault other a b
 
 -- ---- tables
 
