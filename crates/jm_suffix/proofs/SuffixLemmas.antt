@@ -5,7 +5,7 @@ use Rattle.std.specs.List.{range_with_len}
 use Rattle.std.proofs.lemmas.Bool.{cases_Bool, eqb-true}
 use Rattle.std.proofs.lemmas.Nat.Bits.{bit_at-zero}
 use Rattle.std.proofs.lemmas.List.FromFn.{length-map-range_with_len, length-range_with_len, get_or-range_with_len, get_or-map-range_with_len}
-use Rattle.std.proofs.lemmas.List.Elements.{All-nil, All-cons, All-head, All-tail, All-push, All-weaker, All-map, All-contains, All-contains_itself, Contains-append_left, Contains-append_right, Contains-append_cases, Contains-push, Contains-push_cases}
+use Rattle.std.proofs.lemmas.List.Elements.{All-nil, All-cons, All-head, All-tail, All-append, All-push, All-weaker, All-map, All-contains, All-contains_itself, Contains-append_left, Contains-append_right, Contains-append_cases, Contains-push, Contains-push_cases}
 use Rattle.jm_model.specs.declared.step.Letter.{Letter as LetterType}
 use Rattle.jm_ere.specs.Suffixes.{EndsIn}
 use Rattle.jm_grammar.specs.declared.grammar.GrammarSymbol.{GrammarSymbol}
@@ -255,7 +255,7 @@ module _ (g : GrammarDefinition) (empty letters : ℕ) (exact : (n : ℕ) → Is
   all_front [] back h = All-nil (λ a. a < letters)
   all_front (a ∷ front) back h = All-cons (λ a. a < letters) a front (All-head (λ a. a < letters) a (front ++ back) h) (all_front front back (All-tail (λ a. a < letters) a (front ++ back) h))
 
-  pub same_words : (word : List ℕ) → All (λ a. a < letters) word → Derives new 62 word ↔ EndsIn (IsWord g) word
+  same_words : (word : List ℕ) → All (λ a. a < letters) word → Derives new 62 word ↔ EndsIn (IsWord g) word
   same_words word all = (
     λ t. ends_in t (at_start refl),
     λ h. subst (λ (w : List ℕ). Derives new 62 w) (sym h.2) (begins_anywhere h.0 h.1 (all_front h.0 h.1 (subst (λ (w : List ℕ). All (λ a. a < letters) w) h.2 all)) h.3 h.4),
@@ -312,3 +312,20 @@ module _ (g : GrammarDefinition) (empty letters : ℕ) (exact : (n : ℕ) → Is
 
     pub still_below : AreBelow new letters
     still_below = all_of (λ (p : Production). All (IsBelow letters) p.symbols) new (λ p h. All-weaker IsMade (IsBelow letters) (λ s m. m.1) p.symbols (made_of p h).symbols)
+
+    -- ---- all words
+
+    letters_below : {symbols : List GrammarSymbol} {word : List ℕ} → Trees new symbols word → All (IsBelow letters) symbols → All (λ (a : ℕ). a < letters) word
+    letters_below no_tree h = All-nil (λ (a : ℕ). a < letters)
+    letters_below (leaf {symbols = symbols} {word = word} a t) h =
+        All-cons (λ (x : ℕ). x < letters) a.0 word (All-head (IsBelow letters) (Letter a) symbols h) (letters_below t (All-tail (IsBelow letters) (Letter a) symbols h))
+    letters_below (node {symbols = symbols} n under first rest p is inner t) h =
+        subst (λ (l : List ℕ). All (λ (a : ℕ). a < letters) l) (sym is) (All-append (λ (a : ℕ). a < letters) first rest
+        (letters_below inner (All-contains (λ (q : Production). All (IsBelow letters) q.symbols) new (record { left = n; symbols = under }) still_below p))
+        (letters_below t (All-tail (IsBelow letters) (Nonterminal n) symbols h)))
+
+    pub all_words : (word : List ℕ) → Derives new 62 word ↔ (All (λ letter. letter < letters) word × EndsIn (IsWord g) word)
+    all_words word = (
+      λ t. (letters_below t (All-cons (IsBelow letters) (Nonterminal 62) [] tt (All-nil (IsBelow letters))), ends_in t (at_start refl)),
+      λ h. (same_words word h.0).1 h.1,
+    )

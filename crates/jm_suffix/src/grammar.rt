@@ -18,8 +18,8 @@ pub fn suffix_grammar(alloc: Global, grammar: Grammar, letters: u8) -> Result<Gr
     requires few { IsWithin 31 grammar }
     requires below { AreBelow grammar.productions letters }
     requires most { letters ≤ 32 }
-    ensures words { IfOk result (λ g. (word : List ℕ) → All (λ letter. letter < letters) word
-        → IsWord g word ↔ EndsIn (IsWord grammar) word) }
+    ensures words { IfOk result (λ g. (word : List ℕ) → IsWord g word
+        ↔ (All (λ letter. letter < letters) word × EndsIn (IsWord grammar) word)) }
     ensures below { IfOk result (λ g. AreBelow g.productions letters) }
 {
     let productions = suffixed_productions(alloc, &grammar, letters)?;

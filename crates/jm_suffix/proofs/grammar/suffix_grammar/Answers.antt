@@ -4,7 +4,7 @@ use Rattle.jm_grammar.specs.declared.grammar.Production.{Production}
 use Rattle.jm_grammar.specs.Grammars.{GrammarDefinition, HasSmallNumbers, AreBelow}
 use Rattle.jm_grammar.specs.Meanings.{IsWord}
 use Rattle.jm_ere.specs.Suffixes.{EndsIn}
-use Rattle.jm_suffix.proofs.SuffixLemmas.{same_words, small_numbers, still_below}
+use Rattle.jm_suffix.proofs.SuffixLemmas.{all_words, small_numbers, still_below}
 use Rattle.jm_suffix.proofs.grammar.suffix_grammar.Goals as goal
 
 pub of-requires-clause-numbers : goal.of-requires-clause-numbers
@@ -18,9 +18,9 @@ returns-clause-words c =
     let old = c.args.grammar in
     let letters = c.args.letters in
     IfOk-weaker c.of.result _ _
-    (λ g is. subst (λ (d : GrammarDefinition). (word : List ℕ) → All (λ letter. letter < letters) word → IsWord d word ↔ EndsIn (IsWord old) word)
+    (λ g is. subst (λ (d : GrammarDefinition). (word : List ℕ) → IsWord d word ↔ (All (λ letter. letter < letters) word × EndsIn (IsWord old) word))
     (ap (λ (l : List Production). record { productions = l; start = 62 }) (sym made.2) ∙ sym is)
-    (same_words old made.0 letters made.1 c.requires.few))
+    (all_words old made.0 letters made.1 c.requires.few c.requires.below c.requires.most))
     c.of.ensures.ok
 
 pub returns-clause-below : goal.returns-clause-below
