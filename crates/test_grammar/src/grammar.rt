@@ -25,7 +25,7 @@ fn case_text(alloc: Global, case: &Case) -> Result<String, SpecError> {
 }
 
 fn formula_text(alloc: Global, case: &Case, events: &EventTable) -> Result<String, SpecError> {
-    let suffix = case.verb == "suffix";
+    let suffix = case.verb.as_str() == "suffix";
     let grammar = grammar_of(alloc, events, &case.text, suffix)?;
     match case.verb.as_str() {
         "reduce" => reduced_text(alloc, &grammar),
