@@ -12,8 +12,8 @@ use testkit::{Case, byte_of, text_of};
 use testkit_tokens::{events_of, or_fault, tokens_of};
 
 /// What a case asks of its formula, over its events, or the formula's fault: the start and the productions (`grammar`),
-/// the same without what spells no word (`reduce`), how many productions there are (`size`), the same where the rule may
-/// begin anywhere (`suffix`), or the nonterminals that spell a word of the letters behind the events, by their bits
+/// the same without what spells no word (`reduce`), how many productions there are (`size`), the same where the rule
+/// may begin anywhere (`suffix`), or the nonterminals that spell a word of the letters behind the events, by their bits
 /// (`productive`).
 pub(crate) fn answer(alloc: Global, case: &Case) -> Result<String, AllocError> {
     or_fault(alloc, case_text(alloc, case))
@@ -56,8 +56,8 @@ fn grammar_text(alloc: Global, grammar: &Grammar) -> Result<String, SpecError> {
 }
 
 /// Of the grammar of a case's productions and its start, if its numbers are within the limits: how many productions
-/// there are, what is left without those that spell no word, and the nonterminals that spell a word of these letters, by
-/// their bits.
+/// there are, what is left without those that spell no word, and the nonterminals that spell a word of these letters,
+/// by their bits.
 pub(crate) fn made(alloc: Global, case: &Case) -> Result<String, AllocError> {
     or_fault(alloc, made_shown(alloc, case))
 }
