@@ -38,9 +38,9 @@ use Rattle.jm_machine.specs.Formulas.{category_names, IsRefusedIn, IsTableFault}
 use Rattle.jm_machine.specs.Handlers.{handlers_fault}
 use Rattle.jm_machine.specs.Compiling.{formula_of, IsFaultyTree, in_formula, in_handlers, in_table}
 use Rattle.jm_machine.proofs.ReadingLemmas.{one_formula, formula_or_fault}
-use Rattle.jm_top.specs.Specifications.{Specification, IsSpecFault, too_long, no_tokens, in_frame, in_tree}
-use Rattle.jm_top.specs.Scripts.{IsScriptFault, too_long as script_too_long, in_line}
-use Rattle.jm_top.proofs.OneReadingLemmas.{IsSameTold, same_some, never_some, same_err, one_list, one_frame, one_told, read_moved, handled_moved, letters_moved, tree_has_no_fault, cut_has_no_fault}
+use Rattle.jm_inputs.specs.Specifications.{Specification, IsSpecFault, too_long, no_tokens, in_frame, in_tree}
+use Rattle.jm_inputs.specs.Scripts.{IsScriptFault, too_long as script_too_long, in_line}
+use Rattle.jm_inputs.proofs.OneReadingLemmas.{IsSameTold, same_some, never_some, same_err, one_list, one_frame, one_told, read_moved, handled_moved, letters_moved, tree_has_no_fault, cut_has_no_fault}
 use Rattle.jm_telling.specs.FirstFaults.{IsSyntax, IsSameFault}
 
 -- ---- scripts

@@ -5,12 +5,12 @@ use Rattle.jm_machine.specs.Formulas.{category_names}
 use Rattle.jm_machine.specs.Meanings.{RuleDefinition}
 use Rattle.jm_print.specs.Told.{AreNames, HasNames, HaveNames}
 use Rattle.jm_cli.specs.Words.{CommandWords}
-use Rattle.jm_top.specs.Sources.{Source}
-use Rattle.jm_top.specs.Specifications.{Specification, IsSpecification}
-use Rattle.jm_top.specs.Scripts.{catalog_of}
-use Rattle.jm_top.specs.Inputs.{SaySpecifications, SayScripts}
+use Rattle.jm_inputs.specs.Sources.{Source}
+use Rattle.jm_inputs.specs.Specifications.{Specification, IsSpecification}
+use Rattle.jm_inputs.specs.Scripts.{catalog_of}
+use Rattle.jm_inputs.specs.Inputs.{SaySpecifications, SayScripts}
 use Rattle.jm_top.specs.Histories.{lexicon}
-use Rattle.jm_top.specs.Jobs.{IsJob, Accepted, accepted}
+use Rattle.jm_inputs.specs.Jobs.{IsJob, Accepted, accepted}
 use Rattle.jm_telling.proofs.NameLists.{no_names}
 use Rattle.jm_telling.proofs.TableNames.{HasTableNames, table_names}
 use Rattle.jm_telling.proofs.HandlerNames.{handlers_named}

@@ -9,7 +9,8 @@ use Rattle.jm_print.specs.Told.{texts_of}
 use Rattle.jm_print.specs.Summaries.{summary_text}
 use Rattle.jm_script.specs.declared.script.ScriptLine.{ScriptLine}
 use Rattle.jm_script.specs.Projections.{script_of}
-use Rattle.jm_top.specs.Specifications.{Specification, meaning_of}
+use Rattle.jm_inputs.specs.Specifications.{Specification, meaning_of}
+use Rattle.jm_inputs.specs.Recordings.{RecordedPart}
 
 -- the history is legal for what the specification of this number means, and an interleaving of the scripts' projections
 -- on it
@@ -47,3 +48,11 @@ pub record IsTextOfSummaries (specs : List Specification) (scripts : List (List 
   pub histories : List (List Entry)
   pub each : AreHistoriesFrom 0 specs scripts histories
   pub printed : text ≡ summaries_of specs histories
+
+module _ (specs : List Specification) where
+  -- the text is that of a replay of each part, in order
+  abbrev pub IsTextOfParts : List RecordedPart → Text → Type 0
+  IsTextOfParts [] text = text ≡ []
+  IsTextOfParts (part ∷ parts) text =
+      (first : Text) × (more : Text) × (text ≡ first ++ more)
+      × IsTextOfHistories specs (part.script ∷ []) part.objects first × IsTextOfParts parts more

@@ -6,10 +6,9 @@ use Rattle.jm_semantics.specs.Families.{IsFamily}
 use Rattle.jm_print.specs.Checks.{check_text}
 use Rattle.jm_print.specs.Coenables.{coenable_text}
 use Rattle.jm_cli.specs.Words.CommandWords.{Replay, Run, Check, Coenable, Gen, Sweep}
-use Rattle.jm_top.specs.Specifications.{Specification, meaning_of}
-use Rattle.jm_top.specs.Histories.{IsTextOfHistories, IsTextOfSummaries}
-use Rattle.jm_top.specs.Recordings.{IsTextOfParts}
-use Rattle.jm_top.specs.Jobs.{Job, Refused, Accepted, AcceptedParts}
+use Rattle.jm_inputs.specs.Specifications.{Specification, meaning_of}
+use Rattle.jm_top.specs.Histories.{IsTextOfHistories, IsTextOfSummaries, IsTextOfParts}
+use Rattle.jm_inputs.specs.Jobs.{Job, Refused, Accepted, AcceptedParts}
 
 -- what a specification declares
 abbrev pub declared_text : Specification → Text

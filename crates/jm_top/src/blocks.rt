@@ -5,10 +5,10 @@ ghost use Rattle.jm_machine.specs.Formulas.{is_grammar};
 ghost use Rattle.jm_semantics.specs.Families.{IsFamily};
 ghost use Rattle.jm_top.specs.Texts.{declared_text, IsTextOfFamily, IsTextOfFamilies};
 ghost use Rattle.jm_machine.specs.Meanings.{rules_meaning};
-ghost use Rattle.jm_top.specs.Reading.{named_entry, listing, listed, specification_of, IsWhole};
+ghost use Rattle.jm_inputs.specs.Reading.{named_entry, listing, listed, specification_of, IsWhole};
 
-use crate::specification::Loaded;
 use jm_events::EventTable;
+use jm_inputs::Loaded;
 use jm_machine::Rules;
 use jm_model::{Letter, NoMemory};
 use jm_print::{render_check, render_coenable};

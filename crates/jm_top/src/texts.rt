@@ -2,7 +2,7 @@
 ghost use Rattle.std.specs.Prelude.{◌≡◌, ℕ, Option, IfOk};
 ghost use Rattle.jm_top.specs.FaultTexts.{counted_words, spec_words, spec_line, script_words, script_line, fault_line, unreadable_line, fault_text_of};
 
-use crate::status::Status;
+use jm_inputs::Status;
 use jm_model::{Counted, NoMemory, ScriptFault, SpecFault};
 use std::alloc::Global;
 

@@ -3,7 +3,7 @@ use Rattle.std.specs.Prelude.{IfOk}
 use Rattle.rayon.proofs.ListFacts.{IfOk-then}
 use Rattle.rayon.proofs.ToStd.{slice-AllZip}
 use Rattle.jm_sweep.specs.Recordings.{span_text}
-use Rattle.jm_top.specs.Reading.{specs_in}
+use Rattle.jm_inputs.specs.Reading.{specs_in}
 use Rattle.jm_top.specs.Sweeps.{IsPieceOf}
 use Rattle.jm_top.proofs.sweep.pieces_of.Goals as goal
 
