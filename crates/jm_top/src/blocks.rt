@@ -14,6 +14,7 @@ use jm_model::{Letter, NoMemory};
 use jm_print::{render_check, render_coenable};
 use jm_script::Catalog;
 use std::alloc::Global;
+use std::slice;
 
 /// What each specification declares.
 pub(crate) fn declared(
@@ -53,7 +54,7 @@ fn declared_by(
     render_check(
         alloc,
         name,
-        titles.logic,
+        slice::from_ref(&titles.logic),
         titles.full_binding,
         table,
         loaded.rules.handlers(),
