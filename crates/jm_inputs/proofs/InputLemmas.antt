@@ -1,18 +1,17 @@
 -- What files say, one behind the other.
-use Rattle.std.proofs.Common.{◌≡◌, ℕ, ◌+◌, ◌<◌, Bool, false, ◌&&◌, List, [], ◌∷◌, ◌++◌, length, get_or, take, drop, Option, Some, None, refl, sym, ap, subst, ◌∙◌, arith, append_assoc, append-nil}
+use Rattle.std.proofs.Common.{◌≡◌, ℕ, ◌+◌, ◌<◌, Bool, List, [], ◌∷◌, ◌++◌, length, get_or, take, drop, Option, Some, None, refl, sym, ap, subst, ◌∙◌, arith, append_assoc, append-nil}
 use Rattle.std.specs.Prelude.{map, IfSome, IsSome, option_map}
 use Rattle.std.proofs.lemmas.List.{take-append-drop, take_more, drop_more, map-append, length-map}
 use Rattle.jm_model.specs.declared.fault.SpecFault.{SpecFault}
 use Rattle.jm_model.specs.declared.fault.SpecFault.TheVariants.{DuplicateSpec}
 use Rattle.jm_model.specs.declared.fault.ScriptFault.{ScriptFault}
 use Rattle.jm_events.specs.Names.{number_of}
-use Rattle.jm_machine.specs.Formulas.{is_grammar}
 use Rattle.jm_script.specs.Catalogs.{spec_names}
 use Rattle.jm_script.specs.declared.script.ScriptLine.{ScriptLine}
 use Rattle.jm_inputs.specs.Sources.{Source, Named, Given, Gives, IsTold, AllTold}
 use Rattle.jm_inputs.specs.Specifications.{Specification, IsSpecification}
 use Rattle.jm_inputs.specs.Scripts.{catalog_of, IsScript, IsScriptFault, too_long, in_line}
-use Rattle.jm_inputs.specs.Inputs.{refusal_of, IsAdmitted, IsRefusal, faulty, refused, SaySpecifications, AreReadUpTo, step_count, SayScripts, AreScriptsUpTo}
+use Rattle.jm_inputs.specs.Inputs.{grammar_fault, refusal_of, IsAdmitted, IsRefusal, faulty, refused, SaySpecifications, AreReadUpTo, step_count, SayScripts, AreScriptsUpTo}
 use Rattle.jm_inputs.proofs.OneReadingLemmas.{one_specification, specification_has_no_fault, never_some}
 
 -- ---- lists
@@ -36,14 +35,14 @@ length-sources {S} make g xs = length-map (map g xs) make ∙ length-map xs g
 
 -- ---- specifications
 
-pub not_refused_of : (families : Bool) (before : List Specification) (s : Specification) → (families && is_grammar s.rules.formula) ≡ false → number_of (spec_names (catalog_of before)) s.name ≡ None → refusal_of families before s ≡ None
+pub not_refused_of : (families : Bool) (before : List Specification) (s : Specification) → grammar_fault families s.grammar_line ≡ None → number_of (spec_names (catalog_of before)) s.name ≡ None → refusal_of families before s ≡ None
 not_refused_of families before s known new = rw (known, new) refl
 
 some_mapped : (o : Option ℕ) → IsSome o → option_map (λ earlier. DuplicateSpec) o ≡ Some DuplicateSpec
 some_mapped None h = absurd cc
 some_mapped (Some k) h = refl
 
-pub refused_twice : (families : Bool) (before : List Specification) (s : Specification) → (families && is_grammar s.rules.formula) ≡ false → IsSome (number_of (spec_names (catalog_of before)) s.name) → refusal_of families before s ≡ Some DuplicateSpec
+pub refused_twice : (families : Bool) (before : List Specification) (s : Specification) → grammar_fault families s.grammar_line ≡ None → IsSome (number_of (spec_names (catalog_of before)) s.name) → refusal_of families before s ≡ Some DuplicateSpec
 refused_twice families before s known twice = rw known (some_mapped (number_of (spec_names (catalog_of before)) s.name) twice)
 
 module _ (contents : List ℕ → Option (List ℕ)) (families : Bool) where

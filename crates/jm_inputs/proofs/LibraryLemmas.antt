@@ -4,7 +4,6 @@ use Rattle.std.specs.Prelude.{map, All, IsSome, OnOk}
 use Rattle.std.proofs.lemmas.List.{map-append, length-map, length_push, length-take-le, take_all}
 use Rattle.std.proofs.lemmas.List.Elements.{All-push}
 use Rattle.jm_events.specs.Names.{number_of}
-use Rattle.jm_machine.specs.Formulas.{is_grammar}
 use Rattle.jm_model.specs.declared.fault.SpecFault.{SpecFault}
 use Rattle.jm_model.specs.declared.fault.SpecFault.TheVariants.{DuplicateSpec, UnsupportedLogic}
 use Rattle.jm_model.specs.declared.fault.SpecError.{SpecError}
@@ -16,7 +15,7 @@ use Rattle.jm_inputs.specs.declared.library.Library.{Library}
 use Rattle.jm_inputs.specs.declared.status.Status.{Status}
 use Rattle.jm_inputs.specs.Sources.{Source}
 use Rattle.jm_inputs.specs.Scripts.{catalog_of}
-use Rattle.jm_inputs.specs.Inputs.{refusal_of, IsRefusal, refused, SaySpecifications}
+use Rattle.jm_inputs.specs.Inputs.{grammar_fault, refusal_of, IsRefusal, refused, SaySpecifications}
 use Rattle.jm_inputs.specs.Causes.{IsNoSpec, StopsSpecs}
 use Rattle.jm_inputs.specs.Reading.{listing, listed, listing_of, listed_in, specification_of, IsWhole, IsRead, specs_in, IsCatalogued, HasNext, HasNextFrom, IsLibraryOf}
 use Rattle.jm_inputs.proofs.OneReadingLemmas.{same_err}
@@ -61,7 +60,7 @@ added old new e l before specs catalog whole = record {
 
 module _ (families : Bool) (bytes : List ℕ) (old : Library) (r : Reading) (read : IsRead bytes r) where
   -- what was added is admitted
-  pub next_of : (new : Library) → (families && is_grammar r.loaded.rules.definition.formula) ≡ false → number_of (spec_names (catalog_of (specs_in old))) r.name.now ≡ None
+  pub next_of : (new : Library) → grammar_fault families r.loaded.titles.grammar_line ≡ None → number_of (spec_names (catalog_of (specs_in old))) r.name.now ≡ None
       → listed_in new ≡ listed_in old ++ listing_of r ∷ [] → IsCatalogued new → HasNext families bytes old new
   next_of new known unique more catalogued = record {
     specification = specification_of (listing_of r);
@@ -70,13 +69,11 @@ module _ (families : Bool) (bytes : List ℕ) (old : Library) (r : Reading) (rea
     catalogued = catalogued;
   }
 
-  pub twice_of : (fault : SpecFault) → (families && is_grammar r.loaded.rules.definition.formula) ≡ false → fault ≡ DuplicateSpec → IsSome (number_of (spec_names (catalog_of (specs_in old))) r.name.now) → IsRefusal families (specs_in old) bytes fault
+  pub twice_of : (fault : SpecFault) → grammar_fault families r.loaded.titles.grammar_line ≡ None → fault ≡ DuplicateSpec → IsSome (number_of (spec_names (catalog_of (specs_in old))) r.name.now) → IsRefusal families (specs_in old) bytes fault
   twice_of fault known is twice = refused (specification_of (listing_of r)) read.said (refused_twice families (specs_in old) (specification_of (listing_of r)) known twice ∙ ap (λ f. Some f) (sym is))
 
-  pub grammar_of : (fault : SpecFault) → (families && is_grammar r.loaded.rules.definition.formula) ≡ true → fault ≡ UnsupportedLogic r.loaded.titles.logic_line → IsRefusal families (specs_in old) bytes fault
-  grammar_of fault grammar is =
-      let here : refusal_of families (specs_in old) (specification_of (listing_of r)) ≡ Some (UnsupportedLogic r.loaded.titles.logic_line) = rw grammar refl in
-      refused (specification_of (listing_of r)) read.said (here ∙ ap (λ f. Some f) (sym is))
+  pub grammar_of : (fault : SpecFault) → grammar_fault families r.loaded.titles.grammar_line ≡ Some fault → IsRefusal families (specs_in old) bytes fault
+  grammar_of fault grammar = refused (specification_of (listing_of r)) read.said (rw grammar refl)
 
 nothing_listed : (es : List CatalogEntry) → listed es [] ≡ []
 nothing_listed [] = refl
@@ -138,9 +135,6 @@ new_if_ok (Some k) v h = absurd (never_ok (h refl))
 pub twice_if_err : {V : Type 0} (o : Option ℕ) (e : SpecError) (fault : SpecFault) → e ≡ Bad fault → (IsSome o → ◌≡◌ {A = Result V SpecError} (Err e) (Err (Bad DuplicateSpec))) → (o ≡ None → e ≡ NoMemory) → (fault ≡ DuplicateSpec) × IsSome o
 twice_if_err None e fault is there none = absurd (never_bad (sym is ∙ none refl))
 twice_if_err (Some k) e fault is there none = (same_fault (sym is ∙ same_err (there refl)), refl)
-
-pub bad_is : (e : SpecError) (fault other : SpecFault) → e ≡ Bad fault → e ≡ Bad other → fault ≡ other
-bad_is e fault other is same = same_fault (sym is ∙ same)
 
 -- what holds where a call answers, by all that it ensures then
 pub all_ok : {V E : Type 0} (A B C D : Type 0) (r : Result V E) → (A → B → C → D) → OnOk r A → OnOk r B → OnOk r C → OnOk r D

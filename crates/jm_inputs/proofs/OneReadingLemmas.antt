@@ -17,15 +17,15 @@ use Rattle.jm_spec.specs.declared.frame.Frame.{Frame}
 use Rattle.jm_spec.specs.declared.tree.SpecTree.{SpecTree}
 use Rattle.jm_spec.specs.Faults.{frame_fault}
 use Rattle.jm_spec.specs.Spelling.{Spells}
-use Rattle.jm_spec.specs.Trees.{IsTreeOf, IsTreeOfTokens, IsFaultOfTokens, TellsProperties}
+use Rattle.jm_spec.specs.Trees.{PropertyFacts, properties_of, IsTreeOf, IsTreeOfTokens, IsFaultOfTokens, TellsProperty, TellsProperties}
 use Rattle.jm_spec.proofs.CompleteLemmas.{spelled_is_frame}
 use Rattle.jm_machine.specs.declared.formula.Formula.{Formula}
-use Rattle.jm_machine.specs.Formulas.{category_names, IsTableFault}
-use Rattle.jm_machine.specs.Handlers.{handler_names, handlers_fault, resetting_handlers}
+use Rattle.jm_machine.specs.Formulas.{IsTableFault}
+use Rattle.jm_machine.specs.Handlers.{handlers_fault}
 use Rattle.jm_machine.specs.Meanings.{RuleDefinition, rules_of}
-use Rattle.jm_machine.specs.Compiling.{IsFormula, IsCompiledFrom}
+use Rattle.jm_machine.specs.Compiling.{AreFormulas, properties_said, IsCompiledFrom}
 use Rattle.jm_machine.proofs.ReadingLemmas.{one_rules, rules_or_fault}
-use Rattle.jm_inputs.specs.Specifications.{Specification, IsTold, IsSpecification, BlocksSay, IsSpecFault, too_long, no_tokens, in_frame, in_tree}
+use Rattle.jm_inputs.specs.Specifications.{Specification, logics_of, grammar_line_of, all_handlers, IsTold, IsSpecification, BlocksSay, IsSpecFault, too_long, no_tokens, in_frame, in_tree}
 
 pub same_ok : {X E : Type 0} {x y : X} → ◌≡◌ {A = Result X E} (Ok x) (Ok y) → x ≡ y
 same_ok e = cc
@@ -54,46 +54,37 @@ one_frame bytes tokens other frame f same a b =
 -- what two trees of one frame share
 pub record IsSameTree (a b : SpecTree) : Type 0 where
   pub name : a.name ≡ b.name
-  pub logic : a.logic ≡ b.logic
   pub full : a.full_binding ≡ b.full_binding
   pub table : a.table ≡ b.table
-  pub first : a.first ≡ b.first
-  pub last : a.last ≡ b.last
-  pub handlers : a.handlers.items ≡ b.handlers.items
-  pub line : a.logic_line ≡ b.logic_line
+  pub properties : properties_of a ≡ properties_of b
 
--- the parts that come from the property
-record IsSameProperty (a b : SpecTree) : Type 0 where
-  logic : a.logic ≡ b.logic
-  first : a.first ≡ b.first
-  last : a.last ≡ b.last
-  handlers : a.handlers.items ≡ b.handlers.items
-  line : a.logic_line ≡ b.logic_line
+same_facts : (bytes : List ℕ) (p : Property) (a b : PropertyFacts) → TellsProperty bytes p a → TellsProperty bytes p b → a ≡ b
+same_facts bytes p a b ha hb =
+    let logic = same_some (sym ha.logic ∙ hb.logic) in
+    let line = ha.logic_line ∙ sym hb.logic_line in
+    let first = ha.first ∙ sym hb.first in
+    let last = ha.last ∙ sym hb.last in
+    let handlers = ha.handlers ∙ sym hb.handlers in
+    λ i. record { logic = logic i; logic_line = line i; first = first i; last = last i; handlers = handlers i }
 
-same_property : (bytes : List ℕ) (ps : List Property) (a b : SpecTree) → TellsProperties bytes ps a → TellsProperties bytes ps b → IsSameProperty a b
-same_property bytes [] a b ha hb = absurd ha
-same_property bytes (p ∷ []) a b ha hb = record {
-  logic = same_some (sym ha.logic ∙ hb.logic);
-  first = ha.first ∙ sym hb.first;
-  last = ha.last ∙ sym hb.last;
-  handlers = ha.handlers ∙ sym hb.handlers;
-  line = ha.logic_line ∙ sym hb.logic_line;
-}
-same_property bytes (p ∷ q ∷ ps) a b ha hb = absurd ha
+same_properties : (bytes : List ℕ) (ps : List Property) (xs ys : List PropertyFacts) → TellsProperties bytes ps xs → TellsProperties bytes ps ys → xs ≡ ys
+same_properties bytes [] [] [] ha hb = refl
+same_properties bytes [] [] (b ∷ ys) ha hb = absurd hb
+same_properties bytes [] (a ∷ xs) ys ha hb = absurd ha
+same_properties bytes (p ∷ ps) [] ys ha hb = absurd ha
+same_properties bytes (p ∷ ps) (a ∷ xs) [] ha hb = absurd hb
+same_properties bytes (p ∷ ps) (a ∷ xs) (b ∷ ys) ha hb =
+    let here = same_facts bytes p a b ha.0 hb.0 in
+    let rest = same_properties bytes ps xs ys ha.1 hb.1 in
+    λ i. here i ∷ rest i
 
 same_tree_of : (bytes : List ℕ) (frame : Frame) (a b : SpecTree) → IsTreeOf bytes frame a → IsTreeOf bytes frame b → IsSameTree a b
-same_tree_of bytes frame a b ha hb =
-    let p = same_property bytes frame.properties a b ha.property hb.property in
-    record {
-      name = ha.name ∙ sym hb.name;
-      logic = p.logic;
-      full = ha.full_binding ∙ sym hb.full_binding;
-      table = same_ok (sym ha.table ∙ hb.table);
-      first = p.first;
-      last = p.last;
-      handlers = p.handlers;
-      line = p.line;
-    }
+same_tree_of bytes frame a b ha hb = record {
+  name = ha.name ∙ sym hb.name;
+  full = ha.full_binding ∙ sym hb.full_binding;
+  table = same_ok (sym ha.table ∙ hb.table);
+  properties = same_properties bytes frame.properties (properties_of a) (properties_of b) ha.properties hb.properties;
+}
 
 -- bytes have one list of tokens and one tree
 pub record IsSameTold (ts us : List Token) (a b : SpecTree) : Type 0 where
@@ -108,24 +99,27 @@ one_told bytes ts us a b ha hb =
 
 -- what one tree of the same tokens says, the other says
 module _ (bytes : List ℕ) (ts us : List Token) (a b : SpecTree) (same : IsSameTold ts us a b) where
-  pub read_moved : (f : Formula) → IsFormula bytes ts a f → IsFormula bytes us b f
-  read_moved f h = rw (sym same.tokens, sym same.tree.first, sym same.tree.last, sym same.tree.table, sym same.tree.logic) h
+  pub read_moved : (fs : List Formula) → AreFormulas bytes ts a.table (properties_of a) fs → AreFormulas bytes us b.table (properties_of b) fs
+  read_moved fs h =
+      subst (λ (ps : List PropertyFacts). AreFormulas bytes us b.table ps fs) same.tree.properties
+      (subst (λ (t : EventDefinitions). AreFormulas bytes us t (properties_of a) fs) same.tree.table (subst (λ (v : List Token). AreFormulas bytes v a.table (properties_of a) fs) same.tokens h))
 
-  pub handled_moved : (names : List (List ℕ)) → handlers_fault bytes a.full_binding ts names a.handlers.items ≡ handlers_fault bytes b.full_binding us names b.handlers.items
-  handled_moved names = λ i. handlers_fault bytes (same.tree.full i) (same.tokens i) names (same.tree.handlers i)
+  pub handled_moved : (fs : List Formula) → handlers_fault bytes a.full_binding ts (properties_of a) fs ≡ handlers_fault bytes b.full_binding us (properties_of b) fs
+  handled_moved fs = λ i. handlers_fault bytes (same.tree.full i) (same.tokens i) (same.tree.properties i) fs
 
   pub letters_moved : length a.table.events ≡ length b.table.events
   letters_moved = ap (λ (t : EventDefinitions). length t.events) same.tree.table
 
-  rules_moved : (f : Formula) → rules_of a.table a.full_binding f (handler_names bytes a.handlers.items) (resetting_handlers bytes ts a.handlers.items) ≡ rules_of b.table b.full_binding f (handler_names bytes b.handlers.items) (resetting_handlers bytes us b.handlers.items)
-  rules_moved f = λ i. rules_of (same.tree.table i) (same.tree.full i) f (handler_names bytes (same.tree.handlers i)) (resetting_handlers bytes (same.tokens i) (same.tree.handlers i))
+  rules_moved : (fs : List Formula) → rules_of a.table a.full_binding (properties_said bytes ts (properties_of a) fs) ≡ rules_of b.table b.full_binding (properties_said bytes us (properties_of b) fs)
+  rules_moved fs = λ i. rules_of (same.tree.table i) (same.tree.full i) (properties_said bytes (same.tokens i) (same.tree.properties i) fs)
 
   pub compiled_moved : (r : RuleDefinition) → IsCompiledFrom bytes ts a r → IsCompiledFrom bytes us b r
   compiled_moved r h = record {
-    read = read_moved r.formula h.read;
-    handled = sym (handled_moved (category_names r.formula)) ∙ h.handled;
-    settled = λ fault is. h.settled fault (subst (λ n. IsTableFault r.formula n fault) (sym letters_moved) is);
-    rules = h.rules ∙ rules_moved r.formula;
+    formulas = h.formulas;
+    read = read_moved h.formulas h.read;
+    handled = sym (handled_moved h.formulas) ∙ h.handled;
+    settled = λ k f fault at is. h.settled k f fault at (subst (λ n. IsTableFault f n fault) (sym letters_moved) is);
+    rules = h.rules ∙ rules_moved h.formulas;
   }
 
 pub tree_has_no_fault : (bytes : List ℕ) (tokens : List Token) (tree : SpecTree) (fault : SpecFault) → IsTreeOfTokens bytes tokens tree → IsFaultOfTokens bytes tokens (Bad fault) → ⊥
@@ -154,13 +148,13 @@ one_specification bytes s t h k =
     let name = h.name ∙ ap (name_of bytes) told.tree.name ∙ sym k.name in
     let table = h.table ∙ told.tree.table ∙ sym k.table in
     let tree = told.tree in
-    let moved : BlocksSay bytes k.tokens k.tree.table.parameters k.tree.handlers.items s.texts =
-    rw (sym told.tokens, sym tree.table, sym tree.handlers) h.texts in
-    let texts = blocks-same bytes k.tokens k.tree.table.parameters k.tree.handlers.items s.texts t.texts moved k.texts in
-    let logic = h.logic ∙ tree.logic ∙ sym k.logic in
-    let logic_line = h.logic_line ∙ tree.line ∙ sym k.logic_line in
+    let hs = all_handlers (properties_of k.tree) in
+    let moved : BlocksSay bytes k.tokens k.tree.table.parameters hs s.texts = rw (sym told.tokens, sym tree.table, sym tree.properties) h.texts in
+    let texts = blocks-same bytes k.tokens k.tree.table.parameters hs s.texts t.texts moved k.texts in
+    let logics = h.logics ∙ ap logics_of tree.properties ∙ sym k.logics in
+    let line = h.grammar_line ∙ ap grammar_line_of tree.properties ∙ sym k.grammar_line in
     let full = h.full_binding ∙ tree.full ∙ sym k.full_binding in
-    λ i. record { name = name i; table = table i; logic = logic i; logic_line = logic_line i; full_binding = full i; rules = rules i; texts = texts i }
+    λ i. record { name = name i; table = table i; logics = logics i; grammar_line = line i; full_binding = full i; rules = rules i; texts = texts i }
 
 -- no bytes say a specification and a fault
 pub specification_has_no_fault : (bytes : List ℕ) (s : Specification) (fault : SpecFault) → IsSpecification bytes s → IsSpecFault bytes fault → ⊥

@@ -1,12 +1,23 @@
 -- Why a command stops before its text is written.
 use Rattle.std.proofs.Common.{◌≡◌, ℕ, inl, inr, Bool, true, false, ◌&&◌, List, [], ◌∷◌, ◌++◌, length, Option, Some, None, Result, IfOk, refl, sym, ap, subst, ◌∙◌}
 use Rattle.std.specs.Prelude.{All, map, option_map, if◌then◌else◌}
+use Rattle.std.proofs.lemmas.Bool.{false≢true}
 use Rattle.std.proofs.lemmas.List.{length-map}
 use Rattle.std.proofs.lemmas.List.Elements.{All-nil, All-cons, All-head, All-tail}
 use Rattle.jm_model.specs.declared.fault.SpecFault.{SpecFault}
-use Rattle.jm_model.specs.declared.fault.SpecFault.TheVariants.{UnsupportedLogic, DuplicateSpec}
+use Rattle.jm_model.specs.declared.fault.SpecFault.TheVariants.{DuplicateSpec}
 use Rattle.jm_events.specs.Names.{number_of}
-use Rattle.jm_machine.specs.Formulas.{is_grammar}
+use Rattle.jm_text.specs.declared.token.Token.{Token}
+use Rattle.jm_events.specs.Events.{EventDefinitions}
+use Rattle.jm_reading.specs.Faults.{or_else}
+use Rattle.jm_spec.specs.declared.tree.Logic.{Logic}
+use Rattle.jm_spec.specs.declared.tree.Logic.TheVariants.{Fsm, Ere, Cfg, Ptltl}
+use Rattle.jm_spec.specs.Trees.{PropertyFacts, properties_of}
+use Rattle.jm_machine.specs.declared.formula.Formula.{Formula}
+use Rattle.jm_machine.specs.declared.formula.Formula.TheVariants.{Machine, Regular, Temporal, Grammatical}
+use Rattle.jm_machine.specs.Formulas.{is_grammar, IsReadAs}
+use Rattle.jm_machine.specs.Meanings.{RuleDefinition, has_grammar}
+use Rattle.jm_machine.specs.Compiling.{formula_of, IsFormula, AreFormulas, properties_said}
 use Rattle.jm_script.specs.Catalogs.{spec_names}
 use Rattle.jm_cli.specs.Words.CommandWords.{Replay, Run, Check, Coenable, Gen, Sweep}
 use Rattle.jm_inputs.specs.declared.status.Status.{Status}
@@ -17,9 +28,9 @@ use Rattle.jm_inputs.specs.declared.scripts.Scripts.{Scripts}
 use Rattle.jm_inputs.specs.declared.inputs.Inputs.{Inputs}
 use Rattle.jm_inputs.specs.Sources.{Source, Named, Given, Gives, IsFile}
 use Rattle.jm_inputs.specs.Commands.{named, given_files, workload_specs, workload_scripts}
-use Rattle.jm_inputs.specs.Specifications.{Specification}
+use Rattle.jm_inputs.specs.Specifications.{Specification, line_or, grammar_line_of, IsSpecification}
 use Rattle.jm_inputs.specs.Scripts.{catalog_of}
-use Rattle.jm_inputs.specs.Inputs.{SaySpecifications, step_count}
+use Rattle.jm_inputs.specs.Inputs.{grammar_fault, SaySpecifications, step_count}
 use Rattle.jm_inputs.specs.Causes.{IsNotLoaded, IsNoSpec, IsNoScript, IsNoRecording, StopsSpecs, StopsScripts, StopsInputs, StopsCommand, short, at_spec, at_script, at_recording, IsNoRecordingIn}
 use Rattle.jm_inputs.specs.Reading.{Listed, listed_in, specification_of, specs_in, IsLibraryOf, AreScriptsOf, AreInputsOf}
 use Rattle.jm_inputs.specs.Recordings.{too_long}
@@ -155,22 +166,58 @@ module _ (contents : List ℕ → Option (List ℕ)) (file : ℕ) where
 
 -- ---- families
 
-no_grammar : (b : Bool) (line : ℕ) (o : Option SpecFault) → (if true && b then Some (UnsupportedLogic line) else o) ≡ None → b ≡ false
-no_grammar true line o h = absurd (never_some (sym h))
-no_grammar false line o h = refl
+-- a word that names no grammar isn't looked for further
+no_line : (families : Bool) (line : Option ℕ) (o : Option SpecFault) → families ≡ true → or_else (grammar_fault families line) o ≡ None → line ≡ None
+no_line true None o asked h = refl
+no_line true (Some l) o asked h = absurd (never_some (sym h))
+no_line false line o asked h = absurd (false≢true asked)
 
-tables_said : (contents : List ℕ → Option (List ℕ)) (before : List Specification) (sources : List Source) (specs : List Specification) → SaySpecifications contents true before sources specs → All (λ s. is_grammar s.rules.formula ≡ false) specs
-tables_said contents before [] specs none = subst (All (λ (s : Specification). is_grammar s.rules.formula ≡ false)) (sym none) (All-nil (λ (s : Specification). is_grammar s.rules.formula ≡ false))
+-- a formula is a grammar where the word of its logic names one
+module _ (bytes : List ℕ) (tokens : List Token) (table : EventDefinitions) where
+  no_grammar : (p : PropertyFacts) (later : Option ℕ) (f : Formula) → IsFormula bytes tokens table p f → line_or p.logic p.logic_line later ≡ None → (is_grammar f ≡ false) × (later ≡ None)
+  no_grammar p later f read none = by_logic p.logic f read none
+    where
+      by_logic : (logic : Logic) (g : Formula) → IsReadAs bytes (formula_of tokens p) table logic g → line_or logic p.logic_line later ≡ None → (is_grammar g ≡ false) × (later ≡ None)
+      by_logic Cfg g h e = absurd (never_some (sym e))
+      by_logic Fsm (Machine m) h e = (refl, e)
+      by_logic Fsm (Regular m) h e = absurd h
+      by_logic Fsm (Temporal m) h e = absurd h
+      by_logic Fsm (Grammatical m) h e = absurd h
+      by_logic Ere (Regular m) h e = (refl, e)
+      by_logic Ere (Machine m) h e = absurd h
+      by_logic Ere (Temporal m) h e = absurd h
+      by_logic Ere (Grammatical m) h e = absurd h
+      by_logic Ptltl (Temporal m) h e = (refl, e)
+      by_logic Ptltl (Machine m) h e = absurd h
+      by_logic Ptltl (Regular m) h e = absurd h
+      by_logic Ptltl (Grammatical m) h e = absurd h
+
+  no_grammars : (ps : List PropertyFacts) (fs : List Formula) → AreFormulas bytes tokens table ps fs → grammar_line_of ps ≡ None → has_grammar (properties_said bytes tokens ps fs) ≡ false
+  no_grammars [] [] read none = refl
+  no_grammars [] (f ∷ fs) read none = absurd read
+  no_grammars (p ∷ ps) [] read none = absurd read
+  no_grammars (p ∷ ps) (f ∷ fs) read none =
+      let here = no_grammar p (grammar_line_of ps) f read.0 none in
+      rw here.0 (no_grammars ps fs read.1 here.1)
+
+-- so a specification without such a word has no grammar
+without_grammar : (bytes : List ℕ) (s : Specification) → IsSpecification bytes s → s.grammar_line ≡ None → has_grammar s.rules.properties ≡ false
+without_grammar bytes s is none =
+    ap (λ (r : RuleDefinition). has_grammar r.properties) is.rules.rules
+    ∙ no_grammars bytes is.tokens is.tree.table (properties_of is.tree) is.rules.formulas is.rules.read (sym is.grammar_line ∙ none)
+
+tables_said : (contents : List ℕ → Option (List ℕ)) (before : List Specification) (sources : List Source) (specs : List Specification) → SaySpecifications contents true before sources specs → All (λ s. has_grammar s.rules.properties ≡ false) specs
+tables_said contents before [] specs none = subst (All (λ (s : Specification). has_grammar s.rules.properties ≡ false)) (sym none) (All-nil (λ (s : Specification). has_grammar s.rules.properties ≡ false))
 tables_said contents before (x ∷ sources) specs (bytes, s, more, e, given, is, rest) =
-    subst (All (λ (t : Specification). is_grammar t.rules.formula ≡ false)) (sym e)
-    (All-cons (λ (t : Specification). is_grammar t.rules.formula ≡ false) s more
-    (no_grammar (is_grammar s.rules.formula) s.logic_line (option_map (λ earlier. DuplicateSpec) (number_of (spec_names (catalog_of before)) s.name)) is.sound)
+    subst (All (λ (t : Specification). has_grammar t.rules.properties ≡ false)) (sym e)
+    (All-cons (λ (t : Specification). has_grammar t.rules.properties ≡ false) s more
+    (without_grammar bytes s is.said (no_line true s.grammar_line (option_map (λ earlier. DuplicateSpec) (number_of (spec_names (catalog_of before)) s.name)) refl is.sound))
     (tables_said contents (before ++ s ∷ []) sources more rest))
 
 unmapped : (P : Specification → Type 0) (ls : List Listed) → All P (map specification_of ls) → All (λ l. P (specification_of l)) ls
 unmapped P [] all = All-nil (λ l. P (specification_of l))
 unmapped P (l ∷ ls) all = All-cons (λ l. P (specification_of l)) l ls (All-head P (specification_of l) (map specification_of ls) all) (unmapped P ls (All-tail P (specification_of l) (map specification_of ls) all))
 
--- where families were asked for, no specification is a grammar
-pub tables_in : (contents : List ℕ → Option (List ℕ)) (sources : List Source) (library : Library) → IsLibraryOf contents true sources library → All (λ l. is_grammar l.rules.definition.formula ≡ false) (listed_in library)
-tables_in contents sources library h = unmapped (λ (s : Specification). is_grammar s.rules.formula ≡ false) (listed_in library) (tables_said contents [] sources (specs_in library) h.said)
+-- where families were asked for, no specification has a grammar
+pub tables_in : (contents : List ℕ → Option (List ℕ)) (sources : List Source) (library : Library) → IsLibraryOf contents true sources library → All (λ l. has_grammar l.rules.definition.properties ≡ false) (listed_in library)
+tables_in contents sources library h = unmapped (λ (s : Specification). has_grammar s.rules.properties ≡ false) (listed_in library) (tables_said contents [] sources (specs_in library) h.said)

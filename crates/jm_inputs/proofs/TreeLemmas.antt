@@ -6,15 +6,15 @@ use Rattle.jm_text.specs.declared.token.Token.{Token}
 use Rattle.jm_text.specs.Spans.{LieInOrder}
 use Rattle.jm_text.specs.Tokens.{AreTokensOf}
 use Rattle.jm_reading.specs.Tokens.{name_of}
-use Rattle.jm_handler.specs.declared.term.Term.{Term}
 use Rattle.jm_spec.specs.declared.tree.SpecTree.{SpecTree}
-use Rattle.jm_spec.specs.Trees.{IsTreeOfTokens}
-use Rattle.jm_machine.specs.Meanings.{RuleDefinition}
+use Rattle.jm_spec.specs.Trees.{properties_of, IsTreeOfTokens}
+use Rattle.jm_machine.specs.Meanings.{RuleDefinition, handler_count}
 use Rattle.jm_machine.specs.RuleSets.{CompiledRules}
 use Rattle.jm_events.specs.Events.{EventDefinitions}
 use Rattle.jm_machine.specs.Compiling.{IsCompiledFrom, IsFaultyTree}
+use Rattle.jm_inputs.specs.declared.specification.Titles.{Titles}
 use Rattle.jm_inputs.specs.declared.specification.Reading.{Reading}
-use Rattle.jm_inputs.specs.Specifications.{IsTold, IsSpecFault, in_tree, BlocksSay, most_bytes}
+use Rattle.jm_inputs.specs.Specifications.{IsTold, IsSpecFault, in_tree, logics_of, grammar_line_of, all_handlers, BlocksSay, most_bytes}
 use Rattle.jm_inputs.specs.Reading.{IsRead}
 
 module _ (bytes : List ℕ) (tokens : List Token) (small : length bytes ≤ most_bytes) (cut : AreTokensOf bytes tokens) where
@@ -25,12 +25,12 @@ module _ (bytes : List ℕ) (tokens : List Token) (small : length bytes ≤ most
   tree_fault_of tree fault told h = in_tree tokens tree fault (told_of tree told) h
 
   -- what is kept of a specification
-  pub read_of : (tree : SpecTree) (r : Reading) (rules : CompiledRules) (texts : List (List (List Term))) → IsTreeOfTokens bytes tokens tree → IsCompiledFrom bytes tokens tree rules.definition
-      → All (λ mask. mask < 2 ^ length tree.table.parameters) rules.definition.masks → length rules.definition.handlers ≤ 16
-      → BlocksSay bytes tokens tree.table.parameters tree.handlers.items texts → r.loaded.rules ≡ rules → r.loaded.titles.texts.items ≡ texts
-      → r.name.now ≡ name_of bytes tree.name → r.table ≡ tree.table
-      → r.loaded.titles.logic ≡ tree.logic → r.loaded.titles.logic_line ≡ tree.logic_line → r.loaded.titles.full_binding ≡ tree.full_binding → IsRead bytes r
-  read_of tree r rules texts told compiled fit few say is printed titled table logic line full =
+  pub read_of : (tree : SpecTree) (r : Reading) (rules : CompiledRules) (titles : Titles) → IsTreeOfTokens bytes tokens tree → IsCompiledFrom bytes tokens tree rules.definition
+      → All (λ mask. mask < 2 ^ length tree.table.parameters) rules.definition.masks → handler_count rules.definition.properties ≤ 16
+      → titles.logics.items ≡ logics_of (properties_of tree) → titles.grammar_line ≡ grammar_line_of (properties_of tree) → titles.full_binding ≡ tree.full_binding
+      → BlocksSay bytes tokens tree.table.parameters (all_handlers (properties_of tree)) titles.texts.items
+      → r.loaded.rules ≡ rules → r.loaded.titles ≡ titles → r.name.now ≡ name_of bytes tree.name → r.table ≡ tree.table → IsRead bytes r
+  read_of tree r rules titles told compiled fit few logics line full say is kept named table =
       let masks : rules.definition.masks ≡ map (λ e. e.mask) tree.table.events = ap (λ (x : RuleDefinition). x.masks) compiled.rules in
       record {
         said = record {
@@ -38,17 +38,17 @@ module _ (bytes : List ℕ) (tokens : List Token) (small : length bytes ≤ most
           tree = tree;
           told = told_of tree told;
           rules = subst (λ (x : CompiledRules). IsCompiledFrom bytes tokens tree x.definition) (sym is) compiled;
-          name = titled;
+          name = named;
           table = table;
-          logic = logic;
-          logic_line = line;
-          full_binding = full;
-          texts = subst (λ v. BlocksSay bytes tokens tree.table.parameters tree.handlers.items v) (sym printed) say;
+          logics = ap (λ (t : Titles). t.logics.items) kept ∙ logics;
+          grammar_line = ap (λ (t : Titles). t.grammar_line) kept ∙ line;
+          full_binding = ap (λ (t : Titles). t.full_binding) kept ∙ full;
+          texts = subst (λ (t : Titles). BlocksSay bytes tokens tree.table.parameters (all_handlers (properties_of tree)) t.texts.items) (sym kept) say;
         };
         kept = record {
           masks = ap (λ (x : CompiledRules). x.definition.masks) is ∙ masks ∙ ap (λ (t : EventDefinitions). map (λ e. e.mask) t.events) (sym table);
           fit = subst (λ (t : EventDefinitions). All (λ mask. mask < 2 ^ length t.parameters) r.loaded.rules.definition.masks) (sym table) (subst (λ (x : CompiledRules). All (λ mask. mask < 2 ^ length tree.table.parameters) x.definition.masks) (sym is) fit);
-          few = subst (λ (x : CompiledRules). length x.definition.handlers ≤ 16) (sym is) few;
+          few = subst (λ (x : CompiledRules). handler_count x.definition.properties ≤ 16) (sym is) few;
         };
       }
 

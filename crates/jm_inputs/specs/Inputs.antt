@@ -1,10 +1,10 @@
 -- What the files of a command say, one behind the other.
-use Rattle.std.specs.Prelude.{ℕ, ◌+◌, ◌≡◌, Bool, ◌&&◌, List, [], ◌∷◌, ◌++◌, length, Option, Some, None, option_map, if◌then◌else◌}
+use Rattle.std.specs.Prelude.{ℕ, ◌+◌, ◌≡◌, Bool, List, [], ◌∷◌, ◌++◌, length, Option, Some, None, option_map, if◌then◌else◌}
 use Rattle.jm_model.specs.Words.{Text}
 use Rattle.jm_model.specs.declared.fault.SpecFault.{SpecFault}
 use Rattle.jm_model.specs.declared.fault.SpecFault.TheVariants.{UnsupportedLogic, DuplicateSpec}
 use Rattle.jm_events.specs.Names.{number_of}
-use Rattle.jm_machine.specs.Formulas.{is_grammar}
+use Rattle.jm_reading.specs.Faults.{or_else}
 use Rattle.jm_script.specs.declared.script.ScriptLine.{ScriptLine}
 use Rattle.jm_script.specs.Catalogs.{spec_names}
 use Rattle.jm_inputs.specs.Sources.{FileContents, Source, Gives}
@@ -13,12 +13,16 @@ use Rattle.jm_inputs.specs.Scripts.{catalog_of, IsScript}
 
 -- ---- specifications
 
--- Why a specification is refused though its bytes have no fault: families are asked for, and its property is a grammar;
--- or one before it has its name.
+-- where families are asked for, the first grammar, whose word stands in this line
+abbrev pub grammar_fault : Bool → Option ℕ → Option SpecFault
+grammar_fault families line = if families then option_map (λ l. UnsupportedLogic l) line else None
+
+-- Why a specification is refused though its bytes have no fault: families are asked for, and one of its properties is a
+-- grammar; or one before it has its name.
 abbrev pub refusal_of : Bool → List Specification → Specification → Option SpecFault
 refusal_of families before s =
-    if families && is_grammar s.rules.formula then Some (UnsupportedLogic s.logic_line)
-    else option_map (λ earlier. DuplicateSpec) (number_of (spec_names (catalog_of before)) s.name)
+    or_else (grammar_fault families s.grammar_line)
+    (option_map (λ earlier. DuplicateSpec) (number_of (spec_names (catalog_of before)) s.name))
 
 -- the bytes say this specification, and it isn't refused behind these
 pub record IsAdmitted (families : Bool) (before : List Specification) (bytes : Text)

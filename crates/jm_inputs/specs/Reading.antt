@@ -5,7 +5,7 @@ use Rattle.jm_script.specs.declared.script.ScriptLine.{ScriptLine}
 use Rattle.jm_script.specs.Catalogs.{CatalogEntry}
 use Rattle.jm_script.specs.Fitting.{FitsCatalog}
 use Rattle.jm_events.specs.Events.{EventDefinitions}
-use Rattle.jm_machine.specs.Meanings.{RuleDefinition}
+use Rattle.jm_machine.specs.Meanings.{RuleDefinition, handler_count}
 use Rattle.jm_machine.specs.RuleSets.{CompiledRules}
 use Rattle.jm_inputs.specs.declared.specification.Titles.{Titles}
 use Rattle.jm_inputs.specs.declared.specification.Loaded.{Loaded}
@@ -48,8 +48,8 @@ abbrev pub titled : CatalogEntry → Titles → RuleDefinition → Specification
 titled entry titles rules = record {
   name = entry.name;
   table = entry.table;
-  logic = titles.logic;
-  logic_line = titles.logic_line;
+  logics = titles.logics.items;
+  grammar_line = titles.grammar_line;
   full_binding = titles.full_binding;
   rules = rules;
   texts = titles.texts.items;
@@ -63,7 +63,7 @@ specification_of l = titled l.entry l.titles l.rules.definition
 pub record AreRulesOf (entry : CatalogEntry) (rules : RuleDefinition) : Type 0 where
   pub masks : rules.masks ≡ map (λ e. e.mask) entry.table.events
   pub fit : All (λ mask. mask < 2 ^ length entry.table.parameters) rules.masks
-  pub few : length rules.handlers ≤ 16
+  pub few : handler_count rules.properties ≤ 16
 
 abbrev pub IsWhole : Listed → Type 0
 IsWhole l = AreRulesOf l.entry l.rules.definition

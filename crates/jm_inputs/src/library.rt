@@ -1,19 +1,19 @@
 //! The specifications of a command, read one behind the other.
-ghost use Rattle.std.specs.Prelude.{◌≡◌, ◌<◌, ◌≤◌, ◌&&◌, ◌∷◌, ◌++◌, [], ℕ, List, length, map, IfOk, IfErr, OnOk, IsSome, None, true, false, string_bytes};
+ghost use Rattle.std.specs.Prelude.{◌≡◌, ◌<◌, ◌≤◌, ◌∷◌, ◌++◌, [], ℕ, List, length, map, IfOk, IfErr, OnOk, IsSome, None, true, false, string_bytes};
 ghost use Rattle.jm_events.specs.Names.{number_of};
-ghost use Rattle.jm_machine.specs.Formulas.{is_grammar};
+ghost use Rattle.jm_reading.specs.Faults.{Checks};
 ghost use Rattle.jm_model.specs.declared.fault.SpecFault.{SpecFault};
 ghost use Rattle.jm_script.specs.Catalogs.{spec_names};
 ghost use Rattle.jm_inputs.specs.Commands.{named, given_files};
 ghost use Rattle.jm_inputs.specs.Sources.{FileContents, Named};
 ghost use Rattle.jm_inputs.specs.Specifications.{most_bytes};
 ghost use Rattle.jm_inputs.specs.Scripts.{catalog_of};
-ghost use Rattle.jm_inputs.specs.Inputs.{IsRefusal};
+ghost use Rattle.jm_inputs.specs.Inputs.{grammar_fault, IsRefusal};
 ghost use Rattle.jm_inputs.specs.Reading.{IsWhole, named_entry, listing, listed_in, specs_in, IsCatalogued, HasNext, HasNextFrom, IsLibraryOf};
 ghost use Rattle.jm_inputs.specs.Causes.{CountsFailedReads, IsNoSpec, IsNoSpecIn, StopsSpecs};
 
 use crate::files::load;
-use crate::specification::{Loaded, Reading, read_specification};
+use crate::specification::{Loaded, Reading, Titles, read_specification};
 use crate::status::{MOST_BYTES, Status};
 use jm_events::EventTable;
 use jm_model::{SpecError, SpecFault};
@@ -188,20 +188,16 @@ fn admit(
         table,
         loaded,
     } = reading;
-    has_families(families, &loaded)?;
+    has_families(families, &loaded.titles)?;
     library.add(name, table, loaded)
 }
 
-/// Refuses a grammar, where families are asked for: it has none.
-fn has_families(families: bool, loaded: &Loaded) -> Result<(), SpecError>
-    ensures ok { OnOk result ((families && is_grammar loaded.now.rules.definition.formula) ≡ false) }
-    ensures err { IfErr result (λ e. ((families && is_grammar loaded.now.rules.definition.formula) ≡ true)
-        × (e ≡ SpecError.Bad (SpecFault.UnsupportedLogic loaded.now.titles.logic_line))) }
+/// Refuses the first grammar, where families are asked for: it has none.
+fn has_families(families: bool, titles: &Titles) -> Result<(), SpecError>
+    ensures { Checks result (grammar_fault families titles.now.grammar_line) }
 {
-    if families && loaded.rules.table().is_none() {
-        return Err(SpecError::Bad(SpecFault::UnsupportedLogic {
-            line: loaded.titles.logic_line,
-        }));
+    match titles.grammar_line {
+        Some(line) if families => Err(SpecError::Bad(SpecFault::UnsupportedLogic { line })),
+        _ => Ok(()),
     }
-    Ok(())
 }

@@ -4,6 +4,7 @@ use Rattle.std.proofs.Crossing.{crosses}
 use Rattle.std.proofs.MapsCrossing.{crosses as maps}
 use Rattle.jm_ere.proofs.tree.Tree.TheLaws.TheKnot.{crosses as tree}
 use Rattle.jm_machine.specs.contracts.rules.Rules as Rules
+use Rattle.jm_machine.specs.contracts.property.Property as Property
 use Rattle.jm_machine.specs.contracts.formula.Formula as Formula
 use Rattle.jm_machine.specs.contracts.engine.Engine as Engine
 use Rattle.jm_machine.specs.contracts.outlook.Outlook as Outlook
@@ -38,5 +39,8 @@ grammar_outlook_crosses = search (chart_crosses, crosses, maps, sendable) depth 
 outlook_crosses : IsSend Outlook.the_field.row
 outlook_crosses = search (table_outlook_crosses, grammar_outlook_crosses, crosses, sendable) depth 100 fits 20000
 
+property_crosses : IsSend Property.the_row
+property_crosses = search (formula_crosses, engine_crosses, outlook_crosses, names_crosses, goal_crosses, crosses, maps, sendable) depth 100 fits 20000
+
 pub rules_cross : IsSend Rules.the_row
-rules_cross = search (formula_crosses, engine_crosses, outlook_crosses, names_crosses, goal_crosses, crosses, maps, sendable) depth 100 fits 20000
+rules_cross = search (property_crosses, names_crosses, crosses, maps, sendable) depth 100 fits 20000

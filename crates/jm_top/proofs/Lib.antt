@@ -1,5 +1,6 @@
 pub mod PrintLemmas
 pub mod EndingLemmas
+pub mod NameLemmas
 pub mod HistoryLemmas
 pub mod FewLemmas
 pub mod RunLemmas

@@ -4,6 +4,7 @@ use Rattle.jm_model.specs.Words.{Text}
 use Rattle.jm_model.specs.declared.step.Entry.{Entry}
 use Rattle.jm_semantics.specs.Scripts.{projection_of, IsInterleaving}
 use Rattle.jm_semantics.specs.Legality.{IsLegal}
+use Rattle.jm_machine.specs.HandlerNames.{names_of}
 use Rattle.jm_print.specs.Lexicons.{Lexicon, lexicon_of}
 use Rattle.jm_print.specs.Told.{texts_of}
 use Rattle.jm_print.specs.Summaries.{summary_text}
@@ -28,7 +29,7 @@ AreHistoriesFrom number _ scripts _ = ⊥
 
 -- the names that a history of the specification is printed with, and what its handlers print
 abbrev pub lexicon : List Text → Specification → Lexicon
-lexicon objects s = lexicon_of s.name s.table s.rules.handlers objects s.texts
+lexicon objects s = lexicon_of s.name s.table (names_of s.rules) objects s.texts
 
 -- the text is the printed history of each specification, in order
 pub record IsTextOfHistories (specs : List Specification) (scripts : List (List ScriptLine)) (objects : List Text)
