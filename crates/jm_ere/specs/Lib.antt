@@ -1,6 +1,5 @@
 pub mod Expressions
 pub mod Meanings
-pub mod Suffixes
 pub mod NormalForms
 pub mod Normality
 pub mod Keys

@@ -22,7 +22,6 @@ mod reader;
 mod reading;
 mod sizes;
 mod stack;
-mod suffix;
 mod tree;
 mod written;
 

@@ -7,4 +7,3 @@ pub mod EndLemmas
 pub mod SoundLemmas
 pub mod CompleteLemmas
 pub mod RangeLemmas
-pub mod PropertyLemmas

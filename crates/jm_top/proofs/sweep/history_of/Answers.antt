@@ -1,3 +1,4 @@
+use Rattle.std.proofs.Common.{IfOk}
 use Rattle.jm_top.proofs.SweepLemmas.{are_replays}
 use Rattle.jm_top.proofs.sweep.history_of.Goals as goal
 

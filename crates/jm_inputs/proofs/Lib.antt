@@ -1,9 +1,0 @@
-pub mod OneReadingLemmas
-pub mod TreeLemmas
-pub mod BlockLemmas
-pub mod InputLemmas
-pub mod RecordingLemmas
-pub mod JobLemmas
-pub mod LibraryLemmas
-pub mod ScriptLemmas
-pub mod StopLemmas

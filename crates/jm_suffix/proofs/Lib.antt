@@ -1,2 +1,0 @@
-pub mod SecondLemmas
-pub mod SuffixLemmas
