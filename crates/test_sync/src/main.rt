@@ -1,5 +1,5 @@
-//! What is cut of scripts that ask for order, and whether they can be run so. The board: items that are taken by whoever
-//! waits for them, on one thread and on several.
+//! What is cut of scripts that ask for order, and whether they can be run so. The board: items that are taken by
+//! whoever waits for them, on one thread and on several.
 #![tactic(auto)]
 
 mod rows;
@@ -76,7 +76,7 @@ fn print_many<R: Print>(rt: &R, alloc: Global) -> io::Result<()> {
     print_row(rt, many_checked(alloc, b"", b"\npost x"))
 }
 
-/// The same of 65,536 lines with some lines behind them, and another script.
+/// Whether 65,536 lines that post, with these lines behind them, and another script can be run.
 fn many_checked(alloc: Global, last: &[u8], other: &[u8]) -> Result<String, NoMemory> {
     let first = many(alloc, 65_536, last)?;
     checked(alloc, &[&first, other])
