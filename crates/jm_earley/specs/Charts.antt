@@ -1,10 +1,8 @@
 -- What charts are, and which word a chart stands for.
-use Rattle.std.specs.Prelude.{ℕ, ◌≡◌, ◌<◌, ◌≤◌, ◌-◌, ◌↔◌, List, length, take, All, Contains, Some, IsBitSet, slice_get}
+use Rattle.std.specs.Prelude.{ℕ, ◌≡◌, ◌≤◌, ◌-◌, ◌↔◌, List, length, take, Contains, Some, IsBitSet, slice_get}
 use Rattle.jm_model.specs.Words.{Word, Mask}
-use Rattle.jm_grammar.specs.declared.grammar.GrammarSymbol.{GrammarSymbol}
-use Rattle.jm_grammar.specs.declared.grammar.GrammarSymbol.TheVariants.{Letter, Nonterminal}
-use Rattle.jm_grammar.specs.declared.grammar.Production.{Production}
 use Rattle.jm_grammar.specs.Grammars.{GrammarDefinition}
+pub use Rattle.jm_grammar.specs.Grammars.{IsBelow, AreBelow}
 use Rattle.jm_grammar.specs.Meanings.{DerivesOf, DerivesSome, IsIn}
 use Rattle.jm_earley.specs.declared.item.Item.{Item}
 use Rattle.jm_earley.specs.declared.letter_set.LetterSet.{LetterSet}
@@ -24,15 +22,6 @@ pub record ChartsDefinition : Type 0 where
 -- The places that it keeps.
 pub record ChartDefinition : Type 0 where
   pub places : List Place
-
--- a letter is below this number
-abbrev pub IsBelow : ℕ → GrammarSymbol → Type 0
-IsBelow letters (Letter a) = a.0 < letters
-IsBelow letters (Nonterminal n) = Unit {0}
-
--- each letter of the productions is below this number
-abbrev pub AreBelow : List Production → ℕ → Type 0
-AreBelow productions letters = All (λ p. All (IsBelow letters) p.symbols) productions
 
 -- Each nonterminal spells a word, save perhaps the start; the letters have parameters; and the set is that of the
 -- nonterminals that spell the empty word.

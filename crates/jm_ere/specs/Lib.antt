@@ -1,5 +1,6 @@
 pub mod Expressions
 pub mod Meanings
+pub mod Suffixes
 pub mod NormalForms
 pub mod Normality
 pub mod Keys

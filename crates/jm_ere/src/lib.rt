@@ -22,6 +22,7 @@ mod reader;
 mod reading;
 mod sizes;
 mod stack;
+mod suffix;
 mod tree;
 mod written;
 

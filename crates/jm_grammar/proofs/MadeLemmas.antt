@@ -17,7 +17,7 @@ use Rattle.jm_grammar.specs.declared.grammar.GrammarSymbol.{GrammarSymbol}
 use Rattle.jm_grammar.specs.declared.grammar.GrammarSymbol.TheVariants.{Letter, Nonterminal}
 use Rattle.jm_grammar.specs.declared.grammar.Production.{Production}
 use Rattle.jm_grammar.specs.Grammars.{IsSmallSymbol, IsSmallProduction, IsSmall}
-use Rattle.jm_grammar.specs.Faults.{nonterminals, nonterminals_fault, production_count, productions_fault, is_epsilon, symbol_count, is_long, has_long, symbols_fault, nonterminal_said, letter_or, symbol_said, with_symbol, with_alternative, with_part}
+use Rattle.jm_grammar.specs.Faults.{nonterminals, most_nonterminals, nonterminals_fault, production_count, productions_fault, is_epsilon, symbol_count, is_long, has_long, symbols_fault, nonterminal_said, letter_or, symbol_said, with_symbol, with_alternative, with_part}
 
 -- ---- small steps
 
@@ -39,7 +39,7 @@ module _ (bytes : List ℕ) (events known : List (List ℕ)) where
   nonterminal_is t n h = (position-Some (bytes_eq (name_of bytes t)) known n [] (said_is (number_of known (name_of bytes t)) _ n h)).0
 
   -- a letter or a nonterminal that is there
-  abbrev IsThere : GrammarSymbol → Type 0
+  abbrev pub IsThere : GrammarSymbol → Type 0
   IsThere (Letter letter) = letter.0 < length events
   IsThere (Nonterminal n) = n < length known
 
@@ -148,7 +148,8 @@ module _ (bytes : List ℕ) (events known : List (List ℕ)) where
   pub letter_there : (made : List Production) (p : Production) (letter : LetterType) → All IsMade made → Contains made p → Contains p.symbols (Letter letter) → letter.0 < length events
   letter_there made p letter all has at = All-contains IsThere p.symbols (Letter letter) (All-contains IsMade made p all has).symbols at
 
-pub few_nonterminals : (bytes : List ℕ) (parts : List Part) (known : List (List ℕ)) → known ≡ nonterminals bytes parts → nonterminals_fault bytes parts ≡ None → length known ≤ 64
-few_nonterminals bytes parts known is few =
-    let at_most : length (nonterminals bytes parts) ≤ 64 = ltb-false 64 (length (nonterminals bytes parts)) (if_none _ _ few) in
-    subst (λ (l : List (List ℕ)). length l ≤ 64) (sym is) at_most
+pub few_nonterminals : (bytes : List ℕ) (suffix : Bool) (parts : List Part) (known : List (List ℕ)) → known ≡ nonterminals bytes parts → nonterminals_fault bytes suffix parts ≡ None → length known ≤ most_nonterminals suffix
+few_nonterminals bytes suffix parts known is few =
+    let most = most_nonterminals suffix in
+    let at_most : length (nonterminals bytes parts) ≤ most = ltb-false most (length (nonterminals bytes parts)) (if_none _ _ few) in
+    subst (λ (l : List (List ℕ)). length l ≤ most) (sym is) at_most

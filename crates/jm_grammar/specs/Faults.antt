@@ -27,6 +27,11 @@ production_count parts = sum_by (λ part. length part.alternatives) parts
 abbrev pub productions_fault : List Part → Option SpecFault
 productions_fault parts = if nat_lt 256 (production_count parts) then Some (TooMany Productions) else None
 
+-- how many nonterminals there may be: 31 where the rule may begin anywhere, since its grammar has two for each and one
+-- more, and 64 elsewhere
+abbrev pub most_nonterminals : Bool → ℕ
+most_nonterminals suffix = if suffix then 31 else 64
+
 -- the name is the word that spells nothing
 abbrev pub is_epsilon : Text → Bool
 is_epsilon name = bytes_eq name (codes "epsilon")
@@ -36,9 +41,10 @@ module _ (bytes : Text) where
   abbrev pub nonterminals : List Part → List Text
   nonterminals parts = fold (λ names part. with_name names (name_of bytes part.left)) [] parts
 
-  -- there are at most 64
-  abbrev pub nonterminals_fault : List Part → Option SpecFault
-  nonterminals_fault parts = if nat_lt 64 (length (nonterminals parts)) then Some (TooMany Nonterminals) else None
+  -- there are no more than may be
+  abbrev pub nonterminals_fault : Bool → List Part → Option SpecFault
+  nonterminals_fault suffix parts =
+      if nat_lt (most_nonterminals suffix) (length (nonterminals parts)) then Some (TooMany Nonterminals) else None
 
   -- an alternative has at most 32 symbols other than `epsilon`
   abbrev pub symbol_count : List Token → ℕ
@@ -103,14 +109,16 @@ module _ (bytes : Text) (table : EventDefinitions) (parts : List Part) where
       with_each (with_part bytes (event_names table) (nonterminals bytes parts)) [] parts
       >>> λ productions. Ok (record { productions = productions; start = 0 })
 
+-- where the rule may begin anywhere, or may not
+module _ (bytes : Text) (table : EventDefinitions) (suffix : Bool) (parts : List Part) where
   -- the fault of the first step that has one: too many nonterminals, productions, symbols, reserved names of events and
   -- then of nonterminals, nonterminals named as events, unknown names
   unfoldable pub first_fault : Option SpecFault
   first_fault =
-      or_else (nonterminals_fault bytes parts)
+      or_else (nonterminals_fault bytes suffix parts)
       (or_else (productions_fault parts)
       (or_else (symbols_fault bytes parts)
       (or_else (reserved_event_fault is_epsilon table.events)
       (or_else (left_name_fault bytes parts)
       (or_else (clash_fault bytes (event_names table) parts)
-      (fault_of grammar_of))))))
+      (fault_of (grammar_of bytes table parts)))))))

@@ -1,5 +1,5 @@
 -- What a reader of a formula answers.
-use Rattle.std.specs.Prelude.{List}
+use Rattle.std.specs.Prelude.{Bool, List}
 use Rattle.jm_model.specs.Words.{Text}
 use Rattle.jm_model.specs.declared.fault.SpecError.{SpecError}
 use Rattle.jm_text.specs.declared.token.Token.{Token}
@@ -9,11 +9,11 @@ use Rattle.jm_grammar.specs.Grammars.{GrammarDefinition}
 use Rattle.jm_grammar.specs.Spelling.{Spells}
 use Rattle.jm_grammar.specs.Faults.{grammar_of, first_fault}
 
-module _ (bytes : Text) (tokens : List Token) (table : EventDefinitions) where
+module _ (bytes : Text) (tokens : List Token) (table : EventDefinitions) (suffix : Bool) where
   -- the tokens spell a formula without a fault, which says this grammar
   abbrev pub IsReadFrom : GrammarDefinition → Type 0
-  IsReadFrom = IsReadBy (Spells bytes tokens) (first_fault bytes table) (grammar_of bytes table)
+  IsReadFrom = IsReadBy (Spells bytes tokens) (first_fault bytes table suffix) (grammar_of bytes table)
 
   -- the tokens spell no formula, or one with this first fault, unless memory is short
   abbrev pub IsRefused : SpecError → Type 0
-  IsRefused = IsRefusedBy (Spells bytes tokens) (first_fault bytes table)
+  IsRefused = IsRefusedBy (Spells bytes tokens) (first_fault bytes table suffix)

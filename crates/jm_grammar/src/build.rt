@@ -2,7 +2,7 @@
 ghost use Rattle.std.specs.Prelude.{◌≡◌, ◌≤◌, [], length, IfOk, None};
 ghost use Rattle.jm_events.specs.Events.{event_names};
 ghost use Rattle.jm_reading.specs.Faults.{Checks, Makes, Answers, with_each};
-ghost use Rattle.jm_grammar.specs.Faults.{nonterminals, nonterminals_fault, productions_fault, symbols_fault, nonterminal_said, symbol_said, with_symbol, with_alternative, with_part, grammar_of, first_fault};
+ghost use Rattle.jm_grammar.specs.Faults.{nonterminals, productions_fault, symbols_fault, nonterminal_said, symbol_said, with_symbol, with_alternative, with_part, grammar_of, first_fault};
 
 use crate::faults::{self, Words};
 use crate::formula::Part;
@@ -167,7 +167,7 @@ fn known_grammar(
 ) -> Result<Grammar, SpecError>
     requires events { length table.now.events ≤ 32 }
     requires known { known.now ≡ nonterminals bytes.now parts.now }
-    requires nonterminals { nonterminals_fault bytes.now parts.now ≡ None }
+    requires few { length known.now ≤ 64 }
     requires productions { productions_fault parts.now ≡ None }
     requires symbols { symbols_fault bytes.now parts.now ≡ None }
     ensures { Answers result (grammar_of bytes.now table.now parts.now) }
@@ -184,12 +184,13 @@ pub fn grammar_of(
     bytes: &[u8],
     parts: &[Part],
     table: &EventTable,
+    suffix: bool,
 ) -> Result<Grammar, SpecError>
     ensures ok { IfOk result (λ g. grammar_of bytes.now table.now parts.now ≡ Ok g) }
-    ensures checked { Checks result (first_fault bytes.now table.now parts.now) }
+    ensures checked { Checks result (first_fault bytes.now table.now suffix parts.now) }
 {
     let known = faults::nonterminals(alloc, bytes, parts)?;
-    faults::few_nonterminals(bytes, parts, &known)?;
+    faults::few_nonterminals(bytes, suffix, parts, &known)?;
     faults::few_productions(parts)?;
     faults::few_symbols(bytes, parts)?;
     event_names::<Words>(table)?;

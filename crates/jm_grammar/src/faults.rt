@@ -1,11 +1,11 @@
 //! What is wrong with a formula, step by step.
-ghost use Rattle.std.specs.Prelude.{◌≡◌, ◌<◌, ◌≤◌, not, ◌+◌, ◌-◌, ◌^◌, [], IfOk, IfErr, OnOk, length, nat_lt, sum_by};
+ghost use Rattle.std.specs.Prelude.{◌≡◌, ◌≤◌, ◌<◌, ◌≤◌, not, ◌+◌, ◌-◌, ◌^◌, [], IfOk, IfErr, OnOk, length, nat_lt, sum_by};
 ghost use Rattle.std.specs.List.{list_any};
 ghost use Rattle.jm_events.specs.Events.{event_names};
 ghost use Rattle.jm_reading.specs.Names.{is_among};
 ghost use Rattle.jm_reading.specs.Tokens.{name_of};
 ghost use Rattle.jm_reading.specs.Faults.{Checks};
-ghost use Rattle.jm_grammar.specs.Faults.{nonterminals, nonterminals_fault, productions_fault, is_epsilon, symbol_count, is_long, has_long, symbols_fault, left_name_fault, clash_fault};
+ghost use Rattle.jm_grammar.specs.Faults.{nonterminals, most_nonterminals, nonterminals_fault, productions_fault, is_epsilon, symbol_count, is_long, has_long, symbols_fault, left_name_fault, clash_fault};
 
 use crate::formula::Part;
 use jm_events::{EventTable, Names};
@@ -15,6 +15,9 @@ use jm_text::Token;
 use std::alloc::Global;
 
 const MAX_NONTERMINALS: u32 = 64;
+
+/// How many there may be where the rule may begin anywhere: its grammar has two for each, and one more.
+const MAX_NONTERMINALS_OF_SUFFIX: u32 = 31;
 
 const MAX_PRODUCTIONS: usize = 256;
 
@@ -32,12 +35,29 @@ pub fn nonterminals(alloc: Global, bytes: &[u8], parts: &[Part]) -> Result<Names
     Ok(names)
 }
 
-/// There are at most 64 nonterminals.
-pub fn few_nonterminals(bytes: &[u8], parts: &[Part], known: &Names) -> Result<(), SpecError>
-    requires { known.now ≡ nonterminals bytes.now parts.now }
-    ensures { Checks result (nonterminals_fault bytes.now parts.now) }
+/// How many nonterminals there may be, where the rule may begin anywhere or may not.
+fn most_nonterminals(suffix: bool) -> u32
+    ensures { result ≡ most_nonterminals suffix }
 {
-    if known.len() > MAX_NONTERMINALS {
+    if suffix {
+        MAX_NONTERMINALS_OF_SUFFIX
+    } else {
+        MAX_NONTERMINALS
+    }
+}
+
+/// There are at most 64 nonterminals, or 31 where the rule may begin anywhere.
+pub fn few_nonterminals(
+    bytes: &[u8],
+    suffix: bool,
+    parts: &[Part],
+    known: &Names,
+) -> Result<(), SpecError>
+    requires { known.now ≡ nonterminals bytes.now parts.now }
+    ensures checked { Checks result (nonterminals_fault bytes.now suffix parts.now) }
+    ensures few { IfOk result (λ _. length known.now ≤ 64) }
+{
+    if known.len() > most_nonterminals(suffix) {
         let what = Counted::Nonterminals;
         return Err(SpecError::Bad(SpecFault::TooMany { what }));
     }

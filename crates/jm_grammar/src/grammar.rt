@@ -1,12 +1,18 @@
-ghost use Rattle.std.specs.Prelude.{◌≡◌, ◌↔◌, None, All, IsTrue, IfOk, IfSome};
+ghost use Rattle.std.specs.Prelude.{◌≡◌, ◌<◌, ◌≤◌, ◌↔◌, All, IsTrue, IfOk, IfErr, length};
 ghost use Rattle.jm_grammar.specs.Categories.{category_names};
-ghost use Rattle.jm_grammar.specs.Grammars.{IsSmall, IsSmallProduction, IsSmallSymbol};
+ghost use Rattle.jm_grammar.specs.Grammars.{IsSmall, HasSmallNumbers};
 
 use jm_events::Names;
 use jm_model::{Letter, NoMemory};
 use jm_reading::Items;
 use std::alloc::Global;
 use std::marker::Model;
+
+/// How many productions a grammar has room for.
+const MAX_PRODUCTIONS: usize = 65_536;
+
+/// How many symbols it has room for in each.
+const MAX_SYMBOLS: usize = 32;
 
 /// A symbol of a production: an event, or a nonterminal of the grammar.
 #[derive(Clone, Copy, Debug, PartialEq, Eq)]
@@ -24,7 +30,7 @@ pub struct Production {
     pub symbols: Items<GrammarSymbol>,
 }
 
-/// A grammar of at most 64 nonterminals and 256 productions of at most 32 symbols. Contracts see it as its
+/// A grammar of at most 64 nonterminals and 65,536 productions of at most 32 symbols. Contracts see it as its
 /// `GrammarDefinition`.
 #[derive(Drop)]
 pub struct Grammar {
@@ -51,16 +57,18 @@ impl Grammar {
         Grammar { productions, start }
     }
 
-    /// The grammar of these productions and this start, if it is within the limits: the start and each nonterminal
-    /// below 64, letters below 32, at most 256 productions, and at most 32 symbols in each.
-    pub fn of(productions: Vec<Production>, start: u8) -> Option<Grammar>
-        ensures some { IfSome result (λ g. g ≡ record { productions = productions.items; start = start }) }
-        ensures none { result ≡ None → IsSmall productions.items start → ⊥ }
+    /// The grammar of this start and these productions. A grammar has no memory for more than 65,536 productions, or 32
+    /// symbols in one.
+    pub fn of(start: u8, productions: Vec<Production>) -> Result<Grammar, NoMemory>
+        requires start { start < 64 }
+        requires numbers { All HasSmallNumbers productions.items }
+        ensures ok { IfOk result (λ g. g ≡ record { productions = productions.items; start = start }) }
+        ensures err { IfErr result (λ _. IsSmall productions.items start → ⊥) }
     {
-        if start < 64 && productions.len() <= 256 && are_small(productions.as_slice()) {
-            Some(Grammar::new(productions, start))
+        if productions.len() <= MAX_PRODUCTIONS && are_short(productions.as_slice()) {
+            Ok(Grammar::new(productions, start))
         } else {
-            None
+            Err(NoMemory)
         }
     }
 
@@ -96,15 +104,14 @@ impl Grammar {
 }
 
 impl Production {
-    fn is_small(&self) -> bool
-        ensures { IsTrue result ↔ IsSmallProduction self.now }
+    fn is_short(&self) -> bool
+        ensures { IsTrue result ↔ length self.now.symbols ≤ 32 }
     {
-        let symbols = self.symbols.as_slice();
-        self.left < 64 && symbols.len() <= 32 && are_small_symbols(symbols)
+        self.symbols.as_slice().len() <= MAX_SYMBOLS
     }
 
     /// An equal production.
-    pub(crate) fn copy(&self, alloc: Global) -> Result<Production, NoMemory>
+    pub fn copy(&self, alloc: Global) -> Result<Production, NoMemory>
         ensures { IfOk result (λ p. p ≡ self.now) }
     {
         let symbols = Items::from_slice(alloc, self.symbols.as_slice())?;
@@ -115,24 +122,9 @@ impl Production {
     }
 }
 
-/// Whether each production is within the limits.
-fn are_small(productions: &[Production]) -> bool
-    ensures { IsTrue result ↔ All IsSmallProduction productions.now }
+/// Whether no production has more than 32 symbols.
+fn are_short(productions: &[Production]) -> bool
+    ensures { IsTrue result ↔ All (λ p. length p.symbols ≤ 32) productions.now }
 {
-    productions.iter().all(|production| production.is_small())
-}
-
-fn is_small_symbol(symbol: GrammarSymbol) -> bool
-    ensures { IsTrue result ↔ IsSmallSymbol symbol }
-{
-    match symbol {
-        GrammarSymbol::Letter(letter) => letter.0 < 32,
-        GrammarSymbol::Nonterminal(n) => n < 64,
-    }
-}
-
-fn are_small_symbols(symbols: &[GrammarSymbol]) -> bool
-    ensures { IsTrue result ↔ All IsSmallSymbol symbols.now }
-{
-    symbols.iter().all(|symbol| is_small_symbol(*symbol))
+    productions.iter().all(|production| production.is_short())
 }

@@ -19,5 +19,5 @@ mod reading;
 mod reduce;
 
 pub use grammar::{Grammar, GrammarSymbol, Production};
-pub use laws::{letters_are_events, one_reading, productions_as_written};
+pub use laws::{letters_are_events, nonterminals_are_few, one_reading, productions_as_written};
 pub use reading::read;

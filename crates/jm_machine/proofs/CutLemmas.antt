@@ -16,19 +16,19 @@ use Rattle.jm_coenable.specs.Needs as needs
 use Rattle.jm_coenable.specs.Needs.{is_reset, step_of, run_from}
 use Rattle.jm_coenable.proofs.ResetLemmas.{IsResettingAt, reset_tells}
 use Rattle.jm_machine.specs.declared.engine.Engine.TheVariants.{States}
-use Rattle.jm_machine.specs.declared.configuration.Configuration.{Configuration}
-use Rattle.jm_machine.specs.declared.configuration.Configuration.TheVariants.{Start, Barren, State, Parse}
+use Rattle.jm_machine.specs.declared.place.Place.{Place}
+use Rattle.jm_machine.specs.declared.place.Place.TheVariants.{Start, Barren, State, Parse}
 use Rattle.jm_machine.specs.Formulas.{category_names}
 use Rattle.jm_machine.specs.Engines.{EngineHolds}
-use Rattle.jm_machine.specs.Meanings.{RuleDefinition, Resets, rules_meaning, is_failing_grammar}
-use Rattle.jm_machine.specs.RuleSets.{CompiledRules, IsRuleSet, IsHandledBy, may_begin}
-use Rattle.jm_machine.specs.Configurations.{IsConfigurationOf, IsBegun, Stands}
+use Rattle.jm_machine.specs.PropertyMeanings.{PropertyRules, Resets, property_meaning, is_failing_grammar}
+use Rattle.jm_machine.specs.CompiledProperties.{CompiledProperty, IsCompiledProperty, IsHandledBy, may_begin}
+use Rattle.jm_machine.specs.Places.{IsPlaceAfter, IsBegun, Stands}
 use Rattle.jm_machine.specs.Outlooks.{CanHitFrom}
 use Rattle.jm_machine.proofs.OptionLemmas.{looked_up}
 use Rattle.jm_machine.proofs.GoalLemmas.{one_is_set}
-use Rattle.jm_machine.proofs.ConfigurationLemmas.{push_word, no_letters}
+use Rattle.jm_machine.proofs.PlaceLemmas.{push_word, no_letters}
 use Rattle.jm_machine.proofs.RestLemmas.{asked_some, asked_anew, asked_on, asked_first}
-use Rattle.jm_machine.proofs.RuleLemmas.{handled_told, hit_handled, created_later}
+use Rattle.jm_machine.proofs.PropertyLemmas.{handled_told, hit_handled, created_later}
 use Rattle.jm_machine.proofs.NeedLemmas.{can_hit_needed}
 
 -- ---- lists by recursion and by places
@@ -53,33 +53,33 @@ not_so true P h = (λ (no : false ≡ true) p. absurd (false≢true no), λ neve
 not_so false P h = (λ _ p. false≢true (h.1 p), λ _. refl)
 
 -- a specification whose property isn't a grammar with a handler for `fail` is cut where no word can hit it
-pub cut_words : (d : RuleDefinition) (w : List ℕ) (dead : ℕ) → is_failing_grammar d ≡ false → (CanHit (rules_meaning d) w dead 0 → ⊥) ↔ IsCutWord (rules_meaning d) w dead
+pub cut_words : (d : PropertyRules) (w : List ℕ) (dead : ℕ) → is_failing_grammar d ≡ false → (CanHit (property_meaning d) w dead 0 → ⊥) ↔ IsCutWord (property_meaning d) w dead
 cut_words d w dead other = (
-  λ never k less. subst (λ (b : Bool). MatchBool b ((e : ℕ) → IsAvailable (rules_meaning d) dead e → ⊥) (CanHit (rules_meaning d) w dead 0 → ⊥)) (sym other) never,
+  λ never k less. subst (λ (b : Bool). MatchBool b ((e : ℕ) → IsAvailable (property_meaning d) dead e → ⊥) (CanHit (property_meaning d) w dead 0 → ⊥)) (sym other) never,
   λ cut can.
-      let never = subst (λ (b : Bool). MatchBool b ((e : ℕ) → IsAvailable (rules_meaning d) dead e → ⊥) (CanHit (rules_meaning d) w dead 0 → ⊥)) other (cut can.handler can.hit.2) in
+      let never = subst (λ (b : Bool). MatchBool b ((e : ℕ) → IsAvailable (property_meaning d) dead e → ⊥) (CanHit (property_meaning d) w dead 0 → ⊥)) other (cut can.handler can.hit.2) in
       never can,
 )
 
 -- a word that begins otherwise than words may can't be hit again
-pub barren_never : (d : RuleDefinition) (w : List ℕ) (mask : ℕ) → w ≢ [] → (IsCreated (rules_meaning d) w → ⊥) → IsNeeded (rules_meaning d) w mask → ⊥
-barren_never d w mask some never need = never ((created_later (rules_meaning d) w (need.next ∷ need.rest) some).1 need.hit.1)
+pub barren_never : (d : PropertyRules) (w : List ℕ) (mask : ℕ) → w ≢ [] → (IsCreated (property_meaning d) w → ⊥) → IsNeeded (property_meaning d) w mask → ⊥
+barren_never d w mask some never need = never ((created_later (property_meaning d) w (need.next ∷ need.rest) some).1 need.hit.1)
 
-pub barren_quiet : (d : RuleDefinition) (w : List ℕ) (dead : ℕ) → w ≢ [] → (IsCreated (rules_meaning d) w → ⊥) → CanHit (rules_meaning d) w dead 0 → ⊥
+pub barren_quiet : (d : PropertyRules) (w : List ℕ) (dead : ℕ) → w ≢ [] → (IsCreated (property_meaning d) w → ⊥) → CanHit (property_meaning d) w dead 0 → ⊥
 barren_quiet d w dead some never can =
-    let need = (can_hit_needed (rules_meaning d) dead w 0 (λ k. refl)).0 can in
+    let need = (can_hit_needed (property_meaning d) dead w 0 (λ k. refl)).0 can in
     barren_never d w need.0 some never need.1
 
 -- ---- the words of a table
 
-module _ (d : RuleDefinition) (t : Transitions) (goal : GoalDefinition) (v : EventDefinitions) (set : IsRuleSet (record { definition = d; engine = States t }))
+module _ (d : PropertyRules) (t : Transitions) (goal : GoalDefinition) (v : EventDefinitions) (set : IsCompiledProperty (record { definition = d; engine = States t }))
     (masks : d.masks ≡ map (λ (e : EventDefinition). e.mask) v.events) (found : map {A = ℕ} {B = Option ℕ} Some goal.groups ≡ map (number_of (category_names d.formula)) d.handlers)
     (firsts : (e : ℕ) → may_begin goal e ↔ ((d.creation ≡ []) ⊎ Contains d.creation e)) (marks : (k : ℕ) → IsBitSet goal.resets k ↔ Contains d.resets k) where
-  abbrev rules : CompiledRules
+  abbrev rules : CompiledProperty
   rules = record { definition = d; engine = States t }
 
   abbrev m : Meaning
-  m = rules_meaning d
+  m = property_meaning d
 
   pub params_same : (e : ℕ) → m.params e ≡ needs.params_at v e
   params_same e = ap (λ (xs : List ℕ). unwrap_or (slice_get xs e) 0) masks ∙ ap (λ (o : Option ℕ). unwrap_or o 0) (slice_get-map (λ (e : EventDefinition). e.mask) v.events e)
@@ -245,8 +245,8 @@ module _ (d : RuleDefinition) (t : Transitions) (goal : GoalDefinition) (v : Eve
   alive_same : (P Q : ℕ → Type 0) (dead : ℕ) → ((mask : ℕ) → P mask ↔ Q mask) → ((mask : ℕ) × P mask × (bit_and mask dead ≡ 0)) ↔ needs.IsAlive Q dead
   alive_same P Q dead same = (λ h. (h.0, (same h.0).0 h.1, h.2), λ h. (h.0, (same h.0).1 h.1, h.2))
 
-  -- a configuration can be hit again where its state, or the start, says so
-  pub can_hit_run : (configuration : Configuration) (w : List ℕ) (dead : ℕ) → ((w : List ℕ) → IsWord t w → state_after_of t w < t.states) → IsConfigurationOf rules configuration w → CanHit m w dead 0 ↔ CanHitFrom t goal v configuration dead
+  -- a place can be hit again where its state, or the start, says so
+  pub can_hit_run : (place : Place) (w : List ℕ) (dead : ℕ) → ((w : List ℕ) → IsWord t w → state_after_of t w < t.states) → IsPlaceAfter rules place w → CanHit m w dead 0 ↔ CanHitFrom t goal v place dead
   can_hit_run Start w dead within h =
       subst (λ (x : List ℕ). CanHit m x dead 0 ↔ needs.IsAlive (needs.IsNeededAtStart t goal v) dead) (sym h)
       (let by = can_hit_needed m dead [] 0 (λ k. refl) in

@@ -17,11 +17,11 @@ use Rattle.jm_coenable.specs.Needs.{run_from}
 use Rattle.jm_coenable.proofs.NeedLemmas.{params_few}
 use Rattle.jm_machine.specs.declared.engine.Engine.TheVariants.{States}
 use Rattle.jm_machine.specs.Formulas.{category_names}
-use Rattle.jm_machine.specs.Meanings.{RuleDefinition, rules_meaning}
-use Rattle.jm_machine.specs.RuleSets.{CompiledRules, IsRuleSet, may_begin}
-use Rattle.jm_machine.specs.Configurations.{IsBegun}
+use Rattle.jm_machine.specs.PropertyMeanings.{PropertyRules, property_meaning}
+use Rattle.jm_machine.specs.CompiledProperties.{CompiledProperty, IsCompiledProperty, may_begin}
+use Rattle.jm_machine.specs.Places.{IsBegun}
 use Rattle.jm_machine.proofs.RestLemmas.{letter_there}
-use Rattle.jm_machine.proofs.RuleLemmas.{created_later}
+use Rattle.jm_machine.proofs.PropertyLemmas.{created_later}
 use Rattle.jm_machine.proofs.CutLemmas.{all_places, all_recursion, Stood, stood_word, needed_from, params_same, back_letters}
 
 -- the letters before the last one
@@ -33,14 +33,14 @@ with_letter : (n : ℕ) (w : List ℕ) (e : ℕ) → AllByRecursion (λ x. x < n
 with_letter n [] e h less = (less, tt)
 with_letter n (x ∷ w) e h less = (h.0, with_letter n w e h.1 less)
 
-module _ (d : RuleDefinition) (t : Transitions) (goal : GoalDefinition) (v : EventDefinitions) (set : IsRuleSet (record { definition = d; engine = States t }))
+module _ (d : PropertyRules) (t : Transitions) (goal : GoalDefinition) (v : EventDefinitions) (set : IsCompiledProperty (record { definition = d; engine = States t }))
     (masks : d.masks ≡ map (λ (e : EventDefinition). e.mask) v.events) (found : map {A = ℕ} {B = Option ℕ} Some goal.groups ≡ map (number_of (category_names d.formula)) d.handlers)
     (firsts : (e : ℕ) → may_begin goal e ↔ ((d.creation ≡ []) ⊎ Contains d.creation e)) (marks : (k : ℕ) → IsBitSet goal.resets k ↔ Contains d.resets k) where
-  abbrev rules : CompiledRules
+  abbrev rules : CompiledProperty
   rules = record { definition = d; engine = States t }
 
   abbrev m : Meaning
-  m = rules_meaning d
+  m = property_meaning d
 
   abbrev Stands : ℕ → List ℕ → Type 0
   Stands state w = Stood d t goal v set masks found firsts marks state w

@@ -1,5 +1,5 @@
 -- What runs a formula tells its categories.
-use Rattle.std.proofs.Common.{[], ◌∷◌, map, length-append, ◌≡◌, ℕ, zero, suc, ◌<◌, List, ◌++◌, length, Result, Ok, Err, sym, subst, arith}
+use Rattle.std.proofs.Common.{false, [], ◌∷◌, map, length-append, ◌≡◌, ℕ, zero, suc, ◌<◌, List, ◌++◌, length, Result, Ok, Err, sym, subst, arith}
 use Rattle.std.specs.Prelude.{◌↔◌, All, Contains, IfOk, codes}
 use Rattle.std.proofs.lemmas.List.{length-map}
 use Rattle.std.proofs.lemmas.List.Elements.{All-weaker, All-contains_itself}
@@ -81,8 +81,8 @@ all_of : {X : Type 0} (P : X → Type 0) (xs : List X) → ((x : X) → Contains
 all_of P xs each = All-weaker (Contains xs) P each xs (All-contains_itself xs)
 
 module _ (bytes : List ℕ) (tokens : List Token) (table : EventDefinitions) where
-  symbol_below : (g : GrammarDefinition) → grammar_readings.IsReadFrom bytes tokens table g → (p : Production) → Contains g.productions p → (s : GrammarSymbol) → Contains p.symbols s → IsBelow (length table.events) s
-  symbol_below g read p has (Letter a) at = grammar_reading.letters_there bytes tokens table g read p has a at
+  symbol_below : (g : GrammarDefinition) → grammar_readings.IsReadFrom bytes tokens table false g → (p : Production) → Contains g.productions p → (s : GrammarSymbol) → Contains p.symbols s → IsBelow (length table.events) s
+  symbol_below g read p has (Letter a) at = grammar_reading.letters_there bytes tokens table false g read p has a at
   symbol_below g read p has (Nonterminal n) at = tt
 
   -- the letters of a formula that was read are events

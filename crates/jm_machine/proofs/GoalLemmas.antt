@@ -13,21 +13,21 @@ use Rattle.std.proofs.lemmas.List.FromFn.{length-range_with_len, get_or-range_wi
 use Rattle.jm_events.specs.Events.{EventDefinition, EventDefinitions, IsCreation}
 use Rattle.std.proofs.lemmas.Option.{slice_get_within}
 use Rattle.jm_events.proofs.NameLemmas.{slice_get-take, slice_get-take_past}
-use Rattle.jm_machine.specs.Meanings.{is_creation, creation_letters}
-use Rattle.jm_machine.specs.RuleSets.{has_bit, numbers_of}
+use Rattle.jm_machine.specs.PropertyMeanings.{is_creation, creation_letters}
+use Rattle.jm_machine.specs.CompiledProperties.{has_bit, numbers_of}
 use Rattle.jm_machine.proofs.OptionLemmas.{same_bool}
 
 -- ---- one handler more
 
 -- the bit that was set
-set_here : (n i : ℕ) → i < 16 → IsBitSet (bit_or n (1 * 2 ^ i % 2 ^ 16)) i
+pub set_here : (n i : ℕ) → i < 16 → IsBitSet (bit_or n (1 * 2 ^ i % 2 ^ 16)) i
 set_here n i lt = λ e.
     let one : bit_at (bit_or n (1 * 2 ^ i % 2 ^ 16)) i ≡ 1 = bit_at_set_same w16 n i lt in
     let power : 1 * 2 ^ i ≡ 0 = rw (and_pow (bit_or n (1 * 2 ^ i % 2 ^ 16)) i, one) at e in
     omega (arith, pow_pos i)
 
 -- another bit stays
-kept_other : (n i k : ℕ) → i < 16 → k ≢ i → bit_and (bit_or n (1 * 2 ^ i % 2 ^ 16)) (2 ^ k) ≡ bit_and n (2 ^ k)
+pub kept_other : (n i k : ℕ) → i < 16 → k ≢ i → bit_and (bit_or n (1 * 2 ^ i % 2 ^ 16)) (2 ^ k) ≡ bit_and n (2 ^ k)
 kept_other n i k lt other = rw (and_pow (bit_or n (1 * 2 ^ i % 2 ^ 16)) k, and_pow n k, bit_at_set_other w16 n i lt k other) refl
 
 module _ {X : Type 0} (groups : List X) (P : X → Type 0) (hits i : ℕ) (group : X) (at : slice_get groups i ≡ Some group) where

@@ -13,7 +13,12 @@ use Rattle.jm_reading.specs.Tokens.{name_of}
 use Rattle.jm_events.specs.Names.{number_of, with_name}
 use Rattle.jm_events.proofs.NameLemmas.{list_any-number_of, list_any-no_number, with_name-new}
 use Rattle.jm_spec.specs.declared.property.HandlerText.{HandlerText}
-use Rattle.jm_machine.specs.Handlers.{handler_names, AreCategories, duplicate_fault, category_fault}
+use Rattle.jm_spec.specs.declared.tree.PropertyTree.{PropertyTree}
+use Rattle.jm_spec.specs.Trees.{PropertyFacts, facts_of}
+use Rattle.jm_model.specs.declared.fault.SpecError.{SpecError}
+use Rattle.jm_model.specs.declared.fault.SpecError.TheVariants.{Bad, NoMemory}
+use Rattle.jm_reading.specs.Faults.{or_else, Refuses}
+use Rattle.jm_machine.specs.Handlers.{handler_names, AreCategories, handlers_in, first_fault, duplicate_fault, category_fault}
 use Rattle.jm_machine.proofs.OptionLemmas.{none_of_not_some}
 
 module _ (bytes : List ℕ) (names : List (List ℕ)) (hs : List HandlerText) (i : ℕ) (d : HandlerText) (name : List ℕ) (found : Option ℕ) (less : i < length hs) (named : name ≡ name_of bytes (get_or hs i d).category) (lookup : found ≡ number_of names name) where
@@ -75,3 +80,21 @@ has_number categories names k name known at none =
     subst (λ n. list_any (bytes_eq n) categories ≡ true) (get_or_from_slice_get names k name name at)
     (All-get_or (λ n. list_any (bytes_eq n) categories ≡ true) names k name (slice_get_within names k name at) known) in
     false≢true (sym (list_any-no_number categories name none) ∙ is)
+
+-- ---- properties
+
+-- the properties from one on
+pub facts_here : (ps : List PropertyTree) (i : ℕ) (d : PropertyTree) → i < length ps → map facts_of (drop i ps) ≡ facts_of (get_or ps i d) ∷ map facts_of (drop (i + 1) ps)
+facts_here ps i d less = rw (add-one, drop-cons ps i d less) refl
+
+pub first_later : (f : PropertyFacts → Option SpecFault) (ps : List PropertyTree) (i : ℕ) (d : PropertyTree) → i < length ps → f (facts_of (get_or ps i d)) ≡ None → first_fault f (map facts_of (drop (i + 1) ps)) ≡ first_fault f (map facts_of (drop i ps))
+first_later f ps i d less none =
+    sym (ap (first_fault f) (facts_here ps i d less) ∙ ap (λ (o : Option SpecFault). or_else o (first_fault f (map facts_of (drop (i + 1) ps)))) none)
+
+pub first_here : (f : PropertyFacts → Option SpecFault) (ps : List PropertyTree) (i : ℕ) (d : PropertyTree) (e : SpecError) → i < length ps → Refuses (f (facts_of (get_or ps i d))) e → Refuses (first_fault f (map facts_of (drop i ps))) e
+first_here f ps i d NoMemory less h = tt
+first_here f ps i d (Bad fault) less h =
+    ap (first_fault f) (facts_here ps i d less) ∙ ap (λ (o : Option SpecFault). or_else o (first_fault f (map facts_of (drop (i + 1) ps)))) h
+
+pub handlers_here : (ps : List PropertyTree) (i : ℕ) (d : PropertyTree) → i < length ps → handlers_in (map facts_of (drop i ps)) ≡ length (get_or ps i d).handlers.items + handlers_in (map facts_of (drop (i + 1) ps))
+handlers_here ps i d less = ap handlers_in (facts_here ps i d less)

@@ -20,21 +20,21 @@ use Rattle.jm_machine.specs.declared.formula.Formula.{Formula}
 use Rattle.jm_machine.specs.declared.engine.Engine.{Engine}
 use Rattle.jm_machine.specs.declared.engine.Engine.TheVariants.{States, Parses}
 use Rattle.jm_machine.specs.declared.outlook.Outlook.TheVariants.{Table, Grammar}
-use Rattle.jm_machine.specs.declared.configuration.Configuration.{Configuration}
-use Rattle.jm_machine.specs.declared.configuration.Configuration.TheVariants.{Start, Barren, State, Parse}
+use Rattle.jm_machine.specs.declared.place.Place.{Place}
+use Rattle.jm_machine.specs.declared.place.Place.TheVariants.{Start, Barren, State, Parse}
 use Rattle.jm_machine.specs.Formulas.{category_names}
 use Rattle.jm_machine.specs.Engines.{IsPlaceOf, EngineHolds}
 use Rattle.jm_machine.specs.Rests.{IsRest}
-use Rattle.jm_machine.specs.Meanings.{RuleDefinition, Resets, rules_meaning, is_failing_grammar}
-use Rattle.jm_machine.specs.RuleSets.{CompiledRules, IsRuleSet, IsGoalOf, IsHandledBy, definition_of, may_begin}
-use Rattle.jm_machine.specs.Configurations.{IsConfigurationOf, IsBegun, Stands}
+use Rattle.jm_machine.specs.PropertyMeanings.{PropertyRules, Resets, property_meaning, is_failing_grammar}
+use Rattle.jm_machine.specs.CompiledProperties.{CompiledProperty, IsCompiledProperty, IsGoalOf, IsHandledBy, definition_of, may_begin}
+use Rattle.jm_machine.specs.Places.{IsPlaceAfter, IsBegun, Stands}
 use Rattle.jm_machine.specs.Outlooks.{StateFacts, ParseFacts, AreFactsOf, IsEndingLetter, CanHitFrom, IsLeftOf, CanMatch}
 use Rattle.jm_machine.specs.Known.{IsKnown}
 use Rattle.jm_machine.proofs.OptionLemmas.{looked_up}
 use Rattle.jm_machine.proofs.GoalLemmas.{begins_as_listed, number_in, number_set}
-use Rattle.jm_machine.proofs.ConfigurationLemmas.{state_within, push_word}
+use Rattle.jm_machine.proofs.PlaceLemmas.{state_within, push_word}
 use Rattle.jm_machine.proofs.RestLemmas.{letter_there, asked_some, asked_on, left_anew, left_on}
-use Rattle.jm_machine.proofs.RuleLemmas.{handled_told, hit_handled, begun_later, created_later}
+use Rattle.jm_machine.proofs.PropertyLemmas.{handled_told, hit_handled, begun_later, created_later}
 use Rattle.jm_machine.proofs.CutLemmas.{not_so, cut_words, can_hit_run, barren_quiet, stood_more, stood_first}
 use Rattle.jm_machine.proofs.ParseLemmas.{failing_cut, matching_cut}
 use Rattle.jm_machine.proofs.FamilyLemmas.{family_is}
@@ -43,14 +43,14 @@ use Rattle.jm_machine.proofs.OutlookLemmas.{no_bit_of_zero}
 -- ---- a table
 
 module _ (masks : List ℕ) (formula : Formula) (handlers : List (List ℕ)) (goal : GoalDefinition) (g : IsGoalOf masks formula handlers goal) where
-  abbrev d : RuleDefinition
+  abbrev d : PropertyRules
   d = definition_of masks formula handlers goal
 
-  abbrev rules_with : Engine → CompiledRules
+  abbrev rules_with : Engine → CompiledProperty
   rules_with engine = record { definition = d; engine = engine }
 
   abbrev m : Meaning
-  m = rules_meaning d
+  m = property_meaning d
 
   listed : (e : ℕ) → may_begin goal e ↔ ((d.creation ≡ []) ⊎ Contains d.creation e)
   listed e = begins_as_listed goal.creation (length masks) e g.creation
@@ -58,8 +58,8 @@ module _ (masks : List ℕ) (formula : Formula) (handlers : List (List ℕ)) (go
   marked : (k : ℕ) → IsBitSet goal.resets k ↔ Contains d.resets k
   marked k = (λ bit. number_in goal.resets (length handlers) k (g.resets k bit) bit, number_set goal.resets (length handlers) k)
 
-  module _ (t : Transitions) (facts : StateFacts) (set : IsRuleSet (rules_with (States t))) (known : IsKnown d goal (States t) (Table facts)) where
-    abbrev r : CompiledRules
+  module _ (t : Transitions) (facts : StateFacts) (set : IsCompiledProperty (rules_with (States t))) (known : IsKnown d goal (States t) (Table facts)) where
+    abbrev r : CompiledProperty
     r = rules_with (States t)
 
     told : AreFactsOf t goal known.events facts
@@ -89,28 +89,28 @@ module _ (masks : List ℕ) (formula : Formula) (handlers : List (List ℕ)) (go
     unreset : (s : ℕ) (x : List ℕ) → IsPlaceOf (States t) (State s) x → x ≢ [] → slice_index facts.hits s ≡ 0 → Resets d x → ⊥
     unreset s x place some quiet reset = unhandled s x place quiet reset.0 ((handled_told r set x place.0 some reset.0).1 reset.2)
 
-    can_run : (configuration : Configuration) (w : List ℕ) (dead : ℕ) → IsConfigurationOf r configuration w → CanHit m w dead 0 ↔ CanHitFrom t goal known.events configuration dead
-    can_run configuration w dead h = can_hit_run d t goal known.events set known.masks g.groups listed marked configuration w dead (λ w word. state_within t w told.table word) h
+    can_run : (place : Place) (w : List ℕ) (dead : ℕ) → IsPlaceAfter r place w → CanHit m w dead 0 ↔ CanHitFrom t goal known.events place dead
+    can_run place w dead h = can_hit_run d t goal known.events set known.masks g.groups listed marked place w dead (λ w word. state_within t w told.table word) h
 
     -- where nothing can be hit from the state that stands for a word, the word is cut
     lost : (s : ℕ) (word : List ℕ) → IsBegun r word → Stands r (State s) word → (CanHitFrom t goal known.events (State s) 0 → ⊥) → CanHit m word 0 0 → ⊥
     lost s word begun stood never can = never ((can_run (State s) word 0 (begun, stood)).0 can)
 
-    table_cut : (configuration : Configuration) (dead : ℕ) (can : Bool) → IsTrue can ↔ CanHitFrom t goal known.events configuration dead → (w : List ℕ) → IsConfigurationOf r configuration w → IsTrue (not can) ↔ IsCutWord m w dead
-    table_cut configuration dead can says w h =
-        let by = can_run configuration w dead h in
+    table_cut : (place : Place) (dead : ℕ) (can : Bool) → IsTrue can ↔ CanHitFrom t goal known.events place dead → (w : List ℕ) → IsPlaceAfter r place w → IsTrue (not can) ↔ IsCutWord m w dead
+    table_cut place dead can says w h =
+        let by = can_run place w dead h in
         let cut = cut_words d w dead not_failing in
         let no = not_so can (CanHit m w dead 0) (λ yes. by.1 (says.0 yes), λ hit. says.1 (by.0 hit)) in
         (λ yes. cut.0 (no.0 yes), λ is_cut. no.1 (cut.1 is_cut))
 
-    table_stays : (s e : ℕ) → IsBitSet (slice_index facts.idle s) e → (w : List ℕ) → IsConfigurationOf r (State s) w → IsConfigurationOf r (State s) (w ++ e ∷ [])
+    table_stays : (s e : ℕ) → IsBitSet (slice_index facts.idle s) e → (w : List ℕ) → IsPlaceAfter r (State s) w → IsPlaceAfter r (State s) (w ++ e ∷ [])
     table_stays s e set w h =
         let x = h.1.0 in
         let idle = told.idle s e (there s x h.1.2) set in
         let never = unreset s x h.1.2 (asked_some (Resets d) w x h.1.1).1 idle.quiet in
         (begun_later r w e h.0, (x ++ e ∷ [], asked_on (Resets d) w x e h.1.1 never, push_word t s s e x idle.letter (sym idle.stays) h.1.2))
 
-    table_rests : (s e : ℕ) → IsBitSet (slice_index facts.idle s) e → (w : List ℕ) → IsConfigurationOf r (State s) w → (k : ℕ) → IsHit m (w ++ e ∷ []) k → ⊥
+    table_rests : (s e : ℕ) → IsBitSet (slice_index facts.idle s) e → (w : List ℕ) → IsPlaceAfter r (State s) w → (k : ℕ) → IsHit m (w ++ e ∷ []) k → ⊥
     table_rests s e bit w h k hit =
         let idle = told.idle s e (there s h.1.0 h.1.2) bit in
         let after = table_stays s e bit w h in
@@ -150,67 +150,67 @@ module _ (masks : List ℕ) (formula : Formula) (handlers : List (List ℕ)) (go
   -- ---- whatever runs the property
 
   module _ (facts : StateFacts) where
-    pub known_hits : (engine : Engine) → IsRuleSet (rules_with engine) → IsKnown d goal engine (Table facts) → (s : ℕ) (bits : ℕ) → (s < length facts.hits → bits ≡ slice_index facts.hits s) → (word : List ℕ) → IsPlaceOf engine (State s) word → (k : ℕ) → IsBitSet bits k ↔ IsHandledBy (rules_with engine) word k
+    pub known_hits : (engine : Engine) → IsCompiledProperty (rules_with engine) → IsKnown d goal engine (Table facts) → (s : ℕ) (bits : ℕ) → (s < length facts.hits → bits ≡ slice_index facts.hits s) → (word : List ℕ) → IsPlaceOf engine (State s) word → (k : ℕ) → IsBitSet bits k ↔ IsHandledBy (rules_with engine) word k
     known_hits (States t) set known s bits is word place k =
         let told : AreFactsOf t goal known.events facts = known.told in
         let less : s < length facts.hits = subst (λ (n : ℕ). s < n) (sym told.count) (there t facts set known s word place) in
         subst (λ (n : ℕ). IsBitSet n k ↔ IsHandledBy (rules_with (States t)) word k) (sym (is less)) (handled_state t facts set known s word place k)
     known_hits (Parses c) set known s bits is word place k = absurd place
 
-    pub known_cut : (engine : Engine) → IsRuleSet (rules_with engine) → IsKnown d goal engine (Table facts) → (configuration : Configuration) (dead : ℕ) (can : Bool)
-        → ((t : Transitions) (g : GoalDefinition) (v : EventDefinitions) → AreNeedsOf t g v facts.needs → IsTrue can ↔ CanHitFrom t g v configuration dead)
-        → (w : List ℕ) → IsConfigurationOf (rules_with engine) configuration w → IsTrue (not can) ↔ IsCutWord m w dead
-    known_cut (States t) set known configuration dead can says w h =
+    pub known_cut : (engine : Engine) → IsCompiledProperty (rules_with engine) → IsKnown d goal engine (Table facts) → (place : Place) (dead : ℕ) (can : Bool)
+        → ((t : Transitions) (g : GoalDefinition) (v : EventDefinitions) → AreNeedsOf t g v facts.needs → IsTrue can ↔ CanHitFrom t g v place dead)
+        → (w : List ℕ) → IsPlaceAfter (rules_with engine) place w → IsTrue (not can) ↔ IsCutWord m w dead
+    known_cut (States t) set known place dead can says w h =
         let told : AreFactsOf t goal known.events facts = known.told in
-        table_cut t facts set known configuration dead can (says t goal known.events told.needs) w h
-    known_cut (Parses c) set known configuration dead can says w h = absurd known.told
+        table_cut t facts set known place dead can (says t goal known.events told.needs) w h
+    known_cut (Parses c) set known place dead can says w h = absurd known.told
 
-    pub known_stays : (engine : Engine) → IsRuleSet (rules_with engine) → IsKnown d goal engine (Table facts) → (s e bits : ℕ) → bits ≡ slice_index facts.idle s → IsBitSet bits e → (w : List ℕ) → IsConfigurationOf (rules_with engine) (State s) w → IsConfigurationOf (rules_with engine) (State s) (w ++ e ∷ [])
+    pub known_stays : (engine : Engine) → IsCompiledProperty (rules_with engine) → IsKnown d goal engine (Table facts) → (s e bits : ℕ) → bits ≡ slice_index facts.idle s → IsBitSet bits e → (w : List ℕ) → IsPlaceAfter (rules_with engine) (State s) w → IsPlaceAfter (rules_with engine) (State s) (w ++ e ∷ [])
     known_stays (States t) set known s e bits is bit w h = table_stays t facts set known s e (subst (λ (n : ℕ). IsBitSet n e) is bit) w h
     known_stays (Parses c) set known s e bits is bit w h = absurd known.told
 
-    pub known_rests : (engine : Engine) → IsRuleSet (rules_with engine) → IsKnown d goal engine (Table facts) → (s e bits : ℕ) → bits ≡ slice_index facts.idle s → IsBitSet bits e → (w : List ℕ) → IsConfigurationOf (rules_with engine) (State s) w → (k : ℕ) → IsHit m (w ++ e ∷ []) k → ⊥
+    pub known_rests : (engine : Engine) → IsCompiledProperty (rules_with engine) → IsKnown d goal engine (Table facts) → (s e bits : ℕ) → bits ≡ slice_index facts.idle s → IsBitSet bits e → (w : List ℕ) → IsPlaceAfter (rules_with engine) (State s) w → (k : ℕ) → IsHit m (w ++ e ∷ []) k → ⊥
     known_rests (States t) set known s e bits is bit w h k hit = table_rests t facts set known s e (subst (λ (n : ℕ). IsBitSet n e) is bit) w h k hit
     known_rests (Parses c) set known s e bits is bit w h k hit = absurd known.told
 
-    ending_at : (t : Transitions) (set : IsRuleSet (rules_with (States t))) (known : IsKnown d goal (States t) (Table facts)) (s e bits : ℕ) → bits ≡ slice_index facts.ending s → IsBitSet bits e → (w : List ℕ) → IsConfigurationOf (rules_with (States t)) (State s) w → IsEndingLetter t facts.hits goal facts.needs s e
+    ending_at : (t : Transitions) (set : IsCompiledProperty (rules_with (States t))) (known : IsKnown d goal (States t) (Table facts)) (s e bits : ℕ) → bits ≡ slice_index facts.ending s → IsBitSet bits e → (w : List ℕ) → IsPlaceAfter (rules_with (States t)) (State s) w → IsEndingLetter t facts.hits goal facts.needs s e
     ending_at t set known s e bits is bit w h =
         let told : AreFactsOf t goal known.events facts = known.told in
         told.ending s e (there t facts set known s h.1.0 h.1.2) (subst (λ (n : ℕ). IsBitSet n e) is bit)
 
-    pub known_quiet : (engine : Engine) → IsRuleSet (rules_with engine) → IsKnown d goal engine (Table facts) → (s e bits : ℕ) → bits ≡ slice_index facts.ending s → IsBitSet bits e → (w : List ℕ) → IsConfigurationOf (rules_with engine) (State s) w → (k : ℕ) → IsHit m (w ++ e ∷ []) k → ⊥
+    pub known_quiet : (engine : Engine) → IsCompiledProperty (rules_with engine) → IsKnown d goal engine (Table facts) → (s e bits : ℕ) → bits ≡ slice_index facts.ending s → IsBitSet bits e → (w : List ℕ) → IsPlaceAfter (rules_with engine) (State s) w → (k : ℕ) → IsHit m (w ++ e ∷ []) k → ⊥
     known_quiet (States t) set known s e bits is bit w h k hit =
         let ends = ending_at t set known s e bits is bit w h in
         ended_quiet t facts set known s e (w ++ e ∷ []) (ended t facts set known s e w h.1 ends) ends k hit
     known_quiet (Parses c) set known s e bits is bit w h k hit = absurd known.told
 
-    pub known_ends : (engine : Engine) → IsRuleSet (rules_with engine) → IsKnown d goal engine (Table facts) → (s e bits : ℕ) → bits ≡ slice_index facts.ending s → IsBitSet bits e → (w : List ℕ) → IsConfigurationOf (rules_with engine) (State s) w → IsCutWord m (w ++ e ∷ []) 0
+    pub known_ends : (engine : Engine) → IsCompiledProperty (rules_with engine) → IsKnown d goal engine (Table facts) → (s e bits : ℕ) → bits ≡ slice_index facts.ending s → IsBitSet bits e → (w : List ℕ) → IsPlaceAfter (rules_with engine) (State s) w → IsCutWord m (w ++ e ∷ []) 0
     known_ends (States t) set known s e bits is bit w h =
         let ends = ending_at t set known s e bits is bit w h in
         ended_cut t facts set known s e (w ++ e ∷ []) (letter_there w e) (ended t facts set known s e w h.1 ends) ends
     known_ends (Parses c) set known s e bits is bit w h = absurd known.told
 
-    pub known_first_quiet : (engine : Engine) → IsRuleSet (rules_with engine) → IsKnown d goal engine (Table facts) → (e bits : ℕ) → bits ≡ facts.first_ending → IsBitSet bits e → (w : List ℕ) → w ≡ [] → (k : ℕ) → IsHit m (w ++ e ∷ []) k → ⊥
+    pub known_first_quiet : (engine : Engine) → IsCompiledProperty (rules_with engine) → IsKnown d goal engine (Table facts) → (e bits : ℕ) → bits ≡ facts.first_ending → IsBitSet bits e → (w : List ℕ) → w ≡ [] → (k : ℕ) → IsHit m (w ++ e ∷ []) k → ⊥
     known_first_quiet (States t) set known e bits is bit w empty k hit =
         first_quiet t facts set known e (subst (λ (n : ℕ). IsBitSet n e) is bit) k (subst (λ (x : List ℕ). IsHit m (x ++ e ∷ []) k) empty hit)
     known_first_quiet (Parses c) set known e bits is bit w empty k hit = absurd known.told
 
-    pub known_first_ends : (engine : Engine) → IsRuleSet (rules_with engine) → IsKnown d goal engine (Table facts) → (e bits : ℕ) → bits ≡ facts.first_ending → IsBitSet bits e → (w : List ℕ) → w ≡ [] → IsCutWord m (w ++ e ∷ []) 0
+    pub known_first_ends : (engine : Engine) → IsCompiledProperty (rules_with engine) → IsKnown d goal engine (Table facts) → (e bits : ℕ) → bits ≡ facts.first_ending → IsBitSet bits e → (w : List ℕ) → w ≡ [] → IsCutWord m (w ++ e ∷ []) 0
     known_first_ends (States t) set known e bits is bit w empty =
         subst (λ (x : List ℕ). IsCutWord m (x ++ e ∷ []) 0) (sym empty) (first_cut t facts set known e (subst (λ (n : ℕ). IsBitSet n e) is bit))
     known_first_ends (Parses c) set known e bits is bit w empty = absurd known.told
 
-    pub known_family : (engine : Engine) → IsRuleSet (rules_with engine) → IsKnown d goal engine (Table facts) → (e : ℕ) (family : List ℕ) → e < length masks → ((mask : ℕ) → Contains family mask → mask < 256) → IsStrictlySortedBy nat_cmp family
+    pub known_family : (engine : Engine) → IsCompiledProperty (rules_with engine) → IsKnown d goal engine (Table facts) → (e : ℕ) (family : List ℕ) → e < length masks → ((mask : ℕ) → Contains family mask → mask < 256) → IsStrictlySortedBy nat_cmp family
         → ((t : Transitions) (g : GoalDefinition) (v : EventDefinitions) → AreNeedsOf t g v facts.needs → (mask : ℕ) → mask < 256 → Contains family mask ↔ IsInFamily t g v e mask) → IsFamily m e family
     known_family (States t) set known e family less bytes rising exact =
         let told : AreFactsOf t goal known.events facts = known.told in
         family_is d t goal known.events set known.masks g.groups listed marked e family (subst (λ (n : ℕ). e < n) (sym set.letters) less) known.few bytes rising (exact t goal known.events told.needs)
     known_family (Parses c) set known e family less bytes rising exact = absurd known.told
 
-  module _ (facts : ParseFacts) (c : ChartsDefinition) (set : IsRuleSet (rules_with (Parses c))) (known : IsKnown d goal (Parses c) (Grammar facts)) where
-    -- so much is left of a configuration's word, by what tells whether it reset the property
-    left_of_run : (configuration : Configuration) (reset : Bool) → ((x : List ℕ) → x ≢ [] → IsPlaceOf (Parses c) configuration x → IsTrue reset ↔ Resets d x) → (w : List ℕ) → IsConfigurationOf (rules_with (Parses c)) configuration w
-        → (configuration ≡ Barren → ⊥) → (rest : List ℕ) × IsRest (Resets d) w rest × All (λ e. e < length c.params) rest × IsLeftOf c configuration reset rest
+  module _ (facts : ParseFacts) (c : ChartsDefinition) (set : IsCompiledProperty (rules_with (Parses c))) (known : IsKnown d goal (Parses c) (Grammar facts)) where
+    -- so much is left of a place's word, by what tells whether it reset the property
+    left_of_run : (place : Place) (reset : Bool) → ((x : List ℕ) → x ≢ [] → IsPlaceOf (Parses c) place x → IsTrue reset ↔ Resets d x) → (w : List ℕ) → IsPlaceAfter (rules_with (Parses c)) place w
+        → (place ≡ Barren → ⊥) → (rest : List ℕ) × IsRest (Resets d) w rest × All (λ e. e < length c.params) rest × IsLeftOf c place reset rest
     left_of_run Start reset says w h run = ([], subst (λ (x : List ℕ). IsRest (Resets d) x []) (sym h) refl, All-nil (λ e. e < length c.params), tt)
     left_of_run Barren reset says w h run = absurd (run refl)
     left_of_run (State s) reset says w h run = absurd h.1.2
@@ -223,15 +223,15 @@ module _ (masks : List ℕ) (formula : Formula) (handlers : List (List ℕ)) (go
         let never = λ (reset : Resets d x). false≢true ((says x (asked_some (Resets d) w x h.1.1).1 h.1.2).1 reset) in
         (x, left_on (Resets d) w x h.1.1 never, h.1.2.0, h.1.2.1)
 
-    pub known_parse_cut : (configuration : Configuration) (dead : ℕ) (reset cut : Bool)
-        → ((x : List ℕ) → x ≢ [] → IsPlaceOf (Parses c) configuration x → IsTrue reset ↔ Resets d x)
+    pub known_parse_cut : (place : Place) (dead : ℕ) (reset cut : Bool)
+        → ((x : List ℕ) → x ≢ [] → IsPlaceOf (Parses c) place x → IsTrue reset ↔ Resets d x)
         → (facts.failing ≡ true → IsTrue cut ↔ ((e : ℕ) → charts.IsAvailable c.params dead e → ⊥))
-        → (facts.failing ≡ false → (word : List ℕ) → IsLeftOf c configuration reset word → IsTrue cut ↔ ((goal.groups ≢ []) × CanMatch c goal configuration word dead → ⊥))
-        → (w : List ℕ) → IsConfigurationOf (rules_with (Parses c)) configuration w → IsTrue cut ↔ IsCutWord m w dead
-    known_parse_cut configuration dead reset cut says failing matching w h = by_case facts.failing refl
+        → (facts.failing ≡ false → (word : List ℕ) → IsLeftOf c place reset word → IsTrue cut ↔ ((goal.groups ≢ []) × CanMatch c goal place word dead → ⊥))
+        → (w : List ℕ) → IsPlaceAfter (rules_with (Parses c)) place w → IsTrue cut ↔ IsCutWord m w dead
+    known_parse_cut place dead reset cut says failing matching w h = by_case facts.failing refl
       where
-        by_matching : facts.failing ≡ false → (configuration : Configuration) → ((x : List ℕ) → x ≢ [] → IsPlaceOf (Parses c) configuration x → IsTrue reset ↔ Resets d x)
-            → ((word : List ℕ) → IsLeftOf c configuration reset word → IsTrue cut ↔ ((goal.groups ≢ []) × CanMatch c goal configuration word dead → ⊥)) → IsConfigurationOf (rules_with (Parses c)) configuration w → IsTrue cut ↔ IsCutWord m w dead
+        by_matching : facts.failing ≡ false → (place : Place) → ((x : List ℕ) → x ≢ [] → IsPlaceOf (Parses c) place x → IsTrue reset ↔ Resets d x)
+            → ((word : List ℕ) → IsLeftOf c place reset word → IsTrue cut ↔ ((goal.groups ≢ []) × CanMatch c goal place word dead → ⊥)) → IsPlaceAfter (rules_with (Parses c)) place w → IsTrue cut ↔ IsCutWord m w dead
         by_matching is Barren says told h =
             let meant = (cut_words d w dead (sym known.told.2 ∙ is)).0 (λ can. barren_quiet d w dead h.0 h.1 can) in
             (λ _. meant, λ _. (told [] tt).1 (λ both. both.1))
@@ -250,4 +250,4 @@ module _ (masks : List ℕ) (formula : Formula) (handlers : List (List ℕ)) (go
             let says = failing is in
             let meant = failing_cut d c goal set known.bound (sym known.kind) g.groups listed w dead (sym known.told.2 ∙ is) in
             (λ yes. meant.0 (says.0 yes), λ is_cut. says.1 (meant.1 is_cut))
-        by_case false is = by_matching is configuration says (matching is) h
+        by_case false is = by_matching is place says (matching is) h

@@ -3,13 +3,13 @@ use Rattle.std.proofs.Common.{◌≡◌, ◌≢◌, ◌⊎◌, inl, inr, ℕ, ar
 use Rattle.std.specs.Prelude.{Contains, ◌↔◌}
 use Rattle.jm_model.specs.Meanings.{IsCreated, IsHit}
 use Rattle.jm_machine.specs.Rests.{IsRest}
-use Rattle.jm_machine.specs.Meanings.{RuleDefinition, IsNamedCategory, IsInCategory, Resets, IsResetBy, rules_meaning}
+use Rattle.jm_machine.specs.PropertyMeanings.{PropertyRules, IsNamedCategory, IsInCategory, Resets, IsResetBy, property_meaning}
 use Rattle.jm_machine.proofs.RestLemmas.{letter_there, left_by, asked_at, asked_is, asked_all, one_asked}
-use Rattle.jm_machine.proofs.RuleLemmas.{some_within}
+use Rattle.jm_machine.proofs.PropertyLemmas.{some_within}
 
-module _ (r : RuleDefinition) where
-  module _ (w rest : List ℕ) (e : ℕ) (left : IsRest (Resets r) w rest) (created : IsCreated (rules_meaning r) (w ++ e ∷ [])) where
-    pub hit_more : (k : ℕ) → IsHit (rules_meaning r) (w ++ e ∷ []) k ↔ IsInCategory r (rest ++ e ∷ []) k
+module _ (r : PropertyRules) where
+  module _ (w rest : List ℕ) (e : ℕ) (left : IsRest (Resets r) w rest) (created : IsCreated (property_meaning r) (w ++ e ∷ [])) where
+    pub hit_more : (k : ℕ) → IsHit (property_meaning r) (w ++ e ∷ []) k ↔ IsInCategory r (rest ++ e ∷ []) k
     hit_more k = (
       λ hit.
           let run = hit.3 in
@@ -36,7 +36,7 @@ module _ (r : RuleDefinition) where
           ],
         )
 
-  pub hit_plainly : r.resets ≡ [] → (w : List ℕ) (k : ℕ) → IsHit (rules_meaning r) w k ↔ ((w ≢ []) × IsCreated (rules_meaning r) w × IsInCategory r w k)
+  pub hit_plainly : r.resets ≡ [] → (w : List ℕ) (k : ℕ) → IsHit (property_meaning r) w k ↔ ((w ≢ []) × IsCreated (property_meaning r) w × IsInCategory r w k)
   hit_plainly none w k = (
     λ hit.
         let run = hit.3 in

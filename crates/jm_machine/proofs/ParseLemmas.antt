@@ -20,15 +20,15 @@ use Rattle.jm_earley.specs.Places.{IsAliveFor}
 use Rattle.jm_machine.specs.declared.formula.Formula.{Formula}
 use Rattle.jm_machine.specs.declared.formula.Formula.TheVariants.{Machine, Regular, Temporal, Grammatical}
 use Rattle.jm_machine.specs.declared.engine.Engine.TheVariants.{Parses}
-use Rattle.jm_machine.specs.declared.configuration.Configuration.{Configuration}
-use Rattle.jm_machine.specs.declared.configuration.Configuration.TheVariants.{Start, Barren, State, Parse}
+use Rattle.jm_machine.specs.declared.place.Place.{Place}
+use Rattle.jm_machine.specs.declared.place.Place.TheVariants.{Start, Barren, State, Parse}
 use Rattle.jm_machine.specs.Formulas.{category_names, is_grammar}
 use Rattle.jm_machine.specs.Rests.{IsRest}
-use Rattle.jm_machine.specs.Meanings.{RuleDefinition, IsNamedCategory, IsInCategory, Resets, rules_meaning, is_failing_grammar}
-use Rattle.jm_machine.specs.RuleSets.{CompiledRules, IsRuleSet, IsHandledBy, may_begin}
-use Rattle.jm_machine.specs.Configurations.{IsConfigurationOf, IsBegun}
+use Rattle.jm_machine.specs.PropertyMeanings.{PropertyRules, IsNamedCategory, IsInCategory, Resets, property_meaning, is_failing_grammar}
+use Rattle.jm_machine.specs.CompiledProperties.{CompiledProperty, IsCompiledProperty, IsHandledBy, may_begin}
+use Rattle.jm_machine.specs.Places.{IsPlaceAfter, IsBegun}
 use Rattle.jm_machine.specs.Outlooks.{GoesOn, BeginsWith, CanMatch}
-use Rattle.jm_machine.proofs.RuleLemmas.{handled_told, some_within, created_later}
+use Rattle.jm_machine.proofs.PropertyLemmas.{handled_told, some_within, created_later}
 use Rattle.jm_machine.proofs.CutLemmas.{all_places, all_recursion, word_there, barren_quiet, cut_words}
 use Rattle.jm_machine.proofs.QuietLemmas.{IsPlain, never_plainly}
 
@@ -65,14 +65,14 @@ no_any : (p : List ℕ → Bool) (xs : List (List ℕ)) → list_any p xs ≡ tr
 no_any p [] h = absurd (false≢true h)
 no_any p (x ∷ xs) h = omega arith
 
-module _ (d : RuleDefinition) (c : ChartsDefinition) (goal : GoalDefinition) (set : IsRuleSet (record { definition = d; engine = Parses c })) (params : c.params ≡ d.masks)
+module _ (d : PropertyRules) (c : ChartsDefinition) (goal : GoalDefinition) (set : IsCompiledProperty (record { definition = d; engine = Parses c })) (params : c.params ≡ d.masks)
     (is : is_grammar d.formula ≡ true) (found : map {A = ℕ} {B = Option ℕ} Some goal.groups ≡ map (number_of (category_names d.formula)) d.handlers)
     (firsts : (e : ℕ) → may_begin goal e ↔ ((d.creation ≡ []) ⊎ Contains d.creation e)) where
-  abbrev rules : CompiledRules
+  abbrev rules : CompiledProperty
   rules = record { definition = d; engine = Parses c }
 
   abbrev m : Meaning
-  m = rules_meaning d
+  m = property_meaning d
 
   available_same : (dead e : ℕ) → IsAvailable m dead e ↔ charts.IsAvailable c.params dead e
   available_same dead e =
@@ -196,18 +196,18 @@ module _ (d : RuleDefinition) (c : ChartsDefinition) (goal : GoalDefinition) (se
         to cut some e begins avail (inl word) = hits_on e [] cut some begins ((available_same dead e).1 avail, tt) word
         to cut some e begins avail (inr more) = hits_on e more.0 cut some begins ((available_same dead e).1 avail, (all_available dead more.0).1 more.1) more.2
 
-    -- of a configuration's word this is left
-    parse_never_hit : (configuration : Configuration) (w rest : List ℕ) (dead : ℕ) → IsConfigurationOf rules configuration w → IsRest (Resets d) w rest → All (λ e. e < length c.params) rest
-        → (CanHit m w dead 0 → ⊥) ↔ ((goal.groups ≢ []) × CanMatch c goal configuration rest dead → ⊥)
+    -- of a place's word this is left
+    parse_never_hit : (place : Place) (w rest : List ℕ) (dead : ℕ) → IsPlaceAfter rules place w → IsRest (Resets d) w rest → All (λ e. e < length c.params) rest
+        → (CanHit m w dead 0 → ⊥) ↔ ((goal.groups ≢ []) × CanMatch c goal place rest dead → ⊥)
     parse_never_hit Start w rest dead h left letters = subst (λ (x : List ℕ). (CanHit m x dead 0 → ⊥) ↔ ((goal.groups ≢ []) × ((e : ℕ) × BeginsWith c goal dead e) → ⊥)) (sym h) (start_never_hit dead)
     parse_never_hit Barren w rest dead h left letters =
         (λ never both. both.1, λ _ can. barren_quiet d w dead h.0 h.1 can)
     parse_never_hit (Parse chart) w rest dead h left letters = word_never_hit w rest dead left letters h.0
     parse_never_hit (State s) w rest dead h left letters = absurd h.1.2
 
-  pub matching_cut : is_failing_grammar d ≡ false → (configuration : Configuration) (w rest : List ℕ) (dead : ℕ) → IsConfigurationOf rules configuration w → IsRest (Resets d) w rest → All (λ e. e < length c.params) rest
-      → ((goal.groups ≢ []) × CanMatch c goal configuration rest dead → ⊥) ↔ IsCutWord m w dead
-  matching_cut matching configuration w rest dead h left letters =
-      let never = parse_never_hit matching configuration w rest dead h left letters in
+  pub matching_cut : is_failing_grammar d ≡ false → (place : Place) (w rest : List ℕ) (dead : ℕ) → IsPlaceAfter rules place w → IsRest (Resets d) w rest → All (λ e. e < length c.params) rest
+      → ((goal.groups ≢ []) × CanMatch c goal place rest dead → ⊥) ↔ IsCutWord m w dead
+  matching_cut matching place w rest dead h left letters =
+      let never = parse_never_hit matching place w rest dead h left letters in
       let cut = cut_words d w dead matching in
       (λ quiet. cut.0 (never.1 quiet), λ is_cut. never.0 (cut.1 is_cut))

@@ -6,9 +6,9 @@ use Rattle.std.specs.List.{AllByRecursion}
 use Rattle.std.proofs.lemmas.List.{append_assoc}
 use Rattle.jm_model.specs.Meanings.{Meaning, IsAvailable, IsCreated, CanHit}
 use Rattle.jm_machine.specs.Rests.{IsRest, IsAsked}
-use Rattle.jm_machine.specs.Meanings.{RuleDefinition, IsNamedCategory, IsInCategory, Resets, rules_meaning}
+use Rattle.jm_machine.specs.PropertyMeanings.{PropertyRules, IsNamedCategory, IsInCategory, Resets, property_meaning}
 use Rattle.jm_machine.proofs.RestLemmas.{asked_at, asked_is, left_more}
-use Rattle.jm_machine.proofs.RuleLemmas.{some_within}
+use Rattle.jm_machine.proofs.PropertyLemmas.{some_within}
 use Rattle.jm_machine.proofs.CutLemmas.{word_there}
 
 -- A letter that may come, the words that reset, and those that hit. What resets hits.
@@ -45,9 +45,9 @@ module _ (May : ℕ → Type 0) (Reset Hits : List ℕ → Type 0) (by : (x : Li
     λ plain u may. with_resets u w rest e left may plain,
   )
 
-module _ (d : RuleDefinition) where
+module _ (d : PropertyRules) where
   abbrev m : Meaning
-  m = rules_meaning d
+  m = property_meaning d
 
   -- the category of some handler holds of the word
   abbrev pub Hits : List ℕ → Type 0

@@ -1,21 +1,24 @@
 -- No tokens say two formulas, or a formula and a fault; and no tree says two rules, or rules and a fault.
-use Rattle.std.proofs.Common.{◌≡◌, ℕ, List, length, sym, ap, subst, ◌∙◌}
+use Rattle.std.proofs.Common.{◌≡◌, ℕ, zero, suc, false, List, [], ◌∷◌, Some, length, slice_get, refl, sym, ap, subst, ◌∙◌}
+use Rattle.std.proofs.lemmas.Option.{same_Some, none-some}
 use Rattle.jm_model.specs.declared.fault.SpecFault.{SpecFault}
 use Rattle.jm_text.specs.declared.token.Token.{Token}
 use Rattle.jm_events.specs.Events.{EventDefinitions}
 use Rattle.jm_spec.specs.declared.tree.Logic.{Logic}
 use Rattle.jm_spec.specs.declared.tree.Logic.TheVariants.{Fsm, Ere, Cfg, Ptltl}
 use Rattle.jm_spec.specs.declared.tree.SpecTree.{SpecTree}
+use Rattle.jm_spec.specs.Trees.{PropertyFacts, properties_of}
 use Rattle.jm_fsm.proofs.ReadLemmas as fsm_reading
 use Rattle.jm_ere.proofs.ReadLemmas as ere_reading
 use Rattle.jm_ptltl.proofs.FaultLemmas as past_reading
 use Rattle.jm_grammar.proofs.ReadLemmas as grammar_reading
 use Rattle.jm_machine.specs.declared.formula.Formula.{Formula}
 use Rattle.jm_machine.specs.declared.formula.Formula.TheVariants.{Machine, Regular, Temporal, Grammatical}
-use Rattle.jm_machine.specs.Formulas.{category_names, IsReadAs, IsRefusedIn, IsTableFault}
-use Rattle.jm_machine.specs.Handlers.{handler_names, handlers_fault, resetting_handlers}
+use Rattle.jm_machine.specs.Formulas.{IsReadAs, IsRefusedIn}
+use Rattle.jm_machine.specs.Handlers.{handlers_fault}
 use Rattle.jm_machine.specs.Meanings.{RuleDefinition, rules_of}
-use Rattle.jm_machine.specs.Compiling.{formula_of, IsCompiledFrom, IsFaultyTree, in_formula, in_handlers, in_table}
+use Rattle.jm_machine.specs.FirstRefusals.{IsFirstRefusal}
+use Rattle.jm_machine.specs.Compiling.{formula_of, IsFormula, IsRefusedFormula, AreFormulas, properties_said, IsCompiledFrom, IsFaultyTree, in_formulas, in_handlers, in_tables}
 use Rattle.jm_machine.proofs.OptionLemmas.{never_some}
 
 module _ (bytes : List ℕ) (tokens : List Token) (table : EventDefinitions) where
@@ -41,7 +44,7 @@ module _ (bytes : List ℕ) (tokens : List Token) (table : EventDefinitions) whe
   one_formula Ptltl (Machine x) g h k = absurd h
   one_formula Ptltl (Regular x) g h k = absurd h
   one_formula Ptltl (Grammatical x) g h k = absurd h
-  one_formula Cfg (Grammatical x) (Grammatical y) h k = ap Grammatical (grammar_reading.one_grammar bytes tokens table x y h k)
+  one_formula Cfg (Grammatical x) (Grammatical y) h k = ap Grammatical (grammar_reading.one_grammar bytes tokens table false x y h k)
   one_formula Cfg (Grammatical x) (Machine y) h k = absurd k
   one_formula Cfg (Grammatical x) (Regular y) h k = absurd k
   one_formula Cfg (Grammatical x) (Temporal y) h k = absurd k
@@ -62,24 +65,63 @@ module _ (bytes : List ℕ) (tokens : List Token) (table : EventDefinitions) whe
   formula_or_fault Ptltl (Machine x) fault h k = h
   formula_or_fault Ptltl (Regular x) fault h k = h
   formula_or_fault Ptltl (Grammatical x) fault h k = h
-  formula_or_fault Cfg (Grammatical x) fault h k = grammar_reading.never_both bytes tokens table x fault h k
+  formula_or_fault Cfg (Grammatical x) fault h k = grammar_reading.never_both bytes tokens table false x fault h k
   formula_or_fault Cfg (Machine x) fault h k = h
   formula_or_fault Cfg (Regular x) fault h k = h
   formula_or_fault Cfg (Temporal x) fault h k = h
 
+-- ---- lists of formulas
+
+module _ (bytes : List ℕ) (tokens : List Token) (table : EventDefinitions) where
+  -- no properties say two lists of formulas
+  pub one_formulas : (ps : List PropertyFacts) (fs gs : List Formula) → AreFormulas bytes tokens table ps fs → AreFormulas bytes tokens table ps gs → fs ≡ gs
+  one_formulas [] [] [] a b = refl
+  one_formulas [] [] (g ∷ gs) a b = absurd b
+  one_formulas [] (f ∷ fs) gs a b = absurd a
+  one_formulas (p ∷ ps) [] gs a b = absurd a
+  one_formulas (p ∷ ps) (f ∷ fs) [] a b = absurd b
+  one_formulas (p ∷ ps) (f ∷ fs) (g ∷ gs) a b =
+      let here = one_formula bytes (formula_of tokens p) table p.logic f g a.0 b.0 in
+      let rest = one_formulas ps fs gs a.1 b.1 in
+      λ i. here i ∷ rest i
+
+  -- the formula of each property
+  pub read_at : (ps : List PropertyFacts) (fs : List Formula) (k : ℕ) (p : PropertyFacts) → AreFormulas bytes tokens table ps fs → slice_get ps k ≡ Some p → (f : Formula) × (slice_get fs k ≡ Some f) × IsFormula bytes tokens table p f
+  read_at [] fs k p a at = absurd (none-some p at)
+  read_at (q ∷ ps) [] k p a at = absurd a
+  read_at (q ∷ ps) (f ∷ fs) zero p a at = (f, refl, subst (λ (x : PropertyFacts). IsFormula bytes tokens table x f) (same_Some q p at) a.0)
+  read_at (q ∷ ps) (f ∷ fs) (suc k) p a at = read_at ps fs k p a.1 at
+
+  -- the formula of a property is that of its number
+  pub formula_at : (ps : List PropertyFacts) (fs : List Formula) (k : ℕ) (p : PropertyFacts) (f : Formula) → AreFormulas bytes tokens table ps fs → slice_get ps k ≡ Some p → slice_get fs k ≡ Some f → IsFormula bytes tokens table p f
+  formula_at ps fs k p f a at there =
+      let h = read_at ps fs k p a at in
+      subst (IsFormula bytes tokens table p) (same_Some h.0 f (sym h.1 ∙ there)) h.2
+
+  pub count_formulas : (ps : List PropertyFacts) (fs : List Formula) → AreFormulas bytes tokens table ps fs → length fs ≡ length ps
+  count_formulas [] [] a = refl
+  count_formulas [] (f ∷ fs) a = absurd a
+  count_formulas (p ∷ ps) [] a = absurd a
+  count_formulas (p ∷ ps) (f ∷ fs) a = ap suc (count_formulas ps fs a.1)
+
+  pub formulas_or_fault : (ps : List PropertyFacts) (fs : List Formula) (fault : SpecFault) → AreFormulas bytes tokens table ps fs → IsFirstRefusal (IsRefusedFormula bytes tokens table) ps fault → ⊥
+  formulas_or_fault ps fs fault read h =
+      let f = read_at ps fs h.number h.property read h.there in
+      formula_or_fault bytes (formula_of tokens h.property) table h.property.logic f.0 fault f.2 h.refused
+
 -- ---- rules
 
 module _ (bytes : List ℕ) (tokens : List Token) (tree : SpecTree) (r : RuleDefinition) (told : IsCompiledFrom bytes tokens tree r) where
-  same_formula : (f : Formula) → IsReadAs bytes (formula_of tokens tree) tree.table tree.logic f → r.formula ≡ f
-  same_formula f read = one_formula bytes (formula_of tokens tree) tree.table tree.logic r.formula f told.read read
+  same_formulas : (fs : List Formula) → AreFormulas bytes tokens tree.table (properties_of tree) fs → told.formulas ≡ fs
+  same_formulas fs read = one_formulas bytes tokens tree.table (properties_of tree) told.formulas fs told.read read
 
   pub one_rules : (s : RuleDefinition) → IsCompiledFrom bytes tokens tree s → r ≡ s
   one_rules s other =
-      told.rules ∙ ap (λ f. rules_of tree.table tree.full_binding f (handler_names bytes tree.handlers.items) (resetting_handlers bytes tokens tree.handlers.items)) (same_formula s.formula other.read) ∙ sym other.rules
+      told.rules ∙ ap (λ (fs : List Formula). rules_of tree.table tree.full_binding (properties_said bytes tokens (properties_of tree) fs)) (same_formulas other.formulas other.read) ∙ sym other.rules
 
   pub rules_or_fault : (fault : SpecFault) → IsFaultyTree bytes tokens tree fault → ⊥
-  rules_or_fault fault (in_formula refused) = formula_or_fault bytes (formula_of tokens tree) tree.table tree.logic r.formula fault told.read refused
-  rules_or_fault fault (in_handlers f read bad) =
-      never_some (sym told.handled ∙ ap (λ g. handlers_fault bytes tree.full_binding tokens (category_names g) tree.handlers.items) (same_formula f read) ∙ bad)
-  rules_or_fault fault (in_table f read handled bad) =
-      told.settled fault (subst (λ g. IsTableFault g (length tree.table.events) fault) (sym (same_formula f read)) bad)
+  rules_or_fault fault (in_formulas refused) = formulas_or_fault bytes tokens tree.table (properties_of tree) told.formulas fault told.read refused
+  rules_or_fault fault (in_handlers fs read bad) =
+      never_some (sym told.handled ∙ ap (λ (gs : List Formula). handlers_fault bytes tree.full_binding tokens (properties_of tree) gs) (same_formulas fs read) ∙ bad)
+  rules_or_fault fault (in_tables fs read handled bad) =
+      told.settled bad.number bad.formula fault (ap (λ (gs : List Formula). slice_get gs bad.number) (same_formulas fs read) ∙ bad.there) bad.faulty

@@ -14,7 +14,7 @@ use Rattle.jm_reading.specs.Tokens.{name_of}
 use Rattle.jm_reading.specs.Faults.{or_else}
 use Rattle.jm_spec.specs.declared.property.HandlerText.{HandlerText}
 use Rattle.jm_machine.specs.Handlers.{handler_names, count_fault, duplicate_fault, category_fault, reset_in, reset_fault, binding_fault, handlers_fault, has_reset, is_resetting, resetting_handlers}
-use Rattle.jm_machine.specs.RuleSets.{has_bit, numbers_of}
+use Rattle.jm_machine.specs.CompiledProperties.{has_bit, numbers_of}
 use Rattle.jm_machine.proofs.OptionLemmas.{same_bool}
 use Rattle.jm_machine.proofs.GoalLemmas.{bit_test, no_bits}
 
@@ -64,14 +64,6 @@ module _ (bytes : List ℕ) (tokens : List Token) (hs : List HandlerText) (reset
         (range_with_len 0 (length hs))
 
     -- where the specification is for full bindings alone, and that is no fault, no handler resets
-    apart : (full : Bool) → binding_fault bytes full tokens hs ≡ None → (resets ≡ 0) ⊎ (full ≡ false)
-    apart false none = inr refl
-    apart true none = inl (no_bits resets (λ k set. no_reset bytes tokens hs none k ((bits k).0 set)))
-
-    pub resets_apart : (full : Bool) (categories : List (List ℕ)) → handlers_fault bytes full tokens categories hs ≡ None → (resets ≡ 0) ⊎ (full ≡ false)
-    unfolding handlers_fault
-    resets_apart full categories none =
-        let later = or_else (category_fault bytes categories hs) (binding_fault bytes full tokens hs) in
-        let behind_count = next_none (count_fault hs) (or_else (duplicate_fault bytes [] hs) later) none in
-        let behind_names = next_none (duplicate_fault bytes [] hs) later behind_count in
-        apart full (next_none (category_fault bytes categories hs) (binding_fault bytes full tokens hs) behind_names)
+    pub resets_apart : (full : Bool) → binding_fault bytes full tokens hs ≡ None → (resets ≡ 0) ⊎ (full ≡ false)
+    resets_apart false none = inr refl
+    resets_apart true none = inl (no_bits resets (λ k set. no_reset bytes tokens hs none k ((bits k).0 set)))

@@ -1,33 +1,28 @@
 -- What a state of compiled rules stands for.
-use Rattle.std.specs.Prelude.{◌≡◌, ◌≢◌, []}
+use Rattle.std.specs.Prelude.{ℕ, ◌≡◌, List, [], Some, length, slice_get, unwrap_or}
 use Rattle.jm_model.specs.Words.{Word}
-use Rattle.jm_model.specs.Meanings.{IsCreated}
+use Rattle.jm_machine.specs.declared.place.Place.{Place}
+use Rattle.jm_machine.specs.declared.place.Place.TheVariants as place
 use Rattle.jm_machine.specs.declared.configuration.Configuration.{Configuration}
-use Rattle.jm_machine.specs.declared.configuration.Configuration.TheVariants.{Start, Barren, State, Parse}
-use Rattle.jm_machine.specs.Rests.{IsAsked}
-use Rattle.jm_machine.specs.Meanings.{Resets, rules_meaning}
-use Rattle.jm_machine.specs.Engines.{IsPlaceOf}
+use Rattle.jm_machine.specs.declared.configuration.Configuration.TheVariants.{Start, Barren, State, Single, Several}
+use Rattle.jm_machine.specs.CompiledProperties.{CompiledProperty}
+use Rattle.jm_machine.specs.Places.{IsPlaceAfter}
 use Rattle.jm_machine.specs.RuleSets.{CompiledRules}
 
-module _ (r : CompiledRules) where
-  -- the word has a letter, and its first one may begin an instance's life
-  abbrev pub IsBegun : Word → Type 0
-  IsBegun w = (w ≢ []) × IsCreated (rules_meaning r.definition) w
+-- the place of property k: that of the list, or else this one
+abbrev pub place_at : List Place → Place → ℕ → Place
+place_at places otherwise k = unwrap_or (slice_get places k) otherwise
 
-  -- the word has a letter, and its first one may not
-  abbrev pub IsBarren : Word → Type 0
-  IsBarren w = (w ≢ []) × (IsCreated (rules_meaning r.definition) w → ⊥)
+-- after the word each property is at its place
+abbrev pub AreAfter : List CompiledProperty → List Place → Place → Word → Type 0
+AreAfter parts places otherwise w =
+    (k : ℕ) (part : CompiledProperty) → slice_get parts k ≡ Some part
+    → IsPlaceAfter part (place_at places otherwise k) w
 
-  -- The configuration stands for the word: what a category is asked of after the word leads to it. Where that resets
-  -- the property, the next letter leads on from the start.
-  abbrev pub Stands : Configuration → Word → Type 0
-  Stands configuration w =
-      (asked : Word) × IsAsked (Resets r.definition) w asked × IsPlaceOf r.engine configuration asked
-
-  -- the configuration of a word: that of the empty word, that of words that can't begin so, and those of the states and
-  -- charts that stand for the others
-  abbrev pub IsConfigurationOf : Configuration → Word → Type 0
-  IsConfigurationOf Start w = w ≡ []
-  IsConfigurationOf Barren w = IsBarren w
-  IsConfigurationOf (State s) w = IsBegun w × Stands (State s) w
-  IsConfigurationOf (Parse c) w = IsBegun w × Stands (Parse c) w
+-- the configuration of a word: one where each property is at its place after the word
+abbrev pub IsConfigurationOf : CompiledRules → Configuration → Word → Type 0
+IsConfigurationOf r Start w = AreAfter r.parts [] place.Start w
+IsConfigurationOf r Barren w = AreAfter r.parts [] place.Barren w
+IsConfigurationOf r (State s) w = (length r.parts ≡ 1) × AreAfter r.parts [] (place.State s) w
+IsConfigurationOf r (Single here) w = (length r.parts ≡ 1) × AreAfter r.parts [] here.value w
+IsConfigurationOf r (Several each) w = AreAfter r.parts each.value.items place.Start w

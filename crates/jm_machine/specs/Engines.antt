@@ -6,11 +6,11 @@ use Rattle.jm_table.specs.Minimal.{IsReduced}
 use Rattle.jm_grammar.specs.Grammars.{GrammarDefinition}
 use Rattle.jm_grammar.specs.Meanings as grammar
 use Rattle.jm_grammar.specs.Categories.{GrammarHolds}
-use Rattle.jm_earley.specs.Charts.{ChartDefinition, AreBelow, IsChartOf}
+use Rattle.jm_earley.specs.Charts.{AreBelow, IsChartOf}
 use Rattle.jm_machine.specs.declared.engine.Engine.{Engine}
 use Rattle.jm_machine.specs.declared.engine.Engine.TheVariants.{States, Parses}
-use Rattle.jm_machine.specs.declared.configuration.Configuration.{Configuration}
-use Rattle.jm_machine.specs.declared.configuration.Configuration.TheVariants.{State, Parse}
+use Rattle.jm_machine.specs.declared.place.Place.{Place}
+use Rattle.jm_machine.specs.declared.place.Place.TheVariants.{State, Parse}
 use Rattle.jm_machine.specs.declared.formula.Formula.{Formula}
 use Rattle.jm_machine.specs.declared.formula.Formula.TheVariants.{Grammatical}
 use Rattle.jm_machine.specs.Formulas.{category_names, CategoryHolds}
@@ -40,15 +40,10 @@ HasParams masks (States t) = Unit {0}
 HasParams masks (Parses c) = c.params ≡ masks
 
 -- the word leads to the state, or to the chart
-abbrev pub IsPlaceOf : Engine → Configuration → Word → Type 0
+abbrev pub IsPlaceOf : Engine → Place → Word → Type 0
 IsPlaceOf (States t) (State s) word = IsWord t word × (s ≡ state_after_of t word)
-IsPlaceOf (Parses c) (Parse chart) word = All (λ letter. letter < length c.params) word × IsChartOf c word chart.value
+IsPlaceOf (Parses c) (Parse chart) word = All (λ letter. letter < length c.params) word × IsChartOf c word chart
 IsPlaceOf _ _ word = ⊥
-
--- the configuration has this chart
-abbrev pub IsChartPlace : ChartDefinition → Configuration → Type 0
-IsChartPlace chart (Parse here) = here.value ≡ chart
-IsChartPlace chart _ = ⊥
 
 -- the category of this number holds of the word, by what runs the property
 abbrev pub EngineHolds : Engine → ℕ → Word → Type 0

@@ -46,7 +46,7 @@ module _ (bytes : Text) (tokens : List Token) (table : EventDefinitions) where
   IsReadAs Fsm (Machine m) = fsm_readings.IsReadFrom bytes tokens table m
   IsReadAs Ere (Regular e) = ere_readings.IsReadFrom bytes tokens table e
   IsReadAs Ptltl (Temporal f) = past_readings.IsReadFrom bytes tokens table f
-  IsReadAs Cfg (Grammatical g) = grammar_readings.IsReadFrom bytes tokens table g
+  IsReadAs Cfg (Grammatical g) = grammar_readings.IsReadFrom bytes tokens table false g
   IsReadAs _ _ = ⊥
 
   -- the tokens spell no formula of the logic, or one with this first fault
@@ -54,7 +54,7 @@ module _ (bytes : Text) (tokens : List Token) (table : EventDefinitions) where
   IsRefusedIn Fsm fault = fsm_readings.IsRefused bytes tokens table (Bad fault)
   IsRefusedIn Ere fault = ere_readings.IsRefused bytes tokens table (Bad fault)
   IsRefusedIn Ptltl fault = past_readings.IsRefused bytes tokens table (Bad fault)
-  IsRefusedIn Cfg fault = grammar_readings.IsRefused bytes tokens table (Bad fault)
+  IsRefusedIn Cfg fault = grammar_readings.IsRefused bytes tokens table false (Bad fault)
 
 -- this fault comes first in the making of the formula's table, over so many letters
 abbrev pub IsTableFault : Formula → ℕ → SpecFault → Type 0

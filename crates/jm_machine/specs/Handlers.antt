@@ -1,5 +1,5 @@
--- What is wrong with the handlers of a specification, step by step, and which of them reset the property.
-use Rattle.std.specs.Prelude.{ℕ, ◌≡◌, Bool, true, false, List, [], ◌∷◌, ◌++◌, length, map, filter, slice_get, All, Option, Some, None, codes, nat_le, slice_range, if◌then◌else◌}
+-- What is wrong with the handlers of a specification, step by step, and which of them reset their property.
+use Rattle.std.specs.Prelude.{ℕ, ◌+◌, ◌≡◌, Bool, true, false, List, [], ◌∷◌, ◌++◌, length, map, filter, slice_get, All, Option, Some, None, codes, nat_le, slice_range, if◌then◌else◌}
 use Rattle.std.specs.List.{range_with_len, list_any}
 use Rattle.std.specs.Option.{option_map_or}
 use Rattle.std.specs.Str.{bytes_eq}
@@ -12,14 +12,26 @@ use Rattle.jm_text.specs.Texts.{is_word}
 use Rattle.jm_reading.specs.Tokens.{name_of}
 use Rattle.jm_reading.specs.Faults.{or_else}
 use Rattle.jm_spec.specs.declared.property.HandlerText.{HandlerText}
+use Rattle.jm_spec.specs.Trees.{PropertyFacts}
+use Rattle.jm_machine.specs.declared.formula.Formula.{Formula}
+use Rattle.jm_machine.specs.Formulas.{category_names}
 
 -- each of these names is one of the categories
 abbrev pub AreCategories : List Text → List Text → Type 0
 AreCategories categories names = All (λ name. list_any (bytes_eq name) categories ≡ true) names
 
--- there are more than 16
-abbrev pub count_fault : List HandlerText → Option SpecFault
-count_fault handlers = if nat_le (length handlers) 16 then None else Some (TooMany Handlers)
+-- how many handlers the properties have together, and whether there are more than 16
+abbrev pub handlers_in : List PropertyFacts → ℕ
+handlers_in [] = 0
+handlers_in (p ∷ ps) = length p.handlers + handlers_in ps
+
+abbrev pub count_fault : List PropertyFacts → Option SpecFault
+count_fault ps = if nat_le (handlers_in ps) 16 then None else Some (TooMany Handlers)
+
+-- the fault of the first property that has one
+abbrev pub first_fault : (PropertyFacts → Option SpecFault) → List PropertyFacts → Option SpecFault
+first_fault f [] = None
+first_fault f (p ∷ ps) = or_else (f p) (first_fault f ps)
 
 module _ (bytes : Text) where
   -- the names of the categories that are handled
@@ -54,12 +66,26 @@ module _ (bytes : Text) where
   abbrev pub binding_fault : Bool → List Token → List HandlerText → Option SpecFault
   binding_fault full_binding tokens handlers = if full_binding then reset_fault tokens handlers else None
 
-  -- the fault of the first step that has one, where the property has these categories
-  unfoldable pub handlers_fault : Bool → List Token → List Text → List HandlerText → Option SpecFault
-  handlers_fault full_binding tokens categories handlers =
-      or_else (count_fault handlers)
-      (or_else (duplicate_fault [] handlers)
-      (or_else (category_fault categories handlers) (binding_fault full_binding tokens handlers)))
+  -- the first handler of a property for one that an earlier handler of the same property is for
+  abbrev pub duplicates_fault : List PropertyFacts → Option SpecFault
+  duplicates_fault ps = first_fault (λ p. duplicate_fault [] p.handlers) ps
+
+  -- the first handler for no category of its own property, where the properties have these formulas
+  abbrev pub categories_fault : List PropertyFacts → List Formula → Option SpecFault
+  categories_fault (p ∷ ps) (f ∷ fs) =
+      or_else (category_fault (category_names f) p.handlers) (categories_fault ps fs)
+  categories_fault _ _ = None
+
+  -- where the specification is for full bindings alone, the first word `__RESET` of all blocks
+  abbrev pub bindings_fault : Bool → List Token → List PropertyFacts → Option SpecFault
+  bindings_fault full_binding tokens ps = first_fault (λ p. binding_fault full_binding tokens p.handlers) ps
+
+  -- The fault of the first step that has one, where the properties have these formulas. Each step is done for all
+  -- properties before the next.
+  unfoldable pub handlers_fault : Bool → List Token → List PropertyFacts → List Formula → Option SpecFault
+  handlers_fault full_binding tokens ps fs =
+      or_else (count_fault ps)
+      (or_else (duplicates_fault ps) (or_else (categories_fault ps fs) (bindings_fault full_binding tokens ps)))
 
   -- a block has the word `__RESET`, so its handler resets the property
   abbrev pub has_reset : List Token → Bool
@@ -69,6 +95,6 @@ module _ (bytes : Text) where
   is_resetting tokens handlers k =
       option_map_or (λ h. has_reset (slice_range tokens h.first h.last)) (slice_get handlers k) false
 
-  -- the handlers that reset the property, by their numbers
+  -- the handlers that reset their property, by their numbers
   abbrev pub resetting_handlers : List Token → List HandlerText → List ℕ
   resetting_handlers tokens handlers = filter (is_resetting tokens handlers) (range_with_len 0 (length handlers))

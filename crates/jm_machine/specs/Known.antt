@@ -8,7 +8,7 @@ use Rattle.jm_machine.specs.declared.engine.Engine.TheVariants.{States, Parses}
 use Rattle.jm_machine.specs.declared.outlook.Outlook.{Outlook}
 use Rattle.jm_machine.specs.declared.outlook.Outlook.TheVariants.{Table, Grammar}
 use Rattle.jm_machine.specs.Formulas.{is_grammar}
-use Rattle.jm_machine.specs.Meanings.{RuleDefinition, is_failing_grammar}
+use Rattle.jm_machine.specs.PropertyMeanings.{PropertyRules, is_failing_grammar}
 use Rattle.jm_machine.specs.Engines.{is_parsing, HasParams}
 use Rattle.jm_machine.specs.Outlooks.{AreFactsOf, AreFirstCharts}
 
@@ -20,7 +20,7 @@ IsOutlookOf (Parses c) goal events failing (Grammar facts) =
 IsOutlookOf _ goal events failing _ = ⊥
 
 -- what the rules keep: events of these masks, charts for a grammar alone, and the outlook
-pub record IsKnown (d : RuleDefinition) (goal : GoalDefinition) (engine : Engine) (outlook : Outlook) : Type 0 where
+pub record IsKnown (d : PropertyRules) (goal : GoalDefinition) (engine : Engine) (outlook : Outlook) : Type 0 where
   pub events : EventDefinitions
   pub masks : d.masks ≡ map (λ e. e.mask) events.events
   pub few : All (λ mask. mask < 256) d.masks

@@ -1,87 +1,86 @@
--- What a specification means.
-use Rattle.std.specs.Prelude.{ℕ, ◌^◌, ◌-◌, Bool, false, ◌&&◌, codes, List, Contains, length, map, filter, IsSomeAnd, slice_get, unwrap_or, if◌then◌else◌}
-use Rattle.std.specs.List.{range_with_len, list_any}
-use Rattle.std.specs.Str.{bytes_eq}
+-- What a specification of several properties means.
+use Rattle.std.specs.Prelude.{ℕ, ◌+◌, ◌-◌, ◌<◌, Bool, false, List, [], ◌∷◌, Contains, length, map, take, Option, Some, None, option_map, IsSomeAnd, slice_get, unwrap_or, nat_lt, if◌then◌else◌}
+use Rattle.std.specs.List.{list_any}
 use Rattle.std.specs.Option.{option_map_or}
 use Rattle.jm_model.specs.Words.{Text, Word, Mask}
 use Rattle.jm_model.specs.Meanings.{Meaning, IsHit}
-use Rattle.jm_events.specs.Names.{number_of}
 use Rattle.jm_events.specs.Events.{EventDefinitions}
 use Rattle.jm_machine.specs.declared.formula.Formula.{Formula}
-use Rattle.jm_machine.specs.Formulas.{category_names, is_grammar, CategoryHolds}
-use Rattle.jm_machine.specs.Rests.{IsAsked}
+use Rattle.jm_machine.specs.Formulas.{is_grammar}
+use Rattle.jm_machine.specs.PropertyMeanings.{PropertyRules, Runs, is_failing_grammar, creation_letters, must_bind_of}
 
--- The rules of a specification: the parameters of each letter; the creation letters; the parameters that a reported
--- instance has to bind; the property; the name of the category that each handler is for; and the handlers that reset
--- the property, by their numbers.
-pub record RuleDefinition : Type 0 where
-  pub masks : List Mask
-  pub creation : List ℕ
-  pub must_bind : Mask
+-- A property: its formula; the name of the category that each of its handlers is for; and the handlers that reset it, by
+-- their numbers among its own.
+pub record PropertyDefinition : Type 0 where
   pub formula : Formula
   pub handlers : List Text
   pub resets : List ℕ
 
-module _ (r : RuleDefinition) where
-  -- the category of this name holds of the word
-  abbrev pub IsNamedCategory : Word → Text → Type 0
-  IsNamedCategory word name = IsSomeAnd (number_of (category_names r.formula) name)
-      (λ category. CategoryHolds r.formula (length r.masks) category word)
+-- The rules of a specification: the parameters of each letter; the creation letters; the parameters that a reported
+-- instance has to bind; and the properties.
+pub record RuleDefinition : Type 0 where
+  pub masks : List Mask
+  pub creation : List ℕ
+  pub must_bind : Mask
+  pub properties : List PropertyDefinition
 
-  -- the category of handler k holds of the word
-  abbrev pub IsInCategory : Word → ℕ → Type 0
-  IsInCategory word k = IsSomeAnd (slice_get r.handlers k) (IsNamedCategory word)
+-- what the rules say of one property
+abbrev pub rules_about : RuleDefinition → PropertyDefinition → PropertyRules
+rules_about r p = record {
+  masks = r.masks;
+  creation = r.creation;
+  must_bind = r.must_bind;
+  formula = p.formula;
+  handlers = p.handlers;
+  resets = p.resets;
+}
 
-  -- the word resets the property: the category of a handler that resets it holds of the word
-  abbrev pub Resets : Word → Type 0
-  Resets word = (k : ℕ) × Contains r.resets k × IsInCategory word k
+-- some property is a grammar
+abbrev pub has_grammar : List PropertyDefinition → Bool
+has_grammar ps = list_any (λ (p : PropertyDefinition). is_grammar p.formula) ps
 
-  -- handler k runs after the word, if that begins as it may: its category holds of what is left of the word since the
-  -- last reset
-  abbrev pub Runs : Word → ℕ → Type 0
-  Runs word k = (asked : Word) × IsAsked Resets word asked × IsInCategory asked k
+-- ---- the numbers of handlers, which go over all properties
 
-  -- the property is a grammar, and `fail` is handled
-  abbrev pub is_failing_grammar : Bool
-  is_failing_grammar = is_grammar r.formula && list_any (bytes_eq (codes "fail")) r.handlers
+abbrev pub handler_count : List PropertyDefinition → ℕ
+handler_count [] = 0
+handler_count (p ∷ ps) = length p.handlers + handler_count ps
 
-  -- what they mean
-  abbrev pub rules_meaning : Meaning
-  rules_meaning = record {
-    letters = length r.masks;
-    params = λ e. unwrap_or (slice_get r.masks e) 0;
-    must_bind = r.must_bind;
-    creation = r.creation;
-    handlers = length r.handlers;
-    property_of = λ k. 0;
-    Holds = Runs;
-    coarse_cut = λ j. is_failing_grammar;
-  }
+-- the number of the first handler of property j
+abbrev pub first_of : List PropertyDefinition → ℕ → ℕ
+first_of ps j = handler_count (take j ps)
 
-  -- the word hits a handler that resets the property
-  abbrev pub IsResetBy : Word → Type 0
-  IsResetBy word = (k : ℕ) × Contains r.resets k × IsHit rules_meaning word k
+-- the property of handler k, and its number among the handlers of that property
+abbrev pub place_of : List PropertyDefinition → ℕ → Option (ℕ × ℕ)
+place_of [] k = None
+place_of (p ∷ ps) k = if nat_lt k (length p.handlers) then Some (0, k)
+    else option_map (λ (place : ℕ × ℕ). (place.0 + 1, place.1)) (place_of ps (k - length p.handlers))
 
--- ---- the rules that events, modifiers, a property and handlers say
+-- What rules mean: handler k is one of a property, and runs after the words that it runs after by what the rules say of
+-- that property.
+abbrev pub rules_meaning : RuleDefinition → Meaning
+rules_meaning r = record {
+  letters = length r.masks;
+  params = λ e. unwrap_or (slice_get r.masks e) 0;
+  must_bind = r.must_bind;
+  creation = r.creation;
+  handlers = handler_count r.properties;
+  property_of = λ k. option_map_or (λ (place : ℕ × ℕ). place.0) (place_of r.properties k) 0;
+  Holds = λ word k. IsSomeAnd (place_of r.properties k)
+      (λ (place : ℕ × ℕ). IsSomeAnd (slice_get r.properties place.0) (λ p. Runs (rules_about r p) word place.1));
+  coarse_cut = λ j. option_map_or (λ p. is_failing_grammar (rules_about r p)) (slice_get r.properties j) false;
+}
 
-module _ (t : EventDefinitions) where
-  -- the letters of the creation events
-  abbrev pub is_creation : ℕ → Bool
-  is_creation letter = option_map_or (λ e. e.creation) (slice_get t.events letter) false
+-- the word hits a handler of property j that resets the property
+abbrev pub IsResetBy : RuleDefinition → ℕ → PropertyDefinition → Word → Type 0
+IsResetBy r j p word =
+    (i : ℕ) × (i < length p.handlers) × Contains p.resets i
+    × IsHit (rules_meaning r) word (first_of r.properties j + i)
 
-  abbrev pub creation_letters : List ℕ
-  creation_letters = filter is_creation (range_with_len 0 (length t.events))
-
-  -- all parameters where the specification is for full bindings alone, else none
-  abbrev pub must_bind_of : Bool → Mask
-  must_bind_of full_binding = if full_binding then 2 ^ length t.parameters - 1 else 0
-
-  abbrev pub rules_of : Bool → Formula → List Text → List ℕ → RuleDefinition
-  rules_of full_binding formula handlers resets = record {
-    masks = map (λ e. e.mask) t.events;
-    creation = creation_letters;
-    must_bind = must_bind_of full_binding;
-    formula = formula;
-    handlers = handlers;
-    resets = resets;
-  }
+-- the rules of events and properties
+abbrev pub rules_of : EventDefinitions → Bool → List PropertyDefinition → RuleDefinition
+rules_of t full_binding properties = record {
+  masks = map (λ e. e.mask) t.events;
+  creation = creation_letters t;
+  must_bind = must_bind_of t full_binding;
+  properties = properties;
+}

@@ -9,12 +9,12 @@ use Rattle.jm_grammar.specs.Meanings.{IsWord}
 use Rattle.jm_earley.specs.Charts.{ChartsDefinition, ChartDefinition, IsChartOf}
 use Rattle.jm_earley.specs.DeadSets.{IsAvailable}
 use Rattle.jm_earley.specs.Places.{IsAliveFor}
-use Rattle.jm_machine.specs.declared.configuration.Configuration.{Configuration}
-use Rattle.jm_machine.specs.declared.configuration.Configuration.TheVariants.{Start, State, Parse}
+use Rattle.jm_machine.specs.declared.place.Place.{Place}
+use Rattle.jm_machine.specs.declared.place.Place.TheVariants.{Start, State, Parse}
 use Rattle.jm_machine.specs.declared.engine.Engine.{Engine}
 use Rattle.jm_machine.specs.declared.engine.Engine.TheVariants.{States}
 use Rattle.jm_machine.specs.Engines.{IsPlaceOf, EngineHolds}
-use Rattle.jm_machine.specs.RuleSets.{may_begin}
+use Rattle.jm_machine.specs.CompiledProperties.{may_begin}
 
 -- ---- of a table
 
@@ -70,9 +70,9 @@ pub record AreFactsOf (t : Transitions) (goal : GoalDefinition) (events : EventD
   pub first_ending : (e : ℕ) → IsBitSet f.first_ending e → IsFirstEnding t goal f.hits f.needs e
   pub needs : AreNeedsOf t goal events f.needs
 
--- some word of one or more letters without a dead parameter leads from the configuration's state to a handled one; from
+-- some word of one or more letters without a dead parameter leads from the place's state to a handled one; from
 -- the empty word it is one that may begin so
-abbrev pub CanHitFrom : Transitions → GoalDefinition → EventDefinitions → Configuration → Mask → Type 0
+abbrev pub CanHitFrom : Transitions → GoalDefinition → EventDefinitions → Place → Mask → Type 0
 CanHitFrom t g v Start dead = IsAlive (IsNeededAtStart t g v) dead
 CanHitFrom t g v (State s) dead = (s < t.states) × IsAlive (IsNeededFrom t g v s) dead
 CanHitFrom t g v _ dead = ⊥
@@ -99,15 +99,15 @@ module _ (c : ChartsDefinition) where
   abbrev pub BeginsWith : GoalDefinition → Mask → ℕ → Type 0
   BeginsWith goal dead e = may_begin goal e × IsAvailable c.params dead e × GoesOn dead e
 
-  -- so much is left of the words of the configuration, so far as its chart tells: nothing where the property was reset
-  abbrev pub IsLeftOf : Configuration → Bool → Word → Type 0
+  -- so much is left of the words of the place, so far as its chart tells: nothing where the property was reset
+  abbrev pub IsLeftOf : Place → Bool → Word → Type 0
   IsLeftOf (Parse chart) true word = word ≡ []
-  IsLeftOf (Parse chart) false word = IsChartOf c word chart.value
+  IsLeftOf (Parse chart) false word = IsChartOf c word chart
   IsLeftOf _ reset word = Unit {0}
 
-  -- some word of one or more letters without a dead parameter, put after what is left of the configuration's word, is
+  -- some word of one or more letters without a dead parameter, put after what is left of the place's word, is
   -- in the language; after the empty word it is one that may begin so
-  abbrev pub CanMatch : GoalDefinition → Configuration → Word → Mask → Type 0
+  abbrev pub CanMatch : GoalDefinition → Place → Word → Mask → Type 0
   CanMatch goal Start word dead = (e : ℕ) × BeginsWith goal dead e
   CanMatch goal (Parse chart) word dead = IsAliveFor c.grammar c.params dead word
   CanMatch goal _ word dead = ⊥

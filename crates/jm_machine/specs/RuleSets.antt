@@ -1,65 +1,56 @@
--- Compiled rules: what a specification means, with what runs it.
-use Rattle.std.specs.Prelude.{ℕ, ◌≡◌, ◌<◌, ◌≤◌, ◌==◌, ◌^◌, ◌⊎◌, Bool, not, List, Some, IsSomeAnd, IsBitSet, bit_and, length, map, filter, slice_get}
-use Rattle.std.specs.List.{range_with_len}
-use Rattle.jm_model.specs.Words.{Text, Word, Mask}
-use Rattle.jm_events.specs.Names.{number_of}
-use Rattle.jm_goal.specs.Goals.{GoalDefinition}
-use Rattle.jm_machine.specs.declared.formula.Formula.{Formula}
-use Rattle.jm_machine.specs.declared.engine.Engine.{Engine}
-use Rattle.jm_machine.specs.Formulas.{category_names}
-use Rattle.jm_machine.specs.Engines.{letters_of_engine, categories_of_engine, EngineHolds, IsCompiled, IsMinimal}
-use Rattle.jm_machine.specs.Meanings.{RuleDefinition}
+-- Compiled rules: what a specification means, with what runs each of its properties.
+use Rattle.std.specs.Prelude.{ℕ, ◌≡◌, ◌≤◌, ◌<◌, List, [], ◌∷◌, Option, Some, None, length, map, slice_get}
+use Rattle.jm_model.specs.Words.{Text}
+use Rattle.jm_machine.specs.CompiledProperties.{CompiledProperty}
+use Rattle.jm_machine.specs.Meanings.{PropertyDefinition, RuleDefinition, handler_count, rules_about}
+use Rattle.jm_machine.specs.HandlerNames.{names_of}
 
--- the rules, and what runs their property
+-- the rules, and what runs their properties, one by one
 pub record CompiledRules : Type 0 where
   pub definition : RuleDefinition
-  pub engine : Engine
+  pub parts : List CompiledProperty
 
--- it runs the property, with a letter for each mask, knows each category, and a table of it is minimal
-pub record IsRuleSet (r : CompiledRules) : Type 0 where
-  pub letters : letters_of_engine r.engine ≡ length r.definition.masks
-  pub categories : categories_of_engine r.engine ≡ length (category_names r.definition.formula)
-  pub compiled : IsCompiled r.definition.formula r.engine
-  pub minimal : IsMinimal r.engine
-
--- ---- the rules that a goal says
-
--- the numbers below another whose bits are set
-abbrev pub has_bit : ℕ → ℕ → Bool
-has_bit mask number = not (bit_and mask (2 ^ number) == 0)
-
-abbrev pub numbers_of : ℕ → ℕ → List ℕ
-numbers_of mask count = filter (has_bit mask) (range_with_len 0 count)
-
--- what masks, a formula, handled categories and a goal mean
-abbrev pub definition_of : List Mask → Formula → List Text → GoalDefinition → RuleDefinition
-definition_of masks formula handlers goal = record {
-  masks = masks;
-  creation = numbers_of goal.creation (length masks);
-  must_bind = goal.must_bind;
-  formula = formula;
-  handlers = handlers;
-  resets = numbers_of goal.resets (length handlers);
+-- the property that is run
+abbrev pub property_of : CompiledProperty → PropertyDefinition
+property_of c = record {
+  formula = c.definition.formula;
+  handlers = c.definition.handlers;
+  resets = c.definition.resets;
 }
 
--- there are at most 32 letters, the creation letters are some of them, the group of each handler is the number of its
--- category, and the handlers that reset are some of them
-pub record IsGoalOf (masks : List Mask) (formula : Formula) (handlers : List Text)
-    (goal : GoalDefinition) : Type 0 where
-  pub few : length masks ≤ 32
-  pub creation : (letter : ℕ) → IsBitSet goal.creation letter → letter < length masks
-  pub groups : map Some goal.groups ≡ map (number_of (category_names formula)) handlers
-  pub resets : (handler : ℕ) → IsBitSet goal.resets handler → handler < length handlers
+-- the rules of these properties, of which all have the letters of the first
+abbrev pub rules_with : CompiledProperty → List CompiledProperty → RuleDefinition
+rules_with first others = record {
+  masks = first.definition.masks;
+  creation = first.definition.creation;
+  must_bind = first.definition.must_bind;
+  properties = map property_of (first ∷ others);
+}
 
--- a word may begin with the letter: its bit is set, or none is
-abbrev pub may_begin : GoalDefinition → ℕ → Type 0
-may_begin goal letter = (goal.creation ≡ 0) ⊎ IsBitSet goal.creation letter
+-- the properties have the same letters, of which the same may come first, and the same parameters have to be bound
+pub record IsAlike (one other : CompiledProperty) : Type 0 where
+  pub masks : other.definition.masks ≡ one.definition.masks
+  pub creation : other.definition.creation ≡ one.definition.creation
+  pub must_bind : other.definition.must_bind ≡ one.definition.must_bind
 
--- ---- where handlers are hit
+-- the rules are those of their parts, 1 to 16, which have at most 16 handlers together
+pub record IsRuleSet (r : CompiledRules) : Type 0 where
+  pub some : 0 < length r.parts
+  pub few : length r.parts ≤ 16
+  pub properties : r.definition.properties ≡ map property_of r.parts
+  pub about : (k : ℕ) (part : CompiledProperty) → slice_get r.parts k ≡ Some part
+      → rules_about r.definition (property_of part) ≡ part.definition
+  pub handlers : handler_count r.definition.properties ≤ 16
 
--- what runs the property says that the category of handler k holds of the word
-abbrev pub IsHandledBy : CompiledRules → Word → ℕ → Type 0
-IsHandledBy r word k =
-    IsSomeAnd (slice_get r.definition.handlers k)
-    (λ name. IsSomeAnd (number_of (category_names r.definition.formula) name)
-    (λ category. EngineHolds r.engine category word))
+-- where there are several, the handlers have these names
+abbrev pub AreNames : CompiledProperty → List CompiledProperty → Option (List Text) → Type 0
+AreNames first others None = others ≡ []
+AreNames first others (Some names) = names ≡ names_of (rules_with first others)
+
+-- there are at most 16 properties and at most 16 handlers, all of the same letters, and the handlers have these names
+pub record AreRules (first : CompiledProperty) (others : List CompiledProperty)
+    (given : Option (List Text)) : Type 0 where
+  pub alike : (k : ℕ) (other : CompiledProperty) → slice_get others k ≡ Some other → IsAlike first other
+  pub properties : length others < 16
+  pub handlers : handler_count (map property_of (first ∷ others)) ≤ 16
+  pub names : AreNames first others given

@@ -1,10 +1,10 @@
 //! A state of the rules.
-use jm_earley::Chart;
+use crate::place::Place;
 
-/// Where a word leads in the rules. It takes 16 bytes.
+/// Where a word leads in the rules, which is a place of each property. It takes 16 bytes.
 ///
-/// A configuration stands for words by `IsConfigurationOf`. One that stands for no word, as a chart where the rules
-/// have a table, may be answered anything.
+/// A configuration stands for words by `IsConfigurationOf`. One that stands for no word, as a state of a table where the
+/// rules have several properties, may be answered anything.
 #[derive(Drop)]
 pub enum Configuration {
     /// The configuration of the empty word.
@@ -12,8 +12,10 @@ pub enum Configuration {
     /// The configuration of the words that begin with another letter than a creation letter, where there are creation
     /// letters.
     Barren,
-    /// A state of the table.
+    /// A state of the table, where there is one property.
     State(u16),
-    /// A chart.
-    Parse(Box<Chart>),
+    /// The place of the one property.
+    Single(Box<Place>),
+    /// The places of all properties, in their order.
+    Several(Box<Vec<Place>>),
 }

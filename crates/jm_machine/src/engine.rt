@@ -3,14 +3,13 @@ ghost use Rattle.std.specs.Prelude.{ℕ, ◌≡◌, ◌<◌, ◌↔◌, ◌++◌
 ghost use Rattle.jm_table.specs.Tables.{IsTable, next_of, IsInGroup};
 ghost use Rattle.jm_grammar.specs.Categories.{GrammarHolds};
 ghost use Rattle.jm_earley.specs.Charts.{IsChartOf};
-ghost use Rattle.jm_machine.specs.Engines.{letters_of_engine, categories_of_engine, IsPlaceOf, IsChartPlace, EngineHolds};
+ghost use Rattle.jm_machine.specs.Engines.{letters_of_engine, categories_of_engine, IsPlaceOf, EngineHolds};
 
-use crate::configuration::Configuration;
+use crate::place::Place;
 use jm_earley::{Chart, Charts};
 use jm_goal::Goal;
 use jm_model::{Letter, NoMemory};
 use jm_table::Table;
-use std::alloc::Global;
 
 /// A table of states, or the charts of a grammar.
 #[derive(Drop)]
@@ -22,89 +21,66 @@ pub enum Engine {
 }
 
 impl Engine {
-    /// A configuration of the same words.
-    pub(crate) fn copy(
-        &self,
-        alloc: Global,
-        configuration: &Configuration,
-    ) -> Result<Configuration, NoMemory>
-        ensures { IfOk result (λ copy. (word : List ℕ) → IsPlaceOf self.now configuration.now word
+    /// A place of the same words.
+    pub(crate) fn copy(&self, place: &Place) -> Result<Place, NoMemory>
+        ensures { IfOk result (λ copy. (word : List ℕ) → IsPlaceOf self.now place.now word
             → IsPlaceOf self.now copy word) }
     {
-        match (self, configuration) {
-            (_, Configuration::State(state)) => Ok(Configuration::State(*state)),
-            (Engine::Parses(charts), Configuration::Parse(chart)) => configuration_of(
-                alloc,
-                charts.copy(chart)?,
-            ),
-            _ => Ok(Configuration::Barren),
+        match (self, place) {
+            (_, Place::State(state)) => Ok(Place::State(*state)),
+            (Engine::Parses(charts), Place::Parse(chart)) => {
+                Ok(Place::Parse(charts.copy(chart)?))
+            }
+            _ => Ok(Place::Barren),
         }
     }
 
-    /// The configuration of the words that have one letter more.
-    pub(crate) fn next(
-        &self,
-        alloc: Global,
-        configuration: &Configuration,
-        letter: Letter,
-    ) -> Result<Configuration, NoMemory>
+    /// The place of the words that have one letter more.
+    pub(crate) fn next(&self, place: &Place, letter: Letter) -> Result<Place, NoMemory>
         requires { letter.0 < letters_of_engine self.now }
         ensures { IfOk result (λ next.
-            (word : List ℕ) → IsPlaceOf self.now configuration.now word
+            (word : List ℕ) → IsPlaceOf self.now place.now word
             → IsPlaceOf self.now next (word ++ letter.0 ∷ [])) }
     {
-        match (self, configuration) {
-            (Engine::States(table), Configuration::State(state)) => {
-                Ok(Configuration::State(next_state(table, *state, letter)))
+        match (self, place) {
+            (Engine::States(table), Place::State(state)) => {
+                Ok(Place::State(next_state(table, *state, letter)))
             }
-            (Engine::Parses(charts), Configuration::Parse(chart)) => {
-                configuration_of(alloc, charts.next(chart, letter)?)
+            (Engine::Parses(charts), Place::Parse(chart)) => {
+                Ok(Place::Parse(charts.next(chart, letter)?))
             }
-            _ => Ok(Configuration::Barren),
+            _ => Ok(Place::Barren),
         }
     }
 
-    /// Whether the category of this number holds of the words of the configuration.
-    pub(crate) fn holds(&self, configuration: &Configuration, category: u16) -> bool
+    /// Whether the category of this number holds of the words of the place.
+    pub(crate) fn holds(&self, place: &Place, category: u16) -> bool
         requires { category < categories_of_engine self.now }
-        ensures { (word : List ℕ) → IsPlaceOf self.now configuration.now word
+        ensures { (word : List ℕ) → IsPlaceOf self.now place.now word
             → IsTrue result ↔ EngineHolds self.now category word }
     {
-        match (self, configuration) {
-            (Engine::States(table), Configuration::State(state)) => is_in_group(
-                table, *state, category,
-            ),
-            (Engine::Parses(charts), Configuration::Parse(chart)) => parse_holds(
-                charts, chart, category,
-            ),
+        match (self, place) {
+            (Engine::States(table), Place::State(state)) => is_in_group(table, *state, category),
+            (Engine::Parses(charts), Place::Parse(chart)) => parse_holds(charts, chart, category),
             _ => false,
         }
     }
 }
 
-/// The handlers whose category holds of the words of a configuration: bit k stands for handler k.
+/// The handlers whose category holds of the words of a place: bit k stands for handler k.
 #[inline(never)]
-pub(crate) fn handlers_at(goal: &Goal, engine: &Engine, configuration: &Configuration) -> u16
+pub(crate) fn handlers_at(goal: &Goal, engine: &Engine, place: &Place) -> u16
     requires { All (λ group. group < categories_of_engine engine.now) goal.now.groups }
-    ensures { (word : List ℕ) → IsPlaceOf engine.now configuration.now word → (k : ℕ) →
+    ensures { (word : List ℕ) → IsPlaceOf engine.now place.now word → (k : ℕ) →
         IsBitSet result k ↔ IsSomeAnd (slice_get goal.now.groups k) (λ group. EngineHolds engine.now group word) }
 {
     let mut hits = 0;
     for handler in 0..goal.handlers() {
-        if engine.holds(configuration, goal.group(handler)) {
+        if engine.holds(place, goal.group(handler)) {
             hits |= 1 << handler;
         }
     }
     hits
-}
-
-/// The configuration of a chart.
-#[inline(never)]
-pub(crate) fn configuration_of(alloc: Global, chart: Chart) -> Result<Configuration, NoMemory>
-    ensures { IfOk result (IsChartPlace chart) }
-{
-    let chart = Box::new(alloc, chart)?;
-    Ok(Configuration::Parse(chart))
 }
 
 /// The state that a letter leads to, from a state of the table.

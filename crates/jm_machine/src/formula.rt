@@ -1,4 +1,4 @@
-//! The property of a specification, in whichever logic.
+//! The formula of a property, in whichever logic.
 ghost use Rattle.std.specs.Prelude.{ℕ, ◌≡◌, ◌≤◌, ◌↔◌, List, false, length, map, IfOk, IfErr};
 ghost use Rattle.jm_model.specs.declared.fault.SpecFault.{SpecFault};
 ghost use Rattle.jm_text.specs.Spans.{LieWithin};
@@ -16,12 +16,12 @@ use jm_fsm::Fsm;
 use jm_grammar::Grammar;
 use jm_model::{NoMemory, SpecError};
 use jm_ptltl::Past;
-use jm_spec::{Logic, SpecTree};
+use jm_spec::Logic;
 use jm_table::Table;
 use jm_text::Token;
 use std::alloc::Global;
 
-/// The formula of a specification's property.
+/// The formula of a property.
 #[derive(Drop)]
 pub enum Formula {
     /// A state machine.
@@ -35,7 +35,7 @@ pub enum Formula {
 }
 
 impl Formula {
-    /// The formula of these tokens, in the logic of the tree. The token before them is on the line.
+    /// The formula of these tokens, in the logic. The token before them is on the line.
     ///
     /// The fault is that of the logic's reader.
     pub(crate) fn read(
@@ -43,27 +43,28 @@ impl Formula {
         bytes: &[u8],
         tokens: &[Token],
         line: u32,
-        tree: &SpecTree,
+        logic: Logic,
+        table: &EventTable,
     ) -> Result<Formula, SpecError>
         requires { LieWithin bytes.now tokens.now }
-        ensures ok { IfOk result (IsReadAs bytes.now tokens.now tree.now.table tree.now.logic) }
-        ensures err { IfErr result (λ e. IfBad e (IsRefusedIn bytes.now tokens.now tree.now.table tree.now.logic)) }
+        ensures ok { IfOk result (IsReadAs bytes.now tokens.now table.now logic) }
+        ensures err { IfErr result (λ e. IfBad e (IsRefusedIn bytes.now tokens.now table.now logic)) }
     {
-        match tree.logic {
+        match logic {
             Logic::Fsm => {
-                let machine = jm_fsm::read(alloc, bytes, tokens, line, &tree.table)?;
+                let machine = jm_fsm::read(alloc, bytes, tokens, line, table)?;
                 Ok(Formula::Machine(machine))
             }
             Logic::Ere => {
-                let expression = jm_ere::read(alloc, bytes, tokens, line, &tree.table)?;
+                let expression = jm_ere::read(alloc, bytes, tokens, line, table)?;
                 Ok(Formula::Regular(expression))
             }
             Logic::Ptltl => {
-                let past = jm_ptltl::read(alloc, bytes, tokens, line, &tree.table)?;
+                let past = jm_ptltl::read(alloc, bytes, tokens, line, table)?;
                 Ok(Formula::Temporal(past))
             }
             Logic::Cfg => {
-                let grammar = jm_grammar::read(alloc, bytes, tokens, line, &tree.table)?;
+                let grammar = jm_grammar::read(alloc, bytes, tokens, line, table, false)?;
                 Ok(Formula::Grammatical(grammar))
             }
         }

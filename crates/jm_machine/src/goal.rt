@@ -3,8 +3,8 @@ ghost use Rattle.std.specs.Prelude.{ℕ, ◌≡◌, ◌<◌, ◌≤◌, ◌^◌,
 ghost use Rattle.jm_events.specs.Names.{number_of};
 ghost use Rattle.jm_events.specs.Events.{IsCreation};
 ghost use Rattle.jm_machine.specs.Handlers.{AreCategories};
-ghost use Rattle.jm_machine.specs.Meanings.{must_bind_of};
-ghost use Rattle.jm_machine.specs.RuleSets.{may_begin};
+ghost use Rattle.jm_machine.specs.PropertyMeanings.{must_bind_of};
+ghost use Rattle.jm_machine.specs.CompiledProperties.{may_begin};
 
 use crate::handlers::groups_of;
 use jm_events::{EventTable, Names};

@@ -6,9 +6,8 @@ ghost use Rattle.jm_machine.specs.declared.engine.Engine.TheVariants.{Parses};
 ghost use Rattle.jm_machine.specs.Engines.{IsPlaceOf};
 ghost use Rattle.jm_machine.specs.Outlooks.{AreFirstCharts, BeginsWith, GoesOn, IsLeftOf, CanMatch};
 
-use crate::configuration::Configuration;
-use crate::engine::configuration_of;
 use crate::goal::may_begin;
+use crate::place::Place;
 use jm_earley::{Chart, Charts};
 use jm_goal::Goal;
 use jm_model::{Letter, NoMemory};
@@ -64,23 +63,18 @@ impl GrammarOutlook {
         })
     }
 
-    /// The configuration of the word of one letter.
+    /// The place of the word of one letter.
     #[inline(never)]
-    pub(crate) fn first(
-        &self,
-        alloc: Global,
-        charts: &Charts,
-        letter: Letter,
-    ) -> Result<Configuration, NoMemory>
+    pub(crate) fn first(&self, charts: &Charts, letter: Letter) -> Result<Place, NoMemory>
         requires firsts { AreFirstCharts charts.now self.now.firsts }
         requires letter { letter.0 < length self.now.firsts }
-        ensures { IfOk result (λ configuration. IsPlaceOf (Parses charts.now) configuration (letter.0 ∷ [])) }
+        ensures { IfOk result (λ place. IsPlaceOf (Parses charts.now) place (letter.0 ∷ [])) }
     {
         let chart = charts.copy(&self.firsts[letter.0 as usize])?;
-        configuration_of(alloc, chart)
+        Ok(Place::Parse(chart))
     }
 
-    /// Whether an instance with this configuration, whose property may have been reset there, can never fire again.
+    /// Whether an instance with this place, whose property may have been reset there, can never fire again.
     /// Where `fail` is handled that is so only where no letter is without a dead parameter. The masks are the
     /// parameters of the letters.
     #[inline(never)]
@@ -89,7 +83,7 @@ impl GrammarOutlook {
         charts: &Charts,
         goal: &Goal,
         masks: &[u8],
-        configuration: &Configuration,
+        place: &Place,
         reset: bool,
         dead: u8,
     ) -> bool
@@ -100,17 +94,17 @@ impl GrammarOutlook {
         ensures failing { self.now.failing ≡ true →
             IsTrue result ↔ ((e : ℕ) → IsAvailable charts.now.params dead e → ⊥) }
         ensures matching { self.now.failing ≡ false → (word : List ℕ)
-            → IsLeftOf charts.now configuration.now reset word →
-            IsTrue result ↔ ((goal.now.groups ≢ []) × CanMatch charts.now goal.now configuration.now word dead → ⊥) }
+            → IsLeftOf charts.now place.now reset word →
+            IsTrue result ↔ ((goal.now.groups ≢ []) × CanMatch charts.now goal.now place.now word dead → ⊥) }
     {
         if self.failing {
             masks.iter().all(|mask| mask & dead != 0)
         } else {
-            goal.handlers() == 0 || !self.can_match(charts, goal, masks, configuration, reset, dead)
+            goal.handlers() == 0 || !self.can_match(charts, goal, masks, place, reset, dead)
         }
     }
 
-    /// Whether some word of one or more letters without a dead parameter, put after what is left of the configuration's
+    /// Whether some word of one or more letters without a dead parameter, put after what is left of the place's
     /// word, is in the language. After the empty word it is one that may begin so. The masks are the parameters of the
     /// letters.
     pub(crate) fn can_match(
@@ -118,7 +112,7 @@ impl GrammarOutlook {
         charts: &Charts,
         goal: &Goal,
         masks: &[u8],
-        configuration: &Configuration,
+        place: &Place,
         reset: bool,
         dead: u8,
     ) -> bool
@@ -126,13 +120,13 @@ impl GrammarOutlook {
         requires firsts { AreFirstCharts charts.now self.now.firsts }
         requires masks { masks.now ≡ charts.now.params }
         requires few { length masks.now ≤ 32 }
-        ensures { (word : List ℕ) → IsLeftOf charts.now configuration.now reset word →
-            IsTrue result ↔ CanMatch charts.now goal.now configuration.now word dead }
+        ensures { (word : List ℕ) → IsLeftOf charts.now place.now reset word →
+            IsTrue result ↔ CanMatch charts.now goal.now place.now word dead }
     {
-        match configuration {
-            Configuration::Start => self.can_begin(charts, goal, masks, dead),
-            Configuration::Parse(_) if reset => charts.alive(&self.begin, dead),
-            Configuration::Parse(chart) => charts.alive(chart, dead),
+        match place {
+            Place::Start => self.can_begin(charts, goal, masks, dead),
+            Place::Parse(_) if reset => charts.alive(&self.begin, dead),
+            Place::Parse(chart) => charts.alive(chart, dead),
             _ => false,
         }
     }

@@ -1,59 +1,111 @@
-//! The handlers of a property: their categories, what is wrong with them, and which of them reset the property.
+//! The handlers of properties: their categories, what is wrong with them, and which of them reset their property.
 ghost use Rattle.std.specs.Prelude.{ℕ, ◌≡◌, ◌<◌, ◌≤◌, ◌^◌, ◌↔◌, Some, true, [], IsBitSet, IsSomeAnd, length, map, slice_get, slice_range, IfOk, IfErr};
 ghost use Rattle.jm_text.specs.Spans.{LieWithin};
 ghost use Rattle.jm_reading.specs.Faults.{Checks};
+ghost use Rattle.jm_spec.specs.Trees.{facts_of};
 ghost use Rattle.jm_events.specs.Names.{number_of};
-ghost use Rattle.jm_machine.specs.Handlers.{handler_names, AreCategories, count_fault, duplicate_fault, category_fault, reset_in, reset_fault, binding_fault, handlers_fault, has_reset};
+ghost use Rattle.jm_machine.specs.Handlers.{handler_names, AreCategories, handlers_in, count_fault, duplicate_fault, category_fault, reset_in, reset_fault, binding_fault, duplicates_fault, categories_fault, bindings_fault, handlers_fault, has_reset};
 
+use crate::formula::Formula;
 use jm_events::Names;
 use jm_model::{Counted, SpecError, SpecFault};
 use jm_reading::{name_of, range_of};
-use jm_spec::HandlerText;
+use jm_spec::{HandlerText, PropertyTree};
 use jm_text::{Token, is_word};
 use std::alloc::Global;
 
 const MAX_HANDLERS: usize = 16;
 
-/// The names of the categories that are handled, or what is wrong with the handlers, where the property has these
-/// categories. Each of these steps is done for all handlers before the next: how many there are, whether two are for
-/// one category, whether each category is there, and, for full bindings alone, whether one resets the property.
+/// What is wrong with the handlers of the properties, which have these formulas. Each of these steps is done for all
+/// properties before the next: how many handlers there are, whether two of a property are for one category, whether each
+/// category is one of the handler's own property, and, for full bindings alone, whether a handler resets its property.
 #[tactic(auto, unfolding(crate::specs::Handlers::handlers_fault))]
-pub(crate) fn handled(
+pub(crate) fn check_handlers(
     alloc: Global,
     bytes: &[u8],
     tokens: &[Token],
-    categories: &Names,
-    handlers: &[HandlerText],
+    properties: &[PropertyTree],
+    formulas: &[Formula],
     full_binding: bool,
-) -> Result<Names, SpecError>
-    requires { LieWithin bytes.now tokens.now }
-    ensures names { IfOk result (λ names. names ≡ handler_names bytes.now handlers.now) }
-    ensures few { IfOk result (λ names. length names ≤ 16) }
-    ensures known { IfOk result (AreCategories categories.now) }
-    ensures checked { Checks result
-        (handlers_fault bytes.now full_binding tokens.now categories.now handlers.now) }
+) -> Result<(), SpecError>
+    requires tokens { LieWithin bytes.now tokens.now }
+    requires count { length formulas.now ≡ length properties.now }
+    ensures { Checks result
+        (handlers_fault bytes.now full_binding tokens.now (map facts_of properties.now) formulas.now) }
 {
-    check_count(handlers)?;
-    let names = distinct(alloc, bytes, handlers)?;
-    check_categories(bytes, categories, handlers)?;
-    check_bindings(bytes, tokens, handlers, full_binding)?;
-    Ok(names)
+    check_count(properties)?;
+    check_distinct(alloc, bytes, properties)?;
+    check_all_categories(alloc, bytes, properties, formulas)?;
+    check_all_bindings(bytes, tokens, properties, full_binding)
 }
 
-/// At most 16 handlers.
-fn check_count(handlers: &[HandlerText]) -> Result<(), SpecError>
-    ensures checked { Checks result (count_fault handlers.now) }
-    ensures few { IfOk result (λ _. length handlers.now ≤ 16) }
+/// At most 16 handlers of all properties.
+fn check_count(properties: &[PropertyTree]) -> Result<(), SpecError>
+    ensures checked { Checks result (count_fault (map facts_of properties.now)) }
+    ensures few { IfOk result (λ _. handlers_in (map facts_of properties.now) ≤ 16) }
 {
-    if handlers.len() > MAX_HANDLERS {
-        let what = Counted::Handlers;
-        return Err(SpecError::Bad(SpecFault::TooMany { what }));
+    let mut count = 0;
+    for property in properties {
+        let here = property.handlers.len();
+        if here > MAX_HANDLERS - count {
+            let what = Counted::Handlers;
+            return Err(SpecError::Bad(SpecFault::TooMany { what }));
+        }
+        count += here;
+    }
+    Ok(())
+}
+
+/// The first handler of a property for a category that an earlier handler of the same property is for.
+fn check_distinct(alloc: Global, bytes: &[u8], properties: &[PropertyTree]) -> Result<(), SpecError>
+    requires { handlers_in (map facts_of properties.now) ≤ 16 }
+    ensures { Checks result (duplicates_fault bytes.now (map facts_of properties.now)) }
+{
+    for property in properties {
+        distinct(alloc, bytes, property.handlers.as_slice())?;
+    }
+    Ok(())
+}
+
+/// The first handler for no category of its own property, where the properties have these formulas.
+fn check_all_categories(
+    alloc: Global,
+    bytes: &[u8],
+    properties: &[PropertyTree],
+    formulas: &[Formula],
+) -> Result<(), SpecError>
+    requires { length formulas.now ≡ length properties.now }
+    ensures { Checks result (categories_fault bytes.now (map facts_of properties.now) formulas.now) }
+{
+    for number in 0..properties.len() {
+        let categories = formulas[number].categories(alloc)?;
+        check_categories(bytes, &categories, properties[number].handlers.as_slice())?;
+    }
+    Ok(())
+}
+
+/// Where the specification is for full bindings alone, the first word `__RESET` of all blocks.
+fn check_all_bindings(
+    bytes: &[u8],
+    tokens: &[Token],
+    properties: &[PropertyTree],
+    full_binding: bool,
+) -> Result<(), SpecError>
+    requires { LieWithin bytes.now tokens.now }
+    ensures { Checks result (bindings_fault bytes.now full_binding tokens.now (map facts_of properties.now)) }
+{
+    for property in properties {
+        check_bindings(bytes, tokens, property.handlers.as_slice(), full_binding)?;
     }
     Ok(())
 }
 
 /// The names of the categories, or the first handler for one that an earlier handler is for.
-fn distinct(alloc: Global, bytes: &[u8], handlers: &[HandlerText]) -> Result<Names, SpecError>
+pub(crate) fn distinct(
+    alloc: Global,
+    bytes: &[u8],
+    handlers: &[HandlerText],
+) -> Result<Names, SpecError>
     requires { length handlers.now ≤ 16 }
     ensures names { IfOk result (λ names. names ≡ handler_names bytes.now handlers.now) }
     ensures checked { Checks result (duplicate_fault bytes.now [] handlers.now) }
@@ -87,7 +139,7 @@ fn check_categories(
     Ok(())
 }
 
-/// Where the specification is for full bindings alone, the first word `__RESET` of all blocks.
+/// Where the specification is for full bindings alone, the first word `__RESET` of these blocks.
 fn check_bindings(
     bytes: &[u8],
     tokens: &[Token],
@@ -104,7 +156,7 @@ fn check_bindings(
     }
 }
 
-/// The first word `__RESET` of all blocks.
+/// The first word `__RESET` of these blocks.
 fn without_reset(bytes: &[u8], tokens: &[Token], handlers: &[HandlerText]) -> Result<(), SpecError>
     requires { LieWithin bytes.now tokens.now }
     ensures { Checks result (reset_fault bytes.now tokens.now handlers.now) }

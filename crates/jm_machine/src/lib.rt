@@ -1,12 +1,13 @@
-//! The rules of a specification: its property, whatever its logic, with its handlers, creation events and full
-//! bindings, as a monitor.
+//! The rules of a specification: its properties, whatever their logics, each with its handlers, and its creation events
+//! and full bindings, as a monitor.
 //!
 //! `Rules::compile` makes them of the tree of a specification. What they mean stands in `specs`, apart from any table
-//! and any chart: the category of a handler holds by the meaning of the logic of what is left of a word since a handler
-//! last reset the property, and a word hits nothing where it is empty or where creation events exist and its first
-//! letter isn't one.
+//! and any chart: the category of a handler holds by the meaning of its property's logic of what is left of a word since
+//! a handler last reset that property, and a word hits nothing where it is empty or where creation events exist and its
+//! first letter isn't one.
 #![tactic(auto)]
 
+mod compile;
 mod configuration;
 mod engine;
 mod formula;
@@ -14,12 +15,18 @@ mod goal;
 mod grammar_outlook;
 mod handlers;
 mod laws;
+mod names;
 mod outlook;
+mod place;
+mod property;
 mod rules;
 mod table_outlook;
+mod union;
 
 pub use configuration::Configuration;
 pub use engine::Engine;
 pub use formula::Formula;
 pub use laws::{one_letter_more, one_reading, without_resets};
+pub use place::Place;
+pub use property::Property;
 pub use rules::Rules;

@@ -1,4 +1,4 @@
-//! What may still follow, worked out once for all configurations.
+//! What may still follow, worked out once for all places.
 ghost use Rattle.std.specs.Prelude.{◌≡◌, ◌<◌, All, IfOk, length};
 ghost use Rattle.jm_machine.specs.Engines.{letters_of_engine, categories_of_engine};
 ghost use Rattle.jm_machine.specs.Known.{IsOutlookOf};

@@ -1,315 +1,406 @@
 //! The monitor of a specification.
-ghost use Rattle.std.specs.Prelude.{ℕ, ◌&&◌, codes, ◌≡◌, ◌≢◌, ◌<◌, ◌≤◌, ◌^◌, ◌↔◌, ◌⊎◌, [], ◌∷◌, ◌++◌, List, All, Contains, Some, None, true, false, IsTrue, IsSomeAnd, IsNone, IsBitSet, IfOk, IfErr, IfSome, length, map, slice_get};
-ghost use Rattle.std.specs.List.{list_any};
-ghost use Rattle.std.specs.Str.{bytes_eq};
+ghost use Rattle.std.specs.Prelude.{ℕ, ◌+◌, ◌≡◌, ◌<◌, ◌≤◌, ◌^◌, ◌↔◌, [], ◌∷◌, ◌++◌, List, All, Contains, Some, None, true, false, IsTrue, IsSomeAnd, IsNone, IsBitSet, IfOk, IfErr, IfSome, length, map, slice_get};
 ghost use Rattle.jm_table.specs.Minimal.{IsReduced};
 ghost use Rattle.jm_text.specs.Spans.{LieWithin};
+ghost use Rattle.jm_spec.specs.Trees.{IsFewProperties};
 ghost use Rattle.jm_semantics.specs.Families.{IsFamily};
-ghost use Rattle.jm_machine.specs.Formulas.{category_names, is_grammar};
-ghost use Rattle.jm_machine.specs.Handlers.{AreCategories};
-ghost use Rattle.jm_machine.specs.Meanings.{Resets, rules_of, rules_meaning};
-ghost use Rattle.jm_model.specs.Meanings.{IsCutWord};
-ghost use Rattle.jm_machine.specs.Configurations.{Stands, IsConfigurationOf};
-ghost use Rattle.jm_machine.specs.Engines.{letters_of_engine, categories_of_engine, is_parsing, HasParams, IsPlaceOf, IsCompiled, IsMinimal};
-ghost use Rattle.jm_machine.specs.RuleSets.{numbers_of, IsRuleSet, IsHandledBy};
+ghost use Rattle.jm_model.specs.Meanings.{IsHit, IsCutWord};
+ghost use Rattle.jm_machine.specs.Formulas.{is_grammar};
+ghost use Rattle.jm_machine.specs.Meanings.{has_grammar, handler_count, rules_meaning};
+ghost use Rattle.jm_machine.specs.HandlerNames.{AreEachDistinct, names_of};
+ghost use Rattle.jm_machine.specs.CompiledProperties.{CompiledProperty, IsCompiledProperty};
+ghost use Rattle.jm_machine.specs.RuleSets.{IsAlike, IsRuleSet, property_of, rules_with};
+ghost use Rattle.jm_machine.specs.Configurations.{place_at, AreAfter, IsConfigurationOf};
 ghost use Rattle.jm_machine.specs.Compiling.{IsCompiledFrom, IsNotCompiled};
+ghost use Rattle.jm_machine.specs.declared.engine.Engine.TheVariants as engine;
+ghost use Rattle.jm_machine.specs.declared.place.Place.TheVariants as place;
 
+use crate::compile::{compile_formulas, read_formulas};
 use crate::configuration::Configuration;
-use crate::engine::{Engine, handlers_at, next_state};
-use crate::formula::Formula;
-use crate::goal::{goal_of, may_begin};
-use crate::handlers::{handled, resets_of};
-use crate::outlook::Outlook;
+use crate::handlers::check_handlers;
+use crate::names::numbered_names;
+use crate::place::Place;
+use crate::property::Property;
+use crate::union::union_of;
 use jm_events::Names;
-use jm_goal::Goal;
 use jm_model::{Letter, Monitor, NoMemory, SpecError};
-use jm_reading::range_of;
 use jm_spec::SpecTree;
 use jm_table::Table;
 use jm_text::Token;
 use std::alloc::Global;
 use std::marker::Model;
 
-/// The rules of a specification: the parameters of its events, its property, the categories that are handled, what it
-/// is run for, what runs its property, and what may still follow. Contracts see them as `CompiledRules`.
+/// The rules of a specification: its properties, 1 to 16, and where there are several the names of their handlers.
+/// Contracts see them as their `CompiledRules`.
 pub struct Rules {
-    masks: Vec<u8>,
-    formula: Formula,
-    handlers: Names,
-    goal: Goal,
-    engine: Engine,
-    outlook: Outlook,
+    first: Property,
+    others: Vec<Property>,
+    names: Option<Names>,
 }
 
 // Written out, so that a drop is one call wherever rules are let go.
 impl Drop for Rules {
     fn drop(self) {
         let Rules {
-            masks: _,
-            formula: _,
-            handlers: _,
-            goal: _,
-            engine: _,
-            outlook: _,
+            first: _,
+            others: _,
+            names: _,
         } = self;
     }
 }
 
 impl Model for Rules {
-    ghost use Rattle.jm_machine.specs.RuleSets.{CompiledRules, definition_of, IsRuleSet, IsGoalOf};
-    ghost use Rattle.jm_machine.specs.Known.{IsKnown};
+    ghost use Rattle.std.specs.Prelude.{◌∷◌};
+    ghost use Rattle.jm_machine.specs.RuleSets.{CompiledRules, rules_with, AreRules};
 
     ghost Value = { CompiledRules };
 
     ghost use Rattle.std.specs.Coded.{codes};
-    ghost use Rattle.jm_machine.specs.contracts.formula.Formula as property;
-    ghost use Rattle.jm_machine.specs.contracts.engine.Engine as driver;
+    ghost use Rattle.jm_machine.specs.contracts.formula.Formula as formula;
+    ghost use Rattle.jm_machine.specs.contracts.property.Property as property;
 
-    ghost coded = { Prim.hlevel (codes, property.the_row.coded, driver.the_row.coded) };
+    ghost coded = { Prim.hlevel (codes, formula.the_row.coded, property.the_row.coded) };
 
     ghost view = { λ r. record {
-      definition = definition_of r.masks.items r.formula r.handlers r.goal;
-      engine = r.engine;
+      definition = rules_with r.first r.others.items;
+      parts = r.first ∷ r.others.items;
     } };
 
-    ghost invariant = { λ r. let d = definition_of r.masks.items r.formula r.handlers r.goal in
-        IsGoalOf r.masks.items r.formula r.handlers r.goal × IsRuleSet (record { definition = d; engine = r.engine })
-        × IsKnown d r.goal r.engine r.outlook };
+    ghost invariant = { λ r. AreRules r.first r.others.items r.names };
 }
 
 impl Rules {
-    /// The rules that the tree of these tokens says.
+    /// The rules that the tree of these tokens says. A tree that was read has 1 to 16 properties.
     ///
-    /// The fault is the first one of the steps: those of the formula's reader; `TooMany` handlers, past 16;
-    /// `DuplicateHandler` and `UnknownCategory`; `ResetWithFullBinding`, the word `__RESET` in a block where the
-    /// specification is for full bindings alone; and those of the formula's table, `TooManyStates` and `TooMany` term.
+    /// The fault is the first one of the steps, each of which is done for all properties, in their order, before the next:
+    /// those of the formulas' readers; `TooMany` handlers, past 16 of all properties; `DuplicateHandler`;
+    /// `UnknownCategory`; `ResetWithFullBinding`, the word `__RESET` in a block where the specification is for full
+    /// bindings alone; and those of the formulas' tables, `TooManyStates` and `TooMany` term.
     pub fn compile(
         alloc: Global,
         bytes: &[u8],
         tokens: &[Token],
         tree: &SpecTree,
     ) -> Result<Rules, SpecError>
-        requires { LieWithin bytes.now tokens.now }
+        requires tokens { LieWithin bytes.now tokens.now }
+        requires few { IsFewProperties tree.now }
         ensures ok { IfOk result (λ r. IsCompiledFrom bytes.now tokens.now tree.now r.definition) }
         ensures fit { IfOk result (λ r. All (λ mask. mask < 2 ^ length tree.now.table.parameters) r.definition.masks) }
-        ensures few { IfOk result (λ r. length r.definition.handlers ≤ 16) }
+        ensures few { IfOk result (λ r. handler_count r.definition.properties ≤ 16) }
+        ensures count { IfOk result (λ r. length r.definition.properties ≡ length tree.now.properties.items) }
         ensures err { IfErr result (IsNotCompiled bytes.now tokens.now tree.now) }
     {
-        let text = range_of(tokens, tree.first, tree.last);
-        let line = line_before(tokens, tree.first);
-        let formula = Formula::read(alloc, bytes, text, line, tree)?;
-        let categories = formula.categories(alloc)?;
-        let texts = tree.handlers.as_slice();
-        let handlers = handled(alloc, bytes, tokens, &categories, texts, tree.full_binding)?;
-        let resets = resets_of(bytes, tokens, texts);
-        let engine = formula.compile(alloc, &tree.table)?;
-        Rules::new(alloc, tree, formula, &categories, handlers, resets, engine)
+        let formulas = read_formulas(alloc, bytes, tokens, tree)?;
+        let properties = tree.properties.as_slice();
+        let full_binding = tree.full_binding;
+        check_handlers(
+            alloc,
+            bytes,
+            tokens,
+            properties,
+            formulas.as_slice(),
+            full_binding,
+        )?;
+        let mut parts = compile_formulas(alloc, bytes, tokens, tree, formulas)?;
+        let first = parts.remove(0);
+        Ok(Rules::new(alloc, first, parts)?)
     }
 
-    /// The rules of a formula with what runs it, and of these handled categories. Bit k of `resets` says that handler k
-    /// resets the property.
-    fn new(
-        alloc: Global,
-        tree: &SpecTree,
-        formula: Formula,
-        categories: &Names,
-        handlers: Names,
-        resets: u16,
-        engine: Engine,
-    ) -> Result<Rules, SpecError>
-        requires categories { categories.now ≡ category_names formula }
-        requires many { length categories.now ≤ 65535 }
-        requires few { length handlers ≤ 16 }
-        requires known { AreCategories categories.now handlers }
-        requires there { resets < 2 ^ length handlers }
-        requires apart { (resets ≡ 0) ⊎ (tree.now.full_binding ≡ false) }
-        requires letters { letters_of_engine engine ≡ length tree.now.table.events }
-        requires groups { categories_of_engine engine ≡ length categories.now }
-        requires compiled { IsCompiled formula engine }
-        requires minimal { IsMinimal engine }
-        requires kind { is_parsing engine ≡ is_grammar formula }
-        requires params { HasParams (map (λ e. e.mask) tree.now.table.events) engine }
-        ensures rules { IfOk result (λ r. r.definition
-            ≡ rules_of tree.now.table tree.now.full_binding formula handlers (numbers_of resets (length handlers))) }
-        ensures fit { IfOk result (λ r. All (λ mask. mask < 2 ^ length tree.now.table.parameters) r.definition.masks) }
-        ensures err { IfErr result (λ e. e ≡ SpecError.NoMemory) }
+    /// The rules of these properties.
+    fn new(alloc: Global, first: Property, others: Vec<Property>) -> Result<Rules, NoMemory>
+        requires alike { (k : ℕ) (other : CompiledProperty) → slice_get others.items k ≡ Some other
+            → IsAlike first other }
+        requires properties { length others.items < 16 }
+        requires handlers { handler_count (map property_of (first ∷ others.items)) ≤ 16 }
+        requires distinct { AreEachDistinct (map (λ part. part.definition.handlers) (first ∷ others.items)) }
+        ensures { IfOk result (λ r. r ≡ record {
+          definition = rules_with first others.items;
+          parts = first ∷ others.items;
+        }) }
     {
-        let masks = tree.table.masks(alloc)?;
-        let goal = goal_of(alloc, tree, categories, &handlers, resets)?;
-        let failing = is_failing(&formula, &handlers);
-        let outlook = Outlook::new(alloc, &engine, &goal, &tree.table, failing)?;
+        let names = if others.is_empty() {
+            None
+        } else {
+            Some(numbered_names(alloc, &first, others.as_slice())?)
+        };
         Ok(Rules {
-            masks,
-            formula,
-            handlers,
-            goal,
-            engine,
-            outlook,
+            first,
+            others,
+            names,
         })
     }
 
-    /// The names of the categories that are handled, handler by handler.
+    /// The names of the handlers: the categories that they are for, where there is one property, else with the number of
+    /// the handler's property before them, from 1, and a dot.
     pub fn handlers(&self) -> &Names
-        ensures { result.now ≡ self.now.definition.handlers }
+        ensures { result.now ≡ names_of self.now.definition }
     {
-        &self.handlers
+        match &self.names {
+            Some(names) => names,
+            None => self.first.handlers(),
+        }
     }
 
-    /// The name of the category that a handler is for.
+    /// The name of a handler.
     pub fn handler_name(&self, handler: u8) -> &str
-        requires { handler < length self.now.definition.handlers }
-        ensures { slice_get self.now.definition.handlers handler ≡ Some result.now }
+        requires { handler < handler_count self.now.definition.properties }
+        ensures { slice_get (names_of self.now.definition) handler ≡ Some result.now }
     {
-        self.handlers.name(handler as u32)
+        self.handlers().name(handler as u32)
     }
 
-    /// The table that runs the property. No two of its states agree in groups after all words, and after a word that
-    /// isn't empty the groups are the categories that hold of it. There is none for a grammar.
-    pub fn table(&self) -> Option<&Table>
-        ensures none { IsNone result ↔ (is_grammar self.now.definition.formula ≡ true) }
-        ensures table { IfSome result (λ t. self.now.engine ≡ Engine.States t.now) }
-        ensures minimal { IfSome result (λ t. IsReduced t.now) }
+    /// How many properties there are, 1 to 16.
+    pub fn properties(&self) -> u8
+        ensures value { result ≡ length self.now.definition.properties }
+        ensures parts { result ≡ length self.now.parts }
         ensures rules { IsRuleSet self.now }
     {
-        // The rules are those of the property: the proof learns it from the fields.
-        let _ = &self.outlook;
-        match &self.engine {
-            Engine::States(table) => Some(table),
-            Engine::Parses(_) => None,
-        }
+        self.others.len() as u8 + 1
     }
 
-    /// The coenable family of a letter: the sets of parameters of the words that lead to a handled category from some
-    /// word that ends in the letter, in rising order. There is none for a grammar.
+    /// The table that runs the property of this number, from 0. No two of its states agree in groups after all words, and
+    /// after a word that isn't empty the groups are the categories that hold of it. There is none for a grammar.
+    pub fn table(&self, property: u8) -> Option<&Table>
+        requires { property < length self.now.definition.properties }
+        ensures none { IsNone result ↔ IsSomeAnd (slice_get self.now.definition.properties property)
+            (λ p. is_grammar p.formula ≡ true) }
+        ensures table { IfSome result (λ t. IsSomeAnd (slice_get self.now.parts property)
+            (λ part. part.engine ≡ engine.States t.now)) }
+        ensures minimal { IfSome result (λ t. IsReduced t.now) }
+        ensures part { IsSomeAnd (slice_get self.now.parts property) IsCompiledProperty }
+        ensures rules { IsRuleSet self.now }
+    {
+        // The rules are those of the properties: the proof learns it from the fields.
+        let _ = &self.first;
+        self.property(property).table()
+    }
+
+    /// The coenable family of a letter: the sets of parameters of the words that lead to a handled category of some
+    /// property from some word that ends in the letter, in rising order. There is none where some property is a grammar.
     pub fn family(&self, letter: Letter) -> Result<Option<Vec<u8>>, NoMemory>
         requires { letter.0 < length self.now.definition.masks }
-        ensures family { is_grammar self.now.definition.formula ≡ false →
+        ensures family { has_grammar self.now.definition.properties ≡ false →
             IfOk result (λ family. IsSomeAnd family
             (λ masks. IsFamily (rules_meaning self.now.definition) letter.0 masks.items)) }
-        ensures none { is_grammar self.now.definition.formula ≡ true → IfOk result (λ family. family ≡ None) }
+        ensures none { has_grammar self.now.definition.properties ≡ true → IfOk result (λ family. family ≡ None) }
     {
-        match &self.outlook {
-            Outlook::Table(outlook) => Ok(Some(outlook.family(letter)?)),
-            Outlook::Grammar(_) => Ok(None),
+        let count = self.properties();
+        let Some(mut all) = self.property(0).family(letter)? else {
+            return Ok(None);
+        };
+        for number in 1..count {
+            let Some(masks) = self.property(number).family(letter)? else {
+                return Ok(None);
+            };
+            all = union_of(*all.allocator(), all.as_slice(), masks.as_slice())?;
         }
+        Ok(Some(all))
     }
 
-    /// Whether a word may begin with the letter.
-    fn may_begin(&self, letter: Letter) -> bool
-        requires { letter.0 < length self.now.definition.masks }
-        ensures { IsTrue result ↔ ((self.now.definition.creation ≡ [])
-            ⊎ Contains self.now.definition.creation letter.0) }
+    /// The property of this number, from 0.
+    fn property(&self, number: u8) -> &Property
+        requires { number < length self.now.parts }
+        ensures { slice_get self.now.parts number ≡ Some result.now }
     {
-        may_begin(&self.goal, letter)
-    }
-
-    /// The configuration of the word of one letter, with which words may begin.
-    fn first(&self, letter: Letter) -> Result<Configuration, NoMemory>
-        requires { letter.0 < length self.now.definition.masks }
-        ensures { IfOk result (λ configuration. IsPlaceOf self.now.engine configuration (letter.0 ∷ [])) }
-    {
-        match (&self.engine, &self.outlook) {
-            (Engine::States(table), _) => {
-                Ok(Configuration::State(next_state(table, table.start(), letter)))
-            }
-            (Engine::Parses(charts), Outlook::Grammar(outlook)) => {
-                outlook.first(*self.masks.allocator(), charts, letter)
-            }
-            _ => unreachable!(),
-        }
-    }
-
-    /// The configuration of the words that have one letter more, of which there is one already.
-    fn step(&self, configuration: &Configuration, letter: Letter) -> Result<Configuration, NoMemory>
-        requires { letter.0 < length self.now.definition.masks }
-        ensures { IfOk result (λ next. (word : List ℕ) →
-            Stands self.now configuration.now word → Stands self.now next (word ++ letter.0 ∷ [])) }
-    {
-        if self.goal.resets() == 0 {
-            self.engine
-                .next(*self.masks.allocator(), configuration, letter)
+        if number == 0 {
+            &self.first
         } else {
-            self.step_past_reset(configuration, letter)
+            &self.others[number as usize - 1]
         }
     }
 
-    /// The configuration of the words that have one letter more, of which there is one already, where the property may
-    /// be reset: from the start where it is, and else from the configuration.
+    /// The configuration of this place of the first property, where that is the only one, or at the place of the words
+    /// that can't begin so.
+    fn configuration_at(&self, place: Place) -> Result<Configuration, NoMemory>
+        ensures single { length self.now.parts ≡ 1 → IfOk result (λ c.
+            (w : List ℕ) → AreAfter self.now.parts [] place w → IsConfigurationOf self.now c w) }
+    {
+        match place {
+            Place::Start => Ok(Configuration::Start),
+            Place::Barren => Ok(Configuration::Barren),
+            Place::State(state) => Ok(Configuration::State(state)),
+            parse => Ok(Configuration::Single(Box::new(*self.others.allocator(), parse)?)),
+        }
+    }
+
+    /// The configuration of the words of one letter more, from that of the empty word.
+    fn first_of_each(&self, letter: Letter) -> Result<Configuration, NoMemory>
+        requires { letter.0 < length self.now.definition.masks }
+        ensures { IfOk result (λ c. (w : List ℕ) → AreAfter self.now.parts [] place.Start w
+            → IsConfigurationOf self.now c (w ++ letter.0 ∷ [])) }
+    {
+        let place = self.first.next(&Place::Start, letter)?;
+        if self.others.is_empty() {
+            return self.configuration_at(place);
+        }
+        if let Place::Barren = place {
+            return Ok(Configuration::Barren);
+        }
+        self.next_of_each(&[], &Place::Start, letter)
+    }
+
+    /// The places of all properties after a letter more, from those of the list, or else from this one.
     #[inline(never)]
-    fn step_past_reset(
+    fn next_of_each(
         &self,
-        configuration: &Configuration,
+        places: &[Place],
+        otherwise: &Place,
         letter: Letter,
     ) -> Result<Configuration, NoMemory>
         requires { letter.0 < length self.now.definition.masks }
-        ensures { IfOk result (λ next. (word : List ℕ) →
-            Stands self.now configuration.now word → Stands self.now next (word ++ letter.0 ∷ [])) }
+        ensures { IfOk result (λ c. (w : List ℕ) → AreAfter self.now.parts places.now otherwise.now w
+            → IsConfigurationOf self.now c (w ++ letter.0 ∷ [])) }
     {
-        if self.is_reset(configuration) {
-            self.first(letter)
-        } else {
-            self.engine
-                .next(*self.masks.allocator(), configuration, letter)
+        let alloc = *self.others.allocator();
+        let mut next = Vec::with_capacity(alloc, self.properties() as usize)?;
+        for number in 0..self.properties() {
+            let place = place_at(places, otherwise, number);
+            next.push(self.property(number).next(place, letter)?)?;
         }
+        Ok(Configuration::Several(Box::new(alloc, next)?))
     }
 
-    /// Whether the property is reset at a configuration, so that the next letter leads on from the start.
+    /// The places of all properties, copied: those of the list.
     #[inline(never)]
-    fn is_reset(&self, configuration: &Configuration) -> bool
-        ensures { (asked : List ℕ) → asked ≢ [] → IsPlaceOf self.now.engine configuration.now asked →
-            IsTrue result ↔ Resets self.now.definition asked }
+    fn copy_of_each(&self, places: &[Place]) -> Result<Configuration, NoMemory>
+        ensures { IfOk result (λ c. (w : List ℕ) → AreAfter self.now.parts places.now place.Start w
+            → IsConfigurationOf self.now c w) }
     {
-        let resets = self.goal.resets();
-        resets != 0 && self.handlers_at(configuration) & resets != 0
+        let alloc = *self.others.allocator();
+        let mut copy = Vec::with_capacity(alloc, self.properties() as usize)?;
+        for number in 0..self.properties() {
+            let place = place_at(places, &Place::Start, number);
+            copy.push(self.property(number).copy(place)?)?;
+        }
+        Ok(Configuration::Several(Box::new(alloc, copy)?))
     }
 
-    /// Whether an instance with this configuration can never fire again, whatever runs the property. A call of its own,
-    /// so that what is asked of a table at each event stays short.
+    /// The handlers that the properties hit at these places: a handler's bit is that of its number in the whole.
     #[inline(never)]
-    fn is_cut(&self, configuration: &Configuration, dead: u8) -> bool
-        ensures { (w : List ℕ) → IsConfigurationOf self.now configuration.now w →
+    fn hits_of_each(&self, places: &[Place], otherwise: &Place) -> u16
+        ensures { (w : List ℕ) → AreAfter self.now.parts places.now otherwise.now w → (k : ℕ) →
+            IsBitSet result k ↔ IsHit (rules_meaning self.now.definition) w k }
+    {
+        let mut hits = 0;
+        let mut before = 0;
+        for number in 0..self.properties() {
+            let property = self.property(number);
+            let count = property.handlers().len() as u8;
+            let here = property.hits(place_at(places, otherwise, number));
+            hits |= moved(here, before, count);
+            before += count;
+        }
+        hits
+    }
+
+    /// Whether each property is cut, where all are at this place.
+    fn is_cut_at(&self, place: &Place, dead: u8) -> bool
+        ensures { (w : List ℕ) → AreAfter self.now.parts [] place.now w →
             IsTrue result ↔ IsCutWord (rules_meaning self.now.definition) w dead }
     {
-        match (&self.outlook, &self.engine) {
-            (Outlook::Table(outlook), _) => !outlook.can_hit(configuration, dead),
-            (Outlook::Grammar(outlook), Engine::Parses(charts)) => {
-                let reset = self.is_reset(configuration);
-                let masks = self.masks.as_slice();
-                outlook.is_cut(charts, &self.goal, masks, configuration, reset, dead)
-            }
-            _ => unreachable!(),
+        if self.others.is_empty() {
+            self.first.cut(place, dead)
+        } else {
+            self.is_each_cut(&[], place, dead)
         }
     }
 
-    /// The handlers whose categories hold of the words of a configuration: bit k stands for handler k.
-    fn handlers_at(&self, configuration: &Configuration) -> u16
-        ensures hits { (word : List ℕ) → IsPlaceOf self.now.engine configuration.now word →
-            (k : ℕ) → IsBitSet result k ↔ IsHandledBy self.now word k }
-        ensures rules { IsRuleSet self.now }
+    /// Whether each property is cut at its place.
+    #[inline(never)]
+    fn is_each_cut(&self, places: &[Place], otherwise: &Place, dead: u8) -> bool
+        ensures { (w : List ℕ) → AreAfter self.now.parts places.now otherwise.now w →
+            IsTrue result ↔ IsCutWord (rules_meaning self.now.definition) w dead }
     {
-        match (&self.outlook, configuration) {
-            (Outlook::Table(outlook), Configuration::State(state)) => outlook.hits(*state),
-            _ => handlers_at(&self.goal, &self.engine, configuration),
+        for number in 0..self.properties() {
+            if !self
+                .property(number)
+                .cut(place_at(places, otherwise, number), dead)
+            {
+                return false;
+            }
+        }
+        true
+    }
+
+    /// The letters at which each property rests.
+    #[inline(never)]
+    fn idle_of_each(&self, places: &[Place], otherwise: &Place) -> u32
+        ensures stays { (w : List ℕ) → AreAfter self.now.parts places.now otherwise.now w → (e : ℕ) →
+            IsBitSet result e → AreAfter self.now.parts places.now otherwise.now (w ++ e ∷ []) }
+        ensures quiet { (w : List ℕ) → AreAfter self.now.parts places.now otherwise.now w → (e k : ℕ) →
+            IsBitSet result e → IsHit (rules_meaning self.now.definition) (w ++ e ∷ []) k → ⊥ }
+    {
+        let mut idle = u32::MAX;
+        for number in 0..self.properties() {
+            idle &= self
+                .property(number)
+                .idle(place_at(places, otherwise, number));
+        }
+        idle
+    }
+
+    /// The letters that end an instance of each property, where all are at this place.
+    fn ending_at(&self, place: &Place) -> u32
+        ensures quiet { (w : List ℕ) → AreAfter self.now.parts [] place.now w → (e k : ℕ) →
+            IsBitSet result e → IsHit (rules_meaning self.now.definition) (w ++ e ∷ []) k → ⊥ }
+        ensures cut { (w : List ℕ) → AreAfter self.now.parts [] place.now w → (e : ℕ) →
+            IsBitSet result e → IsCutWord (rules_meaning self.now.definition) (w ++ e ∷ []) 0 }
+    {
+        if self.others.is_empty() {
+            self.first.ending(place)
+        } else {
+            self.ending_of_each(&[], place)
         }
     }
-}
 
-/// The line of the token before a place, or 1 where there is none.
-fn line_before(tokens: &[Token], place: u32) -> u32 {
-    match range_of(tokens, 0, place).last() {
-        Some(token) => token.line,
-        None => 1,
+    /// The letters that end an instance of each property.
+    #[inline(never)]
+    fn ending_of_each(&self, places: &[Place], otherwise: &Place) -> u32
+        ensures quiet { (w : List ℕ) → AreAfter self.now.parts places.now otherwise.now w → (e k : ℕ) →
+            IsBitSet result e → IsHit (rules_meaning self.now.definition) (w ++ e ∷ []) k → ⊥ }
+        ensures cut { (w : List ℕ) → AreAfter self.now.parts places.now otherwise.now w → (e : ℕ) →
+            IsBitSet result e → IsCutWord (rules_meaning self.now.definition) (w ++ e ∷ []) 0 }
+    {
+        let mut ending = u32::MAX;
+        for number in 0..self.properties() {
+            ending &= self
+                .property(number)
+                .ending(place_at(places, otherwise, number));
+        }
+        ending
     }
 }
 
-/// Whether the property is a grammar with a handler for `fail`.
-fn is_failing(formula: &Formula, handlers: &Names) -> bool
-    ensures { result ≡ (is_grammar formula.now && list_any (bytes_eq (codes "fail")) handlers.now) }
+/// The place of a property: that of the list, or else this one.
+fn place_at<'a>(places: &'a [Place], otherwise: &'a Place, number: u8) -> &'a Place
+    ensures { result.now ≡ place_at places.now otherwise.now number }
 {
-    match formula {
-        Formula::Grammatical(_) => handlers.find("fail").is_some(),
-        _ => false,
+    match places.get(number as usize) {
+        Some(place) => place,
+        None => otherwise,
     }
+}
+
+/// The bits of handlers, of which there are so many, moved past so many others.
+fn moved(hits: u16, before: u8, count: u8) -> u16
+    requires { before + count ≤ 16 }
+    ensures { (k : ℕ) → IsBitSet result k ↔ ((i : ℕ) × (i < count) × (k ≡ before + i) × IsBitSet hits i) }
+{
+    let mut all = 0;
+    for handler in 0..count {
+        if is_bit_set(hits, handler) {
+            all |= 1 << (before + handler);
+        }
+    }
+    all
+}
+
+/// Whether the bit of this number is set.
+fn is_bit_set(bits: u16, number: u8) -> bool
+    requires { number < 16 }
+    ensures { IsTrue result ↔ IsBitSet bits number }
+{
+    bits & (1 << number) != 0
 }
 
 impl Monitor for Rules {
@@ -328,15 +419,15 @@ impl Monitor for Rules {
     ghost StandsFor = { λ r s w. IsConfigurationOf r s w };
 
     fn letters(&self) -> u8 {
-        self.masks.len() as u8
+        self.first.letters()
     }
 
     fn params(&self, letter: Letter) -> u8 {
-        self.masks[letter.0 as usize]
+        self.first.params(letter)
     }
 
     fn must_bind(&self) -> u8 {
-        self.goal.must_bind()
+        self.first.must_bind()
     }
 
     fn begin(&self) -> Result<Configuration, NoMemory> {
@@ -347,46 +438,65 @@ impl Monitor for Rules {
         match state {
             Configuration::Start => Ok(Configuration::Start),
             Configuration::Barren => Ok(Configuration::Barren),
-            _ => self.engine.copy(*self.masks.allocator(), state),
+            Configuration::State(state) => Ok(Configuration::State(*state)),
+            Configuration::Single(place) => self.configuration_at(self.first.copy(place)?),
+            Configuration::Several(places) => self.copy_of_each(places.as_slice()),
         }
     }
 
     fn next(&self, state: &Configuration, letter: Letter) -> Result<Configuration, NoMemory> {
         match state {
-            Configuration::Start if self.may_begin(letter) => self.first(letter),
-            Configuration::Start | Configuration::Barren => Ok(Configuration::Barren),
-            _ => self.step(state, letter),
+            Configuration::State(state) => {
+                self.configuration_at(self.first.next(&Place::State(*state), letter)?)
+            }
+            Configuration::Single(place) => self.configuration_at(self.first.next(place, letter)?),
+            Configuration::Several(places) => {
+                self.next_of_each(places.as_slice(), &Place::Start, letter)
+            }
+            Configuration::Start => self.first_of_each(letter),
+            Configuration::Barren => Ok(Configuration::Barren),
         }
     }
 
     fn hits(&self, state: &Configuration) -> u16 {
         match state {
-            Configuration::Start | Configuration::Barren => 0,
-            _ => self.handlers_at(state),
+            Configuration::State(state) => self.first.hits(&Place::State(*state)),
+            Configuration::Single(place) => self.first.hits(place),
+            Configuration::Several(places) => self.hits_of_each(places.as_slice(), &Place::Start),
+            Configuration::Start => 0,
+            Configuration::Barren => 0,
         }
     }
 
     fn cut(&self, state: &Configuration, dead: u8) -> bool {
-        match &self.outlook {
-            Outlook::Table(outlook) => !outlook.can_hit(state, dead),
-            Outlook::Grammar(_) => self.is_cut(state, dead),
+        match state {
+            Configuration::State(state) => self.first.cut(&Place::State(*state), dead),
+            Configuration::Single(place) => self.first.cut(place, dead),
+            Configuration::Several(places) => {
+                self.is_each_cut(places.as_slice(), &Place::Start, dead)
+            }
+            Configuration::Start => self.is_cut_at(&Place::Start, dead),
+            Configuration::Barren => self.is_cut_at(&Place::Barren, dead),
         }
     }
 
     fn idle(&self, state: &Configuration) -> u32 {
-        match (&self.outlook, state) {
-            (_, Configuration::Barren) => u32::MAX,
-            (Outlook::Table(outlook), Configuration::State(state)) => outlook.idle(*state),
-            _ => 0,
+        match state {
+            Configuration::State(state) => self.first.idle(&Place::State(*state)),
+            Configuration::Single(place) => self.first.idle(place),
+            Configuration::Several(places) => self.idle_of_each(places.as_slice(), &Place::Start),
+            Configuration::Start => 0,
+            Configuration::Barren => u32::MAX,
         }
     }
 
     fn ending(&self, state: &Configuration) -> u32 {
-        match (&self.outlook, state) {
-            (Outlook::Table(_), Configuration::Barren) => u32::MAX,
-            (Outlook::Table(outlook), Configuration::Start) => outlook.first_ending(),
-            (Outlook::Table(outlook), Configuration::State(state)) => outlook.ending(*state),
-            _ => 0,
+        match state {
+            Configuration::State(state) => self.first.ending(&Place::State(*state)),
+            Configuration::Single(place) => self.first.ending(place),
+            Configuration::Several(places) => self.ending_of_each(places.as_slice(), &Place::Start),
+            Configuration::Start => self.ending_at(&Place::Start),
+            Configuration::Barren => self.ending_at(&Place::Barren),
         }
     }
 }

@@ -10,9 +10,9 @@ ghost use Rattle.jm_machine.specs.declared.engine.Engine.TheVariants.{States};
 ghost use Rattle.jm_machine.specs.Engines.{categories_of_engine};
 ghost use Rattle.jm_machine.specs.Outlooks.{AreHandlerMasks, IsIdleLetter, IsEndingLetter, IsFirstEnding, AreIdle, AreEnding, AreFactsOf, CanHitFrom};
 
-use crate::configuration::Configuration;
 use crate::engine::{Engine, handlers_at};
 use crate::goal::may_begin;
+use crate::place::Place;
 use jm_coenable::{Needs, step};
 use jm_events::EventTable;
 use jm_goal::Goal;
@@ -126,15 +126,15 @@ impl TableOutlook {
         self.first_ending
     }
 
-    /// Whether some word of one or more letters without a dead parameter, put after the words of the configuration,
+    /// Whether some word of one or more letters without a dead parameter, put after the words of the place,
     /// hits a handler.
-    pub(crate) fn can_hit(&self, configuration: &Configuration, dead: u8) -> bool
+    pub(crate) fn can_hit(&self, place: &Place, dead: u8) -> bool
         ensures { (t : Transitions) (g : GoalDefinition) (v : EventDefinitions) → AreNeedsOf t g v self.now.needs →
-            IsTrue result ↔ CanHitFrom t g v configuration.now dead }
+            IsTrue result ↔ CanHitFrom t g v place.now dead }
     {
-        match configuration {
-            Configuration::Start => self.needs.alive_at_start(dead),
-            Configuration::State(state) => self.is_alive(*state, dead),
+        match place {
+            Place::Start => self.needs.alive_at_start(dead),
+            Place::State(state) => self.is_alive(*state, dead),
             _ => false,
         }
     }
@@ -174,7 +174,7 @@ fn handler_masks(
 {
     let mut masks = Vec::with_capacity(alloc, states as usize)?;
     for state in 0..states {
-        masks.push(handlers_at(goal, engine, &Configuration::State(state)))?;
+        masks.push(handlers_at(goal, engine, &Place::State(state)))?;
     }
     Ok(masks)
 }

@@ -1,11 +1,11 @@
 -- The text of the command `check`: what a specification declares.
-use Rattle.std.specs.Prelude.{Bool, List, [], ◌++◌, codes, if◌then◌else◌}
+use Rattle.std.specs.Prelude.{Bool, List, [], ◌++◌, codes, map, if◌then◌else◌}
 use Rattle.std.specs.List.{flat_map}
 use Rattle.jm_model.specs.Words.{Text, Mask}
 use Rattle.jm_events.specs.Events.{EventDefinition, EventDefinitions}
 use Rattle.jm_spec.specs.declared.tree.Logic.{Logic}
 use Rattle.jm_spec.specs.declared.tree.Logic.TheVariants.{Fsm, Ere, Cfg, Ptltl}
-use Rattle.jm_print.specs.Lists.{names_or_dash, names_of_mask}
+use Rattle.jm_print.specs.Lists.{name_list, names_or_dash, names_of_mask}
 
 -- the word of a logic
 abbrev pub logic_word : Logic → Text
@@ -23,14 +23,14 @@ event_text parameters creation name mask =
 abbrev pub event_line : List Text → EventDefinition → Text
 event_line parameters e = event_text parameters e.creation e.name e.mask
 
--- a handler's category
+-- a handler's name
 abbrev pub handler_line : Text → Text
-handler_line category = codes "handler @" ++ category ++ codes "\n"
+handler_line name = codes "handler @" ++ name ++ codes "\n"
 
--- what a specification of this name declares
-abbrev pub check_text : Text → Logic → Bool → EventDefinitions → List Text → Text
-check_text name logic full_binding table categories =
-    codes "spec " ++ name ++ codes " " ++ logic_word logic ++ codes "\n"
+-- what a specification of this name declares, whose properties have these logics
+abbrev pub check_text : Text → List Logic → Bool → EventDefinitions → List Text → Text
+check_text name logics full_binding table handlers =
+    codes "spec " ++ name ++ codes " " ++ name_list (map logic_word logics) ++ codes "\n"
     ++ (if full_binding then codes "full-binding\n" else []) ++ codes "params " ++ names_or_dash table.parameters
-    ++ codes "\n" ++ flat_map (event_line table.parameters) table.events ++ flat_map handler_line categories
+    ++ codes "\n" ++ flat_map (event_line table.parameters) table.events ++ flat_map handler_line handlers
     ++ codes "end\n"

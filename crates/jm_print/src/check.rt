@@ -1,33 +1,34 @@
-ghost use Rattle.std.specs.Prelude.{◌≡◌, ◌<◌, ◌++◌, ◌∷◌, [], codes, length, Some, IfOk, OnOk, slice_get, if◌then◌else◌};
+ghost use Rattle.std.specs.Prelude.{◌≡◌, ◌<◌, ◌++◌, ◌∷◌, [], codes, length, map, Some, IfOk, OnOk, slice_get, if◌then◌else◌};
 ghost use Rattle.std.specs.List.{flat_map};
 ghost use Rattle.jm_events.specs.Events.{EventDefinition};
 ghost use Rattle.jm_print.specs.Checks.{logic_word, event_text, event_line, handler_line, check_text};
+ghost use Rattle.jm_print.specs.Lists.{name_list};
 
-use crate::lists::{masked_or_dash, parameters};
+use crate::lists::{masked_or_dash, name, parameters};
 use crate::page::Page;
 use jm_events::{EventTable, Names};
 use jm_model::{Letter, NoMemory};
 use jm_spec::Logic;
 use std::alloc::Global;
 
-/// What a specification declares: its name and its logic, `full-binding` where it stands, its parameters, its events
-/// with their parameters, and the categories of its handlers.
+/// What a specification declares: its name and the logics of its properties, `full-binding` where it stands, its
+/// parameters, its events with their parameters, and the names of its handlers.
 pub fn render_check(
     alloc: Global,
     name: &str,
-    logic: Logic,
+    logics: &[Logic],
     full_binding: bool,
     table: &EventTable,
     categories: &Names,
 ) -> Result<Vec<u8>, NoMemory>
     ensures { IfOk result (λ text.
-        text.items ≡ check_text name.now logic full_binding table.now categories.now) }
+        text.items ≡ check_text name.now logics.now full_binding table.now categories.now) }
 {
     let mut page = Page::new(alloc);
     page.text("spec ")?;
     page.text(name)?;
     page.text(" ")?;
-    page.text(word(logic))?;
+    logic_words(&mut page, logics)?;
     page.text("\n")?;
     page.text(binding_line(full_binding))?;
     page.text("params ")?;
@@ -37,6 +38,18 @@ pub fn render_check(
     handlers(&mut page, categories)?;
     page.text("end\n")?;
     Ok(page.into_bytes())
+}
+
+/// The words of logics, with commas between.
+fn logic_words(page: &mut Page, logics: &[Logic]) -> Result<(), NoMemory>
+    ensures { OnOk result (page.new ≡ page.old ++ name_list (map logic_word logics.now)) }
+{
+    let mut first = true;
+    for logic in logics {
+        name(page, first, word(*logic))?;
+        first = false;
+    }
+    Ok(())
 }
 
 /// The word of a logic.
@@ -121,7 +134,7 @@ fn kind(creation: bool) -> &'static str
     }
 }
 
-/// A line for each category that has a handler.
+/// A line for each handler.
 fn handlers(page: &mut Page, categories: &Names) -> Result<(), NoMemory>
     ensures { OnOk result (page.new ≡ page.old ++ flat_map handler_line categories.now) }
 {
@@ -131,11 +144,11 @@ fn handlers(page: &mut Page, categories: &Names) -> Result<(), NoMemory>
     Ok(())
 }
 
-/// The category of a handler.
-fn handler(page: &mut Page, category: &str) -> Result<(), NoMemory>
-    ensures { OnOk result (page.new ≡ page.old ++ handler_line category.now) }
+/// The name of a handler.
+fn handler(page: &mut Page, name: &str) -> Result<(), NoMemory>
+    ensures { OnOk result (page.new ≡ page.old ++ handler_line name.now) }
 {
     page.text("handler @")?;
-    page.text(category)?;
+    page.text(name)?;
     page.text("\n")
 }

@@ -63,7 +63,7 @@ fn has(mask: u8, p: u8) -> bool
 }
 
 /// A name, behind a comma where it isn't the first.
-fn name(page: &mut Page, first: bool, name: &str) -> Result<(), NoMemory>
+pub(crate) fn name(page: &mut Page, first: bool, name: &str) -> Result<(), NoMemory>
     ensures { OnOk result (page.new ≡ page.old ++ (if first then [] else codes ",") ++ name.now) }
 {
     if !first {

@@ -4,6 +4,7 @@ ghost use Rattle.jm_semantics.specs.Scripts.{projection_of, is_for};
 ghost use Rattle.jm_script.specs.Projections.{script_of, spec_of, step_of, steps_in};
 ghost use Rattle.jm_script.specs.Catalogs.{CatalogEntry};
 ghost use Rattle.jm_script.specs.Fitting.{FitsCatalog, FitsSpecification};
+ghost use Rattle.jm_script.specs.Meanings.{RisesFrom};
 
 use jm_model::{Binding, Letter, NoMemory, Step};
 use std::alloc::Global;
@@ -54,7 +55,7 @@ pub struct ScriptLine {
     pub target: Target,
 }
 
-/// The step lines of a script, in order. Contracts see a script as their list.
+/// The step lines of a script, in order. Their numbers rise. Contracts see a script as their list.
 #[derive(Drop)]
 pub struct Script {
     lines: Vec<ScriptLine>,
@@ -63,14 +64,18 @@ pub struct Script {
 impl Model for Script {
     ghost use Rattle.std.specs.Prelude.{List};
     ghost use Rattle.jm_script.specs.declared.script.ScriptLine.{ScriptLine};
+    ghost use Rattle.jm_script.specs.Meanings.{RisesFrom};
 
     ghost Value = { List ScriptLine };
 
     ghost view = { λ s. s.lines.items };
+
+    ghost invariant = { λ s. RisesFrom 1 s.lines.items };
 }
 
 impl Script {
     pub(crate) fn of(lines: Vec<ScriptLine>) -> Script
+        requires { RisesFrom 1 lines.items }
         ensures { result ≡ lines.items }
     {
         Script { lines }
@@ -78,7 +83,8 @@ impl Script {
 
     /// The step lines. Their numbers rise.
     pub fn lines(&self) -> &[ScriptLine]
-        ensures { result.now ≡ self.now }
+        ensures value { result.now ≡ self.now }
+        ensures rising { RisesFrom 1 result.now }
     {
         self.lines.as_slice()
     }

@@ -1,5 +1,6 @@
 -- No step's fault is that of the grammar.
 use Rattle.std.proofs.Common.{ℕ, Bool, true, false, cond, ◌==◌, List, [], ◌∷◌, length, Option, Some, None, Result}
+use Rattle.std.specs.Prelude.{nat_lt}
 use Rattle.std.specs.List.{list_any}
 use Rattle.std.specs.Option.{option_map_or}
 use Rattle.std.specs.Str.{bytes_eq}
@@ -39,8 +40,7 @@ other_advice (e ∷ es) = other_advice_or e.advice _ (other_advice es)
 
 other_property : (ps : List Property) → IsOther (property_fault ps)
 other_property [] = tt
-other_property (p ∷ []) = tt
-other_property (p ∷ q ∷ ps) = tt
+other_property (p ∷ ps) = other_if (nat_lt 16 (length (p ∷ ps))) _ _ tt tt
 
 other_logic_of : (l : Option Logic) (line : ℕ) → IsOther (unless_known l (UnsupportedLogic line))
 other_logic_of None line = tt
@@ -48,7 +48,7 @@ other_logic_of (Some l) line = tt
 
 other_logic : (bytes : List ℕ) (ps : List Property) → IsOther (logic_fault bytes ps)
 other_logic bytes [] = tt
-other_logic bytes (p ∷ ps) = other_logic_of (logic_of bytes p.logic) p.logic.line
+other_logic bytes (p ∷ ps) = other_or (unless_known (logic_of bytes p.logic) (UnsupportedLogic p.logic.line)) _ (other_logic_of (logic_of bytes p.logic) p.logic.line) (other_logic bytes ps)
 
 other_unless : (o : Option SpecFault) (t : EventDefinitions) → IsOther o → FailsOther (unless o t)
 other_unless None t h = tt

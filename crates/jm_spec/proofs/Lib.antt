@@ -7,3 +7,4 @@ pub mod EndLemmas
 pub mod SoundLemmas
 pub mod CompleteLemmas
 pub mod RangeLemmas
+pub mod PropertyLemmas

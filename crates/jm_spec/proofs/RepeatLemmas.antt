@@ -1,5 +1,5 @@
 -- A rule that is read as often as it goes on reads what its repetition spells, and nothing else.
-use Rattle.std.proofs.Common.{◌≡◌, ℕ, zero, suc, ◌+◌, ◌<◌, ◌≤◌, Bool, true, false, cond, List, [], ◌∷◌, ◌++◌, length, Option, Some, None, refl, sym, ap, ◌∙◌, subst, arith, append_assoc, append-nil, length-append}
+use Rattle.std.proofs.Common.{◌≡◌, ℕ, zero, suc, ◌+◌, ◌<◌, ◌≤◌, Bool, true, false, cond, List, [], ◌++◌, length, Option, Some, None, refl, sym, ap, ◌∙◌, subst, arith, append_assoc, append-nil, length-append}
 use Rattle.jm_text.specs.declared.token.Token.{Token}
 use Rattle.jm_reading.proofs.TokenLemmas.{step_of}
 use Rattle.jm_reading.specs.Reading.{◌>>=◌, at_most}

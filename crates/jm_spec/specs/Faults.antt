@@ -1,9 +1,10 @@
 -- What is wrong with a frame, step by step.
-use Rattle.std.specs.Prelude.{ℕ, ◌^◌, Bool, ◌&&◌, List, [], ◌∷◌, length, Option, Some, None, Result, Ok, Err, codes, nat_le, bit_or, if◌then◌else◌}
+use Rattle.std.specs.Prelude.{ℕ, ◌^◌, Bool, ◌&&◌, List, [], ◌∷◌, length, Option, Some, None, Result, Ok, Err, codes, nat_le, nat_lt, bit_or, if◌then◌else◌}
 use Rattle.std.specs.Str.{bytes_eq}
 use Rattle.jm_model.specs.Words.{Text, Mask}
+use Rattle.jm_model.specs.declared.fault.Counted.TheVariants.{Properties}
 use Rattle.jm_model.specs.declared.fault.SpecFault.{SpecFault}
-use Rattle.jm_model.specs.declared.fault.SpecFault.TheVariants.{UnsupportedModifier, UnsupportedAdvice, NoProperty, SecondProperty, UnsupportedLogic}
+use Rattle.jm_model.specs.declared.fault.SpecFault.TheVariants.{UnsupportedModifier, UnsupportedAdvice, NoProperty, TooMany, UnsupportedLogic}
 use Rattle.jm_text.specs.declared.token.Token.{Token}
 use Rattle.jm_text.specs.Spans.{text_of}
 use Rattle.jm_text.specs.Texts.{is_name}
@@ -36,11 +37,10 @@ abbrev pub advice_fault : List Mention → Option SpecFault
 advice_fault [] = None
 advice_fault (e ∷ es) = advice_or e.advice (advice_fault es)
 
--- there is one property
+-- there are 1 to 16 properties
 abbrev pub property_fault : List Property → Option SpecFault
 property_fault [] = Some NoProperty
-property_fault (p ∷ []) = None
-property_fault (p ∷ q ∷ ps) = Some (SecondProperty q.logic.line)
+property_fault (p ∷ ps) = if nat_lt 16 (length (p ∷ ps)) then Some (TooMany Properties) else None
 
 -- the name that a token of the bytes says, if it says one
 unfoldable pub name_of : Text → Token → Option Text
@@ -63,14 +63,15 @@ logic_said (Some name) = logic_named name
 abbrev pub logic_of : Text → Token → Option Logic
 logic_of bytes token = logic_said (name_of bytes token)
 
--- the property's logic is one of the four
+-- the first property whose logic is none of the four
 abbrev pub unless_known : Option Logic → SpecFault → Option SpecFault
 unless_known None fault = Some fault
 unless_known (Some logic) fault = None
 
 abbrev pub logic_fault : Text → List Property → Option SpecFault
 logic_fault bytes [] = None
-logic_fault bytes (p ∷ ps) = unless_known (logic_of bytes p.logic) (UnsupportedLogic p.logic.line)
+logic_fault bytes (p ∷ ps) =
+    or_else (unless_known (logic_of bytes p.logic) (UnsupportedLogic p.logic.line)) (logic_fault bytes ps)
 
 -- the table, unless there is a fault
 abbrev pub unless : Option SpecFault → EventDefinitions → Result EventDefinitions SpecFault
@@ -122,7 +123,7 @@ abbrev pub table_of : Text → List Token → List Mention → Result EventDefin
 table_of bytes params events =
     with_params bytes (record { parameters = []; events = [] }) params >>> λ t. with_events bytes t events
 
--- the fault of the first step that has one: the modifiers, the advice, the number of properties, the logic, the
+-- the fault of the first step that has one: the modifiers, the advice, the number of properties, the logics, the
 -- parameters and the events
 unfoldable pub frame_fault : Text → Frame → Option SpecFault
 frame_fault bytes frame =

@@ -18,4 +18,4 @@ mod tree;
 pub use laws::{member_ends, one_reading};
 pub use property::HandlerText;
 pub use spec::read_spec;
-pub use tree::{Logic, SpecTree};
+pub use tree::{Logic, PropertyTree, SpecTree};

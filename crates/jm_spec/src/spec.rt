@@ -2,7 +2,7 @@
 ghost use Rattle.std.specs.Prelude.{◌<◌, ◌^◌, length, All, IfOk, IfErr};
 ghost use Rattle.jm_text.specs.Spans.{LieWithin};
 ghost use Rattle.jm_spec.specs.Spelling.{Spells};
-ghost use Rattle.jm_spec.specs.Trees.{IsTreeOfTokens, IsFaultOfTokens, IsUnspelled, HasRange};
+ghost use Rattle.jm_spec.specs.Trees.{IsTreeOfTokens, IsFewProperties, IsFaultOfTokens, IsUnspelled, HasRange};
 
 use crate::frame::{Frame, file};
 use crate::tree::{SpecTree, tree_of};
@@ -22,6 +22,7 @@ pub fn read_spec(alloc: Global, bytes: &[u8], tokens: &[Token]) -> Result<SpecTr
     requires within { LieWithin bytes.now tokens.now }
     requires few { length tokens.now < 2 ^ 32 }
     ensures ok { IfOk result (IsTreeOfTokens bytes.now tokens.now) }
+    ensures few { IfOk result IsFewProperties }
     ensures err { IfErr result (IsFaultOfTokens bytes.now tokens.now) }
 {
     let frame = read_frame(alloc, bytes, tokens)?;

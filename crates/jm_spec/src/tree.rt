@@ -1,17 +1,16 @@
 //! The tree of a specification, and what is wrong with a frame.
-ghost use Rattle.std.specs.Prelude.{ℕ, ◌≡◌, ◌<◌, ◌≤◌, ◌^◌, [], ◌∷◌, bit_or, length, option_map, IfOk, IfErr, None, Some};
+ghost use Rattle.std.specs.Prelude.{ℕ, ◌≡◌, ◌<◌, ◌≤◌, ◌^◌, [], ◌∷◌, bit_or, length, map, option_map, IfOk, IfErr, None, Some};
 ghost use Rattle.std.specs.List.{list_any};
 ghost use Rattle.jm_reading.specs.Faults.{fault_of, Refuses, Checks, Makes};
-ghost use Rattle.jm_spec.specs.Faults.{modifier_fault, advice_fault, property_fault, name_of, logic_named, logic_of, with_params, with_param, with_names, with_bit, number_said, with_events, with_advice, with_mention, table_of, frame_fault};
-ghost use Rattle.jm_spec.specs.Trees.{is_full_binding, IsTreeOf};
+ghost use Rattle.jm_spec.specs.Faults.{modifier_fault, advice_fault, property_fault, name_of, logic_named, logic_of, logic_fault, unless_known, with_params, with_param, with_names, with_bit, number_said, with_events, with_advice, with_mention, table_of, frame_fault};
+ghost use Rattle.jm_spec.specs.Trees.{is_full_binding, facts_of, IsFewProperties, TellsProperty, TellsProperties, IsTreeOf};
 
 use crate::events::{Advice, Mention};
 use crate::frame::Frame;
 use crate::head::Modifier;
 use crate::property::{HandlerText, Property};
 use jm_events::EventTable;
-use jm_model::{SpecError, SpecFault};
-use jm_reading::Items;
+use jm_model::{Counted, SpecError, SpecFault};
 use jm_text::{Token, name};
 use std::alloc::Global;
 
@@ -28,12 +27,10 @@ pub enum Logic {
     Ptltl,
 }
 
-/// The frame of a specification. Ranges are half-open, of numbers of tokens: `first` and `last` are the formula's.
+/// A property: its logic and the line of the word that names it, the range of its formula, and its handlers. Ranges are
+/// half-open, of numbers of tokens.
 #[derive(Drop)]
-pub struct SpecTree {
-    pub name: Token,
-    pub full_binding: bool,
-    pub table: EventTable,
+pub struct PropertyTree {
     pub logic: Logic,
     pub logic_line: u32,
     pub first: u32,
@@ -41,11 +38,23 @@ pub struct SpecTree {
     pub handlers: Vec<HandlerText>,
 }
 
+/// The frame of a specification.
+#[derive(Drop)]
+pub struct SpecTree {
+    pub name: Token,
+    pub full_binding: bool,
+    pub table: EventTable,
+    pub properties: Vec<PropertyTree>,
+}
+
+const MAX_PROPERTIES: usize = 16;
+
 /// The tree of a frame, or what is wrong with it. Each of these steps is done for the whole file before the next: the
-/// modifiers, the advice of the events, the number of properties, the logic, the parameters, the events.
+/// modifiers, the advice of the events, the number of properties, the logics, the parameters, the events.
 #[tactic(auto, unfolding(crate::specs::Faults::frame_fault))]
 pub fn tree_of(alloc: Global, bytes: &[u8], frame: Frame) -> Result<SpecTree, SpecError>
     ensures ok { IfOk result (IsTreeOf bytes.now frame) }
+    ensures few { IfOk result IsFewProperties }
     ensures checked { Checks result (frame_fault bytes.now frame) }
 {
     let Frame {
@@ -57,24 +66,14 @@ pub fn tree_of(alloc: Global, bytes: &[u8], frame: Frame) -> Result<SpecTree, Sp
     } = frame;
     known_modifiers(modifiers.as_slice())?;
     known_advice(events.as_slice())?;
-    let property = only_property(properties)?;
-    let logic = known_logic(bytes, property.logic)?;
+    few_properties(properties.as_slice())?;
+    let properties = known_properties(alloc, bytes, properties.as_slice())?;
     let table = table_of(alloc, bytes, params.as_slice(), events.as_slice())?;
-    let Property {
-        logic: word,
-        first,
-        last,
-        handlers,
-    } = property;
     Ok(SpecTree {
         name,
         full_binding: is_full_binding(modifiers.as_slice()),
         table,
-        logic,
-        logic_line: word.line,
-        first,
-        last,
-        handlers: handlers.into_vec(),
+        properties,
     })
 }
 
@@ -118,18 +117,57 @@ fn known_advice(events: &[Mention]) -> Result<(), SpecError>
     Ok(())
 }
 
-fn only_property(properties: Items<Property>) -> Result<Property, SpecError>
-    ensures only { IfOk result (λ p. properties ≡ p ∷ []) }
-    ensures checked { Checks result (property_fault properties) }
+/// 1 to 16 properties.
+fn few_properties(properties: &[Property]) -> Result<(), SpecError>
+    ensures checked { Checks result (property_fault properties.now) }
+    ensures few { IfOk result (λ _. (0 < length properties.now) × (length properties.now ≤ 16)) }
 {
-    if let [_, second, ..] = properties.as_slice() {
-        let line = second.logic.line;
-        return Err(SpecError::Bad(SpecFault::SecondProperty { line }));
+    if properties.is_empty() {
+        return Err(SpecError::Bad(SpecFault::NoProperty));
     }
-    match properties.into_vec().pop() {
-        Some(property) => Ok(property),
-        None => Err(SpecError::Bad(SpecFault::NoProperty)),
+    if properties.len() > MAX_PROPERTIES {
+        let what = Counted::Properties;
+        return Err(SpecError::Bad(SpecFault::TooMany { what }));
     }
+    Ok(())
+}
+
+/// The properties with their logics, or the first one whose logic is none of the four.
+fn known_properties(
+    alloc: Global,
+    bytes: &[u8],
+    properties: &[Property],
+) -> Result<Vec<PropertyTree>, SpecError>
+    ensures ok { IfOk result (λ trees. TellsProperties bytes.now properties.now (map facts_of trees.items)) }
+    ensures count { IfOk result (λ trees. length trees.items ≡ length properties.now) }
+    ensures checked { Checks result (logic_fault bytes.now properties.now) }
+{
+    let mut trees = Vec::new(alloc);
+    for property in properties {
+        trees.push(known_property(alloc, bytes, property)?)?;
+    }
+    Ok(trees)
+}
+
+/// A property with its logic.
+fn known_property(
+    alloc: Global,
+    bytes: &[u8],
+    property: &Property,
+) -> Result<PropertyTree, SpecError>
+    ensures ok { IfOk result (λ tree. TellsProperty bytes.now property.now (facts_of tree)) }
+    ensures checked { Checks result (unless_known (logic_of bytes.now property.now.logic)
+        (SpecFault.UnsupportedLogic property.now.logic.line)) }
+{
+    let logic = known_logic(bytes, property.logic)?;
+    let handlers = Vec::from_slice(alloc, property.handlers.as_slice())?;
+    Ok(PropertyTree {
+        logic,
+        logic_line: property.logic.line,
+        first: property.first,
+        last: property.last,
+        handlers,
+    })
 }
 
 /// The logic of a word.

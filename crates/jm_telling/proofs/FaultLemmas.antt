@@ -1,6 +1,6 @@
 -- The first fault of a script is one, and that of a specification is one but for the line of `Syntax`.
-use Rattle.std.proofs.Common.{◌≡◌, ℕ, ◌⊎◌, inl, inr, Bool, List, length, Option, Some, Err, refl, sym, ap, subst, ◌∙◌, arith}
-use Rattle.std.proofs.lemmas.Bool.{false≢true}
+use Rattle.std.proofs.Common.{◌≡◌, ℕ, ◌⊎◌, inl, inr, Bool, List, length, Option, Some, Err, slice_get, refl, sym, ap, subst, ◌∙◌, arith}
+use Rattle.std.proofs.lemmas.Bool.{false≢true, cases_order}
 use Rattle.std.specs.Prelude.{true, false, IsUtf8}
 use Rattle.jm_model.specs.declared.fault.Counted.TheVariants.{Nesting}
 use Rattle.jm_model.specs.declared.fault.SpecFault.{SpecFault}
@@ -17,7 +17,7 @@ use Rattle.jm_spec.specs.declared.tree.Logic.TheVariants.{Fsm, Ere, Cfg, Ptltl}
 use Rattle.jm_spec.specs.declared.tree.SpecTree.{SpecTree}
 use Rattle.jm_spec.specs.Faults.{frame_fault}
 use Rattle.jm_spec.specs.Spelling.{Spells}
-use Rattle.jm_spec.specs.Trees.{IsFaultOfTokens}
+use Rattle.jm_spec.specs.Trees.{PropertyFacts, properties_of, IsFaultOfTokens}
 use Rattle.jm_table.proofs.ExplorationLemmas.{explored_one}
 use Rattle.jm_fsm.specs.Spelling as fsm_spelling
 use Rattle.jm_fsm.specs.Faults as fsm_faults
@@ -34,14 +34,16 @@ use Rattle.jm_grammar.specs.Faults as grammar_faults
 use Rattle.jm_grammar.proofs.GrammarLemmas as grammar
 use Rattle.jm_machine.specs.declared.formula.Formula.{Formula}
 use Rattle.jm_machine.specs.declared.formula.Formula.TheVariants.{Machine, Regular, Temporal, Grammatical}
-use Rattle.jm_machine.specs.Formulas.{category_names, IsRefusedIn, IsTableFault}
+use Rattle.jm_machine.specs.Formulas.{IsRefusedIn, IsTableFault}
+use Rattle.jm_machine.specs.FirstRefusals.{IsFirstRefusal}
 use Rattle.jm_machine.specs.Handlers.{handlers_fault}
-use Rattle.jm_machine.specs.Compiling.{formula_of, IsFaultyTree, in_formula, in_handlers, in_table}
-use Rattle.jm_machine.proofs.ReadingLemmas.{one_formula, formula_or_fault}
-use Rattle.jm_top.specs.Specifications.{Specification, IsSpecFault, too_long, no_tokens, in_frame, in_tree}
-use Rattle.jm_top.specs.Scripts.{IsScriptFault, too_long as script_too_long, in_line}
-use Rattle.jm_top.proofs.OneReadingLemmas.{IsSameTold, same_some, never_some, same_err, one_list, one_frame, one_told, read_moved, handled_moved, letters_moved, tree_has_no_fault, cut_has_no_fault}
+use Rattle.jm_machine.specs.Compiling.{formula_of, IsRefusedFormula, IsFirstTableFault, IsFaultyTree, in_formulas, in_handlers, in_tables}
+use Rattle.jm_machine.proofs.ReadingLemmas.{one_formulas, formulas_or_fault}
+use Rattle.jm_inputs.specs.Specifications.{Specification, IsSpecFault, too_long, no_tokens, in_frame, in_tree}
+use Rattle.jm_inputs.specs.Scripts.{IsScriptFault, too_long as script_too_long, in_line}
+use Rattle.jm_inputs.proofs.OneReadingLemmas.{IsSameTold, same_some, never_some, same_err, one_list, one_frame, one_told, read_moved, handled_moved, letters_moved, tree_has_no_fault, cut_has_no_fault}
 use Rattle.jm_telling.specs.FirstFaults.{IsSyntax, IsSameFault}
+use Rattle.jm_machine.proofs.RefusalLemmas.{one_first}
 
 -- ---- scripts
 
@@ -99,7 +101,7 @@ module _ (bytes : List ℕ) (tokens : List Token) (table : EventDefinitions) whe
       one_within (ere_spelling.Spells bytes tokens) (ere_faults.first_fault bytes table) (ere_grammar.one_formula bytes tokens) (is_too_deep bytes 0 tokens) fault other a b
   one_formula_fault Ptltl fault other a b =
       one_within (past_spelling.Spells bytes tokens) (past_faults.first_fault bytes table) (past_grammar.one_formula bytes tokens) (is_too_deep bytes 0 tokens) fault other a b
-  one_formula_fault Cfg fault other a b = one_refused (grammar_spelling.Spells bytes tokens) (grammar_faults.first_fault bytes table) (grammar.one_formula bytes tokens) fault other a b
+  one_formula_fault Cfg fault other a b = one_refused (grammar_spelling.Spells bytes tokens) (grammar_faults.first_fault bytes table false) (grammar.one_formula bytes tokens) fault other a b
 
 -- ---- tables
 
@@ -109,27 +111,44 @@ one_table_fault (Regular e) letters fault other a b = same_err (explored_one (fo
 one_table_fault (Temporal p) letters fault other a b = a.0 ∙ sym b.0
 one_table_fault (Grammatical g) letters fault other a b = absurd a
 
+one_first_table_fault : (letters : ℕ) (fs : List Formula) (fault other : SpecFault) → IsFirstTableFault letters fs fault → IsFirstTableFault letters fs other → fault ≡ other
+one_first_table_fault letters fs fault other a b =
+    elim (cases_order a.number b.number) [
+      | inl e ↦
+          let formula : a.formula ≡ b.formula = same_some (sym a.there ∙ ap (λ (n : ℕ). slice_get fs n) e ∙ b.there) in
+          one_table_fault b.formula letters fault other (subst (λ (f : Formula). IsTableFault f letters fault) formula a.faulty) b.faulty
+      | inr apart ↦ elim apart [
+        | inl before ↦ absurd (b.before a.number a.formula fault before a.there a.faulty)
+        | inr behind ↦ absurd (a.before b.number b.formula other behind b.there b.faulty)
+      ]
+    ]
+
 -- ---- trees
 
 module _ (bytes : List ℕ) (tokens : List Token) (tree : SpecTree) where
+  -- the fault of the handlers of the formulas that are read
+  abbrev fault_over : List Formula → Option SpecFault
+  fault_over fs = handlers_fault bytes tree.full_binding tokens (properties_of tree) fs
+
+  one_property_fault : (p : PropertyFacts) (fault other : SpecFault) → IsRefusedFormula bytes tokens tree.table p fault → IsRefusedFormula bytes tokens tree.table p other → IsSameFault fault other
+  one_property_fault p fault other a b = one_formula_fault bytes (formula_of tokens p) tree.table p.logic fault other a b
+
   one_tree_fault : (fault other : SpecFault) → IsFaultyTree bytes tokens tree fault → IsFaultyTree bytes tokens tree other → IsSameFault fault other
-  one_tree_fault fault other (in_formula a) (in_formula b) = one_formula_fault bytes (formula_of tokens tree) tree.table tree.logic fault other a b
-  one_tree_fault fault other (in_formula a) (in_handlers g says worse) = absurd (formula_or_fault bytes (formula_of tokens tree) tree.table tree.logic g fault says a)
-  one_tree_fault fault other (in_formula a) (in_table g says sound worse) = absurd (formula_or_fault bytes (formula_of tokens tree) tree.table tree.logic g fault says a)
-  one_tree_fault fault other (in_handlers f read bad) (in_formula b) = absurd (formula_or_fault bytes (formula_of tokens tree) tree.table tree.logic f other read b)
-  one_tree_fault fault other (in_table f read sound bad) (in_formula b) = absurd (formula_or_fault bytes (formula_of tokens tree) tree.table tree.logic f other read b)
-  one_tree_fault fault other (in_handlers f read bad) (in_handlers g says worse) =
-      let one = one_formula bytes (formula_of tokens tree) tree.table tree.logic f g read says in
-      inl (same_some (sym bad ∙ ap (λ x. handlers_fault bytes tree.full_binding tokens (category_names x) tree.handlers.items) one ∙ worse))
-  one_tree_fault fault other (in_handlers f read bad) (in_table g says sound worse) =
-      let one = one_formula bytes (formula_of tokens tree) tree.table tree.logic g f says read in
-      absurd (never_some (sym sound ∙ ap (λ x. handlers_fault bytes tree.full_binding tokens (category_names x) tree.handlers.items) one ∙ bad))
-  one_tree_fault fault other (in_table f read sound bad) (in_handlers g says worse) =
-      let one = one_formula bytes (formula_of tokens tree) tree.table tree.logic f g read says in
-      absurd (never_some (sym sound ∙ ap (λ x. handlers_fault bytes tree.full_binding tokens (category_names x) tree.handlers.items) one ∙ worse))
-  one_tree_fault fault other (in_table f read sound bad) (in_table g says also worse) =
-      let one = one_formula bytes (formula_of tokens tree) tree.table tree.logic g f says read in
-      inl (one_table_fault f (length tree.table.events) fault other bad (subst (λ x. IsTableFault x (length tree.table.events) other) one worse))
+  one_tree_fault fault other (in_formulas a) (in_formulas b) = one_first (IsRefusedFormula bytes tokens tree.table) IsSameFault one_property_fault (properties_of tree) fault other a b
+  one_tree_fault fault other (in_formulas a) (in_handlers gs says worse) = absurd (formulas_or_fault bytes tokens tree.table (properties_of tree) gs fault says a)
+  one_tree_fault fault other (in_formulas a) (in_tables gs says sound worse) = absurd (formulas_or_fault bytes tokens tree.table (properties_of tree) gs fault says a)
+  one_tree_fault fault other (in_handlers fs read bad) (in_formulas b) = absurd (formulas_or_fault bytes tokens tree.table (properties_of tree) fs other read b)
+  one_tree_fault fault other (in_tables fs read sound bad) (in_formulas b) = absurd (formulas_or_fault bytes tokens tree.table (properties_of tree) fs other read b)
+  one_tree_fault fault other (in_handlers fs read bad) (in_handlers gs says worse) =
+      inl (same_some (sym bad ∙ ap fault_over (one_formulas bytes tokens tree.table (properties_of tree) fs gs read says) ∙ worse))
+  one_tree_fault fault other (in_handlers fs read bad) (in_tables gs says sound worse) =
+      absurd (never_some (sym sound ∙ ap fault_over (one_formulas bytes tokens tree.table (properties_of tree) gs fs says read) ∙ bad))
+  one_tree_fault fault other (in_tables fs read sound bad) (in_handlers gs says worse) =
+      absurd (never_some (sym sound ∙ ap fault_over (one_formulas bytes tokens tree.table (properties_of tree) fs gs read says) ∙ worse))
+  one_tree_fault fault other (in_tables fs read sound bad) (in_tables gs says also worse) =
+      let one = one_formulas bytes tokens tree.table (properties_of tree) fs gs read says in
+      let letters = length tree.table.events in
+      inl (one_first_table_fault letters gs fault other (subst (λ (xs : List Formula). IsFirstTableFault letters xs fault) one bad) worse)
 
 -- ---- frames
 
@@ -159,14 +178,17 @@ one_cut_fault bytes fault other a b = elim (no_cut bytes fault a) [
 -- ---- trees of the same bytes
 
 module _ (bytes : List ℕ) (ts us : List Token) (a b : SpecTree) (same : IsSameTold ts us a b) where
-  refused_moved : (fault : SpecFault) → IsRefusedIn bytes (formula_of ts a) a.table a.logic fault → IsRefusedIn bytes (formula_of us b) b.table b.logic fault
-  refused_moved fault h = rw (sym same.tokens, sym same.tree.first, sym same.tree.last, sym same.tree.table, sym same.tree.logic) h
+  refused_moved : (fault : SpecFault) → IsFirstRefusal (IsRefusedFormula bytes ts a.table) (properties_of a) fault → IsFirstRefusal (IsRefusedFormula bytes us b.table) (properties_of b) fault
+  refused_moved fault h =
+      subst (λ (ps : List PropertyFacts). IsFirstRefusal (IsRefusedFormula bytes us b.table) ps fault) same.tree.properties
+      (subst (λ (t : EventDefinitions). IsFirstRefusal (IsRefusedFormula bytes us t) (properties_of a) fault) same.tree.table
+      (subst (λ (v : List Token). IsFirstRefusal (IsRefusedFormula bytes v a.table) (properties_of a) fault) same.tokens h))
 
   faulty_moved : (fault : SpecFault) → IsFaultyTree bytes ts a fault → IsFaultyTree bytes us b fault
-  faulty_moved fault (in_formula refused) = in_formula (refused_moved fault refused)
-  faulty_moved fault (in_handlers f read bad) = in_handlers f (read_moved bytes ts us a b same f read) (sym (handled_moved bytes ts us a b same (category_names f)) ∙ bad)
-  faulty_moved fault (in_table f read sound bad) =
-      in_table f (read_moved bytes ts us a b same f read) (sym (handled_moved bytes ts us a b same (category_names f)) ∙ sound) (subst (λ n. IsTableFault f n fault) (letters_moved bytes ts us a b same) bad)
+  faulty_moved fault (in_formulas refused) = in_formulas (refused_moved fault refused)
+  faulty_moved fault (in_handlers fs read bad) = in_handlers fs (read_moved bytes ts us a b same fs read) (sym (handled_moved bytes ts us a b same fs) ∙ bad)
+  faulty_moved fault (in_tables fs read sound bad) =
+      in_tables fs (read_moved bytes ts us a b same fs read) (sym (handled_moved bytes ts us a b same fs) ∙ sound) (subst (λ n. IsFirstTableFault n fs fault) (letters_moved bytes ts us a b same) bad)
 
 -- ---- specifications
 

@@ -28,7 +28,7 @@ use Rattle.jm_script.specs.declared.script.ScriptLine.{ScriptLine}
 use Rattle.jm_script.specs.Projections.{spec_of, step_of, line_of, script_of}
 use Rattle.jm_print.specs.Texts.{IsPrintable}
 use Rattle.jm_print.specs.Told.{BindsSome, HaveEight, FitsStep, IsTold, AreTold}
-use Rattle.jm_top.specs.Specifications.{Specification, meaning_of}
+use Rattle.jm_inputs.specs.Specifications.{Specification, meaning_of}
 use Rattle.jm_top.specs.Histories.{IsHistoryOf, lexicon}
 use Rattle.jm_top.proofs.PrintLemmas.{IsNamedStep, printable}
 use Rattle.jm_telling.proofs.TableMasks.{HasMasks, mask_within}

@@ -1,33 +1,27 @@
 -- The names of what an accepted command reads.
-use Rattle.std.proofs.Common.{ℕ, ◌+◌, Bool, List, [], ◌∷◌, ◌++◌, length, map, Option, sym, ap, subst}
+use Rattle.std.proofs.Common.{ℕ, ◌+◌, Bool, List, [], ◌∷◌, ◌++◌, length, map, Option, sym, subst}
 use Rattle.jm_script.specs.declared.script.ScriptLine.{ScriptLine}
-use Rattle.jm_machine.specs.Formulas.{category_names}
-use Rattle.jm_machine.specs.Meanings.{RuleDefinition}
 use Rattle.jm_print.specs.Told.{AreNames, HasNames, HaveNames}
 use Rattle.jm_cli.specs.Words.{CommandWords}
-use Rattle.jm_top.specs.Sources.{Source}
-use Rattle.jm_top.specs.Specifications.{Specification, IsSpecification}
-use Rattle.jm_top.specs.Scripts.{catalog_of}
-use Rattle.jm_top.specs.Inputs.{SaySpecifications, SayScripts}
+use Rattle.jm_inputs.specs.Sources.{Source}
+use Rattle.jm_inputs.specs.Specifications.{Specification, IsSpecification}
+use Rattle.jm_inputs.specs.Scripts.{catalog_of}
+use Rattle.jm_inputs.specs.Inputs.{SaySpecifications, SayScripts}
 use Rattle.jm_top.specs.Histories.{lexicon}
-use Rattle.jm_top.specs.Jobs.{IsJob, Accepted, accepted}
+use Rattle.jm_inputs.specs.Jobs.{IsJob, Accepted, accepted}
 use Rattle.jm_telling.proofs.NameLists.{no_names}
 use Rattle.jm_telling.proofs.TableNames.{HasTableNames, table_names}
 use Rattle.jm_telling.proofs.HandlerNames.{handlers_named}
 use Rattle.jm_telling.proofs.ObjectNames.{script_named}
 
--- the parameters, events and handlers of a specification
+-- the parameters and events of a specification
 pub specification_tables : (bytes : List ℕ) (s : Specification) → IsSpecification bytes s → HasTableNames s.table
 specification_tables bytes s is = subst HasTableNames (sym is.table) (table_names bytes is.told.told.0.params is.told.told.0.events is.tree.table is.told.told.3.table)
-
-specification_handlers : (bytes : List ℕ) (s : Specification) → IsSpecification bytes s → AreNames s.rules.handlers
-specification_handlers bytes s is =
-    subst AreNames (sym (ap (λ (r : RuleDefinition). r.handlers) is.rules.rules)) (handlers_named bytes is.tree.full_binding is.tokens (category_names s.rules.formula) is.tree.handlers.items is.rules.handled)
 
 specification_names : (objects : List (List ℕ)) → AreNames objects → (bytes : List ℕ) (s : Specification) → IsSpecification bytes s → HasNames (lexicon objects s)
 specification_names objects named bytes s is =
     let tables = specification_tables bytes s is in
-    record { parameters = tables.parameters; events = tables.events; handlers = specification_handlers bytes s is; objects = named }
+    record { parameters = tables.parameters; events = tables.events; handlers = handlers_named bytes s is; objects = named }
 
 specifications_names : (objects : List (List ℕ)) → AreNames objects → (contents : List ℕ → Option (List ℕ)) (families : Bool) (before : List Specification) (sources : List Source) (specs : List Specification) → SaySpecifications contents families before sources specs → HaveNames (map (lexicon objects) specs)
 specifications_names objects named contents families before [] specs said = subst (λ (ss : List Specification). HaveNames (map (lexicon objects) ss)) (sym said) tt

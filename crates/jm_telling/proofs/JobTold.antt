@@ -9,13 +9,13 @@ use Rattle.jm_machine.specs.Meanings.{RuleDefinition}
 use Rattle.jm_print.specs.Told.{AreToldBy}
 use Rattle.jm_cli.specs.Words.{CommandWords}
 use Rattle.jm_cli.specs.Words.CommandWords.{Replay, Run, Check, Coenable, Gen, Sweep}
-use Rattle.jm_top.specs.Sources.{Source, Named}
-use Rattle.jm_top.specs.Commands.{IsWithin, script_sources, workload_scripts}
-use Rattle.jm_top.specs.Specifications.{Specification, IsSpecification}
-use Rattle.jm_top.specs.Scripts.{catalog_of, meaning_over}
-use Rattle.jm_top.specs.Inputs.{SaySpecifications, SayScripts}
+use Rattle.jm_inputs.specs.Sources.{Source, Named}
+use Rattle.jm_inputs.specs.Commands.{IsWithin, script_sources, workload_scripts}
+use Rattle.jm_inputs.specs.Specifications.{Specification, IsSpecification}
+use Rattle.jm_inputs.specs.Scripts.{catalog_of, meaning_over}
+use Rattle.jm_inputs.specs.Inputs.{SaySpecifications, SayScripts}
 use Rattle.jm_top.specs.Histories.{AreHistoriesFrom, lexicon}
-use Rattle.jm_top.specs.Jobs.{IsJob, Accepted, accepted}
+use Rattle.jm_inputs.specs.Jobs.{IsJob, Accepted, accepted}
 use Rattle.jm_top.proofs.FewLemmas.{few_named}
 use Rattle.jm_telling.proofs.JobNames.{specification_tables}
 use Rattle.jm_telling.proofs.ScriptSteps.{IsLineIn, more_lines, fit_script}

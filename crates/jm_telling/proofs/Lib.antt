@@ -1,6 +1,7 @@
 pub mod NameLists
 pub mod TableMasks
 pub mod TableNames
+pub mod NumberedNames
 pub mod HandlerNames
 pub mod ObjectNames
 pub mod JobNames

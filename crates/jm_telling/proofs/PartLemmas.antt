@@ -6,11 +6,11 @@ use Rattle.jm_script.specs.Catalogs.{CatalogEntry}
 use Rattle.jm_script.specs.Meanings.{LineMeaning, ScriptMeaning, line_meaning, with_line, steps_of, led_by, lines_meaning, script_meaning}
 use Rattle.jm_script.proofs.MeaningLemmas.{line_keeps}
 use Rattle.jm_sweep.specs.Recordings.{parts_of}
-use Rattle.jm_top.specs.Specifications.{Specification}
-use Rattle.jm_top.specs.Scripts.{catalog_of, IsScript}
-use Rattle.jm_top.specs.Recordings.{RecordedPart, SayParts, IsRecording}
-use Rattle.jm_top.proofs.OneReadingLemmas.{never_some}
-use Rattle.jm_top.proofs.RecordingLemmas.{with_line_fault, with_line_length, sound_later}
+use Rattle.jm_inputs.specs.Specifications.{Specification}
+use Rattle.jm_inputs.specs.Scripts.{catalog_of, IsScript}
+use Rattle.jm_inputs.specs.Recordings.{RecordedPart, SayParts, IsRecording}
+use Rattle.jm_inputs.proofs.OneReadingLemmas.{never_some}
+use Rattle.jm_inputs.proofs.RecordingLemmas.{with_line_fault, with_line_length, sound_later}
 use Rattle.jm_telling.specs.Parts.{IsPartAlone}
 
 module _ (catalog : List CatalogEntry) where

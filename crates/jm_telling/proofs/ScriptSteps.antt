@@ -25,7 +25,7 @@ use Rattle.jm_script.specs.Meanings.{LineMeaning, ScriptMeaning, mentioning, eve
 use Rattle.jm_script.proofs.NameLemmas.{number_at_mention-below}
 use Rattle.jm_script.proofs.ObjectLemmas.{IsExtension-none, IsExtension-mentioned, length-IsExtension}
 use Rattle.jm_script.proofs.FittingLemmas.{numbers_of-below}
-use Rattle.jm_top.specs.Specifications.{most_bytes}
+use Rattle.jm_inputs.specs.Specifications.{most_bytes}
 
 -- each object of a target is one of so many
 abbrev pub HasObjects : ℕ → Target → Type 0

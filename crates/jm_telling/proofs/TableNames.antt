@@ -21,7 +21,7 @@ use Rattle.jm_spec.specs.declared.events.Advice.TheVariants.{Known, Other}
 use Rattle.jm_spec.specs.declared.events.Mention.{Mention}
 use Rattle.jm_reading.specs.Faults.{◌>>>◌}
 use Rattle.jm_spec.specs.Faults.{name_of, unless, with_param, with_params, with_names, with_mention, with_advice, with_events, table_of}
-use Rattle.jm_top.proofs.OneReadingLemmas.{same_ok}
+use Rattle.jm_inputs.proofs.OneReadingLemmas.{same_ok}
 use Rattle.jm_telling.proofs.NameLists.{no_names, name_more, name_mentioned, plain_token}
 use Rattle.jm_telling.proofs.TableMasks.{HasMasks, mask_said, parameter_masks, same_after, event_masks}
 

@@ -1,9 +1,9 @@
 -- A part of a recording, by itself.
 use Rattle.std.specs.Prelude.{List, []}
 use Rattle.jm_model.specs.Words.{Text}
-use Rattle.jm_top.specs.Specifications.{Specification}
-use Rattle.jm_top.specs.Scripts.{IsScript}
-use Rattle.jm_top.specs.Recordings.{RecordedPart}
+use Rattle.jm_inputs.specs.Specifications.{Specification}
+use Rattle.jm_inputs.specs.Scripts.{IsScript}
+use Rattle.jm_inputs.specs.Recordings.{RecordedPart}
 
 -- the bytes are a script that stands behind no other, with the steps and the objects of this part
 abbrev pub IsPartAlone : List Specification → Text → RecordedPart → Type 0

@@ -2,11 +2,11 @@ use Rattle.std.proofs.Common.{◌≡◌, ℕ, List, [], ◌⊎◌, inl, inr, ref
 use Rattle.std.specs.Prelude.{Option, Some, None}
 use Rattle.jm_port.specs.Faults.{HasRisen}
 use Rattle.jm_port.specs.Sinks.{appended, AppendsPrefix}
-use Rattle.jm_top.specs.Causes.{IsBeforeWriting}
-use Rattle.jm_top.specs.Jobs.{IsCaused}
+use Rattle.jm_inputs.specs.Causes.{IsBeforeWriting}
+use Rattle.jm_inputs.specs.Jobs.{IsCaused}
 use Rattle.jm_top.specs.Endings.{WritesText, IsText, Writes, Ends, Reports}
-use Rattle.jm_top.specs.declared.status.Status.{Status}
-use Rattle.jm_top.specs.declared.status.Status.TheVariants.{Done, Usage, BadSpec, BadScript, ReadFailed, WriteFailed, NoMemory}
+use Rattle.jm_inputs.specs.declared.status.Status.{Status}
+use Rattle.jm_inputs.specs.declared.status.Status.TheVariants.{Done, Usage, BadSpec, BadScript, ReadFailed, WriteFailed, NoMemory}
 
 appended-nil : (written : Option (List ℕ)) → appended written [] ≡ written
 appended-nil None = refl

@@ -4,7 +4,7 @@ use Rattle.jm_cli.specs.Words.{CommandWords, command_of}
 use Rattle.jm_cli.specs.Words.CommandWords.{Replay, Run, Check, Coenable, Gen, Sweep}
 use Rattle.jm_cli.specs.Spelling.{Spells}
 use Rattle.jm_cli.proofs.Saying.{spelled}
-use Rattle.jm_top.specs.Commands.{IsWithin}
+use Rattle.jm_inputs.specs.Commands.{IsWithin}
 
 within_spelled : (words : List (List ℕ)) (c : CommandWords) → Spells words c → IsWithin c
 within_spelled words (Replay spec script) h = tt

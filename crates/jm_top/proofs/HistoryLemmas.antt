@@ -30,16 +30,18 @@ use Rattle.jm_script.specs.Events.{mask_at}
 use Rattle.jm_script.specs.Fitting.{FitsCatalog, FitsSpecification}
 use Rattle.jm_script.specs.Projections.{script_of, steps_in}
 use Rattle.jm_script.specs.declared.script.ScriptLine.{ScriptLine}
-use Rattle.jm_machine.specs.Meanings.{RuleDefinition, rules_meaning}
-use Rattle.jm_top.specs.declared.specification.Titles.{Titles}
-use Rattle.jm_top.specs.declared.specification.Loaded.{Loaded}
-use Rattle.jm_top.specs.declared.library.Library.{Library}
-use Rattle.jm_top.specs.declared.scripts.Scripts.{Scripts}
-use Rattle.jm_top.specs.Scripts.{catalog_of}
-use Rattle.jm_top.specs.Reading.{named_entry, listing, listed, listed_in, AreRulesOf, titled, specification_of, IsWhole, specs_in, IsCatalogued, AreCounted}
+use Rattle.jm_machine.specs.Meanings.{RuleDefinition, handler_count, rules_meaning}
+use Rattle.jm_machine.specs.HandlerNames.{names_of}
+use Rattle.jm_top.proofs.NameLemmas.{count_names}
+use Rattle.jm_inputs.specs.declared.specification.Titles.{Titles}
+use Rattle.jm_inputs.specs.declared.specification.Loaded.{Loaded}
+use Rattle.jm_inputs.specs.declared.library.Library.{Library}
+use Rattle.jm_inputs.specs.declared.scripts.Scripts.{Scripts}
+use Rattle.jm_inputs.specs.Scripts.{catalog_of}
+use Rattle.jm_inputs.specs.Reading.{named_entry, listing, listed, listed_in, AreRulesOf, titled, specification_of, IsWhole, specs_in, IsCatalogued, AreCounted}
 use Rattle.jm_top.specs.Histories.{lexicon, IsTextOfHistories}
 use Rattle.jm_top.specs.Replays.{IsReplayOf, IsPrintedReplay}
-use Rattle.jm_top.proofs.OneReadingLemmas.{same_some}
+use Rattle.jm_inputs.proofs.OneReadingLemmas.{same_some}
 use Rattle.jm_top.proofs.PrintLemmas.{IsNamedStep, printable}
 
 -- ---- bindings
@@ -133,7 +135,7 @@ module _ (entry : CatalogEntry) (rules : RuleDefinition) (whole : AreRulesOf ent
       → IsLegal (rules_meaning rules) h → IsInterleaving h lists → All (IsPrintable (lexicon objects (titled entry titles rules))) h
   history_printable titles objects lists h fits legal woven =
       let names = lexicon objects (titled entry titles rules) in
-      let few : length rules.handlers ≤ length rules.handlers = omega arith in
+      let few : handler_count rules.properties ≤ length (names_of rules) = omega (arith, count_names rules) in
       let each : All (λ (e : Entry). IsNamedStep names e.step) h =
       entries_of_lists (λ (x : Step). IsNamedStep names x) lists h
       (λ k own at. All-weaker (λ (step : ℕ × Step). FitsSpecification catalog (length objects) number step.1) (λ (step : ℕ × Step). IsNamedStep names step.1) (λ step. fitting_named titles objects step.1) own (fits k own at)) woven in

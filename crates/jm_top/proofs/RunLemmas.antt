@@ -23,17 +23,18 @@ use Rattle.jm_script.specs.declared.script.ScriptLine.{ScriptLine}
 use Rattle.jm_script.proofs.FittingLemmas.{projection_fits}
 use Rattle.jm_machine.specs.Meanings.{rules_meaning}
 use Rattle.jm_machine.specs.RuleSets.{CompiledRules}
-use Rattle.jm_top.specs.declared.specification.Titles.{Titles}
-use Rattle.jm_top.specs.declared.specification.Loaded.{Loaded}
-use Rattle.jm_top.specs.declared.library.Library.{Library}
-use Rattle.jm_top.specs.declared.scripts.Scripts.{Scripts}
-use Rattle.jm_top.specs.Scripts.{entry_of, catalog_of}
-use Rattle.jm_top.specs.Reading.{Listed, listing, listed, titled, titled_by, listed_in, specification_of, IsWhole, specs_in, IsCatalogued, AreCounted, ArePrintable, entry_summaries}
+use Rattle.jm_inputs.specs.declared.specification.Titles.{Titles}
+use Rattle.jm_inputs.specs.declared.specification.Loaded.{Loaded}
+use Rattle.jm_inputs.specs.declared.library.Library.{Library}
+use Rattle.jm_inputs.specs.declared.scripts.Scripts.{Scripts}
+use Rattle.jm_inputs.specs.Scripts.{entry_of, catalog_of}
+use Rattle.jm_inputs.specs.Reading.{Listed, listing, listed, titled, listed_in, specification_of, IsWhole, specs_in, IsCatalogued, AreCounted}
 use Rattle.jm_top.specs.Histories.{lexicon, IsHistoryOf, AreHistoriesFrom, IsTextOfHistories, summaries_of, IsTextOfSummaries}
 use Rattle.jm_top.specs.Runs.{IsWatchOf, AreWatchesOf, AreRunsOf}
-use Rattle.jm_top.proofs.OneReadingLemmas.{same_some}
-use Rattle.jm_top.proofs.LibraryLemmas.{length-listed}
+use Rattle.jm_inputs.proofs.OneReadingLemmas.{same_some}
+use Rattle.jm_inputs.proofs.LibraryLemmas.{length-listed}
 use Rattle.jm_top.proofs.HistoryLemmas.{doable, history_printable}
+use Rattle.jm_top.specs.Printing.{titled_by, ArePrintable, entry_summaries}
 
 -- ---- a specification in its catalog
 

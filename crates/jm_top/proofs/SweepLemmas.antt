@@ -1,6 +1,6 @@
 -- A part of a recording, from its bytes to its text.
-use Rattle.std.proofs.Common.{◌≡◌, ℕ, zero, suc, ◌+◌, ◌<◌, ◌≤◌, List, [], ◌∷◌, ◌++◌, length, get_or, take, drop, map, Option, Some, Result, Ok, Err, slice_get, refl, sym, ap, subst, ◌∙◌, arith, ◌-◌, length-take, length-drop}
-use Rattle.std.specs.Prelude.{All, IfOk, IfErr, OnOk, option_map}
+use Rattle.std.proofs.Common.{◌≡◌, ℕ, zero, suc, ◌+◌, ◌<◌, ◌≤◌, List, [], ◌∷◌, ◌++◌, length, get_or, take, drop, map, Some, Result, Ok, Err, slice_get, refl, sym, ap, subst, ◌∙◌, arith, ◌-◌, length-take, length-drop}
+use Rattle.std.specs.Prelude.{All, IfOk, OnOk, option_map}
 use Rattle.std.specs.List.{AllZip}
 use Rattle.std.proofs.lemmas.List.{take-append-drop, take_more, drop_more, map-append, length-map, take_all, length-take-le}
 use Rattle.std.proofs.lemmas.List.Elements.{All-weaker}
@@ -21,22 +21,23 @@ use Rattle.jm_script.specs.declared.script.ScriptLine.{ScriptLine}
 use Rattle.jm_semantics.specs.Scripts.{projection_of}
 use Rattle.jm_sweep.specs.Recordings.{parts_of, span_text, LiesWithin}
 use Rattle.jm_sweep.specs.Sweeps.{Fits, IsReplayOfPart}
-use Rattle.jm_top.specs.declared.library.Library.{Library}
-use Rattle.jm_top.specs.declared.specification.Loaded.{Loaded}
-use Rattle.jm_top.specs.declared.status.Status.{Status}
-use Rattle.jm_top.specs.declared.status.Status.TheVariants.{Done, Usage, BadSpec, BadScript, ReadFailed, WriteFailed, NoMemory}
+use Rattle.jm_inputs.specs.declared.library.Library.{Library}
+use Rattle.jm_inputs.specs.declared.specification.Loaded.{Loaded}
+use Rattle.jm_inputs.specs.declared.status.Status.{Status}
+use Rattle.jm_inputs.specs.declared.status.Status.TheVariants.{Done, Usage, BadSpec, BadScript, ReadFailed, WriteFailed, NoMemory}
 use Rattle.jm_top.specs.declared.sweep.Piece.{Piece}
-use Rattle.jm_top.specs.Specifications.{Specification, most_bytes}
-use Rattle.jm_top.specs.Scripts.{catalog_of, IsScript, IsScriptFault, in_line, meaning_over}
+use Rattle.jm_inputs.specs.Specifications.{Specification, most_bytes}
+use Rattle.jm_inputs.specs.Scripts.{catalog_of, IsScript, IsScriptFault, in_line, meaning_over}
 use Rattle.jm_top.specs.Histories.{lexicon, IsTextOfHistories}
-use Rattle.jm_top.specs.Reading.{named_entry, titled, AreRulesOf, specs_in}
-use Rattle.jm_top.specs.Recordings.{SayParts, IsRecording}
+use Rattle.jm_inputs.specs.Reading.{named_entry, titled, AreRulesOf, specs_in}
+use Rattle.jm_inputs.specs.Recordings.{SayParts}
 use Rattle.jm_top.specs.Replays.{IsReplayOf, IsPrintedReplay}
-use Rattle.jm_top.specs.Causes.{IsNoScriptIn, IsNoRecordingIn}
+use Rattle.jm_inputs.specs.Causes.{IsNoScriptIn, IsNoRecordingIn}
 use Rattle.jm_top.specs.Sweeps.{IsOfOne, CanReplay, IsPieceOf, HasPart, IsSwept, IsSweptWhole}
-use Rattle.jm_top.proofs.OneReadingLemmas.{same_some}
+use Rattle.jm_inputs.proofs.OneReadingLemmas.{same_some}
 use Rattle.jm_top.proofs.HistoryLemmas.{woven, doable, first_of, alone_is, alone_whole, alone_there, replay_printable, replay_text}
-use Rattle.jm_top.proofs.RecordingLemmas.{swept_more, swept_fault, sound_later}
+use Rattle.jm_inputs.proofs.RecordingLemmas.{sound_later}
+use Rattle.jm_top.proofs.SweptLemmas.{swept_more, swept_fault}
 
 -- a history of a part's steps is that of a replay
 pub is_replay : (m : Meaning) (steps : List (ℕ × Step)) (h : List Entry) → IsReplayOfPart m steps h → IsReplayOf m steps h

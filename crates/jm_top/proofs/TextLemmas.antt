@@ -12,14 +12,15 @@ use Rattle.jm_print.specs.Told.{texts_of}
 use Rattle.jm_print.specs.Summaries.{summary_text}
 use Rattle.jm_events.specs.Events.{EventDefinitions}
 use Rattle.jm_script.specs.Catalogs.{CatalogEntry}
-use Rattle.jm_top.specs.declared.specification.Titles.{Titles}
-use Rattle.jm_top.specs.declared.specification.Loaded.{Loaded}
-use Rattle.jm_top.specs.Specifications.{Specification}
+use Rattle.jm_inputs.specs.declared.specification.Titles.{Titles}
+use Rattle.jm_inputs.specs.declared.specification.Loaded.{Loaded}
+use Rattle.jm_inputs.specs.Specifications.{Specification}
 use Rattle.jm_core.specs.Cores.{Core}
 use Rattle.jm_machine.specs.RuleSets.{CompiledRules}
-use Rattle.jm_top.specs.Reading.{Listed, named_entry, listing, listed, titled, titled_by, specification_of, ArePrintable, entry_summaries}
+use Rattle.jm_inputs.specs.Reading.{Listed, named_entry, listing, listed, titled, specification_of}
 use Rattle.jm_top.specs.Texts.{declared_text, IsTextOfFamily, IsTextOfFamilies}
-use Rattle.jm_top.proofs.OneReadingLemmas.{same_some}
+use Rattle.jm_inputs.proofs.OneReadingLemmas.{same_some}
+use Rattle.jm_top.specs.Printing.{titled_by, ArePrintable, entry_summaries}
 
 -- what holds of each holds of the one of a place
 pub All-place : {X : Type 0} (P : X → Type 0) (xs : List X) (i : ℕ) (x : X) → All P xs → i < length xs → x ≡ get_or xs i x → P x

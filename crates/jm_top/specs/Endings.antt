@@ -1,14 +1,14 @@
 -- What a command leaves on its two sinks.
 use Rattle.std.specs.Prelude.{ℕ, ◌≡◌, List, Option, ◌⊎◌}
 use Rattle.jm_model.specs.Words.{Text}
-use Rattle.jm_top.specs.Sources.{FileContents}
+use Rattle.jm_inputs.specs.Sources.{FileContents}
 use Rattle.jm_port.specs.Faults.{HasRisen}
 use Rattle.jm_port.specs.Sinks.{appended, AppendsPrefix}
 use Rattle.jm_top.specs.FaultTexts.{fault_text_of}
-use Rattle.jm_top.specs.Jobs.{Job, IsJob, IsCaused}
+use Rattle.jm_inputs.specs.Jobs.{Job, IsJob, IsCaused}
 use Rattle.jm_top.specs.Texts.{IsTextOf}
-use Rattle.jm_top.specs.declared.status.Status.{Status}
-use Rattle.jm_top.specs.declared.status.Status.TheVariants.{Done, ReadFailed, WriteFailed, NoMemory}
+use Rattle.jm_inputs.specs.declared.status.Status.{Status}
+use Rattle.jm_inputs.specs.declared.status.Status.TheVariants.{Done, ReadFailed, WriteFailed, NoMemory}
 
 -- how the writing of a text ends: at `Done` it was appended whole, and where the sink failed or memory was short a
 -- prefix of it

@@ -8,8 +8,8 @@ use Rattle.jm_model.specs.declared.fault.SpecFault.{SpecFault}
 use Rattle.jm_model.specs.declared.fault.SpecFault.TheVariants as spec
 use Rattle.jm_model.specs.declared.fault.ScriptFault.{ScriptFault}
 use Rattle.jm_model.specs.declared.fault.ScriptFault.TheVariants as script
-use Rattle.jm_top.specs.declared.status.Status.{Status}
-use Rattle.jm_top.specs.declared.status.Status.TheVariants.{Done, Usage, BadSpec, BadScript, ReadFailed, WriteFailed, NoMemory}
+use Rattle.jm_inputs.specs.declared.status.Status.{Status}
+use Rattle.jm_inputs.specs.declared.status.Status.TheVariants.{Done, Usage, BadSpec, BadScript, ReadFailed, WriteFailed, NoMemory}
 
 -- what too many things of a kind are called
 abbrev pub counted_words : Counted → Text
@@ -35,7 +35,6 @@ spec_words (spec.Syntax line) = codes "syntax"
 spec_words (spec.UnsupportedModifier line) = codes "unsupported modifier"
 spec_words (spec.UnsupportedAdvice line) = codes "unsupported advice"
 spec_words spec.NoProperty = codes "no property"
-spec_words (spec.SecondProperty line) = codes "second property"
 spec_words (spec.UnsupportedLogic line) = codes "unsupported logic"
 spec_words (spec.DuplicateParameter line) = codes "duplicate parameter"
 spec_words (spec.DuplicateEvent line) = codes "duplicate event"
@@ -46,7 +45,6 @@ spec_words (spec.UnknownName line) = codes "unknown name"
 spec_words (spec.UnknownCategory line) = codes "unknown category"
 spec_words (spec.NameClash line) = codes "name clash"
 spec_words (spec.ReservedName line) = codes "reserved name"
-spec_words (spec.UnsupportedHandler line) = codes "unsupported handler"
 spec_words (spec.ResetWithFullBinding line) = codes "reset with full binding"
 spec_words (spec.UnsupportedSuffix line) = codes "unsupported suffix"
 spec_words (spec.TooMany what) = counted_words what
@@ -59,7 +57,6 @@ spec_line (spec.OpenText line) = Some line
 spec_line (spec.Syntax line) = Some line
 spec_line (spec.UnsupportedModifier line) = Some line
 spec_line (spec.UnsupportedAdvice line) = Some line
-spec_line (spec.SecondProperty line) = Some line
 spec_line (spec.UnsupportedLogic line) = Some line
 spec_line (spec.DuplicateParameter line) = Some line
 spec_line (spec.DuplicateEvent line) = Some line
@@ -70,7 +67,6 @@ spec_line (spec.UnknownName line) = Some line
 spec_line (spec.UnknownCategory line) = Some line
 spec_line (spec.NameClash line) = Some line
 spec_line (spec.ReservedName line) = Some line
-spec_line (spec.UnsupportedHandler line) = Some line
 spec_line (spec.ResetWithFullBinding line) = Some line
 spec_line (spec.UnsupportedSuffix line) = Some line
 spec_line _ = None

@@ -4,12 +4,14 @@ use Rattle.jm_model.specs.Words.{Text}
 use Rattle.jm_model.specs.declared.step.Entry.{Entry}
 use Rattle.jm_semantics.specs.Scripts.{projection_of, IsInterleaving}
 use Rattle.jm_semantics.specs.Legality.{IsLegal}
+use Rattle.jm_machine.specs.HandlerNames.{names_of}
 use Rattle.jm_print.specs.Lexicons.{Lexicon, lexicon_of}
 use Rattle.jm_print.specs.Told.{texts_of}
 use Rattle.jm_print.specs.Summaries.{summary_text}
 use Rattle.jm_script.specs.declared.script.ScriptLine.{ScriptLine}
 use Rattle.jm_script.specs.Projections.{script_of}
-use Rattle.jm_top.specs.Specifications.{Specification, meaning_of}
+use Rattle.jm_inputs.specs.Specifications.{Specification, meaning_of}
+use Rattle.jm_inputs.specs.Recordings.{RecordedPart}
 
 -- the history is legal for what the specification of this number means, and an interleaving of the scripts' projections
 -- on it
@@ -27,7 +29,7 @@ AreHistoriesFrom number _ scripts _ = ⊥
 
 -- the names that a history of the specification is printed with, and what its handlers print
 abbrev pub lexicon : List Text → Specification → Lexicon
-lexicon objects s = lexicon_of s.name s.table s.rules.handlers objects s.texts
+lexicon objects s = lexicon_of s.name s.table (names_of s.rules) objects s.texts
 
 -- the text is the printed history of each specification, in order
 pub record IsTextOfHistories (specs : List Specification) (scripts : List (List ScriptLine)) (objects : List Text)
@@ -47,3 +49,11 @@ pub record IsTextOfSummaries (specs : List Specification) (scripts : List (List 
   pub histories : List (List Entry)
   pub each : AreHistoriesFrom 0 specs scripts histories
   pub printed : text ≡ summaries_of specs histories
+
+module _ (specs : List Specification) where
+  -- the text is that of a replay of each part, in order
+  abbrev pub IsTextOfParts : List RecordedPart → Text → Type 0
+  IsTextOfParts [] text = text ≡ []
+  IsTextOfParts (part ∷ parts) text =
+      (first : Text) × (more : Text) × (text ≡ first ++ more)
+      × IsTextOfHistories specs (part.script ∷ []) part.objects first × IsTextOfParts parts more

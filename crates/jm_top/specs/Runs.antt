@@ -10,11 +10,11 @@ use Rattle.jm_machine.specs.Meanings.{rules_meaning}
 use Rattle.jm_machine.specs.RuleSets.{CompiledRules}
 use Rattle.jm_runner.specs.Runs.{projections_of}
 use Rattle.jm_script.specs.declared.script.ScriptLine.{ScriptLine}
-use Rattle.jm_top.specs.declared.specification.Titles.{Titles}
-use Rattle.jm_top.specs.declared.specification.Loaded.{Loaded}
-use Rattle.jm_top.specs.declared.library.Library.{Library}
-use Rattle.jm_top.specs.declared.scripts.Scripts.{Scripts}
-use Rattle.jm_top.specs.Reading.{specs_in, IsCatalogued, AreCounted}
+use Rattle.jm_inputs.specs.declared.specification.Titles.{Titles}
+use Rattle.jm_inputs.specs.declared.specification.Loaded.{Loaded}
+use Rattle.jm_inputs.specs.declared.library.Library.{Library}
+use Rattle.jm_inputs.specs.declared.scripts.Scripts.{Scripts}
+use Rattle.jm_inputs.specs.Reading.{specs_in, IsCatalogued, AreCounted}
 
 -- scripts that can run over the specifications of a library: both are few and some, and the scripts fit the catalog
 pub record CanRunOver (library : Library) (s : Scripts) : Type 0 where

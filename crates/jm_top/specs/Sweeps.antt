@@ -2,13 +2,13 @@
 use Rattle.std.specs.Prelude.{ℕ, ◌+◌, ◌≡◌, ◌≤◌, List, [], ◌∷◌, ◌++◌, length}
 use Rattle.jm_model.specs.Words.{Text}
 use Rattle.jm_sweep.specs.Recordings.{LiesWithin}
-use Rattle.jm_top.specs.declared.library.Library.{Library}
+use Rattle.jm_inputs.specs.declared.library.Library.{Library}
 use Rattle.jm_top.specs.declared.sweep.Piece.{Piece}
-use Rattle.jm_top.specs.Specifications.{Specification, most_bytes}
-use Rattle.jm_top.specs.Scripts.{IsScript}
-use Rattle.jm_top.specs.Histories.{IsTextOfHistories}
-use Rattle.jm_top.specs.Recordings.{RecordedPart, steps_of_parts, SayParts, IsRecording, IsTextOfParts}
-use Rattle.jm_top.specs.Reading.{IsCatalogued}
+use Rattle.jm_inputs.specs.Specifications.{Specification, most_bytes}
+use Rattle.jm_inputs.specs.Scripts.{IsScript}
+use Rattle.jm_top.specs.Histories.{IsTextOfHistories, IsTextOfParts}
+use Rattle.jm_inputs.specs.Recordings.{RecordedPart, steps_of_parts, SayParts, IsRecording}
+use Rattle.jm_inputs.specs.Reading.{IsCatalogued}
 
 -- a library of one specification
 pub record IsOfOne (library : Library) : Type 0 where

@@ -3,17 +3,17 @@ use Rattle.std.specs.Prelude.{ℕ, ◌≡◌, List, [], ◌∷◌, ◌++◌, len
 use Rattle.std.specs.List.{flat_map}
 use Rattle.jm_model.specs.Words.{Text, Mask}
 use Rattle.jm_semantics.specs.Families.{IsFamily}
+use Rattle.jm_machine.specs.HandlerNames.{names_of}
 use Rattle.jm_print.specs.Checks.{check_text}
 use Rattle.jm_print.specs.Coenables.{coenable_text}
 use Rattle.jm_cli.specs.Words.CommandWords.{Replay, Run, Check, Coenable, Gen, Sweep}
-use Rattle.jm_top.specs.Specifications.{Specification, meaning_of}
-use Rattle.jm_top.specs.Histories.{IsTextOfHistories, IsTextOfSummaries}
-use Rattle.jm_top.specs.Recordings.{IsTextOfParts}
-use Rattle.jm_top.specs.Jobs.{Job, Refused, Accepted, AcceptedParts}
+use Rattle.jm_inputs.specs.Specifications.{Specification, meaning_of}
+use Rattle.jm_top.specs.Histories.{IsTextOfHistories, IsTextOfSummaries, IsTextOfParts}
+use Rattle.jm_inputs.specs.Jobs.{Job, Refused, Accepted, AcceptedParts}
 
 -- what a specification declares
 abbrev pub declared_text : Specification → Text
-declared_text s = check_text s.name s.logic s.full_binding s.table s.rules.handlers
+declared_text s = check_text s.name s.logics s.full_binding s.table (names_of s.rules)
 
 -- each letter of the specification has its coenable family among these
 pub record AreFamiliesOf (s : Specification) (families : List (List Mask)) : Type 0 where

@@ -1,14 +1,13 @@
 //! The texts of `check` and `coenable`: a block for each specification.
 ghost use Rattle.std.specs.Prelude.{◌≡◌, ◌++◌, ◌<◌, false, ℕ, All, length, map, slice_get, IfOk, IfSome};
 ghost use Rattle.std.specs.List.{flat_map};
-ghost use Rattle.jm_machine.specs.Formulas.{is_grammar};
 ghost use Rattle.jm_semantics.specs.Families.{IsFamily};
 ghost use Rattle.jm_top.specs.Texts.{declared_text, IsTextOfFamily, IsTextOfFamilies};
-ghost use Rattle.jm_machine.specs.Meanings.{rules_meaning};
-ghost use Rattle.jm_top.specs.Reading.{named_entry, listing, listed, specification_of, IsWhole};
+ghost use Rattle.jm_machine.specs.Meanings.{has_grammar, rules_meaning};
+ghost use Rattle.jm_inputs.specs.Reading.{named_entry, listing, listed, specification_of, IsWhole};
 
-use crate::specification::Loaded;
 use jm_events::EventTable;
+use jm_inputs::Loaded;
 use jm_machine::Rules;
 use jm_model::{Letter, NoMemory};
 use jm_print::{render_check, render_coenable};
@@ -53,14 +52,14 @@ fn declared_by(
     render_check(
         alloc,
         name,
-        titles.logic,
+        titles.logics.as_slice(),
         titles.full_binding,
         table,
         loaded.rules.handlers(),
     )
 }
 
-/// The coenable families of each specification. None is a grammar.
+/// The coenable families of each specification. None has a grammar.
 pub(crate) fn families(
     alloc: Global,
     catalog: &Catalog,
@@ -68,7 +67,7 @@ pub(crate) fn families(
 ) -> Result<Vec<u8>, NoMemory>
     requires many { length catalog.now ≡ length specs.now }
     requires whole { All IsWhole (listed catalog.now specs.now) }
-    requires tables { All (λ l. is_grammar l.rules.definition.formula ≡ false) (listed catalog.now specs.now) }
+    requires tables { All (λ l. has_grammar l.rules.definition.properties ≡ false) (listed catalog.now specs.now) }
     ensures { IfOk result (λ text. IsTextOfFamilies (map specification_of (listed catalog.now specs.now)) text.items) }
 {
     let mut text = Vec::new(alloc);
@@ -93,7 +92,7 @@ fn families_text(
     loaded: &Loaded,
 ) -> Result<Vec<u8>, NoMemory>
     requires whole { IsWhole (listing (named_entry name.now table.now) loaded.now) }
-    requires table { is_grammar loaded.now.rules.definition.formula ≡ false }
+    requires table { has_grammar loaded.now.rules.definition.properties ≡ false }
     ensures { IfOk result (λ text. IsTextOfFamily
         (specification_of (listing (named_entry name.now table.now) loaded.now)) text.items) }
 {
@@ -104,7 +103,7 @@ fn families_text(
 /// The coenable family of each letter of these events, by rules that have families.
 fn families_of(alloc: Global, table: &EventTable, rules: &Rules) -> Result<Vec<Vec<u8>>, NoMemory>
     requires letters { length rules.now.definition.masks ≡ length table.now.events }
-    requires table { is_grammar rules.now.definition.formula ≡ false }
+    requires table { has_grammar rules.now.definition.properties ≡ false }
     ensures many { IfOk result (λ families. length families.items ≡ length table.now.events) }
     ensures each { IfOk result (λ families. (letter : ℕ)
         → IfSome (slice_get (map (λ f. f.items) families.items) letter)
@@ -121,7 +120,7 @@ fn families_of(alloc: Global, table: &EventTable, rules: &Rules) -> Result<Vec<V
 /// The coenable family of a letter, by rules that have families.
 fn family_of(rules: &Rules, letter: Letter) -> Result<Vec<u8>, NoMemory>
     requires letter { letter.0 < length rules.now.definition.masks }
-    requires table { is_grammar rules.now.definition.formula ≡ false }
+    requires table { has_grammar rules.now.definition.properties ≡ false }
     ensures { IfOk result (λ family. IsFamily (rules_meaning rules.now.definition) letter.0 family.items) }
 {
     match rules.family(letter)? {

@@ -3,14 +3,14 @@ ghost use Rattle.std.specs.Prelude.{◌≡◌, ◌⊎◌, ℕ, map, string_bytes
 ghost use Rattle.jm_port.specs.Faults.{HasRisen};
 ghost use Rattle.jm_cli.specs.Words.{command_of};
 ghost use Rattle.jm_cli.specs.Views.{command_words};
-ghost use Rattle.jm_top.specs.Commands.{IsWithin};
-ghost use Rattle.jm_top.specs.Jobs.{Job, IsJob, IsSound, IsCaused, AreTold};
+ghost use Rattle.jm_inputs.specs.Commands.{IsWithin};
+ghost use Rattle.jm_inputs.specs.Jobs.{Job, IsJob, IsSound, IsCaused, AreTold};
 ghost use Rattle.jm_top.specs.Endings.{Writes, WritesText, Ends, Reports};
 
 use crate::job::make_text;
-use crate::status::Status;
 use crate::texts::fault_text;
 use jm_cli::{Command, WordsError, read_words};
+use jm_inputs::Status;
 use jm_port::{Folder, PutFault, Sink, put_all};
 use jm_runner::Gate;
 use std::alloc::Global;

@@ -4,12 +4,13 @@ ghost use Rattle.jm_print.specs.Texts.{IsPrintable, history_text};
 ghost use Rattle.jm_print.specs.Told.{texts_of};
 ghost use Rattle.jm_print.specs.Summaries.{summary_text};
 ghost use Rattle.jm_top.specs.Histories.{lexicon};
-ghost use Rattle.jm_top.specs.Reading.{named_entry, titled, titled_by, ArePrintable, entry_summaries};
+ghost use Rattle.jm_inputs.specs.Reading.{named_entry, titled};
+ghost use Rattle.jm_top.specs.Printing.{titled_by, ArePrintable, entry_summaries};
 
 use crate::blocks::joined;
-use crate::specification::Titles;
 use jm_core::Prop;
 use jm_events::{EventTable, Names};
+use jm_inputs::Titles;
 use jm_machine::Rules;
 use jm_model::{Monitor, NoMemory};
 use jm_print::{render_history, render_summary};

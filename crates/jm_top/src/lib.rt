@@ -4,18 +4,14 @@
 //! wrong to another. It knows `replay`, `run`, `check`, `coenable`, `gen` and `sweep`, over all four logics and over
 //! scripts of events, deaths and passes.
 //!
-//! What a command is to do stands in `specs`, apart from how it is done: `Jobs.antt` says what its words and the
-//! contents of its files ask for or which fault is the first, `Inputs.antt` what files say one behind the other, and
-//! `Texts.antt` and `Histories.antt` which texts are those of a command.
+//! What a command is to do stands in `specs`, apart from how it is done: what its words and the contents of its files
+//! ask for or which fault is the first is said by `jm_inputs`, and which texts are those of a command by `Texts.antt`
+//! and `Histories.antt`.
 //!
 //! | Module | What it has |
 //! |---|---|
 //! | `command` | the call, from the words to the status |
 //! | `job` | the text of each command |
-//! | `inputs` | the specifications and scripts of a command, loaded or made |
-//! | `files` | the bytes of a file |
-//! | `library`, `specification` | specifications, read one behind the other |
-//! | `scripts` | scripts, read one behind the other |
 //! | `replay`, `run` | the histories of scripts |
 //! | `sweep` | the histories of a recording's parts |
 //! | `histories`, `blocks`, `texts` | what is printed |
@@ -23,21 +19,13 @@
 
 mod blocks;
 mod command;
-mod files;
 mod histories;
-mod inputs;
 mod job;
-mod laws;
-mod library;
 mod replay;
 mod run;
-mod scripts;
-mod specification;
-mod status;
 mod sweep;
 mod texts;
 
 pub use command::jmop;
-pub use laws::one_reading;
-pub use status::Status;
+pub use jm_inputs::Status;
 pub use texts::fault_text;

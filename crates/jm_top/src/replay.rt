@@ -5,16 +5,14 @@ ghost use Rattle.jm_model.specs.declared.step.Entry.{Entry};
 ghost use Rattle.jm_core.specs.Steps.{IsFitStep};
 ghost use Rattle.jm_script.specs.Projections.{steps_in};
 ghost use Rattle.jm_print.specs.Texts.{IsPrintable};
-ghost use Rattle.jm_top.specs.Reading.{named_entry, titled, specs_in, IsCatalogued, AreCounted};
+ghost use Rattle.jm_inputs.specs.Reading.{named_entry, titled, specs_in, IsCatalogued, AreCounted};
 ghost use Rattle.jm_top.specs.Histories.{lexicon, IsTextOfHistories};
 ghost use Rattle.jm_top.specs.Replays.{IsReplayOf, IsPrintedReplay};
 
-use crate::library::Library;
-use crate::scripts::Scripts;
-use crate::specification::Loaded;
 use jm_core::Prop;
 use jm_events::{EventTable, Names};
 use jm_history::History;
+use jm_inputs::{Library, Loaded, Scripts};
 use jm_model::{Monitor, NoMemory, Step};
 use jm_print::render_history;
 use jm_script::project_in_blocks;

@@ -1,15 +1,13 @@
 //! Running scripts over specifications.
 ghost use Rattle.std.specs.Prelude.{◌≡◌, ◌<◌, ◌≤◌, map, IfOk};
 ghost use Rattle.jm_top.specs.Histories.{IsTextOfHistories, IsTextOfSummaries};
-ghost use Rattle.jm_top.specs.Reading.{specs_in};
+ghost use Rattle.jm_inputs.specs.Reading.{specs_in};
 ghost use Rattle.jm_top.specs.Runs.{CanRunOver, IsWatchOf, AreWatchesOf, AreRunsOf};
 
 use crate::histories::{histories_text, summaries_text};
-use crate::library::Library;
-use crate::scripts::Scripts;
-use crate::specification::{Loaded, Titles};
 use jm_core::Prop;
 use jm_dispatch::Watch;
+use jm_inputs::{Library, Loaded, Scripts, Titles};
 use jm_machine::Rules;
 use jm_model::NoMemory;
 use jm_runner::{Gate, Running, run_scripts};

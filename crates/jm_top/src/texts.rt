@@ -2,7 +2,7 @@
 ghost use Rattle.std.specs.Prelude.{◌≡◌, ℕ, Option, IfOk};
 ghost use Rattle.jm_top.specs.FaultTexts.{counted_words, spec_words, spec_line, script_words, script_line, fault_line, unreadable_line, fault_text_of};
 
-use crate::status::Status;
+use jm_inputs::Status;
 use jm_model::{Counted, NoMemory, ScriptFault, SpecFault};
 use std::alloc::Global;
 
@@ -108,7 +108,6 @@ fn spec_words(fault: &SpecFault) -> &'static str
         SpecFault::UnsupportedModifier { .. } => "unsupported modifier",
         SpecFault::UnsupportedAdvice { .. } => "unsupported advice",
         SpecFault::NoProperty => "no property",
-        SpecFault::SecondProperty { .. } => "second property",
         SpecFault::UnsupportedLogic { .. } => "unsupported logic",
         SpecFault::DuplicateParameter { .. } => "duplicate parameter",
         SpecFault::DuplicateEvent { .. } => "duplicate event",
@@ -119,7 +118,6 @@ fn spec_words(fault: &SpecFault) -> &'static str
         SpecFault::UnknownCategory { .. } => "unknown category",
         SpecFault::NameClash { .. } => "name clash",
         SpecFault::ReservedName { .. } => "reserved name",
-        SpecFault::UnsupportedHandler { .. } => "unsupported handler",
         SpecFault::ResetWithFullBinding { .. } => "reset with full binding",
         SpecFault::UnsupportedSuffix { .. } => "unsupported suffix",
         SpecFault::TooMany { what } => counted_words(what),
@@ -136,7 +134,6 @@ fn spec_line(fault: &SpecFault) -> Option<u32>
         | SpecFault::Syntax { line }
         | SpecFault::UnsupportedModifier { line }
         | SpecFault::UnsupportedAdvice { line }
-        | SpecFault::SecondProperty { line }
         | SpecFault::UnsupportedLogic { line }
         | SpecFault::DuplicateParameter { line }
         | SpecFault::DuplicateEvent { line }
@@ -147,7 +144,6 @@ fn spec_line(fault: &SpecFault) -> Option<u32>
         | SpecFault::UnknownCategory { line }
         | SpecFault::NameClash { line }
         | SpecFault::ReservedName { line }
-        | SpecFault::UnsupportedHandler { line }
         | SpecFault::ResetWithFullBinding { line }
         | SpecFault::UnsupportedSuffix { line } => Some(*line),
         _ => None,

@@ -138,7 +138,7 @@ fn charts_of(alloc: Global, events: &EventTable, formula: &str) -> Result<Charts
 
 fn grammar_of(alloc: Global, events: &EventTable, formula: &[u8]) -> Result<Grammar, SpecError> {
     let all = tokens_of(alloc, formula)?;
-    read(alloc, formula, &all, 50, events)
+    read(alloc, formula, &all, 50, events, false)
 }
 
 fn are_below(productions: &[Production], letters: u8) -> bool

@@ -5,7 +5,7 @@ use testkit::Case;
 /// The answer to a case.
 pub(crate) fn answer(alloc: Global, case: &Case) -> Result<String, AllocError> {
     match case.verb.as_str() {
-        "grammar" | "reduce" | "size" | "productive" => grammar::answer(alloc, case),
+        "grammar" | "reduce" | "size" | "suffix" | "productive" => grammar::answer(alloc, case),
         "made" => grammar::made(alloc, case),
         "laws" => laws(alloc),
         _ => String::from_str(alloc, "no such verb"),
@@ -17,5 +17,6 @@ fn laws(alloc: Global) -> Result<String, AllocError> {
     jm_grammar::one_reading();
     jm_grammar::productions_as_written();
     jm_grammar::letters_are_events();
+    jm_grammar::nonterminals_are_few();
     String::from_str(alloc, "called")
 }

@@ -1,10 +1,14 @@
 //! The rules of whole specifications.
-use jm_machine::Rules;
+use jm_machine::{Configuration, Rules};
 use jm_model::{Letter, Monitor, SpecError};
 use std::alloc::{AllocError, Global};
+use std::mem::size_of;
 use testkit::Case;
 use testkit_rules::rules_of;
 use testkit_tokens::or_fault;
+
+// A state of the rules takes 16 bytes.
+const _: () = prove!(size_of::<Configuration>() == 16);
 
 /// What the specification of a case says, or its fault: what has to be bound, the parameters of each event, the names
 /// of the handlers, and the hits of the empty word and after each letter of the case's word, whose digits are letters.

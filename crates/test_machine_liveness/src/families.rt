@@ -1,3 +1,5 @@
+ghost use Rattle.std.specs.Prelude.{◌<◌, length};
+
 use jm_machine::Rules;
 use jm_model::{Letter, Monitor};
 use std::alloc::{AllocError, Global};
@@ -27,9 +29,26 @@ fn add_masks(alloc: Global, out: &mut String, masks: &[u8]) -> Result<(), AllocE
     out.push_str("]")
 }
 
-/// How many states the table has, or that there is none.
+/// How many states the table of each property has, or that there is none.
 pub(crate) fn states(alloc: Global, out: &mut String, rules: &Rules) -> Result<(), AllocError> {
-    match rules.table() {
+    for property in 0..rules.properties() {
+        if property != 0 {
+            out.push_str(" ")?;
+        }
+        add_states(alloc, out, rules, property)?;
+    }
+    Ok(())
+}
+
+fn add_states(
+    alloc: Global,
+    out: &mut String,
+    rules: &Rules,
+    property: u8,
+) -> Result<(), AllocError>
+    requires { property < length rules.now.definition.properties }
+{
+    match rules.table(property) {
         Some(table) => {
             let shown = format!(in alloc; "{}", table.len())?;
             out.push_str(&shown)

@@ -9,16 +9,17 @@ use jm_spec::Logic;
 use std::alloc::{AllocError, Global};
 use testkit::{Case, byte_of, text_of};
 
-/// What a specification declares. The words are its name, its logic and maybe `full-binding`; behind the `/` stand its
-/// categories. The first line has the parameters, and each other line an event: its name, its mask and maybe
+/// What a specification declares. The words are its name, its logics with commas between and maybe `full-binding`;
+/// behind the `/` stand the names of its handlers. The first line has the parameters, and each other line an event: its name, its mask and maybe
 /// `creation`.
 pub(crate) fn check(alloc: Global, case: &Case) -> Result<String, SpecError> {
     let table = table_of(alloc, text_of(case.text.as_slice()))?;
     let (name, rest) = halves(case.first.as_str());
-    let (logic, binding) = halves(rest);
+    let (words, binding) = halves(rest);
+    let logics = logics_of(alloc, words)?;
     let categories = names(alloc, case.second.as_str())?;
     let full = binding == "full-binding";
-    let page = render_check(alloc, name, logic_of(logic), full, &table, &categories)?;
+    let page = render_check(alloc, name, logics.as_slice(), full, &table, &categories)?;
     Ok(without_last_line_feed(alloc, page.as_slice())?)
 }
 
@@ -38,6 +39,14 @@ pub(crate) fn coenable(alloc: Global, case: &Case) -> Result<String, SpecError> 
 /// A word, and what stands behind it.
 fn halves(text: &str) -> (&str, &str) {
     text.split_once(' ').unwrap_or((text, ""))
+}
+
+fn logics_of(alloc: Global, words: &str) -> Result<Vec<Logic>, NoMemory> {
+    let mut logics = Vec::new(alloc);
+    for word in words.split(',') {
+        logics.push(logic_of(word))?;
+    }
+    Ok(logics)
 }
 
 fn logic_of(word: &str) -> Logic {

@@ -1,14 +1,15 @@
 //! Frames of specifications.
 
 use jm_model::{SpecError, SpecFault};
-use jm_spec::{SpecTree, read_spec};
+use jm_spec::{PropertyTree, SpecTree, read_spec};
 use jm_text::Token;
 use std::alloc::{AllocError, Global};
 use testkit::{Case, put_word};
 use testkit_tokens::{put_events, put_params, said, tokens_of};
 
 /// What a specification says: the name, `full` where it is full-binding, the parameters, each event with its mask, its
-/// line and a `+` where it is a creation event, the logic with its line, the formula, and each handler with its text.
+/// line and a `+` where it is a creation event; and of each property the logic with its line, the formula, and each
+/// handler with its text.
 pub(crate) fn spec(alloc: Global, case: &Case) -> Result<String, SpecError> {
     let bytes = case.text.as_slice();
     let all = tokens_of(alloc, bytes)?;
@@ -23,8 +24,10 @@ fn tree_text(
     tree: &SpecTree,
 ) -> Result<String, AllocError> {
     let mut out = head_text(alloc, bytes, tree)?;
-    put_logic(alloc, &mut out, tree)?;
-    put_texts(&mut out, bytes, all, tree)?;
+    for property in &tree.properties {
+        put_logic(alloc, &mut out, property)?;
+        put_texts(&mut out, bytes, all, property)?;
+    }
     Ok(out)
 }
 
@@ -33,10 +36,10 @@ fn put_texts(
     out: &mut String,
     bytes: &[u8],
     all: &[Token],
-    tree: &SpecTree,
+    property: &PropertyTree,
 ) -> Result<(), AllocError> {
-    put_range(out, bytes, all, tree.first, tree.last)?;
-    put_handlers(out, bytes, all, tree)
+    put_range(out, bytes, all, property.first, property.last)?;
+    put_handlers(out, bytes, all, property)
 }
 
 fn head_text(alloc: Global, bytes: &[u8], tree: &SpecTree) -> Result<String, AllocError> {
@@ -49,9 +52,9 @@ fn head_text(alloc: Global, bytes: &[u8], tree: &SpecTree) -> Result<String, All
     Ok(out)
 }
 
-fn put_logic(alloc: Global, out: &mut String, tree: &SpecTree) -> Result<(), AllocError> {
-    let logic = tree.logic;
-    let line = tree.logic_line;
+fn put_logic(alloc: Global, out: &mut String, property: &PropertyTree) -> Result<(), AllocError> {
+    let logic = property.logic;
+    let line = property.logic_line;
     let shown = format!(in alloc; "{logic:?}/{line}:")?;
     put_word(out, shown.as_str())
 }
@@ -60,9 +63,9 @@ fn put_handlers(
     out: &mut String,
     bytes: &[u8],
     all: &[Token],
-    tree: &SpecTree,
+    property: &PropertyTree,
 ) -> Result<(), AllocError> {
-    for handler in &tree.handlers {
+    for handler in &property.handlers {
         put_word(out, "@")?;
         out.push_str(said(bytes, handler.category))?;
         out.push(':')?;

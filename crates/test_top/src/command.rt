@@ -1,8 +1,9 @@
 //! Whole commands.
 use crate::shown::{put_last_line, put_text};
+use jm_inputs::one_reading;
 use jm_port::{Folder, MemoryFolder, Sink, SureFolder, SureSink};
 use jm_runner::FreeGate;
-use jm_top::{Status, fault_text, jmop, one_reading};
+use jm_top::{Status, fault_text, jmop};
 use std::alloc::{AllocError, Global};
 use std::sync::Wait;
 use std::thread::Threads;

@@ -3,13 +3,12 @@ use Rattle.std.proofs.lemmas.List.{length-map}
 use Rattle.jm_events.specs.Events.{EventDefinition, event_names}
 use Rattle.jm_grammar.specs.declared.grammar.Production.{Production}
 use Rattle.jm_grammar.specs.Grammars.{IsSmall}
-use Rattle.jm_grammar.proofs.MadeLemmas.{is_small, few_nonterminals}
+use Rattle.jm_grammar.proofs.MadeLemmas.{is_small}
 use Rattle.jm_grammar.proofs.build.known_grammar.Goals as goal
 
 pub new-requires : goal.new-requires
 new-requires c =
-    let few_names : length c.args.known.now ≤ 64 = few_nonterminals c.args.bytes.now c.args.parts.now c.args.known.now c.requires.known c.requires.nonterminals in
     let few_events : length (event_names c.args.table.now) ≤ 32 = omega (arith, c.requires.events, length-map c.args.table.now.events (λ (e : EventDefinition). e.name)) in
     let made = rw c.new-productions.ensures at c.in_ok-add_parts.ensures in
     subst (λ (l : List Production). IsSmall l 0) (sym c.into_vec.ensures)
-    (is_small c.args.bytes.now (event_names c.args.table.now) c.args.known.now c.args.parts.now c.add_parts.new.productions few_events few_names c.requires.productions c.requires.symbols made)
+    (is_small c.args.bytes.now (event_names c.args.table.now) c.args.known.now c.args.parts.now c.add_parts.new.productions few_events c.requires.few c.requires.productions c.requires.symbols made)

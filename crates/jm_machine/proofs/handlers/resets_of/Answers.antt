@@ -6,7 +6,7 @@ use Rattle.std.proofs.lemmas.Option.{slice_get-get_or}
 use Rattle.jm_spec.specs.declared.property.HandlerText.{HandlerText}
 use Rattle.jm_machine.specs.Handlers.{has_reset}
 use Rattle.jm_machine.proofs.GoalLemmas.{hits_more, hits_same, below_bits}
-use Rattle.jm_machine.proofs.RuleLemmas.{some_within}
+use Rattle.jm_machine.proofs.PropertyLemmas.{some_within}
 use Rattle.jm_machine.proofs.handlers.resets_of.Goals as goal
 use Rattle.jm_machine.proofs.handlers.resets_of.Goals.{then-has_reset, else-has_reset}
 

@@ -1,6 +1,6 @@
 use Rattle.std.proofs.Common.{ℕ, List, ◌↔◌}
 use Rattle.std.specs.Prelude.{IsBitSet, IsSomeAnd, slice_get}
-use Rattle.jm_machine.specs.declared.configuration.Configuration.TheVariants.{State}
+use Rattle.jm_machine.specs.declared.place.Place.TheVariants.{State}
 use Rattle.jm_machine.specs.Engines.{IsPlaceOf, EngineHolds}
 use Rattle.jm_machine.proofs.OutlookLemmas.{each_push, count_push}
 use Rattle.jm_machine.proofs.table_outlook.handler_masks.Goals as goal

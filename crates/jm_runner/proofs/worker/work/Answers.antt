@@ -19,7 +19,7 @@ loop-line-preserved g c =
     let watches = c.args.watches.now in
     let old = c.loop-line.seats.items in
     let new = c.do_line.new.seats.items in
-    let before = subst (λ (l : List ScriptLine). HaveDone k (take i l) watches old) (sym c.lines-line-items.ensures) c.loop-line.invariant in
+    let before = subst (λ (l : List ScriptLine). HaveDone k (take i l) watches old) (sym c.lines-line-items.ensures.value) c.loop-line.invariant in
     let after = lines_done k (take i lines) line watches old new before c.in_ok-do_line.ensures in
     let counted = subst (λ (l : List ScriptLine). HaveDone k l watches new) (sym (take_with_item lines i line c.loop-line-test.true c.line-item.is)) after in
-    subst (λ (l : List ScriptLine). HaveDone k (take (i + 1) l) watches new) c.lines-line-items.ensures counted
+    subst (λ (l : List ScriptLine). HaveDone k (take (i + 1) l) watches new) c.lines-line-items.ensures.value counted

@@ -66,6 +66,12 @@ returns-in_err-push-clause-err c =
       counted = c.loop-rest.invariant.counted;
     })
 
+pub of-requires : goal.of-requires
+of-requires c =
+    let none = ap lines_left c.in_default.is in
+    let whole = all_read c.args.catalog.now _ c.args.count.now c.args.objects.now c.loop-rest.lines.items c.loop-rest.objects c.loop-rest.number _ c.loop-rest.invariant.read none in
+    rw whole.lines (script_rises c.args.catalog.now c.args.count.now c.args.bytes.now c.args.objects.now)
+
 pub returns-clause-rising : goal.returns-clause-rising
 returns-clause-rising c =
     let none = ap lines_left c.in_default.is in

@@ -1,10 +1,10 @@
 use Rattle.std.proofs.Common.{◌≡◌, false, subst, arith}
 use Rattle.std.specs.Prelude.{map}
 use Rattle.std.proofs.lemmas.List.{take_all}
-use Rattle.jm_machine.specs.Formulas.{is_grammar}
-use Rattle.jm_top.specs.Reading.{Listed, listing, named_entry, listed, specification_of, IsWhole}
+use Rattle.jm_machine.specs.Meanings.{has_grammar}
+use Rattle.jm_inputs.specs.Reading.{Listed, listing, named_entry, listed, specification_of, IsWhole}
 use Rattle.jm_top.specs.Texts.{IsTextOfFamilies}
-use Rattle.jm_top.proofs.LibraryLemmas.{length-listed}
+use Rattle.jm_inputs.proofs.LibraryLemmas.{length-listed}
 use Rattle.jm_top.proofs.TextLemmas.{entry_there, listed_there, All-place, families_more}
 use Rattle.jm_top.proofs.blocks.families.Goals as goal
 
@@ -19,7 +19,7 @@ families_text-requires-clause-table c =
     let named = named_entry c.name.result.now c.table.result.now in
     let entry = entry_there c.args.catalog.now c.loop-spec.spec c.name.result.now c.table.result.now c.name.ensures c.table.ensures in
     let here = listed_there c.args.catalog.now c.args.specs.now c.loop-spec.spec named c.index-specs-number.result c.requires.many (omega arith) entry c.index-specs-number.is in
-    All-place (λ (l : Listed). is_grammar l.rules.definition.formula ≡ false) (listed c.args.catalog.now c.args.specs.now) c.loop-spec.spec (listing named c.index-specs-number.result) c.requires.tables here.0 here.1
+    All-place (λ (l : Listed). has_grammar l.rules.definition.properties ≡ false) (listed c.args.catalog.now c.args.specs.now) c.loop-spec.spec (listing named c.index-specs-number.result) c.requires.tables here.0 here.1
 
 pub loop-spec-preserved : goal.loop-spec-preserved
 loop-spec-preserved c =

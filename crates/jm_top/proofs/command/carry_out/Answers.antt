@@ -2,8 +2,9 @@ use Rattle.std.proofs.Common.{◌≡◌, None, Err, ap}
 use Rattle.std.specs.Prelude.{map, string_bytes}
 use Rattle.jm_cli.specs.Words.{command_of}
 use Rattle.jm_cli.specs.Views.{command_words}
-use Rattle.jm_top.proofs.JobLemmas.{words_caused, stopped_caused, text_made, stopped_before}
+use Rattle.jm_inputs.proofs.JobLemmas.{words_caused, stopped_caused, stopped_before}
 use Rattle.jm_top.proofs.EndingLemmas.{writes_text, ends_before, writing_caused, writing_reads_none, unread_before, unread_none}
+use Rattle.jm_top.proofs.CommandLemmas.{text_made}
 use Rattle.jm_top.proofs.command.carry_out.Goals as goal
 
 pub returns-in-Err-clause-ends : goal.returns-in-Err-clause-ends

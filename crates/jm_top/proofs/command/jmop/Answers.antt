@@ -1,5 +1,5 @@
 use Rattle.std.proofs.Common.{◌∙◌, inl, inr}
-use Rattle.jm_top.proofs.JobLemmas.{completes}
+use Rattle.jm_inputs.proofs.JobLemmas.{completes}
 use Rattle.jm_top.proofs.EndingLemmas.{reports_ending}
 use Rattle.jm_top.proofs.command.jmop.Goals as goal
 

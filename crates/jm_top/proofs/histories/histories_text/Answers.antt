@@ -3,8 +3,8 @@ use Rattle.std.specs.Prelude.{map}
 use Rattle.std.proofs.lemmas.List.{take_all}
 use Rattle.jm_print.specs.Told.{texts_of}
 use Rattle.jm_top.specs.Histories.{lexicon}
-use Rattle.jm_top.specs.Reading.{titled_by}
 use Rattle.jm_top.proofs.TextLemmas.{entry_there, length-titled_by, titled_there, histories_more, printable_place}
+use Rattle.jm_top.specs.Printing.{titled_by}
 use Rattle.jm_top.proofs.histories.histories_text.Goals as goal
 
 pub history_text-requires : goal.history_text-requires

@@ -2,7 +2,7 @@ use Rattle.std.proofs.Common.{◌≡◌, take}
 use Rattle.std.specs.Prelude.{map}
 use Rattle.jm_print.specs.Told.{texts_of}
 use Rattle.jm_top.specs.Histories.{lexicon}
-use Rattle.jm_top.specs.Reading.{titled_by}
+use Rattle.jm_top.specs.Printing.{titled_by}
 use Rattle.jm_top.proofs.histories.histories_text.Given as goal
 
 abbrev pub invariant-loop-spec : goal.invariant-loop-spec

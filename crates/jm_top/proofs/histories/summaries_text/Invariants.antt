@@ -1,6 +1,6 @@
 use Rattle.std.proofs.Common.{◌≡◌, take}
 use Rattle.std.specs.Prelude.{map}
-use Rattle.jm_top.specs.Reading.{entry_summaries}
+use Rattle.jm_top.specs.Printing.{entry_summaries}
 use Rattle.jm_top.proofs.histories.summaries_text.Given as goal
 
 abbrev pub invariant-loop-spec : goal.invariant-loop-spec

@@ -1,7 +1,8 @@
 use Rattle.std.specs.Prelude.{map, string_bytes}
 use Rattle.std.proofs.lemmas.Result.{err_from_is_err_and}
-use Rattle.jm_top.specs.Causes.{short}
-use Rattle.jm_top.proofs.CommandLemmas.{check_stops, check_made}
+use Rattle.jm_inputs.specs.Causes.{short}
+use Rattle.jm_top.proofs.CommandLemmas.{check_made}
+use Rattle.jm_inputs.proofs.StopLemmas.{check_stops}
 use Rattle.jm_top.proofs.job.checked.Goals as goal
 
 pub returns-in_err-library-clause-carried_out : goal.returns-in_err-library-clause-carried_out

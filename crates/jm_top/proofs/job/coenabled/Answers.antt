@@ -1,8 +1,9 @@
 use Rattle.std.specs.Prelude.{map, string_bytes}
 use Rattle.std.proofs.lemmas.Result.{err_from_is_err_and}
-use Rattle.jm_top.specs.Causes.{short}
-use Rattle.jm_top.specs.Commands.{named}
-use Rattle.jm_top.proofs.CommandLemmas.{coenable_stops, coenable_made, tables_in}
+use Rattle.jm_inputs.specs.Causes.{short}
+use Rattle.jm_inputs.specs.Commands.{named}
+use Rattle.jm_top.proofs.CommandLemmas.{coenable_made}
+use Rattle.jm_inputs.proofs.StopLemmas.{coenable_stops, tables_in}
 use Rattle.jm_top.proofs.job.coenabled.Goals as goal
 
 pub returns-in_err-library-clause-carried_out : goal.returns-in_err-library-clause-carried_out

@@ -1,8 +1,9 @@
 use Rattle.std.proofs.Common.{None, arith}
 use Rattle.std.proofs.lemmas.Result.{err_from_is_err_and}
-use Rattle.jm_top.specs.Causes.{short}
-use Rattle.jm_top.specs.Reading.{specs_in}
-use Rattle.jm_top.proofs.CommandLemmas.{workload_library, workload_many, gen_made}
+use Rattle.jm_inputs.specs.Causes.{short}
+use Rattle.jm_inputs.specs.Reading.{specs_in}
+use Rattle.jm_top.proofs.CommandLemmas.{gen_made}
+use Rattle.jm_inputs.proofs.StopLemmas.{workload_library, workload_many}
 use Rattle.jm_top.proofs.job.generated.Goals as goal
 
 pub returns-in_err-inputs : goal.returns-in_err-inputs

@@ -2,12 +2,13 @@ use Rattle.std.specs.Prelude.{map, string_bytes}
 use Rattle.std.proofs.Common.{arith}
 use Rattle.std.proofs.lemmas.Result.{err_from_is_err_and}
 use Rattle.std.proofs.lemmas.List.{length-map}
-use Rattle.jm_top.specs.Sources.{Named}
-use Rattle.jm_top.specs.Causes.{short}
-use Rattle.jm_top.specs.Reading.{specs_in}
-use Rattle.jm_top.proofs.LibraryLemmas.{library_length}
-use Rattle.jm_top.proofs.ScriptLemmas.{scripts_length}
-use Rattle.jm_top.proofs.CommandLemmas.{run_stops, run_made}
+use Rattle.jm_inputs.specs.Sources.{Named}
+use Rattle.jm_inputs.specs.Causes.{short}
+use Rattle.jm_inputs.specs.Reading.{specs_in}
+use Rattle.jm_inputs.proofs.LibraryLemmas.{library_length}
+use Rattle.jm_inputs.proofs.ScriptLemmas.{scripts_length}
+use Rattle.jm_top.proofs.CommandLemmas.{run_made}
+use Rattle.jm_inputs.proofs.StopLemmas.{run_stops}
 use Rattle.jm_top.proofs.job.ran.Goals as goal
 
 pub read_inputs-requires-clause-few_specs : goal.read_inputs-requires-clause-few_specs

@@ -1,12 +1,13 @@
 use Rattle.std.specs.Prelude.{string_bytes}
 use Rattle.std.proofs.Common.{◌∙◌}
 use Rattle.std.proofs.lemmas.Result.{err_from_is_err_and}
-use Rattle.jm_top.specs.Sources.{Named}
-use Rattle.jm_top.specs.Causes.{short}
-use Rattle.jm_top.specs.Reading.{specs_in}
-use Rattle.jm_top.proofs.LibraryLemmas.{library_length}
-use Rattle.jm_top.proofs.ScriptLemmas.{scripts_length}
-use Rattle.jm_top.proofs.CommandLemmas.{replay_stops, replay_made}
+use Rattle.jm_inputs.specs.Sources.{Named}
+use Rattle.jm_inputs.specs.Causes.{short}
+use Rattle.jm_inputs.specs.Reading.{specs_in}
+use Rattle.jm_inputs.proofs.LibraryLemmas.{library_length}
+use Rattle.jm_inputs.proofs.ScriptLemmas.{scripts_length}
+use Rattle.jm_top.proofs.CommandLemmas.{replay_made}
+use Rattle.jm_inputs.proofs.StopLemmas.{replay_stops}
 use Rattle.jm_top.proofs.job.replayed.Goals as goal
 
 pub returns-in_err-inputs-clause-carried_out : goal.returns-in_err-inputs-clause-carried_out

@@ -1,11 +1,12 @@
-use Rattle.std.proofs.Common.{◌∙◌, sym, ap, Err, arith}
+use Rattle.std.proofs.Common.{◌∙◌, sym, ap, Err}
 use Rattle.std.specs.Prelude.{string_bytes}
 use Rattle.std.proofs.lemmas.Result.{err_from_is_err_and}
-use Rattle.jm_top.specs.Sources.{Named}
-use Rattle.jm_top.proofs.OneReadingLemmas.{same_err}
-use Rattle.jm_top.proofs.JobLemmas.{risen_before, for_err}
-use Rattle.jm_top.proofs.LibraryLemmas.{library_length}
-use Rattle.jm_top.proofs.CommandLemmas.{not_loaded_before, given_before, sweep_stops, sweep_unloaded, sweep_carried_out}
+use Rattle.jm_inputs.specs.Sources.{Named}
+use Rattle.jm_inputs.proofs.OneReadingLemmas.{same_err}
+use Rattle.jm_inputs.proofs.JobLemmas.{risen_before}
+use Rattle.jm_inputs.proofs.LibraryLemmas.{library_length}
+use Rattle.jm_top.proofs.CommandLemmas.{sweep_carried_out}
+use Rattle.jm_inputs.proofs.StopLemmas.{not_loaded_before, given_before, sweep_stops, sweep_unloaded}
 use Rattle.jm_top.proofs.job.swept.Goals as goal
 
 pub returns-in_err-library-clause-carried_out : goal.returns-in_err-library-clause-carried_out

@@ -1,7 +1,7 @@
 use Rattle.std.proofs.Common.{length}
 use Rattle.jm_script.specs.Projections.{steps_in}
-use Rattle.jm_top.specs.Scripts.{catalog_of}
-use Rattle.jm_top.specs.Reading.{specs_in}
+use Rattle.jm_inputs.specs.Scripts.{catalog_of}
+use Rattle.jm_inputs.specs.Reading.{specs_in}
 use Rattle.jm_top.proofs.HistoryLemmas.{script_fits, own_doable, own_printable, own_text, made_text}
 use Rattle.jm_top.proofs.replay.replay.Goals as goal
 

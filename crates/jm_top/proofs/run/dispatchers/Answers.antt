@@ -1,6 +1,6 @@
 use Rattle.std.proofs.Common.{[], ◌∷◌, ◌++◌, sym, ap, ◌∙◌}
 use Rattle.std.proofs.lemmas.List.{map-append}
-use Rattle.jm_top.specs.declared.specification.Loaded.{Loaded}
+use Rattle.jm_inputs.specs.declared.specification.Loaded.{Loaded}
 use Rattle.jm_top.proofs.RunLemmas.{watches_push}
 use Rattle.jm_top.proofs.run.dispatchers.Goals as goal
 

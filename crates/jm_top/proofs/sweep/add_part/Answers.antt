@@ -1,5 +1,5 @@
 use Rattle.std.proofs.Common.{arith}
-use Rattle.jm_top.specs.Reading.{specs_in}
+use Rattle.jm_inputs.specs.Reading.{specs_in}
 use Rattle.jm_top.proofs.SweepLemmas.{early_added}
 use Rattle.jm_top.proofs.sweep.add_part.Goals as goal
 

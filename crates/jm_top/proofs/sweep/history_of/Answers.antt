@@ -1,4 +1,3 @@
-use Rattle.std.proofs.Common.{IfOk}
 use Rattle.jm_top.proofs.SweepLemmas.{are_replays}
 use Rattle.jm_top.proofs.sweep.history_of.Goals as goal
 

@@ -4,9 +4,9 @@ use Rattle.jm_model.specs.declared.fault.ScriptError.{ScriptError}
 use Rattle.jm_script.specs.Answers.{IsLeft}
 use Rattle.jm_script.specs.Fitting.{FitsCatalog}
 use Rattle.jm_script.specs.Meanings.{script_meaning}
-use Rattle.jm_top.specs.Reading.{specs_in}
-use Rattle.jm_top.proofs.OneReadingLemmas.{same_err}
-use Rattle.jm_top.proofs.LibraryLemmas.{its_catalog}
+use Rattle.jm_inputs.specs.Reading.{specs_in}
+use Rattle.jm_inputs.proofs.OneReadingLemmas.{same_err}
+use Rattle.jm_inputs.proofs.LibraryLemmas.{its_catalog}
 use Rattle.jm_top.proofs.SweepLemmas.{part_said, part_refused}
 use Rattle.jm_top.proofs.sweep.piece_of.Goals as goal
 

@@ -2,10 +2,10 @@ use Rattle.std.proofs.Common.{◌<◌, length, arith}
 use Rattle.std.specs.Prelude.{IfOk}
 use Rattle.std.proofs.lemmas.Result.{err_from_is_err_and}
 use Rattle.jm_sweep.specs.Recordings.{span_text}
-use Rattle.jm_top.specs.Reading.{specs_in}
+use Rattle.jm_inputs.specs.Reading.{specs_in}
 use Rattle.jm_top.specs.Sweeps.{IsPieceOf}
-use Rattle.jm_top.proofs.RecordingLemmas.{swept_none}
 use Rattle.jm_top.proofs.SweepLemmas.{at_place, zip_length, zip_at, turn_ok, turn_err, all_turns}
+use Rattle.jm_top.proofs.SweptLemmas.{swept_none}
 use Rattle.jm_top.proofs.sweep.put_together.Goals as goal
 
 pub loop-number-init : goal.loop-number-init

@@ -1,6 +1,6 @@
-use Rattle.std.proofs.Common.{◌≡◌, map, take}
+use Rattle.std.proofs.Common.{map, take}
 use Rattle.jm_sweep.specs.Recordings.{span_text}
-use Rattle.jm_top.specs.Reading.{specs_in}
+use Rattle.jm_inputs.specs.Reading.{specs_in}
 use Rattle.jm_top.specs.Sweeps.{IsSwept}
 use Rattle.jm_top.proofs.sweep.put_together.Given as goal
 

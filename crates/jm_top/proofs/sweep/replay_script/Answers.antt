@@ -1,6 +1,6 @@
 use Rattle.std.proofs.Common.{length, arith}
-use Rattle.jm_top.specs.Reading.{specs_in}
-use Rattle.jm_top.specs.Scripts.{catalog_of}
+use Rattle.jm_inputs.specs.Reading.{specs_in}
+use Rattle.jm_inputs.specs.Scripts.{catalog_of}
 use Rattle.jm_top.proofs.HistoryLemmas.{made_text}
 use Rattle.jm_top.proofs.SweepLemmas.{part_fits, part_printable, part_text}
 use Rattle.jm_top.proofs.sweep.replay_script.Goals as goal

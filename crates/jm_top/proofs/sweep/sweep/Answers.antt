@@ -1,8 +1,3 @@
-use Rattle.std.proofs.Common.{length, subst, arith}
-use Rattle.std.specs.Prelude.{All}
-use Rattle.std.proofs.lemmas.List.Elements.{All-weaker}
-use Rattle.jm_sweep.specs.Recordings.{LiesWithin}
-use Rattle.jm_top.specs.Sweeps.{CanReplay}
 use Rattle.jm_top.proofs.SweepLemmas.{can_replay}
 use Rattle.jm_top.proofs.sweep.sweep.Goals as goal
 

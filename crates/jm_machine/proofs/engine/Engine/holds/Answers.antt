@@ -1,5 +1,5 @@
 use Rattle.std.specs.Prelude.{IsTrue}
-use Rattle.jm_machine.proofs.ConfigurationLemmas.{group_after}
+use Rattle.jm_machine.proofs.PlaceLemmas.{group_after}
 use Rattle.jm_machine.proofs.engine.Engine.holds.Goals as goal
 
 pub returns-in-States-State : goal.returns-in-States-State

@@ -1,9 +1,9 @@
-use Rattle.jm_machine.proofs.KnownLemmas.{known_cut}
+use Rattle.jm_machine.specs.declared.place.Place.TheVariants.{State}
+use Rattle.jm_machine.proofs.RuleLemmas.{alone_cut}
 use Rattle.jm_machine.proofs.rules.RulesMonitor.cut.Goals as goal
 
-pub returns-in-Table : goal.returns-in-Table
-returns-in-Table c =
-    let i = c.self.inside in
-    let known = rw c.in-Table.is at c.self.invariant.2 in
-    rw (← c.self.view_is)
-    (known_cut i.masks.items i.formula i.handlers i.goal c.self.invariant.0 c.in-Table.outlook i.engine c.self.invariant.1 known c.args.state.now c.args.dead c.can_hit.result c.can_hit.ensures)
+pub returns-in-State : goal.returns-in-State
+returns-in-State c = rw (← c.self.view_is, c.in-State.is) (λ w h. alone_cut c.self.inside.first c.self.inside.others.items c.self.inside.names c.self.invariant h.0 (State c.in-State.state) c.args.dead c.cut.result c.cut.ensures w h.1)
+
+pub returns-in-Single : goal.returns-in-Single
+returns-in-Single c = rw (← c.self.view_is, c.in-Single.is) (λ w h. alone_cut c.self.inside.first c.self.inside.others.items c.self.inside.names c.self.invariant h.0 c.in-Single.place.value c.args.dead c.cut-in-Single.result (rw c.deref.ensures at c.cut-in-Single.ensures) w h.1)

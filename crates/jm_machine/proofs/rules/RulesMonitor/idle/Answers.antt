@@ -1,16 +1,21 @@
-use Rattle.jm_machine.proofs.KnownLemmas.{known_stays, known_rests}
+use Rattle.jm_machine.specs.declared.place.Place.TheVariants.{State}
+use Rattle.jm_machine.proofs.RuleLemmas.{alone_quiet, alone_stays, barren_later, barren_quiet}
 use Rattle.jm_machine.proofs.rules.RulesMonitor.idle.Goals as goal
 
-pub returns-in-Table-State-clause-stays : goal.returns-in-Table-State-clause-stays
-returns-in-Table-State-clause-stays c =
-    let i = c.self.inside in
-    let known = rw c.in-Table-State.is-0 at c.self.invariant.2 in
-    rw (← c.self.view_is, c.in-Table-State.is-1)
-    (λ w h e bit. known_stays i.masks.items i.formula i.handlers i.goal c.self.invariant.0 c.in-Table-State.outlook i.engine c.self.invariant.1 known c.in-Table-State.state e c.idle.result c.idle.ensures bit w h)
+pub returns-in-State-clause-stays : goal.returns-in-State-clause-stays
+returns-in-State-clause-stays c = rw (← c.self.view_is, c.in-State.is) (λ w h e bit. (h.0, alone_stays c.self.inside.first c.self.inside.others.items c.self.inside.names c.self.invariant h.0 (State c.in-State.state) c.idle.result c.idle.ensures.stays w h.1 e bit))
 
-pub returns-in-Table-State-clause-quiet : goal.returns-in-Table-State-clause-quiet
-returns-in-Table-State-clause-quiet c =
-    let i = c.self.inside in
-    let known = rw c.in-Table-State.is-0 at c.self.invariant.2 in
-    rw (← c.self.view_is, c.in-Table-State.is-1)
-    (λ w h e k bit. known_rests i.masks.items i.formula i.handlers i.goal c.self.invariant.0 c.in-Table-State.outlook i.engine c.self.invariant.1 known c.in-Table-State.state e c.idle.result c.idle.ensures bit w h k)
+pub returns-in-Single-clause-stays : goal.returns-in-Single-clause-stays
+returns-in-Single-clause-stays c = rw (← c.self.view_is, c.in-Single.is) (λ w h e bit. (h.0, alone_stays c.self.inside.first c.self.inside.others.items c.self.inside.names c.self.invariant h.0 c.in-Single.place.value c.idle-in-Single.result (rw c.deref.ensures at c.idle-in-Single.ensures.stays) w h.1 e bit))
+
+pub returns-in-State-clause-quiet : goal.returns-in-State-clause-quiet
+returns-in-State-clause-quiet c = rw (← c.self.view_is, c.in-State.is) (λ w h. alone_quiet c.self.inside.first c.self.inside.others.items c.self.inside.names c.self.invariant h.0 (State c.in-State.state) c.idle.result c.idle.ensures.quiet w h.1)
+
+pub returns-in-Single-clause-quiet : goal.returns-in-Single-clause-quiet
+returns-in-Single-clause-quiet c = rw (← c.self.view_is, c.in-Single.is) (λ w h. alone_quiet c.self.inside.first c.self.inside.others.items c.self.inside.names c.self.invariant h.0 c.in-Single.place.value c.idle-in-Single.result (rw c.deref.ensures at c.idle-in-Single.ensures.quiet) w h.1)
+
+pub returns-in-Barren-clause-stays : goal.returns-in-Barren-clause-stays
+returns-in-Barren-clause-stays c = rw c.in-Barren.is (λ w h e bit k part at. barren_later part w e (h k part at))
+
+pub returns-in-Barren-clause-quiet : goal.returns-in-Barren-clause-quiet
+returns-in-Barren-clause-quiet c = rw (← c.self.view_is, c.in-Barren.is) (λ w h e k set hit. barren_quiet c.self.inside.first c.self.inside.others.items c.self.inside.names c.self.invariant w h e k hit)

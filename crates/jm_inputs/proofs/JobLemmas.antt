@@ -1,0 +1,255 @@
+-- What the status of a command says of its job.
+use Rattle.std.proofs.Common.{◌≡◌, ℕ, zero, suc, ◌+◌, ◌<◌, ◌≤◌, ◌⊎◌, inl, inr, Bool, false, List, [], ◌∷◌, length, Option, Some, None, Result, Ok, Err, IfErr, refl, sym, ap, subst, ◌∙◌, arith}
+use Rattle.std.specs.Prelude.{IfSome}
+use Rattle.jm_port.specs.Faults.{HasRisen}
+use Rattle.jm_model.specs.declared.fault.SpecFault.TheVariants as spec
+use Rattle.jm_model.specs.declared.fault.ScriptFault.TheVariants as script
+use Rattle.jm_script.specs.declared.script.ScriptLine.{ScriptLine}
+use Rattle.std.proofs.lemmas.Bool.{false≢true}
+use Rattle.jm_cli.specs.Words.{CommandWords, command_of}
+use Rattle.jm_cli.specs.Words.CommandWords.{Sweep}
+use Rattle.jm_inputs.specs.declared.status.Status.{Status}
+use Rattle.jm_inputs.specs.declared.status.Status.TheVariants.{Done, Usage, BadSpec, BadScript, ReadFailed, WriteFailed, NoMemory}
+use Rattle.jm_inputs.specs.Sources.{Source, Named, Gives}
+use Rattle.jm_inputs.specs.Commands.{named, spec_sources, script_sources, reads_recording, needs_families}
+use Rattle.jm_inputs.specs.Specifications.{Specification, too_long as spec_too_long, most_bytes}
+use Rattle.jm_inputs.specs.Scripts.{IsScriptFault, too_long}
+use Rattle.jm_inputs.specs.Inputs.{IsRefusal, faulty, SaySpecifications, AreReadUpTo, step_count, AreScriptsUpTo}
+use Rattle.jm_inputs.specs.Recordings.{RecordedPart, IsRecordingFault}
+use Rattle.jm_inputs.specs.Jobs.{Job, Refused, Accepted, AcceptedParts, IsSound, IsJob, no_command, bad_spec, bad_script, accepted, bad_part, accepted_parts, ReachesFile, spec_file, script_file, IsCaused, AreTold}
+use Rattle.jm_inputs.specs.Causes.{IsBeforeWriting, IsFaulty, IsNotLoaded, IsNoSpec, IsNoSpecIn, StopsSpecs, IsNoScript, IsNoScriptIn, StopsScripts, IsNoRecording, StopsCommand, short, at_spec, at_script, at_recording}
+use Rattle.jm_inputs.proofs.OneReadingLemmas.{same_some, same_err, never_some}
+use Rattle.jm_inputs.proofs.InputLemmas.{one_given, say_one, specs_not_refused, scripts_not_refused}
+use Rattle.jm_inputs.proofs.RecordingLemmas.{recording_has_no_fault}
+
+module _ (words : List (List ℕ)) (contents : List ℕ → Option (List ℕ)) (told : AreTold words contents) where
+  same_command : (c d : CommandWords) → command_of words ≡ Some c → command_of words ≡ Some d → d ≡ c
+  same_command c d a b = same_some (sym b ∙ a)
+
+  -- a command that reads a recording reads no scripts
+  never_both : (c : CommandWords) (spec recording : List ℕ) → Sweep spec recording ≡ c → reads_recording c ≡ false → ⊥
+  never_both c spec recording same separate = false≢true (sym separate ∙ ap reads_recording (sym same))
+
+  -- a job that isn't refused is refused for nothing
+  accepted_not_refused : (status : Status) (c : CommandWords) (specs : List Specification) (scripts : List (List ScriptLine)) (objects : List (List ℕ)) → IsJob words contents (Accepted c specs scripts objects) → IsJob words contents (Refused status) → ⊥
+  accepted_not_refused status _ _ _ _ (accepted c specs scripts objects spelled said tells separate) (no_command none) = never_some (sym none ∙ spelled)
+  accepted_not_refused _ _ _ _ _ (accepted c specs scripts objects spelled said tells separate) (bad_spec d number source before bytes fault names reached given is) =
+      let same = same_command c d spelled names in
+      let all = told c spelled in
+      specs_not_refused contents (needs_families c) (spec_sources c) number source specs before bytes fault all.0 said
+      (subst (λ (x : CommandWords). AreReadUpTo contents (needs_families x) (spec_sources x) number source before) same reached) given (subst (λ (x : CommandWords). IsRefusal (needs_families x) before bytes fault) same is)
+  accepted_not_refused _ _ _ _ _ (accepted c specs scripts objects spelled said tells separate) (bad_script d others number source before names bytes fault spells says reached given is apart) =
+      let same = same_command c d spelled spells in
+      let all = told c spelled in
+      let one = say_one contents (needs_families c) [] (spec_sources c) others specs all.0 (subst (λ (x : CommandWords). SaySpecifications contents (needs_families x) [] (spec_sources x) others) same says) said in
+      scripts_not_refused contents specs (script_sources c) number source scripts before objects names bytes fault all.1 tells
+      (subst (λ v. AreScriptsUpTo contents v (script_sources c) number source before names) one (subst (λ (x : CommandWords). AreScriptsUpTo contents others (script_sources x) number source before names) same reached)) given
+      (subst (λ v. IsScriptFault v (step_count before) names bytes fault) one is)
+  accepted_not_refused _ _ _ _ _ (accepted c specs scripts objects spelled said tells separate) (bad_part spec recording others bytes number fault spells says given is) =
+      never_both c spec recording (same_command c (Sweep spec recording) spelled spells) separate
+
+  -- nor one over the parts of a recording
+  parts_not_refused : (status : Status) (specs : List Specification) (parts : List RecordedPart) → IsJob words contents (AcceptedParts specs parts) → IsJob words contents (Refused status) → ⊥
+  parts_not_refused status _ _ (accepted_parts spec recording specs bytes parts spelled said given tells) (no_command none) = never_some (sym none ∙ spelled)
+  parts_not_refused _ _ _ (accepted_parts spec recording specs bytes parts spelled said given tells) (bad_spec d number source before held fault names reached gives is) =
+      let same = same_command (Sweep spec recording) d spelled names in
+      let all = told (Sweep spec recording) spelled in
+      specs_not_refused contents false (named (spec ∷ [])) number source specs before held fault all.0 said
+      (subst (λ (x : CommandWords). AreReadUpTo contents (needs_families x) (spec_sources x) number source before) same reached) gives (subst (λ (x : CommandWords). IsRefusal (needs_families x) before held fault) same is)
+  parts_not_refused _ _ _ (accepted_parts spec recording specs bytes parts spelled said given tells) (bad_script d others number source before names held fault spells says reached gives is apart) =
+      never_both d spec recording (same_command d (Sweep spec recording) spells spelled) apart
+  parts_not_refused _ _ _ (accepted_parts spec recording specs bytes parts spelled said given tells) (bad_part again from others held number fault spells says gives is) =
+      let same = same_command (Sweep spec recording) (Sweep again from) spelled spells in
+      let all = told (Sweep spec recording) spelled in
+      let one_spec : again ≡ spec = cc same in
+      let one_recording : from ≡ recording = cc same in
+      let one = say_one contents false [] (named (spec ∷ [])) others specs all.0 (subst (λ v. SaySpecifications contents false [] (named (v ∷ [])) others) one_spec says) said in
+      let same_bytes = one_given contents (Named recording) held bytes all.1.0 (subst (λ v. Gives contents (Named v) held) one_recording gives) given in
+      recording_has_no_fault specs bytes parts number fault tells (subst (λ v. IsRecordingFault specs v number fault) same_bytes (subst (λ v. IsRecordingFault v held number fault) one is))
+
+  not_refused : (status : Status) (job : Job) → IsSound job → IsJob words contents job → IsJob words contents (Refused status) → ⊥
+  not_refused status (Refused other) sound job refused = sound
+  not_refused status (Accepted c specs scripts objects) sound job refused = accepted_not_refused status c specs scripts objects job refused
+  not_refused status (AcceptedParts specs parts) sound job refused = parts_not_refused status specs parts job refused
+
+  -- A command whose job isn't refused, and that met no fault of the folder or the sink, was done, or memory was short.
+  pub completes : (job : Job) → IsSound job → IsJob words contents job → (status : Status) → IsCaused words contents status
+      → ((file : ℕ) → status ≡ ReadFailed file → ⊥) → (status ≡ WriteFailed → ⊥) → (status ≡ Done) ⊎ (status ≡ NoMemory)
+  completes job sound is Done caused no_read no_write = inl refl
+  completes job sound is NoMemory caused no_read no_write = inr refl
+  completes job sound is Usage caused no_read no_write = absurd (not_refused Usage job sound is caused)
+  completes job sound is (BadSpec f x) caused no_read no_write = absurd (not_refused (BadSpec f x) job sound is caused)
+  completes job sound is (BadScript f x) caused no_read no_write = absurd (not_refused (BadScript f x) job sound is caused)
+  completes job sound is (ReadFailed f) caused no_read no_write = absurd (no_read f refl)
+  completes job sound is WriteFailed caused no_read no_write = absurd (no_write refl)
+
+-- ---- the causes, in the order of the work
+
+module _ (words : List (List ℕ)) (contents : List ℕ → Option (List ℕ)) (c : CommandWords) (spelled : command_of words ≡ Some c) where
+  specs_stopped : (status : Status) → StopsSpecs contents (needs_families c) (spec_sources c) status → IsCaused words contents status
+  specs_stopped (BadSpec f x) h =
+      let same : h.number ≡ f = sym h.stopped.0 in
+      bad_spec c f h.source h.before h.stopped.1.0 x spelled (subst (λ n. AreReadUpTo contents (needs_families c) (spec_sources c) n h.source h.before) same h.reached) h.stopped.1.1 h.stopped.1.2
+  specs_stopped (ReadFailed f) h =
+      let same : h.number ≡ f = sym h.stopped.0 in
+      spec_file c f h.source h.before spelled (subst (λ n. AreReadUpTo contents (needs_families c) (spec_sources c) n h.source h.before) same h.reached) h.stopped.1
+  specs_stopped NoMemory h = tt
+  specs_stopped Done h = absurd h.stopped
+  specs_stopped Usage h = absurd h.stopped
+  specs_stopped (BadScript n x) h = absurd h.stopped
+  specs_stopped WriteFailed h = absurd h.stopped
+
+  scripts_stopped : (specs : List Specification) → SaySpecifications contents (needs_families c) [] (spec_sources c) specs → reads_recording c ≡ false → (status : Status) → StopsScripts contents specs (length (spec_sources c)) (script_sources c) status → IsCaused words contents status
+  scripts_stopped specs said separate (BadScript k x) h =
+      let same : h.number ≡ k = sym h.stopped.0 in
+      bad_script c specs k h.source h.before h.names h.stopped.1.0 x spelled said (subst (λ n. AreScriptsUpTo contents specs (script_sources c) n h.source h.before h.names) same h.reached) h.stopped.1.1 h.stopped.1.2 separate
+  scripts_stopped specs said separate (ReadFailed f) h =
+      subst (λ n. ReachesFile words contents n) (sym h.stopped.0) (script_file c specs h.number h.source h.before h.names spelled said h.reached h.stopped.1)
+  scripts_stopped specs said separate NoMemory h = tt
+  scripts_stopped specs said separate Done h = absurd h.stopped
+  scripts_stopped specs said separate Usage h = absurd h.stopped
+  scripts_stopped specs said separate (BadSpec n x) h = absurd h.stopped
+  scripts_stopped specs said separate WriteFailed h = absurd h.stopped
+
+  recording_stopped : (spec recording : List ℕ) (specs : List Specification) → c ≡ Sweep spec recording → SaySpecifications contents false [] (named (spec ∷ [])) specs → (status : Status) → IsNoRecording contents specs recording status → IsCaused words contents status
+  recording_stopped spec recording specs is said (BadScript k x) h = bad_part spec recording specs h.0 k x (spelled ∙ ap (λ v. Some v) is) said h.1 h.2
+  recording_stopped spec recording specs is said (ReadFailed f) h =
+      subst (λ n. ReachesFile words contents n) (sym h)
+      (script_file (Sweep spec recording) specs 0 (Named recording) [] [] (spelled ∙ ap (λ v. Some v) is) said (record { first = []; rest = []; split = refl; numbered = refl; read = (refl, refl) }) tt)
+  recording_stopped spec recording specs is said NoMemory h = tt
+  recording_stopped spec recording specs is said Done h = absurd h
+  recording_stopped spec recording specs is said Usage h = absurd h
+  recording_stopped spec recording specs is said (BadSpec n x) h = absurd h
+  recording_stopped spec recording specs is said WriteFailed h = absurd h
+
+  pub stopped_caused : (status : Status) → StopsCommand contents c status → IsCaused words contents status
+  stopped_caused _ short = tt
+  stopped_caused _ (at_spec status h) = specs_stopped status h
+  stopped_caused _ (at_script specs status said h separate) = scripts_stopped specs said separate status h
+  stopped_caused _ (at_recording spec recording specs status is said h) = recording_stopped spec recording specs is said status h
+
+-- ---- such a status comes before anything is written
+
+before_spec : (contents : List ℕ → Option (List ℕ)) (families : Bool) (before : List Specification) (number : ℕ) (source : Source) (status : Status) → IsNoSpec contents families before number source status → IsBeforeWriting status
+before_spec contents families before number source Done h = h
+before_spec contents families before number source WriteFailed h = h
+before_spec contents families before number source Usage h = tt
+before_spec contents families before number source (BadSpec f x) h = tt
+before_spec contents families before number source (BadScript f x) h = tt
+before_spec contents families before number source (ReadFailed f) h = tt
+before_spec contents families before number source NoMemory h = tt
+
+before_script : (contents : List ℕ → Option (List ℕ)) (specs : List Specification) (files count : ℕ) (names : List (List ℕ)) (number : ℕ) (source : Source) (status : Status) → IsNoScript contents specs files count names number source status → IsBeforeWriting status
+before_script contents specs files count names number source Done h = h
+before_script contents specs files count names number source WriteFailed h = h
+before_script contents specs files count names number source Usage h = tt
+before_script contents specs files count names number source (BadSpec f x) h = tt
+before_script contents specs files count names number source (BadScript f x) h = tt
+before_script contents specs files count names number source (ReadFailed f) h = tt
+before_script contents specs files count names number source NoMemory h = tt
+
+before_recording : (contents : List ℕ → Option (List ℕ)) (specs : List Specification) (name : List ℕ) (status : Status) → IsNoRecording contents specs name status → IsBeforeWriting status
+before_recording contents specs name Done h = h
+before_recording contents specs name WriteFailed h = h
+before_recording contents specs name Usage h = tt
+before_recording contents specs name (BadSpec f x) h = tt
+before_recording contents specs name (BadScript f x) h = tt
+before_recording contents specs name (ReadFailed f) h = tt
+before_recording contents specs name NoMemory h = tt
+
+pub stopped_before : (contents : List ℕ → Option (List ℕ)) (c : CommandWords) (status : Status) → StopsCommand contents c status → IsBeforeWriting status
+stopped_before contents c _ short = tt
+stopped_before contents c _ (at_spec status h) = before_spec contents (needs_families c) h.before h.number h.source status h.stopped
+stopped_before contents c _ (at_recording spec recording specs status is said h) = before_recording contents specs recording status h
+stopped_before contents c _ (at_script specs status said h separate) = before_script contents specs (length (spec_sources c)) (step_count h.before) h.names h.number h.source status h.stopped
+
+-- ---- files
+
+-- there are bytes of more than any number
+more_than : (n : ℕ) → (bytes : List ℕ) × (n < length bytes)
+more_than zero = (0 ∷ [], omega arith)
+more_than (suc n) = let more = more_than n in (0 ∷ more.0, omega (arith, more.1))
+
+pub too_long_bytes : (o : Option (List ℕ)) → IfSome o (λ held. most_bytes < length held) → (bytes : List ℕ) × IfSome o (λ held. bytes ≡ held) × (most_bytes < length bytes)
+too_long_bytes None h = let more = more_than most_bytes in (more.0, tt, more.1)
+too_long_bytes (Some held) h = (held, refl, h)
+
+-- a file that is too long says no specification, and no script
+long_spec : (contents : List ℕ → Option (List ℕ)) (name : List ℕ) (families : Bool) (before : List Specification) → IfSome (contents name) (λ held. most_bytes < length held) → (bytes : List ℕ) × Gives contents (Named name) bytes × IsRefusal families before bytes spec.TooLong
+long_spec contents name families before h =
+    let long = too_long_bytes (contents name) h in
+    (long.0, long.1, faulty (spec_too_long long.2))
+
+long_script : (contents : List ℕ → Option (List ℕ)) (name : List ℕ) (specs : List Specification) (count : ℕ) (names : List (List ℕ)) → IfSome (contents name) (λ held. most_bytes < length held) → (bytes : List ℕ) × Gives contents (Named name) bytes × IsScriptFault specs count names bytes script.TooLong
+long_script contents name specs count names h =
+    let long = too_long_bytes (contents name) h in
+    (long.0, long.1, too_long long.2)
+
+-- a file that wasn't loaded, as a source of specifications and as one of scripts
+pub faulty_not_loaded : (contents : List ℕ → Option (List ℕ)) (name : List ℕ) (number : ℕ) (status : Status) → IsFaulty status → IfSome (contents name) (λ held. most_bytes < length held) → IsNotLoaded contents name number status status
+faulty_not_loaded contents name number (BadSpec f x) h long = (refl, long)
+faulty_not_loaded contents name number (BadScript n x) h long = (refl, long)
+faulty_not_loaded contents name number Done h long = absurd h
+faulty_not_loaded contents name number Usage h long = absurd h
+faulty_not_loaded contents name number (ReadFailed f) h long = absurd h
+faulty_not_loaded contents name number WriteFailed h long = absurd h
+faulty_not_loaded contents name number NoMemory h long = absurd h
+
+pub no_failed_read : {T : Type 0} (status : Status) (file : ℕ) → IsFaulty status → ◌≡◌ {A = Result T Status} (Err status) (Err (ReadFailed file)) → ⊥
+no_failed_read status file h is = subst IsFaulty (same_err is) h
+
+pub spec_not_loaded : (contents : List ℕ → Option (List ℕ)) (name : List ℕ) (families : Bool) (before : List Specification) (number : ℕ) (status : Status) → IsNotLoaded contents name number (BadSpec number spec.TooLong) status → IsNoSpec contents families before number (Named name) status
+spec_not_loaded contents name families before number (ReadFailed f) h = (h, tt)
+spec_not_loaded contents name families before number NoMemory h = tt
+spec_not_loaded contents name families before number (BadSpec f x) h =
+    let same : f ≡ number = cc (h.0) in
+    let fault : x ≡ spec.TooLong = cc (h.0) in
+    (same, rw fault (long_spec contents name families before h.1))
+spec_not_loaded contents name families before number Done h = absurd (cc (h.0))
+spec_not_loaded contents name families before number Usage h = absurd (cc (h.0))
+spec_not_loaded contents name families before number (BadScript n x) h = absurd (cc (h.0))
+spec_not_loaded contents name families before number WriteFailed h = absurd (cc (h.0))
+
+pub script_not_loaded : (contents : List ℕ → Option (List ℕ)) (name : List ℕ) (specs : List Specification) (files count : ℕ) (names : List (List ℕ)) (number : ℕ) (status : Status) → IsNotLoaded contents name (files + number) (BadScript number script.TooLong) status → IsNoScript contents specs files count names number (Named name) status
+script_not_loaded contents name specs files count names number (ReadFailed f) h = (h, tt)
+script_not_loaded contents name specs files count names number NoMemory h = tt
+script_not_loaded contents name specs files count names number (BadScript n x) h =
+    let same : n ≡ number = cc (h.0) in
+    let fault : x ≡ script.TooLong = cc (h.0) in
+    (same, rw fault (long_script contents name specs count names h.1))
+script_not_loaded contents name specs files count names number Done h = absurd (cc (h.0))
+script_not_loaded contents name specs files count names number Usage h = absurd (cc (h.0))
+script_not_loaded contents name specs files count names number (BadSpec n x) h = absurd (cc (h.0))
+script_not_loaded contents name specs files count names number WriteFailed h = absurd (cc (h.0))
+
+-- bytes that say none, as they stand in a source
+pub spec_from : (contents : List ℕ → Option (List ℕ)) (families : Bool) (before : List Specification) (number : ℕ) (source : Source) (bytes : List ℕ) → Gives contents source bytes → (status : Status) → IsNoSpecIn families before number bytes status → IsNoSpec contents families before number source status
+spec_from contents families before number source bytes given (BadSpec f x) h = (h.0, (bytes, given, h.1))
+spec_from contents families before number source bytes given NoMemory h = tt
+spec_from contents families before number source bytes given Done h = absurd h
+spec_from contents families before number source bytes given Usage h = absurd h
+spec_from contents families before number source bytes given (BadScript n x) h = absurd h
+spec_from contents families before number source bytes given (ReadFailed n) h = absurd h
+spec_from contents families before number source bytes given WriteFailed h = absurd h
+
+pub script_from : (contents : List ℕ → Option (List ℕ)) (specs : List Specification) (files count : ℕ) (names : List (List ℕ)) (number : ℕ) (source : Source) (bytes : List ℕ) → Gives contents source bytes → (status : Status) → IsNoScriptIn specs count names number bytes status → IsNoScript contents specs files count names number source status
+script_from contents specs files count names number source bytes given (BadScript k x) h = (h.0, (bytes, given, h.1))
+script_from contents specs files count names number source bytes given NoMemory h = tt
+script_from contents specs files count names number source bytes given Done h = absurd h
+script_from contents specs files count names number source bytes given Usage h = absurd h
+script_from contents specs files count names number source bytes given (BadSpec n x) h = absurd h
+script_from contents specs files count names number source bytes given (ReadFailed n) h = absurd h
+script_from contents specs files count names number source bytes given WriteFailed h = absurd h
+
+-- a count that rose later rose since before
+pub risen_before : {before middle after : ℕ} → before ≤ middle → HasRisen middle after → HasRisen before after
+risen_before {before} {middle} {after} le h = elim h [ inl more ↦ inl (omega (arith, le, more)) | inr last ↦ inr last ]
+
+pub for_err : {V E : Type 0} (P Q : E → Type 0) (r : Result V E) → ((e : E) → P e → Q e) → IfErr r P → IfErr r Q
+for_err P Q (Ok v) f h = tt
+for_err P Q (Err e) f h = f e h
+
+-- words that spell no command
+pub words_caused : (words : List (List ℕ)) (contents : List ℕ → Option (List ℕ)) (status : Status) → ((status ≡ Usage) × (command_of words ≡ None)) ⊎ (status ≡ NoMemory) → IsCaused words contents status
+words_caused words contents status (inl h) = subst (IsCaused words contents) (sym h.0) (no_command h.1)
+words_caused words contents status (inr e) = subst (IsCaused words contents) (sym e) tt

@@ -1,0 +1,9 @@
+pub mod OneReadingLemmas
+pub mod TreeLemmas
+pub mod BlockLemmas
+pub mod InputLemmas
+pub mod RecordingLemmas
+pub mod JobLemmas
+pub mod LibraryLemmas
+pub mod ScriptLemmas
+pub mod StopLemmas

@@ -1,0 +1,165 @@
+-- A library that grows.
+use Rattle.std.proofs.Common.{◌≡◌, ℕ, ◌+◌, ◌<◌, ◌≤◌, Bool, true, false, ◌&&◌, List, [], ◌∷◌, ◌++◌, length, get_or, take, drop, Option, Some, None, Result, Ok, Err, refl, sym, ap, subst, ◌∙◌, arith}
+use Rattle.std.specs.Prelude.{map, All, IsSome, OnOk}
+use Rattle.std.proofs.lemmas.List.{map-append, length-map, length_push, length-take-le, take_all}
+use Rattle.std.proofs.lemmas.List.Elements.{All-push}
+use Rattle.jm_events.specs.Names.{number_of}
+use Rattle.jm_model.specs.declared.fault.SpecFault.{SpecFault}
+use Rattle.jm_model.specs.declared.fault.SpecFault.TheVariants.{DuplicateSpec, UnsupportedLogic}
+use Rattle.jm_model.specs.declared.fault.SpecError.{SpecError}
+use Rattle.jm_model.specs.declared.fault.SpecError.TheVariants.{Bad, NoMemory}
+use Rattle.jm_script.specs.Catalogs.{CatalogEntry, spec_names}
+use Rattle.jm_inputs.specs.declared.specification.Loaded.{Loaded}
+use Rattle.jm_inputs.specs.declared.specification.Reading.{Reading}
+use Rattle.jm_inputs.specs.declared.library.Library.{Library}
+use Rattle.jm_inputs.specs.declared.status.Status.{Status}
+use Rattle.jm_inputs.specs.Sources.{Source}
+use Rattle.jm_inputs.specs.Scripts.{catalog_of}
+use Rattle.jm_inputs.specs.Inputs.{grammar_fault, refusal_of, IsRefusal, refused, SaySpecifications}
+use Rattle.jm_inputs.specs.Causes.{IsNoSpec, StopsSpecs}
+use Rattle.jm_inputs.specs.Reading.{listing, listed, listing_of, listed_in, specification_of, IsWhole, IsRead, specs_in, IsCatalogued, HasNext, HasNextFrom, IsLibraryOf}
+use Rattle.jm_inputs.proofs.OneReadingLemmas.{same_err}
+use Rattle.jm_inputs.proofs.InputLemmas.{split_sources, more_sources, length-sources, not_refused_of, refused_twice, length-said, say_more}
+
+-- ---- entries and what is kept under them
+
+pub length-listed : (es : List CatalogEntry) (ls : List Loaded) → length es ≡ length ls → length (listed es ls) ≡ length ls
+length-listed [] [] same = refl
+length-listed [] (l ∷ ls) same = absurd (omega (arith, same))
+length-listed (e ∷ es) [] same = absurd (omega (arith, same))
+length-listed (e ∷ es) (l ∷ ls) same = omega (arith, length-listed es ls (omega (arith, same)))
+
+listed-push : (es : List CatalogEntry) (ls : List Loaded) (e : CatalogEntry) (l : Loaded) → length es ≡ length ls → listed (es ++ e ∷ []) (ls ++ l ∷ []) ≡ listed es ls ++ listing e l ∷ []
+listed-push [] [] e l same = refl
+listed-push [] (m ∷ ls) e l same = absurd (omega (arith, same))
+listed-push (d ∷ es) [] e l same = absurd (omega (arith, same))
+listed-push (d ∷ es) (m ∷ ls) e l same = ap (λ v. listing d m ∷ v) (listed-push es ls e l (omega (arith, same)))
+
+catalog_is : (es : List CatalogEntry) (ls : List Loaded) → length es ≡ length ls → catalog_of (map specification_of (listed es ls)) ≡ es
+catalog_is [] [] same = refl
+catalog_is [] (l ∷ ls) same = absurd (omega (arith, same))
+catalog_is (e ∷ es) [] same = absurd (omega (arith, same))
+catalog_is (e ∷ es) (l ∷ ls) same = ap (λ v. e ∷ v) (catalog_is es ls (omega (arith, same)))
+
+-- the catalog of a library is that of its specifications
+pub its_catalog : (library : Library) → IsCatalogued library → catalog_of (specs_in library) ≡ library.catalog
+its_catalog library h = catalog_is library.catalog library.specs.items h.many
+
+pub length-specs_in : (library : Library) → IsCatalogued library → length (specs_in library) ≡ length library.specs.items
+length-specs_in library h = length-map (listed_in library) specification_of ∙ length-listed library.catalog library.specs.items h.many
+
+-- the library with one specification more
+pub listed_more : (old : Library) (e : CatalogEntry) (l : Loaded) → IsCatalogued old → (items : List Loaded) (entries : List CatalogEntry) → items ≡ old.specs.items ++ l ∷ [] → entries ≡ old.catalog ++ e ∷ [] → listed entries items ≡ listed_in old ++ listing e l ∷ []
+listed_more old e l before items entries specs catalog = (λ i. listed (catalog i) (specs i)) ∙ listed-push old.catalog old.specs.items e l before.many
+
+pub added : (old new : Library) (e : CatalogEntry) (l : Loaded) → IsCatalogued old → new.specs.items ≡ old.specs.items ++ l ∷ [] → new.catalog ≡ old.catalog ++ e ∷ [] → IsWhole (listing e l) → IsCatalogued new
+added old new e l before specs catalog whole = record {
+  many = omega (arith, ap (λ v. length v) catalog, ap (λ v. length v) specs, length_push old.catalog e, length_push old.specs.items l, before.many);
+  kept = subst (All IsWhole) (sym (listed_more old e l before new.specs.items new.catalog specs catalog)) (All-push IsWhole (listed_in old) (listing e l) before.kept whole);
+}
+
+module _ (families : Bool) (bytes : List ℕ) (old : Library) (r : Reading) (read : IsRead bytes r) where
+  -- what was added is admitted
+  pub next_of : (new : Library) → grammar_fault families r.loaded.titles.grammar_line ≡ None → number_of (spec_names (catalog_of (specs_in old))) r.name.now ≡ None
+      → listed_in new ≡ listed_in old ++ listing_of r ∷ [] → IsCatalogued new → HasNext families bytes old new
+  next_of new known unique more catalogued = record {
+    specification = specification_of (listing_of r);
+    admitted = record { said = read.said; sound = not_refused_of families (specs_in old) (specification_of (listing_of r)) known unique };
+    specs = ap (λ v. map specification_of v) more ∙ map-append specification_of (listed_in old) (listing_of r ∷ []);
+    catalogued = catalogued;
+  }
+
+  pub twice_of : (fault : SpecFault) → grammar_fault families r.loaded.titles.grammar_line ≡ None → fault ≡ DuplicateSpec → IsSome (number_of (spec_names (catalog_of (specs_in old))) r.name.now) → IsRefusal families (specs_in old) bytes fault
+  twice_of fault known is twice = refused (specification_of (listing_of r)) read.said (refused_twice families (specs_in old) (specification_of (listing_of r)) known twice ∙ ap (λ f. Some f) (sym is))
+
+  pub grammar_of : (fault : SpecFault) → grammar_fault families r.loaded.titles.grammar_line ≡ Some fault → IsRefusal families (specs_in old) bytes fault
+  grammar_of fault grammar = refused (specification_of (listing_of r)) read.said (rw grammar refl)
+
+nothing_listed : (es : List CatalogEntry) → listed es [] ≡ []
+nothing_listed [] = refl
+nothing_listed (e ∷ es) = refl
+
+pub empty_library : (contents : List ℕ → Option (List ℕ)) (families : Bool) (library : Library) → library.specs.items ≡ [] → IsCatalogued library → IsLibraryOf contents families [] library
+empty_library contents families library none catalogued = record {
+  said = ap (λ v. map specification_of v) (ap (λ v. listed library.catalog v) none ∙ nothing_listed library.catalog);
+  catalogued = catalogued;
+}
+
+-- ---- the loop over the names
+
+module _ {S : Type 0} (make : List ℕ → Source) (g : S → List ℕ) (contents : List ℕ → Option (List ℕ)) (families : Bool) (xs : List S) (i : ℕ) (x : S) (lt : i < length xs) (here : x ≡ get_or xs i x) where
+  pub library_more : (old new : Library) → IsLibraryOf contents families (map make (map g (take i xs))) old → HasNextFrom contents (make (g x)) families old new → IsLibraryOf contents families (map make (map g (take (i + 1) xs))) new
+  library_more old new before h = record {
+    said = subst (λ v. SaySpecifications contents families [] v (specs_in new)) (sym (more_sources make g xs i x lt here))
+        (subst (λ v. SaySpecifications contents families [] (map make (map g (take i xs)) ++ make (g x) ∷ []) v) (sym h.next.specs)
+        (say_more contents families [] (map make (map g (take i xs))) (specs_in old) (make (g x)) h.bytes h.next.specification before.said h.given h.next.admitted));
+    catalogued = h.next.catalogued;
+  }
+
+  pub library_stops : (old : Library) (status : Status) → IsLibraryOf contents families (map make (map g (take i xs))) old → IsNoSpec contents families (specs_in old) (length old.specs.items) (make (g x)) status → StopsSpecs contents families (map make (map g xs)) status
+  library_stops old status before h = record {
+    number = length old.specs.items;
+    source = make (g x);
+    before = specs_in old;
+    reached = record {
+      first = map make (map g (take i xs));
+      rest = map make (map g (drop (i + 1) xs));
+      split = split_sources make g xs i x lt here;
+      numbered = sym (length-specs_in old before.catalogued) ∙ length-said contents families [] (map make (map g (take i xs))) (specs_in old) before.said;
+      read = before.said;
+    };
+    stopped = h;
+  }
+
+-- so many specifications as names
+pub library_length : {S : Type 0} (make : List ℕ → Source) (g : S → List ℕ) (contents : List ℕ → Option (List ℕ)) (families : Bool) (xs : List S) (library : Library) → IsLibraryOf contents families (map make (map g xs)) library → length library.specs.items ≡ length xs
+library_length {S} make g contents families xs library h = sym (length-specs_in library h.catalogued) ∙ length-said contents families [] (map make (map g xs)) (specs_in library) h.said ∙ length-sources make g xs
+
+-- ---- what the catalog answers
+
+never_ok : {V E : Type 0} {v : V} {e : E} → ◌≡◌ {A = Result V E} (Ok v) (Err e) → ⊥
+never_ok e = cc
+
+same_fault : {x y : SpecFault} → Bad x ≡ Bad y → x ≡ y
+same_fault e = cc
+
+never_bad : {x : SpecFault} → Bad x ≡ NoMemory → ⊥
+never_bad e = cc
+
+-- a name that was accepted is new
+pub new_if_ok : {V : Type 0} (o : Option ℕ) (v : V) → (IsSome o → ◌≡◌ {A = Result V SpecError} (Ok v) (Err (Bad DuplicateSpec))) → o ≡ None
+new_if_ok None v h = refl
+new_if_ok (Some k) v h = absurd (never_ok (h refl))
+
+-- one that was refused is there
+pub twice_if_err : {V : Type 0} (o : Option ℕ) (e : SpecError) (fault : SpecFault) → e ≡ Bad fault → (IsSome o → ◌≡◌ {A = Result V SpecError} (Err e) (Err (Bad DuplicateSpec))) → (o ≡ None → e ≡ NoMemory) → (fault ≡ DuplicateSpec) × IsSome o
+twice_if_err None e fault is there none = absurd (never_bad (sym is ∙ none refl))
+twice_if_err (Some k) e fault is there none = (same_fault (sym is ∙ same_err (there refl)), refl)
+
+-- what holds where a call answers, by all that it ensures then
+pub all_ok : {V E : Type 0} (A B C D : Type 0) (r : Result V E) → (A → B → C → D) → OnOk r A → OnOk r B → OnOk r C → OnOk r D
+all_ok A B C D (Ok v) turn a b c = turn a b c
+all_ok A B C D (Err e) turn a b c = tt
+
+-- ---- a turn of the loop, where the folder holds later what it held before
+
+module _ {S : Type 0} (make : List ℕ → Source) (g : S → List ℕ) (contents later : List ℕ → Option (List ℕ)) (same : (name : List ℕ) → later name ≡ contents name) (families : Bool) (xs : List S) (i : ℕ) (x : S) (lt : i < length xs) (here : x ≡ get_or xs i x) (name : List ℕ) (is : name ≡ g x) where
+  held : later ≡ contents
+  held = λ j n. same n j
+
+  pub library_turn : (old new : Library) → IsLibraryOf contents families (map make (map g (take i xs))) old → HasNextFrom later (make name) families old new → IsLibraryOf contents families (map make (map g (take (i + 1) xs))) new
+  library_turn old new before h =
+      library_more make g contents families xs i x lt here old new before
+      (subst (λ (v : List ℕ → Option (List ℕ)). HasNextFrom v (make (g x)) families old new) held (subst (λ n. HasNextFrom later (make n) families old new) is h))
+
+  pub library_ends : (old : Library) (status : Status) → IsLibraryOf contents families (map make (map g (take i xs))) old → IsNoSpec later families (specs_in old) (length old.specs.items) (make name) status → StopsSpecs contents families (map make (map g xs)) status
+  library_ends old status before h =
+      library_stops make g contents families xs i x lt here old status before
+      (subst (λ (v : List ℕ → Option (List ℕ)). IsNoSpec v families (specs_in old) (length old.specs.items) (make (g x)) status) held (subst (λ n. IsNoSpec later families (specs_in old) (length old.specs.items) (make n) status) is h))
+
+-- as many specifications as turns
+pub library_count : {S : Type 0} (make : List ℕ → Source) (g : S → List ℕ) (contents : List ℕ → Option (List ℕ)) (families : Bool) (xs : List S) (i : ℕ) (library : Library) → i ≤ length xs → IsLibraryOf contents families (map make (map g (take i xs))) library → length library.specs.items ≡ i
+library_count {S} make g contents families xs i library le h = library_length make g contents families (take i xs) library h ∙ length-take-le i xs le
+
+pub whole_library : {S : Type 0} (make : List ℕ → Source) (g : S → List ℕ) (contents : List ℕ → Option (List ℕ)) (families : Bool) (xs : List S) (i : ℕ) (library : Library) → length xs ≤ i → IsLibraryOf contents families (map make (map g (take i xs))) library → IsLibraryOf contents families (map make (map g xs)) library
+whole_library {S} make g contents families xs i library all h = subst (λ v. IsLibraryOf contents families (map make (map g v)) library) (take_all i xs all) h

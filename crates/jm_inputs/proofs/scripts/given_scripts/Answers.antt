@@ -1,0 +1,37 @@
+use Rattle.std.proofs.Common.{None, length, refl, arith}
+use Rattle.std.proofs.lemmas.Result.{err_from_is_err_and}
+use Rattle.jm_inputs.specs.Sources.{Given}
+use Rattle.jm_inputs.specs.Reading.{specs_in}
+use Rattle.jm_inputs.proofs.JobLemmas.{script_from}
+use Rattle.jm_inputs.proofs.ScriptLemmas.{no_scripts, scripts_turn, scripts_end, scripts_count, whole_scripts}
+use Rattle.jm_inputs.proofs.scripts.given_scripts.Goals as goal
+
+pub loop-file-init : goal.loop-file-init
+loop-file-init c = λ contents. no_scripts contents (specs_in c.args.library.now) c.new-scripts.result c.new-scripts.ensures.list c.new-scripts.ensures.objects (c.new-scripts.ensures.counted (specs_in c.args.library.now))
+
+pub read_given-requires-clause-few : goal.read_given-requires-clause-few
+read_given-requires-clause-few c =
+    let many = scripts_count (λ b. Given b) (λ file. file.items) (λ name. None) (specs_in c.args.library.now) c.args.files.now c.loop-file.file-index c.loop-file.scripts (omega arith) (c.loop-file.invariant (λ name. None)) in
+    omega (arith, many, c.requires.few, c.loop-file-test.true)
+
+pub read_given-requires-clause-counted : goal.read_given-requires-clause-counted
+read_given-requires-clause-counted c = (c.loop-file.invariant (λ name. None)).counted
+
+pub returns-in_err-read_given-clause-err : goal.returns-in_err-read_given-clause-err
+returns-in_err-read_given-clause-err c = λ contents.
+    let p = err_from_is_err_and c.from_residual.result c.from_residual.ensures.1 in
+    let bytes = c.as_slice.result.now in
+    let specs = specs_in c.args.library.now in
+    let files = length c.args.library.now.specs.items in
+    let old = c.loop-file.scripts in
+    rw (p.1, p.2) (scripts_end (λ b. Given b) (λ file. file.items) contents contents (λ name. refl) specs files c.args.files.now c.loop-file.file-index c.file-item.result c.loop-file-test.true c.file-item.is bytes c.as_slice.ensures.value
+    old _ (c.loop-file.invariant contents)
+    (script_from contents specs files old.count old.objects (length old.list.items) (Given bytes) bytes refl _ c.in_err-read_given.ensures.err))
+
+pub loop-file-preserved : goal.loop-file-preserved
+loop-file-preserved c = λ contents.
+    scripts_turn (λ b. Given b) (λ file. file.items) contents contents (λ name. refl) (specs_in c.args.library.now) (length c.args.library.now.specs.items) c.args.files.now c.loop-file.file-index c.file-item.result c.loop-file-test.true c.file-item.is c.as_slice.result.now c.as_slice.ensures.value
+    c.loop-file.scripts _ (c.loop-file.invariant contents) (record { bytes = c.as_slice.result.now; given = refl; next = c.in_ok-read_given.ensures.read })
+
+pub returns-clause-read : goal.returns-clause-read
+returns-clause-read c = λ contents. whole_scripts (λ b. Given b) (λ file. file.items) contents (specs_in c.args.library.now) c.args.files.now c.loop-file.file-index c.loop-file.scripts c.loop-file-test.false (c.loop-file.invariant contents)

@@ -1,0 +1,40 @@
+use Rattle.std.proofs.Common.{◌∙◌, length, sym, ap, Err, arith}
+use Rattle.std.specs.Prelude.{string_bytes}
+use Rattle.std.proofs.lemmas.Result.{err_from_is_err_and}
+use Rattle.jm_inputs.specs.Sources.{Named}
+use Rattle.jm_inputs.specs.Reading.{specs_in}
+use Rattle.jm_inputs.proofs.OneReadingLemmas.{same_err}
+use Rattle.jm_inputs.proofs.JobLemmas.{risen_before}
+use Rattle.jm_inputs.proofs.ScriptLemmas.{scripts_turn, scripts_end, scripts_count, whole_scripts}
+use Rattle.jm_inputs.proofs.scripts.read_scripts.Goals as goal
+
+pub read_next-requires-clause-few : goal.read_next-requires-clause-few
+read_next-requires-clause-few g c =
+    let many = scripts_count (λ n. Named n) string_bytes (g.F.Folder.holds c.args.files.now) (specs_in c.args.library.now) c.args.names.now c.loop-name.name-index c.loop-name.scripts (omega arith) c.loop-name.invariant.read in
+    omega (arith, many, c.requires.few, c.loop-name-test.true)
+
+pub read_next-requires-clause-counted : goal.read_next-requires-clause-counted
+read_next-requires-clause-counted g c = c.loop-name.invariant.read.counted
+
+pub returns-in_err-read_next-clause-err : goal.returns-in_err-read_next-clause-err
+returns-in_err-read_next-clause-err g c =
+    let p = err_from_is_err_and c.from_residual.result c.from_residual.ensures.1 in
+    rw (p.1, p.2) (scripts_end (λ n. Named n) string_bytes (g.F.Folder.holds c.args.files.now) (g.F.Folder.holds c.loop-name.files) c.loop-name.invariant.same (specs_in c.args.library.now) (length c.args.library.now.specs.items) c.args.names.now c.loop-name.name-index c.name-item.result c.loop-name-test.true c.name-item.is c.as_str.result.now c.as_str.ensures.value
+    c.loop-name.scripts _ c.loop-name.invariant.read c.in_err-read_next.ensures.err)
+
+pub returns-in_err-read_next-clause-read_failed : goal.returns-in_err-read_next-clause-read_failed
+returns-in_err-read_next-clause-read_failed g c = λ file is.
+    let p = err_from_is_err_and c.from_residual.result c.from_residual.ensures.1 in
+    let same = same_err (sym p.1 ∙ is) in
+    risen_before c.loop-name.invariant.never_falls (c.in_err-read_next.ensures.read_failed file (ap (λ e. Err e) (sym p.2 ∙ same)))
+
+pub loop-name-preserved : goal.loop-name-preserved
+loop-name-preserved g c = record {
+  read = scripts_turn (λ n. Named n) string_bytes (g.F.Folder.holds c.args.files.now) (g.F.Folder.holds c.loop-name.files) c.loop-name.invariant.same (specs_in c.args.library.now) (length c.args.library.now.specs.items) c.args.names.now c.loop-name.name-index c.name-item.result c.loop-name-test.true c.name-item.is c.as_str.result.now c.as_str.ensures.value
+      c.loop-name.scripts _ c.loop-name.invariant.read c.in_ok-read_next.ensures.read;
+  never_falls = omega (arith, c.loop-name.invariant.never_falls, c.read_next.ensures.never_falls);
+  same = λ other. c.read_next.ensures.same other ∙ c.loop-name.invariant.same other;
+}
+
+pub returns-clause-read : goal.returns-clause-read
+returns-clause-read g c = whole_scripts (λ n. Named n) string_bytes (g.F.Folder.holds c.args.files.now) (specs_in c.args.library.now) c.args.names.now c.loop-name.name-index c.loop-name.scripts c.loop-name-test.false c.loop-name.invariant.read

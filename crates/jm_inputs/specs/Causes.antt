@@ -1,0 +1,124 @@
+-- Why the work of a command ends before its text is written.
+use Rattle.std.specs.Prelude.{ℕ, ◌+◌, ◌≡◌, ◌<◌, ◌⊎◌, Bool, false, List, [], ◌∷◌, length, Result, Err, IfSome}
+use Rattle.jm_model.specs.Words.{Text}
+use Rattle.jm_port.specs.Faults.{HasRisen}
+use Rattle.jm_script.specs.declared.script.ScriptLine.{ScriptLine}
+use Rattle.jm_inputs.specs.declared.status.Status.{Status}
+use Rattle.jm_inputs.specs.declared.status.Status.TheVariants.{Done, BadSpec, BadScript, ReadFailed, WriteFailed, NoMemory}
+use Rattle.jm_inputs.specs.Sources.{FileContents, Source, Named, IsFile, Gives}
+use Rattle.jm_inputs.specs.Specifications.{Specification, most_bytes}
+use Rattle.jm_inputs.specs.Scripts.{IsScriptFault}
+use Rattle.jm_inputs.specs.Inputs.{IsRefusal, SaySpecifications, AreReadUpTo, step_count, AreScriptsUpTo}
+use Rattle.jm_cli.specs.Words.{CommandWords}
+use Rattle.jm_cli.specs.Words.CommandWords.{Sweep}
+use Rattle.jm_inputs.specs.Commands.{named, spec_sources, script_sources, reads_recording, needs_families}
+use Rattle.jm_inputs.specs.Recordings.{IsRecordingFault}
+
+-- where it answers that a read failed, a fault was counted meanwhile
+abbrev pub CountsFailedReads : {T : Type 0} → Result T Status → ℕ → ℕ → Type 0
+CountsFailedReads result before after = (file : ℕ) → result ≡ Err (ReadFailed file) → HasRisen before after
+
+-- a status that comes before anything is written
+abbrev pub IsBeforeWriting : Status → Type 0
+IsBeforeWriting Done = ⊥
+IsBeforeWriting WriteFailed = ⊥
+IsBeforeWriting _ = Unit {0}
+
+-- a status that tells a fault of a specification or a script
+abbrev pub IsFaulty : Status → Type 0
+IsFaulty (BadSpec file fault) = Unit {0}
+IsFaulty (BadScript script fault) = Unit {0}
+IsFaulty _ = ⊥
+
+-- the file of this name, which has this number, wasn't loaded: it couldn't be read, memory was short, or it is too
+-- long, which ends a command with this status
+abbrev pub IsNotLoaded : FileContents → Text → ℕ → Status → Status → Type 0
+IsNotLoaded contents name number too_long (ReadFailed file) = file ≡ number
+IsNotLoaded contents name number too_long NoMemory = Unit {0}
+IsNotLoaded contents name number too_long status =
+    (status ≡ too_long) × IfSome (contents name) (λ held. most_bytes < length held)
+
+-- these bytes, which have this number, say no specification behind these
+abbrev pub IsNoSpecIn : Bool → List Specification → ℕ → Text → Status → Type 0
+IsNoSpecIn families before number bytes (BadSpec file fault) = (file ≡ number) × IsRefusal families before bytes fault
+IsNoSpecIn families before number bytes NoMemory = Unit {0}
+IsNoSpecIn families before number bytes _ = ⊥
+
+-- these bytes, which have this number, say no script behind others with so many steps and these names of objects
+abbrev pub IsNoScriptIn : List Specification → ℕ → List Text → ℕ → Text → Status → Type 0
+IsNoScriptIn specs count names number bytes (BadScript script fault) =
+    (script ≡ number) × IsScriptFault specs count names bytes fault
+IsNoScriptIn specs count names number bytes NoMemory = Unit {0}
+IsNoScriptIn specs count names number bytes _ = ⊥
+
+module _ (contents : FileContents) where
+  -- this source, which has this number, gives no specification behind these
+  abbrev pub IsNoSpec : Bool → List Specification → ℕ → Source → Status → Type 0
+  IsNoSpec families before number source (BadSpec file fault) =
+      (file ≡ number) × ((bytes : Text) × Gives contents source bytes × IsRefusal families before bytes fault)
+  IsNoSpec families before number source (ReadFailed file) = (file ≡ number) × IsFile source
+  IsNoSpec families before number source NoMemory = Unit {0}
+  IsNoSpec families before number source _ = ⊥
+
+  -- one of the sources, of which the ones before it say specifications, gives none
+  pub record StopsSpecs (families : Bool) (sources : List Source) (status : Status) : Type 0 where
+    pub number : ℕ
+    pub source : Source
+    pub before : List Specification
+    pub reached : AreReadUpTo contents families sources number source before
+    pub stopped : IsNoSpec families before number source status
+
+  -- this source, which has this number, gives no script behind these; so many files are before the scripts
+  abbrev pub IsNoScript : List Specification → ℕ → ℕ → List Text → ℕ → Source → Status → Type 0
+  IsNoScript specs files count names number source (BadScript script fault) =
+      (script ≡ number) × ((bytes : Text) × Gives contents source bytes × IsScriptFault specs count names bytes fault)
+  IsNoScript specs files count names number source (ReadFailed file) = (file ≡ files + number) × IsFile source
+  IsNoScript specs files count names number source NoMemory = Unit {0}
+  IsNoScript specs files count names number source _ = ⊥
+
+  -- one of the sources, of which the ones before it say scripts, gives none
+  pub record StopsScripts (specs : List Specification) (files : ℕ) (sources : List Source)
+      (status : Status) : Type 0 where
+    pub number : ℕ
+    pub source : Source
+    pub before : List (List ScriptLine)
+    pub names : List Text
+    pub reached : AreScriptsUpTo contents specs sources number source before names
+    pub stopped : IsNoScript specs files (step_count before) names number source status
+
+-- these bytes are no recording over these specifications
+abbrev pub IsNoRecordingIn : List Specification → Text → Status → Type 0
+IsNoRecordingIn specs bytes (BadScript part fault) = IsRecordingFault specs bytes part fault
+IsNoRecordingIn specs bytes NoMemory = Unit {0}
+IsNoRecordingIn specs bytes _ = ⊥
+
+-- the file of this name, which is the second one of its command, is none
+abbrev pub IsNoRecording : FileContents → List Specification → Text → Status → Type 0
+IsNoRecording contents specs name (BadScript part fault) =
+    (bytes : Text) × Gives contents (Named name) bytes × IsRecordingFault specs bytes part fault
+IsNoRecording contents specs name (ReadFailed file) = file ≡ 1
+IsNoRecording contents specs name NoMemory = Unit {0}
+IsNoRecording contents specs name _ = ⊥
+
+-- why specifications from some sources, and scripts from others, aren't read
+abbrev pub StopsInputs : FileContents → List Source → List Source → Status → Type 0
+StopsInputs contents specs scripts status =
+    StopsSpecs contents false specs status
+    ⊎ ((said : List Specification) × SaySpecifications contents false [] specs said
+    × StopsScripts contents said (length specs) scripts status)
+
+-- why a command ends before its text is written
+pub data StopsCommand (contents : FileContents) (command : CommandWords) : Status → Type 0 where
+  short : StopsCommand contents command NoMemory
+  at_spec : (status : Status) → StopsSpecs contents (needs_families command) (spec_sources command) status
+      → StopsCommand contents command status
+  at_script : (specs : List Specification) (status : Status)
+      → SaySpecifications contents (needs_families command) [] (spec_sources command) specs
+      → StopsScripts contents specs (length (spec_sources command)) (script_sources command) status
+      → reads_recording command ≡ false
+      → StopsCommand contents command status
+  at_recording : (spec recording : Text) (specs : List Specification) (status : Status)
+      → command ≡ Sweep spec recording
+      → SaySpecifications contents false [] (named (spec ∷ [])) specs
+      → IsNoRecording contents specs recording status
+      → StopsCommand contents command status

@@ -1,0 +1,82 @@
+-- What the files of a command say, one behind the other.
+use Rattle.std.specs.Prelude.{ℕ, ◌+◌, ◌≡◌, Bool, List, [], ◌∷◌, ◌++◌, length, Option, Some, None, option_map, if◌then◌else◌}
+use Rattle.jm_model.specs.Words.{Text}
+use Rattle.jm_model.specs.declared.fault.SpecFault.{SpecFault}
+use Rattle.jm_model.specs.declared.fault.SpecFault.TheVariants.{UnsupportedLogic, DuplicateSpec}
+use Rattle.jm_events.specs.Names.{number_of}
+use Rattle.jm_reading.specs.Faults.{or_else}
+use Rattle.jm_script.specs.declared.script.ScriptLine.{ScriptLine}
+use Rattle.jm_script.specs.Catalogs.{spec_names}
+use Rattle.jm_inputs.specs.Sources.{FileContents, Source, Gives}
+use Rattle.jm_inputs.specs.Specifications.{Specification, IsSpecification, IsSpecFault}
+use Rattle.jm_inputs.specs.Scripts.{catalog_of, IsScript}
+
+-- ---- specifications
+
+-- where families are asked for, the first grammar, whose word stands in this line
+abbrev pub grammar_fault : Bool → Option ℕ → Option SpecFault
+grammar_fault families line = if families then option_map (λ l. UnsupportedLogic l) line else None
+
+-- Why a specification is refused though its bytes have no fault: families are asked for, and one of its properties is a
+-- grammar; or one before it has its name.
+abbrev pub refusal_of : Bool → List Specification → Specification → Option SpecFault
+refusal_of families before s =
+    or_else (grammar_fault families s.grammar_line)
+    (option_map (λ earlier. DuplicateSpec) (number_of (spec_names (catalog_of before)) s.name))
+
+-- the bytes say this specification, and it isn't refused behind these
+pub record IsAdmitted (families : Bool) (before : List Specification) (bytes : Text)
+    (s : Specification) : Type 0 where
+  pub said : IsSpecification bytes s
+  pub sound : refusal_of families before s ≡ None
+
+-- this is what is wrong with the bytes, or with the specification that they say, behind these
+pub data IsRefusal (families : Bool) (before : List Specification) (bytes : Text) (fault : SpecFault) : Type 0 where
+  faulty : IsSpecFault bytes fault → IsRefusal families before bytes fault
+  refused : (s : Specification) → IsSpecification bytes s → refusal_of families before s ≡ Some fault
+      → IsRefusal families before bytes fault
+
+module _ (contents : FileContents) (families : Bool) where
+  -- the sources say these specifications, in order, behind those that were read before
+  abbrev pub SaySpecifications : List Specification → List Source → List Specification → Type 0
+  SaySpecifications before [] specs = specs ≡ []
+  SaySpecifications before (source ∷ sources) specs =
+      (bytes : Text) × (s : Specification) × (more : List Specification) × (specs ≡ s ∷ more)
+      × Gives contents source bytes × IsAdmitted families before bytes s
+      × SaySpecifications (before ++ s ∷ []) sources more
+
+  -- this source has this number among the sources, and those before it say these specifications
+  pub record AreReadUpTo (sources : List Source) (number : ℕ) (source : Source)
+      (specs : List Specification) : Type 0 where
+    pub first : List Source
+    pub rest : List Source
+    pub split : sources ≡ first ++ source ∷ rest
+    pub numbered : number ≡ length first
+    pub read : SaySpecifications [] first specs
+
+-- ---- scripts
+
+-- how many steps scripts have
+abbrev pub step_count : List (List ScriptLine) → ℕ
+step_count [] = 0
+step_count (script ∷ scripts) = length script + step_count scripts
+
+module _ (contents : FileContents) (specs : List Specification) where
+  -- the sources say these scripts, in order, behind so many steps and with these names of objects; and the names in the
+  -- end
+  abbrev pub SayScripts : ℕ → List Text → List Source → List (List ScriptLine) → List Text → Type 0
+  SayScripts count names [] scripts objects = (scripts ≡ []) × (objects ≡ names)
+  SayScripts count names (source ∷ sources) scripts objects =
+      (bytes : Text) × (script : List ScriptLine) × (more : List (List ScriptLine)) × (later : List Text)
+      × (scripts ≡ script ∷ more)
+      × Gives contents source bytes × IsScript specs count names bytes script later
+      × SayScripts (count + length script) later sources more objects
+
+  -- this source has this number among the sources, and those before it say these scripts, with these names of objects
+  pub record AreScriptsUpTo (sources : List Source) (number : ℕ) (source : Source)
+      (scripts : List (List ScriptLine)) (objects : List Text) : Type 0 where
+    pub first : List Source
+    pub rest : List Source
+    pub split : sources ≡ first ++ source ∷ rest
+    pub numbered : number ≡ length first
+    pub read : SayScripts 0 [] first scripts objects

@@ -1,0 +1,99 @@
+-- What a command is to do, by its words and the contents of its files.
+use Rattle.std.specs.Prelude.{ℕ, ◌+◌, ◌≡◌, false, List, [], ◌∷◌, length, Some, None}
+use Rattle.jm_model.specs.Words.{Text}
+use Rattle.jm_model.specs.declared.fault.SpecFault.{SpecFault}
+use Rattle.jm_model.specs.declared.fault.ScriptFault.{ScriptFault}
+use Rattle.jm_script.specs.declared.script.ScriptLine.{ScriptLine}
+use Rattle.jm_cli.specs.Words.{CommandWords, command_of}
+use Rattle.jm_cli.specs.Words.CommandWords.{Sweep}
+use Rattle.jm_inputs.specs.declared.status.Status.{Status}
+use Rattle.jm_inputs.specs.declared.status.Status.TheVariants.{Usage, BadSpec, BadScript, ReadFailed}
+use Rattle.jm_inputs.specs.Sources.{FileContents, Source, Named, IsFile, Gives, AllTold}
+use Rattle.jm_inputs.specs.Commands.{named, spec_sources, script_sources, reads_recording, needs_families}
+use Rattle.jm_inputs.specs.Specifications.{Specification}
+use Rattle.jm_inputs.specs.Scripts.{IsScriptFault}
+use Rattle.jm_inputs.specs.Recordings.{RecordedPart, IsRecording, IsRecordingFault}
+use Rattle.jm_inputs.specs.Inputs.{IsRefusal, SaySpecifications, AreReadUpTo, step_count, SayScripts, AreScriptsUpTo}
+
+-- either the command is refused, or it is done over these specifications and scripts, by these names of objects; or
+-- over these specifications and the parts of a recording
+pub data Job : Type 0 where
+  Refused : (status : Status) → Job
+  Accepted : (command : CommandWords) (specs : List Specification) (scripts : List (List ScriptLine))
+      (objects : List Text) → Job
+  AcceptedParts : (specs : List Specification) (parts : List RecordedPart) → Job
+
+-- the job has no fault
+abbrev pub IsSound : Job → Type 0
+IsSound (Refused status) = ⊥
+IsSound _ = Unit {0}
+
+module _ (words : List Text) (contents : FileContents) where
+  -- The job: the first fault in the order of the work, which is the words, each specification in order, each script or
+  -- each part of the recording in order; or, where there is none, what was read.
+  pub data IsJob : Job → Type 0 where
+    no_command : command_of words ≡ None → IsJob (Refused Usage)
+    bad_spec : (command : CommandWords) (number : ℕ) (source : Source) (before : List Specification) (bytes : Text)
+        (fault : SpecFault)
+        → command_of words ≡ Some command
+        → AreReadUpTo contents (needs_families command) (spec_sources command) number source before
+        → Gives contents source bytes
+        → IsRefusal (needs_families command) before bytes fault
+        → IsJob (Refused (BadSpec number fault))
+    bad_script : (command : CommandWords) (specs : List Specification) (number : ℕ) (source : Source)
+        (before : List (List ScriptLine)) (names : List Text) (bytes : Text) (fault : ScriptFault)
+        → command_of words ≡ Some command
+        → SaySpecifications contents (needs_families command) [] (spec_sources command) specs
+        → AreScriptsUpTo contents specs (script_sources command) number source before names
+        → Gives contents source bytes
+        → IsScriptFault specs (step_count before) names bytes fault
+        → reads_recording command ≡ false
+        → IsJob (Refused (BadScript number fault))
+    accepted : (command : CommandWords) (specs : List Specification) (scripts : List (List ScriptLine))
+        (objects : List Text)
+        → command_of words ≡ Some command
+        → SaySpecifications contents (needs_families command) [] (spec_sources command) specs
+        → SayScripts contents specs 0 [] (script_sources command) scripts objects
+        → reads_recording command ≡ false
+        → IsJob (Accepted command specs scripts objects)
+    bad_part : (spec recording : Text) (specs : List Specification) (bytes : Text) (number : ℕ) (fault : ScriptFault)
+        → command_of words ≡ Some (Sweep spec recording)
+        → SaySpecifications contents false [] (named (spec ∷ [])) specs
+        → Gives contents (Named recording) bytes
+        → IsRecordingFault specs bytes number fault
+        → IsJob (Refused (BadScript number fault))
+    accepted_parts : (spec recording : Text) (specs : List Specification) (bytes : Text) (parts : List RecordedPart)
+        → command_of words ≡ Some (Sweep spec recording)
+        → SaySpecifications contents false [] (named (spec ∷ [])) specs
+        → Gives contents (Named recording) bytes
+        → IsRecording specs bytes parts
+        → IsJob (AcceptedParts specs parts)
+
+  -- nothing has a fault that comes before the file of this number is loaded: files are counted in the order of the
+  -- words
+  pub data ReachesFile : ℕ → Type 0 where
+    spec_file : (command : CommandWords) (number : ℕ) (file : Source) (before : List Specification)
+        → command_of words ≡ Some command
+        → AreReadUpTo contents (needs_families command) (spec_sources command) number file before
+        → IsFile file
+        → ReachesFile number
+    script_file : (command : CommandWords) (specs : List Specification) (number : ℕ) (file : Source)
+        (before : List (List ScriptLine)) (names : List Text)
+        → command_of words ≡ Some command
+        → SaySpecifications contents (needs_families command) [] (spec_sources command) specs
+        → AreScriptsUpTo contents specs (script_sources command) number file before names
+        → IsFile file
+        → ReachesFile (length (spec_sources command) + number)
+
+  -- a command that was refused is one that its job refuses so
+  abbrev pub IsCaused : Status → Type 0
+  IsCaused Usage = IsJob (Refused Usage)
+  IsCaused (BadSpec file fault) = IsJob (Refused (BadSpec file fault))
+  IsCaused (BadScript script fault) = IsJob (Refused (BadScript script fault))
+  IsCaused (ReadFailed file) = ReachesFile file
+  IsCaused _ = Unit {0}
+
+  -- it is told what the files of the command hold
+  abbrev pub AreTold : Type 0
+  AreTold = (command : CommandWords) → command_of words ≡ Some command → AllTold contents (spec_sources command)
+      × AllTold contents (script_sources command)

@@ -1,0 +1,10 @@
+pub mod Statuses
+pub mod Sources
+pub mod Commands
+pub mod Specifications
+pub mod Scripts
+pub mod Inputs
+pub mod Recordings
+pub mod Jobs
+pub mod Causes
+pub mod Reading

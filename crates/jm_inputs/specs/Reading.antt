@@ -1,0 +1,140 @@
+-- What the calls that read specifications answer.
+use Rattle.std.specs.Prelude.{◌≡◌, ◌<◌, ◌≤◌, ◌^◌, Bool, false, List, [], ◌∷◌, ◌++◌, length, map, All}
+use Rattle.jm_model.specs.Words.{Text}
+use Rattle.jm_script.specs.declared.script.ScriptLine.{ScriptLine}
+use Rattle.jm_script.specs.Catalogs.{CatalogEntry}
+use Rattle.jm_script.specs.Fitting.{FitsCatalog}
+use Rattle.jm_events.specs.Events.{EventDefinitions}
+use Rattle.jm_machine.specs.Meanings.{RuleDefinition, handler_count}
+use Rattle.jm_machine.specs.RuleSets.{CompiledRules}
+use Rattle.jm_inputs.specs.declared.specification.Titles.{Titles}
+use Rattle.jm_inputs.specs.declared.specification.Loaded.{Loaded}
+use Rattle.jm_inputs.specs.declared.specification.Reading.{Reading}
+use Rattle.jm_inputs.specs.declared.library.Library.{Library}
+use Rattle.jm_inputs.specs.declared.scripts.Scripts.{Scripts}
+use Rattle.jm_inputs.specs.declared.inputs.Inputs.{Inputs}
+use Rattle.jm_inputs.specs.Sources.{FileContents, Source, Gives}
+use Rattle.jm_inputs.specs.Specifications.{Specification, IsSpecification}
+use Rattle.jm_inputs.specs.Scripts.{catalog_of, IsScript}
+use Rattle.jm_inputs.specs.Inputs.{IsAdmitted, SaySpecifications, step_count, SayScripts}
+
+-- ---- specifications
+
+-- what is kept of a specification: what its catalog has, its titles and its rules
+pub record Listed : Type 0 where
+  pub entry : CatalogEntry
+  pub titles : Titles
+  pub rules : CompiledRules
+
+-- what is kept under this entry
+abbrev pub listing : CatalogEntry → Loaded → Listed
+listing e l = record { entry = e; titles = l.titles; rules = l.rules }
+
+-- each is kept under the entry of its place
+abbrev pub listed : List CatalogEntry → List Loaded → List Listed
+listed (e ∷ es) (l ∷ ls) = listing e l ∷ listed es ls
+listed _ _ = []
+
+-- the entry of this name, parameters and events
+abbrev pub named_entry : Text → EventDefinitions → CatalogEntry
+named_entry name table = record { name = name; table = table }
+
+-- what was read
+abbrev pub listing_of : Reading → Listed
+listing_of r = listing (named_entry r.name.now r.table) r.loaded
+
+-- the specification of this entry, with these titles and rules
+abbrev pub titled : CatalogEntry → Titles → RuleDefinition → Specification
+titled entry titles rules = record {
+  name = entry.name;
+  table = entry.table;
+  logics = titles.logics.items;
+  grammar_line = titles.grammar_line;
+  full_binding = titles.full_binding;
+  rules = rules;
+  texts = titles.texts.items;
+}
+
+-- the specification that is kept
+abbrev pub specification_of : Listed → Specification
+specification_of l = titled l.entry l.titles l.rules.definition
+
+-- the letters of the rules are the events of the entry, whose sets of parameters are there; and few are handled
+pub record AreRulesOf (entry : CatalogEntry) (rules : RuleDefinition) : Type 0 where
+  pub masks : rules.masks ≡ map (λ e. e.mask) entry.table.events
+  pub fit : All (λ mask. mask < 2 ^ length entry.table.parameters) rules.masks
+  pub few : handler_count rules.properties ≤ 16
+
+abbrev pub IsWhole : Listed → Type 0
+IsWhole l = AreRulesOf l.entry l.rules.definition
+
+-- the bytes say the specification that is kept
+pub record IsRead (bytes : Text) (r : Reading) : Type 0 where
+  pub said : IsSpecification bytes (specification_of (listing_of r))
+  pub kept : IsWhole (listing_of r)
+
+-- the specifications of a library
+abbrev pub listed_in : Library → List Listed
+listed_in library = listed library.catalog library.specs.items
+
+abbrev pub specs_in : Library → List Specification
+specs_in library = map specification_of (listed_in library)
+
+-- the catalog has an entry for each specification, and each is kept whole
+pub record IsCatalogued (library : Library) : Type 0 where
+  pub many : length library.catalog ≡ length library.specs.items
+  pub kept : All IsWhole (listed_in library)
+
+-- the library has one specification more, which these bytes say
+pub record HasNext (families : Bool) (bytes : Text) (old new : Library) : Type 0 where
+  pub specification : Specification
+  pub admitted : IsAdmitted families (specs_in old) bytes specification
+  pub specs : specs_in new ≡ specs_in old ++ specification ∷ []
+  pub catalogued : IsCatalogued new
+
+-- which a file of this name says
+pub record HasNextFrom (contents : FileContents) (source : Source) (families : Bool) (old new : Library) : Type 0 where
+  pub bytes : Text
+  pub given : Gives contents source bytes
+  pub next : HasNext families bytes old new
+
+-- the library has what the sources say
+pub record IsLibraryOf (contents : FileContents) (families : Bool) (sources : List Source)
+    (library : Library) : Type 0 where
+  pub said : SaySpecifications contents families [] sources (specs_in library)
+  pub catalogued : IsCatalogued library
+
+-- ---- scripts
+
+-- each script fits the specifications and the names of objects; the counts are those of what was read, and within their
+-- limits
+pub record AreCounted (specs : List Specification) (s : Scripts) : Type 0 where
+  pub fit : All (FitsCatalog (catalog_of specs) (length s.objects)) s.list.items
+  pub counted : s.count ≡ step_count s.list.items
+  pub few_steps : s.count ≤ 200000
+  pub few_names : length s.objects ≤ 65536
+
+-- there is one script more, which these bytes say
+pub record HasScript (specs : List Specification) (bytes : Text) (old new : Scripts) : Type 0 where
+  pub script : List ScriptLine
+  pub said : IsScript specs old.count old.objects bytes script new.objects
+  pub scripts : new.list.items ≡ old.list.items ++ script ∷ []
+  pub counted : AreCounted specs new
+
+-- which a file of this name says
+pub record HasScriptFrom (contents : FileContents) (source : Source) (specs : List Specification)
+    (old new : Scripts) : Type 0 where
+  pub bytes : Text
+  pub given : Gives contents source bytes
+  pub next : HasScript specs bytes old new
+
+-- the scripts are what the sources say
+pub record AreScriptsOf (contents : FileContents) (specs : List Specification) (sources : List Source)
+    (s : Scripts) : Type 0 where
+  pub said : SayScripts contents specs 0 [] sources s.list.items s.objects
+  pub counted : AreCounted specs s
+
+-- what was read is what these sources of specifications and of scripts say
+pub record AreInputsOf (contents : FileContents) (specs scripts : List Source) (inputs : Inputs) : Type 0 where
+  pub library : IsLibraryOf contents false specs inputs.library
+  pub read : AreScriptsOf contents (specs_in inputs.library) scripts inputs.scripts

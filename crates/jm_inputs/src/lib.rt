@@ -1,0 +1,31 @@
+//! What a command reads: its specifications and scripts, from the bytes of files to rules that run and steps to do.
+//!
+//! What a command is to do stands in `specs`, apart from how it is done: `Jobs.antt` says what its words and the
+//! contents of its files ask for or which fault is the first, `Inputs.antt` what files say one behind the other, and
+//! `Causes.antt` why a command ends before its text is written.
+//!
+//! | Module | What it has |
+//! |---|---|
+//! | `status` | how a command ends |
+//! | `files` | the bytes of a file |
+//! | `library`, `specification` | specifications, read one behind the other |
+//! | `scripts` | scripts, read one behind the other |
+//! | `inputs` | the specifications and scripts of a command, loaded or made |
+//! | `laws` | what holds of all files |
+#![tactic(auto)]
+
+mod files;
+mod inputs;
+mod laws;
+mod library;
+mod scripts;
+mod specification;
+mod status;
+
+pub use files::load;
+pub use inputs::{Inputs, read_inputs, read_workload};
+pub use laws::one_reading;
+pub use library::{Library, read_specifications};
+pub use scripts::{Scripts, too_long};
+pub use specification::{Loaded, Titles};
+pub use status::Status;

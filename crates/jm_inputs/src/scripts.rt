@@ -1,0 +1,198 @@
+//! The scripts of a command, read one behind the other.
+ghost use Rattle.std.specs.Prelude.{◌≡◌, ◌+◌, ◌<◌, ◌≤◌, [], ℕ, List, length, map, IfOk, IfErr, OnOk, string_bytes};
+ghost use Rattle.jm_model.specs.declared.fault.ScriptFault.{ScriptFault};
+ghost use Rattle.jm_inputs.specs.Commands.{named, given_files};
+ghost use Rattle.jm_inputs.specs.Sources.{FileContents, Named};
+ghost use Rattle.jm_inputs.specs.Specifications.{Specification, most_bytes};
+ghost use Rattle.jm_inputs.specs.Scripts.{IsScriptFault};
+ghost use Rattle.jm_inputs.specs.Reading.{specs_in, IsCatalogued, AreCounted, HasScript, HasScriptFrom, AreScriptsOf};
+ghost use Rattle.jm_inputs.specs.Causes.{CountsFailedReads, IsNoScript, IsNoScriptIn, StopsScripts};
+
+use crate::files::load;
+use crate::library::Library;
+use crate::status::{MOST_BYTES, Status};
+use jm_events::Names;
+use jm_model::{ScriptError, ScriptFault};
+use jm_port::Folder;
+use jm_script::{Script, read_script};
+use std::alloc::Global;
+
+/// Scripts in order, the names of their objects, and how many steps they have.
+#[derive(Drop)]
+pub struct Scripts {
+    pub list: Vec<Script>,
+    pub objects: Names,
+    pub count: u32,
+}
+
+impl Scripts {
+    /// No script.
+    pub(crate) fn new(alloc: Global) -> Scripts
+        ensures list { result.list.items ≡ [] }
+        ensures objects { result.objects ≡ [] }
+        ensures count { result.count ≡ 0 }
+        ensures counted { (specs : List Specification) → AreCounted specs result }
+    {
+        Scripts {
+            list: Vec::new(alloc),
+            objects: Names::new(alloc),
+            count: 0,
+        }
+    }
+}
+
+/// Reads the scripts of these names, in order, over the specifications of the library, whose files stand before them.
+pub(crate) fn read_scripts<F: Folder>(
+    alloc: Global,
+    names: &[String],
+    library: &Library,
+    files: &mut F,
+) -> Result<Scripts, Status>
+    requires few { length names.now ≤ 16 }
+    requires few_specs { length library.now.specs.items ≤ 16 }
+    requires catalogued { IsCatalogued library.now }
+    ensures read { IfOk result (AreScriptsOf (F.holds files.old) (specs_in library.now)
+        (named (map string_bytes names.now))) }
+    ensures err { IfErr result (StopsScripts (F.holds files.old) (specs_in library.now) (length library.now.specs.items)
+        (named (map string_bytes names.now))) }
+    ensures read_failed { CountsFailedReads result (F.faults files.old) (F.faults files.new) }
+{
+    let mut scripts = Scripts::new(alloc);
+    for name in names {
+        read_next(alloc, name.as_str(), library, files, &mut scripts)?;
+    }
+    Ok(scripts)
+}
+
+/// Reads the scripts that these bytes say, in order, over the specifications of the library.
+pub(crate) fn given_scripts(
+    alloc: Global,
+    files: &[Vec<u8>],
+    library: &Library,
+) -> Result<Scripts, Status>
+    requires few { length files.now ≤ 16 }
+    requires catalogued { IsCatalogued library.now }
+    ensures read { (contents : FileContents)
+        → IfOk result (AreScriptsOf contents (specs_in library.now)
+        (given_files (map (λ file. file.items) files.now))) }
+    ensures err { (contents : FileContents)
+        → IfErr result (StopsScripts contents (specs_in library.now) (length library.now.specs.items)
+        (given_files (map (λ file. file.items) files.now))) }
+{
+    let mut scripts = Scripts::new(alloc);
+    for file in files {
+        read_given(alloc, file.as_slice(), library, &mut scripts)?;
+    }
+    Ok(scripts)
+}
+
+/// Reads the script that these bytes say, behind the others, however many they are.
+fn read_given(
+    alloc: Global,
+    bytes: &[u8],
+    library: &Library,
+    scripts: &mut Scripts,
+) -> Result<(), Status>
+    requires few { length scripts.old.list.items < 16 }
+    requires catalogued { IsCatalogued library.now }
+    requires counted { AreCounted (specs_in library.now) scripts.old }
+    ensures read { OnOk result (HasScript (specs_in library.now) bytes.now scripts.old scripts.new) }
+    ensures err { IfErr result (IsNoScriptIn (specs_in library.now) scripts.old.count scripts.old.objects
+        (length scripts.old.list.items) bytes.now) }
+{
+    let number = scripts.list.len() as u32;
+    if bytes.len() > MOST_BYTES {
+        return Err(too_long(number));
+    }
+    read_bytes(alloc, bytes, number, library, scripts)
+}
+
+/// Reads the script of this name, behind the others. After an error these are of no use.
+fn read_next<F: Folder>(
+    alloc: Global,
+    name: &str,
+    library: &Library,
+    files: &mut F,
+    scripts: &mut Scripts,
+) -> Result<(), Status>
+    requires few { length scripts.old.list.items < 16 }
+    requires few_specs { length library.now.specs.items ≤ 16 }
+    requires catalogued { IsCatalogued library.now }
+    requires counted { AreCounted (specs_in library.now) scripts.old }
+    ensures read { OnOk result (HasScriptFrom (F.holds files.old) (Named name.now)
+        (specs_in library.now) scripts.old scripts.new) }
+    ensures err { IfErr result (IsNoScript (F.holds files.old) (specs_in library.now)
+        (length library.now.specs.items) scripts.old.count scripts.old.objects (length scripts.old.list.items)
+        (Named name.now)) }
+    ensures read_failed { CountsFailedReads result (F.faults files.old) (F.faults files.new) }
+    ensures never_falls { F.faults files.old ≤ F.faults files.new }
+    ensures same { (other : List ℕ) → F.holds files.new other ≡ F.holds files.old other }
+{
+    let number = scripts.list.len() as u32;
+    let before = library.specs.len() as u32;
+    let bytes = load(name, before + number, too_long(number), files)?;
+    read_bytes(alloc, bytes.as_slice(), number, library, scripts)
+}
+
+/// The end of a command whose script of this number is too long.
+pub fn too_long(number: u32) -> Status
+    ensures { result ≡ Status.BadScript number ScriptFault.TooLong }
+{
+    let fault = ScriptFault::TooLong;
+    Status::BadScript {
+        script: number,
+        fault,
+    }
+}
+
+/// Reads the script that these bytes say, which has this number among all.
+fn read_bytes(
+    alloc: Global,
+    bytes: &[u8],
+    number: u32,
+    library: &Library,
+    scripts: &mut Scripts,
+) -> Result<(), Status>
+    requires small { length bytes.now ≤ most_bytes }
+    requires catalogued { IsCatalogued library.now }
+    requires counted { AreCounted (specs_in library.now) scripts.old }
+    ensures read { OnOk result (HasScript (specs_in library.now) bytes.now scripts.old scripts.new) }
+    ensures err { IfErr result (IsNoScriptIn
+        (specs_in library.now) scripts.old.count scripts.old.objects number bytes.now) }
+{
+    match add(alloc, bytes, library, scripts) {
+        Ok(()) => Ok(()),
+        Err(ScriptError::Bad(fault)) => {
+            Err(Status::BadScript {
+                script: number,
+                fault,
+            })
+        }
+        Err(ScriptError::NoMemory) => Err(Status::NoMemory),
+    }
+}
+
+/// Reads the script that these bytes say, behind the others.
+fn add(
+    alloc: Global,
+    bytes: &[u8],
+    library: &Library,
+    scripts: &mut Scripts,
+) -> Result<(), ScriptError>
+    requires small { length bytes.now ≤ most_bytes }
+    requires catalogued { IsCatalogued library.now }
+    requires counted { AreCounted (specs_in library.now) scripts.old }
+    ensures read { OnOk result (HasScript (specs_in library.now) bytes.now scripts.old scripts.new) }
+    ensures fault { (fault : ScriptFault) → result ≡ Err (ScriptError.Bad fault)
+        → IsScriptFault (specs_in library.now) scripts.old.count scripts.old.objects bytes.now fault }
+{
+    let script = read_script(
+        alloc,
+        bytes,
+        &library.catalog,
+        &mut scripts.objects,
+        &mut scripts.count,
+    )?;
+    scripts.list.push(script)?;
+    Ok(())
+}

@@ -1,0 +1,38 @@
+use Rattle.std.proofs.Common.{List, ℕ, length, ap, ◌∙◌}
+use Rattle.std.specs.Prelude.{slice_range}
+use Rattle.jm_spec.specs.declared.property.HandlerText.{HandlerText}
+use Rattle.jm_spec.specs.Trees.{facts_of}
+use Rattle.jm_machine.specs.Handlers.{category_fault, binding_fault, handler_names, resetting_handlers}
+use Rattle.jm_machine.specs.CompiledProperties.{numbers_of}
+use Rattle.jm_machine.specs.Formulas.{category_names}
+use Rattle.jm_machine.proofs.FormulaLemmas.{letters_read}
+use Rattle.jm_machine.proofs.HandlerLemmas.{all_known}
+use Rattle.jm_machine.proofs.MakingLemmas.{part_told}
+use Rattle.jm_machine.proofs.ResetLemmas.{same_resets, resets_apart}
+use Rattle.jm_machine.proofs.compile.compile_formula.Goals as goal
+
+pub compile-requires : goal.compile-requires
+compile-requires c = letters_read c.args.bytes.now (slice_range c.args.tokens.now c.args.property.now.first c.args.property.now.last) c.args.tree.now.table c.args.property.now.logic c.args.formula c.requires.read
+
+pub new-requires-clause-known : goal.new-requires-clause-known
+new-requires-clause-known c =
+    let bytes = c.args.bytes.now in
+    let texts = c.as_slice-texts.result.now in
+    let known = ap (λ (cs : List (List ℕ)). category_fault bytes cs texts) c.in_ok-categories.ensures.value ∙ ap (λ (hs : List HandlerText). category_fault bytes (category_names c.args.formula) hs) c.as_slice-texts.ensures.value ∙ c.requires.handled.known in
+    rw c.in_ok-handlers.ensures.names (all_known bytes c.in_ok-categories.categories texts known)
+
+pub new-requires-clause-apart : goal.new-requires-clause-apart
+new-requires-clause-apart c =
+    let bound = ap (λ (hs : List HandlerText). binding_fault c.args.bytes.now c.args.tree.now.full_binding c.args.tokens.now hs) c.as_slice-texts.ensures.value ∙ c.requires.handled.bound in
+    resets_apart c.args.bytes.now c.args.tokens.now c.as_slice-texts.result.now c.resets_of-resets.result c.resets_of-resets.ensures.bits c.args.tree.now.full_binding bound
+
+pub returns-clause-part : goal.returns-clause-part
+returns-clause-part c =
+    let bytes = c.args.bytes.now in
+    let tokens = c.args.tokens.now in
+    let texts = c.as_slice-texts.result.now in
+    let is = c.as_slice-texts.ensures.value in
+    let names = c.in_ok-handlers.handlers in
+    part_told bytes tokens c.args.tree.now.table c.args.tree.now.full_binding (facts_of c.args.property.now) c.args.formula c.new.result names (numbers_of c.resets_of-resets.result (length names)) c.new.ensures.rules c.new.ensures.fit
+    (c.in_ok-handlers.ensures.names ∙ ap (handler_names bytes) is)
+    (same_resets bytes tokens texts c.resets_of-resets.result c.resets_of-resets.ensures.bits names c.in_ok-handlers.ensures.names ∙ ap (resetting_handlers bytes tokens) is)

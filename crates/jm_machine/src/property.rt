@@ -1,0 +1,336 @@
+//! The monitor of one property.
+ghost use Rattle.std.specs.Prelude.{ℕ, ◌&&◌, codes, ◌≡◌, ◌≢◌, ◌<◌, ◌≤◌, ◌^◌, ◌↔◌, ◌⊎◌, [], ◌∷◌, ◌++◌, List, All, Contains, Some, None, true, false, IsTrue, IsSomeAnd, IsNone, IsBitSet, IfOk, IfErr, IfSome, length, map, slice_get};
+ghost use Rattle.std.specs.List.{list_any};
+ghost use Rattle.std.specs.Str.{bytes_eq};
+ghost use Rattle.jm_table.specs.Minimal.{IsReduced};
+ghost use Rattle.jm_semantics.specs.Families.{IsFamily};
+ghost use Rattle.jm_machine.specs.Formulas.{category_names, is_grammar};
+ghost use Rattle.jm_machine.specs.Handlers.{AreCategories};
+ghost use Rattle.jm_machine.specs.PropertyMeanings.{Resets, property_rules_of, property_meaning};
+ghost use Rattle.jm_model.specs.Meanings.{IsCutWord};
+ghost use Rattle.jm_machine.specs.Places.{Stands, IsPlaceAfter};
+ghost use Rattle.jm_machine.specs.Engines.{letters_of_engine, categories_of_engine, is_parsing, HasParams, IsPlaceOf, IsCompiled, IsMinimal};
+ghost use Rattle.jm_machine.specs.CompiledProperties.{numbers_of, IsCompiledProperty, IsHandledBy};
+
+use crate::engine::{Engine, handlers_at, next_state};
+use crate::formula::Formula;
+use crate::goal::{goal_of, may_begin};
+use crate::outlook::Outlook;
+use crate::place::Place;
+use jm_events::Names;
+use jm_goal::Goal;
+use jm_model::{Letter, Monitor, NoMemory, SpecError};
+use jm_spec::SpecTree;
+use jm_table::Table;
+use std::alloc::Global;
+use std::marker::Model;
+
+/// A property of a specification: the parameters of the events, its formula, the categories that are handled, what it is
+/// run for, what runs it, and what may still follow. Contracts see it as its `CompiledProperty`.
+pub struct Property {
+    masks: Vec<u8>,
+    formula: Formula,
+    handlers: Names,
+    goal: Goal,
+    engine: Engine,
+    outlook: Outlook,
+}
+
+// Written out, so that a drop is one call wherever a property is let go.
+impl Drop for Property {
+    fn drop(self) {
+        let Property {
+            masks: _,
+            formula: _,
+            handlers: _,
+            goal: _,
+            engine: _,
+            outlook: _,
+        } = self;
+    }
+}
+
+impl Model for Property {
+    ghost use Rattle.jm_machine.specs.CompiledProperties.{CompiledProperty, definition_of, IsCompiledProperty, IsGoalOf};
+    ghost use Rattle.jm_machine.specs.Known.{IsKnown};
+
+    ghost Value = { CompiledProperty };
+
+    ghost use Rattle.std.specs.Coded.{codes};
+    ghost use Rattle.jm_machine.specs.contracts.formula.Formula as property;
+    ghost use Rattle.jm_machine.specs.contracts.engine.Engine as driver;
+
+    ghost coded = { Prim.hlevel (codes, property.the_row.coded, driver.the_row.coded) };
+
+    ghost view = { λ r. record {
+      definition = definition_of r.masks.items r.formula r.handlers r.goal;
+      engine = r.engine;
+    } };
+
+    ghost invariant = { λ r. let d = definition_of r.masks.items r.formula r.handlers r.goal in
+        IsGoalOf r.masks.items r.formula r.handlers r.goal × IsCompiledProperty (record { definition = d; engine = r.engine })
+        × IsKnown d r.goal r.engine r.outlook };
+}
+
+impl Property {
+    /// The property of a formula with what runs it, and of these handled categories, with the events of the tree. Bit k of
+    /// `resets` says that handler k resets the property.
+    pub(crate) fn new(
+        alloc: Global,
+        tree: &SpecTree,
+        formula: Formula,
+        categories: &Names,
+        handlers: Names,
+        resets: u16,
+        engine: Engine,
+    ) -> Result<Property, SpecError>
+        requires categories { categories.now ≡ category_names formula }
+        requires many { length categories.now ≤ 65535 }
+        requires few { length handlers ≤ 16 }
+        requires known { AreCategories categories.now handlers }
+        requires there { resets < 2 ^ length handlers }
+        requires apart { (resets ≡ 0) ⊎ (tree.now.full_binding ≡ false) }
+        requires letters { letters_of_engine engine ≡ length tree.now.table.events }
+        requires groups { categories_of_engine engine ≡ length categories.now }
+        requires compiled { IsCompiled formula engine }
+        requires minimal { IsMinimal engine }
+        requires kind { is_parsing engine ≡ is_grammar formula }
+        requires params { HasParams (map (λ e. e.mask) tree.now.table.events) engine }
+        ensures rules { IfOk result (λ r. r.definition
+            ≡ property_rules_of tree.now.table tree.now.full_binding formula handlers (numbers_of resets (length handlers))) }
+        ensures fit { IfOk result (λ r. All (λ mask. mask < 2 ^ length tree.now.table.parameters) r.definition.masks) }
+        ensures err { IfErr result (λ e. e ≡ SpecError.NoMemory) }
+    {
+        let masks = tree.table.masks(alloc)?;
+        let goal = goal_of(alloc, tree, categories, &handlers, resets)?;
+        let failing = is_failing(&formula, &handlers);
+        let outlook = Outlook::new(alloc, &engine, &goal, &tree.table, failing)?;
+        Ok(Property {
+            masks,
+            formula,
+            handlers,
+            goal,
+            engine,
+            outlook,
+        })
+    }
+
+    /// The names of the categories that are handled, handler by handler.
+    pub(crate) fn handlers(&self) -> &Names
+        ensures { result.now ≡ self.now.definition.handlers }
+    {
+        &self.handlers
+    }
+
+    /// The table that runs the property. No two of its states agree in groups after all words, and after a word that
+    /// isn't empty the groups are the categories that hold of it. There is none for a grammar.
+    pub(crate) fn table(&self) -> Option<&Table>
+        ensures none { IsNone result ↔ (is_grammar self.now.definition.formula ≡ true) }
+        ensures table { IfSome result (λ t. self.now.engine ≡ Engine.States t.now) }
+        ensures minimal { IfSome result (λ t. IsReduced t.now) }
+        ensures rules { IsCompiledProperty self.now }
+    {
+        // The table is that of the formula: the proof learns it from the fields.
+        let _ = &self.outlook;
+        match &self.engine {
+            Engine::States(table) => Some(table),
+            Engine::Parses(_) => None,
+        }
+    }
+
+    /// The coenable family of a letter: the sets of parameters of the words that lead to a handled category from some
+    /// word that ends in the letter, in rising order. There is none for a grammar.
+    pub(crate) fn family(&self, letter: Letter) -> Result<Option<Vec<u8>>, NoMemory>
+        requires { letter.0 < length self.now.definition.masks }
+        ensures family { is_grammar self.now.definition.formula ≡ false →
+            IfOk result (λ family. IsSomeAnd family
+            (λ masks. IsFamily (property_meaning self.now.definition) letter.0 masks.items)) }
+        ensures few { IfOk result (λ family. IfSome family (λ masks. (mask : ℕ) → Contains masks.items mask → mask < 256)) }
+        ensures none { is_grammar self.now.definition.formula ≡ true → IfOk result (λ family. family ≡ None) }
+    {
+        match &self.outlook {
+            Outlook::Table(outlook) => Ok(Some(outlook.family(letter)?)),
+            Outlook::Grammar(_) => Ok(None),
+        }
+    }
+
+    /// Whether a word may begin with the letter.
+    fn may_begin(&self, letter: Letter) -> bool
+        requires { letter.0 < length self.now.definition.masks }
+        ensures { IsTrue result ↔ ((self.now.definition.creation ≡ [])
+            ⊎ Contains self.now.definition.creation letter.0) }
+    {
+        may_begin(&self.goal, letter)
+    }
+
+    /// The place of the word of one letter, with which words may begin.
+    fn first(&self, letter: Letter) -> Result<Place, NoMemory>
+        requires { letter.0 < length self.now.definition.masks }
+        ensures { IfOk result (λ place. IsPlaceOf self.now.engine place (letter.0 ∷ [])) }
+    {
+        match (&self.engine, &self.outlook) {
+            (Engine::States(table), _) => {
+                Ok(Place::State(next_state(table, table.start(), letter)))
+            }
+            (Engine::Parses(charts), Outlook::Grammar(outlook)) => { outlook.first(charts, letter) }
+            _ => unreachable!(),
+        }
+    }
+
+    /// The place of the words that have one letter more, of which there is one already.
+    fn step(&self, place: &Place, letter: Letter) -> Result<Place, NoMemory>
+        requires { letter.0 < length self.now.definition.masks }
+        ensures { IfOk result (λ next. (word : List ℕ) →
+            Stands self.now place.now word → Stands self.now next (word ++ letter.0 ∷ [])) }
+    {
+        if self.goal.resets() == 0 {
+            self.engine.next(place, letter)
+        } else {
+            self.step_past_reset(place, letter)
+        }
+    }
+
+    /// The place of the words that have one letter more, of which there is one already, where the property may
+    /// be reset: from the start where it is, and else from the place.
+    #[inline(never)]
+    fn step_past_reset(&self, place: &Place, letter: Letter) -> Result<Place, NoMemory>
+        requires { letter.0 < length self.now.definition.masks }
+        ensures { IfOk result (λ next. (word : List ℕ) →
+            Stands self.now place.now word → Stands self.now next (word ++ letter.0 ∷ [])) }
+    {
+        if self.is_reset(place) {
+            self.first(letter)
+        } else {
+            self.engine.next(place, letter)
+        }
+    }
+
+    /// Whether the property is reset at a place, so that the next letter leads on from the start.
+    #[inline(never)]
+    fn is_reset(&self, place: &Place) -> bool
+        ensures { (asked : List ℕ) → asked ≢ [] → IsPlaceOf self.now.engine place.now asked →
+            IsTrue result ↔ Resets self.now.definition asked }
+    {
+        let resets = self.goal.resets();
+        resets != 0 && self.handlers_at(place) & resets != 0
+    }
+
+    /// Whether an instance with this place can never fire again, whatever runs the property. A call of its own,
+    /// so that what is asked of a table at each event stays short.
+    #[inline(never)]
+    fn is_cut(&self, place: &Place, dead: u8) -> bool
+        ensures { (w : List ℕ) → IsPlaceAfter self.now place.now w →
+            IsTrue result ↔ IsCutWord (property_meaning self.now.definition) w dead }
+    {
+        match (&self.outlook, &self.engine) {
+            (Outlook::Table(outlook), _) => !outlook.can_hit(place, dead),
+            (Outlook::Grammar(outlook), Engine::Parses(charts)) => {
+                let reset = self.is_reset(place);
+                let masks = self.masks.as_slice();
+                outlook.is_cut(charts, &self.goal, masks, place, reset, dead)
+            }
+            _ => unreachable!(),
+        }
+    }
+
+    /// The handlers whose categories hold of the words of a place: bit k stands for handler k.
+    fn handlers_at(&self, place: &Place) -> u16
+        ensures hits { (word : List ℕ) → IsPlaceOf self.now.engine place.now word →
+            (k : ℕ) → IsBitSet result k ↔ IsHandledBy self.now word k }
+        ensures rules { IsCompiledProperty self.now }
+    {
+        match (&self.outlook, place) {
+            (Outlook::Table(outlook), Place::State(state)) => outlook.hits(*state),
+            _ => handlers_at(&self.goal, &self.engine, place),
+        }
+    }
+}
+
+/// Whether the property is a grammar with a handler for `fail`.
+fn is_failing(formula: &Formula, handlers: &Names) -> bool
+    ensures { result ≡ (is_grammar formula.now && list_any (bytes_eq (codes "fail")) handlers.now) }
+{
+    match formula {
+        Formula::Grammatical(_) => handlers.find("fail").is_some(),
+        _ => false,
+    }
+}
+
+impl Monitor for Property {
+    ghost use Rattle.jm_machine.specs.CompiledProperties.{CompiledProperty};
+    ghost use Rattle.jm_machine.specs.PropertyMeanings.{property_meaning};
+    ghost use Rattle.jm_machine.specs.Places.{IsPlaceAfter};
+
+    type State = Place;
+
+    type Definition = Property;
+
+    ghost definition = { λ r. r };
+
+    ghost meaning = { λ r. property_meaning r.definition };
+
+    ghost StandsFor = { λ r s w. IsPlaceAfter r s w };
+
+    fn letters(&self) -> u8 {
+        self.masks.len() as u8
+    }
+
+    fn params(&self, letter: Letter) -> u8 {
+        self.masks[letter.0 as usize]
+    }
+
+    fn must_bind(&self) -> u8 {
+        self.goal.must_bind()
+    }
+
+    fn begin(&self) -> Result<Place, NoMemory> {
+        Ok(Place::Start)
+    }
+
+    fn copy(&self, state: &Place) -> Result<Place, NoMemory> {
+        match state {
+            Place::Start => Ok(Place::Start),
+            Place::Barren => Ok(Place::Barren),
+            _ => self.engine.copy(state),
+        }
+    }
+
+    fn next(&self, state: &Place, letter: Letter) -> Result<Place, NoMemory> {
+        match state {
+            Place::Start if self.may_begin(letter) => self.first(letter),
+            Place::Start | Place::Barren => Ok(Place::Barren),
+            _ => self.step(state, letter),
+        }
+    }
+
+    fn hits(&self, state: &Place) -> u16 {
+        match state {
+            Place::Start | Place::Barren => 0,
+            _ => self.handlers_at(state),
+        }
+    }
+
+    fn cut(&self, state: &Place, dead: u8) -> bool {
+        match &self.outlook {
+            Outlook::Table(outlook) => !outlook.can_hit(state, dead),
+            Outlook::Grammar(_) => self.is_cut(state, dead),
+        }
+    }
+
+    fn idle(&self, state: &Place) -> u32 {
+        match (&self.outlook, state) {
+            (_, Place::Barren) => u32::MAX,
+            (Outlook::Table(outlook), Place::State(state)) => outlook.idle(*state),
+            _ => 0,
+        }
+    }
+
+    fn ending(&self, state: &Place) -> u32 {
+        match (&self.outlook, state) {
+            (Outlook::Table(_), Place::Barren) => u32::MAX,
+            (Outlook::Table(outlook), Place::Start) => outlook.first_ending(),
+            (Outlook::Table(outlook), Place::State(state)) => outlook.ending(*state),
+            _ => 0,
+        }
+    }
+}

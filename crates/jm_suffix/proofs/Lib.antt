@@ -1,0 +1,2 @@
+pub mod SecondLemmas
+pub mod SuffixLemmas

@@ -1,5 +1,0 @@
-use Rattle.jm_top.proofs.scripts.read_bytes.Goals as goal
-
--- answered, though a search finds it, so that a body which refuses there is turned down at once
-pub returns-in-Ok-clause-err : goal.returns-in-Ok-clause-err
-returns-in-Ok-clause-err c = tt

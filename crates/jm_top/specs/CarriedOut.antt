@@ -1,0 +1,49 @@
+-- What the work of a command answers.
+use Rattle.std.specs.Prelude.{ℕ, ◌≡◌, false, List, [], ◌∷◌, Result, Ok, Err}
+use Rattle.std.specs.Global.{Vec}
+use Rattle.jm_model.specs.Words.{Text}
+use Rattle.jm_script.specs.declared.script.ScriptLine.{ScriptLine}
+use Rattle.jm_cli.specs.Words.{CommandWords}
+use Rattle.jm_cli.specs.Words.CommandWords.{Sweep}
+use Rattle.jm_inputs.specs.declared.status.Status.{Status}
+use Rattle.jm_inputs.specs.Sources.{FileContents, Named, Gives}
+use Rattle.jm_inputs.specs.Specifications.{Specification}
+use Rattle.jm_inputs.specs.Inputs.{SaySpecifications, SayScripts}
+use Rattle.jm_inputs.specs.Commands.{named, spec_sources, script_sources, reads_recording, needs_families}
+use Rattle.jm_inputs.specs.Recordings.{RecordedPart, IsRecording}
+use Rattle.jm_inputs.specs.Jobs.{Accepted, AcceptedParts}
+use Rattle.jm_inputs.specs.Causes.{StopsCommand}
+use Rattle.jm_top.specs.Texts.{IsTextOf}
+
+-- the text is one of the command, whose specifications and scripts were read
+pub record IsTextOfScripts (contents : FileContents) (command : CommandWords) (text : Text) : Type 0 where
+  pub specs : List Specification
+  pub scripts : List (List ScriptLine)
+  pub objects : List Text
+  pub said : SaySpecifications contents (needs_families command) [] (spec_sources command) specs
+  pub told : SayScripts contents specs 0 [] (script_sources command) scripts objects
+  pub separate : reads_recording command ≡ false
+  pub is_text : IsTextOf (Accepted command specs scripts objects) text
+
+-- the text is one of the command, whose specification and recording were read
+pub record IsTextOfRecording (contents : FileContents) (command : CommandWords) (text : Text) : Type 0 where
+  pub spec : Text
+  pub recording : Text
+  pub specs : List Specification
+  pub bytes : Text
+  pub parts : List RecordedPart
+  pub is : command ≡ Sweep spec recording
+  pub said : SaySpecifications contents false [] (named (spec ∷ [])) specs
+  pub given : Gives contents (Named recording) bytes
+  pub told : IsRecording specs bytes parts
+  pub is_text : IsTextOf (AcceptedParts specs parts) text
+
+-- the text is one of the command, whose files were read
+pub data IsTextOfCommand (contents : FileContents) (command : CommandWords) (text : Text) : Type 0 where
+  of_scripts : IsTextOfScripts contents command text → IsTextOfCommand contents command text
+  of_recording : IsTextOfRecording contents command text → IsTextOfCommand contents command text
+
+-- it answers a text of the command, or why the command ends before its text is written
+abbrev pub IsCarriedOut : FileContents → CommandWords → Result (Vec ℕ) Status → Type 0
+IsCarriedOut contents command (Ok text) = IsTextOfCommand contents command text.items
+IsCarriedOut contents command (Err status) = StopsCommand contents command status
