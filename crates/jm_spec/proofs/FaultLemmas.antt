@@ -13,7 +13,7 @@ use Rattle.jm_reading.specs.Faults.{with_each, Refuses}
 use Rattle.jm_reading.proofs.ReadLemmas.{IsOther, FailsOther, other_or, other_if, other_then, other_of}
 use Rattle.jm_reading.proofs.FormulaLemmas.{refused_by}
 use Rattle.jm_spec.specs.declared.head.Modifier.{Modifier}
-use Rattle.jm_spec.specs.declared.head.Modifier.TheVariants.{FullBinding, NoEffect, Unsupported}
+use Rattle.jm_spec.specs.declared.head.Modifier.TheVariants.{FullBinding, Suffix, NoEffect, Unsupported}
 use Rattle.jm_spec.specs.declared.events.Advice.{Advice}
 use Rattle.jm_spec.specs.declared.events.Advice.TheVariants.{Known, Other}
 use Rattle.jm_spec.specs.declared.events.Mention.{Mention}
@@ -27,6 +27,7 @@ use Rattle.jm_spec.specs.Trees.{IsFaultOfTokens}
 other_modifier : (ms : List Modifier) → IsOther (modifier_fault ms)
 other_modifier [] = tt
 other_modifier (FullBinding ∷ ms) = other_modifier ms
+other_modifier (Suffix line ∷ ms) = other_modifier ms
 other_modifier (NoEffect ∷ ms) = other_modifier ms
 other_modifier (Unsupported line ∷ ms) = tt
 

@@ -12,7 +12,7 @@ use Rattle.jm_reading.specs.Faults.{or_else, ◌>>>◌, with_each, fault_of}
 use Rattle.jm_events.specs.Names.{number_of}
 use Rattle.jm_events.specs.Events.{EventDefinitions, EventDefinition, parameter_fault, with_parameter, event_fault, with_event}
 use Rattle.jm_spec.specs.declared.head.Modifier.{Modifier}
-use Rattle.jm_spec.specs.declared.head.Modifier.TheVariants.{FullBinding, NoEffect, Unsupported}
+use Rattle.jm_spec.specs.declared.head.Modifier.TheVariants.{FullBinding, Suffix, NoEffect, Unsupported}
 use Rattle.jm_spec.specs.declared.events.Advice.{Advice}
 use Rattle.jm_spec.specs.declared.events.Advice.TheVariants.{Known, Other}
 use Rattle.jm_spec.specs.declared.events.Mention.{Mention}
@@ -25,6 +25,7 @@ use Rattle.jm_spec.specs.declared.tree.Logic.TheVariants.{Fsm, Ere, Cfg, Ptltl}
 abbrev pub modifier_fault : List Modifier → Option SpecFault
 modifier_fault [] = None
 modifier_fault (FullBinding ∷ ms) = modifier_fault ms
+modifier_fault (Suffix line ∷ ms) = modifier_fault ms
 modifier_fault (NoEffect ∷ ms) = modifier_fault ms
 modifier_fault (Unsupported line ∷ ms) = Some (UnsupportedModifier line)
 

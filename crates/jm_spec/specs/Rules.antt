@@ -4,7 +4,7 @@ use Rattle.jm_model.specs.Words.{Text}
 use Rattle.jm_text.specs.declared.token.Token.{Token}
 use Rattle.jm_text.specs.Texts.{is_mark}
 use Rattle.jm_spec.specs.declared.head.Modifier.{Modifier}
-use Rattle.jm_spec.specs.declared.head.Modifier.TheVariants.{FullBinding, NoEffect, Unsupported}
+use Rattle.jm_spec.specs.declared.head.Modifier.TheVariants.{FullBinding, Suffix, NoEffect, Unsupported}
 use Rattle.jm_spec.specs.declared.events.Advice.{Advice}
 use Rattle.jm_spec.specs.declared.events.Advice.TheVariants.{Known, Other}
 use Rattle.jm_spec.specs.declared.events.Mention.{Mention}
@@ -43,6 +43,7 @@ modifier_of bytes tokens =
     || is_word_at bytes tokens 0 (codes "decentralized")) then NoEffect
     else if (length tokens == 3) && is_word_at bytes tokens 0 (codes "full")
     && is_word_at bytes tokens 2 (codes "binding") then FullBinding
+    else if (length tokens == 1) && is_word_at bytes tokens 0 (codes "suffix") then Suffix (line_of 0 tokens)
     else Unsupported (line_of 0 tokens)
 
 unfoldable pub modifier_at : List Modifier → Rule (List Modifier)

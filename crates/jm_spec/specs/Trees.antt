@@ -1,5 +1,5 @@
 -- The tree of a frame, and what a reader of a specification answers.
-use Rattle.std.specs.Prelude.{ℕ, ◌≡◌, ◌<◌, ◌≤◌, Bool, true, false, List, [], ◌∷◌, length, map, Some, None, Ok}
+use Rattle.std.specs.Prelude.{ℕ, ◌≡◌, ◌<◌, ◌≤◌, Bool, true, false, List, [], ◌∷◌, length, map, Option, Some, None, Ok}
 use Rattle.std.specs.List.{list_any}
 use Rattle.jm_model.specs.Words.{Text}
 use Rattle.jm_model.specs.declared.fault.SpecError.{SpecError}
@@ -8,7 +8,7 @@ use Rattle.jm_model.specs.declared.fault.SpecFault.TheVariants.{Syntax}
 use Rattle.jm_text.specs.declared.token.Token.{Token}
 use Rattle.jm_reading.specs.Formulas.{IsRefusedBy}
 use Rattle.jm_spec.specs.declared.head.Modifier.{Modifier}
-use Rattle.jm_spec.specs.declared.head.Modifier.TheVariants.{FullBinding}
+use Rattle.jm_spec.specs.declared.head.Modifier.TheVariants.{FullBinding, Suffix, NoEffect, Unsupported}
 use Rattle.jm_spec.specs.declared.property.Property.{Property}
 use Rattle.jm_spec.specs.declared.frame.Frame.{Frame}
 use Rattle.jm_spec.specs.declared.property.HandlerText.{HandlerText}
@@ -21,6 +21,14 @@ use Rattle.jm_spec.specs.Faults.{logic_of, table_of, frame_fault}
 abbrev pub is_full_binding : Modifier → Bool
 is_full_binding FullBinding = true
 is_full_binding _ = false
+
+-- the line of the first `suffix`
+abbrev pub suffix_of : List Modifier → Option ℕ
+suffix_of [] = None
+suffix_of (Suffix line ∷ ms) = Some line
+suffix_of (FullBinding ∷ ms) = suffix_of ms
+suffix_of (NoEffect ∷ ms) = suffix_of ms
+suffix_of (Unsupported line ∷ ms) = suffix_of ms
 
 -- What a tree has of a property, as plain data: its logic and the line of that word, the range of its formula, and its
 -- handlers.
@@ -65,6 +73,7 @@ TellsProperties bytes _ _ = ⊥
 pub record IsTreeOf (bytes : Text) (frame : Frame) (tree : SpecTree) : Type 0 where
   pub name : tree.name ≡ frame.name
   pub full_binding : tree.full_binding ≡ list_any is_full_binding frame.modifiers
+  pub suffix : tree.suffix ≡ suffix_of frame.modifiers
   pub table : table_of bytes frame.params frame.events ≡ Ok tree.table
   pub properties : TellsProperties bytes frame.properties (properties_of tree)
 

@@ -1,7 +1,7 @@
 //! What stands before the body: the clauses `package` and `import`, the modifiers, and lists of parameters.
 ghost use Rattle.std.specs.Prelude.{◌≡◌};
 ghost use Rattle.jm_text.specs.Spans.{LieWithin};
-ghost use Rattle.jm_reading.specs.Reading.{is_word_at};
+ghost use Rattle.jm_reading.specs.Reading.{is_word_at, line_of};
 ghost use Rattle.jm_reading.specs.Taking.{Takes};
 ghost use Rattle.jm_spec.specs.Reading.{unkept};
 ghost use Rattle.jm_spec.specs.Rules.{begins_clause, clause_at, begins_more_word, more_word_at, modifier_of, begins_modifier, modifier_at, param_at, begins_more_param, more_param_at, params_at, list_at};
@@ -17,6 +17,8 @@ use jm_text::{Token, is_word};
 pub enum Modifier {
     /// `full-binding`.
     FullBinding,
+    /// `suffix`, on the line.
+    Suffix(u32),
     /// `unsynchronized` or `decentralized`, which have no effect.
     NoEffect,
     /// Another one, which begins on the line.
@@ -112,11 +114,20 @@ fn modifier_of(bytes: &[u8], tokens: &[Token]) -> Modifier
         && is_word_at(bytes, tokens, 2, b"binding")
     {
         Modifier::FullBinding
+    } else if tokens.len() == 1 && is_word_at(bytes, tokens, 0, b"suffix") {
+        Modifier::Suffix(line_of(tokens))
     } else {
-        match tokens {
-            [first, ..] => Modifier::Unsupported(first.line),
-            [] => Modifier::Unsupported(0),
-        }
+        Modifier::Unsupported(line_of(tokens))
+    }
+}
+
+/// The line of the first token.
+fn line_of(tokens: &[Token]) -> u32
+    ensures { result ≡ line_of 0 tokens.now }
+{
+    match tokens {
+        [first, ..] => first.line,
+        [] => 0,
     }
 }
 

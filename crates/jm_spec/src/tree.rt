@@ -3,7 +3,7 @@ ghost use Rattle.std.specs.Prelude.{ℕ, ◌≡◌, ◌<◌, ◌≤◌, ◌^◌,
 ghost use Rattle.std.specs.List.{list_any};
 ghost use Rattle.jm_reading.specs.Faults.{fault_of, Refuses, Checks, Makes};
 ghost use Rattle.jm_spec.specs.Faults.{modifier_fault, advice_fault, property_fault, name_of, logic_named, logic_of, logic_fault, unless_known, with_params, with_param, with_names, with_bit, number_said, with_events, with_advice, with_mention, table_of, frame_fault};
-ghost use Rattle.jm_spec.specs.Trees.{is_full_binding, facts_of, IsFewProperties, TellsProperty, TellsProperties, IsTreeOf};
+ghost use Rattle.jm_spec.specs.Trees.{is_full_binding, suffix_of, facts_of, IsFewProperties, TellsProperty, TellsProperties, IsTreeOf};
 
 use crate::events::{Advice, Mention};
 use crate::frame::Frame;
@@ -38,11 +38,12 @@ pub struct PropertyTree {
     pub handlers: Vec<HandlerText>,
 }
 
-/// The frame of a specification.
+/// The frame of a specification. `suffix` is the line of the first such modifier.
 #[derive(Drop)]
 pub struct SpecTree {
     pub name: Token,
     pub full_binding: bool,
+    pub suffix: Option<u32>,
     pub table: EventTable,
     pub properties: Vec<PropertyTree>,
 }
@@ -72,6 +73,7 @@ pub fn tree_of(alloc: Global, bytes: &[u8], frame: Frame) -> Result<SpecTree, Sp
     Ok(SpecTree {
         name,
         full_binding: is_full_binding(modifiers.as_slice()),
+        suffix: first_suffix(modifiers.as_slice()),
         table,
         properties,
     })
@@ -104,6 +106,18 @@ fn means_full_binding(modifier: Modifier) -> bool
         Modifier::FullBinding => true,
         _ => false,
     }
+}
+
+/// The line of the first `suffix`.
+fn first_suffix(modifiers: &[Modifier]) -> Option<u32>
+    ensures { result ≡ suffix_of modifiers.now }
+{
+    for modifier in modifiers {
+        if let Modifier::Suffix(line) = *modifier {
+            return Some(line);
+        }
+    }
+    None
 }
 
 fn known_advice(events: &[Mention]) -> Result<(), SpecError>

@@ -7,9 +7,9 @@ use std::alloc::{AllocError, Global};
 use testkit::{Case, put_word};
 use testkit_tokens::{put_events, put_params, said, tokens_of};
 
-/// What a specification says: the name, `full` where it is full-binding, the parameters, each event with its mask, its
-/// line and a `+` where it is a creation event; and of each property the logic with its line, the formula, and each
-/// handler with its text.
+/// What a specification says: the name, `full` where it is full-binding, `suffix` with its line, the parameters, each
+/// event with its mask, its line and a `+` where it is a creation event; and of each property the logic with its line,
+/// the formula, and each handler with its text.
 pub(crate) fn spec(alloc: Global, case: &Case) -> Result<String, SpecError> {
     let bytes = case.text.as_slice();
     let all = tokens_of(alloc, bytes)?;
@@ -47,9 +47,18 @@ fn head_text(alloc: Global, bytes: &[u8], tree: &SpecTree) -> Result<String, All
     if tree.full_binding {
         put_word(&mut out, "full")?;
     }
+    put_suffix(alloc, &mut out, tree.suffix)?;
     put_params(&mut out, &tree.table)?;
     put_events(alloc, &mut out, &tree.table)?;
     Ok(out)
+}
+
+fn put_suffix(alloc: Global, out: &mut String, suffix: Option<u32>) -> Result<(), AllocError> {
+    if let Some(line) = suffix {
+        let shown = format!(in alloc; "suffix/{line}")?;
+        put_word(out, shown.as_str())?;
+    }
+    Ok(())
 }
 
 fn put_logic(alloc: Global, out: &mut String, property: &PropertyTree) -> Result<(), AllocError> {
