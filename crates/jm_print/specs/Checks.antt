@@ -28,9 +28,10 @@ abbrev pub handler_line : Text → Text
 handler_line name = codes "handler @" ++ name ++ codes "\n"
 
 -- what a specification of this name declares, whose properties have these logics
-abbrev pub check_text : Text → List Logic → Bool → EventDefinitions → List Text → Text
-check_text name logics full_binding table handlers =
+abbrev pub check_text : Text → List Logic → Bool → Bool → EventDefinitions → List Text → Text
+check_text name logics full_binding suffix table handlers =
     codes "spec " ++ name ++ codes " " ++ name_list (map logic_word logics) ++ codes "\n"
-    ++ (if full_binding then codes "full-binding\n" else []) ++ codes "params " ++ names_or_dash table.parameters
-    ++ codes "\n" ++ flat_map (event_line table.parameters) table.events ++ flat_map handler_line handlers
+    ++ (if full_binding then codes "full-binding\n" else []) ++ (if suffix then codes "suffix\n" else [])
+    ++ codes "params " ++ names_or_dash table.parameters ++ codes "\n"
+    ++ flat_map (event_line table.parameters) table.events ++ flat_map handler_line handlers
     ++ codes "end\n"

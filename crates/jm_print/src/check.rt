@@ -11,18 +11,19 @@ use jm_model::{Letter, NoMemory};
 use jm_spec::Logic;
 use std::alloc::Global;
 
-/// What a specification declares: its name and the logics of its properties, `full-binding` where it stands, its
-/// parameters, its events with their parameters, and the names of its handlers.
+/// What a specification declares: its name and the logics of its properties, `full-binding` and `suffix` where they
+/// stand, its parameters, its events with their parameters, and the names of its handlers.
 pub fn render_check(
     alloc: Global,
     name: &str,
     logics: &[Logic],
     full_binding: bool,
+    suffix: bool,
     table: &EventTable,
     categories: &Names,
 ) -> Result<Vec<u8>, NoMemory>
     ensures { IfOk result (λ text.
-        text.items ≡ check_text name.now logics.now full_binding table.now categories.now) }
+        text.items ≡ check_text name.now logics.now full_binding suffix table.now categories.now) }
 {
     let mut page = Page::new(alloc);
     page.text("spec ")?;
@@ -31,6 +32,7 @@ pub fn render_check(
     logic_words(&mut page, logics)?;
     page.text("\n")?;
     page.text(binding_line(full_binding))?;
+    page.text(suffix_line(suffix))?;
     page.text("params ")?;
     parameters(&mut page, table)?;
     page.text("\n")?;
@@ -69,6 +71,13 @@ fn binding_line(full_binding: bool) -> &'static str
     ensures { result.now ≡ (if full_binding then codes "full-binding\n" else []) }
 {
     if full_binding { "full-binding\n" } else { "" }
+}
+
+/// The line that says that the rule may begin anywhere, where that is so.
+fn suffix_line(suffix: bool) -> &'static str
+    ensures { result.now ≡ (if suffix then codes "suffix\n" else []) }
+{
+    if suffix { "suffix\n" } else { "" }
 }
 
 /// A line for each event, in the order of the letters.
