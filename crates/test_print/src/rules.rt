@@ -9,17 +9,26 @@ use jm_spec::Logic;
 use std::alloc::{AllocError, Global};
 use testkit::{Case, byte_of, text_of};
 
-/// What a specification declares. The words are its name, its logics with commas between and maybe `full-binding`;
-/// behind the `/` stand the names of its handlers. The first line has the parameters, and each other line an event: its name, its mask and maybe
-/// `creation`.
+/// What a specification declares. The words are its name, its logics with commas between and maybe `full-binding` and
+/// `suffix`; behind the `/` stand the names of its handlers. The first line has the parameters, and each other line an
+/// event: its name, its mask and maybe `creation`.
 pub(crate) fn check(alloc: Global, case: &Case) -> Result<String, SpecError> {
     let table = table_of(alloc, text_of(case.text.as_slice()))?;
     let (name, rest) = halves(case.first.as_str());
-    let (words, binding) = halves(rest);
+    let (words, modifiers) = halves(rest);
     let logics = logics_of(alloc, words)?;
     let categories = names(alloc, case.second.as_str())?;
-    let full = binding == "full-binding";
-    let page = render_check(alloc, name, logics.as_slice(), full, &table, &categories)?;
+    let full = has_word(modifiers, "full-binding");
+    let suffix = has_word(modifiers, "suffix");
+    let page = render_check(
+        alloc,
+        name,
+        logics.as_slice(),
+        full,
+        suffix,
+        &table,
+        &categories,
+    )?;
     Ok(without_last_line_feed(alloc, page.as_slice())?)
 }
 
@@ -34,6 +43,10 @@ pub(crate) fn coenable(alloc: Global, case: &Case) -> Result<String, SpecError> 
     }
     let page = render_coenable(alloc, case.first.as_str(), &table, families.as_slice())?;
     Ok(without_last_line_feed(alloc, page.as_slice())?)
+}
+
+fn has_word(text: &str, wanted: &str) -> bool {
+    text.split_whitespace().any(|word| word == wanted)
 }
 
 /// A word, and what stands behind it.
