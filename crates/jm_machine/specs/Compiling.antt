@@ -1,6 +1,7 @@
 -- Which rules the tree of a specification says, and which fault it has: the steps of the formulas, of the handlers, and
 -- of the formulas' tables.
-use Rattle.std.specs.Prelude.{ℕ, ◌≡◌, ◌<◌, List, [], ◌∷◌, length, Some, None, slice_get, slice_range}
+use Rattle.std.specs.Prelude.{ℕ, ◌≡◌, ◌<◌, Bool, List, [], ◌∷◌, length, Some, None, slice_get, slice_range}
+use Rattle.std.specs.Option.{is_some}
 use Rattle.jm_model.specs.Words.{Text}
 use Rattle.jm_model.specs.declared.fault.SpecFault.{SpecFault}
 use Rattle.jm_model.specs.declared.fault.SpecError.{SpecError}
@@ -12,20 +13,21 @@ use Rattle.jm_spec.specs.Trees.{PropertyFacts, properties_of}
 use Rattle.jm_machine.specs.declared.formula.Formula.{Formula}
 use Rattle.jm_machine.specs.Formulas.{IsReadAs, IsRefusedIn, IsTableFault}
 use Rattle.jm_machine.specs.FirstRefusals.{IsFirstRefusal}
-use Rattle.jm_machine.specs.Handlers.{handler_names, handlers_fault, resetting_handlers}
+use Rattle.jm_machine.specs.Handlers.{handler_names, handlers_fault, suffix_fault, resetting_handlers}
 use Rattle.jm_machine.specs.Meanings.{PropertyDefinition, RuleDefinition, rules_of}
 
 -- the tokens of a property's formula
 abbrev pub formula_of : List Token → PropertyFacts → List Token
 formula_of tokens p = slice_range tokens p.first p.last
 
-module _ (bytes : Text) (tokens : List Token) (table : EventDefinitions) where
+-- `suffix` says whether the rules may begin anywhere.
+module _ (bytes : Text) (tokens : List Token) (table : EventDefinitions) (suffix : Bool) where
   -- the property's formula is this one, or has this first fault
   abbrev pub IsFormula : PropertyFacts → Formula → Type 0
-  IsFormula p formula = IsReadAs bytes (formula_of tokens p) table p.logic formula
+  IsFormula p formula = IsReadAs bytes (formula_of tokens p) table p.logic suffix formula
 
   abbrev pub IsRefusedFormula : PropertyFacts → SpecFault → Type 0
-  IsRefusedFormula p fault = IsRefusedIn bytes (formula_of tokens p) table p.logic fault
+  IsRefusedFormula p fault = IsRefusedIn bytes (formula_of tokens p) table p.logic suffix fault
 
   -- the properties' formulas are these, one by one
   abbrev pub AreFormulas : List PropertyFacts → List Formula → Type 0
@@ -65,22 +67,31 @@ module _ (bytes : Text) (tokens : List Token) where
     -- no step has a fault, and the tree says these rules
     pub record IsCompiledFrom (r : RuleDefinition) : Type 0 where
       pub formulas : List Formula
-      pub read : AreFormulas bytes tokens tree.table (properties_of tree) formulas
+      pub read : AreFormulas bytes tokens tree.table (is_some tree.suffix) (properties_of tree) formulas
       pub handled : handlers_fault bytes tree.full_binding tokens (properties_of tree) formulas ≡ None
+      pub suffixed : suffix_fault bytes tree.suffix (properties_of tree) ≡ None
       pub settled : IsSettled (length tree.table.events) formulas
       pub rules : r ≡ rules_of tree.table tree.full_binding (properties_said (properties_of tree) formulas)
 
-    -- the first fault: that of the formulas, that of the handlers, or that of the making of the formulas' tables
+    -- the first fault: that of the formulas, that of the handlers, that of `suffix`, or that of the making of the
+    -- formulas' tables
     pub data IsFaultyTree (fault : SpecFault) : Type 0 where
-      in_formulas : IsFirstRefusal (IsRefusedFormula bytes tokens tree.table) (properties_of tree) fault
+      in_formulas : IsFirstRefusal (IsRefusedFormula bytes tokens tree.table (is_some tree.suffix))
+          (properties_of tree) fault
           → IsFaultyTree fault
       in_handlers : (formulas : List Formula)
-          → AreFormulas bytes tokens tree.table (properties_of tree) formulas
+          → AreFormulas bytes tokens tree.table (is_some tree.suffix) (properties_of tree) formulas
           → handlers_fault bytes tree.full_binding tokens (properties_of tree) formulas ≡ Some fault
           → IsFaultyTree fault
-      in_tables : (formulas : List Formula)
-          → AreFormulas bytes tokens tree.table (properties_of tree) formulas
+      in_suffix : (formulas : List Formula)
+          → AreFormulas bytes tokens tree.table (is_some tree.suffix) (properties_of tree) formulas
           → handlers_fault bytes tree.full_binding tokens (properties_of tree) formulas ≡ None
+          → suffix_fault bytes tree.suffix (properties_of tree) ≡ Some fault
+          → IsFaultyTree fault
+      in_tables : (formulas : List Formula)
+          → AreFormulas bytes tokens tree.table (is_some tree.suffix) (properties_of tree) formulas
+          → handlers_fault bytes tree.full_binding tokens (properties_of tree) formulas ≡ None
+          → suffix_fault bytes tree.suffix (properties_of tree) ≡ None
           → IsFirstTableFault (length tree.table.events) formulas fault
           → IsFaultyTree fault
 

@@ -3,7 +3,8 @@ use Rattle.std.specs.Prelude.{ℕ, ◌≡◌, ◌<◌, ◌↔◌, Bool, true, fa
 use Rattle.jm_model.specs.Words.{Word, Mask}
 use Rattle.jm_table.specs.Tables.{IsWord, IsInGroup, state_after_of}
 use Rattle.jm_table.specs.Minimal.{IsReduced}
-use Rattle.jm_grammar.specs.Grammars.{GrammarDefinition}
+use Rattle.jm_ere.specs.Suffixes.{EndsIn}
+use Rattle.jm_grammar.specs.Grammars.{GrammarDefinition, IsWithin}
 use Rattle.jm_grammar.specs.Meanings as grammar
 use Rattle.jm_grammar.specs.Categories.{GrammarHolds}
 use Rattle.jm_earley.specs.Charts.{AreBelow, IsChartOf}
@@ -12,7 +13,7 @@ use Rattle.jm_machine.specs.declared.engine.Engine.TheVariants.{States, Parses}
 use Rattle.jm_machine.specs.declared.place.Place.{Place}
 use Rattle.jm_machine.specs.declared.place.Place.TheVariants.{State, Parse}
 use Rattle.jm_machine.specs.declared.formula.Formula.{Formula}
-use Rattle.jm_machine.specs.declared.formula.Formula.TheVariants.{Grammatical}
+use Rattle.jm_machine.specs.declared.formula.Formula.TheVariants.{Grammatical, GrammaticalSuffix}
 use Rattle.jm_machine.specs.Formulas.{category_names, CategoryHolds}
 
 -- how many letters there are, and how many categories
@@ -50,9 +51,10 @@ abbrev pub EngineHolds : Engine → ℕ → Word → Type 0
 EngineHolds (States t) category word = IsInGroup t (state_after_of t word) category
 EngineHolds (Parses c) category word = GrammarHolds c.grammar category word
 
--- each letter of a grammar is below this number
+-- each letter of a grammar is below this number, and each nonterminal below 31 where the rule may begin anywhere
 abbrev pub HasLetters : ℕ → Formula → Type 0
 HasLetters letters (Grammatical g) = AreBelow g.productions letters
+HasLetters letters (GrammaticalSuffix g) = AreBelow g.productions letters × IsWithin 31 g
 HasLetters letters _ = Unit {0}
 
 -- the charts are those of a grammar with the words of this one, over so many letters
@@ -60,6 +62,14 @@ abbrev pub IsParserOf : GrammarDefinition → ℕ → Engine → Type 0
 IsParserOf g letters (Parses c) =
     ((word : Word) → grammar.IsWord c.grammar word ↔ grammar.IsWord g word) × (length c.params ≡ letters)
 IsParserOf g letters (States t) = ⊥
+
+-- the charts are those of a grammar with the words, over so many letters, that end in a word of this one
+abbrev pub IsSuffixParserOf : GrammarDefinition → ℕ → Engine → Type 0
+IsSuffixParserOf g letters (Parses c) =
+    ((word : Word) → grammar.IsWord c.grammar word
+    ↔ (All (λ letter. letter < letters) word × EndsIn (grammar.IsWord g) word))
+    × (length c.params ≡ letters)
+IsSuffixParserOf g letters (States t) = ⊥
 
 -- after each word of its letters that isn't empty, the categories hold by what runs the property where they hold of the
 -- word

@@ -1,17 +1,19 @@
 -- What is wrong with the handlers of a specification, step by step, and which of them reset their property.
-use Rattle.std.specs.Prelude.{ℕ, ◌+◌, ◌≡◌, Bool, true, false, List, [], ◌∷◌, ◌++◌, length, map, filter, slice_get, All, Option, Some, None, codes, nat_le, slice_range, if◌then◌else◌}
+use Rattle.std.specs.Prelude.{ℕ, ◌+◌, ◌≡◌, Bool, true, false, not, ◌||◌, List, [], ◌∷◌, ◌++◌, length, map, filter, slice_get, All, Option, Some, None, codes, nat_le, slice_range, if◌then◌else◌}
 use Rattle.std.specs.List.{range_with_len, list_any}
 use Rattle.std.specs.Option.{option_map_or}
 use Rattle.std.specs.Str.{bytes_eq}
 use Rattle.jm_model.specs.Words.{Text}
 use Rattle.jm_model.specs.declared.fault.Counted.TheVariants.{Handlers}
 use Rattle.jm_model.specs.declared.fault.SpecFault.{SpecFault}
-use Rattle.jm_model.specs.declared.fault.SpecFault.TheVariants.{TooMany, DuplicateHandler, UnknownCategory, ResetWithFullBinding}
+use Rattle.jm_model.specs.declared.fault.SpecFault.TheVariants.{TooMany, DuplicateHandler, UnknownCategory, ResetWithFullBinding, UnsupportedSuffix}
 use Rattle.jm_text.specs.declared.token.Token.{Token}
 use Rattle.jm_text.specs.Texts.{is_word}
 use Rattle.jm_reading.specs.Tokens.{name_of}
 use Rattle.jm_reading.specs.Faults.{or_else}
 use Rattle.jm_spec.specs.declared.property.HandlerText.{HandlerText}
+use Rattle.jm_spec.specs.declared.tree.Logic.{Logic}
+use Rattle.jm_spec.specs.declared.tree.Logic.TheVariants.{Fsm, Ere, Cfg, Ptltl}
 use Rattle.jm_spec.specs.Trees.{PropertyFacts}
 use Rattle.jm_machine.specs.declared.formula.Formula.{Formula}
 use Rattle.jm_machine.specs.Formulas.{category_names}
@@ -32,6 +34,13 @@ count_fault ps = if nat_le (handlers_in ps) 16 then None else Some (TooMany Hand
 abbrev pub first_fault : (PropertyFacts → Option SpecFault) → List PropertyFacts → Option SpecFault
 first_fault f [] = None
 first_fault f (p ∷ ps) = or_else (f p) (first_fault f ps)
+
+-- the logic says a language, of which `match` is the category
+abbrev pub has_language : Logic → Bool
+has_language Ere = true
+has_language Cfg = true
+has_language Fsm = false
+has_language Ptltl = false
 
 module _ (bytes : Text) where
   -- the names of the categories that are handled
@@ -86,6 +95,17 @@ module _ (bytes : Text) where
   handlers_fault full_binding tokens ps fs =
       or_else (count_fault ps)
       (or_else (duplicates_fault ps) (or_else (categories_fault ps fs) (bindings_fault full_binding tokens ps)))
+
+  -- ---- where rules may begin anywhere
+
+  abbrev pub handles_fail : PropertyFacts → Bool
+  handles_fail p = list_any (λ h. bytes_eq (name_of bytes h.category) (codes "fail")) p.handlers
+
+  -- where the modifier stands, on this line, each property has a language, and no handler is for `fail`
+  abbrev pub suffix_fault : Option ℕ → List PropertyFacts → Option SpecFault
+  suffix_fault None ps = None
+  suffix_fault (Some line) ps =
+      if list_any (λ p. not (has_language p.logic) || handles_fail p) ps then Some (UnsupportedSuffix line) else None
 
   -- a block has the word `__RESET`, so its handler resets the property
   abbrev pub has_reset : List Token → Bool

@@ -1,5 +1,6 @@
 //! The properties that a tree says: their formulas are read, their handlers checked, and each is compiled.
 ghost use Rattle.std.specs.Prelude.{ℕ, ◌≡◌, ◌<◌, ◌≤◌, List, All, None, IfOk, IfErr, length, map, slice_get};
+ghost use Rattle.std.specs.Option.{is_some};
 ghost use Rattle.jm_model.specs.declared.fault.SpecFault.{SpecFault};
 ghost use Rattle.jm_text.specs.Spans.{LieWithin};
 ghost use Rattle.jm_table.specs.Explorations.{IfBad};
@@ -30,14 +31,23 @@ pub(crate) fn read_formulas(
 ) -> Result<Vec<Formula>, SpecError>
     requires { LieWithin bytes.now tokens.now }
     ensures ok { IfOk result (λ formulas.
-        AreFormulas bytes.now tokens.now tree.now.table (properties_of tree.now) formulas.items) }
+        AreFormulas bytes.now tokens.now tree.now.table (is_some tree.now.suffix)
+        (properties_of tree.now) formulas.items) }
     ensures err { IfErr result (λ e. IfBad e
-        (IsFirstRefusal (IsRefusedFormula bytes.now tokens.now tree.now.table) (properties_of tree.now))) }
+        (IsFirstRefusal (IsRefusedFormula bytes.now tokens.now tree.now.table (is_some tree.now.suffix))
+        (properties_of tree.now))) }
 {
     let mut formulas = Vec::new(alloc);
     let mut first = None;
     for property in tree.properties.as_slice() {
-        match read_formula(alloc, bytes, tokens, property, &tree.table) {
+        match read_formula(
+            alloc,
+            bytes,
+            tokens,
+            property,
+            tree.suffix.is_some(),
+            &tree.table,
+        ) {
             Ok(formula) => formulas.push(formula)?,
             Err(SpecError::NoMemory) => return Err(SpecError::NoMemory),
             Err(SpecError::Bad(fault)) => first = Some(earlier(first, fault)),
@@ -55,16 +65,17 @@ fn read_formula(
     bytes: &[u8],
     tokens: &[Token],
     property: &PropertyTree,
+    suffix: bool,
     table: &EventTable,
 ) -> Result<Formula, SpecError>
     requires { LieWithin bytes.now tokens.now }
-    ensures ok { IfOk result (IsFormula bytes.now tokens.now table.now (facts_of property.now)) }
+    ensures ok { IfOk result (IsFormula bytes.now tokens.now table.now suffix (facts_of property.now)) }
     ensures err { IfErr result (λ e.
-        IfBad e (IsRefusedFormula bytes.now tokens.now table.now (facts_of property.now))) }
+        IfBad e (IsRefusedFormula bytes.now tokens.now table.now suffix (facts_of property.now))) }
 {
     let text = range_of(tokens, property.first, property.last);
     let line = line_before(tokens, property.first);
-    Formula::read(alloc, bytes, text, line, property.logic, table)
+    Formula::read(alloc, bytes, text, line, property.logic, suffix, table)
 }
 
 /// The line of the token before a place, or 1 where there is none.
@@ -112,7 +123,8 @@ pub(crate) fn compile_formulas(
     mut formulas: Vec<Formula>,
 ) -> Result<Vec<Property>, SpecError>
     requires tokens { LieWithin bytes.now tokens.now }
-    requires read { AreFormulas bytes.now tokens.now tree.now.table (properties_of tree.now) formulas.items }
+    requires read { AreFormulas bytes.now tokens.now tree.now.table (is_some tree.now.suffix)
+        (properties_of tree.now) formulas.items }
     requires handled { handlers_fault bytes.now tree.now.full_binding tokens.now
         (properties_of tree.now) formulas.items ≡ None }
     ensures parts { IfOk result (λ parts. AreParts bytes.now tree.now.full_binding tokens.now tree.now.table
@@ -139,7 +151,8 @@ fn compile_formula(
     formula: Formula,
 ) -> Result<Property, SpecError>
     requires tokens { LieWithin bytes.now tokens.now }
-    requires read { IsFormula bytes.now tokens.now tree.now.table (facts_of property.now) formula }
+    requires read { IsFormula bytes.now tokens.now tree.now.table (is_some tree.now.suffix)
+        (facts_of property.now) formula }
     requires handled { IsHandled bytes.now tree.now.full_binding tokens.now (facts_of property.now) formula }
     ensures part { IfOk result
         (IsPart bytes.now tree.now.full_binding tokens.now tree.now.table (facts_of property.now) formula) }

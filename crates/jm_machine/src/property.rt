@@ -251,7 +251,7 @@ fn is_failing(formula: &Formula, handlers: &Names) -> bool
     ensures { result ≡ (is_grammar formula.now && list_any (bytes_eq (codes "fail")) handlers.now) }
 {
     match formula {
-        Formula::Grammatical(_) => handlers.find("fail").is_some(),
+        Formula::Grammatical(_) | Formula::GrammaticalSuffix(_) => handlers.find("fail").is_some(),
         _ => false,
     }
 }

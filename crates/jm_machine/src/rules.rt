@@ -17,7 +17,7 @@ ghost use Rattle.jm_machine.specs.declared.place.Place.TheVariants as place;
 
 use crate::compile::{compile_formulas, read_formulas};
 use crate::configuration::Configuration;
-use crate::handlers::check_handlers;
+use crate::handlers::{check_handlers, check_suffix};
 use crate::names::numbered_names;
 use crate::place::Place;
 use crate::property::Property;
@@ -75,7 +75,9 @@ impl Rules {
     /// The fault is the first one of the steps, each of which is done for all properties, in their order, before the next:
     /// those of the formulas' readers; `TooMany` handlers, past 16 of all properties; `DuplicateHandler`;
     /// `UnknownCategory`; `ResetWithFullBinding`, the word `__RESET` in a block where the specification is for full
-    /// bindings alone; and those of the formulas' tables, `TooManyStates` and `TooMany` term.
+    /// bindings alone; `UnsupportedSuffix`, where the modifier `suffix` stands and some property is a state machine or a
+    /// past-time formula, or some handler is for `fail`; and those of the formulas' tables, `TooManyStates` and
+    /// `TooMany` term.
     pub fn compile(
         alloc: Global,
         bytes: &[u8],
@@ -101,6 +103,7 @@ impl Rules {
             formulas.as_slice(),
             full_binding,
         )?;
+        check_suffix(bytes, properties, tree.suffix)?;
         let mut parts = compile_formulas(alloc, bytes, tokens, tree, formulas)?;
         let first = parts.remove(0);
         Ok(Rules::new(alloc, first, parts)?)
