@@ -98,14 +98,18 @@ module _ (bytes : Text) where
 
   -- ---- where rules may begin anywhere
 
-  abbrev pub handles_fail : PropertyFacts → Bool
-  handles_fail p = list_any (λ h. bytes_eq (name_of bytes h.category) (codes "fail")) p.handlers
+  -- some handler is for `fail`
+  abbrev pub handles_fail : List HandlerText → Bool
+  handles_fail handlers = list_any (λ h. bytes_eq (name_of bytes h.category) (codes "fail")) handlers
 
-  -- where the modifier stands, on this line, each property has a language, and no handler is for `fail`
+  -- the property has no language, or a handler for `fail`
+  abbrev pub refuses_suffix : PropertyFacts → Bool
+  refuses_suffix p = not (has_language p.logic) || handles_fail p.handlers
+
+  -- where the modifier `suffix` stands, on this line, no property is such a one
   abbrev pub suffix_fault : Option ℕ → List PropertyFacts → Option SpecFault
   suffix_fault None ps = None
-  suffix_fault (Some line) ps =
-      if list_any (λ p. not (has_language p.logic) || handles_fail p) ps then Some (UnsupportedSuffix line) else None
+  suffix_fault (Some line) ps = if list_any refuses_suffix ps then Some (UnsupportedSuffix line) else None
 
   -- a block has the word `__RESET`, so its handler resets the property
   abbrev pub has_reset : List Token → Bool

@@ -1,13 +1,10 @@
 //! The handlers of properties: their categories, what is wrong with them, and which of them reset their property.
-ghost use Rattle.std.specs.Prelude.{ℕ, codes, not, ◌||◌, ◌≡◌, ◌<◌, ◌≤◌, ◌^◌, ◌↔◌, Some, true, [], IsBitSet, IsSomeAnd, length, map, slice_get, slice_range, IfOk, IfErr};
-ghost use Rattle.std.specs.List.{list_any};
-ghost use Rattle.std.specs.Str.{bytes_eq};
+ghost use Rattle.std.specs.Prelude.{ℕ, ◌≡◌, ◌<◌, ◌≤◌, ◌^◌, ◌↔◌, Some, true, [], IsBitSet, IsSomeAnd, length, map, slice_get, slice_range, IfOk, IfErr};
 ghost use Rattle.jm_text.specs.Spans.{LieWithin};
-ghost use Rattle.jm_reading.specs.Tokens.{name_of};
 ghost use Rattle.jm_reading.specs.Faults.{Checks};
 ghost use Rattle.jm_spec.specs.Trees.{facts_of};
 ghost use Rattle.jm_events.specs.Names.{number_of};
-ghost use Rattle.jm_machine.specs.Handlers.{handler_names, AreCategories, handlers_in, count_fault, duplicate_fault, category_fault, reset_in, reset_fault, binding_fault, duplicates_fault, categories_fault, bindings_fault, handlers_fault, has_language, handles_fail, suffix_fault, has_reset};
+ghost use Rattle.jm_machine.specs.Handlers.{handler_names, AreCategories, handlers_in, count_fault, duplicate_fault, category_fault, reset_in, reset_fault, binding_fault, duplicates_fault, categories_fault, bindings_fault, handlers_fault, has_language, handles_fail, refuses_suffix, suffix_fault, has_reset};
 
 use crate::formula::Formula;
 use jm_events::Names;
@@ -103,7 +100,7 @@ fn check_all_bindings(
     Ok(())
 }
 
-/// Where the modifier `suffix` stands, on this line, each property has a language, and no handler is for `fail`.
+/// Where the modifier `suffix` stands, on this line: no property is without a language, and no handler is for `fail`.
 pub(crate) fn check_suffix(
     bytes: &[u8],
     properties: &[PropertyTree],
@@ -111,11 +108,18 @@ pub(crate) fn check_suffix(
 ) -> Result<(), SpecError>
     ensures { Checks result (suffix_fault bytes.now suffix (map facts_of properties.now)) }
 {
-    if let Some(line) = suffix {
-        if properties
-            .iter()
-            .any(|property| is_without_suffix(bytes, property))
-        {
+    match suffix {
+        Some(line) => all_take_suffix(bytes, properties, line),
+        None => Ok(()),
+    }
+}
+
+/// No property refuses the modifier, which stands on this line.
+fn all_take_suffix(bytes: &[u8], properties: &[PropertyTree], line: u32) -> Result<(), SpecError>
+    ensures { Checks result (suffix_fault bytes.now (Some line) (map facts_of properties.now)) }
+{
+    for property in properties {
+        if refuses_suffix(bytes, property) {
             return Err(SpecError::Bad(SpecFault::UnsupportedSuffix { line }));
         }
     }
@@ -123,12 +127,13 @@ pub(crate) fn check_suffix(
 }
 
 /// Whether the property has no language, or a handler for `fail`.
-fn is_without_suffix(bytes: &[u8], property: &PropertyTree) -> bool
-    ensures { result ≡ (not (has_language property.now.logic) || handles_fail bytes.now (facts_of property.now)) }
+fn refuses_suffix(bytes: &[u8], property: &PropertyTree) -> bool
+    ensures { result ≡ refuses_suffix bytes.now (facts_of property.now) }
 {
     !has_language(property.logic) || handles_fail(bytes, property.handlers.as_slice())
 }
 
+/// Whether the logic says a language.
 fn has_language(logic: Logic) -> bool
     ensures { result ≡ has_language logic }
 {
@@ -140,7 +145,7 @@ fn has_language(logic: Logic) -> bool
 
 /// Whether a handler is for `fail`.
 fn handles_fail(bytes: &[u8], handlers: &[HandlerText]) -> bool
-    ensures { result ≡ list_any (λ h. bytes_eq (name_of bytes.now h.category) (codes "fail")) handlers.now }
+    ensures { result ≡ handles_fail bytes.now handlers.now }
 {
     handlers
         .iter()
