@@ -2,6 +2,7 @@
 use Rattle.std.proofs.Common.{◌≡◌, ◌⊎◌, inl, inr, ℕ, zero, suc, ◌+◌, ◌<◌, ◌≤◌, ◌^◌, Bool, true, false, ◌||◌, Option, Some, None, List, [], ◌∷◌, ◌++◌, map, length, slice_get, refl, sym, ◌∙◌, ap, subst, arith, append_assoc}
 use Rattle.std.specs.Prelude.{All, if◌then◌else◌}
 use Rattle.std.specs.List.{list_any}
+use Rattle.std.specs.Option.{is_some}
 use Rattle.std.specs.Str.{bytes_eq}
 use Rattle.std.proofs.lemmas.Bool.{false≢true}
 use Rattle.std.proofs.lemmas.List.{append-nil, length-map}
@@ -20,14 +21,14 @@ use Rattle.jm_spec.specs.declared.property.HandlerText.{HandlerText}
 use Rattle.jm_spec.specs.declared.tree.SpecTree.{SpecTree}
 use Rattle.jm_spec.specs.Trees.{PropertyFacts, properties_of}
 use Rattle.jm_machine.specs.declared.formula.Formula.{Formula}
-use Rattle.jm_machine.specs.Handlers.{handler_names, resetting_handlers, handlers_in, duplicate_fault, handlers_fault}
+use Rattle.jm_machine.specs.Handlers.{handler_names, resetting_handlers, handlers_in, duplicate_fault, handlers_fault, suffix_fault}
 use Rattle.jm_machine.specs.HandlerNames.{AreDistinct, AreEachDistinct}
 use Rattle.jm_machine.specs.PropertyMeanings.{PropertyRules, property_rules_of}
 use Rattle.jm_machine.specs.Meanings.{PropertyDefinition, handler_count, rules_of}
 use Rattle.jm_machine.specs.CompiledProperties.{CompiledProperty}
 use Rattle.jm_machine.specs.RuleSets.{IsAlike, property_of, rules_with}
 use Rattle.jm_machine.specs.FirstRefusals.{IsFirstRefusal}
-use Rattle.jm_machine.specs.Compiling.{IsRefusedFormula, AreFormulas, IsFirstTableFault, IsSettled, property_said, properties_said, IsCompiledFrom, IsNotCompiled, in_formulas, in_handlers, in_tables}
+use Rattle.jm_machine.specs.Compiling.{IsRefusedFormula, AreFormulas, IsFirstTableFault, IsSettled, property_said, properties_said, IsCompiledFrom, IsNotCompiled, in_formulas, in_handlers, in_suffix, in_tables}
 use Rattle.jm_machine.specs.Refusals.{IsPart, AreParts}
 use Rattle.jm_machine.proofs.ReadingLemmas.{count_formulas}
 use Rattle.jm_machine.proofs.HandledLemmas.{few_handlers, no_duplicate}
@@ -134,9 +135,9 @@ module _ (bytes : List ℕ) (full_binding : Bool) (tokens : List Token) (table :
   count_said (p ∷ ps) (f ∷ fs) many =
       omega (arith, length-map p.handlers (λ (h : HandlerText). name_of bytes h.category), count_said ps fs (omega (arith, many)))
 
-  module _ (ps : List PropertyFacts) (fs : List Formula) (read : AreFormulas bytes tokens table ps fs) (none : handlers_fault bytes full_binding tokens ps fs ≡ None) (first : CompiledProperty) (others : List CompiledProperty) (made : AreParts bytes full_binding tokens table ps fs (first ∷ others)) where
+  module _ (suffix : Bool) (ps : List PropertyFacts) (fs : List Formula) (read : AreFormulas bytes tokens table suffix ps fs) (none : handlers_fault bytes full_binding tokens ps fs ≡ None) (first : CompiledProperty) (others : List CompiledProperty) (made : AreParts bytes full_binding tokens table ps fs (first ∷ others)) where
     many : length fs ≡ length ps
-    many = count_formulas bytes tokens table ps fs read
+    many = count_formulas bytes tokens table suffix ps fs read
 
     part_at : (k : ℕ) (part : CompiledProperty) → slice_get (first ∷ others) k ≡ Some part → (p : PropertyFacts) × (f : Formula) × (slice_get ps k ≡ Some p) × Part p f part
     part_at k part at =
@@ -191,25 +192,31 @@ module _ (bytes : List ℕ) (full_binding : Bool) (tokens : List Token) (table :
 -- ---- faults
 
 module _ (bytes : List ℕ) (tokens : List Token) (tree : SpecTree) where
-  pub refused_formulas : (e : SpecError) → IfBad e (IsFirstRefusal (IsRefusedFormula bytes tokens tree.table) (properties_of tree)) → IsNotCompiled bytes tokens tree e
+  pub refused_formulas : (e : SpecError) → IfBad e (IsFirstRefusal (IsRefusedFormula bytes tokens tree.table (is_some tree.suffix)) (properties_of tree)) → IsNotCompiled bytes tokens tree e
   refused_formulas NoMemory h = tt
   refused_formulas (Bad fault) h = in_formulas h
 
-  module _ (formulas : List Formula) (read : AreFormulas bytes tokens tree.table (properties_of tree) formulas) where
+  module _ (formulas : List Formula) (read : AreFormulas bytes tokens tree.table (is_some tree.suffix) (properties_of tree) formulas) where
     pub refused_handlers : (e : SpecError) → Refuses (handlers_fault bytes tree.full_binding tokens (properties_of tree) formulas) e → IsNotCompiled bytes tokens tree e
     refused_handlers NoMemory h = tt
     refused_handlers (Bad fault) h = in_handlers formulas read h
 
-    pub refused_tables : (e : SpecError) → handlers_fault bytes tree.full_binding tokens (properties_of tree) formulas ≡ None → IfBad e (IsFirstTableFault (length tree.table.events) formulas) → IsNotCompiled bytes tokens tree e
-    refused_tables NoMemory handled h = tt
-    refused_tables (Bad fault) handled h = in_tables formulas read handled h
+    pub refused_suffix : (e : SpecError) → handlers_fault bytes tree.full_binding tokens (properties_of tree) formulas ≡ None → Refuses (suffix_fault bytes tree.suffix (properties_of tree)) e → IsNotCompiled bytes tokens tree e
+    refused_suffix NoMemory handled h = tt
+    refused_suffix (Bad fault) handled h = in_suffix formulas read handled h
 
-    -- the rules of the compiled properties are those of the tree
-    pub compiled_from : handlers_fault bytes tree.full_binding tokens (properties_of tree) formulas ≡ None → IsSettled (length tree.table.events) formulas → (first : CompiledProperty) (others : List CompiledProperty) → AreParts bytes tree.full_binding tokens tree.table (properties_of tree) formulas (first ∷ others) → IsCompiledFrom bytes tokens tree (rules_with first others)
-    compiled_from handled settled first others made = record {
-      formulas = formulas;
-      read = read;
-      handled = handled;
-      settled = settled;
-      rules = parts_rules bytes tree.full_binding tokens tree.table (properties_of tree) formulas read handled first others made;
-    }
+    module _ (handled : handlers_fault bytes tree.full_binding tokens (properties_of tree) formulas ≡ None) (suffixed : suffix_fault bytes tree.suffix (properties_of tree) ≡ None) where
+      pub refused_tables : (e : SpecError) → IfBad e (IsFirstTableFault (length tree.table.events) formulas) → IsNotCompiled bytes tokens tree e
+      refused_tables NoMemory h = tt
+      refused_tables (Bad fault) h = in_tables formulas read handled suffixed h
+
+      -- the rules of the compiled properties are those of the tree
+      pub compiled_from : IsSettled (length tree.table.events) formulas → (first : CompiledProperty) (others : List CompiledProperty) → AreParts bytes tree.full_binding tokens tree.table (properties_of tree) formulas (first ∷ others) → IsCompiledFrom bytes tokens tree (rules_with first others)
+      compiled_from settled first others made = record {
+        formulas = formulas;
+        read = read;
+        handled = handled;
+        suffixed = suffixed;
+        settled = settled;
+        rules = parts_rules bytes tree.full_binding tokens tree.table (is_some tree.suffix) (properties_of tree) formulas read handled first others made;
+      }

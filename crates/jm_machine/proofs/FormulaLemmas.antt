@@ -1,8 +1,8 @@
 -- What runs a formula tells its categories.
-use Rattle.std.proofs.Common.{false, [], ◌∷◌, map, length-append, ◌≡◌, ℕ, zero, suc, ◌<◌, List, ◌++◌, length, Result, Ok, Err, sym, subst, arith}
+use Rattle.std.proofs.Common.{Bool, true, false, [], ◌∷◌, map, length-append, ◌≡◌, ℕ, zero, suc, ◌<◌, List, ◌++◌, length, Result, Ok, Err, sym, subst, arith}
 use Rattle.std.specs.Prelude.{◌↔◌, All, Contains, IfOk, codes}
 use Rattle.std.proofs.lemmas.List.{length-map}
-use Rattle.std.proofs.lemmas.List.Elements.{All-weaker, All-contains_itself}
+use Rattle.std.proofs.lemmas.List.Elements.{All-weaker, All-contains_itself, All-append, All-tail}
 use Rattle.jm_model.specs.declared.step.Letter.{Letter as LetterType}
 use Rattle.jm_model.specs.declared.fault.SpecError.{SpecError}
 use Rattle.jm_text.specs.declared.token.Token.{Token}
@@ -14,24 +14,28 @@ use Rattle.jm_fsm.specs.Tables as fsm_tables
 use Rattle.jm_ere.specs.Expressions.{Expression}
 use Rattle.jm_ere.specs.Categories.{ExpressionHolds}
 use Rattle.jm_ere.specs.Groups as ere
+use Rattle.jm_ere.specs.Meanings.{InLanguage}
+use Rattle.jm_ere.specs.Suffixes.{EndsIn}
 use Rattle.jm_ptltl.specs.Categories.{PastHolds}
 use Rattle.jm_ptltl.specs.Formulas as past
 use Rattle.jm_ptltl.specs.Tables as past_tables
 use Rattle.jm_grammar.specs.Grammars.{GrammarDefinition}
 use Rattle.jm_grammar.specs.Readings as grammar_readings
+use Rattle.jm_grammar.specs.Meanings as grammar
+use Rattle.jm_grammar.specs.Categories.{GrammarHolds}
 use Rattle.jm_grammar.specs.declared.grammar.Production.{Production}
 use Rattle.jm_grammar.specs.declared.grammar.GrammarSymbol.{GrammarSymbol}
 use Rattle.jm_grammar.specs.declared.grammar.GrammarSymbol.TheVariants.{Letter, Nonterminal}
 use Rattle.jm_grammar.proofs.ReadLemmas as grammar_reading
-use Rattle.jm_earley.specs.Charts.{IsBelow}
+use Rattle.jm_earley.specs.Charts.{ChartsDefinition, IsBelow, AreBelow}
 use Rattle.jm_spec.specs.declared.tree.Logic.{Logic}
 use Rattle.jm_spec.specs.declared.tree.Logic.TheVariants.{Fsm, Ere, Cfg, Ptltl}
 use Rattle.jm_machine.specs.declared.formula.Formula.{Formula}
-use Rattle.jm_machine.specs.declared.formula.Formula.TheVariants.{Machine, Regular, Temporal, Grammatical}
+use Rattle.jm_machine.specs.declared.formula.Formula.TheVariants.{Machine, Regular, RegularSuffix, Temporal, Grammatical, GrammaticalSuffix}
 use Rattle.jm_machine.specs.declared.engine.Engine.{Engine}
-use Rattle.jm_machine.specs.declared.engine.Engine.TheVariants.{States}
-use Rattle.jm_machine.specs.Formulas.{IsReadAs, CategoryHolds}
-use Rattle.jm_machine.specs.Engines.{letters_of_engine, EngineHolds, HasLetters, IsCompiled}
+use Rattle.jm_machine.specs.declared.engine.Engine.TheVariants.{States, Parses}
+use Rattle.jm_machine.specs.Formulas.{IsReadAs, CategoryHolds, SuffixHolds}
+use Rattle.jm_machine.specs.Engines.{letters_of_engine, EngineHolds, HasLetters, IsSuffixParserOf, IsCompiled}
 
 pub machine_count : (m : fsm.StateMachine) → length (fsm_categories.category_names m) ≡ fsm_categories.category_count m
 machine_count m =
@@ -55,6 +59,43 @@ regular_at e t word (suc (suc category)) h below less = absurd (omega (arith, le
 
 pub regular_compiled : (e : Expression) (t : Transitions) → ere.IsCompiled e t → IsCompiled (Regular e) (States t)
 regular_compiled e t h = λ word below some category less. regular_at e t word category h below less
+
+suffix_at : (e d : Expression) (t : Transitions) (word : List ℕ) (category : ℕ) → ((w : List ℕ) → InLanguage d w ↔ EndsIn (InLanguage e) w) → ere.IsCompiled d t → IsWord t word → category < 2 → IsInGroup t (state_after_of t word) category ↔ SuffixHolds (InLanguage e) t.letters category word
+suffix_at e d t word zero words h below less = let m = h.matched word below in (λ at. (words word).0 (m.0 at), λ ends. m.1 ((words word).1 ends))
+suffix_at e d t word (suc zero) words h below less =
+    let f = h.failed word below in (
+      λ at more letters ends. f.0 at more letters ((words (word ++ more)).1 ends),
+      λ never. f.1 (λ more letters own. never more letters ((words (word ++ more)).0 own)),
+    )
+suffix_at e d t word (suc (suc category)) words h below less = absurd (omega (arith, less))
+
+-- the table of an expression of the words that end in one of the written one
+pub suffix_compiled : (e d : Expression) (t : Transitions) → ((w : List ℕ) → InLanguage d w ↔ EndsIn (InLanguage e) w) → ere.IsCompiled d t → IsCompiled (RegularSuffix e) (States t)
+suffix_compiled e d t words h = λ word below some category less. suffix_at e d t word category words h below less
+
+all_extended : (P : ℕ → Type 0) (word more : List ℕ) → All P word → All P more → All P (word ++ more)
+all_extended P word more h k = All-append P word more h k
+
+all_behind : (P : ℕ → Type 0) (word more : List ℕ) → All P (word ++ more) → All P more
+all_behind P [] more h = h
+all_behind P (x ∷ word) more h = all_behind P word more (All-tail P x (word ++ more) h)
+
+suffix_parsed : (g : GrammarDefinition) (c : ChartsDefinition) (word : List ℕ) (category : ℕ) → IsSuffixParserOf g (length c.params) (Parses c) → All (λ letter. letter < length c.params) word → category < 2
+    → GrammarHolds c.grammar category word ↔ SuffixHolds (grammar.IsWord g) (length c.params) category word
+suffix_parsed g c word zero h below less = let w = h.0 word in (λ own. (w.0 own).1, λ ends. w.1 (below, ends))
+suffix_parsed g c word (suc zero) h below less =
+    let P : ℕ → Type 0 = λ letter. letter < length c.params in (
+      λ hopeless more letters ends. hopeless more ((h.0 (word ++ more)).1 (all_extended P word more below letters, ends)),
+      λ never more own. let w = (h.0 (word ++ more)).0 own in never more (all_behind P word more w.0) w.1,
+    )
+suffix_parsed g c word (suc (suc category)) h below less = absurd (omega (arith, less))
+
+-- the charts of the words that end in one of a grammar
+pub suffix_parser_compiled : (g : GrammarDefinition) (letters : ℕ) (r : Result Engine SpecError) → IfOk r (IsSuffixParserOf g letters) → IfOk r (IsCompiled (GrammaticalSuffix g))
+suffix_parser_compiled g letters (Err e) h = tt
+suffix_parser_compiled g letters (Ok (States t)) h = absurd h
+suffix_parser_compiled g letters (Ok (Parses c)) h = λ word below some category less.
+    suffix_parsed g c word category (subst (λ (n : ℕ). IsSuffixParserOf g n (Parses c)) (sym h.1) h) below less
 
 temporal_at : (f : past.Formula LetterType) (t : Transitions) (word : List ℕ) (category : ℕ) → past_tables.IsCompiled f t → IsWord t word → 0 < length word → category < 2 → IsInGroup t (state_after_of t word) category ↔ PastHolds f category word
 temporal_at f t word zero h below some less = h.validation word below some
@@ -80,17 +121,30 @@ compiled_by formula t (Ok e) compiled letters same = λ word below some category
 all_of : {X : Type 0} (P : X → Type 0) (xs : List X) → ((x : X) → Contains xs x → P x) → All P xs
 all_of P xs each = All-weaker (Contains xs) P each xs (All-contains_itself xs)
 
-module _ (bytes : List ℕ) (tokens : List Token) (table : EventDefinitions) where
-  symbol_below : (g : GrammarDefinition) → grammar_readings.IsReadFrom bytes tokens table false g → (p : Production) → Contains g.productions p → (s : GrammarSymbol) → Contains p.symbols s → IsBelow (length table.events) s
-  symbol_below g read p has (Letter a) at = grammar_reading.letters_there bytes tokens table false g read p has a at
+module _ (bytes : List ℕ) (tokens : List Token) (table : EventDefinitions) (suffix : Bool) where
+  symbol_below : (g : GrammarDefinition) → grammar_readings.IsReadFrom bytes tokens table suffix g → (p : Production) → Contains g.productions p → (s : GrammarSymbol) → Contains p.symbols s → IsBelow (length table.events) s
+  symbol_below g read p has (Letter a) at = grammar_reading.letters_there bytes tokens table suffix g read p has a at
   symbol_below g read p has (Nonterminal n) at = tt
 
-  -- the letters of a formula that was read are events
-  pub letters_read : (logic : Logic) (f : Formula) → IsReadAs bytes tokens table logic f → HasLetters (length table.events) f
-  letters_read logic (Machine m) h = tt
-  letters_read logic (Regular e) h = tt
-  letters_read logic (Temporal f) h = tt
-  letters_read Cfg (Grammatical g) h = all_of (λ (p : Production). All (IsBelow (length table.events)) p.symbols) g.productions (λ p has. all_of (IsBelow (length table.events)) p.symbols (symbol_below g h p has))
-  letters_read Fsm (Grammatical g) h = absurd h
-  letters_read Ere (Grammatical g) h = absurd h
-  letters_read Ptltl (Grammatical g) h = absurd h
+  symbols_below : (g : GrammarDefinition) → grammar_readings.IsReadFrom bytes tokens table suffix g → AreBelow g.productions (length table.events)
+  symbols_below g h = all_of (λ (p : Production). All (IsBelow (length table.events)) p.symbols) g.productions (λ p has. all_of (IsBelow (length table.events)) p.symbols (symbol_below g h p has))
+
+module _ (bytes : List ℕ) (tokens : List Token) (table : EventDefinitions) where
+  -- the letters of a formula that was read are events, and the nonterminals are few where the rule may begin anywhere
+  pub letters_read : (logic : Logic) (suffix : Bool) (f : Formula) → IsReadAs bytes tokens table logic suffix f → HasLetters (length table.events) f
+  letters_read logic suffix (Machine m) h = tt
+  letters_read logic suffix (Regular e) h = tt
+  letters_read logic suffix (RegularSuffix e) h = tt
+  letters_read logic suffix (Temporal f) h = tt
+  letters_read Cfg false (Grammatical g) h = symbols_below bytes tokens table false g h
+  letters_read Cfg true (Grammatical g) h = absurd h
+  letters_read Fsm suffix (Grammatical g) h = absurd h
+  letters_read Ere false (Grammatical g) h = absurd h
+  letters_read Ere true (Grammatical g) h = absurd h
+  letters_read Ptltl suffix (Grammatical g) h = absurd h
+  letters_read Cfg true (GrammaticalSuffix g) h = (symbols_below bytes tokens table true g h, grammar_reading.nonterminals_within bytes tokens table true g h)
+  letters_read Cfg false (GrammaticalSuffix g) h = absurd h
+  letters_read Fsm suffix (GrammaticalSuffix g) h = absurd h
+  letters_read Ere false (GrammaticalSuffix g) h = absurd h
+  letters_read Ere true (GrammaticalSuffix g) h = absurd h
+  letters_read Ptltl suffix (GrammaticalSuffix g) h = absurd h

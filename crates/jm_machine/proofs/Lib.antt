@@ -2,6 +2,7 @@ pub mod OptionLemmas
 pub mod PlaceLemmas
 pub mod HandlerLemmas
 pub mod GoalLemmas
+pub mod SuffixLemmas
 pub mod FormulaLemmas
 pub mod ReadingLemmas
 pub mod RestLemmas

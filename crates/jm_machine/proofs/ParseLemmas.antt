@@ -18,7 +18,7 @@ use Rattle.jm_earley.specs.Charts.{ChartsDefinition}
 use Rattle.jm_earley.specs.DeadSets as charts
 use Rattle.jm_earley.specs.Places.{IsAliveFor}
 use Rattle.jm_machine.specs.declared.formula.Formula.{Formula}
-use Rattle.jm_machine.specs.declared.formula.Formula.TheVariants.{Machine, Regular, Temporal, Grammatical}
+use Rattle.jm_machine.specs.declared.formula.Formula.TheVariants.{Machine, Regular, RegularSuffix, Temporal, Grammatical, GrammaticalSuffix}
 use Rattle.jm_machine.specs.declared.engine.Engine.TheVariants.{Parses}
 use Rattle.jm_machine.specs.declared.place.Place.{Place}
 use Rattle.jm_machine.specs.declared.place.Place.TheVariants.{Start, Barren, State, Parse}
@@ -34,8 +34,10 @@ use Rattle.jm_machine.proofs.QuietLemmas.{IsPlain, never_plainly}
 
 names_of_grammar : (f : Formula) → is_grammar f ≡ true → category_names f ≡ categories.category_names
 names_of_grammar (Grammatical g) is = refl
+names_of_grammar (GrammaticalSuffix g) is = refl
 names_of_grammar (Machine m) is = absurd (false≢true is)
 names_of_grammar (Regular e) is = absurd (false≢true is)
+names_of_grammar (RegularSuffix e) is = absurd (false≢true is)
 names_of_grammar (Temporal f) is = absurd (false≢true is)
 
 -- the categories of a grammar are `match` and `fail`

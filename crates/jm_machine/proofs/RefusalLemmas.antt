@@ -97,26 +97,26 @@ module _ {X : Type 0} (IsSpelled : X → Type 0) (first : X → Option SpecFault
     one_within : (fault other : SpecFault) → IsRefusedWithin IsSpelled first deep (Bad fault) → IsRefusedWithin IsSpelled first deep (Bad other) → step_of_fault fault ≡ step_of_fault other
     one_within fault other a b = one_deep_or_bad fault other (deep_or_bad fault a) (deep_or_bad other b)
 
-pub one_step : (bytes : List ℕ) (tokens : List Token) (table : EventDefinitions) (logic : Logic) (fault other : SpecFault) → IsRefusedIn bytes tokens table logic fault → IsRefusedIn bytes tokens table logic other → step_of_fault fault ≡ step_of_fault other
-one_step bytes tokens table Fsm fault other a b = one_refused (fsm_spelling.Spells bytes tokens) (fsm_faults.first_fault bytes table) (fsm_grammar.one_formula bytes tokens) fault other a b
-one_step bytes tokens table Ere fault other a b =
+pub one_step : (bytes : List ℕ) (tokens : List Token) (table : EventDefinitions) (logic : Logic) (suffix : Bool) (fault other : SpecFault) → IsRefusedIn bytes tokens table logic suffix fault → IsRefusedIn bytes tokens table logic suffix other → step_of_fault fault ≡ step_of_fault other
+one_step bytes tokens table Fsm suffix fault other a b = one_refused (fsm_spelling.Spells bytes tokens) (fsm_faults.first_fault bytes table) (fsm_grammar.one_formula bytes tokens) fault other a b
+one_step bytes tokens table Ere suffix fault other a b =
     one_within (ere_spelling.Spells bytes tokens) (ere_faults.first_fault bytes table) (ere_grammar.one_formula bytes tokens) (is_too_deep bytes 0 tokens) fault other a b
-one_step bytes tokens table Ptltl fault other a b =
+one_step bytes tokens table Ptltl suffix fault other a b =
     one_within (past_spelling.Spells bytes tokens) (past_faults.first_fault bytes table) (past_grammar.one_formula bytes tokens) (is_too_deep bytes 0 tokens) fault other a b
-one_step bytes tokens table Cfg fault other a b = one_refused (grammar_spelling.Spells bytes tokens) (grammar_faults.first_fault bytes table false) (grammar.one_formula bytes tokens) fault other a b
+one_step bytes tokens table Cfg suffix fault other a b = one_refused (grammar_spelling.Spells bytes tokens) (grammar_faults.first_fault bytes table suffix) (grammar.one_formula bytes tokens) fault other a b
 
 -- ---- a property at a time
 
-module _ (bytes : List ℕ) (tokens : List Token) (table : EventDefinitions) where
+module _ (bytes : List ℕ) (tokens : List Token) (table : EventDefinitions) (suffix : Bool) where
   -- these formulas are read, or this is the first fault
   abbrev pub ReadSoFar : List PropertyFacts → List Formula → Option SpecFault → Type 0
-  ReadSoFar ps fs None = AreFormulas bytes tokens table ps fs
-  ReadSoFar ps fs (Some fault) = IsFirstRefusal (IsRefusedFormula bytes tokens table) ps fault
+  ReadSoFar ps fs None = AreFormulas bytes tokens table suffix ps fs
+  ReadSoFar ps fs (Some fault) = IsFirstRefusal (IsRefusedFormula bytes tokens table suffix) ps fault
 
   abbrev Refused : PropertyFacts → SpecFault → Type 0
-  Refused = IsRefusedFormula bytes tokens table
+  Refused = IsRefusedFormula bytes tokens table suffix
 
-  formulas_push : (ps : List PropertyFacts) (fs : List Formula) (p : PropertyFacts) (f : Formula) → AreFormulas bytes tokens table ps fs → IsFormula bytes tokens table p f → AreFormulas bytes tokens table (ps ++ p ∷ []) (fs ++ f ∷ [])
+  formulas_push : (ps : List PropertyFacts) (fs : List Formula) (p : PropertyFacts) (f : Formula) → AreFormulas bytes tokens table suffix ps fs → IsFormula bytes tokens table suffix p f → AreFormulas bytes tokens table suffix (ps ++ p ∷ []) (fs ++ f ∷ [])
   formulas_push [] [] p f h one = (one, tt)
   formulas_push [] (g ∷ fs) p f h one = absurd h
   formulas_push (q ∷ ps) [] p f h one = absurd h
@@ -139,7 +139,7 @@ module _ (bytes : List ℕ) (tokens : List Token) (table : EventDefinitions) whe
   split (x ∷ ps) p (suc k) q at = elim (split ps p k q at) [ inl h ↦ inl (h.0, omega (arith, h.1)) | inr h ↦ inr (omega (arith, h.0), h.1) ]
 
   -- a formula more, where there is no fault, and where there is one
-  pub read_more : (ps : List PropertyFacts) (fs : List Formula) (first : Option SpecFault) (p : PropertyFacts) (f : Formula) → ReadSoFar ps fs first → IsFormula bytes tokens table p f → ReadSoFar (ps ++ p ∷ []) (fs ++ f ∷ []) first
+  pub read_more : (ps : List PropertyFacts) (fs : List Formula) (first : Option SpecFault) (p : PropertyFacts) (f : Formula) → ReadSoFar ps fs first → IsFormula bytes tokens table suffix p f → ReadSoFar (ps ++ p ∷ []) (fs ++ f ∷ []) first
   read_more ps fs None p f h one = formulas_push ps fs p f h one
   read_more ps fs (Some fault) p f h one = record {
     number = h.number;
@@ -148,7 +148,7 @@ module _ (bytes : List ℕ) (tokens : List Token) (table : EventDefinitions) whe
     refused = h.refused;
     first = λ i q other at bad. elim (split ps p i q at) [
       | inl before ↦ h.first i q other before.0 bad
-      | inr last ↦ absurd (formula_or_fault bytes (formula_of tokens p) table p.logic f other one (subst (λ (x : PropertyFacts). Refused x other) (sym last.1) bad))
+      | inr last ↦ absurd (formula_or_fault bytes (formula_of tokens p) table p.logic suffix f other one (subst (λ (x : PropertyFacts). Refused x other) (sym last.1) bad))
     ];
   }
 
@@ -160,15 +160,15 @@ module _ (bytes : List ℕ) (tokens : List Token) (table : EventDefinitions) whe
     there = last_of ps p;
     refused = bad;
     first = λ i q other at worse. elim (split ps p i q at) [
-      | inl before ↦ let f = read_at bytes tokens table ps fs i q h before.0 in
-          absurd (formula_or_fault bytes (formula_of tokens q) table q.logic f.0 other f.2 worse)
-      | inr last ↦ inr (one_step bytes (formula_of tokens p) table p.logic fault other bad (subst (λ (x : PropertyFacts). Refused x other) (sym last.1) worse), omega (arith, last.0))
+      | inl before ↦ let f = read_at bytes tokens table suffix ps fs i q h before.0 in
+          absurd (formula_or_fault bytes (formula_of tokens q) table q.logic suffix f.0 other f.2 worse)
+      | inr last ↦ inr (one_step bytes (formula_of tokens p) table p.logic suffix fault other bad (subst (λ (x : PropertyFacts). Refused x other) (sym last.1) worse), omega (arith, last.0))
     ];
   }
   refused_more ps fs (Some old) p fault h bad = by_case (nat_le (step_of_fault old) (step_of_fault fault)) refl
     where
       of_last : (other : SpecFault) (q : PropertyFacts) → p ≡ q → Refused q other → step_of_fault fault ≡ step_of_fault other
-      of_last other q same worse = one_step bytes (formula_of tokens p) table p.logic fault other bad (subst (λ (x : PropertyFacts). Refused x other) (sym same) worse)
+      of_last other q same worse = one_step bytes (formula_of tokens p) table p.logic suffix fault other bad (subst (λ (x : PropertyFacts). Refused x other) (sym same) worse)
 
       stays : step_of_fault old ≤ step_of_fault fault → IsFirstRefusal Refused (ps ++ p ∷ []) old
       stays le = record {

@@ -1,5 +1,5 @@
 //! The formula of a property, in whichever logic.
-ghost use Rattle.std.specs.Prelude.{ℕ, ◌≡◌, ◌≤◌, ◌↔◌, List, false, length, map, IfOk, IfErr};
+ghost use Rattle.std.specs.Prelude.{if◌then◌else◌, ℕ, ◌≡◌, ◌≤◌, ◌↔◌, List, false, length, map, IfOk, IfErr};
 ghost use Rattle.jm_model.specs.declared.fault.SpecFault.{SpecFault};
 ghost use Rattle.jm_text.specs.Spans.{LieWithin};
 ghost use Rattle.jm_table.specs.Explorations.{IfBad};

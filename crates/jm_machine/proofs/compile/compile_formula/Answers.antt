@@ -1,5 +1,6 @@
 use Rattle.std.proofs.Common.{List, ℕ, length, ap, ◌∙◌}
 use Rattle.std.specs.Prelude.{slice_range}
+use Rattle.std.specs.Option.{is_some}
 use Rattle.jm_spec.specs.declared.property.HandlerText.{HandlerText}
 use Rattle.jm_spec.specs.Trees.{facts_of}
 use Rattle.jm_machine.specs.Handlers.{category_fault, binding_fault, handler_names, resetting_handlers}
@@ -12,7 +13,7 @@ use Rattle.jm_machine.proofs.ResetLemmas.{same_resets, resets_apart}
 use Rattle.jm_machine.proofs.compile.compile_formula.Goals as goal
 
 pub compile-requires : goal.compile-requires
-compile-requires c = letters_read c.args.bytes.now (slice_range c.args.tokens.now c.args.property.now.first c.args.property.now.last) c.args.tree.now.table c.args.property.now.logic c.args.formula c.requires.read
+compile-requires c = letters_read c.args.bytes.now (slice_range c.args.tokens.now c.args.property.now.first c.args.property.now.last) c.args.tree.now.table c.args.property.now.logic (is_some c.args.tree.now.suffix) c.args.formula c.requires.read
 
 pub new-requires-clause-known : goal.new-requires-clause-known
 new-requires-clause-known c =

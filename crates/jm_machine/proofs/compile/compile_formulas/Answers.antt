@@ -1,6 +1,7 @@
 use Rattle.std.proofs.Common.{◌≡◌, ◌⊎◌, inl, inr, ◌<◌, ◌≤◌, ◌+◌, ℕ, zero, suc, Bool, [], ◌∷◌, ◌++◌, List, Option, Some, drop, map, get_or, length, slice_get, refl, sym, ◌∙◌, ap, subst, arith, add-one, drop-cons}
 use Rattle.std.specs.Prelude.{option_map}
 use Rattle.std.specs.List.{remove}
+use Rattle.std.specs.Option.{is_some}
 use Rattle.std.proofs.lemmas.Bool.{cases_lt}
 use Rattle.std.proofs.lemmas.List.{length-append, length-map}
 use Rattle.std.proofs.lemmas.Option.{same_Some, none-some, slice_get_within, slice_get-map, slice_get-get_or}
@@ -29,9 +30,9 @@ property_here xs ys i x same is less =
     ∙ ap (λ (o : Option PropertyTree). option_map facts_of o) (ap (λ (zs : List PropertyTree). slice_get zs i) (sym same) ∙ slice_get-get_or xs i x less ∙ ap (λ (z : PropertyTree). Some z) (sym is))
 
 -- there are as many formulas as properties
-as_many : (bytes : List ℕ) (tokens : List Token) (table : EventDefinitions) (xs ys : List PropertyTree) (fs : List Formula) → xs ≡ ys → AreFormulas bytes tokens table (map facts_of ys) fs → length fs ≡ length xs
-as_many bytes tokens table xs ys fs same read =
-    count_formulas bytes tokens table (map facts_of ys) fs read ∙ length-map ys facts_of ∙ ap (λ (zs : List PropertyTree). length zs) (sym same)
+as_many : (bytes : List ℕ) (tokens : List Token) (table : EventDefinitions) (suffix : Bool) (xs ys : List PropertyTree) (fs : List Formula) → xs ≡ ys → AreFormulas bytes tokens table suffix (map facts_of ys) fs → length fs ≡ length xs
+as_many bytes tokens table suffix xs ys fs same read =
+    count_formulas bytes tokens table suffix (map facts_of ys) fs read ∙ length-map ys facts_of ∙ ap (λ (zs : List PropertyTree). length zs) (sym same)
 
 -- the property's formula, and what is left behind that
 module _ (fs : List Formula) (i : ℕ) (less : i < length fs) (left : List Formula) (rest : left ≡ drop i fs) where
@@ -108,7 +109,7 @@ pub remove-formula-requires : goal.remove-formula-requires
 remove-formula-requires c =
     let fs = c.args.formulas.items in
     let i = c.loop-property.property-index in
-    let many = as_many c.args.bytes.now c.args.tokens.now c.args.tree.now.table c.as_slice-property-items.result.now c.args.tree.now.properties.items fs c.as_slice-property-items.ensures.value c.requires.read in
+    let many = as_many c.args.bytes.now c.args.tokens.now c.args.tree.now.table (is_some c.args.tree.now.suffix) c.as_slice-property-items.result.now c.args.tree.now.properties.items fs c.as_slice-property-items.ensures.value c.requires.read in
     let less : i < length fs = omega (arith, many, c.loop-property-test.true) in
     let some = some_of_drop fs i less in
     let rest = ap (λ (hs : List Formula). length hs) c.loop-property.invariant.rest in
@@ -126,9 +127,9 @@ compile_formula-requires-clause-read c =
     let i = c.loop-property.property-index in
     let x = c.property-item.result in
     let f = c.remove-formula.result in
-    let many = as_many bytes tokens table xs ys fs same c.requires.read in
+    let many = as_many bytes tokens table (is_some c.args.tree.now.suffix) xs ys fs same c.requires.read in
     let less : i < length fs = omega (arith, many, c.loop-property-test.true) in
-    formula_at bytes tokens table (map facts_of ys) fs i (facts_of x) f c.requires.read (property_here xs ys i x same c.property-item.is c.loop-property-test.true)
+    formula_at bytes tokens table (is_some c.args.tree.now.suffix) (map facts_of ys) fs i (facts_of x) f c.requires.read (property_here xs ys i x same c.property-item.is c.loop-property-test.true)
     (formula_here fs i less c.loop-property.formulas.items c.loop-property.invariant.rest f c.remove-formula.ensures.value)
 
 pub compile_formula-requires-clause-handled : goal.compile_formula-requires-clause-handled
@@ -143,7 +144,7 @@ compile_formula-requires-clause-handled c =
     let i = c.loop-property.property-index in
     let x = c.property-item.result in
     let f = c.remove-formula.result in
-    let many = as_many bytes tokens tree.table xs ys fs same c.requires.read in
+    let many = as_many bytes tokens tree.table (is_some tree.suffix) xs ys fs same c.requires.read in
     let less : i < length fs = omega (arith, many, c.loop-property-test.true) in
     handled_each bytes tree.full_binding tokens (map facts_of ys) fs c.requires.handled i (facts_of x) f (property_here xs ys i x same c.property-item.is c.loop-property-test.true)
     (formula_here fs i less c.loop-property.formulas.items c.loop-property.invariant.rest f c.remove-formula.ensures.value)
@@ -155,7 +156,7 @@ returns-in_err-compile_formula-clause-err c =
     let fs = c.args.formulas.items in
     let i = c.loop-property.property-index in
     let f = c.remove-formula.result in
-    let many = as_many c.args.bytes.now c.args.tokens.now tree.table xs tree.properties.items fs c.as_slice-property-items.ensures.value c.requires.read in
+    let many = as_many c.args.bytes.now c.args.tokens.now tree.table (is_some tree.suffix) xs tree.properties.items fs c.as_slice-property-items.ensures.value c.requires.read in
     let less : i < length fs = omega (arith, many, c.loop-property-test.true) in
     let at = formula_here fs i less c.loop-property.formulas.items c.loop-property.invariant.rest f c.remove-formula.ensures.value in
     let p = err_from_is_err_and c.from_residual.result c.from_residual.ensures.1 in
@@ -177,7 +178,7 @@ loop-property-preserved c =
     let parts = c.loop-property.parts.items in
     let part = c.in_ok-compile_formula.field-0 in
     let before = c.loop-property.invariant in
-    let many = as_many bytes tokens tree.table xs ys fs same c.requires.read in
+    let many = as_many bytes tokens tree.table (is_some tree.suffix) xs ys fs same c.requires.read in
     let less : i < length fs = omega (arith, many, c.loop-property-test.true) in
     let at = property_here xs ys i x same c.property-item.is c.loop-property-test.true in
     let there = formula_here fs i less left before.rest f c.remove-formula.ensures.value in
@@ -196,5 +197,5 @@ returns-clause-settled c =
     let xs = c.as_slice-property-items.result.now in
     let fs = c.args.formulas.items in
     let i = c.loop-property.property-index in
-    let many = as_many c.args.bytes.now c.args.tokens.now tree.table xs tree.properties.items fs c.as_slice-property-items.ensures.value c.requires.read in
+    let many = as_many c.args.bytes.now c.args.tokens.now tree.table (is_some tree.suffix) xs tree.properties.items fs c.as_slice-property-items.ensures.value c.requires.read in
     all_settled (length tree.table.events) fs i (omega (arith, many, c.loop-property-test.false)) c.loop-property.invariant.settled
