@@ -1,5 +1,5 @@
 -- No bytes say two specifications, or a specification and a fault; and no command has two jobs.
-use Rattle.std.proofs.Common.{◌≡◌, ℕ, List, [], ◌∷◌, length, Some, None, Result, Ok, Err, refl, sym, ap, subst, ◌∙◌, arith}
+use Rattle.std.proofs.Common.{◌≡◌, ℕ, List, [], ◌∷◌, length, Option, Some, None, Result, Ok, Err, refl, sym, ap, subst, ◌∙◌, arith}
 use Rattle.jm_model.specs.declared.fault.SpecFault.{SpecFault}
 use Rattle.jm_model.specs.declared.fault.SpecFault.TheVariants.{NotUtf8, OpenText}
 use Rattle.jm_model.specs.declared.fault.SpecError.TheVariants.{Bad}
@@ -8,7 +8,7 @@ use Rattle.jm_text.specs.Tokens.{AreTokensOf, IsFaultOf}
 use Rattle.jm_reading.specs.Tokens.{name_of}
 use Rattle.jm_reading.proofs.FormulaLemmas.{never_refused}
 use Rattle.jm_events.specs.Events.{EventDefinitions}
-use Rattle.std.specs.Prelude.{slice_range}
+use Rattle.std.specs.Prelude.{slice_range, is_some}
 use Rattle.jm_handler.specs.declared.term.Term.{Term}
 use Rattle.jm_handler.proofs.BlockLemmas.{says-same}
 use Rattle.jm_spec.specs.declared.property.HandlerText.{HandlerText}
@@ -21,7 +21,7 @@ use Rattle.jm_spec.specs.Trees.{PropertyFacts, properties_of, IsTreeOf, IsTreeOf
 use Rattle.jm_spec.proofs.CompleteLemmas.{spelled_is_frame}
 use Rattle.jm_machine.specs.declared.formula.Formula.{Formula}
 use Rattle.jm_machine.specs.Formulas.{IsTableFault}
-use Rattle.jm_machine.specs.Handlers.{handlers_fault}
+use Rattle.jm_machine.specs.Handlers.{handlers_fault, suffix_fault}
 use Rattle.jm_machine.specs.Meanings.{RuleDefinition, rules_of}
 use Rattle.jm_machine.specs.Compiling.{AreFormulas, properties_said, IsCompiledFrom}
 use Rattle.jm_machine.proofs.ReadingLemmas.{one_rules, rules_or_fault}
@@ -55,6 +55,7 @@ one_frame bytes tokens other frame f same a b =
 pub record IsSameTree (a b : SpecTree) : Type 0 where
   pub name : a.name ≡ b.name
   pub full : a.full_binding ≡ b.full_binding
+  pub suffix : a.suffix ≡ b.suffix
   pub table : a.table ≡ b.table
   pub properties : properties_of a ≡ properties_of b
 
@@ -82,6 +83,7 @@ same_tree_of : (bytes : List ℕ) (frame : Frame) (a b : SpecTree) → IsTreeOf 
 same_tree_of bytes frame a b ha hb = record {
   name = ha.name ∙ sym hb.name;
   full = ha.full_binding ∙ sym hb.full_binding;
+  suffix = ha.suffix ∙ sym hb.suffix;
   table = same_ok (sym ha.table ∙ hb.table);
   properties = same_properties bytes frame.properties (properties_of a) (properties_of b) ha.properties hb.properties;
 }
@@ -99,13 +101,18 @@ one_told bytes ts us a b ha hb =
 
 -- what one tree of the same tokens says, the other says
 module _ (bytes : List ℕ) (ts us : List Token) (a b : SpecTree) (same : IsSameTold ts us a b) where
-  pub read_moved : (fs : List Formula) → AreFormulas bytes ts a.table (properties_of a) fs → AreFormulas bytes us b.table (properties_of b) fs
+  pub read_moved : (fs : List Formula) → AreFormulas bytes ts a.table (is_some a.suffix) (properties_of a) fs → AreFormulas bytes us b.table (is_some b.suffix) (properties_of b) fs
   read_moved fs h =
-      subst (λ (ps : List PropertyFacts). AreFormulas bytes us b.table ps fs) same.tree.properties
-      (subst (λ (t : EventDefinitions). AreFormulas bytes us t (properties_of a) fs) same.tree.table (subst (λ (v : List Token). AreFormulas bytes v a.table (properties_of a) fs) same.tokens h))
+      subst (λ (ps : List PropertyFacts). AreFormulas bytes us b.table (is_some b.suffix) ps fs) same.tree.properties
+      (subst (λ (line : Option ℕ). AreFormulas bytes us b.table (is_some line) (properties_of a) fs) same.tree.suffix
+      (subst (λ (t : EventDefinitions). AreFormulas bytes us t (is_some a.suffix) (properties_of a) fs) same.tree.table
+      (subst (λ (v : List Token). AreFormulas bytes v a.table (is_some a.suffix) (properties_of a) fs) same.tokens h)))
 
   pub handled_moved : (fs : List Formula) → handlers_fault bytes a.full_binding ts (properties_of a) fs ≡ handlers_fault bytes b.full_binding us (properties_of b) fs
   handled_moved fs = λ i. handlers_fault bytes (same.tree.full i) (same.tokens i) (same.tree.properties i) fs
+
+  pub suffix_moved : suffix_fault bytes a.suffix (properties_of a) ≡ suffix_fault bytes b.suffix (properties_of b)
+  suffix_moved = λ i. suffix_fault bytes (same.tree.suffix i) (same.tree.properties i)
 
   pub letters_moved : length a.table.events ≡ length b.table.events
   letters_moved = ap (λ (t : EventDefinitions). length t.events) same.tree.table
@@ -118,6 +125,7 @@ module _ (bytes : List ℕ) (ts us : List Token) (a b : SpecTree) (same : IsSame
     formulas = h.formulas;
     read = read_moved h.formulas h.read;
     handled = sym (handled_moved h.formulas) ∙ h.handled;
+    suffixed = sym suffix_moved ∙ h.suffixed;
     settled = λ k f fault at is. h.settled k f fault at (subst (λ n. IsTableFault f n fault) (sym letters_moved) is);
     rules = h.rules ∙ rules_moved h.formulas;
   }
@@ -154,7 +162,8 @@ one_specification bytes s t h k =
     let logics = h.logics ∙ ap logics_of tree.properties ∙ sym k.logics in
     let line = h.grammar_line ∙ ap grammar_line_of tree.properties ∙ sym k.grammar_line in
     let full = h.full_binding ∙ tree.full ∙ sym k.full_binding in
-    λ i. record { name = name i; table = table i; logics = logics i; grammar_line = line i; full_binding = full i; rules = rules i; texts = texts i }
+    let suffix = h.suffix ∙ ap is_some tree.suffix ∙ sym k.suffix in
+    λ i. record { name = name i; table = table i; logics = logics i; grammar_line = line i; full_binding = full i; suffix = suffix i; rules = rules i; texts = texts i }
 
 -- no bytes say a specification and a fault
 pub specification_has_no_fault : (bytes : List ℕ) (s : Specification) (fault : SpecFault) → IsSpecification bytes s → IsSpecFault bytes fault → ⊥

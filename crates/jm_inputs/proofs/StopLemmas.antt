@@ -1,6 +1,6 @@
 -- Why a command stops before its text is written.
 use Rattle.std.proofs.Common.{◌≡◌, ℕ, inl, inr, Bool, true, false, ◌&&◌, List, [], ◌∷◌, ◌++◌, length, Option, Some, None, Result, IfOk, refl, sym, ap, subst, ◌∙◌}
-use Rattle.std.specs.Prelude.{All, map, option_map, if◌then◌else◌}
+use Rattle.std.specs.Prelude.{All, map, is_some, option_map, if◌then◌else◌}
 use Rattle.std.proofs.lemmas.Bool.{false≢true}
 use Rattle.std.proofs.lemmas.List.{length-map}
 use Rattle.std.proofs.lemmas.List.Elements.{All-nil, All-cons, All-head, All-tail}
@@ -14,7 +14,7 @@ use Rattle.jm_spec.specs.declared.tree.Logic.{Logic}
 use Rattle.jm_spec.specs.declared.tree.Logic.TheVariants.{Fsm, Ere, Cfg, Ptltl}
 use Rattle.jm_spec.specs.Trees.{PropertyFacts, properties_of}
 use Rattle.jm_machine.specs.declared.formula.Formula.{Formula}
-use Rattle.jm_machine.specs.declared.formula.Formula.TheVariants.{Machine, Regular, Temporal, Grammatical}
+use Rattle.jm_machine.specs.declared.formula.Formula.TheVariants.{Machine, Regular, RegularSuffix, Temporal, Grammatical, GrammaticalSuffix}
 use Rattle.jm_machine.specs.Formulas.{is_grammar, IsReadAs}
 use Rattle.jm_machine.specs.Meanings.{RuleDefinition, has_grammar}
 use Rattle.jm_machine.specs.Compiling.{formula_of, IsFormula, AreFormulas, properties_said}
@@ -173,26 +173,38 @@ no_line true (Some l) o asked h = absurd (never_some (sym h))
 no_line false line o asked h = absurd (false≢true asked)
 
 -- a formula is a grammar where the word of its logic names one
-module _ (bytes : List ℕ) (tokens : List Token) (table : EventDefinitions) where
-  no_grammar : (p : PropertyFacts) (later : Option ℕ) (f : Formula) → IsFormula bytes tokens table p f → line_or p.logic p.logic_line later ≡ None → (is_grammar f ≡ false) × (later ≡ None)
-  no_grammar p later f read none = by_logic p.logic f read none
+module _ (bytes : List ℕ) (tokens : List Token) (table : EventDefinitions) (suffix : Bool) where
+  no_grammar : (p : PropertyFacts) (later : Option ℕ) (f : Formula) → IsFormula bytes tokens table suffix p f → line_or p.logic p.logic_line later ≡ None → (is_grammar f ≡ false) × (later ≡ None)
+  no_grammar p later f read none = by_logic p.logic suffix f read none
     where
-      by_logic : (logic : Logic) (g : Formula) → IsReadAs bytes (formula_of tokens p) table logic g → line_or logic p.logic_line later ≡ None → (is_grammar g ≡ false) × (later ≡ None)
-      by_logic Cfg g h e = absurd (never_some (sym e))
-      by_logic Fsm (Machine m) h e = (refl, e)
-      by_logic Fsm (Regular m) h e = absurd h
-      by_logic Fsm (Temporal m) h e = absurd h
-      by_logic Fsm (Grammatical m) h e = absurd h
-      by_logic Ere (Regular m) h e = (refl, e)
-      by_logic Ere (Machine m) h e = absurd h
-      by_logic Ere (Temporal m) h e = absurd h
-      by_logic Ere (Grammatical m) h e = absurd h
-      by_logic Ptltl (Temporal m) h e = (refl, e)
-      by_logic Ptltl (Machine m) h e = absurd h
-      by_logic Ptltl (Regular m) h e = absurd h
-      by_logic Ptltl (Grammatical m) h e = absurd h
+      by_logic : (logic : Logic) (anywhere : Bool) (g : Formula) → IsReadAs bytes (formula_of tokens p) table logic anywhere g → line_or logic p.logic_line later ≡ None → (is_grammar g ≡ false) × (later ≡ None)
+      by_logic Cfg anywhere g h e = absurd (never_some (sym e))
+      by_logic Fsm anywhere (Machine m) h e = (refl, e)
+      by_logic Fsm anywhere (Regular m) h e = absurd h
+      by_logic Fsm anywhere (RegularSuffix m) h e = absurd h
+      by_logic Fsm anywhere (Temporal m) h e = absurd h
+      by_logic Fsm anywhere (Grammatical m) h e = absurd h
+      by_logic Fsm anywhere (GrammaticalSuffix m) h e = absurd h
+      by_logic Ere false (Regular m) h e = (refl, e)
+      by_logic Ere false (Machine m) h e = absurd h
+      by_logic Ere false (RegularSuffix m) h e = absurd h
+      by_logic Ere false (Temporal m) h e = absurd h
+      by_logic Ere false (Grammatical m) h e = absurd h
+      by_logic Ere false (GrammaticalSuffix m) h e = absurd h
+      by_logic Ere true (RegularSuffix m) h e = (refl, e)
+      by_logic Ere true (Machine m) h e = absurd h
+      by_logic Ere true (Regular m) h e = absurd h
+      by_logic Ere true (Temporal m) h e = absurd h
+      by_logic Ere true (Grammatical m) h e = absurd h
+      by_logic Ere true (GrammaticalSuffix m) h e = absurd h
+      by_logic Ptltl anywhere (Temporal m) h e = (refl, e)
+      by_logic Ptltl anywhere (Machine m) h e = absurd h
+      by_logic Ptltl anywhere (Regular m) h e = absurd h
+      by_logic Ptltl anywhere (RegularSuffix m) h e = absurd h
+      by_logic Ptltl anywhere (Grammatical m) h e = absurd h
+      by_logic Ptltl anywhere (GrammaticalSuffix m) h e = absurd h
 
-  no_grammars : (ps : List PropertyFacts) (fs : List Formula) → AreFormulas bytes tokens table ps fs → grammar_line_of ps ≡ None → has_grammar (properties_said bytes tokens ps fs) ≡ false
+  no_grammars : (ps : List PropertyFacts) (fs : List Formula) → AreFormulas bytes tokens table suffix ps fs → grammar_line_of ps ≡ None → has_grammar (properties_said bytes tokens ps fs) ≡ false
   no_grammars [] [] read none = refl
   no_grammars [] (f ∷ fs) read none = absurd read
   no_grammars (p ∷ ps) [] read none = absurd read
@@ -204,7 +216,7 @@ module _ (bytes : List ℕ) (tokens : List Token) (table : EventDefinitions) whe
 without_grammar : (bytes : List ℕ) (s : Specification) → IsSpecification bytes s → s.grammar_line ≡ None → has_grammar s.rules.properties ≡ false
 without_grammar bytes s is none =
     ap (λ (r : RuleDefinition). has_grammar r.properties) is.rules.rules
-    ∙ no_grammars bytes is.tokens is.tree.table (properties_of is.tree) is.rules.formulas is.rules.read (sym is.grammar_line ∙ none)
+    ∙ no_grammars bytes is.tokens is.tree.table (is_some is.tree.suffix) (properties_of is.tree) is.rules.formulas is.rules.read (sym is.grammar_line ∙ none)
 
 tables_said : (contents : List ℕ → Option (List ℕ)) (before : List Specification) (sources : List Source) (specs : List Specification) → SaySpecifications contents true before sources specs → All (λ s. has_grammar s.rules.properties ≡ false) specs
 tables_said contents before [] specs none = subst (All (λ (s : Specification). has_grammar s.rules.properties ≡ false)) (sym none) (All-nil (λ (s : Specification). has_grammar s.rules.properties ≡ false))

@@ -1,6 +1,6 @@
 -- What the bytes of a file say.
 use Rattle.std.proofs.Common.{◌≡◌, ℕ, ◌+◌, ◌<◌, ◌≤◌, List, [], ◌∷◌, length, sym, ap, subst, ◌∙◌, arith}
-use Rattle.std.specs.Prelude.{All, ◌^◌, map}
+use Rattle.std.specs.Prelude.{All, ◌^◌, map, is_some}
 use Rattle.jm_model.specs.declared.fault.SpecFault.{SpecFault}
 use Rattle.jm_text.specs.declared.token.Token.{Token}
 use Rattle.jm_text.specs.Spans.{LieInOrder}
@@ -27,10 +27,10 @@ module _ (bytes : List ℕ) (tokens : List Token) (small : length bytes ≤ most
   -- what is kept of a specification
   pub read_of : (tree : SpecTree) (r : Reading) (rules : CompiledRules) (titles : Titles) → IsTreeOfTokens bytes tokens tree → IsCompiledFrom bytes tokens tree rules.definition
       → All (λ mask. mask < 2 ^ length tree.table.parameters) rules.definition.masks → handler_count rules.definition.properties ≤ 16
-      → titles.logics.items ≡ logics_of (properties_of tree) → titles.grammar_line ≡ grammar_line_of (properties_of tree) → titles.full_binding ≡ tree.full_binding
+      → titles.logics.items ≡ logics_of (properties_of tree) → titles.grammar_line ≡ grammar_line_of (properties_of tree) → titles.full_binding ≡ tree.full_binding → titles.suffix ≡ is_some tree.suffix
       → BlocksSay bytes tokens tree.table.parameters (all_handlers (properties_of tree)) titles.texts.items
       → r.loaded.rules ≡ rules → r.loaded.titles ≡ titles → r.name.now ≡ name_of bytes tree.name → r.table ≡ tree.table → IsRead bytes r
-  read_of tree r rules titles told compiled fit few logics line full say is kept named table =
+  read_of tree r rules titles told compiled fit few logics line full anywhere say is kept named table =
       let masks : rules.definition.masks ≡ map (λ e. e.mask) tree.table.events = ap (λ (x : RuleDefinition). x.masks) compiled.rules in
       record {
         said = record {
@@ -43,6 +43,7 @@ module _ (bytes : List ℕ) (tokens : List Token) (small : length bytes ≤ most
           logics = ap (λ (t : Titles). t.logics.items) kept ∙ logics;
           grammar_line = ap (λ (t : Titles). t.grammar_line) kept ∙ line;
           full_binding = ap (λ (t : Titles). t.full_binding) kept ∙ full;
+          suffix = ap (λ (t : Titles). t.suffix) kept ∙ anywhere;
           texts = subst (λ (t : Titles). BlocksSay bytes tokens tree.table.parameters (all_handlers (properties_of tree)) t.texts.items) (sym kept) say;
         };
         kept = record {

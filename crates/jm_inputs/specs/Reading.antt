@@ -51,6 +51,7 @@ titled entry titles rules = record {
   logics = titles.logics.items;
   grammar_line = titles.grammar_line;
   full_binding = titles.full_binding;
+  suffix = titles.suffix;
   rules = rules;
   texts = titles.texts.items;
 }

@@ -1,5 +1,5 @@
 -- What a file says that is a specification, and what is wrong with one that isn't.
-use Rattle.std.specs.Prelude.{ℕ, Bool, ◌≡◌, ◌<◌, ◌≤◌, List, [], ◌∷◌, length, map, Option, Some, None, slice_range}
+use Rattle.std.specs.Prelude.{ℕ, Bool, ◌≡◌, ◌<◌, ◌≤◌, List, [], ◌∷◌, length, map, Option, Some, None, is_some, slice_range}
 use Rattle.std.specs.List.{flat_map}
 use Rattle.jm_model.specs.Words.{Text}
 use Rattle.jm_model.specs.Meanings.{Meaning}
@@ -21,14 +21,15 @@ use Rattle.jm_machine.specs.Meanings.{RuleDefinition, rules_meaning}
 use Rattle.jm_machine.specs.Compiling.{IsCompiledFrom, IsFaultyTree}
 
 -- a specification: its name, its parameters and events, the logics of its properties and the line of the first word
--- that names a grammar, whether it is for full bindings alone, its rules, and what each of its handlers prints: a list
--- of terms for each statement
+-- that names a grammar, whether it is for full bindings alone, whether `suffix` stands, its rules, and what each of its
+-- handlers prints: a list of terms for each statement
 pub record Specification : Type 0 where
   pub name : Text
   pub table : EventDefinitions
   pub logics : List Logic
   pub grammar_line : Option ℕ
   pub full_binding : Bool
+  pub suffix : Bool
   pub rules : RuleDefinition
   pub texts : List (List (List Term))
 
@@ -85,6 +86,7 @@ pub record IsSpecification (bytes : Text) (s : Specification) : Type 0 where
   pub logics : s.logics ≡ logics_of (properties_of tree)
   pub grammar_line : s.grammar_line ≡ grammar_line_of (properties_of tree)
   pub full_binding : s.full_binding ≡ tree.full_binding
+  pub suffix : s.suffix ≡ is_some tree.suffix
   pub texts : BlocksSay bytes tokens tree.table.parameters (all_handlers (properties_of tree)) s.texts
 
 -- The first fault of the bytes, step by step: they are too many; they have no tokens; these spell no frame, or one with

@@ -1,5 +1,5 @@
 //! Reading a specification: from bytes to rules that run.
-ghost use Rattle.std.specs.Prelude.{◌≡◌, ◌≤◌, ◌++◌, List, length, map, IfOk, IfErr, OnOk};
+ghost use Rattle.std.specs.Prelude.{◌≡◌, ◌≤◌, ◌++◌, List, length, map, is_some, IfOk, IfErr, OnOk};
 ghost use Rattle.jm_text.specs.Spans.{LieWithin};
 ghost use Rattle.jm_model.specs.declared.fault.SpecFault.{SpecFault};
 ghost use Rattle.jm_spec.specs.declared.property.HandlerText.{HandlerText};
@@ -17,12 +17,14 @@ use jm_text::{Token, tokens};
 use std::alloc::Global;
 
 /// What is kept of a specification beside its rules and what its catalog has: the logics of its properties, the line of
-/// the first word that names a grammar, whether it is for full bindings alone, and what its handlers print.
+/// the first word that names a grammar, whether it is for full bindings alone, whether `suffix` stands, and what its
+/// handlers print.
 #[derive(Drop)]
 pub struct Titles {
     pub logics: Vec<Logic>,
     pub grammar_line: Option<u32>,
     pub full_binding: bool,
+    pub suffix: bool,
     pub texts: Vec<Handler>,
 }
 
@@ -69,6 +71,7 @@ fn titles_of(
     ensures logics { IfOk result (λ titles. titles.logics.items ≡ logics_of (properties_of tree.now)) }
     ensures grammar_line { IfOk result (λ titles. titles.grammar_line ≡ grammar_line_of (properties_of tree.now)) }
     ensures full_binding { IfOk result (λ titles. titles.full_binding ≡ tree.now.full_binding) }
+    ensures suffix { IfOk result (λ titles. titles.suffix ≡ is_some tree.now.suffix) }
     ensures texts { IfOk result (λ titles. BlocksSay bytes.now tokens.now tree.now.table.parameters
         (all_handlers (properties_of tree.now)) titles.texts.items) }
     ensures err { IfErr result (λ e. e ≡ SpecError.NoMemory) }
@@ -85,6 +88,7 @@ fn titles_of(
         logics,
         grammar_line: grammar_line(tree.properties.as_slice()),
         full_binding: tree.full_binding,
+        suffix: tree.suffix.is_some(),
         texts,
     })
 }

@@ -1,7 +1,7 @@
 -- The first fault of a script is one, and that of a specification is one but for the line of `Syntax`.
-use Rattle.std.proofs.Common.{◌≡◌, ℕ, ◌⊎◌, inl, inr, Bool, List, length, Option, Some, Err, slice_get, refl, sym, ap, subst, ◌∙◌, arith}
+use Rattle.std.proofs.Common.{◌≡◌, ℕ, ◌⊎◌, inl, inr, Bool, List, length, Option, Some, None, Err, slice_get, refl, sym, ap, subst, ◌∙◌, arith}
 use Rattle.std.proofs.lemmas.Bool.{false≢true, cases_order}
-use Rattle.std.specs.Prelude.{true, false, IsUtf8}
+use Rattle.std.specs.Prelude.{true, false, is_some, IsUtf8}
 use Rattle.jm_model.specs.declared.fault.Counted.TheVariants.{Nesting}
 use Rattle.jm_model.specs.declared.fault.SpecFault.{SpecFault}
 use Rattle.jm_model.specs.declared.fault.SpecFault.TheVariants.{Syntax, NotUtf8, OpenText, TooMany}
@@ -23,6 +23,7 @@ use Rattle.jm_fsm.specs.Spelling as fsm_spelling
 use Rattle.jm_fsm.specs.Faults as fsm_faults
 use Rattle.jm_fsm.proofs.GrammarLemmas as fsm_grammar
 use Rattle.jm_ere.specs.NormalForms.{forms_of}
+use Rattle.jm_ere.specs.Suffixes.{suffixed}
 use Rattle.jm_ere.specs.Spelling as ere_spelling
 use Rattle.jm_ere.specs.Faults as ere_faults
 use Rattle.jm_ere.proofs.FormulaLemmas as ere_grammar
@@ -33,15 +34,15 @@ use Rattle.jm_grammar.specs.Spelling as grammar_spelling
 use Rattle.jm_grammar.specs.Faults as grammar_faults
 use Rattle.jm_grammar.proofs.GrammarLemmas as grammar
 use Rattle.jm_machine.specs.declared.formula.Formula.{Formula}
-use Rattle.jm_machine.specs.declared.formula.Formula.TheVariants.{Machine, Regular, Temporal, Grammatical}
+use Rattle.jm_machine.specs.declared.formula.Formula.TheVariants.{Machine, Regular, RegularSuffix, Temporal, Grammatical, GrammaticalSuffix}
 use Rattle.jm_machine.specs.Formulas.{IsRefusedIn, IsTableFault}
 use Rattle.jm_machine.specs.FirstRefusals.{IsFirstRefusal}
-use Rattle.jm_machine.specs.Handlers.{handlers_fault}
-use Rattle.jm_machine.specs.Compiling.{formula_of, IsRefusedFormula, IsFirstTableFault, IsFaultyTree, in_formulas, in_handlers, in_tables}
+use Rattle.jm_machine.specs.Handlers.{handlers_fault, suffix_fault}
+use Rattle.jm_machine.specs.Compiling.{formula_of, IsRefusedFormula, AreFormulas, IsFirstTableFault, IsFaultyTree, in_formulas, in_handlers, in_suffix, in_tables}
 use Rattle.jm_machine.proofs.ReadingLemmas.{one_formulas, formulas_or_fault}
 use Rattle.jm_inputs.specs.Specifications.{Specification, IsSpecFault, too_long, no_tokens, in_frame, in_tree}
 use Rattle.jm_inputs.specs.Scripts.{IsScriptFault, too_long as script_too_long, in_line}
-use Rattle.jm_inputs.proofs.OneReadingLemmas.{IsSameTold, same_some, never_some, same_err, one_list, one_frame, one_told, read_moved, handled_moved, letters_moved, tree_has_no_fault, cut_has_no_fault}
+use Rattle.jm_inputs.proofs.OneReadingLemmas.{IsSameTold, same_some, never_some, same_err, one_list, one_frame, one_told, read_moved, handled_moved, suffix_moved, letters_moved, tree_has_no_fault, cut_has_no_fault}
 use Rattle.jm_telling.specs.FirstFaults.{IsSyntax, IsSameFault}
 use Rattle.jm_machine.proofs.RefusalLemmas.{one_first}
 
@@ -94,22 +95,24 @@ module _ {X : Type 0} (IsSpelled : X → Type 0) (first : X → Option SpecFault
 
 -- ---- formulas
 
-module _ (bytes : List ℕ) (tokens : List Token) (table : EventDefinitions) where
-  one_formula_fault : (logic : Logic) (fault other : SpecFault) → IsRefusedIn bytes tokens table logic fault → IsRefusedIn bytes tokens table logic other → IsSameFault fault other
+module _ (bytes : List ℕ) (tokens : List Token) (table : EventDefinitions) (suffix : Bool) where
+  one_formula_fault : (logic : Logic) (fault other : SpecFault) → IsRefusedIn bytes tokens table logic suffix fault → IsRefusedIn bytes tokens table logic suffix other → IsSameFault fault other
   one_formula_fault Fsm fault other a b = one_refused (fsm_spelling.Spells bytes tokens) (fsm_faults.first_fault bytes table) (fsm_grammar.one_formula bytes tokens) fault other a b
   one_formula_fault Ere fault other a b =
       one_within (ere_spelling.Spells bytes tokens) (ere_faults.first_fault bytes table) (ere_grammar.one_formula bytes tokens) (is_too_deep bytes 0 tokens) fault other a b
   one_formula_fault Ptltl fault other a b =
       one_within (past_spelling.Spells bytes tokens) (past_faults.first_fault bytes table) (past_grammar.one_formula bytes tokens) (is_too_deep bytes 0 tokens) fault other a b
-  one_formula_fault Cfg fault other a b = one_refused (grammar_spelling.Spells bytes tokens) (grammar_faults.first_fault bytes table false) (grammar.one_formula bytes tokens) fault other a b
+  one_formula_fault Cfg fault other a b = one_refused (grammar_spelling.Spells bytes tokens) (grammar_faults.first_fault bytes table suffix) (grammar.one_formula bytes tokens) fault other a b
 
 -- ---- tables
 
 one_table_fault : (f : Formula) (letters : ℕ) (fault other : SpecFault) → IsTableFault f letters fault → IsTableFault f letters other → fault ≡ other
 one_table_fault (Machine m) letters fault other a b = absurd a
 one_table_fault (Regular e) letters fault other a b = same_err (explored_one (forms_of e) letters (Err fault) (Err other) a b)
+one_table_fault (RegularSuffix e) letters fault other a b = same_err (explored_one (forms_of (suffixed e)) letters (Err fault) (Err other) a b)
 one_table_fault (Temporal p) letters fault other a b = a.0 ∙ sym b.0
 one_table_fault (Grammatical g) letters fault other a b = absurd a
+one_table_fault (GrammaticalSuffix g) letters fault other a b = absurd a
 
 one_first_table_fault : (letters : ℕ) (fs : List Formula) (fault other : SpecFault) → IsFirstTableFault letters fs fault → IsFirstTableFault letters fs other → fault ≡ other
 one_first_table_fault letters fs fault other a b =
@@ -130,25 +133,43 @@ module _ (bytes : List ℕ) (tokens : List Token) (tree : SpecTree) where
   abbrev fault_over : List Formula → Option SpecFault
   fault_over fs = handlers_fault bytes tree.full_binding tokens (properties_of tree) fs
 
-  one_property_fault : (p : PropertyFacts) (fault other : SpecFault) → IsRefusedFormula bytes tokens tree.table p fault → IsRefusedFormula bytes tokens tree.table p other → IsSameFault fault other
-  one_property_fault p fault other a b = one_formula_fault bytes (formula_of tokens p) tree.table p.logic fault other a b
+  one_property_fault : (p : PropertyFacts) (fault other : SpecFault) → IsRefusedFormula bytes tokens tree.table (is_some tree.suffix) p fault → IsRefusedFormula bytes tokens tree.table (is_some tree.suffix) p other → IsSameFault fault other
+  one_property_fault p fault other a b = one_formula_fault bytes (formula_of tokens p) tree.table (is_some tree.suffix) p.logic fault other a b
+
+  -- the formulas that are read are these alone, and none is refused
+  abbrev AreRead : List Formula → Type 0
+  AreRead fs = AreFormulas bytes tokens tree.table (is_some tree.suffix) (properties_of tree) fs
+
+  one_read : (fs gs : List Formula) → AreRead fs → AreRead gs → fs ≡ gs
+  one_read fs gs read says = one_formulas bytes tokens tree.table (is_some tree.suffix) (properties_of tree) fs gs read says
+
+  read_or_fault : (fs : List Formula) (fault : SpecFault) → AreRead fs → IsFirstRefusal (IsRefusedFormula bytes tokens tree.table (is_some tree.suffix)) (properties_of tree) fault → ⊥
+  read_or_fault fs fault read bad = formulas_or_fault bytes tokens tree.table (is_some tree.suffix) (properties_of tree) fs fault read bad
+
+  -- the handlers have no fault, or they have one
+  sound_or_bad : (fs gs : List Formula) (fault : SpecFault) → AreRead fs → AreRead gs → fault_over fs ≡ None → fault_over gs ≡ Some fault → ⊥
+  sound_or_bad fs gs fault read says sound bad = never_some (sym sound ∙ ap fault_over (one_read fs gs read says) ∙ bad)
 
   one_tree_fault : (fault other : SpecFault) → IsFaultyTree bytes tokens tree fault → IsFaultyTree bytes tokens tree other → IsSameFault fault other
-  one_tree_fault fault other (in_formulas a) (in_formulas b) = one_first (IsRefusedFormula bytes tokens tree.table) IsSameFault one_property_fault (properties_of tree) fault other a b
-  one_tree_fault fault other (in_formulas a) (in_handlers gs says worse) = absurd (formulas_or_fault bytes tokens tree.table (properties_of tree) gs fault says a)
-  one_tree_fault fault other (in_formulas a) (in_tables gs says sound worse) = absurd (formulas_or_fault bytes tokens tree.table (properties_of tree) gs fault says a)
-  one_tree_fault fault other (in_handlers fs read bad) (in_formulas b) = absurd (formulas_or_fault bytes tokens tree.table (properties_of tree) fs other read b)
-  one_tree_fault fault other (in_tables fs read sound bad) (in_formulas b) = absurd (formulas_or_fault bytes tokens tree.table (properties_of tree) fs other read b)
-  one_tree_fault fault other (in_handlers fs read bad) (in_handlers gs says worse) =
-      inl (same_some (sym bad ∙ ap fault_over (one_formulas bytes tokens tree.table (properties_of tree) fs gs read says) ∙ worse))
-  one_tree_fault fault other (in_handlers fs read bad) (in_tables gs says sound worse) =
-      absurd (never_some (sym sound ∙ ap fault_over (one_formulas bytes tokens tree.table (properties_of tree) gs fs says read) ∙ bad))
-  one_tree_fault fault other (in_tables fs read sound bad) (in_handlers gs says worse) =
-      absurd (never_some (sym sound ∙ ap fault_over (one_formulas bytes tokens tree.table (properties_of tree) fs gs read says) ∙ worse))
-  one_tree_fault fault other (in_tables fs read sound bad) (in_tables gs says also worse) =
-      let one = one_formulas bytes tokens tree.table (properties_of tree) fs gs read says in
+  one_tree_fault fault other (in_formulas a) (in_formulas b) =
+      one_first (IsRefusedFormula bytes tokens tree.table (is_some tree.suffix)) IsSameFault one_property_fault (properties_of tree) fault other a b
+  one_tree_fault fault other (in_formulas a) (in_handlers gs says worse) = absurd (read_or_fault gs fault says a)
+  one_tree_fault fault other (in_formulas a) (in_suffix gs says sound worse) = absurd (read_or_fault gs fault says a)
+  one_tree_fault fault other (in_formulas a) (in_tables gs says sound plain worse) = absurd (read_or_fault gs fault says a)
+  one_tree_fault fault other (in_handlers fs read bad) (in_formulas b) = absurd (read_or_fault fs other read b)
+  one_tree_fault fault other (in_suffix fs read sound bad) (in_formulas b) = absurd (read_or_fault fs other read b)
+  one_tree_fault fault other (in_tables fs read sound plain bad) (in_formulas b) = absurd (read_or_fault fs other read b)
+  one_tree_fault fault other (in_handlers fs read bad) (in_handlers gs says worse) = inl (same_some (sym bad ∙ ap fault_over (one_read fs gs read says) ∙ worse))
+  one_tree_fault fault other (in_handlers fs read bad) (in_suffix gs says sound worse) = absurd (sound_or_bad gs fs fault says read sound bad)
+  one_tree_fault fault other (in_handlers fs read bad) (in_tables gs says sound plain worse) = absurd (sound_or_bad gs fs fault says read sound bad)
+  one_tree_fault fault other (in_suffix fs read sound bad) (in_handlers gs says worse) = absurd (sound_or_bad fs gs other read says sound worse)
+  one_tree_fault fault other (in_tables fs read sound plain bad) (in_handlers gs says worse) = absurd (sound_or_bad fs gs other read says sound worse)
+  one_tree_fault fault other (in_suffix fs read sound bad) (in_suffix gs says also worse) = inl (same_some (sym bad ∙ worse))
+  one_tree_fault fault other (in_suffix fs read sound bad) (in_tables gs says also plain worse) = absurd (never_some (sym plain ∙ bad))
+  one_tree_fault fault other (in_tables fs read sound plain bad) (in_suffix gs says also worse) = absurd (never_some (sym plain ∙ worse))
+  one_tree_fault fault other (in_tables fs read sound plain bad) (in_tables gs says also simple worse) =
       let letters = length tree.table.events in
-      inl (one_first_table_fault letters gs fault other (subst (λ (xs : List Formula). IsFirstTableFault letters xs fault) one bad) worse)
+      inl (one_first_table_fault letters gs fault other (subst (λ (xs : List Formula). IsFirstTableFault letters xs fault) (one_read fs gs read says) bad) worse)
 
 -- ---- frames
 
@@ -178,17 +199,21 @@ one_cut_fault bytes fault other a b = elim (no_cut bytes fault a) [
 -- ---- trees of the same bytes
 
 module _ (bytes : List ℕ) (ts us : List Token) (a b : SpecTree) (same : IsSameTold ts us a b) where
-  refused_moved : (fault : SpecFault) → IsFirstRefusal (IsRefusedFormula bytes ts a.table) (properties_of a) fault → IsFirstRefusal (IsRefusedFormula bytes us b.table) (properties_of b) fault
+  refused_moved : (fault : SpecFault) → IsFirstRefusal (IsRefusedFormula bytes ts a.table (is_some a.suffix)) (properties_of a) fault → IsFirstRefusal (IsRefusedFormula bytes us b.table (is_some b.suffix)) (properties_of b) fault
   refused_moved fault h =
-      subst (λ (ps : List PropertyFacts). IsFirstRefusal (IsRefusedFormula bytes us b.table) ps fault) same.tree.properties
-      (subst (λ (t : EventDefinitions). IsFirstRefusal (IsRefusedFormula bytes us t) (properties_of a) fault) same.tree.table
-      (subst (λ (v : List Token). IsFirstRefusal (IsRefusedFormula bytes v a.table) (properties_of a) fault) same.tokens h))
+      subst (λ (ps : List PropertyFacts). IsFirstRefusal (IsRefusedFormula bytes us b.table (is_some b.suffix)) ps fault) same.tree.properties
+      (subst (λ (line : Option ℕ). IsFirstRefusal (IsRefusedFormula bytes us b.table (is_some line)) (properties_of a) fault) same.tree.suffix
+      (subst (λ (t : EventDefinitions). IsFirstRefusal (IsRefusedFormula bytes us t (is_some a.suffix)) (properties_of a) fault) same.tree.table
+      (subst (λ (v : List Token). IsFirstRefusal (IsRefusedFormula bytes v a.table (is_some a.suffix)) (properties_of a) fault) same.tokens h)))
 
   faulty_moved : (fault : SpecFault) → IsFaultyTree bytes ts a fault → IsFaultyTree bytes us b fault
   faulty_moved fault (in_formulas refused) = in_formulas (refused_moved fault refused)
   faulty_moved fault (in_handlers fs read bad) = in_handlers fs (read_moved bytes ts us a b same fs read) (sym (handled_moved bytes ts us a b same fs) ∙ bad)
-  faulty_moved fault (in_tables fs read sound bad) =
-      in_tables fs (read_moved bytes ts us a b same fs read) (sym (handled_moved bytes ts us a b same fs) ∙ sound) (subst (λ n. IsFirstTableFault n fs fault) (letters_moved bytes ts us a b same) bad)
+  faulty_moved fault (in_suffix fs read sound bad) =
+      in_suffix fs (read_moved bytes ts us a b same fs read) (sym (handled_moved bytes ts us a b same fs) ∙ sound) (sym (suffix_moved bytes ts us a b same) ∙ bad)
+  faulty_moved fault (in_tables fs read sound plain bad) =
+      in_tables fs (read_moved bytes ts us a b same fs read) (sym (handled_moved bytes ts us a b same fs) ∙ sound) (sym (suffix_moved bytes ts us a b same) ∙ plain)
+      (subst (λ n. IsFirstTableFault n fs fault) (letters_moved bytes ts us a b same) bad)
 
 -- ---- specifications
 

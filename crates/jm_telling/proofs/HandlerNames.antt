@@ -1,5 +1,6 @@
 -- The handlers of a specification have names of their own.
 use Rattle.std.proofs.Common.{◌≡◌, ℕ, ◌≤◌, Bool, true, false, cond, List, [], ◌∷◌, ◌++◌, inl, inr, map, length, Option, Some, None, refl, sym, ap, subst, arith, append-nil, append_assoc}
+use Rattle.std.specs.Prelude.{is_some}
 use Rattle.std.specs.List.{list_any}
 use Rattle.std.specs.Str.{bytes_eq}
 use Rattle.std.proofs.lemmas.Bool.{cases_lt, lt-ltb}
@@ -51,14 +52,14 @@ next_none None b e = e
 next_none (Some fault) b e = absurd cc
 
 -- the handlers of properties without a fault
-each_named : (bytes : List ℕ) (tokens : List Token) (table : EventDefinitions) (ps : List PropertyFacts) (fs : List Formula) → AreFormulas bytes tokens table ps fs → duplicates_fault bytes ps ≡ None
+each_named : (bytes : List ℕ) (tokens : List Token) (table : EventDefinitions) (suffix : Bool) (ps : List PropertyFacts) (fs : List Formula) → AreFormulas bytes tokens table suffix ps fs → duplicates_fault bytes ps ≡ None
     → EachNames (map (λ (p : PropertyDefinition). p.handlers) (properties_said bytes tokens ps fs))
-each_named bytes tokens table [] [] read none = tt
-each_named bytes tokens table [] (f ∷ fs) read none = absurd read
-each_named bytes tokens table (p ∷ ps) [] read none = absurd read
-each_named bytes tokens table (p ∷ ps) (f ∷ fs) read none = (
+each_named bytes tokens table suffix [] [] read none = tt
+each_named bytes tokens table suffix [] (f ∷ fs) read none = absurd read
+each_named bytes tokens table suffix (p ∷ ps) [] read none = absurd read
+each_named bytes tokens table suffix (p ∷ ps) (f ∷ fs) read none = (
   distinct_handlers bytes [] p.handlers no_names (first_none (duplicate_fault bytes [] p.handlers) (duplicates_fault bytes ps) none),
-  each_named bytes tokens table ps fs read.1 (next_none (duplicate_fault bytes [] p.handlers) (duplicates_fault bytes ps) none),
+  each_named bytes tokens table suffix ps fs read.1 (next_none (duplicate_fault bytes [] p.handlers) (duplicates_fault bytes ps) none),
 )
 
 no_duplicates : (bytes : List ℕ) (full_binding : Bool) (tokens : List Token) (ps : List PropertyFacts) (fs : List Formula) → handlers_fault bytes full_binding tokens ps fs ≡ None → duplicates_fault bytes ps ≡ None
@@ -105,4 +106,4 @@ handlers_named bytes s is =
     let few : length categories ≤ 16 =
     omega (arith, length-map said (λ (p : PropertyDefinition). p.handlers), length_said bytes is.tokens ps is.rules.formulas, length_told bytes is.told.told.0.properties ps is.told.told.3.properties, few_in bytes is.told.told.0 is.told.told.2) in
     subst AreNames (sym (ap names_of is.rules.rules))
-    (names_named categories few (each_named bytes is.tokens is.tree.table ps is.rules.formulas is.rules.read (no_duplicates bytes is.tree.full_binding is.tokens ps is.rules.formulas is.rules.handled)))
+    (names_named categories few (each_named bytes is.tokens is.tree.table (is_some is.tree.suffix) ps is.rules.formulas is.rules.read (no_duplicates bytes is.tree.full_binding is.tokens ps is.rules.formulas is.rules.handled)))

@@ -13,7 +13,7 @@ use Rattle.jm_inputs.specs.Jobs.{Job, Refused, Accepted, AcceptedParts}
 
 -- what a specification declares
 abbrev pub declared_text : Specification → Text
-declared_text s = check_text s.name s.logics s.full_binding s.table (names_of s.rules)
+declared_text s = check_text s.name s.logics s.full_binding s.suffix s.table (names_of s.rules)
 
 -- each letter of the specification has its coenable family among these
 pub record AreFamiliesOf (s : Specification) (families : List (List Mask)) : Type 0 where

@@ -54,6 +54,7 @@ fn declared_by(
         name,
         titles.logics.as_slice(),
         titles.full_binding,
+        titles.suffix,
         table,
         loaded.rules.handlers(),
     )
