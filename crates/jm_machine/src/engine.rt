@@ -36,6 +36,7 @@ impl Engine {
     }
 
     /// The place of the words that have one letter more.
+    #[inline(always)]
     pub(crate) fn next(&self, place: &Place, letter: Letter) -> Result<Place, NoMemory>
         requires { letter.0 < letters_of_engine self.now }
         ensures { IfOk result (λ next.

@@ -11,6 +11,7 @@ ghost use Rattle.jm_model.specs.Meanings.{IsCutWord};
 ghost use Rattle.jm_machine.specs.Places.{Stands, IsPlaceAfter};
 ghost use Rattle.jm_machine.specs.Engines.{letters_of_engine, categories_of_engine, is_parsing, HasParams, IsPlaceOf, IsCompiled, IsMinimal};
 ghost use Rattle.jm_machine.specs.CompiledProperties.{numbers_of, IsCompiledProperty, IsHandledBy};
+ghost use Rattle.jm_machine.specs.declared.place.Place.TheVariants as place;
 
 use crate::engine::{Engine, handlers_at, next_state};
 use crate::formula::Formula;
@@ -177,7 +178,38 @@ impl Property {
         }
     }
 
+    /// The state of the words that have one letter more than those of a state, where a table runs the property and no
+    /// handler resets it.
+    #[inline(always)]
+    pub(crate) fn state_after(&self, state: u16, letter: Letter) -> Option<u16>
+        requires { letter.0 < length self.now.definition.masks }
+        ensures { IfSome result (λ next. (w : List ℕ) → IsPlaceAfter self.now (place.State state) w
+            → IsPlaceAfter self.now (place.State next) (w ++ letter.0 ∷ [])) }
+    {
+        match &self.engine {
+            Engine::States(table) if self.goal.resets() == 0 => {
+                Some(next_state(table, state, letter))
+            }
+            _ => None,
+        }
+    }
+
+    /// The state of the word of one letter, where a table runs the property and words may begin with the letter.
+    #[inline(always)]
+    pub(crate) fn first_state(&self, letter: Letter) -> Option<u16>
+        requires { letter.0 < length self.now.definition.masks }
+        ensures { IfSome result (λ first. IsPlaceAfter self.now (place.State first) (letter.0 ∷ [])) }
+    {
+        match &self.engine {
+            Engine::States(table) if self.may_begin(letter) => {
+                Some(next_state(table, table.start(), letter))
+            }
+            _ => None,
+        }
+    }
+
     /// The place of the words that have one letter more, of which there is one already.
+    #[inline(always)]
     fn step(&self, place: &Place, letter: Letter) -> Result<Place, NoMemory>
         requires { letter.0 < length self.now.definition.masks }
         ensures { IfOk result (λ next. (word : List ℕ) →
@@ -234,6 +266,7 @@ impl Property {
     }
 
     /// The handlers whose categories hold of the words of a place: bit k stands for handler k.
+    #[inline(always)]
     fn handlers_at(&self, place: &Place) -> u16
         ensures hits { (word : List ℕ) → IsPlaceOf self.now.engine place.now word →
             (k : ℕ) → IsBitSet result k ↔ IsHandledBy self.now word k }
@@ -295,6 +328,7 @@ impl Monitor for Property {
         }
     }
 
+    #[inline(always)]
     fn next(&self, state: &Place, letter: Letter) -> Result<Place, NoMemory> {
         match state {
             Place::Start if self.may_begin(letter) => self.first(letter),
@@ -303,6 +337,7 @@ impl Monitor for Property {
         }
     }
 
+    #[inline(always)]
     fn hits(&self, state: &Place) -> u16 {
         match state {
             Place::Start | Place::Barren => 0,
@@ -310,6 +345,7 @@ impl Monitor for Property {
         }
     }
 
+    #[inline(always)]
     fn cut(&self, state: &Place, dead: u8) -> bool {
         match &self.outlook {
             Outlook::Table(outlook) => !outlook.can_hit(state, dead),
@@ -317,6 +353,7 @@ impl Monitor for Property {
         }
     }
 
+    #[inline(always)]
     fn idle(&self, state: &Place) -> u32 {
         match (&self.outlook, state) {
             (_, Place::Barren) => u32::MAX,
@@ -325,6 +362,7 @@ impl Monitor for Property {
         }
     }
 
+    #[inline(always)]
     fn ending(&self, state: &Place) -> u32 {
         match (&self.outlook, state) {
             (Outlook::Table(_), Place::Barren) => u32::MAX,

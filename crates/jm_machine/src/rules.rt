@@ -14,6 +14,7 @@ ghost use Rattle.jm_machine.specs.Configurations.{place_at, AreAfter, IsConfigur
 ghost use Rattle.jm_machine.specs.Compiling.{IsCompiledFrom, IsNotCompiled};
 ghost use Rattle.jm_machine.specs.declared.engine.Engine.TheVariants as engine;
 ghost use Rattle.jm_machine.specs.declared.place.Place.TheVariants as place;
+ghost use Rattle.jm_machine.specs.declared.configuration.Configuration.{Configuration};
 
 use crate::compile::{compile_formulas, read_formulas};
 use crate::configuration::Configuration;
@@ -214,6 +215,7 @@ impl Rules {
 
     /// The configuration of this place of the first property, where that is the only one, or at the place of the words
     /// that can't begin so.
+    #[inline(always)]
     fn configuration_at(&self, place: Place) -> Result<Configuration, NoMemory>
         ensures single { length self.now.parts ≡ 1 → IfOk result (λ c.
             (w : List ℕ) → AreAfter self.now.parts [] place w → IsConfigurationOf self.now c w) }
@@ -226,7 +228,32 @@ impl Rules {
         }
     }
 
+    /// The configuration of the words of one letter more, from this place of the only property.
+    #[inline(never)]
+    fn next_alone(&self, place: &Place, letter: Letter) -> Result<Configuration, NoMemory>
+        requires { letter.0 < length self.now.definition.masks }
+        ensures { IfOk result (λ c. (w : List ℕ) → (length self.now.parts ≡ 1) × AreAfter self.now.parts [] place.now w
+            → IsConfigurationOf self.now c (w ++ letter.0 ∷ [])) }
+    {
+        self.configuration_at(self.first.next(place, letter)?)
+    }
+
+    /// The state of the word of one letter, of the only property, where a table runs it and words may begin with the
+    /// letter.
+    #[inline(always)]
+    fn first_alone(&self, letter: Letter) -> Option<u16>
+        requires { letter.0 < length self.now.definition.masks }
+        ensures { IfSome result (λ first. IsConfigurationOf self.now (Configuration.State first) (letter.0 ∷ [])) }
+    {
+        if self.others.is_empty() {
+            self.first.first_state(letter)
+        } else {
+            None
+        }
+    }
+
     /// The configuration of the words of one letter more, from that of the empty word.
+    #[inline(never)]
     fn first_of_each(&self, letter: Letter) -> Result<Configuration, NoMemory>
         requires { letter.0 < length self.now.definition.masks }
         ensures { IfOk result (λ c. (w : List ℕ) → AreAfter self.now.parts [] place.Start w
@@ -297,6 +324,7 @@ impl Rules {
     }
 
     /// Whether each property is cut, where all are at this place.
+    #[inline(never)]
     fn is_cut_at(&self, place: &Place, dead: u8) -> bool
         ensures { (w : List ℕ) → AreAfter self.now.parts [] place.now w →
             IsTrue result ↔ IsCutWord (rules_meaning self.now.definition) w dead }
@@ -343,6 +371,7 @@ impl Rules {
     }
 
     /// The letters that end an instance of each property, where all are at this place.
+    #[inline(never)]
     fn ending_at(&self, place: &Place) -> u32
         ensures quiet { (w : List ℕ) → AreAfter self.now.parts [] place.now w → (e k : ℕ) →
             IsBitSet result e → IsHit (rules_meaning self.now.definition) (w ++ e ∷ []) k → ⊥ }
@@ -449,18 +478,23 @@ impl Monitor for Rules {
 
     fn next(&self, state: &Configuration, letter: Letter) -> Result<Configuration, NoMemory> {
         match state {
-            Configuration::State(state) => {
-                self.configuration_at(self.first.next(&Place::State(*state), letter)?)
-            }
-            Configuration::Single(place) => self.configuration_at(self.first.next(place, letter)?),
+            Configuration::State(state) => match self.first.state_after(*state, letter) {
+                Some(next) => Ok(Configuration::State(next)),
+                None => self.next_alone(&Place::State(*state), letter),
+            },
+            Configuration::Single(place) => self.next_alone(place, letter),
             Configuration::Several(places) => {
                 self.next_of_each(places.as_slice(), &Place::Start, letter)
             }
-            Configuration::Start => self.first_of_each(letter),
+            Configuration::Start => match self.first_alone(letter) {
+                Some(first) => Ok(Configuration::State(first)),
+                None => self.first_of_each(letter),
+            },
             Configuration::Barren => Ok(Configuration::Barren),
         }
     }
 
+    #[inline(always)]
     fn hits(&self, state: &Configuration) -> u16 {
         match state {
             Configuration::State(state) => self.first.hits(&Place::State(*state)),
@@ -471,6 +505,7 @@ impl Monitor for Rules {
         }
     }
 
+    #[inline(always)]
     fn cut(&self, state: &Configuration, dead: u8) -> bool {
         match state {
             Configuration::State(state) => self.first.cut(&Place::State(*state), dead),
@@ -483,6 +518,7 @@ impl Monitor for Rules {
         }
     }
 
+    #[inline(always)]
     fn idle(&self, state: &Configuration) -> u32 {
         match state {
             Configuration::State(state) => self.first.idle(&Place::State(*state)),
@@ -493,6 +529,7 @@ impl Monitor for Rules {
         }
     }
 
+    #[inline(always)]
     fn ending(&self, state: &Configuration) -> u32 {
         match state {
             Configuration::State(state) => self.first.ending(&Place::State(*state)),

@@ -128,6 +128,7 @@ impl TableOutlook {
 
     /// Whether some word of one or more letters without a dead parameter, put after the words of the place,
     /// hits a handler.
+    #[inline(always)]
     pub(crate) fn can_hit(&self, place: &Place, dead: u8) -> bool
         ensures { (t : Transitions) (g : GoalDefinition) (v : EventDefinitions) → AreNeedsOf t g v self.now.needs →
             IsTrue result ↔ CanHitFrom t g v place.now dead }

@@ -1,0 +1,30 @@
+use Rattle.std.proofs.Common.{ℕ, ◌≡◌, ◌<◌, List, [], ◌∷◌, ◌++◌, length, refl, sym, ◌∙◌, subst, arith}
+use Rattle.jm_machine.specs.declared.engine.Engine.{Engine}
+use Rattle.jm_machine.specs.declared.engine.Engine.TheVariants.{States}
+use Rattle.jm_machine.specs.declared.place.Place.TheVariants.{State}
+use Rattle.jm_machine.specs.PropertyMeanings.{Resets}
+use Rattle.jm_machine.specs.Engines.{IsPlaceOf}
+use Rattle.jm_machine.proofs.PlaceLemmas.{no_letters, state_next}
+use Rattle.jm_machine.proofs.RestLemmas.{asked_first}
+use Rattle.jm_machine.proofs.property.Property.first_state.Goals as goal
+
+pub returns-in-States : goal.returns-in-States
+returns-in-States c =
+    let i = c.self.inside in
+    let r = c.args.self.now in
+    let e = c.args.letter.0 in
+    let next = c.next_state.result in
+    let same : i.engine ≡ r.engine = rw (← c.self.view_is) refl in
+    let run : r.engine ≡ States c.in-States.table = sym same ∙ c.in-States.is in
+    let masks : length i.masks.items ≡ length r.definition.masks = rw (← c.self.view_is) refl in
+    let letters = rw c.in-States.is at c.self.invariant.1.letters in
+    let within : e < c.in-States.table.letters = omega (arith, c.requires, letters, masks) in
+    let place : IsPlaceOf (States c.in-States.table) (State next) (e ∷ []) =
+    state_next c.in-States.table c.start.result next e [] c.next_state.ensures.table within c.next_state.ensures.next (no_letters c.in-States.table, c.start.ensures.value) in (
+      ((λ h. absurd cc), c.may_begin.ensures.0 c.if-may_begin.true),
+      (
+        e ∷ [],
+        asked_first (Resets r.definition) e,
+        subst (λ (x : Engine). IsPlaceOf x (State next) (e ∷ [])) (sym run) place,
+      ),
+    )
