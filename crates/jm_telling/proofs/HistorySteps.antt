@@ -26,6 +26,9 @@ use Rattle.jm_script.specs.declared.script.Target.{Target}
 use Rattle.jm_script.specs.declared.script.Target.TheVariants as target
 use Rattle.jm_script.specs.declared.script.ScriptLine.{ScriptLine}
 use Rattle.jm_script.specs.Projections.{spec_of, step_of, line_of, script_of}
+use Rattle.jm_machine.specs.HandlerNames.{names_of}
+use Rattle.jm_machine.specs.Meanings.{handler_count}
+use Rattle.jm_machine.proofs.RuleLemmas.{count_names}
 use Rattle.jm_print.specs.Texts.{IsPrintable}
 use Rattle.jm_print.specs.Told.{BindsSome, HaveEight, FitsStep, IsTold, AreTold}
 use Rattle.jm_inputs.specs.Specifications.{Specification, meaning_of}
@@ -154,7 +157,9 @@ module _ (s : Specification) (objects : List (List ℕ)) (masks : s.rules.masks 
         (λ x among. step_named x.step (All-contains (λ (y : Entry). IsStepOf (meaning_of s) y.step) h x legal_steps among) (steps_in x among).0) h (All-contains_itself h)
 
     printed : All (IsPrintable (lexicon objects s)) h
-    printed = printable (lexicon objects s) (meaning_of s) (omega arith) h named_steps is.woven.done is.legal
+    printed =
+        let few : handler_count s.rules.properties ≤ length (names_of s.rules) = omega (arith, count_names s.rules) in
+        printable (lexicon objects s) (meaning_of s) few h named_steps is.woven.done is.legal
 
     fitting : All (λ x. FitsStep x.step x.outcome) h
     fitting = All-from_recursion (λ (x : Entry). FitsStep x.step x.outcome) h (replies_fit (meaning_of s) [] h is.legal)
