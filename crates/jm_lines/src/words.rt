@@ -8,6 +8,7 @@ ghost use Rattle.jm_lines.specs.Lines.{is_line_feed, is_blank, is_end, is_some_w
 ghost use Rattle.jm_lines.specs.Objects.{is_object_byte, is_object};
 
 use jm_model::NoMemory;
+use memchr::memchr;
 use std::simd::prelude::*;
 use std::str::from_utf8_unchecked;
 
@@ -166,12 +167,10 @@ pub fn position_of(text: &[u8], byte: u8) -> usize
     ensures value { result ≡ position_or_len (λ b. b == byte) text.now }
     ensures fits { result ≤ length text.now }
 {
-    for (i, b) in text.iter().enumerate() {
-        if *b == byte {
-            return i;
-        }
+    match memchr(byte, text) {
+        Some(place) => place,
+        None => text.len(),
     }
-    text.len()
 }
 
 /// Whether a word may end at this byte.
