@@ -1,5 +1,5 @@
--- The states of a machine are as they are written.
-use Rattle.std.proofs.Common.{ℕ, ◌≡◌, ◌==◌, Bool, true, false, cond, List, [], ◌∷◌, ◌++◌, Option, Some, None, Ok, MatchOption, option_map, unwrap_or, find, refl, sym, ap, subst, ◌∙◌, append_assoc, append-nil}
+-- The states and the aliases of a machine are as they are written.
+use Rattle.std.proofs.Common.{ℕ, ◌≡◌, ◌==◌, Bool, true, false, cond, List, [], ◌∷◌, ◌++◌, map, Option, Some, None, Ok, MatchOption, option_map, unwrap_or, find, refl, sym, ap, subst, ◌∙◌, append_assoc, append-nil}
 use Rattle.std.specs.Option.{ok_or, option_or}
 use Rattle.std.proofs.lemmas.List.Folds.{find-append}
 use Rattle.jm_model.specs.declared.step.Letter.{Letter}
@@ -17,10 +17,10 @@ use Rattle.jm_fsm.specs.declared.formula.TransitionText.{TransitionText}
 use Rattle.jm_fsm.specs.declared.formula.TransitionText.TheVariants.{On, Fallback}
 use Rattle.jm_fsm.specs.declared.formula.Part.{Part}
 use Rattle.jm_fsm.specs.declared.formula.Part.TheVariants.{Declaration, Alias}
-use Rattle.jm_fsm.specs.Machines.{StateDefinition, StateMachine}
+use Rattle.jm_fsm.specs.Machines.{StateDefinition, AliasDefinition, StateMachine}
 use Rattle.jm_reading.specs.Faults.{with_each}
-use Rattle.jm_fsm.specs.Faults.{destination_named, destination_said, with_listed, with_transition, state_said, alias_said, with_part, state_names, machine_of}
-use Rattle.jm_fsm.specs.Written.{arrow_of, default_of, IsAsWritten, AreAsWritten}
+use Rattle.jm_fsm.specs.Faults.{destination_named, destination_said, with_listed, with_transition, state_said, with_member, alias_said, with_part, state_names, machine_of}
+use Rattle.jm_fsm.specs.Written.{arrow_of, default_of, IsAsWritten, AreAsWritten, IsAliasAsWritten, AreAliasesAsWritten}
 
 module _ {X : Type 0} where
   or_none : (o : Option X) → option_or o None ≡ o
@@ -154,3 +154,65 @@ module _ (bytes : List ℕ) (events states : List (List ℕ)) where
 pub machine_written : (bytes : List ℕ) (table : EventDefinitions) (parts : List Part) (m : StateMachine) → machine_of bytes table parts ≡ Ok m → AreAsWritten bytes (event_names table) (state_names bytes parts) parts m.states
 unfolding machine_of
 machine_written bytes table parts m h = states_written bytes (event_names table) (state_names bytes parts) parts m h
+
+-- ---- aliases
+
+module _ (bytes : List ℕ) (events states : List (List ℕ)) where
+  abbrev named_by : Token → Option Destination
+  named_by member = destination_named states (name_of bytes member)
+
+  -- what members add to an alias
+  record Lists (a made : AliasDefinition) (ms : List Token) : Type 0 where
+    more : List Destination
+    members_is : made.members ≡ a.members ++ more
+    tells : map named_by ms ≡ map Some more
+    named : made.name ≡ a.name
+
+  lists : (ms : List Token) (a made : AliasDefinition) → with_each (with_member bytes states) a ms ≡ Ok made → Lists a made ms
+  lists [] a made h =
+      let same : made ≡ a = cc in
+      record { more = []; members_is = ap (λ (x : AliasDefinition). x.members) same ∙ sym (append-nil a.members); tells = refl; named = ap (λ (x : AliasDefinition). x.name) same }
+  lists (m ∷ ms) a made h =
+      let first = then_ok (with_member bytes states a m) _ made h in
+      let said = then_ok (destination_said bytes states m) _ first.0 first.1 in
+      let next : AliasDefinition = record a { members = a.members ++ said.0 ∷ [] } in
+      let same : first.0 ≡ next = cc (said.2) in
+      let rest = lists ms first.0 made first.2 in
+      record {
+        more = said.0 ∷ rest.more;
+        members_is = rest.members_is ∙ ap (λ (x : AliasDefinition). x.members ++ rest.more) same ∙ append_assoc a.members (said.0 ∷ []) rest.more;
+        tells = (λ i. said_is (named_by m) _ said.0 said.1 i ∷ rest.tells i);
+        named = rest.named ∙ ap (λ (x : AliasDefinition). x.name) same;
+      }
+
+  alias_written : (name : Token) (ms : List Token) (made : AliasDefinition) → alias_said bytes states name ms ≡ Ok made → IsAliasAsWritten bytes states name ms made
+  alias_written name ms made h =
+      let all = lists ms (record { name = name_of bytes name; members = [] }) made h in
+      record { named = all.named; listed = all.tells ∙ ap (map Some) (sym all.members_is) }
+
+  aliases_added : (parts : List Part) (m made : StateMachine) → with_each (with_part bytes events states) m parts ≡ Ok made → (aliases : List AliasDefinition) × (made.aliases ≡ m.aliases ++ aliases) × AreAliasesAsWritten bytes states parts aliases
+  aliases_added [] m made h = let same : made ≡ m = cc in ([], ap (λ (x : StateMachine). x.aliases) same ∙ sym (append-nil m.aliases), refl)
+  aliases_added (Declaration name ts ∷ ps) m made h =
+      let a = then_ok (with_part bytes events states m (Declaration name ts)) _ made h in
+      let b = then_ok (state_said bytes events states name ts) _ a.0 a.1 in
+      let next : StateMachine = record m { states = m.states ++ b.0 ∷ [] } in
+      let same : a.0 ≡ next = cc (b.2) in
+      let rest = aliases_added ps a.0 made a.2 in
+      (rest.0, rest.1 ∙ ap (λ (x : StateMachine). x.aliases ++ rest.0) same, rest.2)
+  aliases_added (Alias name ms ∷ ps) m made h =
+      let a = then_ok (with_part bytes events states m (Alias name ms)) _ made h in
+      let b = then_ok (alias_said bytes states name ms) _ a.0 a.1 in
+      let next : StateMachine = record m { aliases = m.aliases ++ b.0 ∷ [] } in
+      let same : a.0 ≡ next = cc (b.2) in
+      let rest = aliases_added ps a.0 made a.2 in
+      (b.0 ∷ rest.0, rest.1 ∙ ap (λ (x : StateMachine). x.aliases ++ rest.0) same ∙ append_assoc m.aliases (b.0 ∷ []) rest.0, (alias_written name ms b.0 b.1, rest.2))
+
+  aliases_written : (parts : List Part) (made : StateMachine) → with_each (with_part bytes events states) (record { states = []; aliases = [] }) parts ≡ Ok made → AreAliasesAsWritten bytes states parts made.aliases
+  aliases_written parts made h =
+      let all = aliases_added parts (record { states = []; aliases = [] }) made h in
+      subst (λ (aliases : List AliasDefinition). AreAliasesAsWritten bytes states parts aliases) (sym all.1) all.2
+
+-- and of one that was read
+pub machine_aliases_written : (bytes : List ℕ) (table : EventDefinitions) (parts : List Part) (m : StateMachine) → machine_of bytes table parts ≡ Ok m → AreAliasesAsWritten bytes (state_names bytes parts) parts m.aliases
+unfolding machine_of
+machine_aliases_written bytes table parts m h = aliases_written bytes (event_names table) (state_names bytes parts) parts m h

@@ -1,5 +1,5 @@
--- The states of a machine by what is written of them in the formula, with no word of how they are made.
-use Rattle.std.specs.Prelude.{ℕ, ◌≡◌, ◌==◌, false, List, [], ◌∷◌, Option, Some, None, MatchOption, option_map, unwrap_or, if◌then◌else◌}
+-- The states and the aliases of a machine by what is written of them in the formula, with no word of how they are made.
+use Rattle.std.specs.Prelude.{ℕ, ◌≡◌, ◌==◌, false, List, [], ◌∷◌, map, Option, Some, None, MatchOption, option_map, unwrap_or, if◌then◌else◌}
 use Rattle.std.specs.Option.{option_or}
 use Rattle.jm_model.specs.Words.{Text}
 use Rattle.jm_text.specs.declared.token.Token.{Token}
@@ -11,7 +11,7 @@ use Rattle.jm_fsm.specs.declared.formula.TransitionText.TheVariants.{On, Fallbac
 use Rattle.jm_fsm.specs.declared.formula.Part.{Part}
 use Rattle.jm_fsm.specs.declared.formula.Part.TheVariants.{Declaration, Alias}
 use Rattle.jm_fsm.specs.Faults.{destination_named}
-use Rattle.jm_fsm.specs.Machines.{StateDefinition}
+use Rattle.jm_fsm.specs.Machines.{StateDefinition, AliasDefinition}
 use Rattle.jm_fsm.specs.Meanings.{destination_of}
 
 -- the name behind `default`, if it is written
@@ -47,3 +47,18 @@ module _ (bytes : Text) (events states : List Text) where
   AreAsWritten (Declaration name ts ∷ ps) [] = ⊥
   AreAsWritten (Declaration name ts ∷ ps) (s ∷ ss) = IsAsWritten bytes events states name ts s × AreAsWritten ps ss
   AreAsWritten (Alias name members ∷ ps) ss = AreAsWritten ps ss
+
+-- An alias is as it is written: it has this name, and its members are the states that are named, in their order.
+pub record IsAliasAsWritten (bytes : Text) (states : List Text) (name : Token) (members : List Token)
+    (a : AliasDefinition) : Type 0 where
+  pub named : a.name ≡ name_of bytes name
+  pub listed : map (λ member. destination_named states (name_of bytes member)) members ≡ map Some a.members
+
+-- the aliases are those that are written, in their order, each as it is written
+module _ (bytes : Text) (states : List Text) where
+  abbrev pub AreAliasesAsWritten : List Part → List AliasDefinition → Type 0
+  AreAliasesAsWritten [] aliases = aliases ≡ []
+  AreAliasesAsWritten (Alias name members ∷ ps) [] = ⊥
+  AreAliasesAsWritten (Alias name members ∷ ps) (a ∷ aliases) =
+      IsAliasAsWritten bytes states name members a × AreAliasesAsWritten ps aliases
+  AreAliasesAsWritten (Declaration name ts ∷ ps) aliases = AreAliasesAsWritten ps aliases

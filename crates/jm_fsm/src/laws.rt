@@ -9,7 +9,7 @@ ghost use Rattle.jm_fsm.specs.Spelling.{Spells};
 ghost use Rattle.jm_fsm.specs.Faults.{state_names};
 ghost use Rattle.jm_fsm.specs.Machines.{StateMachine};
 ghost use Rattle.jm_fsm.specs.Readings.{IsReadFrom, IsRefused};
-ghost use Rattle.jm_fsm.specs.Written.{AreAsWritten};
+ghost use Rattle.jm_fsm.specs.Written.{AreAsWritten, AreAliasesAsWritten};
 
 /// One reading: no tokens spell two formulas, so none have two machines, and none have both a machine and a fault.
 pub fn one_reading()
@@ -30,4 +30,12 @@ pub fn states_as_written()
         → IsReadFrom bytes tokens table m →
         (parts : List Part) × Spells bytes tokens parts
         × AreAsWritten bytes (event_names table) (state_names bytes parts) parts m.states }
+{}
+
+/// And so are its aliases: they are those that the formula has, in order, each with the states that it names, in order.
+pub fn aliases_as_written()
+    ensures { (bytes : List ℕ) (tokens : List Token) (table : EventDefinitions) (m : StateMachine)
+        → IsReadFrom bytes tokens table m →
+        (parts : List Part) × Spells bytes tokens parts
+        × AreAliasesAsWritten bytes (state_names bytes parts) parts m.aliases }
 {}

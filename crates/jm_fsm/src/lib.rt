@@ -16,6 +16,6 @@ mod machine;
 mod reader;
 mod reading;
 
-pub use laws::{one_reading, states_as_written};
+pub use laws::{aliases_as_written, one_reading, states_as_written};
 pub use machine::{Destination, Fsm};
 pub use reading::read;

@@ -5,16 +5,17 @@ use Rattle.std.specs.List.{list_all, starts_with, prefix_len}
 use Rattle.std.proofs.lemmas.Bool.Decides.{Decides-eqb}
 use Rattle.std.proofs.lemmas.Slice.Eq.{starts_is}
 use Rattle.std.proofs.lemmas.List.Folds.{length-prefix_len}
+use Rattle.std.proofs.lemmas.List.Sums.{sum_by-append}
 use Rattle.std.proofs.lemmas.List.Elements.{All-nil, All-cons, All-weaker}
 use Rattle.jm_text.specs.declared.token.Token.{Token}
 use Rattle.jm_text.specs.declared.token.TokenKind.{TokenKind}
 use Rattle.jm_text.specs.declared.token.TokenKind.TheVariants.{Word, Text, Mark}
 use Rattle.jm_text.specs.declared.piece.Piece.{Piece}
 use Rattle.jm_text.specs.declared.piece.Piece.TheVariants.{Gap, Cut, Open}
-use Rattle.jm_text.specs.Pieces.{line_feed, is_white, is_quote, is_word_byte, plus, line_length, comment_rest, escapes, text_rest, mark_length, closed, piece_of}
+use Rattle.jm_text.specs.Pieces.{line_feed, backslash, is_white, is_quote, is_word_byte, plus, line_length, comment_rest, escapes, text_rest, mark_length, closed, piece_of}
 use Rattle.jm_text.specs.Tokens.{piece_length, led_by, tokens_behind, token_list, AreTokensOf}
 use Rattle.jm_text.proofs.Cutting.{line_feeds, front as piece_at_front, front_open}
-use Rattle.jm_telling.specs.TokenLaws.{HasNoEnd, EndsLine, IsDropped, white, line_comment, comment, nothing, more, TileFrom, TokensTile, IsBetween, begins_word, ends_word, IsWholeWord, WordsAreMaximal, long_marks, IsLongestMark, MarksAreLongest}
+use Rattle.jm_telling.specs.TokenLaws.{HasNoEnd, EndsLine, IsDropped, white, line_comment, comment, nothing, more, TileFrom, TokensTile, IsBetween, begins_word, ends_word, IsWholeWord, WordsAreMaximal, long_marks, IsLongestMark, MarksAreLongest, takes_along, IsInside, IsQuoted, TextsAreQuoted, IsUnclosed, open_text, open_comment, TileUpTo, OpenIsUnclosed}
 
 -- ---- small facts
 
@@ -39,6 +40,10 @@ both_ways is other = never (sym is ∙ other)
 and_left : (x y : Bool) → (x && y) ≡ true → x ≡ true
 and_left true y h = refl
 and_left false y h = h
+
+and_right : (x y : Bool) → (x && y) ≡ true → y ≡ true
+and_right true y h = h
+and_right false y h = absurd (never (sym h))
 
 or_parts : (x y : Bool) → (x || y) ≡ true → (x ≡ true) ⊎ (y ≡ true)
 or_parts true y h = inl refl
@@ -130,15 +135,23 @@ record Splits (bytes : List ℕ) (n : ℕ) (P : List ℕ → List ℕ → Type 0
 abbrev IsMarkText : List ℕ → Type 0
 IsMarkText text = Contains long_marks text ⊎ (length text ≡ 1)
 
+record IsQuotedText (text : List ℕ) : Type 0 where
+  quote : ℕ
+  inside : List ℕ
+  is : is_quote quote ≡ true
+  made : text ≡ quote ∷ (inside ++ quote ∷ [])
+  within : IsInside quote inside
+  free : takes_along false inside ≡ false
+
 abbrev KindSays : List ℕ → TokenKind → List ℕ → List ℕ → Type 0
 KindSays bytes Word text behind = (list_all is_word_byte text ≡ true) × (begins_word behind ≡ false)
-KindSays bytes Text text behind = Unit {0}
+KindSays bytes Text text behind = IsQuotedText text
 KindSays bytes Mark text behind = IsMarkText text
 
 abbrev PieceSays : List ℕ → Piece → Type 0
 PieceSays bytes (Gap n) = Splits bytes n IsDropped
 PieceSays bytes (Cut kind n) = Splits bytes n (KindSays bytes kind)
-PieceSays bytes Open = Unit {0}
+PieceSays bytes Open = IsUnclosed bytes
 
 white_says : (b : ℕ) (bs : List ℕ) → is_white b ≡ true → PieceSays (b ∷ bs) (Gap 1)
 white_says b bs h = record { text = b ∷ []; behind = bs; split = refl; long = refl; some = omega arith; seam = inl (white_no_word b h); says = white b bs h }
@@ -219,11 +232,32 @@ comment_closes (b ∷ bs) m h = by_case (comment_closes bs) (starts_with nat_eq 
     }
     by_case closes false e h = later closes e (comment_rest bs) refl h
 
+nothing_holds : (pattern before behind : List ℕ) → 0 < length pattern → [] ≡ before ++ pattern ++ behind → ⊥
+nothing_holds pattern before behind some is =
+    let lengths = ap (λ (v : List ℕ). length v) is in
+    omega (arith, lengths, length-append before pattern, length-append (before ++ pattern) behind, some)
+
+comment_open : (bs : List ℕ) → comment_rest bs ≡ None → HasNoEnd bs
+comment_open [] h = λ before behind is. nothing_holds (codes "*/") before behind (omega arith) is
+comment_open (b ∷ bs) h = by_case (comment_open bs) (starts_with nat_eq (b ∷ bs) (codes "*/")) refl h
+  where
+    later : (o : Option ℕ) → comment_rest bs ≡ o → plus 1 o ≡ None → comment_rest bs ≡ None
+    later None e h = e
+    later (Some k) e h = absurd (never_some (sym h))
+
+    no_end : HasNoEnd bs → starts_with nat_eq (b ∷ bs) (codes "*/") ≡ false → HasNoEnd (b ∷ bs)
+    no_end none e [] behind is = both_ways (begins_with (b ∷ bs) (codes "*/") behind is) e
+    no_end none e (x ∷ before) behind is = none before behind (ap (drop 1) is)
+
+    by_case : (comment_rest bs ≡ None → HasNoEnd bs) → (c : Bool) → starts_with nat_eq (b ∷ bs) (codes "*/") ≡ c → (if c then Some 2 else plus 1 (comment_rest bs)) ≡ None → HasNoEnd (b ∷ bs)
+    by_case opens true e h = absurd (never_some (sym h))
+    by_case opens false e h = no_end (opens (later (comment_rest bs) refl h)) e
+
 comment_says : (bytes : List ℕ) → starts_with nat_eq bytes (codes "/*") ≡ true → PieceSays bytes (closed Gap (plus 2 (comment_rest (drop 2 bytes))))
 comment_says bytes h = by_case (comment_rest (drop 2 bytes)) refl
   where
     by_case : (o : Option ℕ) → comment_rest (drop 2 bytes) ≡ o → PieceSays bytes (closed Gap (plus 2 o))
-    by_case None e = tt
+    by_case None e = subst IsUnclosed (sym (behind_pattern bytes (codes "/*") h)) (open_comment (drop 2 bytes) (comment_open (drop 2 bytes) e))
     by_case (Some m) e =
         let c = comment_closes (drop 2 bytes) m e in
         let here : bytes ≡ codes "/*" ++ (c.text ++ codes "*/" ++ c.behind) = behind_pattern bytes (codes "/*") h ∙ ap (λ v. codes "/*" ++ v) c.split in
@@ -238,64 +272,159 @@ comment_says bytes h = by_case (comment_rest (drop 2 bytes)) refl
           says = comment c.text c.behind c.no_end;
         }
 
+-- ---- texts
+
+head_is : {x y : ℕ} {xs ys : List ℕ} → x ∷ xs ≡ y ∷ ys → x ≡ y
+head_is e = ap (λ v. slice_index_or v 0 0) e
+
+quote_no_feed : (q : ℕ) → is_quote q ≡ true → (line_feed == q) ≡ false
+quote_no_feed q h = one (or_parts (q == 34) (q == 39) h)
+  where
+    one : (q == 34) ≡ true ⊎ (q == 39) ≡ true → (line_feed == q) ≡ false
+    one (inl e) = subst (λ v. (line_feed == v) ≡ false) (sym (is_that q 34 e)) refl
+    one (inr e) = subst (λ v. (line_feed == v) ≡ false) (sym (is_that q 39 e)) refl
+
+is_no : (b k : ℕ) → (b == k) ≡ false → b ≡ k → ⊥
+is_no b k h e = both_ways ((Decides-eqb b k).1 e) h
+
+module _ (q : ℕ) where
+  inside_nothing : IsInside q []
+  inside_nothing = record { one_line = refl; taken = λ before behind is. absurd (nothing_holds (q ∷ []) before behind (omega arith) (is ∙ sym (append_assoc before (q ∷ []) behind))) }
+
+  module _ (b : ℕ) (other : (b == q) ≡ false) (no_feed_here : (b == line_feed) ≡ false) where
+    -- a byte that takes nothing along
+    inside_more : (text : List ℕ) → (b == backslash) ≡ false → IsInside q text → IsInside q (b ∷ text)
+    inside_more text plain within = record { one_line = rw no_feed_here within.one_line; taken = taken }
+      where
+        taken : (before behind : List ℕ) → b ∷ text ≡ before ++ q ∷ behind → takes_along false before ≡ true
+        taken [] behind is = absurd (is_no b q other (head_is is))
+        taken (x ∷ before) behind is =
+            let same : x ≡ b = sym (head_is is) in
+            ap (λ v. takes_along (v == backslash) before) same ∙ ap (λ v. takes_along v before) plain ∙ within.taken before behind (ap (drop 1) is)
+
+    -- the last byte of a line
+    inside_last : IsInside q (b ∷ [])
+    inside_last = record { one_line = rw no_feed_here refl; taken = taken }
+      where
+        taken : (before behind : List ℕ) → b ∷ [] ≡ before ++ q ∷ behind → takes_along false before ≡ true
+        taken [] behind is = absurd (is_no b q other (head_is is))
+        taken (x ∷ before) behind is = absurd (nothing_holds (q ∷ []) before behind (omega arith) (ap (drop 1) is ∙ sym (append_assoc before (q ∷ []) behind)))
+
+    -- a backslash, and the byte that it takes along
+    inside_pair : (c : ℕ) (text : List ℕ) → (b == backslash) ≡ true → (c == line_feed) ≡ false → IsInside q text → IsInside q (b ∷ c ∷ text)
+    inside_pair c text takes no_feed_behind within = record { one_line = rw (no_feed_here, no_feed_behind) within.one_line; taken = taken }
+      where
+        taken : (before behind : List ℕ) → b ∷ c ∷ text ≡ before ++ q ∷ behind → takes_along false before ≡ true
+        taken [] behind is = absurd (is_no b q other (head_is is))
+        taken (x ∷ []) behind is = ap (λ v. v == backslash) (sym (head_is is)) ∙ takes
+        taken (x ∷ y ∷ before) behind is =
+            let same : x ≡ b = sym (head_is is) in
+            ap (λ v. takes_along (not (v == backslash) && y == backslash) before) same ∙ ap (λ v. takes_along (not v && y == backslash) before) takes ∙ within.taken before behind (ap (drop 2) is)
+
 -- behind a quote
 record Quotes (quote : ℕ) (bytes : List ℕ) (n : ℕ) : Type 0 where
   text : List ℕ
   behind : List ℕ
   split : bytes ≡ text ++ quote ∷ behind
   long : n ≡ length text + 1
+  within : IsInside quote text
+  free : takes_along false text ≡ false
 
-text_closes : (q : ℕ) (bs : List ℕ) (m : ℕ) → text_rest q bs ≡ Some m → Quotes q bs m
-text_closes q [] m h = absurd (never_some h)
-text_closes q (b ∷ []) m h = by_case (b == q) refl h
-  where
-    by_case : (c : Bool) → (b == q) ≡ c → (if c then Some 1 else None) ≡ Some m → Quotes q (b ∷ []) m
-    by_case true e h = record { text = []; behind = []; split = ap (λ v. v ∷ []) (is_that b q e); long = sym (same_some h) }
-    by_case false e h = absurd (never_some h)
-text_closes q (b ∷ c ∷ bs) m h = one (text_closes q bs) (text_closes q (c ∷ bs)) (b == q) refl h
-  where
-    two_more : ((k : ℕ) → text_rest q bs ≡ Some k → Quotes q bs k) → (o : Option ℕ) → text_rest q bs ≡ o → plus 2 o ≡ Some m → Quotes q (b ∷ c ∷ bs) m
-    two_more closes None e h = absurd (never_some h)
-    two_more closes (Some k) e h =
-        let t = closes k e in
-        let n : k + 2 ≡ m = same_some h in
-        record { text = b ∷ c ∷ t.text; behind = t.behind; split = ap (λ v. b ∷ c ∷ v) t.split; long = omega (arith, n, t.long) }
+-- behind a quote, where no other one ends the text on its line
+record RunsOut (quote : ℕ) (bytes : List ℕ) : Type 0 where
+  text : List ℕ
+  behind : List ℕ
+  split : bytes ≡ text ++ behind
+  within : IsInside quote text
+  ends : EndsLine behind
 
-    one_more : ((k : ℕ) → text_rest q (c ∷ bs) ≡ Some k → Quotes q (c ∷ bs) k) → (o : Option ℕ) → text_rest q (c ∷ bs) ≡ o → plus 1 o ≡ Some m → Quotes q (b ∷ c ∷ bs) m
-    one_more closes None e h = absurd (never_some h)
-    one_more closes (Some k) e h =
-        let t = closes k e in
-        let n : k + 1 ≡ m = same_some h in
-        record { text = b ∷ t.text; behind = t.behind; split = ap (λ v. b ∷ v) t.split; long = omega (arith, n, t.long) }
+-- what a text comes to
+abbrev TextSays : ℕ → List ℕ → Option ℕ → Type 0
+TextSays q bytes None = RunsOut q bytes
+TextSays q bytes (Some n) = Quotes q bytes n
 
-    three : ((k : ℕ) → text_rest q bs ≡ Some k → Quotes q bs k) → ((k : ℕ) → text_rest q (c ∷ bs) ≡ Some k → Quotes q (c ∷ bs) k) → (d : Bool) → (if d then plus 2 (text_rest q bs) else plus 1 (text_rest q (c ∷ bs))) ≡ Some m → Quotes q (b ∷ c ∷ bs) m
-    three closes nearer true h = two_more closes (text_rest q bs) refl h
-    three closes nearer false h = one_more nearer (text_rest q (c ∷ bs)) refl h
+module _ (q : ℕ) (q_no_feed : (line_feed == q) ≡ false) where
+  here_says : (b : ℕ) (bs : List ℕ) → (b == q) ≡ true → TextSays q (b ∷ bs) (Some 1)
+  here_says b bs e = record { text = []; behind = bs; split = ap (λ v. v ∷ bs) (is_that b q e); long = refl; within = inside_nothing q; free = refl }
 
-    two : ((k : ℕ) → text_rest q bs ≡ Some k → Quotes q bs k) → ((k : ℕ) → text_rest q (c ∷ bs) ≡ Some k → Quotes q (c ∷ bs) k) → (d : Bool) → (if d then None else if escapes (b ∷ c ∷ bs) then plus 2 (text_rest q bs) else plus 1 (text_rest q (c ∷ bs))) ≡ Some m → Quotes q (b ∷ c ∷ bs) m
-    two closes nearer true h = absurd (never_some h)
-    two closes nearer false h = three closes nearer (escapes (b ∷ c ∷ bs)) h
+  feed_says : (b : ℕ) (bs : List ℕ) → (b == line_feed) ≡ true → TextSays q (b ∷ bs) None
+  feed_says b bs e = record { text = []; behind = b ∷ bs; split = refl; within = inside_nothing q; ends = is_that b line_feed e }
 
-    one : ((k : ℕ) → text_rest q bs ≡ Some k → Quotes q bs k) → ((k : ℕ) → text_rest q (c ∷ bs) ≡ Some k → Quotes q (c ∷ bs) k) → (d : Bool) → (b == q) ≡ d → (if d then Some 1 else if b == line_feed then None else if escapes (b ∷ c ∷ bs) then plus 2 (text_rest q bs) else plus 1 (text_rest q (c ∷ bs))) ≡ Some m → Quotes q (b ∷ c ∷ bs) m
-    one closes nearer true e h = record { text = []; behind = c ∷ bs; split = ap (λ v. v ∷ c ∷ bs) (is_that b q e); long = sym (same_some h) }
-    one closes nearer false e h = two closes nearer (b == line_feed) h
+  -- behind a line feed nothing of the text stands
+  feed_first : (c : ℕ) (bs : List ℕ) → (c == line_feed) ≡ true → text_rest q (c ∷ bs) ≡ None
+  feed_first c [] e = subst (λ v. text_rest q (v ∷ []) ≡ None) (sym (is_that c line_feed e)) (rw q_no_feed refl)
+  feed_first c (d ∷ bs) e = subst (λ v. text_rest q (v ∷ d ∷ bs) ≡ None) (sym (is_that c line_feed e)) (rw q_no_feed refl)
+
+  rest_says : (bs : List ℕ) → TextSays q bs (text_rest q bs)
+  rest_says [] = record { text = []; behind = []; split = refl; within = inside_nothing q; ends = tt }
+  rest_says (b ∷ []) = by_case (b == q) refl (b == line_feed) refl
+    where
+      by_case : (c : Bool) → (b == q) ≡ c → (d : Bool) → (b == line_feed) ≡ d → TextSays q (b ∷ []) (if c then Some 1 else None)
+      by_case true e d g = here_says b [] e
+      by_case false e true g = feed_says b [] g
+      by_case false e false g = record { text = b ∷ []; behind = []; split = refl; within = inside_last q b e g; ends = tt }
+  rest_says (b ∷ c ∷ bs) = one (rest_says bs) (rest_says (c ∷ bs)) (b == q) refl
+    where
+      pair : (b == q) ≡ false → (b == line_feed) ≡ false → (b == backslash) ≡ true → (c == line_feed) ≡ false → (o : Option ℕ) → TextSays q bs o → TextSays q (b ∷ c ∷ bs) (plus 2 o)
+      pair other within_line takes none None r = record { text = b ∷ c ∷ r.text; behind = r.behind; split = ap (λ v. b ∷ c ∷ v) r.split; within = inside_pair q b other within_line c r.text takes none r.within; ends = r.ends }
+      pair other within_line takes none (Some k) t = record {
+        text = b ∷ c ∷ t.text;
+        behind = t.behind;
+        split = ap (λ v. b ∷ c ∷ v) t.split;
+        long = omega (arith, t.long);
+        within = inside_pair q b other within_line c t.text takes none t.within;
+        free = ap (λ v. takes_along (not v && c == backslash) t.text) takes ∙ t.free;
+      }
+
+      plain : (b == q) ≡ false → (b == line_feed) ≡ false → (b == backslash) ≡ false → (o : Option ℕ) → TextSays q (c ∷ bs) o → TextSays q (b ∷ c ∷ bs) (plus 1 o)
+      plain other within_line takes_none None r = record { text = b ∷ r.text; behind = r.behind; split = ap (λ v. b ∷ v) r.split; within = inside_more q b other within_line r.text takes_none r.within; ends = r.ends }
+      plain other within_line takes_none (Some k) t = record {
+        text = b ∷ t.text;
+        behind = t.behind;
+        split = ap (λ v. b ∷ v) t.split;
+        long = omega (arith, t.long);
+        within = inside_more q b other within_line t.text takes_none t.within;
+        free = ap (λ v. takes_along v t.text) takes_none ∙ t.free;
+      }
+
+      last : (b == q) ≡ false → (b == line_feed) ≡ false → (c == line_feed) ≡ true → TextSays q (b ∷ c ∷ bs) None
+      last other within_line feed = record { text = b ∷ []; behind = c ∷ bs; split = refl; within = inside_last q b other within_line; ends = is_that c line_feed feed }
+
+      four : TextSays q (c ∷ bs) (text_rest q (c ∷ bs)) → (b == q) ≡ false → (b == line_feed) ≡ false → (t : Bool) → (b == backslash) ≡ t → (n : Bool) → (c == line_feed) ≡ n → (t && not n) ≡ false → TextSays q (b ∷ c ∷ bs) (plus 1 (text_rest q (c ∷ bs)))
+      four says other within_line t takes true feed h = subst (λ o. TextSays q (b ∷ c ∷ bs) (plus 1 o)) (sym (feed_first c bs feed)) (last other within_line feed)
+      four says other within_line true takes false feed h = absurd (never h)
+      four says other within_line false takes false feed h = plain other within_line takes (text_rest q (c ∷ bs)) says
+
+      three : TextSays q bs (text_rest q bs) → TextSays q (c ∷ bs) (text_rest q (c ∷ bs)) → (b == q) ≡ false → (b == line_feed) ≡ false → (d : Bool) → escapes (b ∷ c ∷ bs) ≡ d → TextSays q (b ∷ c ∷ bs) (if d then plus 2 (text_rest q bs) else plus 1 (text_rest q (c ∷ bs)))
+      three near nearer other within_line true e = pair other within_line (and_left (b == backslash) (not (c == line_feed)) e) (no_feed_behind (c == line_feed) refl (and_right (b == backslash) (not (c == line_feed)) e)) (text_rest q bs) near
+        where
+          no_feed_behind : (n : Bool) → (c == line_feed) ≡ n → not n ≡ true → (c == line_feed) ≡ false
+          no_feed_behind true is h = absurd (never (sym h))
+          no_feed_behind false is h = is
+      three near nearer other within_line false e = four nearer other within_line (b == backslash) refl (c == line_feed) refl e
+
+      two : TextSays q bs (text_rest q bs) → TextSays q (c ∷ bs) (text_rest q (c ∷ bs)) → (b == q) ≡ false → (d : Bool) → (b == line_feed) ≡ d → TextSays q (b ∷ c ∷ bs) (if d then None else if escapes (b ∷ c ∷ bs) then plus 2 (text_rest q bs) else plus 1 (text_rest q (c ∷ bs)))
+      two near nearer other true e = feed_says b (c ∷ bs) e
+      two near nearer other false e = three near nearer other e (escapes (b ∷ c ∷ bs)) refl
+
+      one : TextSays q bs (text_rest q bs) → TextSays q (c ∷ bs) (text_rest q (c ∷ bs)) → (d : Bool) → (b == q) ≡ d → TextSays q (b ∷ c ∷ bs) (if d then Some 1 else if b == line_feed then None else if escapes (b ∷ c ∷ bs) then plus 2 (text_rest q bs) else plus 1 (text_rest q (c ∷ bs)))
+      one near nearer true e = here_says b (c ∷ bs) e
+      one near nearer false e = two near nearer e (b == line_feed) refl
 
 text_says : (b : ℕ) (bs : List ℕ) → is_quote b ≡ true → PieceSays (b ∷ bs) (closed (Cut Text) (plus 1 (text_rest b bs)))
-text_says b bs h = by_case (text_rest b bs) refl
+text_says b bs h = by_case (text_rest b bs) (rest_says b (quote_no_feed b h) bs)
   where
-    by_case : (o : Option ℕ) → text_rest b bs ≡ o → PieceSays (b ∷ bs) (closed (Cut Text) (plus 1 o))
-    by_case None e = tt
-    by_case (Some m) e =
-        let t = text_closes b bs m e in
-        record {
-          text = b ∷ (t.text ++ b ∷ []);
-          behind = t.behind;
-          split = ap (λ v. b ∷ v) (t.split ∙ sym (append_assoc t.text (b ∷ []) t.behind));
-          long = omega (arith, t.long, length-append t.text (b ∷ []));
-          some = omega arith;
-          seam = inl (ends_append (b ∷ t.text) (b ∷ []) (omega arith) ∙ quote_no_word b h);
-          says = tt;
-        }
+    by_case : (o : Option ℕ) → TextSays b bs o → PieceSays (b ∷ bs) (closed (Cut Text) (plus 1 o))
+    by_case None r = subst (λ v. IsUnclosed (b ∷ v)) (sym r.split) (open_text b r.text r.behind h r.within r.ends)
+    by_case (Some m) t = record {
+      text = b ∷ (t.text ++ b ∷ []);
+      behind = t.behind;
+      split = ap (λ v. b ∷ v) (t.split ∙ sym (append_assoc t.text (b ∷ []) t.behind));
+      long = omega (arith, t.long, length-append t.text (b ∷ []));
+      some = omega arith;
+      seam = inl (ends_append (b ∷ t.text) (b ∷ []) (omega arith) ∙ quote_no_word b h);
+      says = record { quote = b; inside = t.text; is = h; made = refl; within = t.within; free = t.free };
+    }
 
 word_says : (b : ℕ) (bs : List ℕ) → is_word_byte b ≡ true → PieceSays (b ∷ bs) (Cut Word (prefix_len is_word_byte (b ∷ bs)))
 word_says b bs h =
@@ -404,6 +533,7 @@ mark_piece b bs n e =
 record Stands (bytes : List ℕ) (token : Token) : Type 0 where
   word : token.kind ≡ Word → IsWholeWord bytes token
   mark : token.kind ≡ Mark → IsLongestMark bytes token
+  quoted : token.kind ≡ Text → IsQuoted bytes token
 
 record Told (front bytes : List ℕ) (tokens : List Token) : Type 0 where
   tiled : TileFrom (length front) bytes tokens
@@ -505,6 +635,9 @@ module _ (f : ℕ) (walks : Walks f) (front : List ℕ) (b : ℕ) (bs : List ℕ
               longest = subst (λ k. All (λ mark. starts_with nat_eq (s.text ++ s.behind) mark ≡ true → length mark ≤ k) long_marks) (sym long)
                   (subst (λ v. All (λ mark. starts_with nat_eq v mark ≡ true → length mark ≤ mark_length (b ∷ bs)) long_marks) s.split (none_longer (b ∷ bs)));
             };
+        quoted = λ is.
+            let says = subst (λ k. KindSays (b ∷ bs) k s.text s.behind) is s.says in
+            record { at = between; quote = says.quote; inside = says.inside; is = says.is; made = says.made; within = says.within; free = says.free };
       }
 
       by_rest : (r : Result (List Token) ℕ) → tokens_behind 0 (drop n (b ∷ bs)) (length front + n) (line_then n _ s) ≡ r → led_by (Cut kind n) (length front) line r ≡ Ok tokens → Told front (b ∷ bs) tokens
@@ -539,3 +672,122 @@ words_are_maximal bytes tokens are = All-weaker (Stands bytes) (λ token. token.
 
 pub marks_are_longest : MarksAreLongest
 marks_are_longest bytes tokens are = All-weaker (Stands bytes) (λ token. token.kind ≡ Mark → IsLongestMark bytes token) (λ token s. s.mark) tokens (all_told bytes tokens are).each
+
+pub texts_are_quoted : TextsAreQuoted
+texts_are_quoted bytes tokens are = All-weaker (Stands bytes) (λ token. token.kind ≡ Text → IsQuoted bytes token) (λ token s. s.quoted) tokens (all_told bytes tokens are).each
+
+-- ---- what isn't closed
+
+record Opens (place line : ℕ) (bytes : List ℕ) (opening : ℕ) : Type 0 where
+  front : List ℕ
+  rest : List ℕ
+  tokens : List Token
+  split : bytes ≡ front ++ rest
+  tiled : TileUpTo rest place front tokens
+  unclosed : IsUnclosed rest
+  counted : opening ≡ line + line_feeds front
+
+same_err : {V E : Type 0} {d e : E} → ◌≡◌ {A = Result V E} (Err d) (Err e) → d ≡ e
+same_err e = cc
+
+gap_up_to : (behind : List ℕ) (place : ℕ) (gap bytes : List ℕ) (tokens : List Token) → IsDropped gap (bytes ++ behind) → TileUpTo behind (place + length gap) bytes tokens → TileUpTo behind place (gap ++ bytes) tokens
+gap_up_to behind place gap bytes [] is tiled = more gap bytes behind is tiled
+gap_up_to behind place gap bytes (token ∷ tokens) is (first, text, rest, e, dropped, start, end, some, tiled) = (
+  gap ++ first,
+  text,
+  rest,
+  ap (λ v. gap ++ v) e ∙ sym (append_assoc gap (first ++ text) rest) ∙ ap (λ v. v ++ rest) (sym (append_assoc gap first text)),
+  more gap first (text ++ rest ++ behind) (subst (IsDropped gap) (ap (λ v. v ++ behind) (e ∙ append_assoc first text rest) ∙ append_assoc first (text ++ rest) behind) is) dropped,
+  omega (arith, start, length-append gap first),
+  end,
+  some,
+  tiled,
+)
+
+line_feeds-append : (xs ys : List ℕ) → line_feeds (xs ++ ys) ≡ line_feeds xs + line_feeds ys
+line_feeds-append xs ys = sum_by-append (λ b. cond (b == line_feed) 1 0) xs ys
+
+take_front : (text behind : List ℕ) → take (length text) (text ++ behind) ≡ text
+take_front [] behind = refl
+take_front (x ∷ text) behind = ap (λ v. x ∷ v) (take_front text behind)
+
+abbrev Opening : ℕ → Type 0
+Opening f = (place line : ℕ) (bytes : List ℕ) (opening : ℕ) → length bytes ≤ f → tokens_behind 0 bytes place line ≡ Err opening → Opens place line bytes opening
+
+module _ (f : ℕ) (further : Opening f) (place line : ℕ) (b : ℕ) (bs : List ℕ) (opening : ℕ) (fuel : length (b ∷ bs) ≤ suc f) where
+  abbrev tokens_from : ℕ → Result (List Token) ℕ
+  tokens_from n = tokens_behind 0 (drop n (b ∷ bs)) (place + n) (line + line_feeds (take n (b ∷ bs)))
+
+  module _ (n : ℕ) (P : List ℕ → List ℕ → Type 0) (s : Splits (b ∷ bs) n P) where
+    few : n ≤ length (b ∷ bs)
+    few = let lengths = ap (λ (v : List ℕ). length v) s.split in omega (arith, lengths, length-append s.text s.behind, s.long)
+
+    feeds : line_feeds (take n (b ∷ bs)) ≡ line_feeds s.text
+    feeds = ap line_feeds ((λ i. take (s.long i) (s.split i)) ∙ take_front s.text s.behind)
+
+    behind_is : drop n (b ∷ bs) ≡ s.behind
+    behind_is = (λ i. drop (s.long i) (s.split i)) ∙ drop_behind s.text s.behind
+
+    later : tokens_from n ≡ Err opening → Opens (place + length s.text) (line + line_feeds s.text) s.behind opening
+    later cut =
+        let short : length s.behind ≤ f = let lengths = ap (λ (v : List ℕ). length v) s.split in omega (arith, lengths, length-append s.text s.behind, s.long, s.some, fuel) in
+        let long = s.long in
+        further (place + length s.text) (line + line_feeds s.text) s.behind opening short (sym (λ i. tokens_behind 0 (behind_is i) (place + long i) (line + feeds i)) ∙ cut)
+
+    all_counted : (o : Opens (place + length s.text) (line + line_feeds s.text) s.behind opening) → opening ≡ line + line_feeds (s.text ++ o.front)
+    all_counted o = omega (arith, o.counted, line_feeds-append s.text o.front)
+
+    all_split : (o : Opens (place + length s.text) (line + line_feeds s.text) s.behind opening) → b ∷ bs ≡ (s.text ++ o.front) ++ o.rest
+    all_split o = s.split ∙ ap (λ v. s.text ++ v) o.split ∙ sym (append_assoc s.text o.front o.rest)
+
+  opens_with : (p : Piece) → piece_of (b ∷ bs) ≡ p → PieceSays (b ∷ bs) p → tokens_behind 0 (b ∷ bs) place line ≡ Err opening → Opens place line (b ∷ bs) opening
+  opens_with (Gap n) e s cut =
+      let at = piece_at_front (b ∷ bs) place line n s.some (few n _ s) (ap piece_length e) in
+      let o = later n _ s (sym (ap (λ p. led_by p place line (tokens_from n)) e) ∙ sym at ∙ cut) in
+      record {
+        front = s.text ++ o.front;
+        rest = o.rest;
+        tokens = o.tokens;
+        split = all_split n _ s o;
+        tiled = gap_up_to o.rest place s.text o.front o.tokens (subst (IsDropped s.text) o.split s.says) o.tiled;
+        unclosed = o.unclosed;
+        counted = all_counted n _ s o;
+      }
+  opens_with (Cut kind n) e s cut =
+      let at = piece_at_front (b ∷ bs) place line n s.some (few n _ s) (ap piece_length e) in
+      by_rest (tokens_from n) refl (sym (ap (λ p. led_by p place line (tokens_from n)) e) ∙ sym at ∙ cut)
+    where
+      by_rest : (r : Result (List Token) ℕ) → tokens_from n ≡ r → led_by (Cut kind n) place line r ≡ Err opening → Opens place line (b ∷ bs) opening
+      by_rest (Ok rest) is h = absurd (never_ok (sym h))
+      by_rest (Err d) is h =
+          let o = later n _ s (is ∙ ap Err (same_err h)) in
+          let token : Token = record { kind = kind; start = place; end = place + n; line = line } in
+          record {
+            front = s.text ++ o.front;
+            rest = o.rest;
+            tokens = token ∷ o.tokens;
+            split = all_split n _ s o;
+            tiled = ([], s.text, o.front, refl, nothing (s.text ++ o.front ++ o.rest), omega arith, ap (λ k. place + k) s.long, omega (arith, s.long, s.some), subst (λ k. TileUpTo o.rest k o.front o.tokens) (ap (λ k. place + k) (sym s.long)) o.tiled);
+            unclosed = o.unclosed;
+            counted = all_counted n _ s o;
+          }
+  opens_with Open e u cut = record {
+    front = [];
+    rest = b ∷ bs;
+    tokens = [];
+    split = refl;
+    tiled = nothing (b ∷ bs);
+    unclosed = u;
+    counted = let same : line ≡ opening = same_err (sym (front_open (b ∷ bs) place line (omega arith) e) ∙ cut) in omega (arith, same);
+  }
+
+opens : (f : ℕ) → Opening f
+opens f place line [] opening short cut = absurd (never_ok (sym cut))
+opens zero place line (b ∷ bs) opening short cut = absurd (omega (arith, short))
+opens (suc f) place line (b ∷ bs) opening short cut = opens_with f (opens f) place line b bs opening short (piece_of (b ∷ bs)) refl (piece_says b bs) cut
+
+pub open_is_unclosed : OpenIsUnclosed
+unfolding token_list
+open_is_unclosed bytes line are =
+    let o = opens (length bytes) 0 1 bytes line (omega arith) are.cut in
+    record { front = o.front; rest = o.rest; tokens = o.tokens; split = o.split; tiled = o.tiled; unclosed = o.unclosed; counted = o.counted }

@@ -1,12 +1,12 @@
 -- What holds of the tokens of a file, told of its bytes: with what is dropped they tile them, a word goes as far as it
--- can, and a mark is the longest that stands there.
-use Rattle.std.specs.Prelude.{ℕ, ◌+◌, ◌<◌, ◌≤◌, ◌≡◌, ◌==◌, ◌⊎◌, Bool, true, false, not, nat_eq, List, [], ◌∷◌, ◌++◌, length, codes, All, Contains}
+-- can, a mark is the longest that stands there, and a text ends at the first quote that may end it.
+use Rattle.std.specs.Prelude.{ℕ, ◌+◌, ◌<◌, ◌≤◌, ◌≡◌, ◌==◌, ◌⊎◌, ◌&&◌, Bool, true, false, not, nat_eq, List, [], ◌∷◌, ◌++◌, length, count_by, codes, All, Contains}
 use Rattle.std.specs.List.{list_all, starts_with}
 use Rattle.jm_model.specs.Words.{Text}
 use Rattle.jm_text.specs.declared.token.Token.{Token}
-use Rattle.jm_text.specs.declared.token.TokenKind.TheVariants.{Word, Mark}
-use Rattle.jm_text.specs.Pieces.{is_white, is_word_byte, line_feed}
-use Rattle.jm_text.specs.Tokens.{AreTokensOf}
+use Rattle.jm_text.specs.declared.token.TokenKind.TheVariants.{Word, Mark, Text as Quoted}
+use Rattle.jm_text.specs.Pieces.{is_white, is_quote, is_word_byte, line_feed, backslash}
+use Rattle.jm_text.specs.Tokens.{AreTokensOf, IsOpenOn}
 
 -- ---- what is dropped
 
@@ -99,3 +99,61 @@ pub record IsLongestMark (bytes : Text) (token : Token) : Type 0 where
 abbrev pub MarksAreLongest : Type 0
 MarksAreLongest = (bytes : Text) (tokens : List Token) → AreTokensOf bytes tokens
     → All (λ token. token.kind ≡ Mark → IsLongestMark bytes token) tokens
+
+-- ---- texts
+
+-- The byte behind these is taken along by a backslash, which isn't taken along itself. The first of them may be taken
+-- along by one before them.
+abbrev pub takes_along : Bool → Text → Bool
+takes_along taken [] = taken
+takes_along taken (b ∷ bs) = takes_along (not taken && b == backslash) bs
+
+-- no line feed stands in the text, and each such quote in it is taken along
+pub record IsInside (quote : ℕ) (text : Text) : Type 0 where
+  pub one_line : list_all (λ b. not (b == line_feed)) text ≡ true
+  pub taken : (before behind : Text) → text ≡ before ++ quote ∷ behind → takes_along false before ≡ true
+
+-- The token is a quote, an inside, and the same quote, which isn't taken along.
+pub record IsQuoted (bytes : Text) (token : Token) : Type 0 where
+  pub at : IsBetween bytes token
+  pub quote : ℕ
+  pub inside : Text
+  pub is : is_quote quote ≡ true
+  pub made : at.text ≡ quote ∷ (inside ++ quote ∷ [])
+  pub within : IsInside quote inside
+  pub free : takes_along false inside ≡ false
+
+-- a text ends at the first quote that may end it
+abbrev pub TextsAreQuoted : Type 0
+TextsAreQuoted = (bytes : Text) (tokens : List Token) → AreTokensOf bytes tokens
+    → All (λ token. token.kind ≡ Quoted → IsQuoted bytes token) tokens
+
+-- ---- what isn't closed
+
+-- a text or a comment begins with the bytes, and none of them ends it: a text ends on its line
+pub data IsUnclosed : Text → Type 0 where
+  open_text : (quote : ℕ) (inside behind : Text) → is_quote quote ≡ true → IsInside quote inside → EndsLine behind
+      → IsUnclosed (quote ∷ (inside ++ behind))
+  open_comment : (text : Text) → HasNoEnd text → IsUnclosed (codes "/*" ++ text)
+
+-- as `TileFrom`, with these bytes behind the last
+abbrev pub TileUpTo : Text → ℕ → Text → List Token → Type 0
+TileUpTo behind place bytes [] = AreDropped bytes behind
+TileUpTo behind place bytes (token ∷ tokens) =
+    (gap : Text) × (text : Text) × (rest : Text) × (bytes ≡ gap ++ text ++ rest) × AreDropped gap (text ++ rest ++ behind)
+    × (token.start ≡ place + length gap) × (token.end ≡ token.start + length text) × (0 < length text)
+    × TileUpTo behind token.end rest tokens
+
+-- Bytes are tiled by tokens and what is dropped, up to a text or a comment that isn't closed, on this line.
+pub record IsTiledUpTo (bytes : Text) (line : ℕ) : Type 0 where
+  pub front : Text
+  pub rest : Text
+  pub tokens : List Token
+  pub split : bytes ≡ front ++ rest
+  pub tiled : TileUpTo rest 0 front tokens
+  pub unclosed : IsUnclosed rest
+  pub counted : line ≡ 1 + count_by (λ b. b == line_feed) front
+
+-- where bytes have no tokens, a text or a comment isn't closed, and its line is the one that is named
+abbrev pub OpenIsUnclosed : Type 0
+OpenIsUnclosed = (bytes : Text) (line : ℕ) → IsOpenOn bytes line → IsTiledUpTo bytes line

@@ -16,7 +16,7 @@ ghost use Rattle.jm_top.specs.Histories.{AreHistoriesFrom, lexicon};
 ghost use Rattle.jm_inputs.specs.Jobs.{IsJob, Accepted};
 ghost use Rattle.jm_telling.specs.FirstFaults.{IsSameFault};
 ghost use Rattle.jm_telling.specs.Parts.{IsPartAlone};
-ghost use Rattle.jm_telling.specs.TokenLaws.{TokensTile, WordsAreMaximal, MarksAreLongest};
+ghost use Rattle.jm_telling.specs.TokenLaws.{TokensTile, WordsAreMaximal, MarksAreLongest, TextsAreQuoted, OpenIsUnclosed};
 
 /// The names of an accepted command are fit to be printed: in each of its specifications the parameters, the events and
 /// the handlers each have names of their own, and so have the objects; and none of these holds a line feed, a space,
@@ -84,4 +84,17 @@ pub fn words_are_maximal()
 /// longer.
 pub fn marks_are_longest()
     ensures { MarksAreLongest }
+{}
+
+/// A text begins with a quote and ends with the first same quote that no backslash takes along; no line feed stands in
+/// it. A backslash takes the byte behind it along, unless one before it takes it along.
+pub fn texts_are_quoted()
+    ensures { TextsAreQuoted }
+{}
+
+/// Where the bytes of a specification can't be cut into tokens, a text isn't closed on its line, or a comment isn't
+/// closed at all. It begins where the tokens before it, with what is dropped, end; and the line that is named is the one
+/// on which it begins.
+pub fn open_is_unclosed()
+    ensures { OpenIsUnclosed }
 {}

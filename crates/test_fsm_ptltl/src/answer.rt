@@ -16,6 +16,7 @@ pub(crate) fn answer(alloc: Global, case: &Case) -> Result<String, AllocError> {
 fn laws(alloc: Global) -> Result<String, AllocError> {
     jm_fsm::one_reading();
     jm_fsm::states_as_written();
+    jm_fsm::aliases_as_written();
     jm_ptltl::one_reading();
     String::from_str(alloc, "called")
 }
