@@ -1,6 +1,7 @@
 //! The entries of an index.
-ghost use Rattle.std.specs.Prelude.{◌≡◌, ◌++◌, ℕ, true, false, Some, Contains, OnOk, IfOk};
+ghost use Rattle.std.specs.Prelude.{◌≡◌, ◌++◌, ℕ, true, false, Some, length, Contains, OnOk, OnErr, IfOk};
 ghost use Rattle.std.specs.List.{filter_map};
+ghost use Rattle.std.specs.Vec.{vec_capacity};
 ghost use Rattle.jm_index.specs.Index.{Pair};
 ghost use Rattle.jm_index.specs.Layout.{is_live_at, pair_at, slot_of, slot_at};
 
@@ -121,7 +122,7 @@ pub(crate) fn add_slots_at(
     Ok(())
 }
 
-/// Adds the slots of the live entries at these positions, and takes no memory. Where there is no room for one, it ends.
+/// Adds the slots of the live entries at these positions, and takes no memory. Where the list is full, it ends.
 pub(crate) fn add_live_slots(
     entries: &[Entry],
     positions: &[usize],
@@ -130,6 +131,8 @@ pub(crate) fn add_live_slots(
     ensures kept { OnOk result ((k : ℕ) → Contains slots.old.items k → Contains slots.new.items k) }
     ensures all { OnOk result ((k : ℕ) (pair : Pair) → Contains positions.now k → pair_at entries.now k ≡ Some pair
         → Contains slots.new.items pair.slot) }
+    ensures room { vec_capacity slots.new ≡ vec_capacity slots.old }
+    ensures full { OnErr result (length slots.new.items ≡ vec_capacity slots.new) }
 {
     for position in positions {
         add_live_slot(entries, *position, slots)?;
@@ -137,11 +140,13 @@ pub(crate) fn add_live_slots(
     Ok(())
 }
 
-/// Adds the slot of the entry at a position, if it is live.
+/// Adds the slot of the entry at a position, if it is live. It takes no memory.
 fn add_live_slot(entries: &[Entry], position: usize, slots: &mut Vec<usize>) -> Result<(), NoRoom>
     ensures kept { OnOk result ((k : ℕ) → Contains slots.old.items k → Contains slots.new.items k) }
     ensures here { OnOk result ((pair : Pair) → pair_at entries.now position ≡ Some pair
         → Contains slots.new.items pair.slot) }
+    ensures room { vec_capacity slots.new ≡ vec_capacity slots.old }
+    ensures full { OnErr result (length slots.new.items ≡ vec_capacity slots.new) }
 {
     if let Some(entry) = entries.get(position)
         && entry.is_live()

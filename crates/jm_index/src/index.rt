@@ -1,4 +1,5 @@
 ghost use Rattle.std.specs.Prelude.{◌≡◌, ◌≢◌, ℕ, ◌<◌, ◌*◌, ◌/◌, Bool, List, [], ◌∷◌, ◌++◌, ◌⊎◌, true, false, length, AllPairs, Contains, IsTrue, IfOk, OnOk, OnErr};
+ghost use Rattle.std.specs.Vec.{vec_capacity};
 ghost use Rattle.jm_model.specs.Bindings.{mask_of, restriction};
 ghost use Rattle.jm_index.specs.Index.{Pair, flag_of, IsKey, AreBelow, IsFitting, AreLive, HasDied, AreListed, without, asked_slots};
 
@@ -245,9 +246,11 @@ impl Index {
     }
 
     /// Adds the slots of the pairs that bind an object which died since the dead were dropped last, once for each such
-    /// object, and takes no memory. Where there is no room for a slot, it ends.
+    /// object, and takes no memory. `NoRoom` comes only where the list is full before they are all in it.
     pub fn add_slots_of_dead(&self, objects: &Objects, slots: &mut Vec<usize>) -> Result<(), NoRoom>
-        ensures { OnOk result (AreListed self.now (HasDied self.now objects.now) slots.new.items) }
+        ensures listed { OnOk result (AreListed self.now (HasDied self.now objects.now) slots.new.items) }
+        ensures room { vec_capacity slots.new ≡ vec_capacity slots.old }
+        ensures full { OnErr result (length slots.new.items ≡ vec_capacity slots.new) }
     {
         for block in 0..objects.len().div_ceil(4096) {
             if !self.has_dropped_block(objects, block) {
@@ -268,6 +271,8 @@ impl Index {
         ensures kept { OnOk result ((k : ℕ) → Contains slots.old.items k → Contains slots.new.items k) }
         ensures all { OnOk result
             (AreListed self.now (λ o. (o / 4096 ≡ block) × HasDied self.now objects.now o) slots.new.items) }
+        ensures room { vec_capacity slots.new ≡ vec_capacity slots.old }
+        ensures full { OnErr result (length slots.new.items ≡ vec_capacity slots.new) }
     {
         let len = objects.len().div_ceil(64);
         let first = 64 * block;
@@ -290,6 +295,8 @@ impl Index {
         ensures kept { OnOk result ((k : ℕ) → Contains slots.old.items k → Contains slots.new.items k) }
         ensures all { OnOk result
             (AreListed self.now (λ o. (o / 64 ≡ index) × HasDied self.now objects.now o) slots.new.items) }
+        ensures room { vec_capacity slots.new ≡ vec_capacity slots.old }
+        ensures full { OnErr result (length slots.new.items ≡ vec_capacity slots.new) }
     {
         let _len = objects.len();
         let mut left = self.dropped.news(objects, index);
@@ -306,6 +313,8 @@ impl Index {
         ensures kept { OnOk result ((k : ℕ) → Contains slots.old.items k → Contains slots.new.items k) }
         ensures all { OnOk result
             (AreListed self.now (λ o. (o ≡ object) × (flag_of self.now.dropped o ≡ false)) slots.new.items) }
+        ensures room { vec_capacity slots.new ≡ vec_capacity slots.old }
+        ensures full { OnErr result (length slots.new.items ≡ vec_capacity slots.new) }
     {
         let entries = self.entries.as_slice();
         for tree in 0..self.trees.len() {

@@ -1,7 +1,8 @@
 //! The trees of an index, by the set of bound parameters.
-ghost use Rattle.std.specs.Prelude.{◌≡◌, ℕ, ◌≤◌, ◌<◌, ◌+◌, ◌++◌, ◌^◌, ◌==◌, [], Some, Contains, OnOk, length, false, ◌⊎◌, if◌then◌else◌};
+ghost use Rattle.std.specs.Prelude.{◌≡◌, ℕ, ◌≤◌, ◌<◌, ◌+◌, ◌++◌, ◌^◌, ◌==◌, [], Some, Contains, OnOk, OnErr, length, false, ◌⊎◌, if◌then◌else◌};
 ghost use Rattle.jm_model.specs.Bindings.{mask_of};
 ghost use Rattle.std.specs.List.{filter_map};
+ghost use Rattle.std.specs.Vec.{vec_capacity};
 ghost use Rattle.jm_index.specs.Index.{Pair, flag_of};
 ghost use Rattle.jm_index.specs.Layout.{Rises, IsFiled, pair_at, slot_at, posting_at, IsPath, IsPathBelow, AllFiled, AreFiled, AreThinned};
 
@@ -177,7 +178,7 @@ impl Trees {
     }
 
     /// Adds the slots of the live entries to which a path leads, in the tree of a set's number, and takes no
-    /// memory. Where there is no room for one, it ends.
+    /// memory. Where the list is full, it ends.
     pub(crate) fn add_live_slots(
         &self,
         entries: &[Entry],
@@ -188,6 +189,8 @@ impl Trees {
         ensures kept { OnOk result ((k : ℕ) → Contains slots.old.items k → Contains slots.new.items k) }
         ensures all { OnOk result ((k : ℕ) (pair : Pair) → Contains (posting_at self.now tree path) k
             → pair_at entries.now k ≡ Some pair → Contains slots.new.items pair.slot) }
+        ensures room { vec_capacity slots.new ≡ vec_capacity slots.old }
+        ensures full { OnErr result (length slots.new.items ≡ vec_capacity slots.new) }
     {
         let Some(tree) = self.trees.get(tree) else {
             return Ok(());

@@ -1,4 +1,4 @@
-use Rattle.std.proofs.Common.{◌≡◌, ℕ, Some, List, inl, inr, sym, subst}
+use Rattle.std.proofs.Common.{◌≡◌, ℕ, Some, List, inl, inr, sym, subst, ◌∙◌}
 use Rattle.std.specs.Prelude.{Contains}
 use Rattle.jm_index.specs.Layout.{pair_at}
 use Rattle.jm_index.proofs.ListedLemmas.{taken_cases, take_whole}
@@ -14,6 +14,7 @@ loop-position-preserved c =
         | inl before ↦ added.kept pair.slot (inv.all k pair before at)
         | inr here ↦ added.here pair (subst (λ (n : ℕ). pair_at c.args.entries.now n ≡ Some pair) (sym here) at)
       ];
+      room = added.room ∙ inv.room;
     }
 
 pub returns-clause-all : goal.returns-clause-all

@@ -1,4 +1,4 @@
-use Rattle.std.proofs.Common.{◌≡◌, ℕ, ◌+◌, ◌≤◌, inl, inr, length, subst, arith}
+use Rattle.std.proofs.Common.{◌≡◌, ℕ, ◌+◌, ◌≤◌, inl, inr, length, subst, ◌∙◌, arith}
 use Rattle.std.specs.Prelude.{Contains}
 use Rattle.std.proofs.lemmas.Bool.{cases_lt}
 use Rattle.jm_index.specs.Layout.{posting_at}
@@ -17,6 +17,7 @@ loop-tree-preserved c =
             let same : m ≡ c.loop-tree.tree = omega (arith, past, low) in
             added.all k pair (subst (λ (n : ℕ). Contains (posting_at c.self.inside.trees n (c.args.object + 1)) k) same there) at
       ];
+      room = added.room ∙ inv.room;
     }
 
 pub returns-clause-all : goal.returns-clause-all

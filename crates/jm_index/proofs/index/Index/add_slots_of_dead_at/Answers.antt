@@ -32,6 +32,7 @@ loop-left-preserved c =
         | inl before ↦ added.kept pair.slot (inv.all pair o there binds (at, before, died))
         | inr is ↦ let same : o ≡ 64 * c.args.index + t = omega (arith, at, is) in added.all pair o there binds (same, died.1)
       ];
+      room = added.room ∙ inv.room;
     }
 
 pub returns-clause-all : goal.returns-clause-all

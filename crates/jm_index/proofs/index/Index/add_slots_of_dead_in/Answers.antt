@@ -1,4 +1,4 @@
-use Rattle.std.proofs.Common.{◌≡◌, ℕ, ◌*◌, ◌/◌, ◌<◌, ◌≤◌, inl, inr, arith}
+use Rattle.std.proofs.Common.{◌≡◌, ℕ, ◌*◌, ◌/◌, ◌<◌, ◌≤◌, ◌∙◌, inl, inr, arith}
 use Rattle.jm_index.specs.Index.{HasDied}
 use Rattle.jm_index.proofs.ListedLemmas.{listed_either, below_or_last, flag_within}
 use Rattle.jm_index.proofs.index.Index.add_slots_of_dead_in.Goals.{then-not-has_dropped+in_ok-add_slots_of_dead_at, else-not-has_dropped}
@@ -17,6 +17,7 @@ loop-index-preserved c =
             all =
                 listed_either c.args.self.now (λ o. (64 * c.args.block ≤ o / 64) × (o / 64 < c.loop-index.index) × HasNew o) (λ o. (o / 64 ≡ c.loop-index.index) × HasNew o) _ _ _ inv.all added.kept added.all
                 (λ o (low, high, died). elim (below_or_last _ _ high) [ inl below ↦ inl (low, below, died) | inr last ↦ inr (last, died) ]);
+            room = added.room ∙ inv.room;
           })
       | else-not-has_dropped w ↦
           rw w.slots-is
@@ -26,6 +27,7 @@ loop-index-preserved c =
               | inl below ↦ inv.all pair o there binds (low, below, died)
               | inr last ↦ absurd (c.has_dropped.ensures w.if-not-has_dropped.false o last died.0 (pair, there, binds, died.1))
             ];
+            room = inv.room;
           })
     ]
 
