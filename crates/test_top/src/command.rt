@@ -1,7 +1,7 @@
 //! Whole commands.
 use crate::shown::{put_last_line, put_text};
 use jm_inputs::one_reading;
-use jm_port::{Folder, MemoryFolder, Sink, SureFolder, SureSink};
+use jm_port::{Folder, LoadFault, MemoryFolder, Sink, SureFolder, SureSink};
 use jm_runner::FreeGate;
 use jm_top::{Status, fault_text, jmop};
 use std::alloc::{AllocError, Global};
@@ -11,7 +11,8 @@ use testkit::{Case, put_line, text_of};
 use testkit_files::{calls_of, files, sink_of};
 
 /// How the command of the case's words ends, and what is written to its two sinks. The words behind the `/` say what
-/// fails: `read-fails CALL..`, or `write STEP CALL..` for a sink that takes STEP bytes at a time.
+/// fails: `read-fails CALL..`, or `write STEP CALL..` for a sink that takes STEP bytes at a time. `loads CALL` asks
+/// whether the load with this number, of all from 0 on, is the one that comes behind the command.
 pub(crate) fn run<R: Threads + Wait + Sync>(
     rt: &R,
     alloc: Global,
@@ -23,6 +24,7 @@ pub(crate) fn run<R: Threads + Wait + Sync>(
         .unwrap_or((case.second.as_str(), ""));
     match kind {
         "read-fails" => read_fails(rt, alloc, case, rest),
+        "loads" => loads(rt, alloc, case, rest),
         "write" => write_fails(rt, alloc, case, rest),
         _ => nothing_fails(rt, alloc, case),
     }
@@ -50,6 +52,27 @@ fn read_fails<R: Threads + Wait + Sync>(
     let mut out = SureSink::new(alloc);
     let (status, err) = done(rt, alloc, case, &mut folder, &mut out)?;
     shown(alloc, &status, out.bytes(), err.bytes())
+}
+
+/// Whether the load behind the command is the one that fails, and so has this number; and how the command ends.
+fn loads<R: Threads + Wait + Sync>(
+    rt: &R,
+    alloc: Global,
+    case: &Case,
+    calls: &str,
+) -> Result<String, AllocError> {
+    let fail = calls_of(alloc, calls)?;
+    let mut folder = MemoryFolder::new(files(alloc, case.text.as_slice())?, fail);
+    let mut out = SureSink::new(alloc);
+    let (status, err) = done(rt, alloc, case, &mut folder, &mut out)?;
+    let next = match folder.load("x", 0) {
+        Err(LoadFault::Failed) => "the load behind it has this number",
+        _ => "the load behind it has another number",
+    };
+    let mut answer = format!(in alloc; "{status:?} {}", status.code())?;
+    put_last_line(&mut answer, err.bytes())?;
+    put_line(&mut answer, next)?;
+    Ok(answer)
 }
 
 fn write_fails<R: Threads + Wait + Sync>(
