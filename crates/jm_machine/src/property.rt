@@ -7,7 +7,7 @@ ghost use Rattle.jm_semantics.specs.Families.{IsFamily};
 ghost use Rattle.jm_machine.specs.Formulas.{category_names, is_grammar};
 ghost use Rattle.jm_machine.specs.Handlers.{AreCategories};
 ghost use Rattle.jm_machine.specs.PropertyMeanings.{Resets, property_rules_of, property_meaning};
-ghost use Rattle.jm_model.specs.Meanings.{IsCutWord};
+ghost use Rattle.jm_model.specs.Meanings.{IsHit, IsCutWord};
 ghost use Rattle.jm_machine.specs.Places.{Stands, IsPlaceAfter};
 ghost use Rattle.jm_machine.specs.Engines.{letters_of_engine, categories_of_engine, is_parsing, HasParams, IsPlaceOf, IsCompiled, IsMinimal};
 ghost use Rattle.jm_machine.specs.CompiledProperties.{numbers_of, IsCompiledProperty, IsHandledBy};
@@ -156,7 +156,7 @@ impl Property {
     }
 
     /// Whether a word may begin with the letter.
-    fn may_begin(&self, letter: Letter) -> bool
+    pub(crate) fn may_begin(&self, letter: Letter) -> bool
         requires { letter.0 < length self.now.definition.masks }
         ensures { IsTrue result ↔ ((self.now.definition.creation ≡ [])
             ⊎ Contains self.now.definition.creation letter.0) }
@@ -194,17 +194,70 @@ impl Property {
         }
     }
 
-    /// The state of the word of one letter, where a table runs the property and words may begin with the letter.
+    /// The state of the word of one letter, with which words may begin, where a table runs the property.
     #[inline(always)]
     pub(crate) fn first_state(&self, letter: Letter) -> Option<u16>
-        requires { letter.0 < length self.now.definition.masks }
+        requires letter { letter.0 < length self.now.definition.masks }
+        requires begins { (self.now.definition.creation ≡ []) ⊎ Contains self.now.definition.creation letter.0 }
         ensures { IfSome result (λ first. IsPlaceAfter self.now (place.State first) (letter.0 ∷ [])) }
     {
         match &self.engine {
-            Engine::States(table) if self.may_begin(letter) => {
+            Engine::States(table) => {
                 Some(next_state(table, table.start(), letter))
             }
             _ => None,
+        }
+    }
+
+    /// The handlers that are hit at a state of the table: bit k stands for handler k.
+    #[inline(always)]
+    pub(crate) fn hits_of_state(&self, state: u16) -> u16
+        ensures { (w : List ℕ) → IsPlaceAfter self.now (place.State state) w → (k : ℕ) →
+            IsBitSet result k ↔ IsHit (property_meaning self.now.definition) w k }
+    {
+        match &self.outlook {
+            Outlook::Table(outlook) => outlook.hits(state),
+            Outlook::Grammar(_) => 0,
+        }
+    }
+
+    /// Whether an instance at a state of the table can never fire again.
+    #[inline(always)]
+    pub(crate) fn is_state_cut(&self, state: u16, dead: u8) -> bool
+        ensures { (w : List ℕ) → IsPlaceAfter self.now (place.State state) w →
+            IsTrue result ↔ IsCutWord (property_meaning self.now.definition) w dead }
+    {
+        match &self.outlook {
+            Outlook::Table(outlook) => !outlook.is_alive(state, dead),
+            Outlook::Grammar(_) => false,
+        }
+    }
+
+    /// The letters that leave a state of the table as it is and hit nothing.
+    #[inline(always)]
+    pub(crate) fn idle_of_state(&self, state: u16) -> u32
+        ensures stays { (w : List ℕ) → IsPlaceAfter self.now (place.State state) w → (e : ℕ) →
+            IsBitSet result e → IsPlaceAfter self.now (place.State state) (w ++ e ∷ []) }
+        ensures quiet { (w : List ℕ) → IsPlaceAfter self.now (place.State state) w → (e k : ℕ) →
+            IsBitSet result e → IsHit (property_meaning self.now.definition) (w ++ e ∷ []) k → ⊥ }
+    {
+        match &self.outlook {
+            Outlook::Table(outlook) => outlook.idle(state),
+            Outlook::Grammar(_) => 0,
+        }
+    }
+
+    /// The letters that end an instance at a state of the table.
+    #[inline(always)]
+    pub(crate) fn ending_of_state(&self, state: u16) -> u32
+        ensures quiet { (w : List ℕ) → IsPlaceAfter self.now (place.State state) w → (e k : ℕ) →
+            IsBitSet result e → IsHit (property_meaning self.now.definition) (w ++ e ∷ []) k → ⊥ }
+        ensures cut { (w : List ℕ) → IsPlaceAfter self.now (place.State state) w → (e : ℕ) →
+            IsBitSet result e → IsCutWord (property_meaning self.now.definition) (w ++ e ∷ []) 0 }
+    {
+        match &self.outlook {
+            Outlook::Table(outlook) => outlook.ending(state),
+            Outlook::Grammar(_) => 0,
         }
     }
 

@@ -238,17 +238,21 @@ impl Rules {
         self.configuration_at(self.first.next(place, letter)?)
     }
 
-    /// The state of the word of one letter, of the only property, where a table runs it and words may begin with the
-    /// letter.
+    /// The configuration of the word of one letter, where a table runs the only property.
     #[inline(always)]
-    fn first_alone(&self, letter: Letter) -> Option<u16>
+    fn first_alone(&self, letter: Letter) -> Option<Configuration>
         requires { letter.0 < length self.now.definition.masks }
-        ensures { IfSome result (λ first. IsConfigurationOf self.now (Configuration.State first) (letter.0 ∷ [])) }
+        ensures { IfSome result (λ first. IsConfigurationOf self.now first (letter.0 ∷ [])) }
     {
-        if self.others.is_empty() {
-            self.first.first_state(letter)
-        } else {
-            None
+        if !self.others.is_empty() {
+            return None;
+        }
+        if !self.first.may_begin(letter) {
+            return Some(Configuration::Barren);
+        }
+        match self.first.first_state(letter) {
+            Some(state) => Some(Configuration::State(state)),
+            None => None,
         }
     }
 
@@ -401,6 +405,101 @@ impl Rules {
         }
         ending
     }
+
+    /// The configuration of the words of one letter more, from a state of the only property's table.
+    #[inline(never)]
+    fn next_of_state(&self, state: u16, letter: Letter) -> Result<Configuration, NoMemory>
+        requires { letter.0 < length self.now.definition.masks }
+        ensures { IfOk result (λ c. (w : List ℕ) → IsConfigurationOf self.now (Configuration.State state) w
+            → IsConfigurationOf self.now c (w ++ letter.0 ∷ [])) }
+    {
+        self.next_alone(&Place::State(state), letter)
+    }
+
+    /// The configuration of the words of one letter more, whatever the configuration. A call of its own, as the others
+    /// below, so that what is done at each event for a state of a table stays short.
+    #[inline(never)]
+    fn next_elsewhere(&self, configuration: &Configuration, letter: Letter) -> Result<Configuration, NoMemory>
+        requires { letter.0 < length self.now.definition.masks }
+        ensures { IfOk result (λ c. (w : List ℕ) → IsConfigurationOf self.now configuration.now w
+            → IsConfigurationOf self.now c (w ++ letter.0 ∷ [])) }
+    {
+        match configuration {
+            Configuration::State(state) => self.next_of_state(*state, letter),
+            Configuration::Single(place) => self.next_alone(place, letter),
+            Configuration::Several(places) => {
+                self.next_of_each(places.as_slice(), &Place::Start, letter)
+            }
+            Configuration::Start => self.first_of_each(letter),
+            Configuration::Barren => Ok(Configuration::Barren),
+        }
+    }
+
+    /// The handlers that are hit, whatever the configuration.
+    #[inline(never)]
+    fn hits_elsewhere(&self, configuration: &Configuration) -> u16
+        ensures { (w : List ℕ) → IsConfigurationOf self.now configuration.now w → (k : ℕ) →
+            IsBitSet result k ↔ IsHit (rules_meaning self.now.definition) w k }
+    {
+        match configuration {
+            Configuration::State(state) => self.first.hits_of_state(*state),
+            Configuration::Single(place) => self.first.hits(place),
+            Configuration::Several(places) => self.hits_of_each(places.as_slice(), &Place::Start),
+            Configuration::Start => 0,
+            Configuration::Barren => 0,
+        }
+    }
+
+    /// Whether an instance can never fire again, whatever its configuration.
+    #[inline(never)]
+    fn is_cut_elsewhere(&self, configuration: &Configuration, dead: u8) -> bool
+        ensures { (w : List ℕ) → IsConfigurationOf self.now configuration.now w →
+            IsTrue result ↔ IsCutWord (rules_meaning self.now.definition) w dead }
+    {
+        match configuration {
+            Configuration::State(state) => self.first.is_state_cut(*state, dead),
+            Configuration::Single(place) => self.first.cut(place, dead),
+            Configuration::Several(places) => {
+                self.is_each_cut(places.as_slice(), &Place::Start, dead)
+            }
+            Configuration::Start => self.is_cut_at(&Place::Start, dead),
+            Configuration::Barren => self.is_cut_at(&Place::Barren, dead),
+        }
+    }
+
+    /// The letters at which an instance rests, whatever its configuration.
+    #[inline(never)]
+    fn idle_elsewhere(&self, configuration: &Configuration) -> u32
+        ensures stays { (w : List ℕ) → IsConfigurationOf self.now configuration.now w → (e : ℕ) →
+            IsBitSet result e → IsConfigurationOf self.now configuration.now (w ++ e ∷ []) }
+        ensures quiet { (w : List ℕ) → IsConfigurationOf self.now configuration.now w → (e k : ℕ) →
+            IsBitSet result e → IsHit (rules_meaning self.now.definition) (w ++ e ∷ []) k → ⊥ }
+    {
+        match configuration {
+            Configuration::State(state) => self.first.idle_of_state(*state),
+            Configuration::Single(place) => self.first.idle(place),
+            Configuration::Several(places) => self.idle_of_each(places.as_slice(), &Place::Start),
+            Configuration::Start => 0,
+            Configuration::Barren => u32::MAX,
+        }
+    }
+
+    /// The letters that end an instance, whatever its configuration.
+    #[inline(never)]
+    fn ending_elsewhere(&self, configuration: &Configuration) -> u32
+        ensures quiet { (w : List ℕ) → IsConfigurationOf self.now configuration.now w → (e k : ℕ) →
+            IsBitSet result e → IsHit (rules_meaning self.now.definition) (w ++ e ∷ []) k → ⊥ }
+        ensures cut { (w : List ℕ) → IsConfigurationOf self.now configuration.now w → (e : ℕ) →
+            IsBitSet result e → IsCutWord (rules_meaning self.now.definition) (w ++ e ∷ []) 0 }
+    {
+        match configuration {
+            Configuration::State(state) => self.first.ending_of_state(*state),
+            Configuration::Single(place) => self.first.ending(place),
+            Configuration::Several(places) => self.ending_of_each(places.as_slice(), &Place::Start),
+            Configuration::Start => self.ending_at(&Place::Start),
+            Configuration::Barren => self.ending_at(&Place::Barren),
+        }
+    }
 }
 
 /// The place of a property: that of the list, or else this one.
@@ -480,63 +579,45 @@ impl Monitor for Rules {
         match state {
             Configuration::State(state) => match self.first.state_after(*state, letter) {
                 Some(next) => Ok(Configuration::State(next)),
-                None => self.next_alone(&Place::State(*state), letter),
+                None => self.next_of_state(*state, letter),
             },
-            Configuration::Single(place) => self.next_alone(place, letter),
-            Configuration::Several(places) => {
-                self.next_of_each(places.as_slice(), &Place::Start, letter)
-            }
             Configuration::Start => match self.first_alone(letter) {
-                Some(first) => Ok(Configuration::State(first)),
+                Some(first) => Ok(first),
                 None => self.first_of_each(letter),
             },
-            Configuration::Barren => Ok(Configuration::Barren),
+            _ => self.next_elsewhere(state, letter),
         }
     }
 
     #[inline(always)]
     fn hits(&self, state: &Configuration) -> u16 {
         match state {
-            Configuration::State(state) => self.first.hits(&Place::State(*state)),
-            Configuration::Single(place) => self.first.hits(place),
-            Configuration::Several(places) => self.hits_of_each(places.as_slice(), &Place::Start),
-            Configuration::Start => 0,
-            Configuration::Barren => 0,
+            Configuration::State(state) => self.first.hits_of_state(*state),
+            _ => self.hits_elsewhere(state),
         }
     }
 
     #[inline(always)]
     fn cut(&self, state: &Configuration, dead: u8) -> bool {
         match state {
-            Configuration::State(state) => self.first.cut(&Place::State(*state), dead),
-            Configuration::Single(place) => self.first.cut(place, dead),
-            Configuration::Several(places) => {
-                self.is_each_cut(places.as_slice(), &Place::Start, dead)
-            }
-            Configuration::Start => self.is_cut_at(&Place::Start, dead),
-            Configuration::Barren => self.is_cut_at(&Place::Barren, dead),
+            Configuration::State(state) => self.first.is_state_cut(*state, dead),
+            _ => self.is_cut_elsewhere(state, dead),
         }
     }
 
     #[inline(always)]
     fn idle(&self, state: &Configuration) -> u32 {
         match state {
-            Configuration::State(state) => self.first.idle(&Place::State(*state)),
-            Configuration::Single(place) => self.first.idle(place),
-            Configuration::Several(places) => self.idle_of_each(places.as_slice(), &Place::Start),
-            Configuration::Start => 0,
-            Configuration::Barren => u32::MAX,
+            Configuration::State(state) => self.first.idle_of_state(*state),
+            _ => self.idle_elsewhere(state),
         }
     }
 
     #[inline(always)]
     fn ending(&self, state: &Configuration) -> u32 {
         match state {
-            Configuration::State(state) => self.first.ending(&Place::State(*state)),
-            Configuration::Single(place) => self.first.ending(place),
-            Configuration::Several(places) => self.ending_of_each(places.as_slice(), &Place::Start),
-            Configuration::Start => self.ending_at(&Place::Start),
-            Configuration::Barren => self.ending_at(&Place::Barren),
+            Configuration::State(state) => self.first.ending_of_state(*state),
+            _ => self.ending_elsewhere(state),
         }
     }
 }

@@ -141,7 +141,7 @@ impl TableOutlook {
     }
 
     /// Whether some word of one or more letters without a dead parameter leads from the state to a handled one.
-    fn is_alive(&self, state: u16, dead: u8) -> bool
+    pub(crate) fn is_alive(&self, state: u16, dead: u8) -> bool
         ensures { (t : Transitions) (g : GoalDefinition) (v : EventDefinitions) → AreNeedsOf t g v self.now.needs →
             IsTrue result ↔ ((state < t.states) × IsAlive (IsNeededFrom t g v state) dead) }
     {
