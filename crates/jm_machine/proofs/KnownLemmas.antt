@@ -34,7 +34,7 @@ use Rattle.jm_machine.proofs.OptionLemmas.{looked_up}
 use Rattle.jm_machine.proofs.GoalLemmas.{begins_as_listed, number_in, number_set}
 use Rattle.jm_machine.proofs.PlaceLemmas.{state_within, push_word}
 use Rattle.jm_machine.proofs.RestLemmas.{letter_there, asked_some, asked_on, left_anew, left_on}
-use Rattle.jm_machine.proofs.PropertyLemmas.{handled_told, hit_handled, begun_later, created_later}
+use Rattle.jm_machine.proofs.PropertyLemmas.{handled_told, hit_handled, run_hits, begun_later, created_later}
 use Rattle.jm_machine.proofs.CutLemmas.{not_so, cut_words, can_hit_run, barren_quiet, stood_more, stood_first}
 use Rattle.jm_machine.proofs.ParseLemmas.{failing_cut, matching_cut}
 use Rattle.jm_machine.proofs.FamilyLemmas.{family_is}
@@ -157,6 +157,13 @@ module _ (masks : List ℕ) (formula : Formula) (handlers : List (List ℕ)) (go
         subst (λ (n : ℕ). IsBitSet n k ↔ IsHandledBy (rules_with (States t)) word k) (sym (is less)) (handled_state t facts set known s word place k)
     known_hits (Parses c) set known s bits is word place k = absurd place
 
+    pub known_state_hits : (engine : Engine) → IsCompiledProperty (rules_with engine)
+        → IsKnown d goal engine (Table facts) → (s : ℕ) (bits : ℕ)
+        → (s < length facts.hits → bits ≡ slice_index facts.hits s) → (w : List ℕ)
+        → IsPlaceAfter (rules_with engine) (State s) w → (k : ℕ) → IsBitSet bits k ↔ IsHit m w k
+    known_state_hits engine set known s bits is w h =
+        run_hits (rules_with engine) set (State s) w h.0 h.1 bits (known_hits engine set known s bits is)
+
     pub known_cut : (engine : Engine) → IsCompiledProperty (rules_with engine) → IsKnown d goal engine (Table facts) → (place : Place) (dead : ℕ) (can : Bool)
         → ((t : Transitions) (g : GoalDefinition) (v : EventDefinitions) → AreNeedsOf t g v facts.needs → IsTrue can ↔ CanHitFrom t g v place dead)
         → (w : List ℕ) → IsPlaceAfter (rules_with engine) place w → IsTrue (not can) ↔ IsCutWord m w dead
@@ -206,6 +213,12 @@ module _ (masks : List ℕ) (formula : Formula) (handlers : List (List ℕ)) (go
         let told : AreFactsOf t goal known.events facts = known.told in
         family_is d t goal known.events set known.masks g.groups listed marked e family (subst (λ (n : ℕ). e < n) (sym set.letters) less) known.few bytes rising (exact t goal known.events told.needs)
     known_family (Parses c) set known e family less bytes rising exact = absurd known.told
+
+  -- no word leads to a state of a table where charts run the property
+  pub never_state : (facts : ParseFacts) (engine : Engine) → IsKnown d goal engine (Grammar facts) → (s : ℕ)
+      (w : List ℕ) → IsPlaceAfter (rules_with engine) (State s) w → ⊥
+  never_state facts (States t) known s w h = known.told
+  never_state facts (Parses c) known s w h = h.1.2
 
   module _ (facts : ParseFacts) (c : ChartsDefinition) (set : IsCompiledProperty (rules_with (Parses c))) (known : IsKnown d goal (Parses c) (Grammar facts)) where
     -- so much is left of a place's word, by what tells whether it reset the property

@@ -26,3 +26,4 @@ pub mod HandlerNameLemmas
 pub mod RuleLemmas
 pub mod NamingLemmas
 pub mod JoinLemmas
+pub mod CrossingLemmas

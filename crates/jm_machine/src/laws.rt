@@ -3,6 +3,7 @@ ghost use Rattle.std.specs.Prelude.{ℕ, ◌≡◌, ◌≢◌, ◌⊎◌, ◌↔
 ghost use Rattle.jm_model.specs.declared.fault.SpecFault.{SpecFault};
 ghost use Rattle.jm_text.specs.declared.token.Token.{Token};
 ghost use Rattle.jm_spec.specs.declared.tree.SpecTree.{SpecTree};
+ghost use Rattle.jm_spec.specs.Trees.{IsTreeOfTokens, IsFewProperties};
 ghost use Rattle.jm_model.specs.Meanings.{IsCreated, IsHit};
 ghost use Rattle.jm_machine.specs.Rests.{IsRest};
 ghost use Rattle.jm_machine.specs.PropertyMeanings.{IsInCategory, Resets};
@@ -15,6 +16,12 @@ pub fn one_reading()
         → IsCompiledFrom bytes tokens tree r → IsCompiledFrom bytes tokens tree s → r ≡ s }
     ensures never_both { (bytes : List ℕ) (tokens : List Token) (tree : SpecTree) (r : RuleDefinition)
         (fault : SpecFault) → IsCompiledFrom bytes tokens tree r → IsFaultyTree bytes tokens tree fault → ⊥ }
+{}
+
+/// Few properties: the tree of tokens has 1 to 16, so `Rules::compile` may be asked of it.
+pub fn few_properties()
+    ensures { (bytes : List ℕ) (tokens : List Token) (tree : SpecTree) → IsTreeOfTokens bytes tokens tree
+        → IsFewProperties tree }
 {}
 
 /// One letter more: a word that begins as it may hits the handlers of a property whose category holds of what is left of

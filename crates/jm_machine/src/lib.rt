@@ -26,7 +26,7 @@ mod union;
 pub use configuration::Configuration;
 pub use engine::Engine;
 pub use formula::Formula;
-pub use laws::{one_letter_more, one_reading, without_resets};
+pub use laws::{few_properties, one_letter_more, one_reading, without_resets};
 pub use place::Place;
 pub use property::Property;
 pub use rules::Rules;

@@ -202,9 +202,7 @@ impl Property {
         ensures { IfSome result (λ first. IsPlaceAfter self.now (place.State first) (letter.0 ∷ [])) }
     {
         match &self.engine {
-            Engine::States(table) => {
-                Some(next_state(table, table.start(), letter))
-            }
+            Engine::States(table) => { Some(next_state(table, table.start(), letter)) }
             _ => None,
         }
     }
@@ -394,6 +392,7 @@ impl Monitor for Property {
     fn hits(&self, state: &Place) -> u16 {
         match state {
             Place::Start | Place::Barren => 0,
+            Place::State(state) => self.hits_of_state(*state),
             _ => self.handlers_at(state),
         }
     }
@@ -408,9 +407,9 @@ impl Monitor for Property {
 
     #[inline(always)]
     fn idle(&self, state: &Place) -> u32 {
-        match (&self.outlook, state) {
-            (_, Place::Barren) => u32::MAX,
-            (Outlook::Table(outlook), Place::State(state)) => outlook.idle(*state),
+        match state {
+            Place::Barren => u32::MAX,
+            Place::State(state) => self.idle_of_state(*state),
             _ => 0,
         }
     }
@@ -420,7 +419,7 @@ impl Monitor for Property {
         match (&self.outlook, state) {
             (Outlook::Table(_), Place::Barren) => u32::MAX,
             (Outlook::Table(outlook), Place::Start) => outlook.first_ending(),
-            (Outlook::Table(outlook), Place::State(state)) => outlook.ending(*state),
+            (_, Place::State(state)) => self.ending_of_state(*state),
             _ => 0,
         }
     }

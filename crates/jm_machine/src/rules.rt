@@ -328,7 +328,7 @@ impl Rules {
     }
 
     /// Whether each property is cut, where all are at this place.
-    #[inline(never)]
+    #[inline(always)]
     fn is_cut_at(&self, place: &Place, dead: u8) -> bool
         ensures { (w : List ℕ) → AreAfter self.now.parts [] place.now w →
             IsTrue result ↔ IsCutWord (rules_meaning self.now.definition) w dead }
@@ -406,26 +406,20 @@ impl Rules {
         ending
     }
 
-    /// The configuration of the words of one letter more, from a state of the only property's table.
-    #[inline(never)]
-    fn next_of_state(&self, state: u16, letter: Letter) -> Result<Configuration, NoMemory>
-        requires { letter.0 < length self.now.definition.masks }
-        ensures { IfOk result (λ c. (w : List ℕ) → IsConfigurationOf self.now (Configuration.State state) w
-            → IsConfigurationOf self.now c (w ++ letter.0 ∷ [])) }
-    {
-        self.next_alone(&Place::State(state), letter)
-    }
-
     /// The configuration of the words of one letter more, whatever the configuration. A call of its own, as the others
     /// below, so that what is done at each event for a state of a table stays short.
     #[inline(never)]
-    fn next_elsewhere(&self, configuration: &Configuration, letter: Letter) -> Result<Configuration, NoMemory>
+    fn next_elsewhere(
+        &self,
+        configuration: &Configuration,
+        letter: Letter,
+    ) -> Result<Configuration, NoMemory>
         requires { letter.0 < length self.now.definition.masks }
         ensures { IfOk result (λ c. (w : List ℕ) → IsConfigurationOf self.now configuration.now w
             → IsConfigurationOf self.now c (w ++ letter.0 ∷ [])) }
     {
         match configuration {
-            Configuration::State(state) => self.next_of_state(*state, letter),
+            Configuration::State(state) => self.next_alone(&Place::State(*state), letter),
             Configuration::Single(place) => self.next_alone(place, letter),
             Configuration::Several(places) => {
                 self.next_of_each(places.as_slice(), &Place::Start, letter)
@@ -577,13 +571,13 @@ impl Monitor for Rules {
 
     fn next(&self, state: &Configuration, letter: Letter) -> Result<Configuration, NoMemory> {
         match state {
-            Configuration::State(state) => match self.first.state_after(*state, letter) {
+            Configuration::State(number) => match self.first.state_after(*number, letter) {
                 Some(next) => Ok(Configuration::State(next)),
-                None => self.next_of_state(*state, letter),
+                None => self.next_elsewhere(state, letter),
             },
             Configuration::Start => match self.first_alone(letter) {
                 Some(first) => Ok(first),
-                None => self.first_of_each(letter),
+                None => self.next_elsewhere(state, letter),
             },
             _ => self.next_elsewhere(state, letter),
         }

@@ -1,81 +1,9 @@
--- Rules may be moved to another thread. Each part is shown by itself, and then cited where it stands in the next: a search for
--- all of it at once ends at its limit.
+-- Threads may share a library.
 use Rattle.std.proofs.Crossing.{crosses}
 use Rattle.std.proofs.MapsCrossing.{crosses as maps}
-use Rattle.jm_ere.proofs.tree.Tree.TheLaws.TheKnot.{crosses as tree}
-use Rattle.jm_machine.specs.contracts.rules.Rules as Rules
-use Rattle.jm_machine.specs.contracts.property.Property as Property
-use Rattle.jm_machine.specs.contracts.formula.Formula as Formula
-use Rattle.jm_machine.specs.contracts.engine.Engine as Engine
-use Rattle.jm_machine.specs.contracts.outlook.Outlook as Outlook
-use Rattle.jm_events.specs.contracts.names.Names as Names
-use Rattle.jm_goal.specs.contracts.goal.Goal as Goal
-use Rattle.jm_machine.specs.contracts.table_outlook.TableOutlook as TableOutlook
-use Rattle.jm_machine.specs.contracts.grammar_outlook.GrammarOutlook as GrammarOutlook
-use Rattle.jm_earley.specs.contracts.chart.Chart as Chart
+use Rattle.jm_machine.proofs.CrossingLemmas.{rules_shared}
 use Rattle.jm_inputs.specs.contracts.library.Library as Library
-use denote.Param.Send.{IsSend, IsSync, sendable}
-
-names_crosses : IsSend Names.the_field.row
-names_crosses = search (crosses, maps, sendable) depth 100 fits 20000
-
-goal_crosses : IsSend Goal.the_field.row
-goal_crosses = search (crosses, maps, sendable) depth 100 fits 20000
-
-formula_crosses : IsSend Formula.the_field.row
-formula_crosses = search (tree, crosses, maps, sendable) depth 100 fits 20000
-
-engine_crosses : IsSend Engine.the_field.row
-engine_crosses = search (crosses, maps, sendable) depth 100 fits 20000
-
-table_outlook_crosses : IsSend TableOutlook.the_row
-table_outlook_crosses = search (crosses, maps, sendable) depth 100 fits 20000
-
-chart_crosses : IsSend Chart.the_row
-chart_crosses = search (crosses, maps, sendable) depth 100 fits 20000
-
-grammar_outlook_crosses : IsSend GrammarOutlook.the_row
-grammar_outlook_crosses = search (chart_crosses, crosses, maps, sendable) depth 100 fits 20000
-
-outlook_crosses : IsSend Outlook.the_field.row
-outlook_crosses = search (table_outlook_crosses, grammar_outlook_crosses, crosses, sendable) depth 100 fits 20000
-
-property_crosses : IsSend Property.the_row
-property_crosses = search (formula_crosses, engine_crosses, outlook_crosses, names_crosses, goal_crosses, crosses, maps, sendable) depth 100 fits 20000
-
-pub rules_cross : IsSend Rules.the_row
-rules_cross = search (property_crosses, names_crosses, crosses, maps, sendable) depth 100 fits 20000
-
--- likewise that threads may share them
-names_shared : IsSync Names.the_field.row
-names_shared = search (crosses, maps, sendable) depth 100 fits 20000
-
-goal_shared : IsSync Goal.the_field.row
-goal_shared = search (crosses, maps, sendable) depth 100 fits 20000
-
-formula_shared : IsSync Formula.the_field.row
-formula_shared = search (tree, crosses, maps, sendable) depth 100 fits 20000
-
-engine_shared : IsSync Engine.the_field.row
-engine_shared = search (crosses, maps, sendable) depth 100 fits 20000
-
-table_outlook_shared : IsSync TableOutlook.the_row
-table_outlook_shared = search (crosses, maps, sendable) depth 100 fits 20000
-
-chart_shared : IsSync Chart.the_row
-chart_shared = search (crosses, maps, sendable) depth 100 fits 20000
-
-grammar_outlook_shared : IsSync GrammarOutlook.the_row
-grammar_outlook_shared = search (chart_shared, crosses, maps, sendable) depth 100 fits 20000
-
-outlook_shared : IsSync Outlook.the_field.row
-outlook_shared = search (table_outlook_shared, grammar_outlook_shared, crosses, sendable) depth 100 fits 20000
-
-property_shared : IsSync Property.the_row
-property_shared = search (formula_shared, engine_shared, outlook_shared, names_shared, goal_shared, crosses, maps, sendable) depth 100 fits 20000
-
-rules_shared : IsSync Rules.the_row
-rules_shared = search (property_shared, names_shared, crosses, maps, sendable) depth 100 fits 20000
+use denote.Param.Send.{IsSync, sendable}
 
 pub library_shared : IsSync Library.the_row
 library_shared = search (rules_shared, crosses, maps, sendable) depth 100 fits 20000

@@ -2,7 +2,7 @@ use Rattle.std.proofs.Common.{◌≡◌, length, arith}
 use Rattle.std.specs.Prelude.{vec_len}
 use Rattle.std.proofs.Crossing.{crosses}
 use denote.Param.Send.{sendable}
-use Rattle.jm_top.proofs.CrossingLemmas.{rules_cross}
+use Rattle.jm_machine.proofs.CrossingLemmas.{rules_cross}
 use Rattle.jm_top.proofs.RunLemmas.{watches_many, runs_from, ready_at}
 use Rattle.jm_top.proofs.run.run_all.Goals as goal
 

@@ -2,7 +2,7 @@ use Rattle.std.proofs.Common.{ap}
 use Rattle.std.proofs.Crossing.{crosses}
 use Rattle.std.proofs.lemmas.Option.{slice_get-get_or}
 use denote.Param.Send.{sendable}
-use Rattle.jm_top.proofs.CrossingLemmas.{rules_cross}
+use Rattle.jm_machine.proofs.CrossingLemmas.{rules_cross}
 use Rattle.test_dispatch.proofs.many.worked.Goals as goal
 
 pub on_threads-requires-clause-seats : goal.on_threads-requires-clause-seats

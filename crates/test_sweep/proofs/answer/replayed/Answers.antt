@@ -1,6 +1,6 @@
 use Rattle.std.proofs.Crossing.{crosses}
 use denote.Param.Send.{sendable}
-use Rattle.test_sweep.proofs.CrossingLemmas.{rules_shared}
+use Rattle.jm_machine.proofs.CrossingLemmas.{rules_shared}
 use Rattle.test_sweep.proofs.answer.replayed.Goals as goal
 
 pub swept-requires-sync-M : goal.swept-requires-sync-M

@@ -18,10 +18,10 @@ returns-in-States c =
     let run : r.engine ≡ States c.in-States.table = sym same ∙ c.in-States.is in
     let masks : length i.masks.items ≡ length r.definition.masks = rw (← c.self.view_is) refl in
     let letters = rw c.in-States.is at c.self.invariant.1.letters in
-    let within : e < c.in-States.table.letters = omega (arith, c.requires, letters, masks) in
+    let within : e < c.in-States.table.letters = omega (arith, c.requires.letter, letters, masks) in
     let place : IsPlaceOf (States c.in-States.table) (State next) (e ∷ []) =
     state_next c.in-States.table c.start.result next e [] c.next_state.ensures.table within c.next_state.ensures.next (no_letters c.in-States.table, c.start.ensures.value) in (
-      ((λ h. absurd cc), c.may_begin.ensures.0 c.if-may_begin.true),
+      ((λ h. absurd cc), c.requires.begins),
       (
         e ∷ [],
         asked_first (Resets r.definition) e,

@@ -1,12 +1,9 @@
-use Rattle.std.proofs.Common.{[], ◌∷◌}
 use Rattle.jm_machine.specs.declared.place.Place.TheVariants.{State}
-use Rattle.jm_machine.proofs.RuleLemmas.{alone_follows, barren_later}
+use Rattle.jm_machine.proofs.RuleLemmas.{alone_follows}
 use Rattle.jm_machine.proofs.rules.RulesMonitor.next.Goals as goal
 
 pub returns-in-Some : goal.returns-in-Some
 returns-in-Some c =
     rw (← c.self.view_is, c.in-State.is)
-    (λ w h. (h.0, alone_follows c.self.inside.first c.self.inside.others.items c.self.inside.names c.self.invariant h.0 (State c.in-State.state) (State c.in-Some.next) c.args.letter.0 c.in-Some.ensures w h.1))
-
-pub returns-in-Barren : goal.returns-in-Barren
-returns-in-Barren c = rw c.in-Barren.is (λ w h k part at. barren_later part w c.args.letter.0 (h k part at))
+    (λ w h. (h.0, alone_follows c.self.inside.first c.self.inside.others.items c.self.inside.names c.self.invariant
+    h.0 (State c.in-State.number) (State c.in-Some.next) c.args.letter.0 c.in-Some.ensures w h.1))

@@ -1,0 +1,19 @@
+use Rattle.jm_machine.specs.declared.place.Place.TheVariants.{State}
+use Rattle.jm_machine.proofs.KnownLemmas.{known_cut, never_state}
+use Rattle.jm_machine.proofs.property.Property.is_state_cut.Goals as goal
+
+pub returns-in-Table : goal.returns-in-Table
+returns-in-Table c =
+    let i = c.self.inside in
+    let known = rw c.in-Table.is at c.self.invariant.2 in
+    rw (← c.self.view_is)
+    (known_cut i.masks.items i.formula i.handlers i.goal c.self.invariant.0 c.in-Table.outlook i.engine
+    c.self.invariant.1 known (State c.args.state) c.args.dead c.is_alive.result c.is_alive.ensures)
+
+pub returns-in-Grammar : goal.returns-in-Grammar
+returns-in-Grammar c =
+    let i = c.self.inside in
+    let known = rw c.in-Grammar.is at c.self.invariant.2 in
+    rw (← c.self.view_is)
+    (λ w h. absurd (never_state i.masks.items i.formula i.handlers i.goal c.self.invariant.0 c.in-Grammar.field-0 i.engine
+    known c.args.state w h))
