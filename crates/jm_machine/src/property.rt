@@ -203,7 +203,7 @@ impl Property {
     {
         match &self.engine {
             Engine::States(table) => { Some(next_state(table, table.start(), letter)) }
-            _ => None,
+            Engine::Parses(_) => None,
         }
     }
 
