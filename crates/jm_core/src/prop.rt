@@ -95,7 +95,7 @@ impl<M: Monitor> Prop<M> {
         self.do_event(node, &mut Spare::none())
     }
 
-    /// The same. The link that the entry doesn't take is spare then.
+    /// Does an event as `event` does. The link that the entry doesn't take is spare then.
     fn do_event(&mut self, node: Node, spare: &mut Spare) -> Outcome
         requires { IsEventOf (M.meaning self.old.definition) self.old.objects node.step }
         ensures added { IsExtended self.old self.new (answered node result ∷ []) }
@@ -131,7 +131,7 @@ impl<M: Monitor> Prop<M> {
         self.do_death(node, &mut Spare::none())
     }
 
-    /// The same. The link that the entry doesn't take is spare then.
+    /// Takes in a death as `death` does. The link that the entry doesn't take is spare then.
     fn do_death(&mut self, node: Node, spare: &mut Spare) -> Outcome
         requires { IsDeathOf self.old.objects node.step }
         ensures added { IsExtended self.old self.new (answered node result ∷ []) }
@@ -165,7 +165,7 @@ impl<M: Monitor> Prop<M> {
         self.do_pass(node, &mut Spare::none())
     }
 
-    /// The same. The link that the entry doesn't take is spare then.
+    /// Does a pass as `pass` does. The link that the entry doesn't take is spare then.
     fn do_pass(&mut self, node: Node, spare: &mut Spare) -> Outcome
         requires { node.step ≡ Pass }
         ensures added { IsExtended self.old self.new (answered node result ∷ []) }
@@ -178,7 +178,7 @@ impl<M: Monitor> Prop<M> {
         Outcome::Kept(kept)
     }
 
-    /// Does a caller's steps in order, and records each with its line. It stops at the first that meets want of memory.
+    /// Does a caller's steps in order, and records each with its line. It stops at the first for which memory runs out.
     pub fn replay(&mut self, caller: u32, steps: &[(u32, Step)]) -> Result<(), NoMemory>
         requires { All (λ s. IsFitStep (M.meaning self.old.definition) self.old.objects s.1) steps.now }
         ensures ok { OnOk result (Replayed caller steps.now self.old self.new) }
@@ -223,7 +223,7 @@ impl<M: Monitor> Prop<M> {
         self.do_step(node, &mut Spare::none())
     }
 
-    /// The same. The link that the entry doesn't take is spare then.
+    /// Does a step as `step` does. The link that the entry doesn't take is spare then.
     #[inline(always)]
     fn do_step(&mut self, node: Node, spare: &mut Spare) -> Outcome
         requires { IsFitStep (M.meaning self.old.definition) self.old.objects node.step }

@@ -34,7 +34,7 @@ impl Flags {
         }
     }
 
-    /// The same flags.
+    /// A copy of the flags.
     pub(crate) fn copy(&self) -> Result<Flags, NoMemory>
         ensures { IfOk result (λ flags. flags ≡ self.now) }
     {
@@ -138,7 +138,7 @@ impl Flags {
         }
     }
 
-    /// The same of the objects of a block of 64 words.
+    /// Whether of the objects of a block of 64 words each dead one that has a flag has it set.
     pub(crate) fn has_dead_of_block(&self, objects: &Objects, block: u32) -> bool
         requires { 4096 * block < length objects.now }
         ensures { IsTrue result → (o : ℕ) → o / 4096 ≡ block → flag_of objects.now o ≡ true → o < length self.now

@@ -100,7 +100,7 @@ impl Index {
             && self.entries.len() / 16 >= self.dropped.words()
     }
 
-    /// The same pairs, with no entry that isn't live.
+    /// An index of these pairs, with no entry that isn't live.
     fn rebuilt(&self) -> Result<Index, NoMemory>
         ensures list { IfOk result (λ index. index.list ≡ self.now.list) }
         ensures dropped { IfOk result (λ index. (o : ℕ) → flag_of index.dropped o ≡ flag_of self.now.dropped o) }
@@ -222,7 +222,8 @@ impl Index {
             .add_slots(self.entries.as_slice(), domain, binding, path, slots)
     }
 
-    /// The same where `binding` binds all parameters of `domain`, to what `common` does. No slot is there before.
+    /// Adds the slot of the pair that `compatible_into` lists where `binding` binds all parameters of `domain`, to what
+    /// `common` does. No slot is there before.
     fn add_exact(
         &self,
         domain: u8,
@@ -260,7 +261,7 @@ impl Index {
         Ok(())
     }
 
-    /// The same for the objects of a block of 64 words.
+    /// Adds the slots for the objects of a block of 64 words.
     fn add_slots_of_dead_in(
         &self,
         objects: &Objects,
@@ -284,7 +285,7 @@ impl Index {
         Ok(())
     }
 
-    /// The same for the 64 objects of a word of the table.
+    /// Adds the slots for the 64 objects of a word of the table.
     fn add_slots_of_dead_at(
         &self,
         objects: &Objects,
@@ -365,7 +366,7 @@ impl Index {
         }
     }
 
-    /// The same for the objects of a block of 64 words.
+    /// Drops the dead among the objects of a block of 64 words.
     fn drop_dead_in(&mut self, objects: &Objects, block: u32)
         requires { 4096 * block < length objects.now }
         ensures list { self.new.list ≡ self.old.list }
@@ -391,7 +392,7 @@ impl Index {
         self.dropped.has_dead(objects, index)
     }
 
-    /// The same of the objects of a block of 64 words.
+    /// Whether of the objects of a block of 64 words no dead one is a key.
     fn has_dropped_block(&self, objects: &Objects, block: u32) -> bool
         requires { 4096 * block < length objects.now }
         ensures { IsTrue result → (o : ℕ) → o / 4096 ≡ block → flag_of objects.now o ≡ true → IsKey self.now o → ⊥ }
@@ -399,7 +400,7 @@ impl Index {
         self.dropped.has_dead_of_block(objects, block)
     }
 
-    /// The same for the 64 objects of a word of the table.
+    /// Drops the dead among the 64 objects of a word of the table.
     fn drop_dead_at(&mut self, objects: &Objects, index: u32)
         requires { 64 * index < length objects.now }
         ensures list { self.new.list ≡ self.old.list }
