@@ -42,6 +42,7 @@ pub(crate) fn perform<M: Monitor>(
 }
 
 /// What an event comes to that binds no dead object. One that is known to leave all as it is isn't worked out again.
+#[inline(always)]
 fn answer<M: Monitor>(
     alloc: Global,
     rules: &M,
@@ -63,44 +64,41 @@ fn answer<M: Monitor>(
         );
     }
     let known = store.is_mark(binding);
-    if known {
-        if let Some(done) = counted_advance::<M, Brand>(
-            rules,
-            objects,
-            store,
-            letter,
-            binding,
-            Blank::new(1),
-        ) {
-            rest.follow(false, !done.stays, letter, binding);
-            return (Outcome::Fired(done.answer), Outcome::Fired(done.copy));
-        }
+    if let Some(done) = counted_advance::<M, Brand>(
+        rules,
+        objects,
+        store,
+        letter,
+        binding,
+        known,
+        Blank::new(1),
+    ) {
+        rest.follow(false, !done.stays, letter, binding);
+        return (Outcome::Fired(done.answer), Outcome::Fired(done.copy));
     }
     fire(rules, objects, store, rest, letter, binding, known)
 }
 
-/// Does an event at once whose binding is a mark, if it reaches one monitor or none, with a counter made of a ledger of
-/// one part.
+/// Does an event at once, if it makes something of one monitor or none, with a counter made of a ledger of one part.
 fn counted_advance<M: Monitor, L: Ledger>(
     rules: &M,
     objects: &Objects,
     store: &mut Store<M>,
     letter: Letter,
     binding: &Binding,
+    known: bool,
     blank: Blank,
 ) -> Option<Done>
     requires name { blank.name ≡ L.name }
     requires parts { blank.parts ≡ L.parts }
     requires one { blank.parts ≡ 1 }
-    requires closed { store.old.is_open ≡ false }
-    requires fits { IsFit store.old objects.now }
-    requires event { IsLiveEvent (M.meaning (M.definition rules.now)) objects.now letter.0 binding.now }
-    requires known { Contains store.old.marks binding.now }
+    requires can { CanPlan (M.meaning (M.definition rules.now)) objects.now letter.0 binding.now store.old }
+    requires known { IsTrue known ↔ Contains store.old.marks binding.now }
     ensures { Advances (M.meaning (M.definition rules.now)) (M.StandsFor rules.now) objects.now letter.0 binding.now
         store.old store.new result }
 {
     let mut steps = Steps::<L>::new(blank);
-    store.advance_one(rules, objects, letter, binding, &mut steps)
+    store.advance_one(rules, objects, letter, binding, known, &mut steps)
 }
 
 /// The first dead object that a binding binds, in the order of the parameters.

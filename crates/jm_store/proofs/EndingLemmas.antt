@@ -65,12 +65,13 @@ module _ (m : Meaning) {S : Type 0} (Stands : S → List ℕ → Type 0) where
         | inr here ↦ subst (IsEnding m Stands b) (ap (λ (y : Move S). y.monitor) here ∙ e) one
       ]
 
-  -- nothing is kept for the first monitor, which binds nothing
-  pub first_ended : (ending : List ℕ) (stored : List (Stored S)) (s : Stored S) → stored ≡ s ∷ [] → s.instance ≡ empty → ((e : ℕ) → ends_all ending e 0 ≡ false) → AreEnding m Stands ending stored
-  first_ended ending stored s one is none r there e ends =
+  -- the letters kept for the first monitor, which binds nothing, end it
+  pub first_ended : (ending : List ℕ) (letters : ℕ) (stored : List (Stored S)) (s : Stored S) → stored ≡ s ∷ [] → s.instance ≡ empty → ((e : ℕ) → ends_all ending e 0 ≡ true → IsBitSet letters e)
+      → ((w : List ℕ) → Stands s.state w → (e k : ℕ) → IsBitSet letters e → IsHit m (w ++ e ∷ []) k → ⊥)
+      → ((w : List ℕ) → Stands s.state w → (e : ℕ) → IsBitSet letters e → IsCutWord m (w ++ e ∷ []) 0) → AreEnding m Stands ending stored
+  first_ended ending letters stored s one is among quiet cut r there =
       let same : s ≡ r = only (Contains-cons_cases s [] r (subst (λ (l : List (Stored S)). Contains l r) one there)) in
-      let mask : mask_of r.instance ≡ 0 = ap mask_of (ap (λ (x : Stored S). x.instance) (sym same) ∙ is) in
-      absurd (both_ways _ (ap (ends_all ending e) mask ∙ none e) ends)
+      subst (IsEnding m Stands ending) same (ending_one ending s 0 letters (sym (ap mask_of is)) among quiet cut)
     where
       only : {x y : Stored S} → (x ≡ y) ⊎ Contains {X = Stored S} [] y → x ≡ y
       only (inl same) = same
@@ -79,5 +80,5 @@ module _ (m : Meaning) {S : Type 0} (Stands : S → List ℕ → Type 0) where
   pub none_ended : (ending : List ℕ) (stored : List (Stored S)) → stored ≡ [] → AreEnding m Stands ending stored
   none_ended ending stored is s there = absurd (Contains-none s (subst (λ (l : List (Stored S)). Contains l s) is there))
 
-pub first_none : (xs : List ℕ) (e : ℕ) → 0 < length xs → ends_all (slice_set xs 0 0) e 0 ≡ false
-first_none xs e low = ap (λ (n : ℕ). eqb (bit_at n e) 1) (get_or-set_same xs 0 0 0 low) ∙ rw (bit_at-zero e) refl
+pub first_among : (xs : List ℕ) (letters e : ℕ) → 0 < length xs → ends_all (slice_set xs 0 letters) e 0 ≡ true → IsBitSet letters e
+first_among xs letters e low ends = set_from_bit letters e (eqb-true (bit_at letters e) 1 (ap (λ (n : ℕ). eqb (bit_at n e) 1) (sym (get_or-set_same xs 0 letters 0 low)) ∙ ends))

@@ -17,21 +17,24 @@ use Rattle.jm_store.proofs.SlotLemmas.{monitor_at-slot, slot_at-set_same, slot_a
 use Rattle.jm_store.proofs.HousingLemmas.{housed_put, housed_gone, housed_planned, housed_released, domains_more, domains_added, domains_without, pair_by_slot, pair_by_binding, from_without}
 
 module _ {S : Type 0} where
-  pub kept_put : (slots : List (Slot S)) (pairs : List Pair) (domains : List ℕ) (open' : Bool) (spare k : ℕ) (s : Stored S) → open' ≡ true → IsKept slots pairs domains open' spare
+  -- a monitor is put into the slot of its pair
+  pub kept_put : (slots : List (Slot S)) (pairs : List Pair) (domains : List ℕ) (open' : Bool) (spare k : ℕ) (s : Stored S) → IsKept slots pairs domains open' spare
       → Contains pairs (record { binding = s.instance; slot = k }) → IsKept (slice_set slots k (Taken s)) pairs domains open' spare
-  kept_put slots pairs domains open' spare k s is h there = record {
+  kept_put slots pairs domains open' spare k s h there = record {
     housed = housed_put slots pairs k s h.housed there;
     domains = h.domains;
-    settled = λ no. absurd (both_ways open' no is);
-    room = h.room;
-  }
-
-  pub kept_gone : (slots : List (Slot S)) (pairs : List Pair) (domains : List ℕ) (open' : Bool) (spare k n : ℕ) (t : Binding) → open' ≡ true → IsKept slots pairs domains open' spare
-      → Contains pairs (record { binding = t; slot = k }) → IsKept (slice_set slots k (Free n)) (without t pairs) domains open' spare
-  kept_gone slots pairs domains open' spare k n t is h there = record {
-    housed = housed_gone slots pairs k n t h.housed (pair_by_slot slots pairs k t h.housed there) (pair_by_binding slots pairs k t h.housed there);
-    domains = domains_without domains pairs t h.domains;
-    settled = λ no. absurd (both_ways open' no is);
+    settled = λ no pair within. elim (cases_eq pair.slot k) [
+      | inl same ↦ (
+        s,
+        monitor_at-slot (slice_set slots k (Taken s)) pair.slot ∙ ap (λ (n : ℕ). monitor_in (slot_at (slice_set slots k (Taken s)) n)) same
+            ∙ ap monitor_in (slot_at-set_same slots k (Taken s) (used_within slots k (h.housed.used (record { binding = s.instance; slot = k }) there))),
+      )
+      | inr other ↦ let (r, is) = h.settled no pair within in (
+        r,
+        monitor_at-slot (slice_set slots k (Taken s)) pair.slot ∙ ap monitor_in (slot_at-set_other slots k pair.slot (Taken s) other)
+            ∙ sym (monitor_at-slot slots pair.slot) ∙ is,
+      )
+    ];
     room = h.room;
   }
 
@@ -91,44 +94,25 @@ module _ {S : Type 0} where
   freed_here slots k n s at =
       monitor_at-slot (slice_set slots k (Free n)) k ∙ ap monitor_in (slot_at-set_same slots k (Free n) (used_within slots k (monitor_used slots k s at)))
 
-  -- a monitor is dropped with its pair
-  pub kept_dropped : (slots : List (Slot S)) (pairs : List Pair) (domains : List ℕ) (open' : Bool) (spare k n : ℕ) (s : Stored S) → IsKept slots pairs domains open' spare
-      → monitor_at (monitors_of slots) k ≡ Some s → IsKept (slice_set slots k (Free n)) (without s.instance pairs) domains open' spare
-  kept_dropped slots pairs domains open' spare k n s h at =
-      let there = h.housed.paired k s at in
-      let to = pair_by_slot slots pairs k s.instance h.housed there in
+  -- a slot is freed, and its pair taken out
+  pub kept_gone : (slots : List (Slot S)) (pairs : List Pair) (domains : List ℕ) (open' : Bool) (spare k n : ℕ) (t : Binding) → IsKept slots pairs domains open' spare
+      → Contains pairs (record { binding = t; slot = k }) → IsKept (slice_set slots k (Free n)) (without t pairs) domains open' spare
+  kept_gone slots pairs domains open' spare k n t h there =
+      let to = pair_by_slot slots pairs k t h.housed there in
       record {
-        housed = housed_gone slots pairs k n s.instance h.housed to (pair_by_binding slots pairs k s.instance h.housed there);
-        domains = domains_without domains pairs s.instance h.domains;
+        housed = housed_gone slots pairs k n t h.housed to (pair_by_binding slots pairs k t h.housed there);
+        domains = domains_without domains pairs t h.domains;
         settled = λ no pair within.
-            let before = from_without s.instance pairs pair within in
+            let before = from_without t pairs pair within in
             let (r, is) = h.settled no pair before in
-            (r, freed_other slots k pair.slot n (λ same. without_absent s.instance pairs pair within (to pair before same)) ∙ is);
+            (r, freed_other slots k pair.slot n (λ same. without_absent t pairs pair within (to pair before same)) ∙ is);
         room = h.room;
       }
 
-  -- a monitor's slot gets another of its instance
-  pub kept_changed : (slots : List (Slot S)) (pairs : List Pair) (domains : List ℕ) (open' : Bool) (spare k : ℕ) (s : Stored S) (state : S) → IsKept slots pairs domains open' spare
-      → monitor_at (monitors_of slots) k ≡ Some s → IsKept (slice_set slots k (Taken (record { instance = s.instance; state = state }))) pairs domains open' spare
-  kept_changed slots pairs domains open' spare k s state h at =
-      let new : Stored S = record { instance = s.instance; state = state } in
-      record {
-        housed = housed_put slots pairs k new h.housed (h.housed.paired k s at);
-        domains = h.domains;
-        settled = λ no pair within. elim (cases_eq pair.slot k) [
-          | inl same ↦ (
-            new,
-            monitor_at-slot (slice_set slots k (Taken new)) pair.slot ∙ ap (λ (n : ℕ). monitor_in (slot_at (slice_set slots k (Taken new)) n)) same
-                ∙ ap monitor_in (slot_at-set_same slots k (Taken new) (used_within slots k (monitor_used slots k s at))),
-          )
-          | inr other ↦ let (r, is) = h.settled no pair within in (
-            r,
-            monitor_at-slot (slice_set slots k (Taken new)) pair.slot ∙ ap monitor_in (slot_at-set_other slots k pair.slot (Taken new) other)
-                ∙ sym (monitor_at-slot slots pair.slot) ∙ is,
-          )
-        ];
-        room = h.room;
-      }
+  -- a monitor is dropped with its pair
+  pub kept_dropped : (slots : List (Slot S)) (pairs : List Pair) (domains : List ℕ) (open' : Bool) (spare k n : ℕ) (s : Stored S) → IsKept slots pairs domains open' spare
+      → monitor_at (monitors_of slots) k ≡ Some s → IsKept (slice_set slots k (Free n)) (without s.instance pairs) domains open' spare
+  kept_dropped slots pairs domains open' spare k n s h at = kept_gone slots pairs domains open' spare k n s.instance h (h.housed.paired k s at)
 
   -- a slot that a pair leads to and that isn't planned has a monitor
   taken_else : (x : Slot S) → IsUsed x → (x ≡ Planned → ⊥) → (s : Stored S) × (monitor_in x ≡ Some s)

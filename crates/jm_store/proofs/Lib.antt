@@ -22,3 +22,4 @@ pub mod RestingLemmas
 pub mod SparedLemmas
 pub mod StoreLemmas
 mod AdvanceLemmas
+mod DirectLemmas

@@ -288,3 +288,10 @@ was_none (Some k) e = absurd (false≢true (sym e))
 
 pub not_all : (b : Binding) (d : ℕ) → (bit_and (mask_of b) d ≡ mask_of b → ⊥) → has_all b d ≡ false
 not_all b d h = elim (cases_Bool (has_all b d)) [ inl yes' ↦ absurd (h (eqb-true (bit_and (mask_of b) d) (mask_of b) yes')) | inr off ↦ off ]
+
+-- of bindings that agree one lies below the other where its parameters are among the other's, and only there
+pub below_by_mask : (b t : Binding) → is_compatible t b ≡ true → bit_and (mask_of b) (mask_of t) ≡ mask_of b → is_below b t ≡ true
+below_by_mask b t c h = below_within b t c (λ p. omega (arith, bit_at_and (mask_of b) (mask_of t) p, ap (λ n. bit_at n p) h))
+
+pub apart_by_mask : (b t : Binding) → (bit_and (mask_of b) (mask_of t) ≡ mask_of b → ⊥) → is_below b t ≡ false
+apart_by_mask b t h = elim (cases_Bool (is_below b t)) [ inl below ↦ absurd (h (mask_within b t below)) | inr apart ↦ apart ]

@@ -34,6 +34,10 @@ stored_of store = stored_in store.monitors
 abbrev pub with_ending : {S : Type 0} → Contents S → List ℕ → Contents S
 with_ending store ending = record store { ending = ending }
 
+-- the store with a plan open, or with none
+abbrev pub with_open : {S : Type 0} → Contents S → Bool → Contents S
+with_open store is_open = record store { is_open = is_open }
+
 -- The store fits a table of objects, given by its flags of dead objects: the objects of its bindings and marks stand in
 -- the table, and its index fits it.
 pub record IsFit {S : Type 0} (store : Contents S) (dead : List Bool) : Type 0 where
@@ -176,6 +180,25 @@ pub record IsEventDone (m : Meaning) {S : Type 0} (Stands : S → Word → Type 
   pub answer : IsAnswer m trace (record { letter = letter; binding = b }) firings
   pub store : IsStoreAfter m Stands (trace ++ record { letter = letter; binding = b } ∷ []) dead after
   pub none_cut : NoneCutAbove m Stands b dead (stored_of after)
+
+-- The move was taken at once: it was given its slot, where it had none, and carried out. The letters that were kept end
+-- its monitor, of which the answer is the report.
+pub record IsStepTaken (m : Meaning) {S : Type 0} (Stands : S → Word → Type 0) (step : Move S)
+    (before after : Contents S) (firings : List Firing) : Type 0 where
+  pub between : Contents S
+  pub slotted : Move S
+  pub placed : ArePlacedOf before between (step ∷ []) (step ∷ []) (slotted ∷ [])
+  pub paired : ArePaired between
+  pub stored : stored_of between ≡ stored_of before
+  pub marks : between.marks ≡ before.marks
+  pub same : (k : ℕ) → monitor_at between.monitors k ≡ monitor_at before.monitors k
+  pub fits : (dead : List Bool) → IsFitting before.index dead → AreBelow (length dead) step.monitor.instance
+      → IsFitting between.index dead
+  pub monitors : after.monitors ≡ after_moves (slotted ∷ []) between.monitors
+  pub dropped : after.index.dropped ≡ between.index.dropped
+  pub fewer : EndsFewer before.ending after.ending
+  pub ended : IsEnding m Stands after.ending slotted.monitor
+  pub report : IsReport m Stands (step.monitor ∷ []) firings
 
 -- The monitor of slot k was moved by the letter: it has the next state, or it is gone where that is cut. The answer is
 -- its report, and nothing else changed but letters that were kept.

@@ -7,7 +7,7 @@ use Rattle.jm_model.specs.declared.step.NoMemory.{NoMemory}
 use Rattle.jm_semantics.specs.Traces.{ParametricEvent}
 use Rattle.jm_index.specs.Index.{AreBelow}
 use Rattle.jm_monitors.specs.declared.stored.Stored.{Stored}
-use Rattle.jm_monitors.specs.Steps.{IsLiveEvent}
+use Rattle.jm_monitors.specs.Steps.{IsLiveEvent, AreMarksAfter}
 use Rattle.jm_store.specs.declared.moves.Plan.{Plan}
 use Rattle.jm_store.specs.declared.store.advance.Done.{Done}
 use Rattle.jm_store.specs.Moves.{EndsFewer}
@@ -40,13 +40,17 @@ module _ (m : Meaning) {S : Type 0} (Stands : S → Word → Type 0) (dead : Lis
     pub works : IfOk result (λ plan. (trace : List ParametricEvent) → IsStoreAfter m Stands trace dead old
         → IsPlanOf m Stands trace dead letter new plan)
 
-  -- The event was done at once, and is answered twice, or all is as before. The marks stay, and where no monitor that
-  -- it reached stays, each that is stored was stored before.
+  -- The event was done at once, and is answered twice; its binding is a mark. Where no monitor that it moved or made
+  -- stays, each that is stored was stored before. Or monitors and marks are as before, and of whatever trace the store
+  -- was one, it still is.
   pub record Advances (result : Option Done) : Type 0 where
-    pub same : IfNone result (new ≡ old)
-    pub marks : new.marks ≡ old.marks
+    pub stored : IfNone result (stored_of new ≡ stored_of old)
+    pub unmarked : IfNone result (new.marks ≡ old.marks)
+    pub keeps : IfNone result ((trace : List ParametricEvent) → IsStoreAfter m Stands trace dead old
+        → IsStoreAfter m Stands trace dead new)
     pub fits : IsFit new dead
     pub closed : new.is_open ≡ false
+    pub marks : IfSome result (λ done. AreMarksAfter b old.marks new.marks)
     pub twice : IfSome result (λ done. done.copy ≡ done.answer)
     pub dropped : IfSome result (λ done. done.stays ≡ false
         → (s : Stored S) → Contains (stored_of new) s → Contains (stored_of old) s)

@@ -53,35 +53,56 @@ impl<M: Monitor> Event<'_, M> {
             self.now.letter.0 self.now.binding.now self.now.objects.now self.now.marks.now.list slot)
             base.now moves.old.items moves.new.items) }
     {
-        if self.binding.le(&base.instance) {
+        if let Some(step) = self.outcome(slot, base)? {
+            moves.push(step)?;
+        }
+        Ok(())
+    }
+
+    /// What the monitor of a slot becomes, or the new instance that it makes, if it does either. One that is at rest is
+    /// passed over.
+    #[inline(always)]
+    pub(crate) fn outcome(
+        &self,
+        slot: usize,
+        base: &Stored<M::State>,
+    ) -> Result<Option<Move<M::State>>, NoMemory>
+        requires letter { self.now.letter.0 < (M.meaning (M.definition self.now.rules.now)).letters }
+        requires known { IsTrue self.now.known ↔ Contains self.now.marks.now.list self.now.binding.now }
+        requires compatible { IsTrue (is_compatible base.now.instance self.now.binding.now) }
+        ensures { IfOk result
+            (IsRead (M.meaning (M.definition self.now.rules.now)) (M.StandsFor self.now.rules.now)
+            self.now.letter.0 self.now.binding.now self.now.objects.now self.now.marks.now.list slot
+            base.now) }
+    {
+        let mask = self.binding.mask();
+        if mask & base.instance.mask() == mask {
             if self.rests(base) {
-                return Ok(());
+                return Ok(None);
             }
             let (state, stays) = self.advance(&base.instance, &base.state)?;
-            moves.push(Move {
+            return Ok(Some(Move {
                 slot: Some(slot),
                 monitor: Stored {
                     instance: base.instance,
                     state,
                 },
                 stays,
-            })?;
-            return Ok(());
+            }));
         }
         let instance = base.instance.join(self.binding);
         if self.known || !self.marks.covers(&instance, &base.instance) {
-            return Ok(());
+            return Ok(None);
         }
         let (state, stays) = self.advance(&instance, &base.state)?;
         if self.is_lost(&state, stays) {
-            return Ok(());
+            return Ok(None);
         }
-        moves.push(Move {
+        Ok(Some(Move {
             slot: None,
             monitor: Stored { instance, state },
             stays,
-        })?;
-        Ok(())
+        }))
     }
 
     /// The state of an instance, moved on from a base, and whether the instance isn't cut then.
@@ -98,6 +119,7 @@ impl<M: Monitor> Event<'_, M> {
     }
 
     /// Whether the event leaves a monitor as it is, if it moves it, and no dead object cuts it.
+    #[inline(always)]
     fn rests(&self, base: &Stored<M::State>) -> bool
         requires { self.now.letter.0 < (M.meaning (M.definition self.now.rules.now)).letters }
         ensures resting { IsTrue result → IsResting (M.meaning (M.definition self.now.rules.now))

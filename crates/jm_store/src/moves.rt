@@ -64,13 +64,14 @@ impl<S> Plan<S> {
 }
 
 /// Whether a letter leaves a state as it is, and the state hits nothing.
+#[inline(always)]
 pub(crate) fn is_resting<M: Monitor>(rules: &M, state: &M::State, letter: Letter) -> bool
     requires { letter.0 < (M.meaning (M.definition rules.now)).letters }
     ensures { IsTrue result → IsResting (M.meaning (M.definition rules.now))
         (M.StandsFor rules.now) letter.0 state.now }
 {
     let _letters = rules.letters();
-    rules.hits(state) == 0 && (rules.idle(state) >> letter.0) % 2 == 1
+    (rules.idle(state) >> letter.0) % 2 == 1 && rules.hits(state) == 0
 }
 
 /// Whether each of the moves has a slot.

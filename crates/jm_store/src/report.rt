@@ -79,6 +79,7 @@ fn list_of(alloc: Global, firings: &Firings) -> Result<Vec<Firing>, NoMemory>
 
 /// The handlers that the state of one monitor hits, in their order; none where its instance doesn't bind what a
 /// reported instance has to bind.
+#[inline(always)]
 pub(crate) fn report_one<M: Monitor>(
     alloc: Global,
     rules: &M,

@@ -1,4 +1,4 @@
-ghost use Rattle.std.specs.Prelude.{◌≡◌, ◌≢◌, ℕ, AllPairs, List, Bool, [], ◌∷◌, false, IfOk, map};
+ghost use Rattle.std.specs.Prelude.{◌≡◌, ◌≢◌, ℕ, AllPairs, List, Bool, [], ◌∷◌, true, false, IfOk, map, IsBitSet};
 ghost use Rattle.std.specs.List.Sorted.{IsPermutation, IsSortedBy};
 ghost use Rattle.std.specs.Ordering.{is_lt};
 ghost use Rattle.jm_model.specs.Bindings.{empty, binding_cmp};
@@ -92,7 +92,8 @@ impl<M: Monitor> Store<M> {
             return Ok(Store::vacant(alloc));
         }
         let instance = Binding::empty();
-        let store = Store::with_first(alloc, Stored { instance, state })?;
+        let letters = rules.ending(&state);
+        let store = Store::with_first(alloc, Stored { instance, state }, letters)?;
         Ok(store)
     }
 
@@ -117,10 +118,14 @@ impl<M: Monitor> Store<M> {
         }
     }
 
-    /// One monitor, that of the empty binding, and no mark.
-    fn with_first(alloc: Global, monitor: Stored<M::State>) -> Result<Store<M>, NoMemory>
+    /// One monitor, that of the empty binding, with the letters that end it; and no mark.
+    fn with_first(
+        alloc: Global,
+        monitor: Stored<M::State>,
+        letters: u32,
+    ) -> Result<Store<M>, NoMemory>
         requires { monitor.instance ≡ empty }
-        ensures none_ending { IfOk result (λ store. (e : ℕ) → ends_all store.ending e 0 ≡ false) }
+        ensures ending { IfOk result (λ store. (e : ℕ) → ends_all store.ending e 0 ≡ true → IsBitSet letters e) }
         ensures stored { IfOk result (λ store. stored_of store ≡ monitor ∷ []) }
         ensures marks { IfOk result (λ store. store.marks ≡ []) }
         ensures closed { IfOk result (λ store. store.is_open ≡ false) }
@@ -132,7 +137,7 @@ impl<M: Monitor> Store<M> {
         domains.push(monitor.instance.mask())?;
         let monitors = Monitors::with_first(alloc, monitor)?;
         let mut ending = [u32::MAX; 256];
-        ending[0] = 0;
+        ending[0] = letters;
         Ok(Store {
             monitors,
             index,

@@ -1,34 +1,42 @@
-//! Events that reach one monitor alone, or none, and make none: they are done at once, without a plan.
-ghost use Rattle.std.specs.Prelude.{◌≡◌, ℕ, ◌+◌, ◌<◌, ◌≤◌, ◌↔◌, List, Bool, false, Contains, IsTrue, IfNone, IfSome, Some, [], length, count_by};
+//! Events that move one monitor at most and make none, or make one and move none: they are done at once, without a plan.
+ghost use Rattle.std.specs.Prelude.{◌≡◌, ℕ, ◌+◌, ◌<◌, ◌≤◌, ◌↔◌, ◌++◌, List, Bool, false, not, Contains, IsTrue, IfNone, IfSome, Some, None, [], ◌∷◌, length, count_by};
+ghost use Rattle.std.specs.Option.{option_to_list};
 ghost use Rattle.jm_model.specs.Bindings.{is_compatible};
-ghost use Rattle.jm_index.specs.Index.{AreLive, IsFitting};
+ghost use Rattle.jm_index.specs.Index.{Pair, AreBelow, AreLive, IsFitting};
 ghost use Rattle.jm_monitors.specs.declared.stored.Stored.{Stored as Kept};
-ghost use Rattle.jm_monitors.specs.Steps.{IsLiveEvent};
+ghost use Rattle.jm_monitors.specs.Steps.{AreMarksAfter};
 ghost use Rattle.jm_store.specs.Slots.{monitor_at};
-ghost use Rattle.jm_store.specs.Contents.{stored_of, IsFit, IsSlotAdvanced, IsAbove};
-ghost use Rattle.jm_store.specs.Plans.{Advances};
+ghost use Rattle.jm_store.specs.Moves.{AreGiven, IsReadAt, IsPushed, IsCompatibleAt, AreMovesRead, asks_by, EndsFewer, IsEnding};
+ghost use Rattle.jm_store.specs.Contents.{stored_of, with_ending, with_open, IsFit, IsFilled, ArePlaced, ArePlacedOf, ArePaired, IsSlotAdvanced, IsAbove, IsStepTaken};
+ghost use Rattle.jm_store.specs.Plans.{CanPlan, Advances};
 
 use super::Store;
+use super::reach::make_room;
 use crate::ending::end_fewer;
+use crate::event::Event;
+use crate::moves::Move;
 use crate::report::report_one;
 use jm_marks::dead_mask;
-use jm_model::{Binding, Firings, Letter, Monitor, Steps};
+use jm_model::{Binding, Firings, Letter, Monitor, NoMemory, Steps};
 use jm_monitors::Stored;
 use jm_objects::Objects;
 use std::alloc::Global;
 use std::sync::ledger::Ledger;
 
+/// An event that meets more monitors of one set of parameters is worked out by a plan.
+const MANY: usize = 8;
+
 /// An event that was done: its answer, twice.
 #[derive(Drop)]
 pub struct Done {
-    /// Whether the monitor that it reached is still stored.
+    /// Whether a monitor that it moved or made is stored afterwards.
     pub stays: bool,
     pub answer: Firings,
     pub copy: Firings,
 }
 
 impl Done {
-    /// What an event comes to that reaches no monitor: no handler runs.
+    /// What an event comes to that neither moves a monitor nor makes one: no handler runs.
     fn nothing(alloc: Global) -> Done
         ensures stays { result.stays ≡ false }
         ensures answer { result.answer ≡ [] }
@@ -50,32 +58,60 @@ impl<M: Monitor> Store<M> {
         self.marks.contains(binding)
     }
 
-    /// Does an event whose binding is a mark, if it reaches no monitor or one alone and memory isn't wanting. Where it
-    /// doesn't do it, all is as before. Only monitors that are compatible with the binding are read.
+    /// Does an event, if it moves one monitor at most and makes none, or makes one and moves none, and memory isn't
+    /// wanting. Where it doesn't do it, monitors and marks are as before. Only monitors that are compatible with the
+    /// binding are read, each once.
     pub fn advance_one<L: Ledger>(
         &mut self,
         rules: &M,
         objects: &Objects,
         letter: Letter,
         binding: &Binding,
+        known: bool,
         steps: &mut Steps<L>,
     ) -> Option<Done>
-        requires closed { self.old.is_open ≡ false }
-        requires fits { IsFit self.old objects.now }
-        requires event { IsLiveEvent (M.meaning (M.definition rules.now)) objects.now letter.0 binding.now }
-        requires known { Contains self.old.marks binding.now }
+        requires can { CanPlan (M.meaning (M.definition rules.now)) objects.now letter.0 binding.now self.old }
+        requires known { IsTrue known ↔ Contains self.old.marks binding.now }
         ensures advances { Advances (M.meaning (M.definition rules.now)) (M.StandsFor rules.now) objects.now letter.0
             binding.now self.old self.new result }
         ensures steps { steps.new ≤ steps.old + count_by (λ s. is_compatible s.instance binding.now)
             (stored_of self.old) }
     {
         let mut slots = self.take_slots();
-        let above = self.only_slot_above(objects, binding, &mut slots);
+        let done = self.advance_in(rules, objects, letter, binding, known, &mut slots, steps);
         self.give_slots(slots);
-        match above? {
-            Some(slot) => self.advance_in(rules, objects, letter, slot, steps),
-            None => Some(Done::nothing(*self.domains.allocator())),
+        done
+    }
+
+    /// The same, in this room.
+    fn advance_in<L: Ledger>(
+        &mut self,
+        rules: &M,
+        objects: &Objects,
+        letter: Letter,
+        binding: &Binding,
+        known: bool,
+        slots: &mut Vec<usize>,
+        steps: &mut Steps<L>,
+    ) -> Option<Done>
+        requires can { CanPlan (M.meaning (M.definition rules.now)) objects.now letter.0 binding.now self.old }
+        requires known { IsTrue known ↔ Contains self.old.marks binding.now }
+        ensures advances { Advances (M.meaning (M.definition rules.now)) (M.StandsFor rules.now) objects.now letter.0
+            binding.now self.old self.new result }
+        ensures steps { steps.new ≤ steps.old + count_by (λ s. is_compatible s.instance binding.now)
+            (stored_of self.old) }
+    {
+        if known {
+            match self.only_slot_above(objects, binding, slots) {
+                Some(Some(slot)) => return self.advance_slot(rules, objects, letter, slot, steps),
+                Some(None) => return Some(Done::nothing(*self.domains.allocator())),
+                None => {}
+            }
+            if slots.len() > MANY {
+                return None;
+            }
         }
+        self.advance_only(rules, objects, letter, binding, known, slots, steps)
     }
 
     /// The slot of the only monitor above a binding, or that there is none. Where several are, or memory is wanting, it
@@ -113,7 +149,7 @@ impl<M: Monitor> Store<M> {
     }
 
     /// Moves the monitor of a slot, if there is one and memory isn't wanting.
-    fn advance_in<L: Ledger>(
+    fn advance_slot<L: Ledger>(
         &mut self,
         rules: &M,
         objects: &Objects,
@@ -158,5 +194,295 @@ impl<M: Monitor> Store<M> {
             answer,
             copy,
         })
+    }
+
+    /// Does an event with a binding above which several monitors may be, or one that may make a new instance.
+    #[inline(never)]
+    fn advance_only<L: Ledger>(
+        &mut self,
+        rules: &M,
+        objects: &Objects,
+        letter: Letter,
+        binding: &Binding,
+        known: bool,
+        slots: &mut Vec<usize>,
+        steps: &mut Steps<L>,
+    ) -> Option<Done>
+        requires can { CanPlan (M.meaning (M.definition rules.now)) objects.now letter.0 binding.now self.old }
+        requires known { IsTrue known ↔ Contains self.old.marks binding.now }
+        ensures advances { Advances (M.meaning (M.definition rules.now)) (M.StandsFor rules.now) objects.now letter.0
+            binding.now self.old self.new result }
+        ensures steps { steps.new ≤ steps.old + count_by (λ s. is_compatible s.instance binding.now)
+            (stored_of self.old) }
+    {
+        let event = Event {
+            rules,
+            objects,
+            marks: &self.marks,
+            letter,
+            binding,
+            known,
+        };
+        match self.find_only(&event, slots, steps)? {
+            Some(step) => self.take_step(rules, step, binding, known, slots),
+            None => self.take_none(binding, known),
+        }
+    }
+
+    /// What the event makes of the only monitor of which it makes something, or that there is none. Where there are
+    /// several, or memory is wanting, it can't be told.
+    #[inline(always)]
+    fn find_only<L: Ledger>(
+        &self,
+        event: &Event<'_, M>,
+        slots: &mut Vec<usize>,
+        steps: &mut Steps<L>,
+    ) -> Option<Option<Move<M::State>>>
+        requires closed { self.now.is_open ≡ false }
+        requires letter { event.now.letter.0 < (M.meaning (M.definition event.now.rules.now)).letters }
+        requires known { IsTrue event.now.known ↔ Contains event.now.marks.now.list event.now.binding.now }
+        requires fits { IsFitting self.now.index event.now.objects.now }
+        requires live { AreLive event.now.objects.now event.now.binding.now }
+        ensures read { IfSome result (λ only. AreMovesRead (M.meaning (M.definition event.now.rules.now))
+            (M.StandsFor event.now.rules.now) event.now.letter.0 event.now.binding.now
+            event.now.objects.now event.now.marks.now.list
+            (asks_by event.now.known self.now.ending event.now.letter.0 event.now.binding.now)
+            self.now.monitors (option_to_list only)) }
+        ensures steps { steps.new ≤ steps.old + count_by (λ s. is_compatible s.instance event.now.binding.now)
+            (stored_of self.now) }
+    {
+        let mut only = None;
+        for domain in &self.domains {
+            if event.asks(self.ending[*domain as usize], *domain) {
+                let Ok(()) = self
+                    .index
+                    .compatible_into(event.objects, *domain, event.binding, slots)
+                else {
+                    return None;
+                };
+                if slots.len() > MANY {
+                    return None;
+                }
+                self.find_among(event, slots.as_slice(), &mut only, steps)?;
+            }
+        }
+        Some(only)
+    }
+
+    /// The same of those in some slots, where it is known what was found before.
+    #[inline(always)]
+    fn find_among<L: Ledger>(
+        &self,
+        event: &Event<'_, M>,
+        slots: &[usize],
+        only: &mut Option<Move<M::State>>,
+        steps: &mut Steps<L>,
+    ) -> Option<()>
+        requires letter { event.now.letter.0 < (M.meaning (M.definition event.now.rules.now)).letters }
+        requires known { IsTrue event.now.known ↔ Contains event.now.marks.now.list event.now.binding.now }
+        requires compatible { (k : ℕ) → Contains slots.now k
+            → IsCompatibleAt event.now.binding.now (monitor_at self.now.monitors k) }
+        ensures read { IfSome result (λ done. (before : List ℕ)
+            → AreGiven (IsReadAt (M.meaning (M.definition event.now.rules.now))
+            (M.StandsFor event.now.rules.now) event.now.letter.0 event.now.binding.now
+            event.now.objects.now event.now.marks.now.list self.now.monitors) before (option_to_list only.old)
+            → AreGiven (IsReadAt (M.meaning (M.definition event.now.rules.now))
+            (M.StandsFor event.now.rules.now) event.now.letter.0 event.now.binding.now
+            event.now.objects.now event.now.marks.now.list self.now.monitors)
+            (before ++ slots.now) (option_to_list only.new)) }
+        ensures steps { steps.new ≤ steps.old + length slots.now }
+    {
+        for slot in slots {
+            self.find_at(event, *slot, only, steps)?;
+        }
+        Some(())
+    }
+
+    /// The same of the one in a slot.
+    #[inline(always)]
+    fn find_at<L: Ledger>(
+        &self,
+        event: &Event<'_, M>,
+        slot: usize,
+        only: &mut Option<Move<M::State>>,
+        steps: &mut Steps<L>,
+    ) -> Option<()>
+        requires letter { event.now.letter.0 < (M.meaning (M.definition event.now.rules.now)).letters }
+        requires known { IsTrue event.now.known ↔ Contains event.now.marks.now.list event.now.binding.now }
+        requires compatible { IsCompatibleAt event.now.binding.now (monitor_at self.now.monitors slot) }
+        ensures read { IfSome result (λ done. IsPushed
+            (IsReadAt (M.meaning (M.definition event.now.rules.now))
+            (M.StandsFor event.now.rules.now) event.now.letter.0 event.now.binding.now
+            event.now.objects.now event.now.marks.now.list self.now.monitors) slot
+            (option_to_list only.old) (option_to_list only.new)) }
+        ensures steps { steps.new ≤ steps.old + 1 }
+    {
+        let Some(base) = self.monitors.lend(slot, steps) else {
+            return Some(());
+        };
+        let Ok(found) = event.outcome(slot, base) else {
+            return None;
+        };
+        if found.is_some() {
+            if only.is_some() {
+                return None;
+            }
+            *only = found;
+        }
+        Some(())
+    }
+
+    /// Does an event that makes nothing of any monitor, if memory isn't wanting.
+    fn take_none(&mut self, binding: &Binding, known: bool) -> Option<Done>
+        requires closed { self.old.is_open ≡ false }
+        requires known { IsTrue known → Contains self.old.marks binding.now }
+        ensures same { IfNone result (self.new ≡ self.old) }
+        ensures monitors { self.new.monitors ≡ self.old.monitors }
+        ensures index { self.new.index ≡ self.old.index }
+        ensures ending { self.new.ending ≡ self.old.ending }
+        ensures closed { self.new.is_open ≡ false }
+        ensures marks { IfSome result (λ done. AreMarksAfter binding.now self.old.marks self.new.marks) }
+        ensures answer { IfSome result (λ done. done.answer ≡ []) }
+        ensures copy { IfSome result (λ done. done.copy ≡ []) }
+    {
+        self.open_for(known)?;
+        self.close(binding, known);
+        Some(Done::nothing(*self.domains.allocator()))
+    }
+
+    /// Does an event that makes this of one monitor and nothing of others, if memory isn't wanting.
+    #[inline(always)]
+    fn take_step(
+        &mut self,
+        rules: &M,
+        mut step: Move<M::State>,
+        binding: &Binding,
+        known: bool,
+        slots: &mut Vec<usize>,
+    ) -> Option<Done>
+        requires closed { self.old.is_open ≡ false }
+        requires known { IsTrue known → Contains self.old.marks binding.now }
+        requires slotted { IsTrue known → step.slot ≡ None → ⊥ }
+        requires leads { ArePlaced self.old (step ∷ []) }
+        ensures stored { IfNone result (stored_of self.new ≡ stored_of self.old) }
+        ensures unmarked { IfNone result (self.new.marks ≡ self.old.marks) }
+        ensures ending { IfNone result (self.new.ending ≡ self.old.ending) }
+        ensures closed { self.new.is_open ≡ false }
+        ensures fits { (dead : List Bool) → IsFit self.old dead → AreBelow (length dead) binding.now
+            → AreBelow (length dead) step.monitor.instance → IsFit self.new dead }
+        ensures index { (dead : List Bool) → IsFitting self.old.index dead
+            → AreBelow (length dead) step.monitor.instance → IsFitting self.new.index dead }
+        ensures marks { IfSome result (λ done. AreMarksAfter binding.now self.old.marks self.new.marks) }
+        ensures twice { IfSome result (λ done. done.copy ≡ done.answer) }
+        ensures stays { IfSome result (λ done. done.stays ≡ step.stays) }
+        ensures taken { IfSome result (λ done. IsStepTaken (M.meaning (M.definition rules.now))
+            (M.StandsFor rules.now) step self.old self.new done.answer) }
+    {
+        let Ok(answer) = report_one(
+            *self.domains.allocator(),
+            rules,
+            &step.monitor.instance,
+            &step.monitor.state,
+        ) else {
+            return None;
+        };
+        let Ok(copy) = answer.copy() else {
+            return None;
+        };
+        self.open_for(known)?;
+        self.place_one(&mut step, slots)?;
+        self.end_one(rules, &step.monitor);
+        let stays = step.stays;
+        self.carry_out(step);
+        self.close(binding, known);
+        Some(Done {
+            stays,
+            answer,
+            copy,
+        })
+    }
+
+    /// Makes room for a mark, where the binding isn't known to be one, if memory isn't wanting.
+    #[inline(always)]
+    fn open_for(&mut self, known: bool) -> Option<()>
+        requires { self.old.is_open ≡ false }
+        ensures same { IfNone result (self.new ≡ self.old) }
+        ensures opened { IfSome result (λ done. self.new ≡ with_open self.old (not known)) }
+    {
+        if known {
+            return Some(());
+        }
+        let Ok(()) = self.marks.reserve() else {
+            return None;
+        };
+        self.is_open = true;
+        Some(())
+    }
+
+    /// Gives a move a slot, if it has none and memory isn't wanting.
+    #[inline(always)]
+    fn place_one(&mut self, step: &mut Move<M::State>, slots: &mut Vec<usize>) -> Option<()>
+        requires slotted { self.old.is_open ≡ false → step.old.slot ≡ None → ⊥ }
+        requires settled { (pair : Pair) → Contains self.old.index.list pair → IsFilled self.old pair }
+        requires leads { ArePlaced self.old (step.old ∷ []) }
+        ensures stored { stored_of self.new ≡ stored_of self.old }
+        ensures monitors { (k : ℕ) → monitor_at self.new.monitors k ≡ monitor_at self.old.monitors k }
+        ensures marks { self.new.marks ≡ self.old.marks }
+        ensures ending { self.new.ending ≡ self.old.ending }
+        ensures fits { (dead : List Bool) → IsFitting self.old.index dead
+            → AreBelow (length dead) step.old.monitor.instance → IsFitting self.new.index dead }
+        ensures closed { IfNone result (self.new.is_open ≡ false) }
+        ensures still { IfSome result (λ done. self.new.is_open ≡ self.old.is_open) }
+        ensures placed { IfSome result (λ done. ArePlacedOf self.old self.new (step.old ∷ []) (step.old ∷ [])
+            (step.new ∷ [])) }
+        ensures paired { ArePaired self.new }
+    {
+        if step.slot.is_some() {
+            return Some(());
+        }
+        if let Ok(()) = make_room(slots, self.monitors.count_slots())
+            && let Ok(slot) = self.place(&step.monitor.instance)
+        {
+            step.slot = slot;
+            return Some(());
+        }
+        self.is_open = false;
+        None
+    }
+
+    /// Keeps of the letters that end monitors with its set of parameters those that end a monitor too.
+    #[inline(always)]
+    fn end_one(&mut self, rules: &M, monitor: &Stored<M::State>)
+        ensures same { self.new ≡ with_ending self.old self.new.ending }
+        ensures fewer { EndsFewer self.old.ending self.new.ending }
+        ensures ended { IsEnding (M.meaning (M.definition rules.now)) (M.StandsFor rules.now) self.new.ending
+            monitor.now }
+    {
+        end_fewer(
+            &mut self.ending,
+            monitor.instance.mask(),
+            rules.ending(&monitor.state),
+        );
+    }
+
+    /// Makes the binding a mark, where it isn't known to be one.
+    #[inline(always)]
+    fn close(&mut self, binding: &Binding, known: bool)
+        requires opened { self.old.is_open ≡ not known }
+        requires known { IsTrue known → Contains self.old.marks binding.now }
+        requires settled { (pair : Pair) → Contains self.old.index.list pair → IsFilled self.old pair }
+        ensures monitors { self.new.monitors ≡ self.old.monitors }
+        ensures index { self.new.index ≡ self.old.index }
+        ensures ending { self.new.ending ≡ self.old.ending }
+        ensures closed { self.new.is_open ≡ false }
+        ensures marks { AreMarksAfter binding.now self.old.marks self.new.marks }
+        ensures fits { (dead : List Bool) → IsFitting self.old.index dead
+            → ((t : Binding) → Contains self.old.marks t → AreBelow (length dead) t)
+            → AreBelow (length dead) binding.now → IsFit self.new dead }
+    {
+        if !known {
+            self.marks.add(*binding);
+            self.is_open = false;
+        }
     }
 }

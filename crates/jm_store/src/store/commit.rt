@@ -48,11 +48,10 @@ impl<M: Monitor> Store<M> {
     }
 
     /// Carries a move out.
-    fn carry_out(&mut self, step: Move<M::State>)
-        requires open { self.old.is_open ≡ true }
-        requires placed { (k : ℕ) → step.slot ≡ Some k
+    pub(super) fn carry_out(&mut self, step: Move<M::State>)
+        requires { (k : ℕ) → step.slot ≡ Some k
             → Contains self.old.index.list (record { binding = step.monitor.instance; slot = k }) }
-        ensures open { self.new.is_open ≡ true }
+        ensures open { self.new.is_open ≡ self.old.is_open }
         ensures monitors { self.new.monitors ≡ after_move step self.old.monitors }
         ensures marks { self.new.marks ≡ self.old.marks }
         ensures fits { (dead : List Bool) → IsFitting self.old.index dead → IsFitting self.new.index dead }

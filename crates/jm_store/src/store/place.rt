@@ -124,7 +124,7 @@ impl<M: Monitor> Store<M> {
     }
 
     /// A planned slot for an instance, unless the index has the instance already.
-    fn place(&mut self, instance: &Binding) -> Result<Option<usize>, NoMemory>
+    pub(super) fn place(&mut self, instance: &Binding) -> Result<Option<usize>, NoMemory>
         requires open { self.old.is_open ≡ true }
         ensures open { self.new.is_open ≡ true }
         ensures stored { stored_of self.new ≡ stored_of self.old }

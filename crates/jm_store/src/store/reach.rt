@@ -24,7 +24,7 @@ const MANY: usize = 64;
 const FEW: usize = 4;
 
 /// Makes the room that a pass has for slots, where there are so many.
-fn make_room(slots: &mut Vec<usize>, count: usize) -> Result<(), NoMemory>
+pub(super) fn make_room(slots: &mut Vec<usize>, count: usize) -> Result<(), NoMemory>
     ensures { slots.new.items ≡ slots.old.items }
 {
     let room = count / FEW + MANY;

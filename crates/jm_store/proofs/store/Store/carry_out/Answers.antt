@@ -6,15 +6,13 @@ use Rattle.jm_store.proofs.store.Store.carry_out.Goals as goal
 
 pub invariant_of-self : goal.invariant_of-self
 invariant_of-self g c =
-    let there = rw (← c.self.view_is) at (c.requires.placed c.in-Some.slot c.in-Some.is) in
-    let open_now = rw (← c.self.view_is) at c.requires.open in
-    rw c.put.ensures (kept_put _ _ _ _ _ c.in-Some.slot c.args.step.monitor open_now c.self.invariant there)
+    let there = rw (← c.self.view_is) at (c.requires c.in-Some.slot c.in-Some.is) in
+    rw c.put.ensures (kept_put _ _ _ _ _ c.in-Some.slot c.args.step.monitor c.self.invariant there)
 
 pub invariant_of-self-else-step : goal.invariant_of-self-else-step
 invariant_of-self-else-step g c =
-    let there = rw (← c.self.view_is) at (c.requires.placed c.in-Some.slot c.in-Some.is) in
-    let open_now = rw (← c.self.view_is) at c.requires.open in
-    rw (c.release.ensures, c.remove.ensures.list) (kept_gone _ _ _ _ _ c.in-Some.slot _ c.args.step.monitor.instance open_now c.self.invariant there)
+    let there = rw (← c.self.view_is) at (c.requires c.in-Some.slot c.in-Some.is) in
+    rw (c.release.ensures, c.remove.ensures.list) (kept_gone _ _ _ _ _ c.in-Some.slot _ c.args.step.monitor.instance c.self.invariant there)
 
 pub returns-then-step-clause-monitors : goal.returns-then-step-clause-monitors
 returns-then-step-clause-monitors g c = rw (← c.self.view_is, c.in-Some.is, c.if-step.true, c.put.ensures) (map-set monitor_in _ _ _)

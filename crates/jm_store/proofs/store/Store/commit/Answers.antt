@@ -14,7 +14,7 @@ loop-step-preserved g c =
     let rest = c.pop.new.self.items in
     let step = c.in-Some.step in
     record {
-      open_now = carried.«open»;
+      open_now = carried.«open» ∙ inv.open_now;
       monitors = ap (after_moves rest) carried.monitors ∙ sym (after_push rest step c.loop-step.self.monitors) ∙ inv.monitors;
       marks = carried.marks ∙ inv.marks;
       ending = carried.ending ∙ inv.ending;

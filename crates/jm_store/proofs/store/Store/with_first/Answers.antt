@@ -5,7 +5,7 @@ use Rattle.jm_index.specs.Index.{AreBelow}
 use Rattle.jm_model.specs.declared.binding.Binding.{Binding}
 use Rattle.jm_index.proofs.ReadLemmas.{Contains-none}
 use Rattle.jm_store.proofs.FitLemmas.{kept_first, below_empty, housed_fits}
-use Rattle.jm_store.proofs.EndingLemmas.{first_none}
+use Rattle.jm_store.proofs.EndingLemmas.{first_among}
 use Rattle.jm_store.proofs.store.Store.with_first.Goals as goal
 
 pub invariant_of-result : goal.invariant_of-result
@@ -21,8 +21,8 @@ returns-clause-fits g c =
     housed_fits _ _ _ c.add.new.self _ dead (rw (c.in_ok-monitors.ensures, c.in_ok-add.ensures.added, c.new-index.ensures.list) kept.housed)
     (c.in_ok-add.ensures.fits dead (c.new-index.ensures.fits dead) below) (λ b there. absurd (Contains-none b (rw c.new.ensures at there)))
 
-pub returns-clause-none_ending : goal.returns-clause-none_ending
-returns-clause-none_ending g c =
+pub returns-clause-ending : goal.returns-clause-ending
+returns-clause-ending g c =
     let all : List ℕ = replicate 256 4294967295 in
     let low : 0 < length all = omega (arith, length-replicate {A = ℕ} 256 4294967295) in
-    λ e. first_none all e low
+    λ e ends. first_among all c.args.letters e low ends

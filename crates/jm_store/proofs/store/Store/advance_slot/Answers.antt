@@ -13,8 +13,8 @@ use Rattle.jm_store.specs.Contents.{IsSlotAdvanced}
 use Rattle.jm_store.proofs.EndingLemmas.{ending_one}
 use Rattle.jm_store.proofs.FitLemmas.{housed_fits}
 use Rattle.jm_store.proofs.KeptLemmas.{kept_changed, kept_dropped}
-use Rattle.jm_store.proofs.store.Store.advance_in.Goals as goal
-use Rattle.jm_store.proofs.store.Store.advance_in.Goals.{then-stays, else-stays}
+use Rattle.jm_store.proofs.store.Store.advance_slot.Goals as goal
+use Rattle.jm_store.proofs.store.Store.advance_slot.Goals.{then-stays, else-stays}
 
 pub invariant_of-self : goal.invariant_of-self
 invariant_of-self g c = rw c.put.ensures (kept_changed _ _ _ _ _ c.args.slot c.in_ok-base.base.now c.in-Ok.state c.self.invariant c.in_ok-base.ensures.value)

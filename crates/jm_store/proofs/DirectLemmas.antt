@@ -1,0 +1,127 @@
+-- An event that makes something of one monitor at most.
+use Rattle.std.proofs.Common.{◌≡◌, ℕ, ◌⊎◌, inl, inr, Bool, true, false, cond, List, [], ◌∷◌, ◌++◌, length, refl, sym, ap, ◌∙◌, subst, arith}
+use Rattle.std.specs.Prelude.{Option, Some, None, Contains, IsTrue}
+use Rattle.std.specs.Option.{option_to_list}
+use Rattle.std.specs.List.Sorted.{IsPermutation}
+use Rattle.std.proofs.lemmas.Option.{none-some}
+use Rattle.std.proofs.lemmas.List.Sorted.{IsPermutation-refl}
+use Rattle.std.proofs.lemmas.List.Elements.{Contains-append_left}
+use Rattle.jm_model.specs.Bindings.{mask_of}
+use Rattle.jm_model.specs.Meanings.{Meaning}
+use Rattle.jm_model.specs.declared.binding.Binding.{Binding}
+use Rattle.jm_model.specs.declared.firings.Firing.{Firing}
+use Rattle.jm_semantics.specs.Traces.{ParametricEvent}
+use Rattle.jm_semantics.proofs.ListLemmas.{Contains-cons_cases, Contains-head}
+use Rattle.jm_index.specs.Index.{Pair, AreBelow, IsFitting, flag_of}
+use Rattle.jm_index.proofs.ReadLemmas.{Contains-none}
+use Rattle.jm_monitors.specs.declared.stored.Stored.{Stored}
+use Rattle.jm_monitors.specs.Steps.{IsOverAfter, IsLiveEvent, AreMarksAfter, IsReport, AreSpared}
+use Rattle.jm_store.specs.declared.moves.Move.{Move}
+use Rattle.jm_store.specs.Slots.{monitor_at}
+use Rattle.jm_store.specs.Moves.{AreMovesRead, AreEnding, EndsFewer, LieWithin, reached_by, after_moves, asks_by, ends_all, moved_at}
+use Rattle.jm_store.specs.Contents.{Contents, stored_of, IsFit, IsStoreAfter, ArePlaced, ArePlacedOf, ArePaired, IsFilled, IsEventDone, IsStepTaken}
+use Rattle.jm_store.proofs.SlotLemmas.{stored_at, place_of}
+use Rattle.jm_store.proofs.AfterLemmas.{slot_is, moved_other, moved_here}
+use Rattle.jm_store.proofs.EndingLemmas.{fewer-refl}
+use Rattle.jm_store.proofs.SparedLemmas.{spared_after, spared_fewer, opened_fewer}
+use Rattle.jm_store.proofs.PlacingLemmas.{placed_already}
+use Rattle.jm_store.proofs.ReportLemmas.{report_none}
+use Rattle.jm_store.proofs.RestingLemmas.{completed, report_still, ending_still, after_resting, placed_resting}
+use Rattle.jm_store.proofs.PlanningLemmas.{apart_moves, leads_moves, moves_within, carried_out, ended_after, answer_sorted, stay_alive, may_reach}
+
+-- the moves were placed and carried out: what the event comes to
+module _ (m : Meaning) {S : Type 0} (Stands : S → List ℕ → Type 0) (letter : ℕ) (b : Binding) (dead : List Bool) (known : Bool) (old mid new : Contents S) (moves placed : List (Move S)) (firings : List Firing)
+    (marked : IsTrue known → Contains old.marks b) (read : AreMovesRead m Stands letter b dead old.marks (asks_by known old.ending letter b) old.monitors moves) (p : ArePlacedOf old mid moves moves placed) (paired : ArePaired mid)
+    (same : (k : ℕ) → monitor_at mid.monitors k ≡ monitor_at old.monitors k) (stored : stored_of mid ≡ stored_of old) (marks : mid.marks ≡ old.marks) where
+  abbrev asks : ℕ → Bool
+  asks = asks_by known old.ending letter b
+
+  resting : List (Move S)
+  resting = (completed m Stands letter b dead old.monitors old.marks asks moves read).resting
+
+  pub done_at_once : (kept : (o : ℕ) → flag_of mid.index.dropped o ≡ true → flag_of old.index.dropped o ≡ true) → (within : (o : ℕ) → flag_of old.index.dropped o ≡ true → flag_of dead o ≡ true)
+      → new.monitors ≡ after_moves placed mid.monitors → new.index.dropped ≡ mid.index.dropped → AreMarksAfter b old.marks new.marks → EndsFewer old.ending new.ending
+      → AreEnding m Stands new.ending (reached_by placed) → IsReport m Stands (reached_by moves) firings
+      → (trace : List ParametricEvent) → IsLiveEvent m dead letter b → IsStoreAfter m Stands trace dead old → IsEventDone m Stands trace dead letter b new firings
+  done_at_once kept within monitors dropped added fewer ended report trace live holds =
+      let full = completed m Stands letter b dead old.monitors old.marks asks moves read in
+      let more = moves ++ full.resting in
+      let all = placed ++ full.resting in
+      let order : IsPermutation more more = IsPermutation-refl more in
+      let apart = apart_moves m Stands letter b dead old.marks asks old.monitors more full.all in
+      let q = placed_resting m Stands letter b dead old mid moves placed full.resting full.each same p apart paired in
+      let may = may_reach m Stands letter b dead old.marks known old.ending (stored_of old) marked holds.ended in
+      let at : new.monitors ≡ after_moves all mid.monitors = monitors ∙ after_resting m Stands letter b dead old mid moves placed full.resting full.each same in
+      let after = carried_out m Stands letter b dead asks old mid more more all full.all may order q paired same stored marks trace holds.monitors live new.marks added in
+      let end = ended_after m Stands letter b dead asks old mid more more all full.all may order q paired same stored marks trace holds.monitors live new.ending fewer holds.ended
+      (ending_still m Stands letter b dead old.monitors placed full.resting old.ending new.ending full.each fewer holds.ended ended) in
+      let still : AreSpared m Stands mid.index.dropped (stored_of mid) = rw stored (spared_fewer m Stands old.index.dropped mid.index.dropped (stored_of old) kept holds.spared) in
+      let spared = spared_after m Stands mid.index.dropped dead all mid.monitors (λ o is. within o (kept o is)) still (stay_alive m Stands letter b dead old.marks asks old.monitors old mid more more all full.all order q) in
+      record {
+        answer = answer_sorted m Stands letter b dead asks old mid more more all full.all may order q paired same stored marks trace holds.monitors live firings
+            (report_still m Stands letter b dead old.monitors moves full.resting firings full.each report);
+        store = record { monitors = rw at after.0; ended = rw at end; spared = rw (at, dropped) spared };
+        none_cut = rw at after.1;
+      }
+
+pub one_of : {X : Type 0} (x y : X) → Contains (x ∷ []) y → x ≡ y
+one_of x y there = elim (Contains-cons_cases x [] y there) [ inl same ↦ same | inr none ↦ absurd (Contains-none y none) ]
+
+-- ---- one move
+module _ (m : Meaning) {S : Type 0} (Stands : S → List ℕ → Type 0) (letter : ℕ) (b : Binding) (dead : List Bool) (known : Bool) (old new : Contents S) (step : Move S) (firings : List Firing)
+    (marked : IsTrue known → Contains old.marks b) (read : AreMovesRead m Stands letter b dead old.marks (asks_by known old.ending letter b) old.monitors (step ∷ [])) (fits : IsFit old dead) (there : AreBelow (length dead) b) where
+  -- its objects stand in the table
+  pub step_within : AreBelow (length dead) step.monitor.instance
+  step_within =
+      let full = completed m Stands letter b dead old.monitors old.marks (asks_by known old.ending letter b) (step ∷ []) read in
+      moves_within m Stands letter b dead old.marks (asks_by known old.ending letter b) old.monitors ((step ∷ []) ++ full.resting) full.all (length dead) fits.instances there step
+      (Contains-append_left (step ∷ []) full.resting step (Contains-head step []))
+
+  -- the index leads to its slot
+  pub step_leads : ((k : ℕ) (s : Stored S) → monitor_at old.monitors k ≡ Some s → Contains old.index.list (record { binding = s.instance; slot = k })) → ArePlaced old (step ∷ [])
+  step_leads paired move k among slot =
+      let full = completed m Stands letter b dead old.monitors old.marks (asks_by known old.ending letter b) (step ∷ []) read in
+      leads_moves m Stands letter b dead old.marks (asks_by known old.ending letter b) old.monitors ((step ∷ []) ++ full.resting) full.all old.index.list paired move k
+      (Contains-append_left (step ∷ []) full.resting move among) slot
+
+  pub step_done : IsStepTaken m Stands step old new firings → AreMarksAfter b old.marks new.marks → (trace : List ParametricEvent) → IsLiveEvent m dead letter b → IsStoreAfter m Stands trace dead old
+      → IsEventDone m Stands trace dead letter b new firings
+  step_done t added = done_at_once m Stands letter b dead known old t.between new (step ∷ []) (t.slotted ∷ []) firings marked read t.placed t.paired t.same t.stored t.marks
+      (opened_fewer old.index t.between.index dead (step ∷ []) fits.index within_one (λ flags fit lie. t.fits flags fit (lie step (Contains-head step []))))
+      fits.index.reached t.monitors t.dropped added t.fewer ended t.report
+    where
+      within_one : LieWithin (length dead) (step ∷ [])
+      within_one move among = subst (λ (x : Move S). AreBelow (length dead) x.monitor.instance) (one_of step move among) step_within
+
+      ended : AreEnding m Stands new.ending (reached_by (t.slotted ∷ []))
+      ended s among e ends =
+          let same = one_of t.slotted.monitor s among in
+          subst (λ (x : Stored S). IsOverAfter m Stands e x.state 0) same (t.ended e (subst (λ (x : Stored S). ends_all new.ending e (mask_of x.instance) ≡ true) (sym same) ends))
+
+-- where the move's monitor goes, nothing else is stored than before
+pub step_dropped : (m : Meaning) {S : Type 0} (Stands : S → List ℕ → Type 0) (step : Move S) (old new : Contents S) (firings : List Firing) → IsStepTaken m Stands step old new firings → step.stays ≡ false
+    → (s : Stored S) → Contains (stored_of new) s → Contains (stored_of old) s
+step_dropped m {S} Stands step old new firings t goes s there =
+    let (j, is) = place_of new.monitors s there in
+    let (first, among, from, missed) = t.placed.each t.slotted (Contains-head t.slotted []) in
+    let gone : t.slotted.stays ≡ false = from.stays ∙ ap (λ (x : Move S). x.stays) (sym (one_of step first among)) ∙ goes in
+    by j (ap (λ (l : List (Option (Stored S))). monitor_at l j) (sym t.monitors) ∙ is) gone (slot_is t.slotted.slot j)
+  where
+    by : (j : ℕ) → monitor_at (moved_at t.slotted.slot (cond t.slotted.stays (Some t.slotted.monitor) None) t.between.monitors) j ≡ Some s → t.slotted.stays ≡ false → (t.slotted.slot ≡ Some j) ⊎ (t.slotted.slot ≡ Some j → ⊥) → Contains (stored_of old) s
+    by j at gone (inl here) =
+        let low = t.paired.within (record { binding = t.slotted.monitor.instance; slot = j }) (t.placed.leads t.slotted j (Contains-head t.slotted []) here) in
+        absurd (none-some s (ap (λ (x : Bool). cond x (Some t.slotted.monitor) None) (sym gone) ∙ sym (moved_here t.slotted.slot (cond t.slotted.stays (Some t.slotted.monitor) None) t.between.monitors j here low) ∙ at))
+    by j at gone (inr other) =
+        subst (λ (l : List (Stored S)). Contains l s) t.stored (stored_at t.between.monitors j s (sym (moved_other t.slotted.slot (cond t.slotted.stays (Some t.slotted.monitor) None) t.between.monitors j other) ∙ at))
+
+-- ---- no move
+module _ (m : Meaning) {S : Type 0} (Stands : S → List ℕ → Type 0) (letter : ℕ) (b : Binding) (dead : List Bool) (known : Bool) (old new : Contents S) where
+  pub none_done : (marked : IsTrue known → Contains old.marks b) → AreMovesRead m Stands letter b dead old.marks (asks_by known old.ending letter b) old.monitors [] → ArePaired old
+      → ((pair : Pair) → Contains old.index.list pair → IsFilled old pair) → IsFit old dead → new.monitors ≡ old.monitors → new.index ≡ old.index → new.ending ≡ old.ending → AreMarksAfter b old.marks new.marks
+      → (trace : List ParametricEvent) → IsLiveEvent m dead letter b → IsStoreAfter m Stands trace dead old → IsEventDone m Stands trace dead letter b new []
+  none_done marked read paired filled fits monitors index ending added =
+      done_at_once m Stands letter b dead known old old new [] [] [] marked read none paired (λ k. refl) refl refl (λ o is. is) fits.index.reached monitors (ap (λ i. i.dropped) index) added
+      (rw ending (fewer-refl old.ending)) (λ s there. absurd (Contains-none s there)) (report_none m Stands [])
+    where
+      none : ArePlacedOf old old [] [] []
+      none = placed_already old [] (λ i j d lt within. absurd (omega (arith, lt, within))) (λ move k there slot. absurd (Contains-none move there)) filled (λ move there. absurd (Contains-none move there))

@@ -1,0 +1,53 @@
+use Rattle.std.proofs.Common.{inl, inr, sym, ap, ◌∙◌}
+use Rattle.std.specs.Prelude.{Some, None, bit_and}
+use Rattle.std.proofs.lemmas.Bool.{both_ways}
+use Rattle.jm_store.specs.declared.moves.Move.{Move}
+use Rattle.jm_store.proofs.EventLemmas.{advanced_next, left_known, left_uncovered, left_lost, moved_above, moved_made}
+use Rattle.jm_store.proofs.MoveLemmas.{join_above}
+use Rattle.jm_store.proofs.VisitLemmas.{below_by_mask, apart_by_mask}
+use Rattle.jm_store.proofs.event.Event.outcome.Goals as goal
+use Rattle.jm_store.proofs.event.Event.outcome.Goals.{then-self-via-then-self, then-self-via-else-self+then-not-covers}
+
+pub returns-then-self : goal.returns-then-self
+returns-then-self g c =
+    let m = g.M.Monitor.meaning (g.M.Monitor.definition c.args.self.now.rules.now) in
+    let Stands = g.M.Monitor.StandsFor c.args.self.now.rules.now in
+    let apart = apart_by_mask _ _ (rw (c.mask-mask.ensures.value, c.mask.ensures.value) at c.if-mask.false) in
+    elim c.then-self.branch [
+      | then-self-via-then-self w ↦ inl (left_known m Stands _ _ _ _ c.args.base.now apart (c.requires.known.0 w.if-self.true))
+      | then-self-via-else-self+then-not-covers w ↦
+          inl (left_uncovered m Stands _ _ _ _ c.args.base.now c.join-instance.result c.join-instance.ensures apart
+          (λ covered. both_ways w.covers.result w.if-not-covers.true (w.covers.ensures.1 covered)))
+    ]
+
+pub returns-then-is_lost : goal.returns-then-is_lost
+returns-then-is_lost g c =
+    let m = g.M.Monitor.meaning (g.M.Monitor.definition c.args.self.now.rules.now) in
+    let Stands = g.M.Monitor.StandsFor c.args.self.now.rules.now in
+    let apart = apart_by_mask _ _ (rw (c.mask-mask.ensures.value, c.mask.ensures.value) at c.if-mask.false) in
+    let made : Move g.row.M-State.Denot = record { slot = None; monitor = record { instance = c.join-instance.result; state = c.in_ok-state-2.state }; stays = c.in_ok-state-2.stays } in
+    inl (left_lost m Stands _ _ _ _ c.args.base.now c.join-instance.result made c.join-instance.ensures apart (advanced_next m Stands _ _ None _ _ _ _ c.in_ok-state-2.ensures) (c.is_lost.ensures.cut c.if-is_lost.true)
+    (c.is_lost.ensures.quiet c.if-is_lost.true))
+
+pub returns-then-mask : goal.returns-then-mask
+returns-then-mask g c =
+    let m = g.M.Monitor.meaning (g.M.Monitor.definition c.args.self.now.rules.now) in
+    let Stands = g.M.Monitor.StandsFor c.args.self.now.rules.now in
+    let below = below_by_mask _ _ c.requires.compatible (rw (c.mask-mask.ensures.value, c.mask.ensures.value) at c.if-mask.true) in
+    let moved : Move g.row.M-State.Denot = record { slot = Some c.args.slot; monitor = record { instance = c.args.base.now.instance; state = c.in_ok-state.state }; stays = c.in_ok-state.stays } in
+    moved_above m Stands _ _ _ _ c.args.slot c.args.base.now _ moved (sym (join_above _ _ c.requires.compatible below)) c.requires.compatible below
+    (advanced_next m Stands _ _ (Some c.args.slot) _ _ _ _ c.in_ok-state.ensures)
+
+pub returns : goal.returns
+returns g c =
+    let m = g.M.Monitor.meaning (g.M.Monitor.definition c.args.self.now.rules.now) in
+    let Stands = g.M.Monitor.StandsFor c.args.self.now.rules.now in
+    let apart = apart_by_mask _ _ (rw (c.mask-mask.ensures.value, c.mask.ensures.value) at c.if-mask.false) in
+    let made : Move g.row.M-State.Denot = record { slot = None; monitor = record { instance = c.join-instance.result; state = c.in_ok-state-2.state }; stays = c.in_ok-state-2.stays } in
+    moved_made m Stands _ _ _ _ c.args.slot c.args.base.now c.join-instance.result made c.join-instance.ensures c.requires.compatible apart
+    (λ there. both_ways c.args.self.now.known c.if-self.false (c.requires.known.1 there)) (c.covers.ensures.0 c.if-not-covers.false) (advanced_next m Stands _ _ None _ _ _ _ c.in_ok-state-2.ensures)
+
+pub returns-then-rests : goal.returns-then-rests
+returns-then-rests g c =
+    let below = below_by_mask _ _ c.requires.compatible (rw (c.mask-mask.ensures.value, c.mask.ensures.value) at c.if-mask.true) in
+    inr (below, c.rests.ensures.resting c.if-rests.true, c.rests.ensures.alive c.if-rests.true)
