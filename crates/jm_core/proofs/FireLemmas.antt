@@ -120,7 +120,7 @@ pub rest_none : (m : Meaning) {S : Type 0} (Stands : S → List ℕ → Type 0) 
 rest_none m Stands dead store rest none known = absurd (both_ways rest.is_known none known)
 
 -- after an event that was done at once, of which it is known whether its monitor stays
-pub rest_after_done : (m : Meaning) {S : Type 0} (Stands : S → List ℕ → Type 0) (dead : List Bool) (letter : ℕ) (b : Binding) (before after : Contents S) (old new : Rest) (stays : Bool) → after.marks ≡ before.marks
+pub rest_after_done : (m : Meaning) {S : Type 0} (Stands : S → List ℕ → Type 0) (dead : List Bool) (letter : ℕ) (b : Binding) (before after : Contents S) (old new : Rest) (stays : Bool) → AreMarksAfter b before.marks after.marks
     → (stays ≡ false → (s : Stored S) → Contains (stored_of after) s → Contains (stored_of before) s) → IsRested m Stands dead before old
     → (new.is_known ≡ true → ((false ≡ true) × (new.letter.0 ≡ letter) × (new.binding ≡ b)) ⊎ ((not stays ≡ true) × (new ≡ old))) → IsRested m Stands dead after new
 rest_after_done m {S} Stands dead letter b before after old new stays marks kept rested followed known =
@@ -130,7 +130,16 @@ rest_after_done m {S} Stands dead letter b before after old new stays marks kept
           let was : AreResting m Stands dead old.letter.0 old.binding (stored_of before) before.marks = rested (sym (ap (λ (r : Rest). r.is_known) drop.1) ∙ known) in
           subst (λ (r : Rest). AreResting m Stands dead r.letter.0 r.binding (stored_of after) after.marks) (sym drop.1)
           (record {
-            marked = subst (λ (l : List Binding). Contains l old.binding) (sym marks) was.marked;
+            marked = (marks old.binding).1 (inl was.marked);
             each = λ s there below. was.each s (kept (not-true stays drop.0) s there) below;
           })
     ]
+
+-- what an event comes to in a store of the same monitors and marks as another
+pub outcome_before : (m : Meaning) {S : Type 0} (Stands : S → List ℕ → Type 0) (trace : List ParametricEvent) (dead : List Bool) (a : ParametricEvent) (old mid new : Contents S) (o : Outcome) → stored_of mid ≡ stored_of old
+    → mid.marks ≡ old.marks → IsOutcomeOf m Stands trace dead a mid new o → IsOutcomeOf m Stands trace dead a old new o
+outcome_before m Stands trace dead a old mid new (Fired firings) stored marks is = is
+outcome_before m Stands trace dead a old mid new (Refused o) stored marks is = (is.0, record { stored = is.1.stored ∙ stored; marks = is.1.marks ∙ marks; holds = is.1.holds })
+outcome_before m Stands trace dead a old mid new NoMemory stored marks is = (is.0, record { stored = is.1.stored ∙ stored; marks = is.1.marks ∙ marks; holds = is.1.holds })
+outcome_before m Stands trace dead a old mid new Done stored marks is = absurd is
+outcome_before m Stands trace dead a old mid new (Kept n) stored marks is = absurd is

@@ -34,6 +34,10 @@ pub option_map : {X : Type 0} (o : Option X) (U : Type 0) (P Q : X → Type 0) �
 option_map None U P Q f h = h
 option_map (Some x) U P Q f h = f x h
 
+-- a mark stays one, and nothing else becomes one
+pub still_known : (b : Binding) (marks : List Binding) → Contains marks b → AreMarksAfter b marks marks
+still_known b marks known t = ((λ there. inl there), (λ there. elim there [ inl before ↦ before | inr is ↦ subst (λ (x : Binding). Contains marks x) (sym is) known ]))
+
 module _ {S : Type 0} (b : Binding) (old : Contents S) (k : ℕ) (only : IsOnlyAbove b old k) where
   -- the monitor that is reached
   pub reached_one : (base : Stored S) × (monitor_at old.monitors k ≡ Some base)
@@ -73,9 +77,6 @@ module _ (m : Meaning) {S : Type 0} (Stands : S → List ℕ → Type 0) (letter
   placed = placed_already old (move ∷ []) (apart_moves m Stands letter b dead old.marks (has_all b) old.monitors (move ∷ []) all)
       (leads_moves m Stands letter b dead old.marks (has_all b) old.monitors (move ∷ []) all old.index.list only.paired.paired) only.filled slotted
 
-  marked : AreMarksAfter b old.marks old.marks
-  marked t = ((λ there. inl there), (λ there. elim there [ inl before ↦ before | inr is ↦ subst (λ (x : Binding). Contains old.marks x) (sym is) known ]))
-
   ended : AreEnding m Stands new.ending (reached_by (move ∷ []))
   ended s there e ends = elim (Contains-cons_cases move.monitor [] s there) [
     | inl same ↦ subst (λ (x : Stored S). IsOverAfter m Stands e x.state 0) same (done.ended e (subst (λ (x : Stored S). ends_at x e) (sym same) ends))
@@ -90,7 +91,7 @@ module _ (m : Meaning) {S : Type 0} (Stands : S → List ℕ → Type 0) (letter
       → IsEventDone m Stands trace dead letter b new firings
   one_done trace live within holds =
       let order : IsPermutation (move ∷ []) (move ∷ []) = IsPermutation-refl (move ∷ []) in
-      let after = carried_out m Stands letter b dead (has_all b) old old (move ∷ []) (move ∷ []) (move ∷ []) all may order placed only.paired (λ j. refl) refl refl trace holds.monitors live old.marks marked in
+      let after = carried_out m Stands letter b dead (has_all b) old old (move ∷ []) (move ∷ []) (move ∷ []) all may order placed only.paired (λ j. refl) refl refl trace holds.monitors live old.marks (still_known b old.marks known) in
       let end = ended_after m Stands letter b dead (has_all b) old old (move ∷ []) (move ∷ []) (move ∷ []) all may order placed only.paired (λ j. refl) refl refl trace holds.monitors live new.ending done.fewer holds.ended ended in
       let spared = spared_after m Stands old.index.dropped dead (move ∷ []) old.monitors within holds.spared (stay_alive m Stands letter b dead old.marks (has_all b) old.monitors old old (move ∷ []) (move ∷ []) (move ∷ []) all order placed) in
       record {
@@ -131,9 +132,6 @@ module _ (m : Meaning) {S : Type 0} (Stands : S → List ℕ → Type 0) (letter
   none_placed = placed_already store [] (apart_moves m Stands letter b dead store.marks (has_all b) store.monitors [] no_moves)
       (leads_moves m Stands letter b dead store.marks (has_all b) store.monitors [] no_moves store.index.list none.paired.paired) none.filled (λ x there. absurd (Contains-none x there))
 
-  still_marked : AreMarksAfter b store.marks store.marks
-  still_marked t = ((λ there. inl there), (λ there. elim there [ inl before ↦ before | inr is ↦ subst (λ (x : Binding). Contains store.marks x) (sym is) known ]))
-
   none_ended : AreEnding m Stands store.ending (reached_by {S = S} [])
   none_ended s there = absurd (Contains-none s there)
 
@@ -141,7 +139,7 @@ module _ (m : Meaning) {S : Type 0} (Stands : S → List ℕ → Type 0) (letter
       → IsEventDone m Stands trace dead letter b store []
   none_done trace live within holds =
       let order : IsPermutation {X = Move S} [] [] = IsPermutation-refl [] in
-      let after = carried_out m Stands letter b dead (has_all b) store store [] [] [] no_moves may_none order none_placed none.paired (λ j. refl) refl refl trace holds.monitors live store.marks still_marked in
+      let after = carried_out m Stands letter b dead (has_all b) store store [] [] [] no_moves may_none order none_placed none.paired (λ j. refl) refl refl trace holds.monitors live store.marks (still_known b store.marks known) in
       let end = ended_after m Stands letter b dead (has_all b) store store [] [] [] no_moves may_none order none_placed none.paired (λ j. refl) refl refl trace holds.monitors live store.ending (λ e d ends. ends) holds.ended none_ended in
       let spared = spared_after m Stands store.index.dropped dead [] store.monitors within holds.spared (stay_alive m Stands letter b dead store.marks (has_all b) store.monitors store store [] [] [] no_moves order none_placed) in
       record {

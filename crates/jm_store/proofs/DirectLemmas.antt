@@ -1,7 +1,8 @@
 -- An event that makes something of one monitor at most.
 use Rattle.std.proofs.Common.{◌≡◌, ℕ, ◌⊎◌, inl, inr, Bool, true, false, cond, List, [], ◌∷◌, ◌++◌, length, refl, sym, ap, ◌∙◌, subst, arith}
-use Rattle.std.specs.Prelude.{Option, Some, None, Contains, IsTrue}
-use Rattle.std.specs.Option.{option_to_list}
+use Rattle.std.specs.Prelude.{Option, Some, None, Contains, IsTrue, IfNone, IfSome}
+use Rattle.std.specs.Option.{is_some}
+use Rattle.std.proofs.lemmas.Bool.{false≢true}
 use Rattle.std.specs.List.Sorted.{IsPermutation}
 use Rattle.std.proofs.lemmas.Option.{none-some}
 use Rattle.std.proofs.lemmas.List.Sorted.{IsPermutation-refl}
@@ -23,6 +24,8 @@ use Rattle.jm_store.specs.Contents.{Contents, stored_of, IsFit, IsStoreAfter, Ar
 use Rattle.jm_store.proofs.SlotLemmas.{stored_at, place_of}
 use Rattle.jm_store.proofs.AfterLemmas.{slot_is, moved_other, moved_here}
 use Rattle.jm_store.proofs.EndingLemmas.{fewer-refl}
+use Rattle.jm_store.proofs.StoreLemmas.{store_same}
+use Rattle.jm_store.proofs.MoveLemmas.{move_base}
 use Rattle.jm_store.proofs.SparedLemmas.{spared_after, spared_fewer, opened_fewer}
 use Rattle.jm_store.proofs.PlacingLemmas.{placed_already}
 use Rattle.jm_store.proofs.ReportLemmas.{report_none}
@@ -67,6 +70,19 @@ module _ (m : Meaning) {S : Type 0} (Stands : S → List ℕ → Type 0) (letter
 pub one_of : {X : Type 0} (x y : X) → Contains (x ∷ []) y → x ≡ y
 one_of x y there = elim (Contains-cons_cases x [] y there) [ inl same ↦ same | inr none ↦ absurd (Contains-none y none) ]
 
+-- ---- what is answered, or not
+pub if_none : {X : Type 0} (o : Option X) (A B C D : Type 0) → (A → B → C → D) → IfNone o A → IfNone o B → IfNone o C → IfNone o D
+if_none None A B C D f a b c = f a b c
+if_none (Some x) A B C D f a b c = tt
+
+pub if_some : {X : Type 0} (o : Option X) (P Q R : X → Type 0) → ((x : X) → P x → Q x → R x) → IfSome o P → IfSome o Q → IfSome o R
+if_some None P Q R f p q = tt
+if_some (Some x) P Q R f p q = f x p q
+
+pub in_some : {X : Type 0} (o : Option X) (P : X → Type 0) → ((x : X) → P x) → IfSome o P
+in_some None P f = tt
+in_some (Some x) P f = f x
+
 -- ---- one move
 module _ (m : Meaning) {S : Type 0} (Stands : S → List ℕ → Type 0) (letter : ℕ) (b : Binding) (dead : List Bool) (known : Bool) (old new : Contents S) (step : Move S) (firings : List Firing)
     (marked : IsTrue known → Contains old.marks b) (read : AreMovesRead m Stands letter b dead old.marks (asks_by known old.ending letter b) old.monitors (step ∷ [])) (fits : IsFit old dead) (there : AreBelow (length dead) b) where
@@ -77,6 +93,17 @@ module _ (m : Meaning) {S : Type 0} (Stands : S → List ℕ → Type 0) (letter
       moves_within m Stands letter b dead old.marks (asks_by known old.ending letter b) old.monitors ((step ∷ []) ++ full.resting) full.all (length dead) fits.instances there step
       (Contains-append_left (step ∷ []) full.resting step (Contains-head step []))
 
+  -- where the binding is a mark, it has a slot
+  pub step_slotted : IsTrue known → step.slot ≡ None → ⊥
+  step_slotted is none =
+      let full = completed m Stands letter b dead old.monitors old.marks (asks_by known old.ending letter b) (step ∷ []) read in
+      let (k, visited, base) = move_base m Stands letter b dead old.marks old.monitors (asks_by known old.ending letter b) ((step ∷ []) ++ full.resting) full.all step
+      (Contains-append_left (step ∷ []) full.resting step (Contains-head step [])) in
+      elim base.moved.is_base.1 [
+        | inl below ↦ none-some k (sym none ∙ base.moved.advanced.slot ∙ ap (λ (t : Bool). cond t (Some k) None) below)
+        | inr fresh ↦ fresh.0 (marked is)
+      ]
+
   -- the index leads to its slot
   pub step_leads : ((k : ℕ) (s : Stored S) → monitor_at old.monitors k ≡ Some s → Contains old.index.list (record { binding = s.instance; slot = k })) → ArePlaced old (step ∷ [])
   step_leads paired move k among slot =
@@ -84,15 +111,23 @@ module _ (m : Meaning) {S : Type 0} (Stands : S → List ℕ → Type 0) (letter
       leads_moves m Stands letter b dead old.marks (asks_by known old.ending letter b) old.monitors ((step ∷ []) ++ full.resting) full.all old.index.list paired move k
       (Contains-append_left (step ∷ []) full.resting move among) slot
 
+  within_one : LieWithin (length dead) (step ∷ [])
+  within_one move among = subst (λ (x : Move S). AreBelow (length dead) x.monitor.instance) (one_of step move among) step_within
+
+  -- where memory was wanting the store is still one of the trace
+  pub step_kept : stored_of new ≡ stored_of old → new.marks ≡ old.marks → new.ending ≡ old.ending
+      → ((flags : List Bool) → IsFitting old.index flags → AreBelow (length flags) step.monitor.instance → IsFitting new.index flags)
+      → (trace : List ParametricEvent) → IsStoreAfter m Stands trace dead old → IsStoreAfter m Stands trace dead new
+  step_kept stored marks ending index trace =
+      store_same m Stands trace dead old new stored marks (rw ending (fewer-refl old.ending))
+      (opened_fewer old.index new.index dead (step ∷ []) fits.index within_one (λ flags fit lie. index flags fit (lie step (Contains-head step []))))
+
   pub step_done : IsStepTaken m Stands step old new firings → AreMarksAfter b old.marks new.marks → (trace : List ParametricEvent) → IsLiveEvent m dead letter b → IsStoreAfter m Stands trace dead old
       → IsEventDone m Stands trace dead letter b new firings
   step_done t added = done_at_once m Stands letter b dead known old t.between new (step ∷ []) (t.slotted ∷ []) firings marked read t.placed t.paired t.same t.stored t.marks
       (opened_fewer old.index t.between.index dead (step ∷ []) fits.index within_one (λ flags fit lie. t.fits flags fit (lie step (Contains-head step []))))
       fits.index.reached t.monitors t.dropped added t.fewer ended t.report
     where
-      within_one : LieWithin (length dead) (step ∷ [])
-      within_one move among = subst (λ (x : Move S). AreBelow (length dead) x.monitor.instance) (one_of step move among) step_within
-
       ended : AreEnding m Stands new.ending (reached_by (t.slotted ∷ []))
       ended s among e ends =
           let same = one_of t.slotted.monitor s among in
@@ -118,10 +153,14 @@ step_dropped m {S} Stands step old new firings t goes s there =
 module _ (m : Meaning) {S : Type 0} (Stands : S → List ℕ → Type 0) (letter : ℕ) (b : Binding) (dead : List Bool) (known : Bool) (old new : Contents S) where
   pub none_done : (marked : IsTrue known → Contains old.marks b) → AreMovesRead m Stands letter b dead old.marks (asks_by known old.ending letter b) old.monitors [] → ArePaired old
       → ((pair : Pair) → Contains old.index.list pair → IsFilled old pair) → IsFit old dead → new.monitors ≡ old.monitors → new.index ≡ old.index → new.ending ≡ old.ending → AreMarksAfter b old.marks new.marks
-      → (trace : List ParametricEvent) → IsLiveEvent m dead letter b → IsStoreAfter m Stands trace dead old → IsEventDone m Stands trace dead letter b new []
-  none_done marked read paired filled fits monitors index ending added =
+      → IsLiveEvent m dead letter b → (trace : List ParametricEvent) → IsStoreAfter m Stands trace dead old → IsEventDone m Stands trace dead letter b new []
+  none_done marked read paired filled fits monitors index ending added live trace =
       done_at_once m Stands letter b dead known old old new [] [] [] marked read none paired (λ k. refl) refl refl (λ o is. is) fits.index.reached monitors (ap (λ i. i.dropped) index) added
-      (rw ending (fewer-refl old.ending)) (λ s there. absurd (Contains-none s there)) (report_none m Stands [])
+      (rw ending (fewer-refl old.ending)) (λ s there. absurd (Contains-none s there)) (report_none m Stands []) trace live
     where
       none : ArePlacedOf old old [] [] []
       none = placed_already old [] (λ i j d lt within. absurd (omega (arith, lt, within))) (λ move k there slot. absurd (Contains-none move there)) filled (λ move there. absurd (Contains-none move there))
+
+pub some_is : {X : Type 0} (o : Option X) → is_some o ≡ true → o ≡ None → ⊥
+some_is None some none = false≢true some
+some_is (Some x) some none = none-some x (sym none)

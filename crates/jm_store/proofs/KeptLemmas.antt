@@ -114,6 +114,11 @@ module _ {S : Type 0} where
       → monitor_at (monitors_of slots) k ≡ Some s → IsKept (slice_set slots k (Free n)) (without s.instance pairs) domains open' spare
   kept_dropped slots pairs domains open' spare k n s h at = kept_gone slots pairs domains open' spare k n s.instance h (h.housed.paired k s at)
 
+  -- a monitor's slot gets another of its instance
+  pub kept_changed : (slots : List (Slot S)) (pairs : List Pair) (domains : List ℕ) (open' : Bool) (spare k : ℕ) (s : Stored S) (state : S) → IsKept slots pairs domains open' spare
+      → monitor_at (monitors_of slots) k ≡ Some s → IsKept (slice_set slots k (Taken (record { instance = s.instance; state = state }))) pairs domains open' spare
+  kept_changed slots pairs domains open' spare k s state h at = kept_put slots pairs domains open' spare k (record { instance = s.instance; state = state }) h (h.housed.paired k s at)
+
   -- a slot that a pair leads to and that isn't planned has a monitor
   taken_else : (x : Slot S) → IsUsed x → (x ≡ Planned → ⊥) → (s : Stored S) × (monitor_in x ≡ Some s)
   taken_else (Free next) used other = absurd used

@@ -102,10 +102,11 @@ impl<M: Monitor> Store<M> {
             (stored_of self.old) }
     {
         if known {
-            match self.only_slot_above(objects, binding, slots) {
-                Some(Some(slot)) => return self.advance_slot(rules, objects, letter, slot, steps),
-                Some(None) => return Some(Done::nothing(*self.domains.allocator())),
-                None => {}
+            if let Some(above) = self.only_slot_above(objects, binding, slots) {
+                return match above {
+                    Some(slot) => self.advance_slot(rules, objects, letter, slot, steps),
+                    None => Some(Done::nothing(*self.domains.allocator())),
+                };
             }
             if slots.len() > MANY {
                 return None;
@@ -224,7 +225,10 @@ impl<M: Monitor> Store<M> {
             known,
         };
         match self.find_only(&event, slots, steps)? {
-            Some(step) => self.take_step(rules, step, binding, known, slots),
+            Some(step) => {
+                self.room_for(&step, slots)?;
+                self.take_step(rules, step, binding, known)
+            }
             None => self.take_none(binding, known),
         }
     }
@@ -341,13 +345,17 @@ impl<M: Monitor> Store<M> {
         ensures index { self.new.index ≡ self.old.index }
         ensures ending { self.new.ending ≡ self.old.ending }
         ensures closed { self.new.is_open ≡ false }
+        ensures fits { (dead : List Bool) → IsFit self.old dead → AreBelow (length dead) binding.now
+            → IsFit self.new dead }
         ensures marks { IfSome result (λ done. AreMarksAfter binding.now self.old.marks self.new.marks) }
+        ensures stays { IfSome result (λ done. done.stays ≡ false) }
         ensures answer { IfSome result (λ done. done.answer ≡ []) }
         ensures copy { IfSome result (λ done. done.copy ≡ []) }
     {
+        let alloc = *self.domains.allocator();
         self.open_for(known)?;
         self.close(binding, known);
-        Some(Done::nothing(*self.domains.allocator()))
+        Some(Done::nothing(alloc))
     }
 
     /// Does an event that makes this of one monitor and nothing of others, if memory isn't wanting.
@@ -358,7 +366,6 @@ impl<M: Monitor> Store<M> {
         mut step: Move<M::State>,
         binding: &Binding,
         known: bool,
-        slots: &mut Vec<usize>,
     ) -> Option<Done>
         requires closed { self.old.is_open ≡ false }
         requires known { IsTrue known → Contains self.old.marks binding.now }
@@ -390,7 +397,7 @@ impl<M: Monitor> Store<M> {
             return None;
         };
         self.open_for(known)?;
-        self.place_one(&mut step, slots)?;
+        self.place_one(&mut step)?;
         self.end_one(rules, &step.monitor);
         let stays = step.stays;
         self.carry_out(step);
@@ -419,9 +426,21 @@ impl<M: Monitor> Store<M> {
         Some(())
     }
 
+    /// Makes the room that a pass has for slots, where a new instance is made, if memory isn't wanting.
+    #[inline(always)]
+    fn room_for(&self, step: &Move<M::State>, slots: &mut Vec<usize>) -> Option<()> {
+        if step.slot.is_some() {
+            return Some(());
+        }
+        match make_room(slots, self.monitors.count_slots()) {
+            Ok(()) => Some(()),
+            Err(NoMemory) => None,
+        }
+    }
+
     /// Gives a move a slot, if it has none and memory isn't wanting.
     #[inline(always)]
-    fn place_one(&mut self, step: &mut Move<M::State>, slots: &mut Vec<usize>) -> Option<()>
+    fn place_one(&mut self, step: &mut Move<M::State>) -> Option<()>
         requires slotted { self.old.is_open ≡ false → step.old.slot ≡ None → ⊥ }
         requires settled { (pair : Pair) → Contains self.old.index.list pair → IsFilled self.old pair }
         requires leads { ArePlaced self.old (step.old ∷ []) }
@@ -437,17 +456,21 @@ impl<M: Monitor> Store<M> {
             (step.new ∷ [])) }
         ensures paired { ArePaired self.new }
     {
+        let _monitors = &self.monitors;
         if step.slot.is_some() {
             return Some(());
         }
-        if let Ok(()) = make_room(slots, self.monitors.count_slots())
-            && let Ok(slot) = self.place(&step.monitor.instance)
-        {
-            step.slot = slot;
-            return Some(());
+        match self.place(&step.monitor.instance) {
+            Ok(slot) => {
+                let _monitors = &self.monitors;
+                step.slot = slot;
+                Some(())
+            }
+            Err(NoMemory) => {
+                self.is_open = false;
+                None
+            }
         }
-        self.is_open = false;
-        None
     }
 
     /// Keeps of the letters that end monitors with its set of parameters those that end a monitor too.

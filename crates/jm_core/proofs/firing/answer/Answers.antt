@@ -1,8 +1,7 @@
 use Rattle.std.proofs.Common.{◌≡◌, refl, ap, ◌∙◌}
 use Rattle.jm_model.specs.declared.step.Outcome.TheVariants.{Fired}
-use Rattle.jm_core.proofs.FireLemmas.{at_rest, rest_after_done}
+use Rattle.jm_core.proofs.FireLemmas.{at_rest, rest_after_done, rest_untouched, outcome_before}
 use Rattle.jm_core.proofs.firing.answer.Goals as goal
-use Rattle.jm_core.proofs.firing.answer.Goals.{then-known+in_default, else-known}
 
 pub returns-then-is_of : goal.returns-then-is_of
 returns-then-is_of g c =
@@ -36,7 +35,27 @@ returns-in-Some g c =
           );
     }
 
+pub fire-requires : goal.fire-requires
+fire-requires g c =
+    let kept = c.in_default.ensures in
+    record {
+      can = record { closed = kept.closed; fits = kept.fits; event = c.requires.can.event; there = c.requires.can.there };
+      known = rw kept.unmarked c.is_mark-known.ensures;
+      live = c.requires.live;
+    }
+
 pub returns : goal.returns
 returns g c =
-    let same : c.if-known.store ≡ c.args.store.now = elim c.if-known.branch [ then-known+in_default w ↦ w.store-is ∙ w.in_default.ensures.same | else-known w ↦ w.store-is ] in
-    rw same at c.fire.ensures
+    let m = g.M.Monitor.meaning (g.M.Monitor.definition c.args.rules.now) in
+    let Stands = g.M.Monitor.StandsFor c.args.rules.now in
+    let kept = c.in_default.ensures in
+    let fired = c.fire.ensures in
+    let mid = c.counted_advance.new.store in
+    record {
+      twice = fired.twice;
+      closed = fired.closed;
+      fits = fired.fits;
+      works = λ trace holds rested.
+          let out = fired.works trace (kept.keeps trace holds) (rest_untouched m Stands c.args.objects.now c.args.store.now mid c.args.rest.now kept.stored kept.unmarked rested) in
+          (outcome_before m Stands trace c.args.objects.now _ c.args.store.now mid c.fire.new.store _ kept.stored kept.unmarked out.0, out.1);
+    }

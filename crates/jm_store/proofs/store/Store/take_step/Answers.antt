@@ -1,0 +1,92 @@
+use Rattle.std.proofs.Common.{◌≡◌, ℕ, inl, inr, List, [], ◌∷◌, refl, sym, ap, ◌∙◌, subst}
+use Rattle.std.specs.Prelude.{Some, Contains}
+use Rattle.jm_model.specs.declared.binding.Binding.{Binding}
+use Rattle.jm_semantics.proofs.ListLemmas.{Contains-head}
+use Rattle.jm_monitors.specs.Steps.{AreMarksAfter}
+use Rattle.jm_store.specs.declared.moves.Move.{Move}
+use Rattle.jm_store.specs.Contents.{with_open, with_ending}
+use Rattle.jm_store.proofs.VisitLemmas.{settled_monitor}
+use Rattle.jm_store.proofs.GivenLemmas.{one_pair}
+use Rattle.jm_store.proofs.CommitLemmas.{filled_on, unplanned}
+use Rattle.jm_store.proofs.PlanningLemmas.{fit_same}
+use Rattle.jm_store.proofs.PlacingLemmas.{placed_same}
+use Rattle.jm_store.proofs.DirectLemmas.{one_of}
+use Rattle.jm_store.proofs.store.Store.take_step.Goals as goal
+
+pub place_one-requires-clause-settled : goal.place_one-requires-clause-settled
+place_one-requires-clause-settled g c =
+    let closed = rw (← c.self.view_is) at c.requires.closed in
+    rw (c.in_ok-open_for.ensures.opened, ← c.self.view_is) (settled_monitor _ _ c.self.invariant.housed (c.self.invariant.settled closed))
+
+pub place_one-requires-clause-leads : goal.place_one-requires-clause-leads
+place_one-requires-clause-leads g c = rw c.in_ok-open_for.ensures.opened c.requires.leads
+
+pub returns-in_err-place_one-clause-fits : goal.returns-in_err-place_one-clause-fits
+returns-in_err-place_one-clause-fits g c =
+    let p = rw c.in_ok-open_for.ensures.opened at c.in_err-place_one.ensures in
+    λ dead fit below mine. fit_same c.args.self.now c.place_one.new.self dead p.stored p.marks (p.fits dead fit.index mine) fit
+
+pub carry_out-requires : goal.carry_out-requires
+carry_out-requires g c =
+    let step = c.place_one.new.step in
+    rw c.end_one.ensures.same (λ k slot. c.in_ok-place_one.ensures.placed.leads step k (Contains-head step []) slot)
+
+pub close-requires-clause-settled : goal.close-requires-clause-settled
+close-requires-clause-settled g c =
+    let p = c.in_ok-place_one.ensures in
+    let step = c.place_one.new.step in
+    let carried = rw c.end_one.ensures.same at c.carry_out.ensures in
+    λ pair there.
+    elim (filled_on (with_ending c.place_one.new.self c.end_one.new.self.ending) c.carry_out.new.self [] step carried.bindings carried.slots carried.within
+    (one_pair (λ x y. (k : ℕ) → x.slot ≡ Some k → y.slot ≡ Some k → ⊥) step) p.placed.leads carried.monitors carried.index p.placed.filled pair there) [
+      | inl full ↦ full
+      | inr planned ↦ absurd (unplanned [] pair refl planned)
+    ]
+
+pub returns-clause-fits : goal.returns-clause-fits
+returns-clause-fits g c =
+    let p = rw c.in_ok-open_for.ensures.opened at c.in_ok-place_one.ensures in
+    let carried = rw c.end_one.ensures.same at c.carry_out.ensures in
+    λ dead fit below mine.
+    c.close.ensures.fits dead (carried.fits dead (p.fits dead fit.index mine)) (λ t there. fit.marks t (subst (λ (l : List Binding). Contains l t) (carried.marks ∙ p.marks) there)) below
+
+pub returns-clause-index : goal.returns-clause-index
+returns-clause-index g c =
+    let p = rw c.in_ok-open_for.ensures.opened at c.in_ok-place_one.ensures in
+    let carried = rw c.end_one.ensures.same at c.carry_out.ensures in
+    λ dead fits mine. rw c.close.ensures.index (carried.fits dead (p.fits dead fits mine))
+
+pub returns-clause-marks : goal.returns-clause-marks
+returns-clause-marks g c =
+    let p = rw c.in_ok-open_for.ensures.opened at c.in_ok-place_one.ensures in
+    let carried = rw c.end_one.ensures.same at c.carry_out.ensures in
+    subst (λ (l : List Binding). AreMarksAfter c.args.binding.now l c.close.new.self.marks) (carried.marks ∙ p.marks) c.close.ensures.marks
+
+pub returns-clause-stays : goal.returns-clause-stays
+returns-clause-stays g c =
+    let step = c.place_one.new.step in
+    let (first, among, from, missed) = c.in_ok-place_one.ensures.placed.each step (Contains-head step []) in
+    from.stays ∙ ap (λ (x : Move g.row.M-State.Denot). x.stays) (sym (one_of c.args.step first among))
+
+pub returns-clause-taken : goal.returns-clause-taken
+returns-clause-taken g c =
+    let p = rw c.in_ok-open_for.ensures.opened at c.in_ok-place_one.ensures in
+    let carried = rw c.end_one.ensures.same at c.carry_out.ensures in
+    let step = c.args.step in
+    let slotted = c.place_one.new.step in
+    let ending = c.close.ensures.ending ∙ c.carry_out.ensures.ending in
+    record {
+      between = c.place_one.new.self;
+      slotted = slotted;
+      placed = placed_same _ c.args.self.now c.place_one.new.self (step ∷ []) (step ∷ []) (slotted ∷ []) refl refl p.placed;
+      paired = p.paired;
+      stored = p.stored;
+      marks = p.marks;
+      same = p.monitors;
+      fits = p.fits;
+      monitors = c.close.ensures.monitors ∙ carried.monitors;
+      dropped = ap (λ i. i.dropped) c.close.ensures.index ∙ carried.dropped;
+      fewer = rw ending (rw p.ending at c.end_one.ensures.fewer);
+      ended = rw ending c.end_one.ensures.ended;
+      report = c.in-Ok.ensures;
+    }
