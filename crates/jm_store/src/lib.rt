@@ -4,9 +4,9 @@
 //! `plan` works an event out and makes all growths; the contents stay as they are. `commit` carries the plan out and
 //! takes no memory. The monitors lie in one container (`monitors`), whose call that lends one counts; an index leads
 //! from the bindings to the slots. An event reads the monitors that are compatible with its binding and no others:
-//! those above it move, and where the binding is no mark, the others may make new instances (`event`). An event whose
-//! binding is a mark and which reaches one monitor alone needs no plan: `advance_one` does it at once. `dispose` drops
-//! what can't fire any more.
+//! those above it move, and where the binding is no mark, the others may make new instances (`event`). An event that
+//! makes something of one monitor at most needs no plan: `advance_one` does it at once. `dispose` drops what can't fire
+//! any more.
 #![tactic(auto)]
 
 mod ending;
