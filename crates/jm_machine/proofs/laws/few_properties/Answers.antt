@@ -42,7 +42,7 @@ as_many bytes (p ∷ ps) [] told = absurd told
 pub returns : goal.returns
 returns c = λ bytes tokens tree h.
     let frame = h.0 in
-    let said = few frame.properties (no_fault bytes frame h.2.0) in
-    let told = as_many bytes frame.properties (map facts_of tree.properties.items) h.2.1.properties in
+    let said = few frame.properties (no_fault bytes frame h.2) in
+    let told = as_many bytes frame.properties (map facts_of tree.properties.items) h.3.properties in
     let many = length-map tree.properties.items facts_of in
     (omega (arith, said, told, many), omega (arith, said, told, many))
