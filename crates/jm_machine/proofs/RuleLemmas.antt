@@ -421,13 +421,16 @@ module _ (first : CompiledProperty) (others : List CompiledProperty) (given : Op
   pub barren_quiet : (w : List ℕ) → AreAfter (first ∷ others) [] place.Barren w → (e k : ℕ) → IsHit (rules_meaning (rules_with first others)) (w ++ e ∷ []) k → ⊥
   barren_quiet w after e k hit = barren_never (w ++ e ∷ []) (λ j part at. barren_later part w e (after j part at)) k hit
 
-  -- where no word may begin with a letter, its word began otherwise
-  pub barren_first : (e : ℕ) → ((first.definition.creation ≡ []) ⊎ Contains first.definition.creation e → ⊥)
-      → AreAfter (first ∷ others) [] place.Barren (e ∷ [])
-  barren_first e never =
-      all_barren made made_set 0 first refl (e ∷ []) (λ (none : e ∷ [] ≡ []). absurd cc, never)
+  -- what stands for the word of one letter is where that leads from the start
+  pub from_start : (c : Configuration) (e : ℕ) → IsConfigurationOf made c (e ∷ []) → (w : List ℕ)
+      → AreAfter (first ∷ others) [] place.Start w → IsConfigurationOf made c (w ++ e ∷ [])
+  from_start c e here w after =
+      subst (λ (u : List ℕ). IsConfigurationOf made c (u ++ e ∷ [])) (sym (after 0 first refl)) here
 
   module _ (one : length (first ∷ others) ≡ 1) (place : Place) where
+    pub alone_at : (w : List ℕ) → IsPlaceAfter first place w → AreAfter (first ∷ others) [] place w
+    alone_at w h = only_after made made_set one first refl place w h
+
     pub alone_hits : (bits : ℕ) → ((w : List ℕ) → IsPlaceAfter first place w → (k : ℕ) → IsBitSet bits k ↔ IsHit (property_meaning first.definition) w k)
         → (w : List ℕ) → AreAfter (first ∷ others) [] place w → (k : ℕ) → IsBitSet bits k ↔ IsHit (rules_meaning (rules_with first others)) w k
     alone_hits bits hits w after k =

@@ -416,10 +416,10 @@ impl Monitor for Property {
 
     #[inline(always)]
     fn ending(&self, state: &Place) -> u32 {
-        match (&self.outlook, state) {
-            (Outlook::Table(_), Place::Barren) => u32::MAX,
-            (Outlook::Table(outlook), Place::Start) => outlook.first_ending(),
-            (_, Place::State(state)) => self.ending_of_state(*state),
+        match (state, &self.outlook) {
+            (Place::State(state), _) => self.ending_of_state(*state),
+            (Place::Barren, Outlook::Table(_)) => u32::MAX,
+            (Place::Start, Outlook::Table(outlook)) => outlook.first_ending(),
             _ => 0,
         }
     }
