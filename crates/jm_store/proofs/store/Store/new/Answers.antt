@@ -21,5 +21,5 @@ returns-clause-holds g c =
     let first = c.in_ok-store.ensures in
     let instance = c.empty-instance.ensures in
     λ dead.
-    store_at_start m Stands dead c.in_ok-store.store (inl (c.in_ok-state.state, c.in_ok-state.ensures, rw c.empty-instance.ensures at first.stored)) first.marks (first_ended m Stands _ c.ending.result _ _ first.stored instance first.ending c.ending.ensures.quiet c.ending.ensures.cut)
+    store_at_start m Stands dead c.in_ok-store.store (inl (c.in_ok-state.state, c.in_ok-state.ensures, rw c.empty-instance.ensures at first.stored)) first.marks (first_ended m Stands _ c.ending-letters.result _ _ first.stored instance first.ending c.ending-letters.ensures.quiet c.ending-letters.ensures.cut)
     (spared_first m Stands _ _ _ first.stored instance (λ w stands gone. both_ways c.cut.result c.if-cut.false ((c.cut.ensures w stands).1 gone)))
