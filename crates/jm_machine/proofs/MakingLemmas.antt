@@ -1,22 +1,17 @@
 -- The property that is made of a formula and handlers.
-use Rattle.std.proofs.Common.{Result, Ok, Err, IfOk, ◌≡◌, ℕ, ◌<◌, ◌≤◌, List, Option, Some, None, map, length, sym, ◌∙◌, ap, subst}
+use Rattle.std.proofs.Common.{Result, Ok, Err, IfOk, ◌≡◌, ℕ, ◌<◌, ◌≤◌, List, Option, Some, map, length, sym, ◌∙◌, ap, subst}
 use Rattle.std.specs.Prelude.{IsBitSet, ◌↔◌, Bool, All, ◌^◌}
 use Rattle.std.proofs.lemmas.List.{length-map}
 use Rattle.jm_model.specs.declared.fault.SpecError.{SpecError}
-use Rattle.jm_model.specs.declared.fault.SpecError.TheVariants.{Bad, NoMemory}
 use Rattle.jm_text.specs.declared.token.Token.{Token}
-use Rattle.jm_model.specs.declared.fault.SpecFault.{SpecFault}
-use Rattle.jm_reading.specs.Faults.{Refuses}
 use Rattle.jm_events.specs.Names.{number_of}
 use Rattle.jm_events.specs.Events.{EventDefinition, EventDefinitions, IsCreation}
 use Rattle.jm_goal.specs.Goals.{GoalDefinition}
-use Rattle.jm_table.specs.Explorations.{IfBad}
-use Rattle.jm_spec.specs.declared.property.HandlerText.{HandlerText}
 use Rattle.jm_spec.specs.Trees.{PropertyFacts}
 use Rattle.jm_machine.specs.declared.formula.Formula.{Formula}
 use Rattle.jm_machine.specs.declared.engine.Engine.{Engine}
 use Rattle.jm_machine.specs.Engines.{letters_of_engine, categories_of_engine, IsCompiled, IsMinimal}
-use Rattle.jm_machine.specs.Formulas.{category_names, IsReadAs, IsTableFault}
+use Rattle.jm_machine.specs.Formulas.{category_names}
 use Rattle.jm_machine.specs.Handlers.{handler_names, resetting_handlers}
 use Rattle.jm_machine.specs.PropertyMeanings.{must_bind_of, property_rules_of}
 use Rattle.jm_machine.specs.CompiledProperties.{CompiledProperty, definition_of, numbers_of, IsGoalOf, IsCompiledProperty}

@@ -1,13 +1,12 @@
 -- What rules mean is put together of what their properties mean.
-use Rattle.std.proofs.Common.{◌≡◌, ◌≢◌, ◌⊎◌, inl, inr, ℕ, zero, suc, ◌+◌, ◌-◌, ◌<◌, ◌≤◌, Bool, true, false, cond, List, [], ◌∷◌, ◌++◌, Option, Some, None, length, slice_get, bit_and, bit_or, refl, sym, ◌∙◌, ap, subst, arith, take}
+use Rattle.std.proofs.Common.{◌≡◌, inl, inr, ℕ, zero, suc, ◌+◌, ◌-◌, ◌<◌, ◌≤◌, Bool, true, false, cond, List, [], ◌∷◌, ◌++◌, Option, Some, None, length, slice_get, bit_or, refl, sym, ◌∙◌, ap, subst, arith}
 use Rattle.std.specs.Prelude.{◌↔◌, IsSomeAnd, MatchBool, option_map, nat_lt}
-use Rattle.std.specs.List.{AllByRecursion}
 use Rattle.std.specs.Option.{option_map_or}
 use Rattle.std.proofs.lemmas.Bool.{lt-ltb, le-ltb, cases_lt}
 use Rattle.std.proofs.lemmas.Option.{same_Some, none-some}
-use Rattle.jm_model.specs.Meanings.{Meaning, IsCreated, IsHit, IsAvailable, CanHit, IsPropertyCut, IsCutWord}
+use Rattle.jm_model.specs.Meanings.{Meaning, IsHit, IsAvailable, CanHit, IsPropertyCut, IsCutWord}
 use Rattle.jm_semantics.specs.Families.{params_of, IsNeeded}
-use Rattle.jm_machine.specs.PropertyMeanings.{PropertyRules, Runs, is_failing_grammar, property_meaning}
+use Rattle.jm_machine.specs.PropertyMeanings.{Runs, is_failing_grammar, property_meaning}
 use Rattle.jm_machine.specs.Meanings.{PropertyDefinition, RuleDefinition, rules_about, handler_count, first_of, place_of, rules_meaning}
 
 pub some_is : {X : Type 0} (P : X → Type 0) (o : Option X) (x : X) → o ≡ Some x → IsSomeAnd o P ↔ P x

@@ -13,7 +13,7 @@ use Rattle.jm_text.specs.Texts.{is_word}
 use Rattle.jm_reading.specs.Tokens.{name_of}
 use Rattle.jm_reading.specs.Faults.{or_else}
 use Rattle.jm_spec.specs.declared.property.HandlerText.{HandlerText}
-use Rattle.jm_machine.specs.Handlers.{handler_names, count_fault, duplicate_fault, category_fault, reset_in, reset_fault, binding_fault, handlers_fault, has_reset, is_resetting, resetting_handlers}
+use Rattle.jm_machine.specs.Handlers.{handler_names, reset_in, reset_fault, binding_fault, has_reset, is_resetting, resetting_handlers}
 use Rattle.jm_machine.specs.CompiledProperties.{has_bit, numbers_of}
 use Rattle.jm_machine.proofs.OptionLemmas.{same_bool}
 use Rattle.jm_machine.proofs.GoalLemmas.{bit_test, no_bits}

@@ -1,5 +1,5 @@
-use Rattle.std.proofs.Common.{List, ℕ, [], ◌∷◌, ◌++◌, inl, inr, refl}
-use Rattle.jm_machine.specs.Meanings.{PropertyDefinition, RuleDefinition, rules_about, rules_meaning}
+use Rattle.std.proofs.Common.{[], ◌∷◌, ◌++◌, inl, inr, refl}
+use Rattle.jm_machine.specs.Meanings.{rules_about, rules_meaning}
 use Rattle.jm_machine.specs.PropertyMeanings.{property_meaning}
 use Rattle.jm_machine.proofs.LawLemmas.{hit_more, rest_more}
 use Rattle.jm_machine.proofs.ProductLemmas.{hit_of}

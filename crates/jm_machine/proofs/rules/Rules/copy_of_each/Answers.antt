@@ -1,5 +1,4 @@
 use Rattle.std.proofs.Common.{◌≡◌, [], length, append-nil, sym, subst, arith}
-use Rattle.jm_machine.specs.declared.place.Place.{Place}
 use Rattle.jm_machine.specs.declared.place.Place.TheVariants.{Start}
 use Rattle.jm_machine.specs.Configurations.{AreAfter}
 use Rattle.jm_machine.specs.Places.{IsPlaceAfter}

@@ -1,4 +1,4 @@
-use Rattle.std.proofs.Common.{◌≡◌, ◌<◌, ◌≤◌, ◌∙◌, length, sym, arith}
+use Rattle.std.proofs.Common.{◌≤◌, ◌∙◌, length, sym, arith}
 use Rattle.std.proofs.lemmas.Bool.{false≢true}
 use Rattle.jm_machine.specs.Formulas.{is_grammar}
 use Rattle.jm_machine.proofs.JoinLemmas.{letter_in, plain_in, plain_some, join_first, join_more, join_all, join_plain}

@@ -1,4 +1,4 @@
-use Rattle.std.proofs.Common.{ℕ, ◌≡◌, ◌≤◌, List}
+use Rattle.std.proofs.Common.{ℕ, ◌≡◌, List}
 use Rattle.jm_machine.specs.Meanings.{first_of}
 use Rattle.jm_machine.specs.Configurations.{AreAfter}
 use Rattle.jm_machine.proofs.HitLemmas.{HasHitsOf}
