@@ -17,7 +17,7 @@ returns-clause-all g c =
     let whole = c.self.view_is ∙ c.take_slots-slots.ensures in
     elim c.match-add_slots_of_dead.branch [
       | in-Ok w ↦
-          let listed = subst (λ (v : Contents g.row.M-State.Denot). AreListed v.index (HasDied v.index dead) slots) whole w.in-Ok.ensures in
+          let listed = subst (λ (v : Contents g.row.M-State.Denot). AreListed v.index (HasDied v.index dead) slots) whole w.in-Ok.ensures.listed in
           let paired = subst
           (λ (v : Contents g.row.M-State.Denot). (k : ℕ) (s : Stored g.row.M-State.Denot) → monitor_at v.monitors k ≡ Some s → Contains {X = Pair} v.index.list (record { binding = s.instance; slot = k }))
           whole c.self.invariant.housed.paired in
