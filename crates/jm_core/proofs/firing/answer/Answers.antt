@@ -1,5 +1,6 @@
 use Rattle.std.proofs.Common.{◌≡◌, refl, ap, ◌∙◌}
 use Rattle.jm_model.specs.declared.step.Outcome.TheVariants.{Fired}
+use Rattle.jm_semantics.specs.Traces.{ParametricEvent}
 use Rattle.jm_core.proofs.FireLemmas.{at_rest, rest_after_done, rest_untouched, outcome_before}
 use Rattle.jm_core.proofs.firing.answer.Goals as goal
 
@@ -51,11 +52,12 @@ returns g c =
     let kept = c.in_default.ensures in
     let fired = c.fire.ensures in
     let mid = c.counted_advance.new.store in
+    let a : ParametricEvent = record { letter = c.args.letter.0; binding = c.args.binding.now } in
     record {
       twice = fired.twice;
       closed = fired.closed;
       fits = fired.fits;
       works = λ trace holds rested.
           let out = fired.works trace (kept.keeps trace holds) (rest_untouched m Stands c.args.objects.now c.args.store.now mid c.args.rest.now kept.stored kept.unmarked rested) in
-          (outcome_before m Stands trace c.args.objects.now _ c.args.store.now mid c.fire.new.store _ kept.stored kept.unmarked out.0, out.1);
+          (outcome_before m Stands trace c.args.objects.now a c.args.store.now mid c.fire.new.store _ kept.stored kept.unmarked out.0, out.1);
     }
