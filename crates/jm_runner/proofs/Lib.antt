@@ -1,5 +1,10 @@
 pub mod PlaceLemmas
 pub mod TableLemmas
+pub mod LineLemmas
+pub mod OrderLemmas
+pub mod PostLemmas
+pub mod NoteLemmas
 pub mod WorkLemmas
 pub mod RunLemmas
 pub mod CrossingLemmas
+mod OrderRows

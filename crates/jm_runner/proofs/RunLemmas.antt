@@ -1,10 +1,12 @@
 -- From what each caller has done to what each specification's history has.
 use Rattle.std.proofs.Common.{◌≡◌, ◌≢◌, ℕ, zero, suc, ◌<◌, ◌≤◌, Bool, true, false, cond, List, [], ◌∷◌, ◌++◌, map, filter, length, Some, get_or, slice_get, refl, sym, ap, ◌∙◌, subst, arith, eq-eqb, inl, inr}
-use Rattle.std.specs.Prelude.{All, Any, ◌==◌, Result, Ok}
-use Rattle.std.specs.Fork.{GivesJobs}
+use Rattle.std.specs.Prelude.{All, Any, Contains, IfOk, ◌==◌, Result, Ok}
+use mathlib.Core.List.{IsPrefix}
+use Rattle.std.specs.Fork.{ChangesEach}
 use Rattle.std.specs.Option.{option_map}
-use Rattle.std.proofs.lemmas.Option.{same_Some, slice_get-map, slice_get_within, slice_get-get_or, get_or_from_slice_get}
+use Rattle.std.proofs.lemmas.Option.{same_Some, slice_get-map, slice_get_read, slice_get_within, slice_get-get_or, get_or_from_slice_get}
 use denote.Param.Members.{Shared}
+use denote.Ref.{MutBor}
 use Rattle.std.proofs.lemmas.List.{length-map}
 use Rattle.std.proofs.lemmas.List.Elements.{All-head, All-tail}
 use Rattle.jm_model.specs.Meanings.{Meaning}
@@ -20,35 +22,45 @@ use Rattle.jm_turn.specs.Seats.{LockModel, SeatModel, IsSeatOf, AreNewcomers, ne
 use Rattle.jm_turn.proofs.Elements.{all_from_places, place_from_all, get_snoc}
 use Rattle.jm_script.specs.declared.script.ScriptLine.{ScriptLine}
 use Rattle.jm_script.specs.Projections.{script_of, spec_of, step_of}
+use Rattle.jm_sync.specs.declared.line.SyncLine.{SyncLine}
 use Rattle.jm_dispatch.specs.declared.watched.Fixed.{Fixed}
 use Rattle.jm_dispatch.specs.Steps.{caller_of}
 use Rattle.jm_runner.specs.Runs.{AreFitSteps, CanRun, IsRunOf, projections_of}
 use Rattle.jm_runner.specs.Tables.{AreColumns}
 use Rattle.jm_runner.specs.Work.{FitsWatches, HasDone, HaveDone}
-use Rattle.jm_runner.specs.Hands.{AreSeatsOfOne, CanWork, FitAll, HasWorked, IsClosed}
-use Rattle.jm_runner.proofs.PlaceLemmas.{get_there}
+use Rattle.jm_runner.specs.Hands.{AreSeatsOfOne, CanWork, FitAll, HasDoneAll, HasWorked, IsClosed}
+use Rattle.jm_runner.specs.Orders.{post_at, wait_at, AreBehind, IsOrdered, KnowsOrder}
+use Rattle.jm_sync.specs.Checks.{ArePostedOnce}
+use Rattle.jm_sync.specs.Cuts.{RisesFrom}
+use Rattle.jm_runner.specs.Notes.{IsNamed, KnowPosts, TakesPart}
+use Rattle.jm_runner.proofs.PlaceLemmas.{get_there, map_get}
+use Rattle.jm_runner.proofs.OrderLemmas.{behind_later, gives_order}
 use Rattle.jm_runner.proofs.WorkLemmas.{newcomer_done}
 
 -- ---- lists
--- what stands at a place of a mapped list comes from that place
-pub map_get : {A B : Type 0} (f : A → B) (xs : List A) (k : ℕ) (y : B) → slice_get (map f xs) k ≡ Some y → (x : A) × (slice_get xs k ≡ Some x) × (y ≡ f x)
-map_get f [] k y e = absurd (cc (e))
-map_get f (x ∷ xs) zero y e = (x, refl, sym (same_Some (f x) y e))
-map_get f (x ∷ xs) (suc k) y e = map_get f xs k y e
-
 pub map_same : {A : Type 0} (xs : List A) → map (λ x. x) xs ≡ xs
 map_same [] = refl
 map_same (x ∷ xs) = ap (λ l. x ∷ l) (map_same xs)
 
--- what the call with a job gave, where all calls gave a value
-pub job_met : {F J T E : Type 0} (g : Shared F (J × Unit {0}) (Result T E)) (f : F) (jobs : List J) (all : List (Result T E)) (values : List T) (k : ℕ) (job : J) (value : T)
-    → GivesJobs g f jobs all → map (λ x. Ok x) values ≡ all → slice_get jobs k ≡ Some job → slice_get values k ≡ Some value → g.post f (job, tt) (Ok value)
-job_met g f jobs all values k job value gives same jat vat =
-    let given = (gives k (Ok value) (slice_get_within jobs k job jat)).1 in
-    let there : slice_get all k ≡ Some (Ok value) = ap (λ l. slice_get l k) (sym same) ∙ slice_get-map (λ x. Ok x) values k ∙ ap (λ o. option_map (λ x. Ok x) o) vat in
-    let gave : get_or all k (Ok value) ≡ Ok value = get_or_from_slice_get all k (Ok value) (Ok value) there in
-    let with : given.job ≡ job = sym (given.job_is job) ∙ get_or_from_slice_get jobs k job job jat in
-    subst (λ r. g.post f (job, tt) r) gave (subst (λ j. g.post f (j, tt) (get_or all k (Ok value))) with given.call.met)
+-- what a slot has at first
+pub at_first : {T E : Type 0} (P : T → Type 0) (hands : List T) (slots : List (Result T E)) (k : ℕ) (x : Result T E) → slots ≡ map (λ h. Ok h) hands → All P hands → k < length slots → x ≡ get_or slots k x → IfOk x P
+at_first {T} {E} P hands slots k x made all less is =
+    let from = map_get (λ h. Ok h) hands k x (ap (λ l. slice_get l k) (sym made) ∙ slice_get_read slots (length slots) k x refl less is) in
+    subst (λ (y : Result T E). IfOk y P) (sym from.2) (place_from_all P hands k from.0 all from.1)
+
+-- what the call at a slot left there, where all calls left a value
+pub slot_met : {F T E : Type 0} (g : Shared F (ℕ × (MutBor (Result T E) × Unit {0})) (Unit {0} × (MutBor (Result T E) × Unit {0}))) (f : F) (R : T → T → Type 0) (before after : List (Result T E)) (hands values : List T) (k : ℕ) (hand value : T)
+    → ((p q : MutBor (Result T E)) → g.post f (k, (p, tt)) (tt, (q, tt)) → IfOk q.now (λ back. IfOk p.now (λ x. R x back))) → ChangesEach g f before after → before ≡ map (λ x. Ok x) hands → map (λ x. Ok x) values ≡ after
+    → slice_get hands k ≡ Some hand → slice_get values k ≡ Some value → R hand value
+slot_met {F} {T} {E} g f R before after hands values k hand value says changes made same hat vat =
+    let had : slice_get before k ≡ Some (Ok hand) = ap (λ l. slice_get l k) made ∙ slice_get-map (λ x. Ok x) hands k ∙ ap (λ o. option_map (λ x. Ok x) o) hat in
+    let has : slice_get after k ≡ Some (Ok value) = ap (λ l. slice_get l k) (sym same) ∙ slice_get-map (λ x. Ok x) values k ∙ ap (λ o. option_map (λ x. Ok x) o) vat in
+    let call = (changes k (Ok hand) (slice_get_within before k (Ok hand) had)).1 in
+    let was : call.argument.now ≡ Ok hand = call.argument_is ∙ get_or_from_slice_get before k (Ok hand) (Ok hand) had in
+    let is : call.after_call.now ≡ Ok value = call.left ∙ get_or_from_slice_get after k (Ok value) (Ok hand) has in
+    let said = says call.argument call.after_call call.call in
+    let back = subst (λ (r : Result T E). IfOk r (λ b. IfOk call.argument.now (λ x. R x b))) is said in
+    subst (λ (r : Result T E). IfOk r (λ x. R x value)) was back
 
 -- what holds at each place of three lists holds with one place more
 pub related_more : {A B C : Type 0} (R : A → B → C → Type 0) (ls : List A) (bs : List B) (cs more : List C) (n : ℕ) (a : A) (b : B) (c : C) → length ls ≡ n → length cs ≡ n → more ≡ cs ++ c ∷ []
@@ -190,6 +202,26 @@ module _ {D : Type 0} (m : Meaning) (scripts : List (List ScriptLine)) (s : ℕ)
           };
         }
 
+    -- what each caller knows of its waits gives the order of the history
+    pub in_order : (cuts : List (List SyncLine)) → length cuts ≡ length scripts
+        → ((j : ℕ) (seat : SeatModel Entry (Fixed D)) (lines : List SyncLine) → slice_get seats j ≡ Some seat → slice_get cuts j ≡ Some lines → (k p q name : ℕ) (script : List ScriptLine) (posts : List SyncLine)
+        → slice_get scripts k ≡ Some script → slice_get cuts k ≡ Some posts → Contains posts (post_at p name) → Contains lines (wait_at q name) → KnowsOrder k p (projection_of (script_of script) s) q seat)
+        → IsOrdered prop.entries cuts
+    in_order cuts size known k p j q name posts waits pat wat posted waited =
+        let k_within : k < length cuts = slice_get_within cuts k posts pat in
+        let j_within : j < length cuts = slice_get_within cuts j waits wat in
+        let poster = get_there seats k (omega arith) in
+        let waiter = get_there seats j (omega arith) in
+        let did = at_seat k poster.0 poster.1 in
+        let number : waiter.0.number ≡ j = (at_seat j waiter.0 waiter.1).2.number in
+        let steps = projection_of (script_of did.0) s in
+        let knows = known j waiter.0 waits waiter.1 wat k p q name did.0 posts did.1 pat posted waited in
+        let poster_own : map line_and_step (entries_by caller_of k prop.entries) ≡ steps = ap (map line_and_step) (own_at k poster.0 poster.1 did.2.number) ∙ did.2.entries in
+        let waiter_own : entries_by caller_of j prop.entries ≡ entries_by caller_of j waiter.0.seen = own_at j waiter.0 waiter.1 number ∙ ap (λ n. entries_by caller_of n waiter.0.seen) number in
+        let seen : IsPrefix waiter.0.seen prop.entries = place_from_all (λ (x : SeatModel Entry (Fixed D)). IsPrefix x.seen prop.entries) seats j waiter.0 closed.seen waiter.1 in
+        let behind : AreBehind k p steps j q waiter.0.seen = subst (λ (n : ℕ). AreBehind k p steps n q waiter.0.seen) number knows.behind in
+        gives_order prop.entries steps k p j q poster_own (behind_later k p steps j q waiter.0.seen prop.entries seen waiter_own behind)
+
 -- ---- a whole run, over lists of watches with their seats
 module _ {F : Type 0} where
   -- the number of the first seat is the caller's
@@ -202,12 +234,41 @@ module _ {F : Type 0} where
   pub some_seat : (k : ℕ) (script : List ScriptLine) (watches : List (LockModel F)) (seats : List (SeatModel Entry F)) → 1 ≤ length watches → HaveDone k script watches seats → 0 < length seats
   some_seat k script watches seats some h = let size = h.count in omega arith
 
-  pub has_worked : (n : ℕ) (mine : List ScriptLine) (watches : List (LockModel F)) (scripts : List (List ScriptLine)) (before after : List (SeatModel Entry F)) (seat : SeatModel Entry F) → 1 ≤ length watches
-      → slice_get before 0 ≡ Some seat → n ≡ seat.number → slice_get scripts n ≡ Some mine → HaveDone n mine watches after → HasWorked watches scripts before after
-  has_worked n mine watches scripts before after seat some first number mat done k script idle at =
+  pub has_worked : (n : ℕ) (mine : List ScriptLine) (watches : List (LockModel F)) (scripts : List (List ScriptLine)) (cuts : List (List SyncLine)) (before after : List (SeatModel Entry F)) (seat : SeatModel Entry F)
+      → 1 ≤ length watches → slice_get before 0 ≡ Some seat → n ≡ seat.number → slice_get scripts n ≡ Some mine → HaveDone n mine watches after
+      → ((lines : List SyncLine) → slice_get cuts n ≡ Some lines → KnowPosts scripts cuts lines after) → HasWorked watches scripts cuts before after
+  has_worked n mine watches scripts cuts before after seat some first number mat done know k script idle at =
       let same : n ≡ k = number ∙ first_number k [] watches before seat some idle first in
       let is : mine ≡ script = same_Some mine script (sym mat ∙ ap (λ j. slice_get scripts j) same ∙ at) in
-      subst (λ (j : ℕ). HaveDone j script watches after) same (subst (λ (x : List ScriptLine). HaveDone n x watches after) is done)
+      record {
+        done = subst (λ (j : ℕ). HaveDone j script watches after) same (subst (λ (x : List ScriptLine). HaveDone n x watches after) is done);
+        know = λ lines lat. know lines (ap (λ j. slice_get cuts j) same ∙ lat);
+      }
+
+  -- a caller's part in a run that is named
+  module _ (js given : List (List ScriptLine)) (jc asked : List (List SyncLine)) (jw watches : List (LockModel F)) (names : ℕ) (named : IsNamed js jc jw given asked watches names) (n : ℕ) (mine : List ScriptLine) (lines : List SyncLine)
+      (mat : slice_get given n ≡ Some mine) (lat : slice_get asked n ≡ Some lines) where
+    pub part_of : TakesPart js jc jw n mine lines watches
+    part_of = record {
+      script_there = ap (λ l. slice_get l n) named.scripts_are ∙ mat;
+      lines_there = ap (λ l. slice_get l n) named.cuts_are ∙ lat;
+      same = named.watches_are;
+      once = subst (λ (l : List (List SyncLine)). ArePostedOnce l) (sym named.cuts_are) named.once;
+      rising = place_from_all (λ (l : List SyncLine). RisesFrom 1 l) asked n lines named.rising lat;
+    }
+
+    pub names_below : All (λ l. l.name < names) lines
+    names_below = place_from_all (λ (l : List SyncLine). All (λ (x : SyncLine). x.name < names) l) asked n lines named.below lat
+
+    pub worked_named : (before after : List (SeatModel Entry F)) (seat : SeatModel Entry F) → 1 ≤ length watches → slice_get before 0 ≡ Some seat → n ≡ seat.number → HaveDone n mine watches after → KnowPosts js jc lines after
+        → HasWorked watches given asked before after
+    worked_named before after seat some first number done know =
+        has_worked n mine watches given asked before after seat some first number mat done
+        (λ theirs tat.
+        let same : lines ≡ theirs = same_Some lines theirs (sym lat ∙ tat) in
+        subst (λ (l : List SyncLine). KnowPosts given asked l after) same
+        (subst (λ (l : List (List ScriptLine)). KnowPosts l asked lines after) named.scripts_are
+        (subst (λ (l : List (List SyncLine)). KnowPosts js l lines after) named.cuts_are know)))
 
 module _ {D R V : Type 0} (meaning : D → Meaning) (scripts : List (List ScriptLine)) (running : List R) (watch_of : R → LockModel (Fixed D)) (seats_of : R → V) (items : V → List (SeatModel Entry (Fixed D)))
     (watches : List (LockModel (Fixed D))) (rows : List V) (watches_are : watches ≡ map watch_of running) (rows_are : rows ≡ map seats_of running)
@@ -246,9 +307,9 @@ module _ {D R V : Type 0} (meaning : D → Meaning) (scripts : List (List Script
         let within : k < length hands = slice_get_within hands k v at in
         record { some = some; few = few; fits = all_fit; caller = k; has_script = omega arith; idle = idle_hand k v at })
 
-    module _ (back : List V) (hand_count : length hands ≡ length scripts) (back_count : length back ≡ length hands)
-        (worked : (k : ℕ) (before after : V) → slice_get hands k ≡ Some before → slice_get back k ≡ Some after → HasWorked watches scripts (items before) (items after)) where
-      back_at : (k : ℕ) (script : List ScriptLine) (v : V) → slice_get scripts k ≡ Some script → slice_get back k ≡ Some v → HaveDone k script watches (items v)
+    module _ (cuts : List (List SyncLine)) (back : List V) (hand_count : length hands ≡ length scripts) (back_count : length back ≡ length hands)
+        (worked : (k : ℕ) (before after : V) → slice_get hands k ≡ Some before → slice_get back k ≡ Some after → HasWorked watches scripts cuts (items before) (items after)) where
+      back_at : (k : ℕ) (script : List ScriptLine) (v : V) → slice_get scripts k ≡ Some script → slice_get back k ≡ Some v → HasDoneAll watches scripts cuts k script (items v)
       back_at k script v sat at =
           let within : k < length back = slice_get_within back k v at in
           let hand = get_there hands k (omega arith) in
@@ -258,7 +319,7 @@ module _ {D R V : Type 0} (meaning : D → Meaning) (scripts : List (List Script
       back_long = all_from_places (λ v. length (items v) ≡ length watches) back (λ k v at.
           let within : k < length back = slice_get_within back k v at in
           let script = get_there scripts k (omega arith) in
-          (back_at k script.0 v script.1 at).count)
+          (back_at k script.0 v script.1 at).done.count)
 
       module _ (all : List V) (all_are : AreColumns (map items back) (map items all)) (s : ℕ) (v : V) (at : slice_get all s ≡ Some v) where
         done_by : (watch : LockModel (Fixed D)) → slice_get watches s ≡ Some watch
@@ -267,7 +328,7 @@ module _ {D R V : Type 0} (meaning : D → Meaning) (scripts : List (List Script
         done_by watch wat = done_column watches scripts (map items back) (map items all) s watch (items v) (length-map back items ∙ back_count ∙ hand_count)
             (λ k script row sat rat.
             let b = map_get items back k row rat in
-            subst (λ (l : List (SeatModel Entry (Fixed D))). HaveDone k script watches l) (sym b.2) (back_at k script b.0 sat b.1))
+            subst (λ (l : List (SeatModel Entry (Fixed D))). HaveDone k script watches l) (sym b.2) (back_at k script b.0 sat b.1).done)
             all_are wat (slice_get-map items all s ∙ ap (λ o. option_map items o) at)
 
         pub all_of_one : (watch : LockModel (Fixed D)) → slice_get watches s ≡ Some watch → AreSeatsOfOne watch (items v)
@@ -282,3 +343,19 @@ module _ {D R V : Type 0} (meaning : D → Meaning) (scripts : List (List Script
             let wat : slice_get watches s ≡ Some (watch_of r) = ap (λ l. slice_get l s) watches_are ∙ slice_get-map watch_of running s ∙ ap (λ o. option_map watch_of o) rat in
             let d = done_by (watch_of r) wat in
             run_of (meaning (watch_of r).fixed.definition) scripts s (watch_of r) (items v) d.0 d.1 prop closed
+
+        -- what the seats that came back know of their callers' waits
+        known : (j : ℕ) (seat : SeatModel Entry (Fixed D)) (lines : List SyncLine) → slice_get (items v) j ≡ Some seat → slice_get cuts j ≡ Some lines → length cuts ≡ length scripts → (k p q name : ℕ) (script : List ScriptLine) (posts : List SyncLine)
+            → slice_get scripts k ≡ Some script → slice_get cuts k ≡ Some posts → Contains posts (post_at p name) → Contains lines (wait_at q name) → KnowsOrder k p (projection_of (script_of script) s) q seat
+        known j seat lines sat lat size k p q name script posts kat pat posted waited =
+            let within : j < length cuts = slice_get_within cuts j lines lat in
+            let mine = get_there scripts j (omega arith) in
+            let r = all_are.same s j (items v) seat (slice_get-map items all s ∙ ap (λ o. option_map items o) at) sat in
+            let b = map_get items back j r.row r.there in
+            (back_at j mine.0 b.0 mine.1 b.1).know lines lat s seat (ap (λ (l : List (SeatModel Entry (Fixed D))). slice_get l s) (sym b.2) ∙ r.here) k p q name script posts kat pat posted waited
+
+        pub is_ordered : (r : R) (prop : Core D) → slice_get running s ≡ Some r → length cuts ≡ length scripts → IsClosed (meaning (watch_of r).fixed.definition) (watch_of r) (items v) prop → IsOrdered prop.entries cuts
+        is_ordered r prop rat size closed =
+            let wat : slice_get watches s ≡ Some (watch_of r) = ap (λ l. slice_get l s) watches_are ∙ slice_get-map watch_of running s ∙ ap (λ o. option_map watch_of o) rat in
+            let d = done_by (watch_of r) wat in
+            in_order (meaning (watch_of r).fixed.definition) scripts s (watch_of r) (items v) d.0 d.1 prop closed cuts size (λ j seat lines sat lat. known j seat lines sat lat size)

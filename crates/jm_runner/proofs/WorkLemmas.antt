@@ -1,6 +1,6 @@
 -- What a seat has done after one step more, and a caller after one line more.
 use Rattle.std.proofs.Common.{◌≡◌, ◌≢◌, ℕ, ◌+◌, ◌<◌, true, false, List, [], ◌∷◌, ◌++◌, map, filter, length, Some, slice_get, slice_set, refl, sym, ap, ◌∙◌, subst, arith, inl, inr}
-use Rattle.std.specs.Prelude.{OnOk, Result, Ok, Err}
+use Rattle.std.specs.Prelude.{IfOk, OnOk, Result, Ok, Err}
 use Rattle.std.proofs.lemmas.Option.{same_Some, slice_get_within}
 use Rattle.std.proofs.lemmas.List.{map-append, length-set}
 use Rattle.std.proofs.lemmas.List.Elements.{All-nil, All-push, All-same, filter-append}
@@ -15,22 +15,26 @@ use Rattle.jm_script.specs.declared.script.ScriptLine.{ScriptLine}
 use Rattle.jm_script.specs.Projections.{script_of, line_of, spec_of, step_of}
 use Rattle.jm_dispatch.specs.declared.acts.Answer.{Answer}
 use Rattle.jm_dispatch.specs.Steps.{Stepped, caller_of, entry_of}
+use Rattle.jm_runner.specs.Orders.{KeepOrder}
 use Rattle.jm_runner.specs.Work.{HasDone, DoesStep, DoesLine, HaveDone, AreSeatsOf, DoesLineBelow}
 use Rattle.jm_runner.proofs.PlaceLemmas.{get_there, set_cases, set_other}
+use Rattle.jm_runner.proofs.NoteLemmas.{projection-append, step_keeps, keeps_self}
 
 -- what follows from what was done, follows where it was done
 pub on_ok : {A E : Type 0} {P Q : Type 0} (r : Result A E) → (P → Q) → OnOk r P → OnOk r Q
 on_ok (Ok x) f h = f h
 on_ok (Err e) f h = tt
 
--- ---- one line more of a projection
-projection-line : (script : List ScriptLine) (line : ScriptLine) (s : ℕ)
-    → projection_of (script_of (script ++ line ∷ [])) s ≡ projection_of (script_of script) s ++ projection_of (script_of (line ∷ [])) s
-projection-line script line s =
-    ap (λ l. projection_of l s) (map-append line_of script (line ∷ []))
-    ∙ ap (λ l. map (λ x. (x.line, x.step)) l) (filter-append (λ l. is_for s l.spec) (script_of script) (script_of (line ∷ [])))
-    ∙ map-append (λ x. (x.line, x.step)) (filter (λ l. is_for s l.spec) (script_of script)) (filter (λ l. is_for s l.spec) (script_of (line ∷ [])))
+pub on_both : {A E : Type 0} {P Q R : Type 0} (r : Result A E) → (P → Q → R) → OnOk r P → OnOk r Q → OnOk r R
+on_both (Ok x) f p q = f p q
+on_both (Err e) f p q = tt
 
+-- what follows from two facts of a value, follows where there is one
+pub both_ok : {A E : Type 0} {P Q R : A → Type 0} (r : Result A E) → ((x : A) → P x → Q x → R x) → IfOk r P → IfOk r Q → IfOk r R
+both_ok (Ok x) f p q = f x p q
+both_ok (Err e) f p q = tt
+
+-- ---- one line more of a projection
 line_for : (line : ScriptLine) (s : ℕ) → is_for s (spec_of line.target) ≡ true → projection_of (script_of (line ∷ [])) s ≡ (line.line, step_of line.target) ∷ []
 line_for line s e = rw e refl
 
@@ -45,29 +49,38 @@ module _ {F : Type 0} where
   -- a step that was made is done
   pub step_done : (m : Meaning) (watch : LockModel F) (line : ℕ) (step : Step) (answer : Answer) (before after : SeatModel Entry F) → Stepped m line step answer before after
       → answer.outcome ≢ NoMemory → DoesStep watch line step before after
-  step_done m watch line step answer before after made fine k steps h =
-      let entry = entry_of before line step answer.outcome in
-      record {
-        lock = ap (λ s. s.lock) made.same ∙ h.lock;
-        number = ap (λ s. s.number) made.same ∙ h.number;
-        entries = ap (λ l. map line_and_step l) made.own ∙ map-append line_and_step (own_entries caller_of before) (entry ∷ []) ∙ ap (λ l. l ++ (line, step) ∷ []) h.entries;
-        done = All-same (λ x. x.outcome ≢ NoMemory) (own_entries caller_of after) (own_entries caller_of before ++ entry ∷ []) made.own
-            (All-push (λ x. x.outcome ≢ NoMemory) (own_entries caller_of before) entry h.done fine);
-      }
+  step_done m watch line step answer before after made fine = record {
+    done = λ k steps h.
+        let entry = entry_of before line step answer.outcome in
+        record {
+          lock = ap (λ s. s.lock) made.same ∙ h.lock;
+          number = ap (λ s. s.number) made.same ∙ h.number;
+          entries = ap (λ l. map line_and_step l) made.own ∙ map-append line_and_step (own_entries caller_of before) (entry ∷ []) ∙ ap (λ l. l ++ (line, step) ∷ []) h.entries;
+          done = All-same (λ x. x.outcome ≢ NoMemory) (own_entries caller_of after) (own_entries caller_of before ++ entry ∷ []) made.own
+              (All-push (λ x. x.outcome ≢ NoMemory) (own_entries caller_of before) entry h.done fine);
+        };
+    keeps = step_keeps m line step answer before after made;
+  }
 
   -- a line that is for the specification is done by its step, and any other is done by nothing
   pub line_done : (watch : LockModel F) (s : ℕ) (line : ScriptLine) (step : Step) (before after : SeatModel Entry F) → is_for s (spec_of line.target) ≡ true → step ≡ step_of line.target
       → DoesStep watch line.line step before after → DoesLine watch s line before after
-  line_done watch s line step before after e same does k script h =
-      subst (λ (steps : List (ℕ × Step)). HasDone k steps watch after)
-      (ap (λ x. projection_of (script_of script) s ++ (line.line, x) ∷ []) same ∙ ap (λ l. projection_of (script_of script) s ++ l) (sym (line_for line s e)) ∙ sym (projection-line script line s))
-      (does k (projection_of (script_of script) s) h)
+  line_done watch s line step before after e same does = record {
+    done = λ k script h.
+        subst (λ (steps : List (ℕ × Step)). HasDone k steps watch after)
+        (ap (λ x. projection_of (script_of script) s ++ (line.line, x) ∷ []) same ∙ ap (λ l. projection_of (script_of script) s ++ l) (sym (line_for line s e)) ∙ sym (projection-append script (line ∷ []) s))
+        (does.done k (projection_of (script_of script) s) h);
+    keeps = does.keeps;
+  }
 
   pub line_skipped : (watch : LockModel F) (s : ℕ) (line : ScriptLine) (seat : SeatModel Entry F) → is_for s (spec_of line.target) ≡ false → DoesLine watch s line seat seat
-  line_skipped watch s line seat e k script h =
-      subst (λ (steps : List (ℕ × Step)). HasDone k steps watch seat)
-      (append_none (projection_of (script_of script) s) ∙ ap (λ l. projection_of (script_of script) s ++ l) (sym (line_not_for line s e)) ∙ sym (projection-line script line s))
-      h
+  line_skipped watch s line seat e = record {
+    done = λ k script h.
+        subst (λ (steps : List (ℕ × Step)). HasDone k steps watch seat)
+        (append_none (projection_of (script_of script) s) ∙ ap (λ l. projection_of (script_of script) s ++ l) (sym (line_not_for line s e)) ∙ sym (projection-append script (line ∷ []) s))
+        h;
+    keeps = keeps_self seat;
+  }
 
   -- ---- a line, watch by watch
   pub line_below_none : (watches : List (LockModel F)) (line : ScriptLine) (seats : List (SeatModel Entry F)) → DoesLineBelow 0 watches line seats seats
@@ -108,8 +121,14 @@ module _ {F : Type 0} where
         let within : s < length watches = slice_get_within watches s watch wat in
         let size : length before ≡ length watches = h.count in
         let old = get_there before s (omega arith) in
-        does.below s watch old.0 seat within wat old.1 at k script (h.each s watch old.0 wat old.1);
+        (does.below s watch old.0 seat within wat old.1 at).done k script (h.each s watch old.0 wat old.1);
   }
+
+  pub lines_keep : (line : ScriptLine) (watches : List (LockModel F)) (before after : List (SeatModel Entry F)) → AreSeatsOf watches before → DoesLineBelow (length watches) watches line before after → KeepOrder before after
+  lines_keep line watches before after are does s old new oat nat =
+      let within : s < length before = slice_get_within before s old oat in
+      let watch = get_there watches s (omega (arith, are.count)) in
+      (does.below s watch.0 old new (slice_get_within watches s watch.0 watch.1) watch.1 oat nat).keeps
 
   pub seats_of_done : (k : ℕ) (script : List ScriptLine) (watches : List (LockModel F)) (seats : List (SeatModel Entry F)) → HaveDone k script watches seats → AreSeatsOf watches seats
   seats_of_done k script watches seats h = record { count = h.count; each = λ s watch seat wat at. (h.each s watch seat wat at).lock }

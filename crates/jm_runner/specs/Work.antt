@@ -12,6 +12,7 @@ use Rattle.jm_script.specs.declared.script.ScriptLine.{ScriptLine}
 use Rattle.jm_script.specs.Projections.{script_of, spec_of, step_of}
 use Rattle.jm_dispatch.specs.declared.watched.Fixed.{Fixed}
 use Rattle.jm_dispatch.specs.Steps.{caller_of}
+use Rattle.jm_runner.specs.Orders.{KeepsOrder}
 
 module _ {F : Type 0} where
   -- Seat k of the watch, whose own entries are these steps, in order. None met want of memory.
@@ -21,16 +22,18 @@ module _ {F : Type 0} where
     pub entries : map line_and_step (own_entries caller_of seat) ≡ steps
     pub done : All (λ x. x.outcome ≢ NoMemory) (own_entries caller_of seat)
 
-  -- the seat has done one step more
-  abbrev pub DoesStep : LockModel F → ℕ → Step → SeatModel Entry F → SeatModel Entry F → Type 0
-  DoesStep watch line step before after = (k : ℕ) (steps : List (ℕ × Step)) → HasDone k steps watch before
-      → HasDone k (steps ++ (line, step) ∷ []) watch after
+  -- the seat has done one step more, and knows still what it knew of order
+  pub record DoesStep (watch : LockModel F) (line : ℕ) (step : Step) (before after : SeatModel Entry F) : Type 0 where
+    pub done : (k : ℕ) (steps : List (ℕ × Step)) → HasDone k steps watch before
+        → HasDone k (steps ++ (line, step) ∷ []) watch after
+    pub keeps : KeepsOrder before after
 
-  -- the seat has done what one line more has for specification s
-  abbrev pub DoesLine : LockModel F → ℕ → ScriptLine → SeatModel Entry F → SeatModel Entry F → Type 0
-  DoesLine watch s line before after = (k : ℕ) (script : List ScriptLine)
-      → HasDone k (projection_of (script_of script) s) watch before
-      → HasDone k (projection_of (script_of (script ++ line ∷ [])) s) watch after
+  -- the seat has done what one line more has for specification s, and knows still what it knew of order
+  pub record DoesLine (watch : LockModel F) (s : ℕ) (line : ScriptLine)
+      (before after : SeatModel Entry F) : Type 0 where
+    pub done : (k : ℕ) (script : List ScriptLine) → HasDone k (projection_of (script_of script) s) watch before
+        → HasDone k (projection_of (script_of (script ++ line ∷ [])) s) watch after
+    pub keeps : KeepsOrder before after
 
   -- Caller k has one seat of each watch, in order, and has done this script on them.
   pub record HaveDone (k : ℕ) (script : List ScriptLine) (watches : List (LockModel F))

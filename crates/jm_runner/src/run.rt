@@ -1,15 +1,22 @@
-ghost use Rattle.std.specs.Prelude.{◌≡◌, ◌≤◌, ℕ, length, map, vec_len, slice_get, Some, IfOk};
+ghost use Rattle.std.specs.Prelude.{◌≡◌, ◌<◌, ◌≤◌, ◌-◌, ◌^◌, ℕ, [], All, length, map, vec_len, slice_get, Some, IfOk};
+ghost use Rattle.jm_sync.specs.Checks.{ArePostedOnce, AreSound, sync_of};
+ghost use Rattle.jm_sync.specs.Cuts.{RisesFrom};
+ghost use Rattle.jm_runner.specs.Orders.{IsOrdered};
 ghost use Rattle.jm_runner.specs.Runs.{CanRun, IsRunOf};
 
 use crate::closing::close_all;
 use crate::gate::Gate;
+use crate::notices::Notices;
+use crate::parcel::Naming;
 use crate::table::columns;
 use crate::workers::work_all;
 use jm_core::Prop;
 use jm_dispatch::{Seat, Watch};
 use jm_model::{Monitor, NoMemory};
 use jm_script::Script;
+use jm_sync::Cut;
 use std::alloc::Global;
+use std::marker::Brand;
 use std::sync::Wait;
 use std::thread::Threads;
 
@@ -44,11 +51,96 @@ where
         → slice_get props.items s ≡ Some p
         → IsRunOf (M.meaning r.watch.fixed.definition) scripts.now s r.watch.fixed p) }
 {
+    let cuts = no_cuts(alloc, scripts.len())?;
+    run_with_notes(rt, alloc, watches, scripts, &cuts, gate)
+}
+
+/// The same, where scripts ask for order: each has its cut, and no fault is in these. Each history has its entries in
+/// that order. A line that posts a name lets the lines that wait for it go on, and tells them what was done above it. A
+/// worker that stops for want of memory gives up the names that it hasn't posted; so does one that waits for such a
+/// name, and the answer is NoMemory. That a wait ends isn't promised: where no thread can be had, a script may wait for
+/// one that comes after it.
+pub fn run_with_notes<M: Monitor + Send, G: Gate, R: Threads + Wait + Sync>(
+    rt: &R,
+    alloc: Global,
+    watches: Vec<Running<M>>,
+    scripts: &[Script],
+    cuts: &[Cut],
+    gate: &G,
+) -> Result<Vec<Prop<M>>, NoMemory>
+where
+    M::State: Send,
+    requires watches { (1 ≤ vec_len watches) × (vec_len watches ≤ 16) }
+    requires scripts { (1 ≤ length scripts.now) × (length scripts.now ≤ 16) }
+    requires ready { (s : ℕ) (r : _) → slice_get watches.items s ≡ Some r
+        → CanRun (M.meaning r.watch.fixed.definition) scripts.now s r.watch r.seats.items }
+    requires cuts { length cuts.now ≡ length scripts.now }
+    requires rising { All (λ cut. RisesFrom 1 cut.lines.items) cuts.now }
+    requires names { All (λ cut. All (λ l. l.name < 2 ^ 32 - 1) cut.lines.items) cuts.now }
+    requires sound { AreSound (sync_of cuts.now) }
+    ensures count { IfOk result (λ props. vec_len props ≡ vec_len watches) }
+    ensures runs { IfOk result (λ props. (s : ℕ) (r : _) (p : _) → slice_get watches.items s ≡ Some r
+        → slice_get props.items s ≡ Some p
+        → IsRunOf (M.meaning r.watch.fixed.definition) scripts.now s r.watch.fixed p) }
+    ensures ordered { IfOk result (λ props. All (λ p. IsOrdered p.entries (sync_of cuts.now)) props.items) }
+{
+    run_as::<M, Brand, G, R>(rt, alloc, watches, scripts, cuts, gate)
+}
+
+/// The same, where the naming is this run's.
+fn run_as<
+    M: Monitor + Send,
+    J: Naming<M::Definition> + Send + Sync,
+    G: Gate,
+    R: Threads + Wait + Sync,
+>(
+    rt: &R,
+    alloc: Global,
+    watches: Vec<Running<M>>,
+    scripts: &[Script],
+    cuts: &[Cut],
+    gate: &G,
+) -> Result<Vec<Prop<M>>, NoMemory>
+where
+    M::State: Send,
+    requires watches { (1 ≤ vec_len watches) × (vec_len watches ≤ 16) }
+    requires scripts { (1 ≤ length scripts.now) × (length scripts.now ≤ 16) }
+    requires ready { (s : ℕ) (r : _) → slice_get watches.items s ≡ Some r
+        → CanRun (M.meaning r.watch.fixed.definition) scripts.now s r.watch r.seats.items }
+    requires cuts { length cuts.now ≡ length scripts.now }
+    requires rising { All (λ cut. RisesFrom 1 cut.lines.items) cuts.now }
+    requires names { All (λ cut. All (λ l. l.name < 2 ^ 32 - 1) cut.lines.items) cuts.now }
+    requires once { ArePostedOnce (sync_of cuts.now) }
+    requires scripts_named { J.scripts ≡ scripts.now }
+    requires cuts_named { J.cuts ≡ sync_of cuts.now }
+    requires watches_named { J.watches ≡ map (λ r. r.watch) watches.items }
+    ensures count { IfOk result (λ props. vec_len props ≡ vec_len watches) }
+    ensures runs { IfOk result (λ props. (s : ℕ) (r : _) (p : _) → slice_get watches.items s ≡ Some r
+        → slice_get props.items s ≡ Some p
+        → IsRunOf (M.meaning r.watch.fixed.definition) scripts.now s r.watch.fixed p) }
+    ensures ordered { IfOk result (λ props. All (λ p. IsOrdered p.entries (sync_of cuts.now)) props.items) }
+{
+    let notices: Notices<M, J> = Notices::new(alloc, cuts)?;
     let (watches, seats) = part(alloc, watches)?;
     let hands = columns(alloc, seats, scripts.len())?;
-    let back = work_all(rt, alloc, &watches, scripts, hands, gate)?;
+    let back = work_all(rt, alloc, &watches, scripts, cuts, &notices, hands, gate)?;
     let seats = columns(alloc, back, watches.len())?;
     close_all(alloc, watches, seats)
+}
+
+/// So many scripts that ask for nothing.
+fn no_cuts(alloc: Global, count: usize) -> Result<Vec<Cut>, NoMemory>
+    ensures count { IfOk result (λ cuts. vec_len cuts ≡ count) }
+    ensures none { IfOk result (λ cuts. All (λ cut. cut.lines.items ≡ []) cuts.items) }
+{
+    let mut cuts = Vec::new(alloc);
+    for _k in 0..count {
+        cuts.push(Cut {
+            rest: Vec::new(alloc),
+            lines: Vec::new(alloc),
+        })?;
+    }
+    Ok(cuts)
 }
 
 /// The watches, and their seats.

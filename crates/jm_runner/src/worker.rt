@@ -1,39 +1,157 @@
 //! What one caller does.
-ghost use Rattle.std.specs.Prelude.{◌≡◌, ◌<◌, ◌≤◌, [], ◌∷◌, ◌++◌, All, IfOk, OnOk, length};
+ghost use Rattle.std.specs.Prelude.{◌≡◌, ◌<◌, ◌≤◌, [], ◌∷◌, ◌++◌, All, IfOk, OnOk, drop, length, take, vec_len};
 ghost use Rattle.jm_core.specs.Steps.{IsFitStep};
 ghost use Rattle.jm_turn.specs.Seats.{IsSeatOf};
+ghost use Rattle.jm_script.specs.Meanings.{RisesFrom};
+ghost use Rattle.jm_runner.specs.Orders.{KeepOrder};
+ghost use Rattle.jm_runner.specs.Notes.{KnowPosts, TakesPart};
 ghost use Rattle.jm_runner.specs.Work.{AreSeatsOf, DoesLine, DoesLineBelow, DoesStep, FitsWatch, FitsWatches, HaveDone};
 
 use crate::gate::Gate;
+use crate::notices::Notices;
+use crate::parcel::Naming;
 use jm_dispatch::{Seat, Watch};
 use jm_model::{Monitor, NoMemory, Outcome, Step};
 use jm_script::{Script, ScriptLine};
+use jm_sync::Cut;
 use std::alloc::Global;
 use std::sync::Wait;
 
-/// Does a script's lines in order, on one seat of each watch.
-pub(crate) fn work<M: Monitor, G: Gate>(
+/// Does a script's lines in order, on one seat of each watch, and passes the lines that ask for order where they stand.
+/// A caller that stops gives up the names that it hasn't posted.
+pub(crate) fn work<M: Monitor, J: Naming<M::Definition>, G: Gate>(
     rt: &impl Wait,
     alloc: Global,
     watches: &[Watch<M>],
     caller: u32,
     mut seats: Vec<Seat<M>>,
     script: &Script,
+    cut: &Cut,
+    notices: &Notices<M, J>,
     gate: &G,
 ) -> Result<Vec<Seat<M>>, NoMemory>
     requires few { length watches.now ≤ 16 }
     requires seats { HaveDone caller [] watches.now seats.items }
     requires fits { All (λ line. FitsWatches M.meaning watches.now line) script.now }
-    ensures { IfOk result (λ back. HaveDone caller script.now watches.now back.items) }
+    requires part { TakesPart J.scripts J.cuts J.watches caller script.now cut.now.lines.items watches.now }
+    requires names { All (λ l. l.name < notices.now) cut.now.lines.items }
+    ensures done { IfOk result (λ back. HaveDone caller script.now watches.now back.items) }
+    ensures know { IfOk result (λ back. KnowPosts J.scripts J.cuts cut.now.lines.items back.items) }
 {
-    let mut n = 0u32;
-    for line in script.lines() {
-        n = n.saturating_add(1);
+    let mut passed = 0;
+    match do_script(
+        rt,
+        alloc,
+        watches,
+        caller,
+        &mut seats,
+        script.lines(),
+        cut,
+        notices,
+        gate,
+        &mut passed,
+    ) {
+        Ok(()) => Ok(seats),
+        Err(refused) => {
+            notices.give_up(rt, &cut.lines[passed..]);
+            Err(refused)
+        }
+    }
+}
+
+/// Does all lines, and counts those that were passed.
+fn do_script<M: Monitor, J: Naming<M::Definition>, G: Gate>(
+    rt: &impl Wait,
+    alloc: Global,
+    watches: &[Watch<M>],
+    caller: u32,
+    seats: &mut Vec<Seat<M>>,
+    lines: &[ScriptLine],
+    cut: &Cut,
+    notices: &Notices<M, J>,
+    gate: &G,
+    passed: &mut usize,
+) -> Result<(), NoMemory>
+    requires few { length watches.now ≤ 16 }
+    requires seats { HaveDone caller [] watches.now seats.old.items }
+    requires fits { All (λ line. FitsWatches M.meaning watches.now line) lines.now }
+    requires part { TakesPart J.scripts J.cuts J.watches caller lines.now cut.now.lines.items watches.now }
+    requires rising { RisesFrom 1 lines.now }
+    requires names { All (λ l. l.name < notices.now) cut.now.lines.items }
+    requires none { passed.old ≡ 0 }
+    ensures passed { passed.new ≤ vec_len cut.now.lines }
+    ensures done { OnOk result (HaveDone caller lines.now watches.now seats.new.items) }
+    ensures know { OnOk result (KnowPosts J.scripts J.cuts cut.now.lines.items seats.new.items) }
+{
+    let mut done = 0;
+    for sync in &cut.lines {
+        let above = first_from(lines, done, sync.line);
+        do_lines(rt, alloc, watches, caller, seats, lines, done, above, gate)?;
+        notices.pass(rt, alloc, watches, seats, *sync)?;
+        done = above;
+        *passed += 1;
+    }
+    do_lines(
+        rt,
+        alloc,
+        watches,
+        caller,
+        seats,
+        lines,
+        done,
+        lines.len(),
+        gate,
+    )
+}
+
+/// The first place, from `from` on, whose line doesn't stand above this one.
+fn first_from(lines: &[ScriptLine], from: usize, number: u32) -> usize
+    requires within { from ≤ length lines.now }
+    requires rising { RisesFrom 1 lines.now }
+    requires above { All (λ l. l.line < number) (take from lines.now) }
+    ensures within { (from ≤ result) × (result ≤ length lines.now) }
+    ensures above { All (λ l. l.line < number) (take result lines.now) }
+    ensures below { All (λ l. number ≤ l.line) (drop result lines.now) }
+{
+    for place in from..lines.len() {
+        if number <= lines[place].line {
+            return place;
+        }
+    }
+    lines.len()
+}
+
+/// Does the lines from a place up to another. The gate counts them from 1.
+fn do_lines<M: Monitor, G: Gate>(
+    rt: &impl Wait,
+    alloc: Global,
+    watches: &[Watch<M>],
+    caller: u32,
+    seats: &mut Vec<Seat<M>>,
+    lines: &[ScriptLine],
+    from: usize,
+    to: usize,
+    gate: &G,
+) -> Result<(), NoMemory>
+    requires few { length watches.now ≤ 16 }
+    requires places { (from ≤ to) × (to ≤ length lines.now) }
+    requires seats { HaveDone caller (take from lines.now) watches.now seats.old.items }
+    requires fits { All (λ line. FitsWatches M.meaning watches.now line) lines.now }
+    ensures done { OnOk result (HaveDone caller (take to lines.now) watches.now seats.new.items) }
+    ensures keep { OnOk result (KeepOrder seats.old.items seats.new.items) }
+{
+    for place in from..to {
+        let n = number_of(place);
         gate.before(caller, n);
-        do_line(rt, alloc, watches, &mut seats, line)?;
+        do_line(rt, alloc, watches, seats, &lines[place])?;
         gate.after(caller, n);
     }
-    Ok(seats)
+    Ok(())
+}
+
+/// The number of a line by its place.
+fn number_of(place: usize) -> u32 {
+    u32::try_from(place).unwrap_or(u32::MAX).saturating_add(1)
 }
 
 /// Does a line on each watch that it is for, in order.

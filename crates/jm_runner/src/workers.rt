@@ -1,54 +1,91 @@
 //! The workers: each has the seats of one caller, and a thread of its own where one can be had.
 ghost use Rattle.std.specs.Prelude.{◌≡◌, ℕ, All, IfOk, Ok, Some, map, slice_get, vec_len};
+ghost use Rattle.jm_sync.specs.Checks.{sync_of};
+ghost use Rattle.jm_runner.specs.Notes.{IsNamed};
 ghost use Rattle.jm_runner.specs.Hands.{CanWork, HasWorked};
 ghost use denote.Param.Send.{IsSync};
 
 use crate::gate::Gate;
+use crate::notices::Notices;
+use crate::parcel::{Naming, Parcel};
 use crate::worker::work;
 use jm_dispatch::{Seat, Watch, Watched};
 use jm_model::{Monitor, NoMemory};
 use jm_script::Script;
+use jm_sync::{Board, Cut, GaveUp};
 use jm_turn::Lock;
 use std::alloc::Global;
 use std::sync::Wait;
-use std::thread;
 use std::thread::Threads;
+use std::{mem, thread};
+
+/// One for each script at most.
+const THREADS: usize = 16;
 
 /// All workers do their scripts, each on a thread of its own; where no thread can be had the caller does the work. They
 /// get the seats of one caller each, and give them back.
-pub(crate) fn work_all<M: Monitor + Send, G: Gate, R: Threads + Wait + Sync>(
+pub(crate) fn work_all<
+    M: Monitor + Send,
+    J: Naming<M::Definition> + Send + Sync,
+    G: Gate,
+    R: Threads + Wait + Sync,
+>(
     rt: &R,
     alloc: Global,
     watches: &[Watch<M>],
     scripts: &[Script],
+    cuts: &[Cut],
+    notices: &Notices<M, J>,
     hands: Vec<Vec<Seat<M>>>,
     gate: &G,
 ) -> Result<Vec<Vec<Seat<M>>>, NoMemory>
 where
     M::State: Send,
-    requires { All (λ v. CanWork M.meaning watches.now scripts.now v.items) hands.items }
+    requires hands { All (λ v. CanWork M.meaning watches.now scripts.now v.items) hands.items }
+    requires named { IsNamed J.scripts J.cuts J.watches scripts.now (sync_of cuts.now) watches.now notices.now }
     ensures count { IfOk result (λ back. vec_len back ≡ vec_len hands) }
     ensures worked { IfOk result (λ back. (k : ℕ) (before : _) (after : _) → slice_get hands.items k ≡ Some before
-        → slice_get back.items k ≡ Some after → HasWorked watches.now scripts.now before.items after.items) }
+        → slice_get back.items k ≡ Some after
+        → HasWorked watches.now scripts.now (sync_of cuts.now) before.items after.items) }
 {
-    // The workers share the watches. Two steps show that they may, since the search for all of it ends at its limit.
+    // The workers share the watches and the board. Steps show that they may, since the search for all of it ends at its
+    // limit.
     may_be_shared::<Lock<Watched<M>>>();
     may_be_shared::<Watch<M>>();
-    let done = thread::map_vec(
+    may_be_shared::<Board<Parcel<M, J>, GaveUp>>();
+    may_be_shared::<Notices<M, J>>();
+    let mut slots = all_at_first(alloc, hands)?;
+    // No memory is taken from here on until all are done: no work is left out while another waits for it.
+    thread::for_each_mut(
         rt,
-        hands,
-        &|seats: Vec<Seat<M>>| -> Result<Vec<Seat<M>>, NoMemory>
-            requires { CanWork M.meaning watches.now scripts.now seats.items }
-            ensures { IfOk result (λ back. HasWorked watches.entry.now scripts.entry.now seats.items back.items) }
-        { work_one(rt, alloc, watches, scripts, seats, gate) },
-    )?;
-    all_ok(alloc, done)
+        &mut slots,
+        THREADS,
+        &|_k: usize, slot: &mut Result<Vec<Seat<M>>, NoMemory>|
+            requires can { IfOk slot.now (λ seats. CanWork M.meaning watches.now scripts.now seats.items) }
+            requires named { IsNamed
+                J.scripts J.cuts J.watches scripts.now (sync_of cuts.now) watches.now notices.now }
+            ensures { IfOk slot.exit.now (λ back. IfOk slot.entry.now (λ seats. HasWorked
+                watches.entry.now scripts.entry.now (sync_of cuts.entry.now) seats.items back.items)) }
+        { work_slot(rt, alloc, watches, scripts, cuts, notices, slot, gate) },
+    );
+    all_ok(alloc, slots)
 }
 
 /// Nothing is done: a call shows that values of the type may be shared among threads.
 fn may_be_shared<T: Sync>()
     ensures { IsSync T.row }
 {}
+
+/// A slot for each of them, which has it at first.
+fn all_at_first<T: Drop>(alloc: Global, all: Vec<T>) -> Result<Vec<Result<T, NoMemory>>, NoMemory>
+    ensures { IfOk result (λ slots. slots.items ≡ map (λ x. Ok x) all.items) }
+{
+    let mut slots = Vec::new(alloc);
+    for one in all {
+        slots.push(Ok(one))?;
+    }
+    Ok(slots)
+}
 
 /// What each of them gave, or NoMemory where one gave up.
 fn all_ok<T: Drop>(alloc: Global, all: Vec<Result<T, NoMemory>>) -> Result<Vec<T>, NoMemory>
@@ -61,17 +98,41 @@ fn all_ok<T: Drop>(alloc: Global, all: Vec<Result<T, NoMemory>>) -> Result<Vec<T
     Ok(values)
 }
 
-/// The caller whose seats these are does its script.
-fn work_one<M: Monitor, G: Gate>(
+/// The caller whose seats are in the slot does its script, and puts them back, or NoMemory where it gave up.
+fn work_slot<M: Monitor, J: Naming<M::Definition>, G: Gate>(
     rt: &impl Wait,
     alloc: Global,
     watches: &[Watch<M>],
     scripts: &[Script],
+    cuts: &[Cut],
+    notices: &Notices<M, J>,
+    slot: &mut Result<Vec<Seat<M>>, NoMemory>,
+    gate: &G,
+)
+    requires can { IfOk slot.old (λ seats. CanWork M.meaning watches.now scripts.now seats.items) }
+    requires named { IsNamed J.scripts J.cuts J.watches scripts.now (sync_of cuts.now) watches.now notices.now }
+    ensures { IfOk slot.new (λ back. IfOk slot.old (λ seats. HasWorked
+        watches.now scripts.now (sync_of cuts.now) seats.items back.items)) }
+{
+    if let Ok(seats) = mem::replace(slot, Err(NoMemory)) {
+        *slot = work_one(rt, alloc, watches, scripts, cuts, notices, seats, gate);
+    }
+}
+
+/// The caller whose seats these are does its script.
+fn work_one<M: Monitor, J: Naming<M::Definition>, G: Gate>(
+    rt: &impl Wait,
+    alloc: Global,
+    watches: &[Watch<M>],
+    scripts: &[Script],
+    cuts: &[Cut],
+    notices: &Notices<M, J>,
     seats: Vec<Seat<M>>,
     gate: &G,
 ) -> Result<Vec<Seat<M>>, NoMemory>
-    requires { CanWork M.meaning watches.now scripts.now seats.items }
-    ensures { IfOk result (λ back. HasWorked watches.now scripts.now seats.items back.items) }
+    requires can { CanWork M.meaning watches.now scripts.now seats.items }
+    requires named { IsNamed J.scripts J.cuts J.watches scripts.now (sync_of cuts.now) watches.now notices.now }
+    ensures { IfOk result (λ back. HasWorked watches.now scripts.now (sync_of cuts.now) seats.items back.items) }
 {
     let caller = seats[0].number();
     work(
@@ -81,6 +142,8 @@ fn work_one<M: Monitor, G: Gate>(
         caller,
         seats,
         &scripts[caller as usize],
+        &cuts[caller as usize],
+        notices,
         gate,
     )
 }

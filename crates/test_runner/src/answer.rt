@@ -1,5 +1,6 @@
 use crate::both::both;
 use crate::command::{counted, met};
+use crate::noted::noted;
 use std::alloc::{AllocError, Global};
 use std::sync::Wait;
 use std::thread::Threads;
@@ -16,6 +17,7 @@ pub(crate) fn answer<R: Threads + Wait + Sync>(
         "met" => met(rt, alloc, case),
         "counted" => counted(rt, alloc, case),
         "both" => or_no_memory(alloc, both(rt, alloc, case)),
+        "noted" => or_no_memory(alloc, noted(rt, alloc, case)),
         _ => String::from_str(alloc, "no such verb"),
     }
 }

@@ -26,25 +26,36 @@ pub(crate) fn both<R: Threads + Wait + Sync>(
     alloc: Global,
     case: &Case,
 ) -> Result<String, NoMemory> {
-    let Some((first, second)) = scripts(alloc, text_of(case.text.as_slice())) else {
+    let Some((first, second)) = text_of(case.text.as_slice()).split_once('\n') else {
+        return Ok(String::from_str(alloc, "no two scripts")?);
+    };
+    let Some((first, second)) = scripts(alloc, first, second) else {
         return Ok(String::from_str(alloc, "no two scripts")?);
     };
     let missed = Arc::new(alloc, AtomicU64::new(0))?;
     let props = run_both(rt, alloc, first, second, &missed)?;
-    let mut shown = format!(in alloc; "{} missed", missed.load(Ordering::SeqCst))?;
-    for prop in &props {
-        for entry in &prop.history().entries(alloc)? {
-            put_line(&mut shown, entry_shown(alloc, entry)?.as_str())?;
-        }
-    }
-    Ok(shown)
+    let missed = missed.load(Ordering::SeqCst);
+    shown(alloc, format!(in alloc; "{missed} missed")?, &props)
 }
 
-/// The scripts of two lines, over specifications `A` and `B` with an event `go` of one object.
-fn scripts(alloc: Global, text: &str) -> Option<(Script, Script)>
+/// Puts the histories behind a text, line by line.
+pub(crate) fn shown(
+    alloc: Global,
+    mut text: String,
+    props: &[Prop<Meet>],
+) -> Result<String, NoMemory> {
+    for prop in props {
+        for entry in &prop.history().entries(alloc)? {
+            put_line(&mut text, entry_shown(alloc, entry)?.as_str())?;
+        }
+    }
+    Ok(text)
+}
+
+/// The scripts of two texts, over specifications `A` and `B` with an event `go` of one object.
+pub(crate) fn scripts(alloc: Global, first: &str, second: &str) -> Option<(Script, Script)>
     ensures { IfSome result (λ r. FitsBoth r.0 × FitsBoth r.1) }
 {
-    let (first, second) = text.split_once('\n')?;
     let catalog = two_specifications(alloc)?;
     let first = script(alloc, first, &catalog)?;
     let second = script(alloc, second, &catalog)?;
@@ -125,7 +136,7 @@ fn run_both<R: Threads + Wait + Sync>(
     run_scripts(rt, alloc, watches, scripts.as_slice(), &FreeGate)
 }
 
-fn meet(
+pub(crate) fn meet(
     own: &Arc<AtomicU64, Global>,
     other: &Arc<AtomicU64, Global>,
     missed: &Arc<AtomicU64, Global>,
@@ -138,14 +149,14 @@ fn meet(
 }
 
 /// A watch for two callers, over two objects.
-fn watched(alloc: Global, meet: Meet) -> Result<Running<Meet>, NoMemory>
+pub(crate) fn watched(alloc: Global, meet: Meet) -> Result<Running<Meet>, NoMemory>
     ensures { IfOk result (λ r. IsFresh r.watch r.seats.items) }
 {
     let (watch, seats) = Watch::new(alloc, meet, 2, 2)?;
     Ok(Running { watch, seats })
 }
 
-fn pair<T: Drop>(alloc: Global, first: T, second: T) -> Result<Vec<T>, NoMemory>
+pub(crate) fn pair<T: Drop>(alloc: Global, first: T, second: T) -> Result<Vec<T>, NoMemory>
     ensures { IfOk result (λ v. v.items ≡ first ∷ second ∷ []) }
 {
     let mut both = Vec::new(alloc);

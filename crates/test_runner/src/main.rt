@@ -7,6 +7,7 @@ mod command;
 mod counting;
 mod meet;
 mod meeting;
+mod noted;
 mod waiting;
 
 use std::io;

@@ -1,57 +1,15 @@
-use Rattle.std.proofs.Common.{◌≡◌, ◌<◌, ◌∙◌, ℕ, length, Some, slice_get, sym, ap, subst, arith}
+use Rattle.std.proofs.Common.{◌<◌, ◌-◌, ◌^◌, length, sym, subst}
 use Rattle.std.specs.Prelude.{All}
-use Rattle.std.proofs.lemmas.List.{length-map}
-use Rattle.std.proofs.lemmas.Result.{IfOk-weaker}
-use Rattle.std.proofs.lemmas.Option.{slice_get_within, slice_get-map}
-use Rattle.std.specs.Option.{option_map}
-use Rattle.jm_runner.proofs.PlaceLemmas.{get_there}
-use Rattle.jm_runner.specs.Hands.{CanWork, HasWorked}
-use Rattle.jm_runner.proofs.RunLemmas.{rows_long, can_work, back_long, all_of_one, is_run}
+use Rattle.jm_sync.specs.Checks.{AreSound, sync_of}
+use Rattle.jm_sync.specs.Cuts.{RisesFrom}
+use Rattle.jm_runner.proofs.PostLemmas.{none_named, none_rising, none_sound}
 use Rattle.jm_runner.proofs.run.run_scripts.Goals as goal
 
-pub columns-requires : goal.columns-requires
-columns-requires g c =
-    rows_long g.M.Monitor.meaning c.args.scripts.now c.args.watches.items (λ r. r.watch) (λ r. r.seats) (λ v. v.items) c.in_ok-watches.watches.items c.in_ok-watches.seats.items
-    c.in_ok-watches.ensures.watches c.in_ok-watches.ensures.seats c.requires.ready
+pub run_with_notes-requires-clause-rising : goal.run_with_notes-requires-clause-rising
+run_with_notes-requires-clause-rising g c κs within = subst (λ l. All (λ cut. RisesFrom 1 cut.lines.items) l) (sym c.deref.ensures.value) (none_rising c.in_ok-cuts.cuts.items c.in_ok-cuts.ensures.none)
 
-pub work_all-requires-after_bounds : goal.work_all-requires-after_bounds
-work_all-requires-after_bounds g c κs within =
-    let size : length c.in_ok-watches.watches.items ≡ length c.args.watches.items = ap length c.in_ok-watches.ensures.watches ∙ length-map c.args.watches.items (λ r. r.watch) in
-    subst (λ w. All (λ v. CanWork g.M.Monitor.meaning w c.args.scripts.now v.items) c.in_ok-hands.hands.items) (sym c.deref.ensures.value) (can_work g.M.Monitor.meaning c.args.scripts.now c.args.watches.items (λ r. r.watch) (λ r. r.seats) (λ v. v.items) c.in_ok-watches.watches.items c.in_ok-watches.seats.items
-    c.in_ok-watches.ensures.watches c.in_ok-watches.ensures.seats c.requires.ready
-    c.in_ok-hands.hands.items c.in_ok-hands.ensures.columns (omega arith) (omega arith) (omega (arith, c.in_ok-hands.ensures.count)))
+pub run_with_notes-requires-clause-names : goal.run_with_notes-requires-clause-names
+run_with_notes-requires-clause-names g c κs within = subst (λ l. All (λ cut. All (λ x. x.name < 2 ^ 32 - 1) cut.lines.items) l) (sym c.deref.ensures.value) (none_named c.in_ok-cuts.cuts.items c.in_ok-cuts.ensures.none (2 ^ 32 - 1))
 
-pub columns-requires-2 : goal.columns-requires-2
-columns-requires-2 g c =
-    let n : c.len.result ≡ length c.in_ok-watches.watches.items = c.len.ensures ∙ c.in_ok-watches.watches.ok.0 in
-    subst (λ (n : ℕ). All (λ v. length v.items ≡ n) c.in_ok-back.back.items) (sym n)
-    (back_long g.M.Monitor.meaning c.args.scripts.now c.args.watches.items (λ r. r.watch) (λ r. r.seats) (λ v. v.items) c.in_ok-watches.watches.items c.in_ok-watches.seats.items
-    c.in_ok-watches.ensures.watches c.in_ok-watches.ensures.seats c.requires.ready
-    c.in_ok-hands.hands.items c.in_ok-hands.ensures.columns c.in_ok-back.back.items (omega (arith, c.in_ok-hands.ensures.count)) (omega (arith, c.in_ok-back.ensures.count))
-    (λ k before after bat aat. subst (λ w. HasWorked w c.args.scripts.now before.items after.items) c.deref.ensures.value (c.in_ok-back.ensures.worked k before after bat aat)))
-
-pub close_all-requires-clause-seats : goal.close_all-requires-clause-seats
-close_all-requires-clause-seats g c = λ s watch all wat aat.
-    all_of_one g.M.Monitor.meaning c.args.scripts.now c.args.watches.items (λ r. r.watch) (λ r. r.seats) (λ v. v.items) c.in_ok-watches.watches.items c.in_ok-watches.seats.items
-    c.in_ok-watches.ensures.watches c.in_ok-watches.ensures.seats c.requires.ready
-    c.in_ok-hands.hands.items c.in_ok-hands.ensures.columns c.in_ok-back.back.items (omega (arith, c.in_ok-hands.ensures.count)) (omega (arith, c.in_ok-back.ensures.count))
-    (λ k before after bat aat. subst (λ w. HasWorked w c.args.scripts.now before.items after.items) c.deref.ensures.value (c.in_ok-back.ensures.worked k before after bat aat))
-    c.in_ok-seats.seats.items c.in_ok-seats.ensures.columns s all aat watch wat
-
-pub returns-clause-runs : goal.returns-clause-runs
-returns-clause-runs g c =
-    IfOk-weaker c.close_all.result _ _
-    (λ props closed s r prop rat pat.
-    let running = c.args.watches.items in
-    let size : length c.in_ok-watches.watches.items ≡ length running = ap length c.in_ok-watches.ensures.watches ∙ length-map running (λ r. r.watch) in
-    let below = slice_get_within running s r rat in
-    let n : c.len.result ≡ length c.in_ok-watches.watches.items = c.len.ensures ∙ c.in_ok-watches.watches.ok.0 in
-    let many : length c.in_ok-seats.seats.items ≡ length running = sym c.in_ok-seats.seats.ok.0 ∙ c.in_ok-seats.ensures.count ∙ n ∙ size in
-    let all = get_there c.in_ok-seats.seats.items s (subst (λ k. s < k) (sym many) below) in
-    let wat : slice_get c.in_ok-watches.watches.items s ≡ Some r.watch = ap (λ l. slice_get l s) c.in_ok-watches.ensures.watches ∙ slice_get-map (λ x. x.watch) running s ∙ ap (λ o. option_map (λ x. x.watch) o) rat in
-    is_run g.M.Monitor.meaning c.args.scripts.now running (λ r. r.watch) (λ r. r.seats) (λ v. v.items) c.in_ok-watches.watches.items c.in_ok-watches.seats.items
-    c.in_ok-watches.ensures.watches c.in_ok-watches.ensures.seats c.requires.ready
-    c.in_ok-hands.hands.items c.in_ok-hands.ensures.columns c.in_ok-back.back.items (omega (arith, c.in_ok-hands.ensures.count)) (omega (arith, c.in_ok-back.ensures.count))
-    (λ k before after bat aat. subst (λ w. HasWorked w c.args.scripts.now before.items after.items) c.deref.ensures.value (c.in_ok-back.ensures.worked k before after bat aat))
-    c.in_ok-seats.seats.items c.in_ok-seats.ensures.columns s all.0 all.1 r prop rat (closed s r.watch all.0 prop wat all.1 pat))
-    c.close_all.ensures.closed
+pub run_with_notes-requires-clause-sound : goal.run_with_notes-requires-clause-sound
+run_with_notes-requires-clause-sound g c κs within = subst (λ l. AreSound (sync_of l)) (sym c.deref.ensures.value) (none_sound c.in_ok-cuts.cuts.items c.in_ok-cuts.ensures.none)

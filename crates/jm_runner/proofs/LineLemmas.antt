@@ -1,0 +1,47 @@
+-- Lines whose numbers rise.
+use Rattle.std.proofs.Common.{◌≡◌, ℕ, zero, suc, ◌+◌, ◌<◌, ◌≤◌, List, [], ◌∷◌, ◌++◌, length, take, drop, Some, slice_get, refl, sym, ap, subst, arith}
+use Rattle.std.specs.Prelude.{All}
+use Rattle.std.proofs.lemmas.Option.{none-some, same_Some}
+use Rattle.std.proofs.lemmas.List.Elements.{All-nil, All-cons, All-weaker, All-push, All-same}
+use Rattle.jm_script.specs.declared.script.ScriptLine.{ScriptLine}
+use Rattle.jm_script.specs.Meanings.{RisesFrom}
+use Rattle.jm_sync.specs.declared.line.SyncLine.{SyncLine}
+use Rattle.jm_sync.specs.Cuts.{RisesFrom as SyncRisesFrom}
+use Rattle.jm_runner.proofs.PlaceLemmas.{take_place}
+
+-- ---- step lines
+all_from : (n : ℕ) (lines : List ScriptLine) → RisesFrom n lines → All (λ x. n ≤ x.line) lines
+all_from n [] rising = All-nil (λ (x : ScriptLine). n ≤ x.line)
+all_from n (l ∷ lines) rising =
+    let first : n ≤ l.line = rising.0 in
+    All-cons (λ (x : ScriptLine). n ≤ x.line) l lines first (All-weaker (λ (x : ScriptLine). l.line + 1 ≤ x.line) (λ (x : ScriptLine). n ≤ x.line) (λ x low. omega arith) lines (all_from (l.line + 1) lines rising.1))
+
+-- a line that isn't above a number, and all lines from it on
+pub from_place : (n number : ℕ) (lines : List ScriptLine) (place : ℕ) (l : ScriptLine) → RisesFrom n lines → slice_get lines place ≡ Some l → number ≤ l.line → All (λ x. number ≤ x.line) (drop place lines)
+from_place n number [] place l rising at low = absurd (none-some l at)
+from_place n number (x ∷ lines) zero l rising at low =
+    let first : number ≤ x.line = subst (λ (y : ScriptLine). number ≤ y.line) (sym (same_Some x l at)) low in
+    All-cons (λ (y : ScriptLine). number ≤ y.line) x lines first (All-weaker (λ (y : ScriptLine). x.line + 1 ≤ y.line) (λ (y : ScriptLine). number ≤ y.line) (λ y later. omega arith) lines (all_from (x.line + 1) lines rising.1))
+from_place n number (x ∷ lines) (suc place) l rising at low = from_place (x.line + 1) number lines place l rising.1 at low
+
+-- one line more that is above a number
+pub above_more : (number : ℕ) (lines : List ScriptLine) (place : ℕ) (l : ScriptLine) → slice_get lines place ≡ Some l → l.line < number → All (λ x. x.line < number) (take place lines) → All (λ x. x.line < number) (take (place + 1) lines)
+above_more number lines place l at low above = All-same (λ (x : ScriptLine). x.line < number) (take (place + 1) lines) (take place lines ++ l ∷ []) (take_place lines place l at) (All-push (λ (x : ScriptLine). x.line < number) (take place lines) l above low)
+
+-- ---- lines that ask for order
+sync_from : (n : ℕ) (lines : List SyncLine) (place : ℕ) (l : SyncLine) → SyncRisesFrom n lines → slice_get lines place ≡ Some l → n ≤ l.line
+sync_from n [] place l rising at = absurd (none-some l at)
+sync_from n (x ∷ lines) zero l rising at = subst (λ (y : SyncLine). n ≤ y.line) (same_Some x l at) rising.0
+sync_from n (x ∷ lines) (suc place) l rising at =
+    let later : x.line + 1 ≤ l.line = sync_from (x.line + 1) lines place l rising.1 at in
+    let first : n ≤ x.line = rising.0 in
+    omega arith
+
+pub sync_rises : (n : ℕ) (lines : List SyncLine) (i m : ℕ) (a b : SyncLine) → SyncRisesFrom n lines → slice_get lines i ≡ Some a → slice_get lines m ≡ Some b → i < m → a.line < b.line
+sync_rises n [] i m a b rising aat bat less = absurd (none-some a aat)
+sync_rises n (x ∷ lines) i zero a b rising aat bat less = absurd (omega arith)
+sync_rises n (x ∷ lines) zero (suc m) a b rising aat bat less =
+    let later : x.line + 1 ≤ b.line = sync_from (x.line + 1) lines m b rising.1 bat in
+    let is : x.line ≡ a.line = ap (λ (y : SyncLine). y.line) (same_Some x a aat) in
+    omega arith
+sync_rises n (x ∷ lines) (suc i) (suc m) a b rising aat bat less = sync_rises (x.line + 1) lines i m a b rising.1 aat bat (omega arith)
