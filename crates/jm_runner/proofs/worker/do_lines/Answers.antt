@@ -29,3 +29,8 @@ loop-place-preserved g c =
       done = subst (λ (l : List ScriptLine). HaveDone k l watches new) (sym (take_place lines place line at)) (lines_done k (take place lines) line watches old new i.done c.in_ok-do_line.ensures);
       keep = keep_trans c.args.seats.now.items old new (i.done.count ∙ sym c.requires.seats.count) i.keep (lines_keep line watches old new are c.in_ok-do_line.ensures);
     }
+
+pub returns-clause-done : goal.returns-clause-done
+returns-clause-done g c =
+    let same : c.loop-place.place ≡ c.args.to = omega arith in
+    subst (λ n. HaveDone c.args.caller (take n c.args.lines.now) c.args.watches.now c.loop-place.seats.items) same c.loop-place.invariant.done

@@ -1,4 +1,4 @@
-use Rattle.std.proofs.Common.{◌≡◌, ◌+◌, ◌<◌, ◌∙◌, List, length, take, get_or, Some, slice_get, refl, sym, ap, subst, arith}
+use Rattle.std.proofs.Common.{◌≡◌, ◌+◌, ◌<◌, ◌≤◌, ◌∙◌, List, length, take, get_or, Some, slice_get, refl, sym, ap, subst, arith}
 use Rattle.std.specs.Prelude.{All}
 use Rattle.std.proofs.lemmas.Grind.{common_steps}
 use Rattle.std.proofs.lemmas.Option.{slice_get-get_or}
@@ -22,11 +22,15 @@ loop-sync-init g c = record {
   know = know_none g.J.Naming.scripts g.J.Naming.cuts c.args.seats.now.items;
 }
 
-pub first_from-requires-clause-above : goal.first_from-requires-clause-above
-first_from-requires-clause-above g c =
+pub first_from-above-requires-clause-above : goal.first_from-above-requires-clause-above
+first_from-above-requires-clause-above g c =
     let asked = c.args.cut.now.lines.items in
     let i = c.loop-sync.sync-index in
-    c.loop-sync.invariant.above i (get_or asked i (record { line = 0; kind = Post; name = 0 })) (omega arith) (slice_get-get_or asked i (record { line = 0; kind = Post; name = 0 }) (omega arith))
+    let listed = c.deref-sync-items.result.now in
+    let line = get_or listed i (record { line = 0; kind = Post; name = 0 }) in
+    let there : slice_get asked i ≡ Some line = ap (λ v. slice_get v i) (sym c.deref-sync-items.ensures.value) ∙ slice_get-get_or listed i (record { line = 0; kind = Post; name = 0 }) c.loop-sync-test.true in
+    let self : i ≤ i = omega arith in
+    c.loop-sync.invariant.above i line self there
 
 pub pass-requires-clause-seats : goal.pass-requires-clause-seats
 pass-requires-clause-seats g c = seats_of_done c.args.caller (take c.first_from-above.result c.args.lines.now) c.args.watches.now c.do_lines.new.seats.items c.in_ok-do_lines.ensures.done
@@ -41,8 +45,9 @@ pass-requires-clause-know g c =
     let lines = c.args.lines.now in
     let asked = c.args.cut.now.lines.items in
     let i = c.loop-sync.sync-index in
-    let line = get_or asked i (record { line = 0; kind = Post; name = 0 }) in
-    let there : slice_get asked i ≡ Some line = slice_get-get_or asked i (record { line = 0; kind = Post; name = 0 }) (omega arith) in
+    let listed = c.deref-sync-items.result.now in
+    let line = get_or listed i (record { line = 0; kind = Post; name = 0 }) in
+    let there : slice_get asked i ≡ Some line = ap (λ v. slice_get v i) (sym c.deref-sync-items.ensures.value) ∙ slice_get-get_or listed i (record { line = 0; kind = Post; name = 0 }) c.loop-sync-test.true in
     let n = c.first_from-above.result in
     let before = c.loop-sync.seats.items in
     let middle = c.do_lines.new.seats.items in
@@ -58,8 +63,9 @@ loop-sync-preserved g c =
     let lines = c.args.lines.now in
     let asked = c.args.cut.now.lines.items in
     let i = c.loop-sync.sync-index in
-    let line = get_or asked i (record { line = 0; kind = Post; name = 0 }) in
-    let there : slice_get asked i ≡ Some line = slice_get-get_or asked i (record { line = 0; kind = Post; name = 0 }) (omega arith) in
+    let listed = c.deref-sync-items.result.now in
+    let line = get_or listed i (record { line = 0; kind = Post; name = 0 }) in
+    let there : slice_get asked i ≡ Some line = ap (λ v. slice_get v i) (sym c.deref-sync-items.ensures.value) ∙ slice_get-get_or listed i (record { line = 0; kind = Post; name = 0 }) c.loop-sync-test.true in
     let n = c.first_from-above.result in
     let before = c.loop-sync.seats.items in
     let middle = c.do_lines.new.seats.items in
@@ -82,7 +88,7 @@ do_lines-requires-2-clause-seats g c κs within = c.loop-sync.invariant.done
 pub returns-clause-done : goal.returns-clause-done
 returns-clause-done g c =
     let lines = c.args.lines.now in
-    on_ok c.do_lines-2.result (λ h. subst (λ (l : List ScriptLine). HaveDone c.args.caller l c.args.watches.now c.do_lines-2.new.seats.items) (take_all c.len.result lines (omega (arith, c.len.ensures))) h) c.do_lines-2.ensures.done
+    on_ok c.do_lines-2.result (λ h. subst (λ (l : List ScriptLine). HaveDone c.args.caller l c.args.watches.now c.do_lines-2.new.seats.items) (take_all c.do_lines-arg-2-1.result lines (omega arith)) h) c.do_lines-2.ensures.done
 
 pub returns-clause-know : goal.returns-clause-know
 returns-clause-know g c =

@@ -7,3 +7,6 @@ returns-in-Post g c = on_ok c.post.result (post_passes g.J.Naming.scripts g.J.Na
 
 pub returns-in-Wait : goal.returns-in-Wait
 returns-in-Wait g c = on_both c.wait.result (wait_passes g.J.Naming.scripts g.J.Naming.cuts c.args.line.kind c.args.line.name c.args.seats.now.items c.wait.new.seats.items) c.wait.ensures.more c.wait.ensures.told
+
+pub post-requires-clause-know : goal.post-requires-clause-know
+post-requires-clause-know g c = c.requires.know c.in-Post.is
