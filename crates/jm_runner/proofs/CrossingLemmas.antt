@@ -13,7 +13,14 @@ use Rattle.atomic_table.proofs.send_lease.SendLease.TheSendSync as lease
 use Rattle.atomic_table.proofs.shared.Seat.TheSendSync as seat
 use Rattle.jm_turn.specs.contracts.lock.Lock as Lock
 use Rattle.jm_turn.specs.contracts.seat.Seat as Seat
+use Rattle.jm_turn.specs.contracts.seat.Note as Note
 use Rattle.jm_turn.specs.declared.kept.Kept as Kept
+use Rattle.jm_sync.specs.contracts.board.Board as Board
+use Rattle.jm_sync.specs.contracts.shelves.Shelves as Shelves
+use Rattle.jm_sync.specs.declared.shelves.Posted as Posted
+use Rattle.jm_runner.specs.contracts.parcel.Parcel as Parcel
+use Rattle.jm_runner.specs.contracts.notices.Notices as Notices
+use Rattle.jm_runner.specs.declared.parcel.Naming as Naming
 use denote.RattleType.{RattleType}
 use denote.Param.Send.{IsSend, IsSync, sendable}
 
@@ -36,3 +43,20 @@ module _ (V E F : RattleType) (k : Kept.Ghosts V.Denot E.Denot F.Denot) where
 
   pub seat_row : IsSend V → IsSend (Seat.the_row V E F k)
   seat_row s = search (seat.the_send, crosses, sendable) depth 100 fits 20000
+
+  pub note_row : IsSend V → IsSend (Note.the_row V E F k)
+  note_row s = search (seat.the_send, crosses, sendable) depth 100 fits 20000
+
+module _ (T W : RattleType) (t : Posted.Ghosts T.Denot) (w : Posted.Ghosts W.Denot) where
+  shelves_row : IsSend T → IsSend W → IsSend (Shelves.the_row T W t w)
+  shelves_row st sw = search (crosses, maps, sendable) depth 100 fits 20000
+
+  pub board_row : IsSend T → IsSend W → IsSync (Board.the_row T W t w)
+  board_row st sw = search (shelves_row, crosses, maps, sendable) depth 100 fits 20000
+
+module _ (M J S D : RattleType) (m : Monitor.Ghosts M.Denot S.Denot D.Denot) (n : Naming.Ghosts J.Denot D.Denot) where
+  pub parcel_row : IsSend M → IsSend J → IsSend S → IsSend (Parcel.the_row M J S D m n)
+  parcel_row sm sj ss = search (watched_row, note_row, crosses, maps, sendable) depth 100 fits 20000
+
+  pub notices_row : IsSend M → IsSend J → IsSend S → IsSync (Notices.the_row M J S D m n)
+  notices_row sm sj ss = search (parcel_row, board_row, crosses, maps, sendable) depth 100 fits 20000

@@ -1,5 +1,5 @@
 -- From what each caller has done to what each specification's history has.
-use Rattle.std.proofs.Common.{◌≡◌, ◌≢◌, ℕ, zero, suc, ◌<◌, ◌≤◌, Bool, true, false, cond, List, [], ◌∷◌, ◌++◌, map, filter, length, Some, get_or, slice_get, refl, sym, ap, ◌∙◌, subst, arith, eq-eqb, inl, inr}
+use Rattle.std.proofs.Common.{◌≡◌, ◌≢◌, ℕ, zero, suc, ◌<◌, ◌≤◌, Bool, true, false, cond, List, [], ◌∷◌, ◌++◌, map, filter, length, take, Some, get_or, slice_get, refl, sym, ap, ◌∙◌, subst, arith, eq-eqb, inl, inr}
 use Rattle.std.specs.Prelude.{All, Any, Contains, IfOk, ◌==◌, Result, Ok}
 use mathlib.Core.List.{IsPrefix}
 use Rattle.std.specs.Fork.{ChangesEach}
@@ -61,6 +61,14 @@ slot_met {F} {T} {E} g f R before after hands values k hand value says changes m
     let said = says call.argument call.after_call call.call in
     let back = subst (λ (r : Result T E). IfOk r (λ b. IfOk call.argument.now (λ x. R x b))) is said in
     subst (λ (r : Result T E). IfOk r (λ x. R x value)) was back
+
+-- the front of two lists, as long as the first, is the first
+pub front_only : {A : Type 0} (n : ℕ) (xs ys : List A) → n ≡ length xs → take n (xs ++ ys) ≡ xs
+front_only n xs ys e = rw e (front_of xs ys)
+  where
+    front_of : {A : Type 0} (xs ys : List A) → take (length xs) (xs ++ ys) ≡ xs
+    front_of [] ys = refl
+    front_of (x ∷ xs) ys = ap (λ l. x ∷ l) (front_of xs ys)
 
 -- what holds at each place of three lists holds with one place more
 pub related_more : {A B C : Type 0} (R : A → B → C → Type 0) (ls : List A) (bs : List B) (cs more : List C) (n : ℕ) (a : A) (b : B) (c : C) → length ls ≡ n → length cs ≡ n → more ≡ cs ++ c ∷ []

@@ -91,17 +91,8 @@ fn do_script<M: Monitor, J: Naming<M::Definition>, G: Gate>(
         done = above;
         *passed += 1;
     }
-    do_lines(
-        rt,
-        alloc,
-        watches,
-        caller,
-        seats,
-        lines,
-        done,
-        lines.len(),
-        gate,
-    )
+    let all = lines.len();
+    do_lines(rt, alloc, watches, caller, seats, lines, done, all, gate)
 }
 
 /// The first place, from `from` on, whose line doesn't stand above this one.

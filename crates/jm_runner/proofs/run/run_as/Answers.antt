@@ -1,5 +1,5 @@
 use Rattle.std.proofs.Common.{◌≡◌, ◌<◌, ◌-◌, ◌^◌, ◌∙◌, ℕ, length, Some, slice_get, sym, ap, subst, arith}
-use Rattle.std.specs.Prelude.{All}
+use Rattle.std.specs.Prelude.{All, vec_len}
 use Rattle.std.proofs.lemmas.List.Elements.{All-map}
 use Rattle.jm_turn.proofs.Elements.{all_from_places}
 use Rattle.jm_sync.specs.Checks.{sync_of}
@@ -79,12 +79,13 @@ returns-clause-runs g c =
 
 pub returns-clause-ordered : goal.returns-clause-ordered
 returns-clause-ordered g c =
-    both_ok {P = λ props. length props.items ≡ length c.args.watches.items} {Q = λ props. _} c.close_all.result
+    both_ok {P = λ props. vec_len props ≡ vec_len c.in_ok-watches.watches} {Q = λ props. _} c.close_all.result
     (λ props many_props closed. all_from_places (λ p. IsOrdered p.entries (sync_of c.args.cuts.now)) props.items
     (λ s prop pat.
     let running = c.args.watches.items in
     let size : length c.in_ok-watches.watches.items ≡ length running = ap length c.in_ok-watches.ensures.watches ∙ length-map running (λ r. r.watch) in
-    let below : s < length running = subst (λ k. s < k) many_props (slice_get_within props.items s prop pat) in
+    let there : s < length props.items = slice_get_within props.items s prop pat in
+    let below : s < length running = omega (arith, there, many_props, props.ok.0, c.in_ok-watches.watches.ok.0, size) in
     let r = get_there running s below in
     let n : c.len.result ≡ length c.in_ok-watches.watches.items = c.len.ensures ∙ c.in_ok-watches.watches.ok.0 in
     let many : length c.in_ok-seats.seats.items ≡ length running = sym c.in_ok-seats.seats.ok.0 ∙ c.in_ok-seats.ensures.count ∙ n ∙ size in

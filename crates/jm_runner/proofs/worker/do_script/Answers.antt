@@ -88,7 +88,7 @@ do_lines-requires-2-clause-seats g c κs within = c.loop-sync.invariant.done
 pub returns-clause-done : goal.returns-clause-done
 returns-clause-done g c =
     let lines = c.args.lines.now in
-    on_ok c.do_lines-2.result (λ h. subst (λ (l : List ScriptLine). HaveDone c.args.caller l c.args.watches.now c.do_lines-2.new.seats.items) (take_all c.do_lines-arg-2-1.result lines (omega arith)) h) c.do_lines-2.ensures.done
+    on_ok c.do_lines-2.result (λ h. subst (λ (l : List ScriptLine). HaveDone c.args.caller l c.args.watches.now c.do_lines-2.new.seats.items) (take_all (length lines) lines (omega arith)) h) c.do_lines-2.ensures.done
 
 pub returns-clause-know : goal.returns-clause-know
 returns-clause-know g c =

@@ -2,10 +2,11 @@ use Rattle.std.proofs.Crossing.{crosses}
 use Rattle.std.proofs.MapsCrossing.{crosses as maps}
 use Rattle.std.proofs.lemmas.Result.{IfOk-weaker}
 use Rattle.atomic_table.proofs.shared.Seat.TheSendSync as seat
-use Rattle.jm_runner.proofs.CrossingLemmas.{watched_row, lock_row}
+use Rattle.jm_runner.proofs.CrossingLemmas.{watched_row, lock_row, board_row, parcel_row, notices_row}
+use Rattle.std.proofs.Common.{◌≡◌, ◌∙◌, length, ap, arith}
 use Rattle.jm_sync.specs.Checks.{sync_of}
 use Rattle.jm_runner.specs.Hands.{CanWork, HasWorked}
-use Rattle.jm_runner.proofs.RunLemmas.{at_first, slot_met}
+use Rattle.jm_runner.proofs.RunLemmas.{at_first, front_only, slot_met}
 use mir.Syntax.{w8}
 use denote.Array.{Array}
 use denote.Plain.{UInt}
@@ -28,29 +29,48 @@ may_be_shared-requires-2-sync-T g c κs within =
 
 -- parcels cross threads, so a board of them may be shared
 pub may_be_shared-requires-3-sync-T : goal.may_be_shared-requires-3-sync-T
-may_be_shared-requires-3-sync-T g c κs within = search (watched_row, seat.the_send, crosses, maps, sendable) depth 100 fits 20000
+may_be_shared-requires-3-sync-T g c κs within = search (parcel_row, board_row, crosses, maps, sendable) depth 100 fits 20000
 
 -- notices have a board and numbers
 pub may_be_shared-requires-4-sync-T : goal.may_be_shared-requires-4-sync-T
-may_be_shared-requires-4-sync-T g c κs within =
-    let board = c.may_be_shared-3.ensures in
-    search (board, crosses, maps, sendable) depth 100 fits 20000
+may_be_shared-requires-4-sync-T g c κs within = search (notices_row, crosses, maps, sendable) depth 100 fits 20000
 
 -- What is in a slot may cross threads. This is shown apart from the work, whose facts the search would try too.
-slot_sent : (g : Over) → IsSend (asked.M-row g.row.M g.row.J g.row.G g.row.R g.row.M-State g.row.M-Definition) → IsSend (asked.M-State-row g.row.M g.row.J g.row.G g.row.R g.row.M-State g.row.M-Definition) → (κs : _) → IsSend (param 1 (place.arg-5-1 g.row.M g.row.J g.row.G g.row.R g.row.M-State g.row.M-Definition g.M.laws g.J.laws g.G.laws g.R.laws g.M.State.laws g.M.Definition.laws g.M.Monitor g.M.Monitor-dict g.J.Naming g.J.Naming-dict g.G.Gate g.G.Gate-dict g.R.Threads g.R.Threads-dict g.R.Wait g.R.Wait-dict g.M.Destruct-dict g.M.State.Destruct-dict κs))
+slot_sent : (g : Over) → IsSend (asked.M-row g.row.M g.row.J g.row.G g.row.R g.row.M-State g.row.M-Definition) → IsSend (asked.M-State-row g.row.M g.row.J g.row.G g.row.R g.row.M-State g.row.M-Definition) → (κs : _) → IsSend (param 1 (place.arg-8-1 g.row.M g.row.J g.row.G g.row.R g.row.M-State g.row.M-Definition g.M.laws g.J.laws g.G.laws g.R.laws g.M.State.laws g.M.Definition.laws g.M.Monitor g.M.Monitor-dict g.J.Naming g.J.Naming-dict g.G.Gate g.G.Gate-dict g.R.Threads g.R.Threads-dict g.R.Wait g.R.Wait-dict g.M.Destruct-dict g.M.State.Destruct-dict κs))
 slot_sent g rules_cross states_cross κs = search (watched_row, seat.the_send, crosses, maps, sendable) depth 100 fits 20000
 
 pub for_each_mut-requires-send-T : goal.for_each_mut-requires-send-T
 for_each_mut-requires-send-T g c κs within = slot_sent g c.type_bounds.send-M c.type_bounds.send-M-State κs
 
+-- The rules, the naming and the states of a call may cross threads, as those of the caller may.
+rules_sent : (g : Over) → IsSend (asked.M-row g.row.M g.row.J g.row.G g.row.R g.row.M-State g.row.M-Definition) → (κs : _) → IsSend (param 0 (place.impl_arg-8-0 g.row.M g.row.J g.row.G g.row.R g.row.M-State g.row.M-Definition g.M.laws g.J.laws g.G.laws g.R.laws g.M.State.laws g.M.Definition.laws g.M.Monitor g.M.Monitor-dict g.J.Naming g.J.Naming-dict g.G.Gate g.G.Gate-dict g.R.Threads g.R.Threads-dict g.R.Wait g.R.Wait-dict g.M.Destruct-dict g.M.State.Destruct-dict κs))
+rules_sent g cross κs = search (crosses, maps, sendable) depth 100 fits 20000
+
+naming_sent : (g : Over) → IsSend (asked.J-row g.row.M g.row.J g.row.G g.row.R g.row.M-State g.row.M-Definition) → (κs : _) → IsSend (param 1 (place.impl_arg-8-1 g.row.M g.row.J g.row.G g.row.R g.row.M-State g.row.M-Definition g.M.laws g.J.laws g.G.laws g.R.laws g.M.State.laws g.M.Definition.laws g.M.Monitor g.M.Monitor-dict g.J.Naming g.J.Naming-dict g.G.Gate g.G.Gate-dict g.R.Threads g.R.Threads-dict g.R.Wait g.R.Wait-dict g.M.Destruct-dict g.M.State.Destruct-dict κs))
+naming_sent g cross κs = search (crosses, maps, sendable) depth 100 fits 20000
+
+states_sent : (g : Over) → IsSend (asked.M-State-row g.row.M g.row.J g.row.G g.row.R g.row.M-State g.row.M-Definition) → (κs : _) → IsSend (param 4 (place.impl_arg-8-4 g.row.M g.row.J g.row.G g.row.R g.row.M-State g.row.M-Definition g.M.laws g.J.laws g.G.laws g.R.laws g.M.State.laws g.M.Definition.laws g.M.Monitor g.M.Monitor-dict g.J.Naming g.J.Naming-dict g.G.Gate g.G.Gate-dict g.R.Threads g.R.Threads-dict g.R.Wait g.R.Wait-dict g.M.Destruct-dict g.M.State.Destruct-dict κs))
+states_sent g cross κs = search (crosses, maps, sendable) depth 100 fits 20000
+
 pub for_each_mut-requires-clause-accepts : goal.for_each_mut-requires-clause-accepts
-for_each_mut-requires-clause-accepts g c κs within = λ i p less is. record {
-  can = at_first (λ v. CanWork g.M.Monitor.meaning c.args.watches.now c.args.scripts.now v.items) c.args.hands.items c.in_ok-slots.slots.items i p.now c.in_ok-slots.ensures c.requires.hands less is;
-  named = c.requires.named;
-}
+for_each_mut-requires-clause-accepts g c κs within = λ i p less is. (
+  at_first (λ v. CanWork g.M.Monitor.meaning c.args.watches.now c.args.scripts.now v.items) c.args.hands.items c.deref_mut.result.now i p.now (c.deref_mut.ensures.value ∙ c.in_ok-slots.ensures) c.requires.hands less is,
+  (
+    c.requires.named,
+    (
+      rules_sent g c.type_bounds.send-M κs,
+      naming_sent g c.type_bounds.send-J κs,
+      states_sent g c.type_bounds.send-M-State κs,
+      search (c.type_bounds.sync-J, sendable),
+      search (c.type_bounds.sync-G, sendable),
+      search (c.type_bounds.sync-R, sendable),
+    ),
+  ),
+)
 
 pub returns-clause-worked : goal.returns-clause-worked
 returns-clause-worked g c =
+    let many : c.in_ok-slots.slots.len ≡ length c.for_each_mut.new.s = omega (arith, c.in_ok-slots.slots.ok.0, c.for_each_mut.auto.s, ap (λ l. length l) c.deref_mut.ensures.value) in
     IfOk-weaker c.all_ok.result _ _ (λ back same k before after bat aat.
-    slot_met _ _ (λ before after. HasWorked c.args.watches.now c.args.scripts.now (sync_of c.args.cuts.now) before.items after.items) c.in_ok-slots.slots.items c.for_each_mut.new.s c.args.hands.items back.items k before after
-    (λ p q post. post) c.for_each_mut.ensures c.in_ok-slots.ensures same bat aat) c.all_ok.ensures
+    slot_met _ _ (λ before after. HasWorked c.args.watches.now c.args.scripts.now (sync_of c.args.cuts.now) before.items after.items) c.deref_mut.result.now c.for_each_mut.new.s c.args.hands.items back.items k before after
+    (λ p q post. post) c.for_each_mut.ensures (c.deref_mut.ensures.value ∙ c.in_ok-slots.ensures) (same ∙ front_only c.in_ok-slots.slots.len c.for_each_mut.new.s _ many) bat aat) c.all_ok.ensures
