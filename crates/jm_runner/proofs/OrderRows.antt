@@ -1,14 +1,12 @@
 -- The order that scripts ask for, at an example: script 0 does lines 1 and 2 and posts a name at line 3; script 1 waits
 -- for it at line 1 and does line 2.
-use Rattle.std.proofs.Common.{◌≡◌, ℕ, zero, suc, ◌<◌, ◌≤◌, List, [], ◌∷◌, ◌++◌, length, get_or, Some, slice_get, refl, arith}
-use Rattle.std.specs.Prelude.{All, Contains}
-use Rattle.std.proofs.lemmas.Option.{none-some, same_Some}
-use Rattle.std.proofs.lemmas.List.Elements.{All-nil, All-cons, All-head, All-tail}
+use Rattle.std.proofs.Common.{◌≡◌, ℕ, ◌≤◌, List, [], ◌∷◌, refl, arith}
+use Rattle.std.proofs.lemmas.List.Elements.{All-head, All-tail}
 use Rattle.jm_model.specs.declared.step.Step.TheVariants.{Pass}
 use Rattle.jm_model.specs.declared.step.Outcome.TheVariants.{Done}
 use Rattle.jm_model.specs.declared.step.Entry.{Entry}
 use Rattle.jm_sync.specs.declared.line.SyncLine.{SyncLine}
-use Rattle.jm_runner.specs.Orders.{post_at, wait_at, AreFrom, StandBefore, IsOrdered}
+use Rattle.jm_runner.specs.Orders.{post_at, wait_at, IsOrdered}
 
 entry : ℕ → ℕ → Entry
 entry caller line = record { caller = caller; line = line; step = Pass; outcome = Done }

@@ -1,9 +1,9 @@
 -- What a seat has done after one step more, and a caller after one line more.
-use Rattle.std.proofs.Common.{◌≡◌, ◌≢◌, ℕ, ◌+◌, ◌<◌, true, false, List, [], ◌∷◌, ◌++◌, map, filter, length, Some, slice_get, slice_set, refl, sym, ap, ◌∙◌, subst, arith, inl, inr}
+use Rattle.std.proofs.Common.{◌≡◌, ◌≢◌, ℕ, ◌+◌, ◌<◌, true, false, List, [], ◌∷◌, ◌++◌, map, length, Some, slice_get, slice_set, refl, sym, ap, ◌∙◌, subst, arith, inl, inr}
 use Rattle.std.specs.Prelude.{IfOk, OnOk, Result, Ok, Err}
 use Rattle.std.proofs.lemmas.Option.{same_Some, slice_get_within}
 use Rattle.std.proofs.lemmas.List.{map-append, length-set}
-use Rattle.std.proofs.lemmas.List.Elements.{All-nil, All-push, All-same, filter-append}
+use Rattle.std.proofs.lemmas.List.Elements.{All-nil, All-push, All-same}
 use Rattle.jm_model.specs.Meanings.{Meaning}
 use Rattle.jm_model.specs.declared.step.Step.{Step}
 use Rattle.jm_model.specs.declared.step.Outcome.TheVariants.{NoMemory}
@@ -12,7 +12,7 @@ use Rattle.jm_semantics.specs.Scripts.{is_for, projection_of}
 use Rattle.jm_core.specs.Replays.{line_and_step}
 use Rattle.jm_turn.specs.Seats.{LockModel, SeatModel, own_entries, newcomer}
 use Rattle.jm_script.specs.declared.script.ScriptLine.{ScriptLine}
-use Rattle.jm_script.specs.Projections.{script_of, line_of, spec_of, step_of}
+use Rattle.jm_script.specs.Projections.{script_of, spec_of, step_of}
 use Rattle.jm_dispatch.specs.declared.acts.Answer.{Answer}
 use Rattle.jm_dispatch.specs.Steps.{Stepped, caller_of, entry_of}
 use Rattle.jm_runner.specs.Orders.{KeepOrder}

@@ -7,7 +7,7 @@ use Rattle.jm_turn.specs.Seats.{LockModel, SeatModel, NoteModel, IsNoteOf, own_e
 use Rattle.jm_script.specs.declared.script.ScriptLine.{ScriptLine}
 use Rattle.jm_script.specs.Projections.{script_of}
 use Rattle.jm_sync.specs.declared.line.SyncKind.{SyncKind}
-use Rattle.jm_sync.specs.declared.line.SyncKind.TheVariants.{Post, Wait}
+use Rattle.jm_sync.specs.declared.line.SyncKind.TheVariants.{Wait}
 use Rattle.jm_sync.specs.declared.line.SyncLine.{SyncLine}
 use Rattle.jm_sync.specs.Checks.{ArePostedOnce}
 use Rattle.jm_sync.specs.Cuts.{RisesFrom}

@@ -1,7 +1,5 @@
-use Rattle.std.proofs.Common.{◌≡◌, ◌∙◌, length, map, take, Some, slice_get, refl, sym, ap, arith}
+use Rattle.std.proofs.Common.{◌≡◌, ◌∙◌, length, Some, slice_get, refl, sym, ap, arith}
 use Rattle.std.proofs.lemmas.Option.{slice_get_read}
-use Rattle.std.proofs.lemmas.List.{take_all}
-use Rattle.jm_turn.specs.Seats.{note_of}
 use Rattle.jm_runner.proofs.PlaceLemmas.{set_back}
 use Rattle.jm_runner.proofs.NoteLemmas.{notes_more}
 use Rattle.jm_runner.proofs.hearing.notes_of.Goals as goal

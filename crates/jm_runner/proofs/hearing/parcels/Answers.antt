@@ -1,6 +1,4 @@
-use Rattle.std.proofs.Common.{◌≡◌, ◌∙◌, map, sym, ap, subst, arith}
-use Rattle.std.proofs.lemmas.Grind.{common_steps}
-use Rattle.std.proofs.lemmas.List.Elements.{All-push, All-same}
+use Rattle.std.proofs.Common.{◌∙◌, map, sym, ap, subst}
 use Rattle.jm_turn.specs.Seats.{note_of}
 use Rattle.jm_runner.specs.Work.{AreSeatsOf}
 use Rattle.jm_runner.proofs.NoteLemmas.{parcel_notes}

@@ -1,4 +1,4 @@
-use Rattle.std.proofs.Common.{◌<◌, ◌-◌, ◌^◌, length, sym, subst}
+use Rattle.std.proofs.Common.{◌<◌, ◌-◌, ◌^◌, sym, subst}
 use Rattle.std.specs.Prelude.{All}
 use Rattle.jm_sync.specs.Checks.{AreSound, sync_of}
 use Rattle.jm_sync.specs.Cuts.{RisesFrom}

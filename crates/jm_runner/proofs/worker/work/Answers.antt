@@ -1,8 +1,6 @@
-use Rattle.std.proofs.Common.{◌<◌, List, sym, subst}
+use Rattle.std.proofs.Common.{List, sym, subst}
 use Rattle.std.specs.Prelude.{All}
-use Rattle.std.proofs.lemmas.List.Elements.{All-drop}
 use Rattle.jm_script.specs.declared.script.ScriptLine.{ScriptLine}
-use Rattle.jm_sync.specs.declared.line.SyncLine.{SyncLine}
 use Rattle.jm_runner.specs.Notes.{TakesPart}
 use Rattle.jm_runner.specs.Work.{FitsWatches, HaveDone}
 use Rattle.jm_runner.proofs.worker.work.Goals as goal

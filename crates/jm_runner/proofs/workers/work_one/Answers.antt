@@ -1,11 +1,9 @@
-use Rattle.std.proofs.Common.{◌≡◌, ◌<◌, [], ℕ, All, List, length, Some, slice_get, sym, ap, ◌∙◌, subst, refl, arith}
+use Rattle.std.proofs.Common.{◌≡◌, [], ℕ, All, List, length, sym, ◌∙◌, subst, refl, arith}
 use Rattle.std.specs.Prelude.{map}
 use Rattle.std.proofs.lemmas.Option.{slice_get_read}
-use Rattle.std.proofs.lemmas.List.{length-map}
 use Rattle.jm_script.specs.declared.script.ScriptLine.{ScriptLine}
 use Rattle.jm_sync.proofs.CheckLemmas.{length-sync_of, script_at}
 use Rattle.jm_turn.proofs.Elements.{place_from_all}
-use Rattle.jm_runner.specs.Hands.{HasWorked}
 use Rattle.jm_runner.specs.Notes.{KnowPosts}
 use Rattle.jm_runner.specs.Work.{FitsWatches, HaveDone}
 use Rattle.jm_runner.proofs.RunLemmas.{first_number, part_of, names_below, some_seat, worked_named}

@@ -1,4 +1,4 @@
-use Rattle.std.proofs.Common.{◌≡◌, ◌∙◌, length, slice_get, sym, ap, subst, arith}
+use Rattle.std.proofs.Common.{◌≡◌, ◌∙◌, length, slice_get, sym, ap, subst}
 use Rattle.jm_runner.specs.Notes.{AreNotesUnder, HearBelow}
 use Rattle.jm_runner.proofs.NoteLemmas.{hear_see, heard_above}
 use Rattle.jm_runner.proofs.notices.Notices.wait.Goals as goal
