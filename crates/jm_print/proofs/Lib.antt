@@ -8,3 +8,4 @@ pub mod TextsTold
 pub mod RunLemmas
 pub mod ListLemmas
 pub mod PieceLemmas
+pub mod PrintLemmas

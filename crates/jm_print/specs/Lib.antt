@@ -1,4 +1,5 @@
 pub mod Lexicons
+pub mod Names
 pub mod Texts
 pub mod Summaries
 pub mod Told

@@ -75,6 +75,33 @@ pub fn render_history(
     Ok(page.into_bytes())
 }
 
+/// The text of one entry of a history, with the lines that follow it, as `render_history` writes it, and under the same
+/// conditions.
+pub fn render_entry(
+    alloc: Global,
+    name: &str,
+    entry: &Entry,
+    table: &EventTable,
+    categories: &Names,
+    handlers: &[Handler],
+    objects: &Names,
+) -> Result<Vec<u8>, NoMemory>
+    requires { IsPrintable (lexicon_of name.now table.now categories.now objects.now handlers.now) entry.now }
+    ensures { IfOk result (λ text. text.items
+        ≡ full_entry_text (lexicon_of name.now table.now categories.now objects.now handlers.now) entry.now) }
+{
+    let printer = Printer {
+        specification: name,
+        table,
+        categories,
+        handlers,
+        objects,
+    };
+    let mut page = Page::new(alloc);
+    printer.entry(&mut page, entry)?;
+    Ok(page.into_bytes())
+}
+
 impl Printer<'_> {
     /// About how many bytes the text of these pieces has, and seldom fewer: the first entries of some of them tell,
     /// which lie evenly among all.

@@ -1,0 +1,13 @@
+mod GuideLemmas
+mod LineLemmas
+mod VerdictLemmas
+mod FlagLemmas
+mod SliceLemmas
+mod HitLemmas
+mod OrderLemmas
+mod AccountLemmas
+mod PlaceLemmas
+mod UnderwayLemmas
+mod ChoiceLemmas
+mod ProgressLemmas
+mod AuditLemmas

@@ -1,0 +1,11 @@
+pub mod Fronts
+pub mod Verdicts
+pub mod Allowed
+pub mod Guides
+pub mod Places
+pub mod Flags
+pub mod Slices
+pub mod Accounts
+pub mod Pending
+pub mod Sheets
+pub mod Progress
