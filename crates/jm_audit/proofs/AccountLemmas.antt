@@ -1,5 +1,5 @@
 -- The reply to a step, and the account behind it.
-use Rattle.std.proofs.Common.{◌≡◌, ◌≢◌, ℕ, zero, suc, ◌+◌, ◌<◌, ◌%◌, ◌^◌, Bool, true, false, cond, List, [], ◌∷◌, ◌++◌, length, refl, sym, ap, ◌∙◌, subst, arith}
+use Rattle.std.proofs.Common.{◌≡◌, ℕ, zero, suc, ◌<◌, ◌^◌, Bool, true, false, List, [], ◌∷◌, ◌++◌, length, refl, sym, ap, ◌∙◌, subst, arith}
 use Rattle.std.specs.Prelude.{Option, Some, None, find, ◌||◌, ◌==◌, replicate}
 use Rattle.std.specs.List.{list_any}
 use Rattle.std.proofs.lemmas.List.Folds.{list_any-append}
@@ -15,10 +15,10 @@ use Rattle.jm_model.specs.declared.step.Outcome.TheVariants.{Fired, Refused, Don
 use Rattle.jm_model.specs.declared.step.Entry.{Entry}
 use Rattle.jm_semantics.specs.Traces.{ParametricEvent, seen_of}
 use Rattle.jm_semantics.specs.Histories.{accepted_event, accepted_death, trace_of, dead_of, is_dead}
-use Rattle.jm_semantics.specs.Legality.{IsStepOf, IsReply}
+use Rattle.jm_semantics.specs.Legality.{IsStepOf}
 use Rattle.jm_semantics.proofs.HistoryLemmas.{trace_of-accepted, trace_of-other, dead_of-accepted, dead_of-other, seen_of-push}
 use Rattle.jm_audit.specs.Flags.{is_flagged}
-use Rattle.jm_audit.specs.Slices.{Sliced, AreInstancesOf, after_event}
+use Rattle.jm_audit.specs.Slices.{AreInstancesOf, after_event}
 use Rattle.jm_audit.specs.Accounts.{IsAccountOf, IsReplied, IsReport, AreKept, IsDeath}
 use Rattle.jm_audit.specs.declared.account.Account.{Account}
 use Rattle.jm_audit.proofs.FlagLemmas.{flagged-set}

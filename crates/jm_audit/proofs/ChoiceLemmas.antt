@@ -1,12 +1,12 @@
 -- Which step comes next.
-use Rattle.std.proofs.Common.{◌≡◌, ◌≢◌, ℕ, zero, suc, ◌+◌, ◌<◌, ◌≤◌, Bool, true, false, List, [], ◌∷◌, ◌++◌, length, take, drop, refl, sym, ap, ◌∙◌, subst, inl, inr, arith}
-use Rattle.std.specs.Prelude.{◌⊎◌, Option, Some, None, All, Contains, slice_get}
+use Rattle.std.proofs.Common.{◌≡◌, ◌≢◌, ℕ, zero, suc, ◌<◌, ◌≤◌, List, [], ◌∷◌, ◌++◌, length, take, drop, refl, sym, ap, ◌∙◌, subst, inl, inr, arith}
+use Rattle.std.specs.Prelude.{Some, None, All, slice_get}
 use Rattle.std.proofs.lemmas.Option.{none-some, same_Some}
 use Rattle.std.proofs.lemmas.List.{append_assoc, take_all}
 use Rattle.std.proofs.lemmas.List.Elements.{All-nil, All-cons, All-head, All-tail, All-weaker, All-contains}
 use mathlib.Core.List.{IsPrefix}
 use Rattle.jm_model.specs.Words.{Text}
-use Rattle.jm_audit.specs.Pending.{IsFirstAt, IsMarkedBy, IsChoice, mark}
+use Rattle.jm_audit.specs.Pending.{IsFirstAt, IsChoice, mark}
 use Rattle.jm_audit.specs.declared.pending.Pending.{Pending}
 
 -- a step in front of which no other of its caller stands

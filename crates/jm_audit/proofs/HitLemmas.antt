@@ -1,6 +1,6 @@
 -- Loops that list firings and instances, and what the lists say of a history.
-use Rattle.std.proofs.Common.{◌≡◌, ◌≢◌, ℕ, zero, suc, ◌+◌, ◌*◌, ◌^◌, ◌<◌, ◌≤◌, ◌%◌, inl, inr, length, Bool, true, false, cond, List, [], ◌∷◌, ◌++◌, take, get_or, pow-suc, refl, sym, ◌∙◌, ap, subst, arith}
-use Rattle.std.specs.Prelude.{Contains, IsBitSet, IsTrue, ◌↔◌, ◌⊎◌, bit_and}
+use Rattle.std.proofs.Common.{◌≡◌, ℕ, zero, suc, ◌+◌, ◌*◌, ◌^◌, ◌<◌, inl, inr, length, Bool, true, false, List, [], ◌∷◌, ◌++◌, take, get_or, pow-suc, refl, sym, ◌∙◌, ap, subst, arith}
+use Rattle.std.specs.Prelude.{Contains, IsBitSet, ◌↔◌, bit_and}
 use Rattle.std.specs.Int.{bit_at}
 use Rattle.std.specs.List.{AllByRecursion}
 use Rattle.std.specs.List.Sorted.{IsStrictlySortedBy}
@@ -15,7 +15,7 @@ use Rattle.jm_model.specs.declared.firings.Firing.{Firing}
 use Rattle.jm_model.specs.declared.step.Entry.{Entry}
 use Rattle.jm_semantics.specs.Traces.{ParametricEvent, slice_of}
 use Rattle.jm_semantics.specs.Histories.{trace_of, is_dead, dead_mask}
-use Rattle.jm_semantics.specs.Answers.{Fires, IsAnswer, firing_cmp}
+use Rattle.jm_semantics.specs.Answers.{IsAnswer, firing_cmp}
 use Rattle.jm_semantics.specs.Disposal.{IsCut, IsKeptCount}
 use Rattle.jm_semantics.proofs.ListLemmas.{Contains-nil, Contains-head, Contains-cons_cases}
 use Rattle.jm_audit.specs.Flags.{is_flagged}

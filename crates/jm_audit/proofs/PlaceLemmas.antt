@@ -1,9 +1,8 @@
 -- What may be said from a place on is what an allowed text says there.
-use Rattle.std.proofs.Common.{◌≡◌, ◌≢◌, ℕ, zero, suc, ◌+◌, ◌<◌, ◌≤◌, Bool, true, false, cond, List, [], ◌∷◌, ◌++◌, length, drop, map, refl, sym, ap, ◌∙◌, subst, inl, inr, arith, add-one, eq-eqb, append-nil}
+use Rattle.std.proofs.Common.{◌≡◌, ◌≢◌, ℕ, zero, suc, ◌+◌, ◌<◌, true, false, List, [], ◌∷◌, ◌++◌, length, drop, map, refl, sym, ap, ◌∙◌, subst, inl, inr, arith, add-one, eq-eqb, append-nil}
 use Rattle.std.specs.Prelude.{◌⊎◌, ◌==◌, Option, Some, None, All, slice_get, codes, decimal, filter}
 use Rattle.std.specs.List.{flat_map}
-use Rattle.std.specs.List.{AllByRecursion}
-use Rattle.std.proofs.lemmas.Bool.{eqb-true, ne_eqb, cases_eq}
+use Rattle.std.proofs.lemmas.Bool.{ne_eqb}
 use Rattle.std.proofs.lemmas.Option.{none-some, same_Some}
 use Rattle.std.proofs.lemmas.List.{append_assoc, map-append}
 use Rattle.std.proofs.lemmas.List.Elements.{All-push, All-nil, All-head, All-tail, filter-append}
@@ -16,7 +15,7 @@ use Rattle.jm_model.specs.declared.step.Step.TheVariants.{Event, Death, Pass}
 use Rattle.jm_model.specs.declared.step.Outcome.{Outcome}
 use Rattle.jm_model.specs.declared.step.Outcome.TheVariants.{Fired, Refused, Done, Kept, NoMemory}
 use Rattle.jm_semantics.specs.Scripts.{steps_of, IsInterleaving}
-use Rattle.jm_semantics.specs.Legality.{IsStepOf, IsReply, IsLegal, IsLegalAfter}
+use Rattle.jm_semantics.specs.Legality.{IsReply, IsLegal, IsLegalAfter}
 use Rattle.jm_semantics.proofs.ReplyLemmas.{reply_is_determined-lem}
 use Rattle.jm_semantics.proofs.LegalityLemmas.{legal-push}
 use Rattle.jm_print.specs.Lexicons.{Lexicon, name_of}
@@ -25,10 +24,10 @@ use Rattle.jm_print.specs.Told.{texts_of}
 use Rattle.jm_print.proofs.Cutting.{decimal-digits, digits-lack}
 use Rattle.jm_script.specs.declared.script.ScriptLine.{ScriptLine}
 use Rattle.jm_audit.specs.Allowed.{steps_on, IsHistoryOf, AreHistoriesFrom, IsAllowed}
-use Rattle.jm_audit.specs.Guides.{IsOneLine, said, Says, stop, go, Picks, Guided, stopped, follows, leaves, AreDetermined}
+use Rattle.jm_audit.specs.Guides.{said, Says, stop, go, Picks, Guided, stopped, follows, leaves, AreDetermined}
 use Rattle.jm_audit.specs.Pending.{HasLeft}
 use Rattle.jm_audit.specs.Places.{Place, before, within, head_text, end_text, IsNextEntry, AreAllDone, Writes, Goes, Ends, GoesOn, IsWritten, IsLeftBehind}
-use Rattle.jm_audit.proofs.LineLemmas.{same_behind, first_lines, within_line, one_line, one_line-append, HasFeed, feed-left, feed-right, IsCut, cut_line}
+use Rattle.jm_audit.proofs.LineLemmas.{same_behind, first_lines, within_line, one_line, one_line-append, HasFeed, feed-left, feed-right, cut_line}
 
 -- ---- lists
 drop_none : {X : Type 0} (xs : List X) (n : ℕ) → slice_get xs n ≡ None → drop n xs ≡ []

@@ -1,14 +1,12 @@
 -- One entry more.
-use Rattle.std.proofs.Common.{◌≡◌, ◌≢◌, ℕ, ◌+◌, ◌^◌, ◌<◌, ◌≤◌, List, [], ◌∷◌, ◌++◌, length, take, drop, get_or, map, refl, sym, ap, ◌∙◌, subst, inl, inr, arith, true, eq-eqb}
-use Rattle.std.specs.Prelude.{◌==◌, Option, Some, None, Result, Ok, Err, IfOk, OnOk, All, Contains, filter, slice_get}
+use Rattle.std.proofs.Common.{◌≡◌, ℕ, ◌+◌, ◌<◌, ◌≤◌, List, [], ◌∷◌, ◌++◌, length, take, drop, get_or, refl, sym, ap, ◌∙◌, subst, inl, inr, arith, true, eq-eqb}
+use Rattle.std.specs.Prelude.{◌==◌, Option, Some, Result, Ok, Err, IfOk, OnOk, All, Contains, filter, slice_get}
 use Rattle.std.proofs.lemmas.Option.{get_or_from_slice_get}
 use Rattle.std.proofs.lemmas.List.{length-map}
 use Rattle.std.proofs.lemmas.List.Elements.{All-contains, All-contains_itself, All-get_or, All-nil, All-weaker}
-use mathlib.Core.List.{IsPrefix}
 use Rattle.jm_semantics.specs.Scripts.{steps_of}
 use Rattle.jm_semantics.specs.Traces.{seen_of}
 use Rattle.jm_semantics.specs.Histories.{trace_of}
-use Rattle.jm_semantics.specs.Legality.{IsStepOf}
 use Rattle.jm_model.specs.Words.{Text}
 use Rattle.jm_model.specs.Meanings.{Meaning}
 use Rattle.jm_model.specs.declared.step.Entry.{Entry}
@@ -24,7 +22,7 @@ use Rattle.jm_semantics.proofs.ListLemmas.{Contains-filter, Contains-map}
 use Rattle.jm_audit.specs.Sheets.{IsFit, AreFit}
 use Rattle.jm_audit.specs.Accounts.{IsAccountOf, IsReplied, HasRoom}
 use Rattle.jm_audit.specs.Places.{before, within, head_text, end_text, IsNextEntry, AreAllDone, IsWritten, IsLeftBehind}
-use Rattle.jm_audit.specs.Pending.{left_of, AreUnderway, IsFirstAt, IsMarkedBy, IsChoice, HasLeft, mark}
+use Rattle.jm_audit.specs.Pending.{left_of, AreUnderway, IsMarkedBy, IsChoice, HasLeft}
 use Rattle.jm_audit.specs.Progress.{IsReady, IsPickedEntry, IsWrittenNext}
 use Rattle.jm_audit.specs.declared.account.Account.{Account}
 use Rattle.jm_audit.specs.declared.pending.Pending.{Pending}
@@ -110,10 +108,10 @@ module _ (m : Meaning) (l : Lexicon) (now : Progress) (ready : IsReady m l now) 
     fit = subst (All (λ (p : Pending). IsFit m l p.step)) (sym left) (without pending place choice.step choice.first (λ (p : Pending). IsFit m l p.step) ready.fit);
   }
 
-  pub under_next : (after : Progress) → after.history.items ≡ h ++ x ∷ [] → after.pending.items ≡ take place pending ++ drop (place + 1) pending
-      → (lists : List (List (ℕ × Step))) → AreUnderway lists h pending → AreUnderway lists after.history.items after.pending.items
-  under_next after history left lists under =
-      subst (λ g. AreUnderway lists g after.pending.items) (sym history)
+  pub under_next : (g : List Entry) (ps : List Pending) → g ≡ h ++ x ∷ [] → ps ≡ take place pending ++ drop (place + 1) pending
+      → (lists : List (List (ℕ × Step))) → AreUnderway lists h pending → AreUnderway lists g ps
+  under_next g ps history left lists under =
+      subst (λ k. AreUnderway lists k ps) (sym history)
       (subst (AreUnderway lists (h ++ x ∷ [])) (sym left) (taken_out lists h pending under place choice.step choice.first x caller line step))
 
   next_entry : (lists : List (List (ℕ × Step))) → AreUnderway lists h pending → IsNextEntry m lists h x.caller x

@@ -1,6 +1,6 @@
 -- How the steps that are still to be done become entries.
-use Rattle.std.proofs.Common.{◌≡◌, ◌≢◌, ℕ, zero, suc, ◌+◌, ◌^◌, ◌<◌, ◌≤◌, Bool, true, false, List, [], ◌∷◌, ◌++◌, length, take, drop, get_or, map, refl, sym, ap, ◌∙◌, subst, inl, inr, arith, add-one, eq-eqb, append-nil, length-append}
-use Rattle.std.specs.Prelude.{◌⊎◌, ◌==◌, Option, Some, None, All, Contains, slice_get, decimal, filter}
+use Rattle.std.proofs.Common.{◌≡◌, ◌≢◌, ℕ, zero, suc, ◌+◌, ◌^◌, ◌<◌, ◌≤◌, true, false, List, [], ◌∷◌, ◌++◌, length, take, drop, get_or, map, refl, sym, ap, ◌∙◌, subst, inl, inr, arith, add-one, eq-eqb, append-nil, length-append}
+use Rattle.std.specs.Prelude.{◌⊎◌, ◌==◌, Some, All, Contains, slice_get, decimal, filter}
 use Rattle.std.proofs.lemmas.Bool.{ne_eqb, cases_eq}
 use Rattle.std.proofs.lemmas.Option.{none-some, same_Some}
 use Rattle.std.proofs.lemmas.List.{append_assoc, map-append, length-map, length-take-le, take_more, take_all}

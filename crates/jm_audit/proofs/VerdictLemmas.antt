@@ -1,12 +1,11 @@
 -- From what was written under the guidance of a text to the answer.
-use Rattle.std.proofs.Common.{◌≡◌, ◌≢◌, ℕ, ◌+◌, ◌≤◌, List, [], ◌∷◌, ◌++◌, refl, sym, ap, ◌∙◌, subst, inl, inr, arith}
+use Rattle.std.proofs.Common.{◌≡◌, ◌≢◌, ℕ, ◌+◌, [], ◌∷◌, ◌++◌, sym, ap, ◌∙◌, subst, arith}
 use Rattle.std.proofs.lemmas.List.{append_assoc}
 use mathlib.Core.List.{IsPrefix}
 use Rattle.jm_model.specs.Words.{Text}
-use Rattle.jm_audit.specs.declared.verdict.Verdict.{Verdict}
 use Rattle.jm_audit.specs.declared.verdict.Verdict.TheVariants.{Yes, No}
-use Rattle.jm_audit.specs.Guides.{EndsLine, IsOneLine, said, Says, stop, go, Picks, Guided, stopped, follows, leaves, AreDetermined}
-use Rattle.jm_audit.specs.Fronts.{feeds, agreeing, AreWholeLines, IsReached}
+use Rattle.jm_audit.specs.Guides.{said, Says, stop, go, Picks, Guided, stopped, follows, leaves, AreDetermined}
+use Rattle.jm_audit.specs.Fronts.{agreeing}
 use Rattle.jm_audit.specs.Verdicts.{IsVerdict}
 use Rattle.jm_audit.proofs.GuideLemmas.{best, guided_says, feeds_agree}
 use Rattle.jm_audit.proofs.LineLemmas.{same_behind, ends_line, agreed}

@@ -1,5 +1,5 @@
 -- The account of a history so far, and the reply to its next step.
-use Rattle.std.specs.Prelude.{ℕ, ◌≡◌, ◌≢◌, ◌<◌, ◌↔◌, ◌⊎◌, Bool, true, false, List, [], ◌∷◌, ◌++◌, Contains, length, bit_and, slice_set}
+use Rattle.std.specs.Prelude.{ℕ, ◌≡◌, ◌≢◌, ◌<◌, ◌↔◌, ◌⊎◌, Bool, true, false, List, [], ◌∷◌, ◌++◌, Contains, bit_and, slice_set}
 use Rattle.std.specs.Int.{bit_at}
 use Rattle.std.specs.List.Sorted.{IsStrictlySortedBy}
 use Rattle.jm_model.specs.Bindings.{binding_cmp, is_below, mask_of, mask_where}
@@ -8,7 +8,7 @@ use Rattle.jm_model.specs.declared.binding.Binding.{Binding}
 use Rattle.jm_model.specs.declared.firings.Firing.{Firing}
 use Rattle.jm_model.specs.declared.step.Entry.{Entry}
 use Rattle.jm_model.specs.declared.step.Step.{Step}
-use Rattle.jm_model.specs.declared.step.Step.TheVariants.{Event, Death, Pass}
+use Rattle.jm_model.specs.declared.step.Step.TheVariants.{Death}
 use Rattle.jm_model.specs.declared.step.Outcome.{Outcome}
 use Rattle.jm_model.specs.declared.step.Outcome.TheVariants.{Refused, Done, NoMemory}
 use Rattle.jm_semantics.specs.Answers.{firing_cmp}

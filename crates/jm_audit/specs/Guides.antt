@@ -1,5 +1,5 @@
 -- What may be said step by step, and what is said under the guidance of a text.
-use Rattle.std.specs.Prelude.{ℕ, ◌≡◌, ◌≢◌, ◌⊎◌, List, [], ◌∷◌, ◌++◌}
+use Rattle.std.specs.Prelude.{ℕ, ◌≡◌, ◌≢◌, [], ◌∷◌, ◌++◌}
 use mathlib.Core.List.{IsPrefix}
 use Rattle.jm_model.specs.Words.{Text}
 

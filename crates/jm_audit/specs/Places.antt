@@ -11,7 +11,7 @@ use Rattle.jm_print.specs.Lexicons.{Lexicon}
 use Rattle.jm_print.specs.Texts.{full_entry_text}
 use Rattle.jm_script.specs.declared.script.ScriptLine.{ScriptLine}
 use Rattle.jm_audit.specs.Allowed.{steps_on}
-use Rattle.jm_audit.specs.Guides.{IsOneLine, said, Says, Guided}
+use Rattle.jm_audit.specs.Guides.{IsOneLine, Says, Guided}
 
 -- where a text stands: in front of the history of the specification of this number, or within it, behind these entries
 pub data Place : Type 0 where

@@ -1,5 +1,5 @@
 -- A history that is being written.
-use Rattle.std.specs.Prelude.{ℕ, ◌≡◌, ◌<◌, ◌≤◌, List, [], ◌∷◌, ◌++◌, All, Option, Some, length}
+use Rattle.std.specs.Prelude.{ℕ, ◌≡◌, ◌≤◌, List, [], ◌∷◌, ◌++◌, All, Option, Some, length}
 use mathlib.Core.List.{IsPrefix}
 use Rattle.jm_model.specs.Words.{Text}
 use Rattle.jm_model.specs.Meanings.{Meaning}

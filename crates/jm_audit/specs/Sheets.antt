@@ -1,9 +1,8 @@
 -- Sheets, and what their scripts have to fit.
-use Rattle.std.specs.Prelude.{ℕ, ◌≡◌, ◌≤◌, List, All, Contains, Some, length, slice_get}
+use Rattle.std.specs.Prelude.{ℕ, ◌≡◌, ◌≤◌, List, All, Some, length, slice_get}
 use Rattle.jm_model.specs.Words.{Text}
 use Rattle.jm_model.specs.Meanings.{Meaning}
 use Rattle.jm_model.specs.declared.step.Step.{Step}
-use Rattle.jm_semantics.specs.Scripts.{projection_of}
 use Rattle.jm_semantics.specs.Legality.{IsStepOf}
 use Rattle.jm_print.specs.Lexicons.{Lexicon, lexicon_of}
 use Rattle.jm_print.specs.Names.{IsNamedStep}

@@ -1,4 +1,4 @@
-use Rattle.std.proofs.Common.{◌≡◌, ◌+◌, ◌==◌, ℕ, suc, true, false, drop, get_or, sym, ap, ◌∙◌, subst, arith, add-one, zero-add, eq-eqb}
+use Rattle.std.proofs.Common.{◌≡◌, ◌+◌, ◌==◌, true, false, drop, get_or, sym, ap, ◌∙◌, subst, arith, add-one, zero-add, eq-eqb}
 use Rattle.std.specs.Prelude.{if◌then◌else◌}
 use Rattle.std.proofs.lemmas.Bool.{ne_eqb, false≢true}
 use Rattle.jm_audit.specs.Fronts.{agreeing}

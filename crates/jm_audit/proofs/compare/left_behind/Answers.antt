@@ -1,4 +1,4 @@
-use Rattle.std.proofs.Common.{List, ℕ, Bool, Bor, ◌≡◌, ◌≢◌, ◌++◌, sym}
+use Rattle.std.proofs.Common.{List, ℕ, Bor, ◌≡◌, ◌≢◌, ◌++◌}
 use Rattle.std.specs.Prelude.{Option, Some, None, option_map}
 use Rattle.std.specs.Option.{MatchOption}
 use Rattle.std.proofs.lemmas.Bool.Decides.{Decides-eqb}
@@ -12,5 +12,6 @@ left_of block rest (Some x) h = h
 
 pub returns-in-Some : goal.returns-in-Some
 returns-in-Some c =
-    left_of c.args.block.now c.in-Some.rest.now c.strip_prefix.result
-    (strip_prefix_is Decides-eqb c.in-Some.rest.now c.args.block.now c.strip_prefix.result c.strip_prefix.ensures.cases)
+    rw c.in-Some.is
+    (left_of c.args.block.now c.in-Some.rest.now c.strip_prefix.result
+    (strip_prefix_is Decides-eqb c.in-Some.rest.now c.args.block.now c.strip_prefix.result c.strip_prefix.ensures.cases))

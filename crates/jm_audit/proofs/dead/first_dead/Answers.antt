@@ -1,5 +1,4 @@
-use Rattle.std.proofs.Common.{◌≡◌, ◌+◌, ℕ, false, drop, sym, ap, ◌∙◌, arith}
-use Rattle.std.specs.Prelude.{Some, None}
+use Rattle.std.proofs.Common.{◌≡◌, false, sym, ap, ◌∙◌, arith}
 use Rattle.jm_model.specs.Bindings.{object_at}
 use Rattle.jm_audit.specs.Flags.{is_flagged_at}
 use Rattle.jm_audit.proofs.FlagLemmas.{first-found, first-passed, first-end, unflagged}

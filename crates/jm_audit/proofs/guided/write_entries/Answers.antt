@@ -1,4 +1,4 @@
-use Rattle.std.proofs.Common.{◌≡◌, ℕ, List, [], length, refl, ◌∙◌, ap, sym, subst, arith}
+use Rattle.std.proofs.Common.{List, length, refl, sym, subst, arith}
 use Rattle.std.specs.Prelude.{option_map}
 use Rattle.std.proofs.lemmas.Option.{slice_get_read}
 use Rattle.jm_model.specs.declared.step.Entry.{Entry}
@@ -15,35 +15,33 @@ new-requires-clause-fit g c =
     let sheets = c.args.sheets.now in
     c.requires.fit c.args.number c.index-sheets-number.result (slice_get_read sheets (length sheets) c.args.number c.index-sheets-number.result refl c.requires.there c.index-sheets-number.is)
 
-pub loop-progress-init : goal.loop-progress-init
-loop-progress-init g c =
-    let mean = λ s. g.M.Monitor.meaning (g.M.Monitor.definition s.rules.now) in
+pub loop-sheet-init : goal.loop-sheet-init
+loop-sheet-init g c =
     let none = sym c.in_ok-progress.ensures.empty in
     record {
       ready = c.in_ok-progress.ensures.ready;
       under = subst (λ (h : List Entry). AreUnderway (steps_on c.args.scripts.now c.args.number) h c.in_ok-progress.progress.pending.items) none c.in_ok-progress.ensures.under;
-      told = λ text so. subst (λ (h : List Entry). IsWritten mean (lexicon c.args.objects.now) c.args.scripts.now c.args.sheets.now text c.args.written.now.items (option_map (λ r. r.now) c.args.rest) (within c.args.number h)) none so;
+      told = λ text so. subst (λ (h : List Entry). IsWritten (λ s. g.M.Monitor.meaning (g.M.Monitor.definition s.rules.now)) (lexicon c.args.objects.now) c.args.scripts.now c.args.sheets.now text c.args.written.now.items (option_map (λ r. r.now) c.args.rest) (within c.args.number h)) none so;
     }
 
-pub loop-progress-preserved : goal.loop-progress-preserved
-loop-progress-preserved g c =
-    let mean = λ s. g.M.Monitor.meaning (g.M.Monitor.definition s.rules.now) in
+pub loop-sheet-preserved : goal.loop-sheet-preserved
+loop-sheet-preserved g c =
     let sheets = c.args.sheets.now in
     let at = slice_get_read sheets (length sheets) c.args.number c.index-sheets-number.result refl c.requires.there c.index-sheets-number.is in
-    let one = c.in_ok-write_next.ensures.written in
+    let one = c.in_ok-rest.ensures.written in
     record {
-      ready = c.in_ok-write_next.ensures.ready;
-      under = one.under (steps_on c.args.scripts.now c.args.number) c.loop-progress.invariant.under;
+      ready = c.in_ok-rest.ensures.ready;
+      under = one.under (steps_on c.args.scripts.now c.args.number) c.loop-sheet.invariant.under;
       told = λ text so.
-          entry_written mean (lexicon c.args.objects.now) c.args.scripts.now sheets text c.args.number c.index-sheets-number.result at _ _ _ _ _ _ c.requires.scripts c.loop-progress.invariant.under one
-          (c.loop-progress.invariant.told text so);
+          entry_written (λ s. g.M.Monitor.meaning (g.M.Monitor.definition s.rules.now)) (lexicon c.args.objects.now) c.args.scripts.now sheets text c.args.number c.index-sheets-number.result at _ _ _ _ _ _ c.requires.scripts c.loop-sheet.invariant.under one
+          (c.loop-sheet.invariant.told text so);
     }
 
 pub returns : goal.returns
 returns g c = (
-  c.loop-progress.progress.history.items,
+  c.loop-sheet.progress.history.items,
   c.len.ensures,
-  all_done (steps_on c.args.scripts.now c.args.number) c.loop-progress.progress.history.items c.loop-progress.progress.pending.items c.loop-progress.invariant.under
-      (no_items c.loop-progress.progress.pending.items (omega (arith, c.left.ensures, c.loop-progress-test.false))),
-  c.loop-progress.invariant.told,
+  all_done (steps_on c.args.scripts.now c.args.number) c.loop-sheet.progress.history.items c.loop-sheet.progress.pending.items c.loop-sheet.invariant.under
+      (no_items c.loop-sheet.progress.pending.items (omega (arith, c.left.ensures, c.loop-sheet-test.false))),
+  c.loop-sheet.invariant.told,
 )

@@ -1,4 +1,4 @@
-use Rattle.std.proofs.Common.{◌≡◌, ◌++◌, List, [], map, ◌∙◌, ap, sym, subst, arith}
+use Rattle.std.proofs.Common.{◌++◌, [], map, ◌∙◌, ap, sym, subst}
 use Rattle.jm_audit.specs.Pending.{pending_at, AreUnderway}
 use Rattle.jm_audit.proofs.UnderwayLemmas.{underway_nil, pending_more, pending_whole}
 use Rattle.jm_audit.proofs.pending.pending_steps.Goals as goal

@@ -1,4 +1,4 @@
-use Rattle.std.proofs.Common.{◌≡◌, ◌+◌, ◌++◌, List, [], ◌∷◌, true, false, take, sym, ap, ◌∙◌, subst}
+use Rattle.std.proofs.Common.{◌≡◌, ◌+◌, ◌++◌, List, [], ◌∷◌, take, sym, ap, ◌∙◌, subst}
 use Rattle.jm_model.specs.declared.binding.Binding.{Binding}
 use Rattle.jm_audit.specs.Slices.{Sliced}
 use Rattle.jm_audit.specs.Accounts.{AreAlive}

@@ -1,4 +1,4 @@
-use Rattle.std.proofs.Common.{◌≡◌, ◌+◌, ◌++◌, ℕ, List, [], ◌∷◌, true, take, sym, ap, ◌∙◌, subst}
+use Rattle.std.proofs.Common.{◌≡◌, ◌+◌, ◌++◌, ℕ, List, [], ◌∷◌, true, take, sym, ap, subst}
 use Rattle.std.specs.Prelude.{bit_and}
 use Rattle.jm_model.specs.Bindings.{is_below, mask_of}
 use Rattle.jm_model.specs.declared.binding.Binding.{Binding}

@@ -1,4 +1,4 @@
-use Rattle.std.proofs.Common.{◌≡◌, ℕ, ◌+◌, ◌++◌, List, [], ◌∷◌, sym, ◌∙◌, ap, subst, arith}
+use Rattle.std.proofs.Common.{◌≡◌, ℕ, ◌+◌, sym, ◌∙◌, ap, subst, arith}
 use Rattle.jm_model.specs.declared.firings.Firing.{Firing}
 use Rattle.jm_audit.specs.Accounts.{IsPushed}
 use Rattle.jm_audit.proofs.HitLemmas.{pushed_none, pushed_more, pushed_skip}

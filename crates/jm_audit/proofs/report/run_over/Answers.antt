@@ -1,4 +1,4 @@
-use Rattle.std.proofs.Common.{List, ℕ, ◌<◌, length, take, sym, subst}
+use Rattle.std.proofs.Common.{List, ℕ, ◌<◌, take, sym, subst}
 use Rattle.std.proofs.lemmas.List.{take_all, take_more}
 use Rattle.jm_audit.proofs.HitLemmas.{at_place}
 use Rattle.jm_audit.proofs.report.run_over.Goals as goal

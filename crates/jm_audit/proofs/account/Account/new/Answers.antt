@@ -1,4 +1,4 @@
-use Rattle.std.proofs.Common.{rules, [], ◌∷◌, ◌++◌, ◌∙◌, sym}
+use Rattle.std.proofs.Common.{rules, [], ◌∷◌, ◌++◌, ◌∙◌}
 use Rattle.jm_audit.proofs.AccountLemmas.{account_at_start}
 use Rattle.jm_audit.proofs.account.Account.new.Goals as goal
 
