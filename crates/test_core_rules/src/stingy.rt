@@ -1,9 +1,10 @@
-//! Rules of which one call is refused memory.
+//! Rules of which two calls in a row are refused memory: an event that is done at once is tried once more where the
+//! first try is refused.
 use jm_machine::{Configuration, Rules};
 use jm_model::{Letter, Monitor, NoMemory};
 use std::cell::Cell;
 
-/// Rules, and how many calls of `next` there are up to the one that answers NoMemory; with 0 none does.
+/// Rules, and how many calls of `next` there are up to the last of two in a row that answer NoMemory; with 0 none does.
 #[derive(Drop)]
 pub(crate) struct Stingy {
     rules: Rules,
@@ -57,7 +58,7 @@ impl Monitor for Stingy {
     fn next(&self, state: &Configuration, letter: Letter) -> Result<Configuration, NoMemory> {
         let left = self.left.get();
         self.left.set(left.wrapping_sub(1));
-        if left == 1 {
+        if left == 1 || left == 2 {
             return Err(NoMemory);
         }
         self.rules.next(state, letter)
