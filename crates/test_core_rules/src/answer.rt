@@ -26,7 +26,7 @@ fn told(alloc: Global, case: &Case, words: &str) -> Result<String, AllocError> {
 }
 
 fn answered(alloc: Global, case: &Case, words: &str, rules: Rules) -> Result<String, NoMemory> {
-    let (objects, left) = case
+    let (objects, refused) = case
         .second
         .split_once(' ')
         .unwrap_or((case.second.as_str(), ""));
@@ -34,7 +34,8 @@ fn answered(alloc: Global, case: &Case, words: &str, rules: Rules) -> Result<Str
     match case.verb.as_str() {
         "run" => run(alloc, words, Rig::new(alloc, rules, objects)?),
         "stingy" => {
-            let rules = Stingy::new(rules, number_of(left));
+            let (behind, count) = refused.split_once(' ').unwrap_or((refused, ""));
+            let rules = Stingy::new(rules, number_of(behind), number_of(count));
             run(alloc, words, Rig::new(alloc, rules, objects)?)
         }
         _ => replay(alloc, words, Rig::new(alloc, rules, objects)?),

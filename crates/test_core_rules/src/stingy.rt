@@ -1,21 +1,24 @@
-//! Rules of which two calls in a row are refused memory: an event that is done at once is tried once more where the
-//! first try is refused.
+//! Rules of which some calls are refused memory.
 use jm_machine::{Configuration, Rules};
 use jm_model::{Letter, Monitor, NoMemory};
 use std::cell::Cell;
 
-/// Rules, and how many calls of `next` there are up to the last of two in a row that answer NoMemory; with 0 none does.
+/// Rules of which some calls of `next` in a row answer NoMemory: so many, behind so many others.
 #[derive(Drop)]
 pub(crate) struct Stingy {
     rules: Rules,
-    left: Cell<u32>,
+    calls: Cell<u32>,
+    behind: u32,
+    count: u32,
 }
 
 impl Stingy {
-    pub(crate) fn new(rules: Rules, left: u32) -> Stingy {
+    pub(crate) fn new(rules: Rules, behind: u32, count: u32) -> Stingy {
         Stingy {
             rules,
-            left: Cell::new(left),
+            calls: Cell::new(0),
+            behind,
+            count,
         }
     }
 }
@@ -56,9 +59,9 @@ impl Monitor for Stingy {
     }
 
     fn next(&self, state: &Configuration, letter: Letter) -> Result<Configuration, NoMemory> {
-        let left = self.left.get();
-        self.left.set(left.wrapping_sub(1));
-        if left == 1 || left == 2 {
+        let call = self.calls.get();
+        self.calls.set(call.wrapping_add(1));
+        if call.wrapping_sub(self.behind) < self.count {
             return Err(NoMemory);
         }
         self.rules.next(state, letter)
