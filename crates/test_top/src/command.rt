@@ -12,7 +12,7 @@ use testkit_files::{calls_of, files, sink_of};
 
 /// How the command of the case's words ends, and what is written to its two sinks. The words behind the `/` say what
 /// fails: `read-fails CALL..`, or `write STEP CALL..` for a sink that takes STEP bytes at a time. `loads CALL` asks
-/// whether the load with this number, of all from 0 on, is the one that comes behind the command.
+/// whether the load with this number, of all from 0 on, is the one that comes behind the command, of a file `x`.
 pub(crate) fn run<R: Threads + Wait + Sync>(
     rt: &R,
     alloc: Global,
@@ -65,7 +65,7 @@ fn loads<R: Threads + Wait + Sync>(
     let mut folder = MemoryFolder::new(files(alloc, case.text.as_slice())?, fail);
     let mut out = SureSink::new(alloc);
     let (status, err) = done(rt, alloc, case, &mut folder, &mut out)?;
-    let next = match folder.load("x", 0) {
+    let next = match folder.load("x", 64) {
         Err(LoadFault::Failed) => "the load behind it has this number",
         _ => "the load behind it has another number",
     };
