@@ -3,7 +3,7 @@ use Rattle.std.proofs.Common.{◌≡◌, ℕ, zero, suc, ◌+◌, ◌^◌, ◌<�
 use Rattle.std.specs.Prelude.{◌⊎◌, All, Option, Some, None, slice_get, unwrap_or, option_map}
 use Rattle.std.specs.Option.{option_map_or}
 use Rattle.std.proofs.lemmas.Option.{slice_get-map, none-some, same_Some, slice_get-get_or}
-use Rattle.std.proofs.lemmas.List.{length-map}
+use Rattle.std.proofs.lemmas.List.{length-map, length_push}
 use Rattle.std.proofs.lemmas.List.Elements.{All-head, All-tail, All-map, All-weaker}
 use Rattle.jm_model.specs.Bindings.{object_at, objects_of, mask_of}
 use Rattle.jm_model.specs.Meanings.{Meaning}
@@ -139,10 +139,10 @@ count_names r = count_for r.properties
     count_for (p ∷ q ∷ ps) = count_numbered 0 (p ∷ q ∷ ps)
 
 -- the steps of the scripts fit the sheet of the specification of this number
-pub sheet_fits : (library : Library) (scripts : Scripts) → IsCatalogued library → AreCounted (specs_in library) scripts → (n : ℕ) (name : List ℕ) (table : EventDefinitions) (l : Loaded)
+own_fits : (library : Library) (scripts : Scripts) → IsCatalogued library → AreCounted (specs_in library) scripts → (n : ℕ) (name : List ℕ) (table : EventDefinitions) (l : Loaded)
     → option_map (λ e. e.name) (slice_get library.catalog n) ≡ Some name → option_map (λ e. e.table) (slice_get library.catalog n) ≡ Some table → l ≡ get_or library.specs.items n l
     → AreFit (rules_meaning l.rules.definition) (lexicon_of name table (names_of l.rules.definition) scripts.objects l.titles.texts.items) (steps_on scripts.list.items n)
-sheet_fits library scripts catalogued counted n name table l named there here =
+own_fits library scripts catalogued counted n name table l named there here =
     let rules = l.rules.definition in
     let words : Lexicon = lexicon_of name table (names_of rules) scripts.objects l.titles.texts.items in
     let entry : CatalogEntry = named_entry name table in
@@ -161,7 +161,20 @@ sheet_fits library scripts catalogued counted n name table l named there here =
           (All-at (λ steps. All (λ (s : ℕ × Step). FitsSpecification catalog (length scripts.objects) n s.1) steps) (steps_on scripts.list.items n) k own (projected catalog (length scripts.objects) n scripts.list.items counted.fit) is);
     }
 
+-- and so they do by any names that are the same
+pub sheet_fits : (library : Library) (scripts : Scripts) → IsCatalogued library → AreCounted (specs_in library) scripts → (n : ℕ) (name : List ℕ) (table : EventDefinitions) (l : Loaded)
+    → option_map (λ e. e.name) (slice_get library.catalog n) ≡ Some name → option_map (λ e. e.table) (slice_get library.catalog n) ≡ Some table → l ≡ get_or library.specs.items n l
+    → (words : Lexicon) → words ≡ lexicon_of name table (names_of l.rules.definition) scripts.objects l.titles.texts.items
+    → AreFit (rules_meaning l.rules.definition) words (steps_on scripts.list.items n)
+sheet_fits library scripts catalogued counted n name table l named there here words same =
+    subst (λ (w : Lexicon). AreFit (rules_meaning l.rules.definition) w (steps_on scripts.list.items n)) (sym same) (own_fits library scripts catalogued counted n name table l named there here)
+
 -- ---- sheet by sheet
+pub many_more : {X : Type 0} (xs ys : List X) (x : X) (n : ℕ) → ys ≡ xs ++ x ∷ [] → length xs ≡ n → length ys ≡ n + 1
+many_more xs ys x n is many =
+    let grown : length ys ≡ length (xs ++ x ∷ []) = ap (λ v. length v) is in
+    omega (arith, grown, length_push xs x, many)
+
 one_more : {X : Type 0} (xs : List X) (x : X) (n : ℕ) (y : X) → slice_get (xs ++ x ∷ []) n ≡ Some y → (slice_get xs n ≡ Some y) ⊎ ((n ≡ length xs) × (x ≡ y))
 one_more [] x zero y at = inr (refl, same_Some x y at)
 one_more [] x (suc n) y at = absurd (none-some y at)
@@ -172,13 +185,16 @@ one_more (z ∷ xs) x (suc n) y at = elim (one_more xs x n y at) [
 ]
 
 module _ {X : Type 0} (mean : X → Meaning) (words : X → Lexicon) (scripts : List (List ScriptLine)) where
-  pub fit_none : FitSheets mean words scripts []
-  fit_none n x at = absurd (none-some x at)
+  pub fit_none : (xs : List X) → xs ≡ [] → FitSheets mean words scripts xs
+  fit_none xs none = subst (λ (ys : List X). FitSheets mean words scripts ys) (sym none) (λ n x at. absurd (none-some x at))
 
-  pub fit_more : (xs : List X) (x : X) → FitSheets mean words scripts xs → AreFit (mean x) (words x) (steps_on scripts (length xs)) → FitSheets mean words scripts (xs ++ x ∷ [])
-  fit_more xs x all here n y at = elim (one_more xs x n y at) [
-    | inl other ↦ all n y other
-    | inr last ↦
-        subst (λ z. AreFit (mean z) (words z) (steps_on scripts n)) last.1
-        (subst (λ k. AreFit (mean x) (words x) (steps_on scripts k)) (sym last.0) here)
-  ]
+  pub fit_more : (xs ys : List X) (x : X) (n : ℕ) → ys ≡ xs ++ x ∷ [] → length xs ≡ n → FitSheets mean words scripts xs → AreFit (mean x) (words x) (steps_on scripts n)
+      → FitSheets mean words scripts ys
+  fit_more xs ys x n is many all here =
+      subst (λ (zs : List X). FitSheets mean words scripts zs) (sym is)
+      (λ k y at. elim (one_more xs x k y at) [
+        | inl other ↦ all k y other
+        | inr last ↦
+            subst (λ (z : X). AreFit (mean z) (words z) (steps_on scripts k)) last.1
+            (subst (λ (j : ℕ). AreFit (mean x) (words x) (steps_on scripts j)) (sym (last.0 ∙ many)) here)
+      ])
