@@ -13,14 +13,18 @@ use Rattle.jm_inputs.specs.declared.status.Status.TheVariants.{Done, Usage, BadS
 use Rattle.jm_inputs.specs.Sources.{Source, Named, Gives}
 use Rattle.jm_inputs.specs.Commands.{named, spec_sources, script_sources, reads_recording, needs_families}
 use Rattle.jm_inputs.specs.Specifications.{Specification, too_long as spec_too_long, most_bytes}
-use Rattle.jm_inputs.specs.Scripts.{IsScriptFault, too_long}
-use Rattle.jm_inputs.specs.Inputs.{IsRefusal, faulty, SaySpecifications, AreReadUpTo, step_count, AreScriptsUpTo}
+use Rattle.jm_inputs.specs.Scripts.{IsScriptFileFault, file_too_long}
+use Rattle.jm_inputs.specs.Inputs.{IsRefusal, faulty, SaySpecifications, AreReadUpTo, step_count, AreScriptsUpTo, asked_by}
 use Rattle.jm_inputs.specs.Recordings.{RecordedPart, IsRecordingFault}
-use Rattle.jm_inputs.specs.Jobs.{Job, Refused, Accepted, AcceptedParts, IsSound, IsJob, no_command, bad_spec, bad_script, accepted, bad_part, accepted_parts, ReachesFile, spec_file, script_file, IsCaused, AreTold}
-use Rattle.jm_inputs.specs.Causes.{IsBeforeWriting, IsFaulty, IsNotLoaded, IsNoSpec, IsNoSpecIn, StopsSpecs, IsNoScript, IsNoScriptIn, StopsScripts, IsNoRecording, StopsCommand, short, at_spec, at_script, at_recording}
+use Rattle.jm_inputs.specs.Jobs.{Job, Refused, Accepted, AcceptedParts, IsSound, IsJob, no_command, bad_spec, bad_script, bad_order, accepted, bad_part, accepted_parts, ReachesFile, spec_file, script_file, IsCaused, AreTold}
+use Rattle.jm_inputs.specs.Causes.{IsBeforeWriting, IsFaulty, IsNotLoaded, IsNoSpec, IsNoSpecIn, StopsSpecs, IsNoOrder, IsNoScript, IsNoScriptFileIn, StopsScripts, IsNoRecording, StopsCommand, short, at_spec, at_script, at_recording}
 use Rattle.jm_inputs.proofs.OneReadingLemmas.{same_some, same_err, never_some}
-use Rattle.jm_inputs.proofs.InputLemmas.{one_given, say_one, specs_not_refused, scripts_not_refused}
+use Rattle.jm_inputs.proofs.InputLemmas.{one_given, say_one, specs_not_refused, scripts_not_refused, texts_one}
 use Rattle.jm_inputs.proofs.RecordingLemmas.{recording_has_no_fault}
+use Rattle.jm_inputs.proofs.OrderLemmas.{sound_not_wrong}
+use Rattle.jm_sync.specs.declared.line.SyncLine.{SyncLine}
+use Rattle.jm_sync.specs.Checks.{IsWrong}
+use Rattle.jm_inputs.specs.Inputs.{SayScripts}
 
 module _ (words : List (List ℕ)) (contents : List ℕ → Option (List ℕ)) (told : AreTold words contents) where
   same_command : (c d : CommandWords) → command_of words ≡ Some c → command_of words ≡ Some d → d ≡ c
@@ -31,21 +35,26 @@ module _ (words : List (List ℕ)) (contents : List ℕ → Option (List ℕ)) (
   never_both c spec recording same separate = false≢true (sym separate ∙ ap reads_recording (sym same))
 
   -- a job that isn't refused is refused for nothing
-  accepted_not_refused : (status : Status) (c : CommandWords) (specs : List Specification) (scripts : List (List ScriptLine)) (objects : List (List ℕ)) → IsJob words contents (Accepted c specs scripts objects) → IsJob words contents (Refused status) → ⊥
-  accepted_not_refused status _ _ _ _ (accepted c specs scripts objects spelled said tells separate) (no_command none) = never_some (sym none ∙ spelled)
-  accepted_not_refused _ _ _ _ _ (accepted c specs scripts objects spelled said tells separate) (bad_spec d number source before bytes fault names reached given is) =
+  accepted_not_refused : (status : Status) (c : CommandWords) (specs : List Specification) (scripts : List (List ScriptLine)) (objects : List (List ℕ)) (asked : List (List SyncLine)) → IsJob words contents (Accepted c specs scripts objects asked) → IsJob words contents (Refused status) → ⊥
+  accepted_not_refused status _ _ _ _ _ (accepted c specs scripts objects texts spelled said tells sound separate) (no_command none) = never_some (sym none ∙ spelled)
+  accepted_not_refused _ _ _ _ _ _ (accepted c specs scripts objects texts spelled said tells sound separate) (bad_spec d number source before bytes fault names reached given is) =
       let same = same_command c d spelled names in
       let all = told c spelled in
       specs_not_refused contents (needs_families c) (spec_sources c) number source specs before bytes fault all.0 said
       (subst (λ (x : CommandWords). AreReadUpTo contents (needs_families x) (spec_sources x) number source before) same reached) given (subst (λ (x : CommandWords). IsRefusal (needs_families x) before bytes fault) same is)
-  accepted_not_refused _ _ _ _ _ (accepted c specs scripts objects spelled said tells separate) (bad_script d others number source before names bytes fault spells says reached given is apart) =
+  accepted_not_refused _ _ _ _ _ _ (accepted c specs scripts objects texts spelled said tells sound separate) (bad_script d others number source before names bytes fault spells says reached given is apart) =
       let same = same_command c d spelled spells in
       let all = told c spelled in
       let one = say_one contents (needs_families c) [] (spec_sources c) others specs all.0 (subst (λ (x : CommandWords). SaySpecifications contents (needs_families x) [] (spec_sources x) others) same says) said in
-      scripts_not_refused contents specs (script_sources c) number source scripts before objects names bytes fault all.1 tells
+      scripts_not_refused contents specs (script_sources c) number source scripts before objects texts names bytes fault all.1 tells
       (subst (λ v. AreScriptsUpTo contents v (script_sources c) number source before names) one (subst (λ (x : CommandWords). AreScriptsUpTo contents others (script_sources x) number source before names) same reached)) given
-      (subst (λ v. IsScriptFault v (step_count before) names bytes fault) one is)
-  accepted_not_refused _ _ _ _ _ (accepted c specs scripts objects spelled said tells separate) (bad_part spec recording others bytes number fault spells says given is) =
+      (subst (λ v. IsScriptFileFault v (step_count before) names bytes fault) one is)
+  accepted_not_refused _ _ _ _ _ _ (accepted c specs scripts objects texts spelled said tells sound separate) (bad_order d others some names held number fault spells says reads is apart) =
+      let same = same_command c d spelled spells in
+      let all = told c spelled in
+      let one = texts_one contents others specs 0 0 [] [] (script_sources c) some scripts names held objects texts all.1 (subst (λ (x : CommandWords). SayScripts contents others 0 [] (script_sources x) some names held) same reads) tells in
+      sound_not_wrong (asked_by texts) number fault sound (subst (λ v. IsWrong (asked_by v) number fault) one is)
+  accepted_not_refused _ _ _ _ _ _ (accepted c specs scripts objects texts spelled said tells sound separate) (bad_part spec recording others bytes number fault spells says given is) =
       never_both c spec recording (same_command c (Sweep spec recording) spelled spells) separate
 
   -- nor one over the parts of a recording
@@ -58,6 +67,8 @@ module _ (words : List (List ℕ)) (contents : List ℕ → Option (List ℕ)) (
       (subst (λ (x : CommandWords). AreReadUpTo contents (needs_families x) (spec_sources x) number source before) same reached) gives (subst (λ (x : CommandWords). IsRefusal (needs_families x) before held fault) same is)
   parts_not_refused _ _ _ (accepted_parts spec recording specs bytes parts spelled said given tells) (bad_script d others number source before names held fault spells says reached gives is apart) =
       never_both d spec recording (same_command d (Sweep spec recording) spells spelled) apart
+  parts_not_refused _ _ _ (accepted_parts spec recording specs bytes parts spelled said given tells) (bad_order d others some names held number fault spells says reads is apart) =
+      never_both d spec recording (same_command d (Sweep spec recording) spells spelled) apart
   parts_not_refused _ _ _ (accepted_parts spec recording specs bytes parts spelled said given tells) (bad_part again from others held number fault spells says gives is) =
       let same = same_command (Sweep spec recording) (Sweep again from) spelled spells in
       let all = told (Sweep spec recording) spelled in
@@ -69,7 +80,7 @@ module _ (words : List (List ℕ)) (contents : List ℕ → Option (List ℕ)) (
 
   not_refused : (status : Status) (job : Job) → IsSound job → IsJob words contents job → IsJob words contents (Refused status) → ⊥
   not_refused status (Refused other) sound job refused = sound
-  not_refused status (Accepted c specs scripts objects) sound job refused = accepted_not_refused status c specs scripts objects job refused
+  not_refused status (Accepted c specs scripts objects asked) sound job refused = accepted_not_refused status c specs scripts objects asked job refused
   not_refused status (AcceptedParts specs parts) sound job refused = parts_not_refused status specs parts job refused
 
   -- A command whose job isn't refused, and that met no fault of the folder or the sink, was done, or memory was short.
@@ -100,22 +111,28 @@ module _ (words : List (List ℕ)) (contents : List ℕ → Option (List ℕ)) (
   specs_stopped WriteFailed h = absurd h.stopped
 
   scripts_stopped : (specs : List Specification) → SaySpecifications contents (needs_families c) [] (spec_sources c) specs → reads_recording c ≡ false → (status : Status) → StopsScripts contents specs (length (spec_sources c)) (script_sources c) status → IsCaused words contents status
-  scripts_stopped specs said separate (BadScript k x) h =
+  scripts_stopped specs said separate (BadScript k x) (inl h) =
       let same : h.number ≡ k = sym h.stopped.0 in
       bad_script c specs k h.source h.before h.names h.stopped.1.0 x spelled said (subst (λ n. AreScriptsUpTo contents specs (script_sources c) n h.source h.before h.names) same h.reached) h.stopped.1.1 h.stopped.1.2 separate
-  scripts_stopped specs said separate (ReadFailed f) h =
+  scripts_stopped specs said separate (BadScript k x) (inr h) = bad_order c specs h.scripts h.objects h.texts k x spelled said h.said h.wrong separate
+  scripts_stopped specs said separate (ReadFailed f) (inl h) =
       subst (λ n. ReachesFile words contents n) (sym h.stopped.0) (script_file c specs h.number h.source h.before h.names spelled said h.reached h.stopped.1)
+  scripts_stopped specs said separate (ReadFailed f) (inr h) = absurd h.wrong
   scripts_stopped specs said separate NoMemory h = tt
-  scripts_stopped specs said separate Done h = absurd h.stopped
-  scripts_stopped specs said separate Usage h = absurd h.stopped
-  scripts_stopped specs said separate (BadSpec n x) h = absurd h.stopped
-  scripts_stopped specs said separate WriteFailed h = absurd h.stopped
+  scripts_stopped specs said separate Done (inl h) = absurd h.stopped
+  scripts_stopped specs said separate Done (inr h) = absurd h.wrong
+  scripts_stopped specs said separate Usage (inl h) = absurd h.stopped
+  scripts_stopped specs said separate Usage (inr h) = absurd h.wrong
+  scripts_stopped specs said separate (BadSpec n x) (inl h) = absurd h.stopped
+  scripts_stopped specs said separate (BadSpec n x) (inr h) = absurd h.wrong
+  scripts_stopped specs said separate WriteFailed (inl h) = absurd h.stopped
+  scripts_stopped specs said separate WriteFailed (inr h) = absurd h.wrong
 
   recording_stopped : (spec recording : List ℕ) (specs : List Specification) → c ≡ Sweep spec recording → SaySpecifications contents false [] (named (spec ∷ [])) specs → (status : Status) → IsNoRecording contents specs recording status → IsCaused words contents status
   recording_stopped spec recording specs is said (BadScript k x) h = bad_part spec recording specs h.0 k x (spelled ∙ ap (λ v. Some v) is) said h.1 h.2
   recording_stopped spec recording specs is said (ReadFailed f) h =
       subst (λ n. ReachesFile words contents n) (sym h)
-      (script_file (Sweep spec recording) specs 0 (Named recording) [] [] (spelled ∙ ap (λ v. Some v) is) said (record { first = []; rest = []; split = refl; numbered = refl; read = (refl, refl) }) tt)
+      (script_file (Sweep spec recording) specs 0 (Named recording) [] [] (spelled ∙ ap (λ v. Some v) is) said (record { first = []; rest = []; texts = []; split = refl; numbered = refl; read = (refl, refl, refl) }) tt)
   recording_stopped spec recording specs is said NoMemory h = tt
   recording_stopped spec recording specs is said Done h = absurd h
   recording_stopped spec recording specs is said Usage h = absurd h
@@ -148,6 +165,15 @@ before_script contents specs files count names number source (BadScript f x) h =
 before_script contents specs files count names number source (ReadFailed f) h = tt
 before_script contents specs files count names number source NoMemory h = tt
 
+before_order : (asked : List (List SyncLine)) (status : Status) → IsNoOrder asked status → IsBeforeWriting status
+before_order asked Done h = h
+before_order asked WriteFailed h = h
+before_order asked Usage h = tt
+before_order asked (BadSpec f x) h = tt
+before_order asked (BadScript f x) h = tt
+before_order asked (ReadFailed f) h = tt
+before_order asked NoMemory h = tt
+
 before_recording : (contents : List ℕ → Option (List ℕ)) (specs : List Specification) (name : List ℕ) (status : Status) → IsNoRecording contents specs name status → IsBeforeWriting status
 before_recording contents specs name Done h = h
 before_recording contents specs name WriteFailed h = h
@@ -161,7 +187,8 @@ pub stopped_before : (contents : List ℕ → Option (List ℕ)) (c : CommandWor
 stopped_before contents c _ short = tt
 stopped_before contents c _ (at_spec status h) = before_spec contents (needs_families c) h.before h.number h.source status h.stopped
 stopped_before contents c _ (at_recording spec recording specs status is said h) = before_recording contents specs recording status h
-stopped_before contents c _ (at_script specs status said h separate) = before_script contents specs (length (spec_sources c)) (step_count h.before) h.names h.number h.source status h.stopped
+stopped_before contents c _ (at_script specs status said (inl h) separate) = before_script contents specs (length (spec_sources c)) (step_count h.before) h.names h.number h.source status h.stopped
+stopped_before contents c _ (at_script specs status said (inr h) separate) = before_order (asked_by h.texts) status h.wrong
 
 -- ---- files
 
@@ -180,10 +207,10 @@ long_spec contents name families before h =
     let long = too_long_bytes (contents name) h in
     (long.0, long.1, faulty (spec_too_long long.2))
 
-long_script : (contents : List ℕ → Option (List ℕ)) (name : List ℕ) (specs : List Specification) (count : ℕ) (names : List (List ℕ)) → IfSome (contents name) (λ held. most_bytes < length held) → (bytes : List ℕ) × Gives contents (Named name) bytes × IsScriptFault specs count names bytes script.TooLong
+long_script : (contents : List ℕ → Option (List ℕ)) (name : List ℕ) (specs : List Specification) (count : ℕ) (names : List (List ℕ)) → IfSome (contents name) (λ held. most_bytes < length held) → (bytes : List ℕ) × Gives contents (Named name) bytes × IsScriptFileFault specs count names bytes script.TooLong
 long_script contents name specs count names h =
     let long = too_long_bytes (contents name) h in
-    (long.0, long.1, too_long long.2)
+    (long.0, long.1, file_too_long long.2)
 
 -- a file that wasn't loaded, as a source of specifications and as one of scripts
 pub faulty_not_loaded : (contents : List ℕ → Option (List ℕ)) (name : List ℕ) (number : ℕ) (status : Status) → IsFaulty status → IfSome (contents name) (λ held. most_bytes < length held) → IsNotLoaded contents name number status status
@@ -232,7 +259,7 @@ spec_from contents families before number source bytes given (BadScript n x) h =
 spec_from contents families before number source bytes given (ReadFailed n) h = absurd h
 spec_from contents families before number source bytes given WriteFailed h = absurd h
 
-pub script_from : (contents : List ℕ → Option (List ℕ)) (specs : List Specification) (files count : ℕ) (names : List (List ℕ)) (number : ℕ) (source : Source) (bytes : List ℕ) → Gives contents source bytes → (status : Status) → IsNoScriptIn specs count names number bytes status → IsNoScript contents specs files count names number source status
+pub script_from : (contents : List ℕ → Option (List ℕ)) (specs : List Specification) (files count : ℕ) (names : List (List ℕ)) (number : ℕ) (source : Source) (bytes : List ℕ) → Gives contents source bytes → (status : Status) → IsNoScriptFileIn specs count names number bytes status → IsNoScript contents specs files count names number source status
 script_from contents specs files count names number source bytes given (BadScript k x) h = (h.0, (bytes, given, h.1))
 script_from contents specs files count names number source bytes given NoMemory h = tt
 script_from contents specs files count names number source bytes given Done h = absurd h

@@ -3,6 +3,8 @@ pub mod TreeLemmas
 pub mod BlockLemmas
 pub mod InputLemmas
 pub mod RecordingLemmas
+pub mod OrderLemmas
+pub mod SilentLemmas
 pub mod JobLemmas
 pub mod LibraryLemmas
 pub mod ScriptLemmas

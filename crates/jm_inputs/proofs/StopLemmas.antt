@@ -30,8 +30,8 @@ use Rattle.jm_inputs.specs.Sources.{Source, Named, Given, Gives, IsFile}
 use Rattle.jm_inputs.specs.Commands.{named, given_files, workload_specs, workload_scripts}
 use Rattle.jm_inputs.specs.Specifications.{Specification, line_or, grammar_line_of, IsSpecification}
 use Rattle.jm_inputs.specs.Scripts.{catalog_of}
-use Rattle.jm_inputs.specs.Inputs.{grammar_fault, SaySpecifications, step_count}
-use Rattle.jm_inputs.specs.Causes.{IsNotLoaded, IsNoSpec, IsNoScript, IsNoRecording, StopsSpecs, StopsScripts, StopsInputs, StopsCommand, short, at_spec, at_script, at_recording, IsNoRecordingIn}
+use Rattle.jm_inputs.specs.Inputs.{grammar_fault, SaySpecifications, step_count, asked_by}
+use Rattle.jm_inputs.specs.Causes.{IsNotLoaded, IsNoSpec, IsNoOrder, IsNoScript, IsNoRecording, StopsSpecs, StopsScripts, StopsInputs, StopsCommand, short, at_spec, at_script, at_recording, IsNoRecordingIn}
 use Rattle.jm_inputs.specs.Reading.{Listed, listed_in, specification_of, specs_in, IsLibraryOf, AreScriptsOf, AreInputsOf}
 use Rattle.jm_inputs.specs.Recordings.{too_long}
 use Rattle.jm_inputs.proofs.JobLemmas.{too_long_bytes}
@@ -141,7 +141,7 @@ workload_library contents library h =
 
 pub workload_many : (contents : List ℕ → Option (List ℕ)) (specs : List Specification) (n : ℕ) (scripts : Scripts) → AreScriptsOf contents specs (given_files (workload_scripts n)) scripts → length scripts.list.items ≡ 4
 workload_many contents specs n scripts h =
-    length-scripts contents specs 0 [] (given_files (workload_scripts n)) scripts.list.items scripts.objects h.said ∙ length-map (workload_scripts n) (λ bytes. Given bytes) ∙ scripts_length_of n
+    length-scripts contents specs 0 [] (given_files (workload_scripts n)) scripts.list.items scripts.objects h.read.texts h.read.said ∙ length-map (workload_scripts n) (λ bytes. Given bytes) ∙ scripts_length_of n
 
 -- no file is among them
 no_file : (files : List (List ℕ)) (first rest : List Source) (source : Source) → given_files files ≡ first ++ source ∷ rest → IsFile source → ⊥
@@ -155,8 +155,9 @@ module _ (contents : List ℕ → Option (List ℕ)) (file : ℕ) where
   given_specs_unread files status h is = no_file files h.reached.first h.reached.rest h.source h.reached.split (subst (λ (s : Status). IsNoSpec contents false h.before h.number h.source s) is h.stopped).1
 
   given_scripts_unread : (specs : List Specification) (count : ℕ) (files : List (List ℕ)) (status : Status) → StopsScripts contents specs count (given_files files) status → status ≡ ReadFailed file → ⊥
-  given_scripts_unread specs count files status h is =
+  given_scripts_unread specs count files status (inl h) is =
       no_file files h.reached.first h.reached.rest h.source h.reached.split (subst (λ (s : Status). IsNoScript contents specs count (step_count h.before) h.names h.number h.source s) is h.stopped).1
+  given_scripts_unread specs count files status (inr h) is = subst (λ (s : Status). IsNoOrder (asked_by h.texts) s) is h.wrong
 
   pub unread : (n : ℕ) (status : Status) → StopsCommand contents (Gen n) status → status ≡ ReadFailed file → ⊥
   unread n _ short is = absurd cc

@@ -3,12 +3,14 @@ use Rattle.std.specs.Prelude.{ℕ, ◌+◌, ◌≡◌, ◌<◌, ◌⊎◌, Bool,
 use Rattle.jm_model.specs.Words.{Text}
 use Rattle.jm_port.specs.Faults.{HasRisen}
 use Rattle.jm_script.specs.declared.script.ScriptLine.{ScriptLine}
+use Rattle.jm_sync.specs.declared.line.SyncLine.{SyncLine}
+use Rattle.jm_sync.specs.Checks.{IsWrong}
 use Rattle.jm_inputs.specs.declared.status.Status.{Status}
 use Rattle.jm_inputs.specs.declared.status.Status.TheVariants.{Done, BadSpec, BadScript, ReadFailed, WriteFailed, NoMemory}
 use Rattle.jm_inputs.specs.Sources.{FileContents, Source, Named, IsFile, Gives}
 use Rattle.jm_inputs.specs.Specifications.{Specification, most_bytes}
-use Rattle.jm_inputs.specs.Scripts.{IsScriptFault}
-use Rattle.jm_inputs.specs.Inputs.{IsRefusal, SaySpecifications, AreReadUpTo, step_count, AreScriptsUpTo}
+use Rattle.jm_inputs.specs.Scripts.{IsScriptFault, IsScriptFileFault}
+use Rattle.jm_inputs.specs.Inputs.{IsRefusal, SaySpecifications, AreReadUpTo, step_count, SayScripts, AreScriptsUpTo, asked_by}
 use Rattle.jm_cli.specs.Words.{CommandWords}
 use Rattle.jm_cli.specs.Words.CommandWords.{Sweep}
 use Rattle.jm_inputs.specs.Commands.{named, spec_sources, script_sources, reads_recording, needs_families}
@@ -51,6 +53,19 @@ IsNoScriptIn specs count names number bytes (BadScript script fault) =
 IsNoScriptIn specs count names number bytes NoMemory = Unit {0}
 IsNoScriptIn specs count names number bytes _ = ⊥
 
+-- the bytes of a file, which has this number, say no script behind others with so many steps and these names of objects
+abbrev pub IsNoScriptFileIn : List Specification → ℕ → List Text → ℕ → Text → Status → Type 0
+IsNoScriptFileIn specs count names number bytes (BadScript script fault) =
+    (script ≡ number) × IsScriptFileFault specs count names bytes fault
+IsNoScriptFileIn specs count names number bytes NoMemory = Unit {0}
+IsNoScriptFileIn specs count names number bytes _ = ⊥
+
+-- scripts that ask for this can't be done so: this is wrong, and what comes before it in the order of faults isn't
+abbrev pub IsNoOrder : List (List SyncLine) → Status → Type 0
+IsNoOrder asked (BadScript script fault) = IsWrong asked script fault
+IsNoOrder asked NoMemory = Unit {0}
+IsNoOrder asked _ = ⊥
+
 module _ (contents : FileContents) where
   -- this source, which has this number, gives no specification behind these
   abbrev pub IsNoSpec : Bool → List Specification → ℕ → Source → Status → Type 0
@@ -71,13 +86,14 @@ module _ (contents : FileContents) where
   -- this source, which has this number, gives no script behind these; so many files are before the scripts
   abbrev pub IsNoScript : List Specification → ℕ → ℕ → List Text → ℕ → Source → Status → Type 0
   IsNoScript specs files count names number source (BadScript script fault) =
-      (script ≡ number) × ((bytes : Text) × Gives contents source bytes × IsScriptFault specs count names bytes fault)
+      (script ≡ number)
+      × ((bytes : Text) × Gives contents source bytes × IsScriptFileFault specs count names bytes fault)
   IsNoScript specs files count names number source (ReadFailed file) = (file ≡ files + number) × IsFile source
   IsNoScript specs files count names number source NoMemory = Unit {0}
   IsNoScript specs files count names number source _ = ⊥
 
   -- one of the sources, of which the ones before it say scripts, gives none
-  pub record StopsScripts (specs : List Specification) (files : ℕ) (sources : List Source)
+  pub record StopsAtScript (specs : List Specification) (files : ℕ) (sources : List Source)
       (status : Status) : Type 0 where
     pub number : ℕ
     pub source : Source
@@ -85,6 +101,19 @@ module _ (contents : FileContents) where
     pub names : List Text
     pub reached : AreScriptsUpTo contents specs sources number source before names
     pub stopped : IsNoScript specs files (step_count before) names number source status
+
+  -- the sources say scripts, and what these ask for can't be done
+  pub record StopsInOrder (specs : List Specification) (sources : List Source) (status : Status) : Type 0 where
+    pub scripts : List (List ScriptLine)
+    pub objects : List Text
+    pub texts : List Text
+    pub said : SayScripts contents specs 0 [] sources scripts objects texts
+    pub wrong : IsNoOrder (asked_by texts) status
+
+  -- why scripts aren't read, or aren't to be done
+  abbrev pub StopsScripts : List Specification → ℕ → List Source → Status → Type 0
+  StopsScripts specs files sources status =
+      StopsAtScript specs files sources status ⊎ StopsInOrder specs sources status
 
 -- these bytes are no recording over these specifications
 abbrev pub IsNoRecordingIn : List Specification → Text → Status → Type 0

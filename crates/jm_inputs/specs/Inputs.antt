@@ -7,9 +7,11 @@ use Rattle.jm_events.specs.Names.{number_of}
 use Rattle.jm_reading.specs.Faults.{or_else}
 use Rattle.jm_script.specs.declared.script.ScriptLine.{ScriptLine}
 use Rattle.jm_script.specs.Catalogs.{spec_names}
+use Rattle.jm_sync.specs.declared.line.SyncLine.{SyncLine}
+use Rattle.jm_sync.specs.Cuts.{names_after, sync_lines_of}
 use Rattle.jm_inputs.specs.Sources.{FileContents, Source, Gives}
 use Rattle.jm_inputs.specs.Specifications.{Specification, IsSpecification, IsSpecFault}
-use Rattle.jm_inputs.specs.Scripts.{catalog_of, IsScript}
+use Rattle.jm_inputs.specs.Scripts.{catalog_of, IsScriptFile}
 
 -- ---- specifications
 
@@ -62,21 +64,38 @@ step_count [] = 0
 step_count (script ∷ scripts) = length script + step_count scripts
 
 module _ (contents : FileContents) (specs : List Specification) where
-  -- the sources say these scripts, in order, behind so many steps and with these names of objects; and the names in the
-  -- end
-  abbrev pub SayScripts : ℕ → List Text → List Source → List (List ScriptLine) → List Text → Type 0
-  SayScripts count names [] scripts objects = (scripts ≡ []) × (objects ≡ names)
-  SayScripts count names (source ∷ sources) scripts objects =
+  -- the sources say these scripts, in order, behind so many steps and with these names of objects; the names in the
+  -- end, and the bytes of each source
+  abbrev pub SayScripts : ℕ → List Text → List Source → List (List ScriptLine) → List Text → List Text → Type 0
+  SayScripts count names [] scripts objects texts = (scripts ≡ []) × (objects ≡ names) × (texts ≡ [])
+  SayScripts count names (source ∷ sources) scripts objects texts =
       (bytes : Text) × (script : List ScriptLine) × (more : List (List ScriptLine)) × (later : List Text)
-      × (scripts ≡ script ∷ more)
-      × Gives contents source bytes × IsScript specs count names bytes script later
-      × SayScripts (count + length script) later sources more objects
+      × (others : List Text) × (scripts ≡ script ∷ more) × (texts ≡ bytes ∷ others)
+      × Gives contents source bytes × IsScriptFile specs count names bytes script later
+      × SayScripts (count + length script) later sources more objects others
 
   -- this source has this number among the sources, and those before it say these scripts, with these names of objects
   pub record AreScriptsUpTo (sources : List Source) (number : ℕ) (source : Source)
       (scripts : List (List ScriptLine)) (objects : List Text) : Type 0 where
     pub first : List Source
     pub rest : List Source
+    pub texts : List Text
     pub split : sources ≡ first ++ source ∷ rest
     pub numbered : number ≡ length first
-    pub read : SayScripts 0 [] first scripts objects
+    pub read : SayScripts 0 [] first scripts objects texts
+
+-- ---- what scripts ask for
+
+-- what the texts of scripts ask for, one by one, behind these names
+abbrev pub asked_behind : List Text → List Text → List (List SyncLine)
+asked_behind names [] = []
+asked_behind names (text ∷ texts) = sync_lines_of names text ∷ asked_behind (names_after names text) texts
+
+-- and the names then
+abbrev pub names_behind_all : List Text → List Text → List Text
+names_behind_all names [] = names
+names_behind_all names (text ∷ texts) = names_behind_all (names_after names text) texts
+
+-- what the texts of scripts ask for: the names are told apart in all of them
+abbrev pub asked_by : List Text → List (List SyncLine)
+asked_by texts = asked_behind [] texts

@@ -4,6 +4,8 @@ use Rattle.jm_model.specs.Words.{Text}
 use Rattle.jm_model.specs.declared.fault.SpecFault.{SpecFault}
 use Rattle.jm_model.specs.declared.fault.ScriptFault.{ScriptFault}
 use Rattle.jm_script.specs.declared.script.ScriptLine.{ScriptLine}
+use Rattle.jm_sync.specs.declared.line.SyncLine.{SyncLine}
+use Rattle.jm_sync.specs.Checks.{AreSound, IsWrong}
 use Rattle.jm_cli.specs.Words.{CommandWords, command_of}
 use Rattle.jm_cli.specs.Words.CommandWords.{Sweep}
 use Rattle.jm_inputs.specs.declared.status.Status.{Status}
@@ -11,16 +13,16 @@ use Rattle.jm_inputs.specs.declared.status.Status.TheVariants.{Usage, BadSpec, B
 use Rattle.jm_inputs.specs.Sources.{FileContents, Source, Named, IsFile, Gives, AllTold}
 use Rattle.jm_inputs.specs.Commands.{named, spec_sources, script_sources, reads_recording, needs_families}
 use Rattle.jm_inputs.specs.Specifications.{Specification}
-use Rattle.jm_inputs.specs.Scripts.{IsScriptFault}
+use Rattle.jm_inputs.specs.Scripts.{IsScriptFileFault}
 use Rattle.jm_inputs.specs.Recordings.{RecordedPart, IsRecording, IsRecordingFault}
-use Rattle.jm_inputs.specs.Inputs.{IsRefusal, SaySpecifications, AreReadUpTo, step_count, SayScripts, AreScriptsUpTo}
+use Rattle.jm_inputs.specs.Inputs.{IsRefusal, SaySpecifications, AreReadUpTo, step_count, SayScripts, AreScriptsUpTo, asked_by}
 
--- either the command is refused, or it is done over these specifications and scripts, by these names of objects; or
--- over these specifications and the parts of a recording
+-- either the command is refused, or it is done over these specifications and scripts, by these names of objects and in
+-- an order that the scripts ask for; or over these specifications and the parts of a recording
 pub data Job : Type 0 where
   Refused : (status : Status) → Job
   Accepted : (command : CommandWords) (specs : List Specification) (scripts : List (List ScriptLine))
-      (objects : List Text) → Job
+      (objects : List Text) (asked : List (List SyncLine)) → Job
   AcceptedParts : (specs : List Specification) (parts : List RecordedPart) → Job
 
 -- the job has no fault
@@ -29,8 +31,8 @@ IsSound (Refused status) = ⊥
 IsSound _ = Unit {0}
 
 module _ (words : List Text) (contents : FileContents) where
-  -- The job: the first fault in the order of the work, which is the words, each specification in order, each script or
-  -- each part of the recording in order; or, where there is none, what was read.
+  -- The job: the first fault in the order of the work, which is the words, each specification in order, each script in
+  -- order and then what they ask for, or each part of the recording in order; or, where there is none, what was read.
   pub data IsJob : Job → Type 0 where
     no_command : command_of words ≡ None → IsJob (Refused Usage)
     bad_spec : (command : CommandWords) (number : ℕ) (source : Source) (before : List Specification) (bytes : Text)
@@ -46,16 +48,25 @@ module _ (words : List Text) (contents : FileContents) where
         → SaySpecifications contents (needs_families command) [] (spec_sources command) specs
         → AreScriptsUpTo contents specs (script_sources command) number source before names
         → Gives contents source bytes
-        → IsScriptFault specs (step_count before) names bytes fault
+        → IsScriptFileFault specs (step_count before) names bytes fault
+        → reads_recording command ≡ false
+        → IsJob (Refused (BadScript number fault))
+    bad_order : (command : CommandWords) (specs : List Specification) (scripts : List (List ScriptLine))
+        (objects texts : List Text) (number : ℕ) (fault : ScriptFault)
+        → command_of words ≡ Some command
+        → SaySpecifications contents (needs_families command) [] (spec_sources command) specs
+        → SayScripts contents specs 0 [] (script_sources command) scripts objects texts
+        → IsWrong (asked_by texts) number fault
         → reads_recording command ≡ false
         → IsJob (Refused (BadScript number fault))
     accepted : (command : CommandWords) (specs : List Specification) (scripts : List (List ScriptLine))
-        (objects : List Text)
+        (objects texts : List Text)
         → command_of words ≡ Some command
         → SaySpecifications contents (needs_families command) [] (spec_sources command) specs
-        → SayScripts contents specs 0 [] (script_sources command) scripts objects
+        → SayScripts contents specs 0 [] (script_sources command) scripts objects texts
+        → AreSound (asked_by texts)
         → reads_recording command ≡ false
-        → IsJob (Accepted command specs scripts objects)
+        → IsJob (Accepted command specs scripts objects (asked_by texts))
     bad_part : (spec recording : Text) (specs : List Specification) (bytes : Text) (number : ℕ) (fault : ScriptFault)
         → command_of words ≡ Some (Sweep spec recording)
         → SaySpecifications contents false [] (named (spec ∷ [])) specs

@@ -6,6 +6,7 @@ use Rattle.jm_model.specs.declared.fault.ScriptFault.TheVariants.{TooLong}
 use Rattle.jm_script.specs.declared.script.ScriptLine.{ScriptLine}
 use Rattle.jm_script.specs.Catalogs.{CatalogEntry}
 use Rattle.jm_script.specs.Meanings.{ScriptMeaning, script_meaning}
+use Rattle.jm_sync.specs.Cuts.{rest_of}
 use Rattle.jm_inputs.specs.Specifications.{Specification, most_bytes}
 
 -- a specification as scripts may name it
@@ -36,3 +37,19 @@ pub data IsScriptFault (specs : List Specification) (count : ℕ) (names : List 
       → length bytes ≤ most_bytes
       → (meaning_over specs count names bytes).fault ≡ Some fault
       → IsScriptFault specs count names bytes fault
+
+-- The bytes of a file say these steps, and these are the names of objects then: once the lines that ask for order are
+-- taken out, no line has a fault.
+pub record IsScriptFile (specs : List Specification) (count : ℕ) (names : List Text) (bytes : Text)
+    (script : List ScriptLine) (objects : List Text) : Type 0 where
+  pub small : length bytes ≤ most_bytes
+  pub said : IsScript specs count names (rest_of bytes) script objects
+
+-- the first fault of the bytes of such a file: they are too many, or a line that asks for no order has it
+pub data IsScriptFileFault (specs : List Specification) (count : ℕ) (names : List Text) (bytes : Text) : ScriptFault
+    → Type 0 where
+  file_too_long : most_bytes < length bytes → IsScriptFileFault specs count names bytes TooLong
+  in_file : (fault : ScriptFault)
+      → length bytes ≤ most_bytes
+      → (meaning_over specs count names (rest_of bytes)).fault ≡ Some fault
+      → IsScriptFileFault specs count names bytes fault

@@ -4,9 +4,10 @@ ghost use Rattle.jm_model.specs.declared.fault.ScriptFault.{ScriptFault};
 ghost use Rattle.jm_inputs.specs.Commands.{named, given_files};
 ghost use Rattle.jm_inputs.specs.Sources.{FileContents, Named};
 ghost use Rattle.jm_inputs.specs.Specifications.{Specification, most_bytes};
-ghost use Rattle.jm_inputs.specs.Scripts.{IsScriptFault};
+ghost use Rattle.jm_sync.specs.Checks.{AreSound, sync_of};
+ghost use Rattle.jm_inputs.specs.Scripts.{IsScriptFileFault};
 ghost use Rattle.jm_inputs.specs.Reading.{specs_in, IsCatalogued, AreCounted, HasScript, HasScriptFrom, AreScriptsOf};
-ghost use Rattle.jm_inputs.specs.Causes.{CountsFailedReads, IsNoScript, IsNoScriptIn, StopsScripts};
+ghost use Rattle.jm_inputs.specs.Causes.{CountsFailedReads, IsNoOrder, IsNoScript, IsNoScriptFileIn, StopsScripts};
 
 use crate::files::load;
 use crate::library::Library;
@@ -15,14 +16,18 @@ use jm_events::Names;
 use jm_model::{ScriptError, ScriptFault};
 use jm_port::Folder;
 use jm_script::{Script, read_script};
+use jm_sync::{Cut, SyncError, check, cut};
 use std::alloc::Global;
 
-/// Scripts in order, the names of their objects, and how many steps they have.
+/// Scripts in order, the names of their objects, and how many steps they have; the lines of each that ask for order,
+/// and the names that these post or wait for.
 #[derive(Drop)]
 pub struct Scripts {
     pub list: Vec<Script>,
     pub objects: Names,
     pub count: u32,
+    pub cuts: Vec<Cut>,
+    pub posted: Names,
 }
 
 impl Scripts {
@@ -31,17 +36,22 @@ impl Scripts {
         ensures list { result.list.items ≡ [] }
         ensures objects { result.objects ≡ [] }
         ensures count { result.count ≡ 0 }
+        ensures cuts { result.cuts.items ≡ [] }
+        ensures posted { result.posted ≡ [] }
         ensures counted { (specs : List Specification) → AreCounted specs result }
     {
         Scripts {
             list: Vec::new(alloc),
             objects: Names::new(alloc),
             count: 0,
+            cuts: Vec::new(alloc),
+            posted: Names::new(alloc),
         }
     }
 }
 
-/// Reads the scripts of these names, in order, over the specifications of the library, whose files stand before them.
+/// Reads the scripts of these names, in order, over the specifications of the library, whose files stand before them,
+/// and checks what they ask for.
 pub(crate) fn read_scripts<F: Folder>(
     alloc: Global,
     names: &[String],
@@ -61,10 +71,12 @@ pub(crate) fn read_scripts<F: Folder>(
     for name in names {
         read_next(alloc, name.as_str(), library, files, &mut scripts)?;
     }
+    check_order(alloc, scripts.cuts.as_slice())?;
     Ok(scripts)
 }
 
-/// Reads the scripts that these bytes say, in order, over the specifications of the library.
+/// Reads the scripts that these bytes say, in order, over the specifications of the library, and checks what they ask
+/// for.
 pub(crate) fn given_scripts(
     alloc: Global,
     files: &[Vec<u8>],
@@ -83,7 +95,23 @@ pub(crate) fn given_scripts(
     for file in files {
         read_given(alloc, file.as_slice(), library, &mut scripts)?;
     }
+    check_order(alloc, scripts.cuts.as_slice())?;
     Ok(scripts)
+}
+
+/// Whether scripts can be done in the order that they ask for.
+fn check_order(alloc: Global, cuts: &[Cut]) -> Result<(), Status>
+    requires { length cuts.now ≤ 16 }
+    ensures sound { OnOk result (AreSound (sync_of cuts.now)) }
+    ensures err { IfErr result (IsNoOrder (sync_of cuts.now)) }
+{
+    let Err(error) = check(alloc, cuts) else {
+        return Ok(());
+    };
+    match error {
+        SyncError::Bad { script, fault } => Err(Status::BadScript { script, fault }),
+        SyncError::NoMemory => Err(Status::NoMemory),
+    }
 }
 
 /// Reads the script that these bytes say, behind the others, however many they are.
@@ -97,7 +125,7 @@ fn read_given(
     requires catalogued { IsCatalogued library.now }
     requires counted { AreCounted (specs_in library.now) scripts.old }
     ensures read { OnOk result (HasScript (specs_in library.now) bytes.now scripts.old scripts.new) }
-    ensures err { IfErr result (IsNoScriptIn (specs_in library.now) scripts.old.count scripts.old.objects
+    ensures err { IfErr result (IsNoScriptFileIn (specs_in library.now) scripts.old.count scripts.old.objects
         (length scripts.old.list.items) bytes.now) }
 {
     let number = scripts.list.len() as u32;
@@ -154,10 +182,11 @@ fn read_bytes(
     scripts: &mut Scripts,
 ) -> Result<(), Status>
     requires small { length bytes.now ≤ most_bytes }
+    requires few { length scripts.old.list.items < 16 }
     requires catalogued { IsCatalogued library.now }
     requires counted { AreCounted (specs_in library.now) scripts.old }
     ensures read { OnOk result (HasScript (specs_in library.now) bytes.now scripts.old scripts.new) }
-    ensures err { IfErr result (IsNoScriptIn
+    ensures err { IfErr result (IsNoScriptFileIn
         (specs_in library.now) scripts.old.count scripts.old.objects number bytes.now) }
 {
     match add(alloc, bytes, library, scripts) {
@@ -172,7 +201,7 @@ fn read_bytes(
     }
 }
 
-/// Reads the script that these bytes say, behind the others.
+/// Reads the script that these bytes say, behind the others. Of its cut the lines are kept that ask for order.
 fn add(
     alloc: Global,
     bytes: &[u8],
@@ -180,19 +209,25 @@ fn add(
     scripts: &mut Scripts,
 ) -> Result<(), ScriptError>
     requires small { length bytes.now ≤ most_bytes }
+    requires few { length scripts.old.list.items < 16 }
     requires catalogued { IsCatalogued library.now }
     requires counted { AreCounted (specs_in library.now) scripts.old }
     ensures read { OnOk result (HasScript (specs_in library.now) bytes.now scripts.old scripts.new) }
     ensures fault { (fault : ScriptFault) → result ≡ Err (ScriptError.Bad fault)
-        → IsScriptFault (specs_in library.now) scripts.old.count scripts.old.objects bytes.now fault }
+        → IsScriptFileFault (specs_in library.now) scripts.old.count scripts.old.objects bytes.now fault }
 {
+    let Cut { rest, lines } = cut(alloc, bytes, &mut scripts.posted)?;
     let script = read_script(
         alloc,
-        bytes,
+        rest.as_slice(),
         &library.catalog,
         &mut scripts.objects,
         &mut scripts.count,
     )?;
     scripts.list.push(script)?;
+    scripts.cuts.push(Cut {
+        rest: Vec::new(alloc),
+        lines,
+    })?;
     Ok(())
 }

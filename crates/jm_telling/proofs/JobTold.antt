@@ -5,6 +5,8 @@ use Rattle.std.proofs.lemmas.List.{length-map}
 use Rattle.jm_model.specs.declared.step.Entry.{Entry}
 use Rattle.jm_events.specs.Events.{EventDefinition, EventDefinitions}
 use Rattle.jm_script.specs.declared.script.ScriptLine.{ScriptLine}
+use Rattle.jm_sync.specs.declared.line.SyncLine.{SyncLine}
+use Rattle.jm_sync.specs.Cuts.{rest_of}
 use Rattle.jm_machine.specs.Meanings.{RuleDefinition}
 use Rattle.jm_print.specs.Told.{AreToldBy}
 use Rattle.jm_cli.specs.Words.{CommandWords}
@@ -33,19 +35,19 @@ record AreFitScripts (names : List (List ℕ)) (sources : List Source) (scripts 
   many : length scripts ≡ length sources
   lines : AreLinesIn (length objects) scripts
 
-fit_scripts : (contents : List ℕ → Option (List ℕ)) (specs : List Specification) (count : ℕ) (names : List (List ℕ)) (sources : List Source) (scripts : List (List ScriptLine)) (objects : List (List ℕ)) → SayScripts contents specs count names sources scripts objects → AreFitScripts names sources scripts objects
-fit_scripts contents specs count names [] scripts objects said =
+fit_scripts : (contents : List ℕ → Option (List ℕ)) (specs : List Specification) (count : ℕ) (names : List (List ℕ)) (sources : List Source) (scripts : List (List ScriptLine)) (objects texts : List (List ℕ)) → SayScripts contents specs count names sources scripts objects texts → AreFitScripts names sources scripts objects
+fit_scripts contents specs count names [] scripts objects texts said =
     subst (λ (ss : List (List ScriptLine)). AreFitScripts names [] ss objects) (sym said.0)
     (record { grown = omega (arith, ap (λ (os : List (List ℕ)). length os) said.1); many = omega arith; lines = tt })
-fit_scripts contents specs count names (source ∷ sources) scripts objects said =
-    let is = said.6 in
-    let more = fit_scripts contents specs (count + length said.1) said.3 sources said.2 objects said.7 in
-    let meaning = meaning_over specs count names said.0 in
-    let fits = fit_script (catalog_of specs) count said.0 names is.small in
+fit_scripts contents specs count names (source ∷ sources) scripts objects texts said =
+    let is = said.8.said in
+    let more = fit_scripts contents specs (count + length said.1) said.3 sources said.2 objects said.4 said.9 in
+    let meaning = meaning_over specs count names (rest_of said.0) in
+    let fits = fit_script (catalog_of specs) count (rest_of said.0) names is.small in
     let grows : length meaning.names ≤ length objects = omega (arith, ap (λ (os : List (List ℕ)). length os) is.named, more.grown) in
     let here : AllByRecursion (IsLineIn (length objects) (2 ^ 64)) said.1 =
     subst (λ (ls : List ScriptLine). AllByRecursion (IsLineIn (length objects) (2 ^ 64)) ls) (sym is.lines) (more_lines (length meaning.names) (length objects) (2 ^ 64) meaning.lines grows fits.lines) in
-    subst (λ (ss : List (List ScriptLine)). AreFitScripts names (source ∷ sources) ss objects) (sym said.4)
+    subst (λ (ss : List (List ScriptLine)). AreFitScripts names (source ∷ sources) ss objects) (sym said.5)
     (record { grown = omega (arith, fits.grown, grows); many = omega (arith, more.many); lines = (here, more.lines) })
 
 -- a command has few scripts
@@ -83,8 +85,8 @@ histories_told objects scripts short lines number (s ∷ specs) (h ∷ hs) said 
   histories_told objects scripts short lines (number + 1) specs hs said.1 are.1,
 )
 
-pub job_told : (words : List (List ℕ)) (contents : List ℕ → Option (List ℕ)) (command : CommandWords) (specs : List Specification) (scripts : List (List ScriptLine)) (objects : List (List ℕ)) (hs : List (List Entry)) → IsJob words contents (Accepted command specs scripts objects) → AreHistoriesFrom 0 specs scripts hs → AreToldBy (map (lexicon objects) specs) hs
-job_told words contents _ _ _ _ hs (accepted command specs scripts objects spelled said tells separate) are =
-    let fits = fit_scripts contents specs 0 [] (script_sources command) scripts objects tells in
+pub job_told : (words : List (List ℕ)) (contents : List ℕ → Option (List ℕ)) (command : CommandWords) (specs : List Specification) (scripts : List (List ScriptLine)) (objects : List (List ℕ)) (asked : List (List SyncLine)) (hs : List (List Entry)) → IsJob words contents (Accepted command specs scripts objects asked) → AreHistoriesFrom 0 specs scripts hs → AreToldBy (map (lexicon objects) specs) hs
+job_told words contents _ _ _ _ _ hs (accepted command specs scripts objects texts spelled said tells sound separate) are =
+    let fits = fit_scripts contents specs 0 [] (script_sources command) scripts objects texts tells in
     let short : length scripts ≤ 16 = omega (arith, fits.many, few_sources command (few_named words command spelled)) in
     histories_told objects scripts short fits.lines 0 specs hs (each_said contents _ [] _ specs said) are

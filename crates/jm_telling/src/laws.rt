@@ -6,6 +6,7 @@ ghost use Rattle.jm_model.specs.declared.fault.ScriptFault.{ScriptFault};
 ghost use Rattle.jm_model.specs.declared.fault.SpecFault.{SpecFault};
 ghost use Rattle.jm_model.specs.declared.step.Entry.{Entry};
 ghost use Rattle.jm_script.specs.declared.script.ScriptLine.{ScriptLine};
+ghost use Rattle.jm_sync.specs.declared.line.SyncLine.{SyncLine};
 ghost use Rattle.jm_cli.specs.Words.{CommandWords};
 ghost use Rattle.jm_print.specs.Told.{HaveNames, AreToldBy, texts_of};
 ghost use Rattle.jm_sweep.specs.Recordings.{parts_of};
@@ -24,7 +25,8 @@ ghost use Rattle.jm_telling.specs.TokenLaws.{TokensTile, WordsAreMaximal, MarksA
 pub fn inputs_have_names()
     ensures { (words : List (List ℕ)) (contents : List ℕ → Option (List ℕ)) (command : CommandWords)
         → (specs : List Specification) (scripts : List (List ScriptLine)) (objects : List (List ℕ))
-        → IsJob words contents (Accepted command specs scripts objects)
+        → (asked : List (List SyncLine))
+        → IsJob words contents (Accepted command specs scripts objects asked)
         → HaveNames (map (lexicon objects) specs) }
 {}
 
@@ -33,14 +35,14 @@ pub fn inputs_have_names()
 pub fn text_tells_histories()
     ensures told { (words : List (List ℕ)) (contents : List ℕ → Option (List ℕ)) (command : CommandWords)
         → (specs : List Specification) (scripts : List (List ScriptLine)) (objects : List (List ℕ))
-        → (hs : List (List Entry))
-        → IsJob words contents (Accepted command specs scripts objects)
+        → (asked : List (List SyncLine)) (hs : List (List Entry))
+        → IsJob words contents (Accepted command specs scripts objects asked)
         → AreHistoriesFrom 0 specs scripts hs
         → AreToldBy (map (lexicon objects) specs) hs }
     ensures one { (words : List (List ℕ)) (contents : List ℕ → Option (List ℕ)) (command : CommandWords)
         → (specs : List Specification) (scripts : List (List ScriptLine)) (objects : List (List ℕ))
-        → (hs others : List (List Entry))
-        → IsJob words contents (Accepted command specs scripts objects)
+        → (asked : List (List SyncLine)) (hs others : List (List Entry))
+        → IsJob words contents (Accepted command specs scripts objects asked)
         → AreHistoriesFrom 0 specs scripts hs
         → AreHistoriesFrom 0 specs scripts others
         → texts_of (map (lexicon objects) specs) hs ≡ texts_of (map (lexicon objects) specs) others
@@ -48,7 +50,7 @@ pub fn text_tells_histories()
 {}
 
 /// Each part of an accepted recording is a script by itself, with the same steps and objects as behind the parts before
-/// it. So its text in `sweep` is one that `replay` writes for a file of the part's bytes.
+/// it. So its text in `sweep` is the printed history of a replay of it by itself.
 pub fn parts_are_scripts()
     ensures { (specs : List Specification) (bytes : List ℕ) (parts : List RecordedPart)
         → IsRecording specs bytes parts → AllZip (IsPartAlone specs) (parts_of bytes) parts }

@@ -1,7 +1,12 @@
 -- The commands, by what was read.
-use Rattle.std.proofs.Common.{◌≡◌, ℕ, true, false, List, [], ◌∷◌, Option, Some, Result, Ok, Err, IfOk, IfErr, refl, ap, ◌∙◌}
+use Rattle.std.proofs.Common.{◌≡◌, ℕ, true, false, List, [], ◌∷◌, Option, Some, Result, Ok, Err, IfOk, IfErr, refl, ap, subst, ◌∙◌}
 use Rattle.std.specs.List.{flat_map}
 use Rattle.std.specs.Global.{Vec}
+use Rattle.std.proofs.lemmas.List.Elements.{All-nil}
+use Rattle.jm_sync.specs.declared.line.Cut.{Cut}
+use Rattle.jm_sync.specs.Checks.{AreSound, sync_of}
+use Rattle.jm_runner.proofs.PostLemmas.{none_sound}
+use Rattle.jm_inputs.specs.Inputs.{asked_by}
 use Rattle.jm_cli.specs.Words.CommandWords.{Replay, Run, Check, Coenable, Gen, Sweep}
 use Rattle.jm_inputs.specs.declared.status.Status.{Status}
 use Rattle.jm_model.specs.declared.fault.ScriptFault.TheVariants as script
@@ -10,7 +15,7 @@ use Rattle.jm_inputs.specs.declared.library.Library.{Library}
 use Rattle.jm_inputs.specs.declared.inputs.Inputs.{Inputs}
 use Rattle.jm_inputs.specs.Sources.{Named, Gives}
 use Rattle.jm_inputs.specs.Commands.{named, given_files, workload_specs, workload_scripts}
-use Rattle.jm_top.specs.Histories.{IsTextOfHistories, IsTextOfSummaries}
+use Rattle.jm_top.specs.Histories.{IsTextOfOrdered, IsTextOfSummaries}
 use Rattle.jm_top.specs.Texts.{declared_text, IsTextOfFamilies}
 use Rattle.jm_inputs.specs.Causes.{IsNoRecordingIn}
 use Rattle.jm_inputs.specs.Reading.{specs_in, IsLibraryOf, AreInputsOf}
@@ -22,29 +27,37 @@ use Rattle.jm_inputs.specs.Jobs.{Accepted, accepted, AcceptedParts, accepted_par
 use Rattle.jm_top.specs.Endings.{IsText}
 use Rattle.jm_top.specs.CarriedOut.{IsTextOfCommand, of_scripts, of_recording, IsCarriedOut}
 
+-- nothing is wrong where no script is
+nothing_asked : AreSound []
+nothing_asked = none_sound [] (All-nil (λ (cut : Cut). cut.lines.items ≡ []))
+
 module _ (contents : List ℕ → Option (List ℕ)) where
   pub replay_made : (spec script : List ℕ) (inputs : Inputs) (text : List ℕ) → AreInputsOf contents (named (spec ∷ [])) (named (script ∷ [])) inputs
-      → IsTextOfHistories (specs_in inputs.library) inputs.scripts.list.items inputs.scripts.objects text → IsTextOfCommand contents (Replay spec script) text
+      → IsTextOfOrdered (specs_in inputs.library) inputs.scripts.list.items (sync_of inputs.scripts.cuts.items) inputs.scripts.objects text → IsTextOfCommand contents (Replay spec script) text
   replay_made spec script inputs text h made = of_scripts (record {
     specs = specs_in inputs.library;
     scripts = inputs.scripts.list.items;
     objects = inputs.scripts.objects;
+    texts = h.read.read.texts;
     said = h.library.said;
-    told = h.read.said;
+    told = h.read.read.said;
+    sound = subst AreSound h.read.read.asked h.read.sound;
     separate = refl;
-    is_text = made;
+    is_text = subst (λ v. IsTextOfOrdered (specs_in inputs.library) inputs.scripts.list.items v inputs.scripts.objects text) h.read.read.asked made;
   })
 
   pub run_made : (specs scripts : List (List ℕ)) (inputs : Inputs) (text : List ℕ) → AreInputsOf contents (named specs) (named scripts) inputs
-      → IsTextOfHistories (specs_in inputs.library) inputs.scripts.list.items inputs.scripts.objects text → IsTextOfCommand contents (Run specs scripts) text
+      → IsTextOfOrdered (specs_in inputs.library) inputs.scripts.list.items (sync_of inputs.scripts.cuts.items) inputs.scripts.objects text → IsTextOfCommand contents (Run specs scripts) text
   run_made specs scripts inputs text h made = of_scripts (record {
     specs = specs_in inputs.library;
     scripts = inputs.scripts.list.items;
     objects = inputs.scripts.objects;
+    texts = h.read.read.texts;
     said = h.library.said;
-    told = h.read.said;
+    told = h.read.read.said;
+    sound = subst AreSound h.read.read.asked h.read.sound;
     separate = refl;
-    is_text = made;
+    is_text = subst (λ v. IsTextOfOrdered (specs_in inputs.library) inputs.scripts.list.items v inputs.scripts.objects text) h.read.read.asked made;
   })
 
   pub gen_made : (n : ℕ) (inputs : Inputs) (text : List ℕ) → AreInputsOf contents (given_files workload_specs) (given_files (workload_scripts n)) inputs → IsTextOfSummaries (specs_in inputs.library) inputs.scripts.list.items text → IsTextOfCommand contents (Gen n) text
@@ -52,8 +65,10 @@ module _ (contents : List ℕ → Option (List ℕ)) where
     specs = specs_in inputs.library;
     scripts = inputs.scripts.list.items;
     objects = inputs.scripts.objects;
+    texts = h.read.read.texts;
     said = h.library.said;
-    told = h.read.said;
+    told = h.read.read.said;
+    sound = subst AreSound h.read.read.asked h.read.sound;
     separate = refl;
     is_text = made;
   })
@@ -78,10 +93,10 @@ module _ (contents : List ℕ → Option (List ℕ)) where
   sweep_carried_out spec recording bytes library (Err status) read given made none = sweep_faulty contents spec recording bytes library status read given none
 
   pub check_made : (specs : List (List ℕ)) (library : Library) (text : List ℕ) → IsLibraryOf contents false (named specs) library → text ≡ flat_map declared_text (specs_in library) → IsTextOfCommand contents (Check specs) text
-  check_made specs library text h made = of_scripts (record { specs = specs_in library; scripts = []; objects = []; said = h.said; told = (refl, refl); separate = refl; is_text = made })
+  check_made specs library text h made = of_scripts (record { specs = specs_in library; scripts = []; objects = []; texts = []; said = h.said; told = (refl, refl, refl); sound = nothing_asked; separate = refl; is_text = made })
 
   pub coenable_made : (specs : List (List ℕ)) (library : Library) (text : List ℕ) → IsLibraryOf contents true (named specs) library → IsTextOfFamilies (specs_in library) text → IsTextOfCommand contents (Coenable specs) text
-  coenable_made specs library text h made = of_scripts (record { specs = specs_in library; scripts = []; objects = []; said = h.said; told = (refl, refl); separate = refl; is_text = made })
+  coenable_made specs library text h made = of_scripts (record { specs = specs_in library; scripts = []; objects = []; texts = []; said = h.said; told = (refl, refl, refl); sound = nothing_asked; separate = refl; is_text = made })
 
 module _ (contents : List ℕ → Option (List ℕ)) (file : ℕ) where
   -- so none fails to be read
@@ -93,8 +108,8 @@ module _ (contents : List ℕ → Option (List ℕ)) (file : ℕ) where
 module _ (words : List (List ℕ)) (contents : List ℕ → Option (List ℕ)) (c : CommandWords) (spelled : command_of words ≡ Some c) where
   pub text_made : (text : List ℕ) → IsTextOfCommand contents c text → IsText words contents text
   text_made text (of_scripts h) = record {
-    job = Accepted c h.specs h.scripts h.objects;
-    is_job = accepted c h.specs h.scripts h.objects spelled h.said h.told h.separate;
+    job = Accepted c h.specs h.scripts h.objects (asked_by h.texts);
+    is_job = accepted c h.specs h.scripts h.objects h.texts spelled h.said h.told h.sound h.separate;
     is_text = h.is_text;
   }
   text_made text (of_recording h) = record {

@@ -8,7 +8,7 @@ use Rattle.std.proofs.lemmas.Option.{slice_get-map, none-some}
 use Rattle.std.proofs.lemmas.List.{length-map, length_push, map-append}
 use Rattle.std.proofs.lemmas.Grind.{flat_map-append}
 use Rattle.std.proofs.lemmas.Bool.Decides.{nat_tests}
-use Rattle.std.proofs.lemmas.List.Elements.{All-nil, All-cons, All-append, recursion_from_All, All-weaker, All-head, All-tail, All-contains, All-contains_itself}
+use Rattle.std.proofs.lemmas.List.Elements.{All-nil, All-cons, All-append, recursion_from_All, All-weaker, All-head, All-tail, All-map, All-contains, All-contains_itself}
 use Rattle.jm_model.specs.Bindings.{object_at, objects_of, mask_of}
 use Rattle.jm_model.specs.Meanings.{Meaning}
 use Rattle.jm_model.specs.declared.binding.Binding.{Binding}
@@ -39,7 +39,15 @@ use Rattle.jm_inputs.specs.declared.library.Library.{Library}
 use Rattle.jm_inputs.specs.declared.scripts.Scripts.{Scripts}
 use Rattle.jm_inputs.specs.Scripts.{catalog_of}
 use Rattle.jm_inputs.specs.Reading.{named_entry, listing, listed, listed_in, AreRulesOf, titled, specification_of, IsWhole, specs_in, IsCatalogued, AreCounted}
-use Rattle.jm_top.specs.Histories.{lexicon, IsTextOfHistories}
+use Rattle.jm_sync.specs.declared.line.SyncLine.{SyncLine}
+use Rattle.jm_sync.specs.declared.line.Cut.{Cut}
+use Rattle.jm_sync.specs.Checks.{AreSound, sync_of}
+use Rattle.jm_sync.specs.Cuts.{RisesFrom as SyncRisesFrom}
+use Rattle.jm_sync.proofs.CheckLemmas.{length-sync_of}
+use Rattle.jm_script.specs.Meanings.{RisesFrom}
+use Rattle.jm_runner.specs.Orders.{IsOrdered}
+use Rattle.jm_top.specs.Histories.{lexicon, IsTextOfHistories, IsTextOfOrdered}
+use Rattle.jm_top.proofs.LoneLemmas.{lone_order}
 use Rattle.jm_top.specs.Replays.{IsReplayOf, IsPrintedReplay}
 use Rattle.jm_inputs.proofs.OneReadingLemmas.{same_some}
 use Rattle.jm_top.proofs.PrintLemmas.{IsNamedStep, printable}
@@ -244,6 +252,12 @@ replay_text entry titles rules script objects text h = record {
   printed = h.printed ∙ sym (append-nil (history_text (lexicon objects (titled entry titles rules)) h.history));
 }
 
+ordered_text : (entry : CatalogEntry) (titles : Titles) (rules : RuleDefinition) (script : List ScriptLine) (objects : List (List ℕ)) (asked : List (List SyncLine)) (text : List ℕ)
+    → (h : IsPrintedReplay (rules_meaning rules) (projection_of (script_of script) 0) (lexicon objects (titled entry titles rules)) text) → IsOrdered h.history asked → IsTextOfOrdered (titled entry titles rules ∷ []) (script ∷ []) asked objects text
+ordered_text entry titles rules script objects asked text h ordered =
+    let made = replay_text entry titles rules script objects text h in
+    record { histories = made.histories; each = made.each; ordered = All-cons (λ (x : List Entry). IsOrdered x asked) h.history [] ordered (All-nil (λ (x : List Entry). IsOrdered x asked)); printed = made.printed }
+
 single_of : {X : Type 0} (xs ys : List X) (x : X) → xs ≡ ys ++ x ∷ [] → length xs ≡ 1 → xs ≡ x ∷ []
 single_of xs [] x e one = e
 single_of xs (y ∷ ys) x e one = absurd (omega (arith, one, ap (λ v. length v) e, length_push ys x))
@@ -296,11 +310,16 @@ module _ (library : Library) (catalogued : IsCatalogued library) (scripts : Scri
     pub own_printable : (h : List Entry) → IsReplayOf (rules_meaning l.rules.definition) own h → All (IsPrintable (lexicon scripts.objects (titled (named_entry name table) l.titles l.rules.definition))) h
     own_printable h is = replay_printable (named_entry name table) l.titles l.rules.definition (catalog_of (specs_in library)) whole at_first scripts.objects own h fits is
 
-    pub own_text : own ≡ projection_of (script_of script) 0 → (text : List ℕ) → IsPrintedReplay (rules_meaning l.rules.definition) own (lexicon scripts.objects (titled (named_entry name table) l.titles l.rules.definition)) text → IsTextOfHistories (specs_in library) scripts.list.items scripts.objects text
-    own_text is text printed =
-        let made = replay_text (named_entry name table) l.titles l.rules.definition script scripts.objects text (subst (λ v. IsPrintedReplay (rules_meaning l.rules.definition) v (lexicon scripts.objects (titled (named_entry name table) l.titles l.rules.definition)) text) is printed) in
-        subst (λ v. IsTextOfHistories v scripts.list.items scripts.objects text) (sym (alone_is library catalogued rest l popped one name table named there))
-        (subst (λ v. IsTextOfHistories (titled (named_entry name table) l.titles l.rules.definition ∷ []) v scripts.objects text) (sym script_alone) made)
+    pub own_text : own ≡ projection_of (script_of script) 0 → AreSound (sync_of scripts.cuts.items) → (text : List ℕ) → IsPrintedReplay (rules_meaning l.rules.definition) own (lexicon scripts.objects (titled (named_entry name table) l.titles l.rules.definition)) text
+        → IsTextOfOrdered (specs_in library) scripts.list.items (sync_of scripts.cuts.items) scripts.objects text
+    own_text is sound text printed =
+        let replayed = subst (λ v. IsPrintedReplay (rules_meaning l.rules.definition) v (lexicon scripts.objects (titled (named_entry name table) l.titles l.rules.definition)) text) is printed in
+        let rising = All-head (RisesFrom 1) script [] (subst (All (RisesFrom 1)) script_alone counted.steps_rise) in
+        let one_cut : length (sync_of scripts.cuts.items) ≡ 1 = length-sync_of scripts.cuts.items ∙ counted.cut ∙ one_script in
+        let ordered = lone_order script replayed.history (sync_of scripts.cuts.items) rising replayed.replayed.woven one_cut sound (All-map (λ (lines : List SyncLine). SyncRisesFrom 1 lines) (λ (c : Cut). c.lines.items) scripts.cuts.items counted.rising) in
+        let made = ordered_text (named_entry name table) l.titles l.rules.definition script scripts.objects (sync_of scripts.cuts.items) text replayed ordered in
+        subst (λ v. IsTextOfOrdered v scripts.list.items (sync_of scripts.cuts.items) scripts.objects text) (sym (alone_is library catalogued rest l popped one name table named there))
+        (subst (λ v. IsTextOfOrdered (titled (named_entry name table) l.titles l.rules.definition ∷ []) v (sync_of scripts.cuts.items) scripts.objects text) (sym script_alone) made)
 
 -- its text, where there is one
 pub made_text : {T E : Type 0} (items : T → List ℕ) (P Q : List ℕ → Type 0) (made : Result T E) → ((text : List ℕ) → P text → Q text) → IfOk made (λ text. P (items text)) → IfOk made (λ text. Q (items text))

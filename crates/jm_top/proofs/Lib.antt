@@ -1,6 +1,7 @@
 pub mod PrintLemmas
 pub mod EndingLemmas
 pub mod NameLemmas
+pub mod LoneLemmas
 pub mod HistoryLemmas
 pub mod FewLemmas
 pub mod RunLemmas

@@ -1,5 +1,5 @@
 -- Runs of scripts over specifications, and the texts of their histories.
-use Rattle.std.proofs.Common.{◌≡◌, ℕ, zero, suc, ◌+◌, List, [], ◌∷◌, ◌++◌, length, get_or, drop, Option, Some, refl, sym, ap, subst, ◌∙◌, arith}
+use Rattle.std.proofs.Common.{◌≡◌, ℕ, zero, suc, ◌+◌, ◌-◌, ◌*◌, ◌^◌, ◌<◌, ◌≤◌, List, [], ◌∷◌, ◌++◌, length, get_or, drop, Option, Some, refl, sym, ap, subst, ◌∙◌, arith}
 use Rattle.std.specs.Prelude.{All, map, slice_get, option_map}
 use Rattle.std.specs.Option.{option_map_or}
 use Rattle.std.proofs.lemmas.Option.{slice_get-map, none-some}
@@ -12,6 +12,10 @@ use Rattle.jm_semantics.specs.Scripts.{projection_of, IsInterleaving}
 use Rattle.jm_core.specs.Cores.{Core}
 use Rattle.jm_turn.specs.Seats.{LockModel, SeatModel}
 use Rattle.jm_dispatch.specs.declared.watched.Fixed.{Fixed}
+use Rattle.jm_sync.specs.declared.line.SyncLine.{SyncLine}
+use Rattle.jm_sync.specs.declared.line.Cut.{Cut}
+use Rattle.jm_sync.specs.Checks.{sync_of}
+use Rattle.jm_runner.specs.Orders.{IsOrdered}
 use Rattle.jm_runner.specs.Runs.{projections_of, AreFitSteps, CanRun, IsRunOf}
 use Rattle.jm_print.specs.Texts.{IsPrintable}
 use Rattle.jm_print.specs.Told.{texts_of}
@@ -27,9 +31,10 @@ use Rattle.jm_inputs.specs.declared.specification.Titles.{Titles}
 use Rattle.jm_inputs.specs.declared.specification.Loaded.{Loaded}
 use Rattle.jm_inputs.specs.declared.library.Library.{Library}
 use Rattle.jm_inputs.specs.declared.scripts.Scripts.{Scripts}
+use Rattle.jm_inputs.specs.Specifications.{Specification}
 use Rattle.jm_inputs.specs.Scripts.{entry_of, catalog_of}
 use Rattle.jm_inputs.specs.Reading.{Listed, listing, listed, titled, listed_in, specification_of, IsWhole, specs_in, IsCatalogued, AreCounted}
-use Rattle.jm_top.specs.Histories.{lexicon, IsHistoryOf, AreHistoriesFrom, IsTextOfHistories, summaries_of, IsTextOfSummaries}
+use Rattle.jm_top.specs.Histories.{lexicon, IsHistoryOf, AreHistoriesFrom, IsTextOfOrdered, summaries_of, IsTextOfSummaries}
 use Rattle.jm_top.specs.Runs.{IsWatchOf, AreWatchesOf, AreRunsOf}
 use Rattle.jm_inputs.proofs.OneReadingLemmas.{same_some}
 use Rattle.jm_inputs.proofs.LibraryLemmas.{length-listed}
@@ -162,11 +167,11 @@ entry_for (e ∷ es) (m ∷ ls) zero l same at = (e, ap (λ v. Some (listing e v
 entry_for (e ∷ es) (m ∷ ls) (suc k) l same at = entry_for es ls k l (omega (arith, same)) at
 
 -- as many cores as specifications
-ruled_many : (library : Library) (scripts : Scripts) (titles : List Titles) (ps : List (Core CompiledRules)) → AreRunsOf library.specs.items scripts.list.items titles ps → length ps ≡ length library.specs.items
+ruled_many : (library : Library) (scripts : Scripts) (titles : List Titles) (ps : List (Core CompiledRules)) → AreRunsOf library.specs.items scripts.list.items (sync_of scripts.cuts.items) titles ps → length ps ≡ length library.specs.items
 ruled_many library scripts titles ps runs =
     sym (length-map ps (λ (p : Core CompiledRules). p.definition)) ∙ ap (λ rs. length rs) runs.ruled ∙ length-map library.specs.items (λ (l : Loaded). l.rules)
 
-module _ (library : Library) (scripts : Scripts) (catalogued : IsCatalogued library) (counted : AreCounted (specs_in library) scripts) (titles : List Titles) (ps : List (Core CompiledRules)) (runs : AreRunsOf library.specs.items scripts.list.items titles ps) where
+module _ (library : Library) (scripts : Scripts) (catalogued : IsCatalogued library) (counted : AreCounted (specs_in library) scripts) (titles : List Titles) (ps : List (Core CompiledRules)) (runs : AreRunsOf library.specs.items scripts.list.items (sync_of scripts.cuts.items) titles ps) where
   run_history : (k : ℕ) (l : Listed) (p : Core CompiledRules) → slice_get (listed_in library) k ≡ Some l → slice_get ps k ≡ Some p → IsHistoryOf k (specification_of l) scripts.list.items p.entries
   run_history k l p at there =
       let (own, place, same) = kept_at library.catalog library.specs.items k l at in
@@ -186,10 +191,11 @@ module _ (library : Library) (scripts : Scripts) (catalogued : IsCatalogued libr
       (λ k l p at there. let same : 0 + k ≡ k = omega arith in
       subst (λ n. IsHistoryOf n (specification_of l) scripts.list.items p.entries) (sym same) (run_history k l p at there))
 
-  pub runs_text : (text : List ℕ) → text ≡ texts_of (map (lexicon scripts.objects) (titled_by library.catalog titles ps)) (map (λ (p : Core CompiledRules). p.entries) ps) → IsTextOfHistories (specs_in library) scripts.list.items scripts.objects text
+  pub runs_text : (text : List ℕ) → text ≡ texts_of (map (lexicon scripts.objects) (titled_by library.catalog titles ps)) (map (λ (p : Core CompiledRules). p.entries) ps) → IsTextOfOrdered (specs_in library) scripts.list.items (sync_of scripts.cuts.items) scripts.objects text
   runs_text text printed = record {
     histories = map (λ (p : Core CompiledRules). p.entries) ps;
     each = run_histories;
+    ordered = All-map (λ (h : List Entry). IsOrdered h (sync_of scripts.cuts.items)) (λ (p : Core CompiledRules). p.entries) ps runs.ordered;
     printed = printed ∙ ap (λ specs. texts_of (map (lexicon scripts.objects) specs) (map (λ (p : Core CompiledRules). p.entries) ps)) run_specs;
   }
 
@@ -199,6 +205,12 @@ module _ (library : Library) (scripts : Scripts) (catalogued : IsCatalogued libr
     each = run_histories;
     printed = printed ∙ summaries_are library.catalog library.specs.items (map (λ (p : Core CompiledRules). p.entries) ps) catalogued.many;
   }
+
+-- the names of a command's scripts have numbers that a board can have
+pub names_within : (specs : List Specification) (scripts : Scripts) → AreCounted specs scripts → length scripts.list.items ≤ 16 → All (λ (cut : Cut). All (λ (l : SyncLine). l.name < 2 ^ 32 - 1) cut.lines.items) scripts.cuts.items
+names_within specs scripts counted few =
+    All-weaker (λ (cut : Cut). All (λ (l : SyncLine). l.name < length scripts.posted) cut.lines.items) (λ (cut : Cut). All (λ (l : SyncLine). l.name < 2 ^ 32 - 1) cut.lines.items)
+    (λ cut low. All-weaker (λ (l : SyncLine). l.name < length scripts.posted) (λ (l : SyncLine). l.name < 2 ^ 32 - 1) (λ l less. omega (arith, less, counted.few_posted, few)) cut.lines.items low) scripts.cuts.items counted.numbered
 
 -- what was run is what the scripts had to do
 pub runs_of : (library : Library) (scripts : Scripts) → IsCatalogued library → AreCounted (specs_in library) scripts → (objects : ℕ) → objects ≡ length scripts.objects → (watches : List (LockModel (Fixed CompiledRules))) (alls : List (List (SeatModel Entry (Fixed CompiledRules)))) (k : ℕ) (watch : LockModel (Fixed CompiledRules)) (all : List (SeatModel Entry (Fixed CompiledRules)))
@@ -219,11 +231,11 @@ runs_of library scripts catalogued counted objects named watches alls k watch al
     }
 
 -- as many titles as cores
-pub runs_many : (library : Library) (scripts : Scripts) (titles : List Titles) (ps : List (Core CompiledRules)) → AreRunsOf library.specs.items scripts.list.items titles ps → length titles ≡ length ps
+pub runs_many : (library : Library) (scripts : Scripts) (titles : List Titles) (ps : List (Core CompiledRules)) → AreRunsOf library.specs.items scripts.list.items (sync_of scripts.cuts.items) titles ps → length titles ≡ length ps
 runs_many library scripts titles ps runs = ap (λ ts. length ts) runs.titled ∙ length-map library.specs.items (λ (l : Loaded). l.titles) ∙ sym (ruled_many library scripts titles ps runs)
 
 -- as many entries as titles
-pub runs_titled : (library : Library) (scripts : Scripts) (titles : List Titles) (ps : List (Core CompiledRules)) → IsCatalogued library → AreRunsOf library.specs.items scripts.list.items titles ps → length library.catalog ≡ length titles
+pub runs_titled : (library : Library) (scripts : Scripts) (titles : List Titles) (ps : List (Core CompiledRules)) → IsCatalogued library → AreRunsOf library.specs.items scripts.list.items (sync_of scripts.cuts.items) titles ps → length library.catalog ≡ length titles
 runs_titled library scripts titles ps catalogued runs = catalogued.many ∙ sym (ap (λ ts. length ts) runs.titled ∙ length-map library.specs.items (λ (l : Loaded). l.titles))
 
 -- cores that have the rules of these specifications, place by place
@@ -258,10 +270,10 @@ module _ {R : Type 0} (watch_of : R → LockModel (Fixed CompiledRules)) (seats_
   watch_for (x ∷ ls) (r ∷ rs) (suc k) l h at = watch_for ls rs k l h.1 at
 
   -- what the run of the dispatchers gave
-  pub runs_from : (ls : List Loaded) (scripts : List (List ScriptLine)) (titles : List Titles) (ps : List (Core CompiledRules)) (rs : List R) → titles ≡ map (λ (l : Loaded). l.titles) ls → length ps ≡ length rs
+  pub runs_from : (ls : List Loaded) (scripts : List (List ScriptLine)) (asked : List (List SyncLine)) (titles : List Titles) (ps : List (Core CompiledRules)) (rs : List R) → titles ≡ map (λ (l : Loaded). l.titles) ls → length ps ≡ length rs
       → AreWatchesOf objects seats ls (map watch_of rs) (map seats_of rs)
-      → ((s : ℕ) (r : R) (p : Core CompiledRules) → slice_get rs s ≡ Some r → slice_get ps s ≡ Some p → IsRunOf (rules_meaning (watch_of r).fixed.definition.definition) scripts s (watch_of r).fixed p) → AreRunsOf ls scripts titles ps
-  runs_from ls scripts titles ps rs titles_are many are each = record {
+      → ((s : ℕ) (r : R) (p : Core CompiledRules) → slice_get rs s ≡ Some r → slice_get ps s ≡ Some p → IsRunOf (rules_meaning (watch_of r).fixed.definition.definition) scripts s (watch_of r).fixed p) → All (λ (p : Core CompiledRules). IsOrdered p.entries asked) ps → AreRunsOf ls scripts asked titles ps
+  runs_from ls scripts asked titles ps rs titles_are many are each ordered = record {
     titled = titles_are;
     ruled = rules_are ls ps (many ∙ watches_many ls rs are) (λ k l p at there.
         let found = watch_for ls rs k l are at in
@@ -272,6 +284,7 @@ module _ {R : Type 0} (watch_of : R → LockModel (Fixed CompiledRules)) (seats_
     woven = λ k l p at there.
         let found = watch_for ls rs k l are at in
         (each k found.0 p found.1 there).interleaving;
+    ordered = ordered;
   }
 
   -- they can run

@@ -3,27 +3,31 @@ use Rattle.std.specs.Prelude.{ℕ, ◌≡◌, false, List, [], ◌∷◌, Result
 use Rattle.std.specs.Global.{Vec}
 use Rattle.jm_model.specs.Words.{Text}
 use Rattle.jm_script.specs.declared.script.ScriptLine.{ScriptLine}
+use Rattle.jm_sync.specs.Checks.{AreSound}
 use Rattle.jm_cli.specs.Words.{CommandWords}
 use Rattle.jm_cli.specs.Words.CommandWords.{Sweep}
 use Rattle.jm_inputs.specs.declared.status.Status.{Status}
 use Rattle.jm_inputs.specs.Sources.{FileContents, Named, Gives}
 use Rattle.jm_inputs.specs.Specifications.{Specification}
-use Rattle.jm_inputs.specs.Inputs.{SaySpecifications, SayScripts}
+use Rattle.jm_inputs.specs.Inputs.{SaySpecifications, SayScripts, asked_by}
 use Rattle.jm_inputs.specs.Commands.{named, spec_sources, script_sources, reads_recording, needs_families}
 use Rattle.jm_inputs.specs.Recordings.{RecordedPart, IsRecording}
 use Rattle.jm_inputs.specs.Jobs.{Accepted, AcceptedParts}
 use Rattle.jm_inputs.specs.Causes.{StopsCommand}
 use Rattle.jm_top.specs.Texts.{IsTextOf}
 
--- the text is one of the command, whose specifications and scripts were read
+-- the text is one of the command, whose specifications and scripts were read, and these can be done in the order that
+-- they ask for
 pub record IsTextOfScripts (contents : FileContents) (command : CommandWords) (text : Text) : Type 0 where
   pub specs : List Specification
   pub scripts : List (List ScriptLine)
   pub objects : List Text
+  pub texts : List Text
   pub said : SaySpecifications contents (needs_families command) [] (spec_sources command) specs
-  pub told : SayScripts contents specs 0 [] (script_sources command) scripts objects
+  pub told : SayScripts contents specs 0 [] (script_sources command) scripts objects texts
+  pub sound : AreSound (asked_by texts)
   pub separate : reads_recording command ≡ false
-  pub is_text : IsTextOf (Accepted command specs scripts objects) text
+  pub is_text : IsTextOf (Accepted command specs scripts objects (asked_by texts)) text
 
 -- the text is one of the command, whose specification and recording were read
 pub record IsTextOfRecording (contents : FileContents) (command : CommandWords) (text : Text) : Type 0 where

@@ -1,5 +1,5 @@
 -- The histories of a command's specifications, and their text.
-use Rattle.std.specs.Prelude.{ℕ, ◌+◌, ◌≡◌, List, [], ◌∷◌, ◌++◌, map}
+use Rattle.std.specs.Prelude.{ℕ, ◌+◌, ◌≡◌, List, [], ◌∷◌, ◌++◌, map, All}
 use Rattle.jm_model.specs.Words.{Text}
 use Rattle.jm_model.specs.declared.step.Entry.{Entry}
 use Rattle.jm_semantics.specs.Scripts.{projection_of, IsInterleaving}
@@ -10,6 +10,8 @@ use Rattle.jm_print.specs.Told.{texts_of}
 use Rattle.jm_print.specs.Summaries.{summary_text}
 use Rattle.jm_script.specs.declared.script.ScriptLine.{ScriptLine}
 use Rattle.jm_script.specs.Projections.{script_of}
+use Rattle.jm_sync.specs.declared.line.SyncLine.{SyncLine}
+use Rattle.jm_runner.specs.Orders.{IsOrdered}
 use Rattle.jm_inputs.specs.Specifications.{Specification, meaning_of}
 use Rattle.jm_inputs.specs.Recordings.{RecordedPart}
 
@@ -36,6 +38,14 @@ pub record IsTextOfHistories (specs : List Specification) (scripts : List (List 
     (text : Text) : Type 0 where
   pub histories : List (List Entry)
   pub each : AreHistoriesFrom 0 specs scripts histories
+  pub printed : text ≡ texts_of (map (lexicon objects) specs) histories
+
+-- and each history has its entries in the order that the scripts ask for
+pub record IsTextOfOrdered (specs : List Specification) (scripts : List (List ScriptLine))
+    (asked : List (List SyncLine)) (objects : List Text) (text : Text) : Type 0 where
+  pub histories : List (List Entry)
+  pub each : AreHistoriesFrom 0 specs scripts histories
+  pub ordered : All (λ h. IsOrdered h asked) histories
   pub printed : text ≡ texts_of (map (lexicon objects) specs) histories
 
 -- the summaries of these histories, one after another

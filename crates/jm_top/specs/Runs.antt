@@ -1,5 +1,5 @@
 -- What the calls that run scripts answer.
-use Rattle.std.specs.Prelude.{ℕ, ◌≡◌, ◌≤◌, List, [], ◌∷◌, length, map, slice_get, Some}
+use Rattle.std.specs.Prelude.{ℕ, ◌≡◌, ◌≤◌, List, [], ◌∷◌, length, map, slice_get, Some, All}
 use Rattle.jm_model.specs.declared.step.Entry.{Entry}
 use Rattle.jm_semantics.specs.Legality.{IsLegal}
 use Rattle.jm_semantics.specs.Scripts.{IsInterleaving}
@@ -8,6 +8,9 @@ use Rattle.jm_dispatch.specs.declared.watched.Fixed.{Fixed}
 use Rattle.jm_core.specs.Cores.{Core}
 use Rattle.jm_machine.specs.Meanings.{rules_meaning}
 use Rattle.jm_machine.specs.RuleSets.{CompiledRules}
+use Rattle.jm_sync.specs.declared.line.SyncLine.{SyncLine}
+use Rattle.jm_sync.specs.Checks.{AreSound, sync_of}
+use Rattle.jm_runner.specs.Orders.{IsOrdered}
 use Rattle.jm_runner.specs.Runs.{projections_of}
 use Rattle.jm_script.specs.declared.script.ScriptLine.{ScriptLine}
 use Rattle.jm_inputs.specs.declared.specification.Titles.{Titles}
@@ -16,12 +19,14 @@ use Rattle.jm_inputs.specs.declared.library.Library.{Library}
 use Rattle.jm_inputs.specs.declared.scripts.Scripts.{Scripts}
 use Rattle.jm_inputs.specs.Reading.{specs_in, IsCatalogued, AreCounted}
 
--- scripts that can run over the specifications of a library: both are few and some, and the scripts fit the catalog
+-- scripts that can run over the specifications of a library: both are few and some, the scripts fit the catalog, and
+-- nothing is wrong with what they ask for
 pub record CanRunOver (library : Library) (s : Scripts) : Type 0 where
   pub specs : (1 ≤ length library.specs.items) × (length library.specs.items ≤ 16)
   pub scripts : (1 ≤ length s.list.items) × (length s.list.items ≤ 16)
   pub catalogued : IsCatalogued library
   pub counted : AreCounted (specs_in library) s
+  pub sound : AreSound (sync_of s.cuts.items)
 
 -- a fresh dispatcher by these rules, over so many objects, with so many seats
 pub record IsWatchOf (objects seats : ℕ) (rules : CompiledRules) (watch : LockModel (Fixed CompiledRules))
@@ -40,12 +45,13 @@ AreWatchesOf objects seats (l ∷ ls) (watch ∷ watches) (all ∷ alls) =
 AreWatchesOf objects seats _ _ _ = ⊥
 
 -- the titles of these specifications, and the core of each, with its rules, whose history is legal and an interleaving
--- of the scripts' projections
-pub record AreRunsOf (specs : List Loaded) (scripts : List (List ScriptLine)) (titles : List Titles)
-    (props : List (Core CompiledRules)) : Type 0 where
+-- of the scripts' projections, in the order that these ask for
+pub record AreRunsOf (specs : List Loaded) (scripts : List (List ScriptLine)) (asked : List (List SyncLine))
+    (titles : List Titles) (props : List (Core CompiledRules)) : Type 0 where
   pub titled : titles ≡ map (λ l. l.titles) specs
   pub ruled : map (λ p. p.definition) props ≡ map (λ l. l.rules) specs
   pub legal : (k : ℕ) (l : Loaded) (p : Core CompiledRules) → slice_get specs k ≡ Some l → slice_get props k ≡ Some p
       → IsLegal (rules_meaning l.rules.definition) p.entries
   pub woven : (k : ℕ) (l : Loaded) (p : Core CompiledRules) → slice_get specs k ≡ Some l → slice_get props k ≡ Some p
       → IsInterleaving p.entries (projections_of scripts k)
+  pub ordered : All (λ p. IsOrdered p.entries asked) props

@@ -8,7 +8,7 @@ use Rattle.jm_print.specs.Checks.{check_text}
 use Rattle.jm_print.specs.Coenables.{coenable_text}
 use Rattle.jm_cli.specs.Words.CommandWords.{Replay, Run, Check, Coenable, Gen, Sweep}
 use Rattle.jm_inputs.specs.Specifications.{Specification, meaning_of}
-use Rattle.jm_top.specs.Histories.{IsTextOfHistories, IsTextOfSummaries, IsTextOfParts}
+use Rattle.jm_top.specs.Histories.{IsTextOfOrdered, IsTextOfSummaries, IsTextOfParts}
 use Rattle.jm_inputs.specs.Jobs.{Job, Refused, Accepted, AcceptedParts}
 
 -- what a specification declares
@@ -35,10 +35,12 @@ IsTextOfFamilies (s ∷ specs) text =
 -- the text is one of the job, which isn't refused
 abbrev pub IsTextOf : Job → Text → Type 0
 IsTextOf (Refused status) text = ⊥
-IsTextOf (Accepted (Replay spec script) specs scripts objects) text = IsTextOfHistories specs scripts objects text
-IsTextOf (Accepted (Run names files) specs scripts objects) text = IsTextOfHistories specs scripts objects text
-IsTextOf (Accepted (Check names) specs scripts objects) text = text ≡ flat_map declared_text specs
-IsTextOf (Accepted (Coenable names) specs scripts objects) text = IsTextOfFamilies specs text
-IsTextOf (Accepted (Gen n) specs scripts objects) text = IsTextOfSummaries specs scripts text
-IsTextOf (Accepted (Sweep spec recording) specs scripts objects) text = ⊥
+IsTextOf (Accepted (Replay spec script) specs scripts objects asked) text =
+    IsTextOfOrdered specs scripts asked objects text
+IsTextOf (Accepted (Run names files) specs scripts objects asked) text =
+    IsTextOfOrdered specs scripts asked objects text
+IsTextOf (Accepted (Check names) specs scripts objects asked) text = text ≡ flat_map declared_text specs
+IsTextOf (Accepted (Coenable names) specs scripts objects asked) text = IsTextOfFamilies specs text
+IsTextOf (Accepted (Gen n) specs scripts objects asked) text = IsTextOfSummaries specs scripts text
+IsTextOf (Accepted (Sweep spec recording) specs scripts objects asked) text = ⊥
 IsTextOf (AcceptedParts specs parts) text = IsTextOfParts specs parts text

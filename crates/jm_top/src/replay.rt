@@ -6,7 +6,8 @@ ghost use Rattle.jm_core.specs.Steps.{IsFitStep};
 ghost use Rattle.jm_script.specs.Projections.{steps_in};
 ghost use Rattle.jm_print.specs.Texts.{IsPrintable};
 ghost use Rattle.jm_inputs.specs.Reading.{named_entry, titled, specs_in, IsCatalogued, AreCounted};
-ghost use Rattle.jm_top.specs.Histories.{lexicon, IsTextOfHistories};
+ghost use Rattle.jm_sync.specs.Checks.{AreSound, sync_of};
+ghost use Rattle.jm_top.specs.Histories.{lexicon, IsTextOfOrdered};
 ghost use Rattle.jm_top.specs.Replays.{IsReplayOf, IsPrintedReplay};
 
 use jm_core::Prop;
@@ -19,13 +20,16 @@ use jm_script::project_in_blocks;
 use std::alloc::Global;
 
 /// The printed history of the one script, replayed over the one specification. The script is let go before the replay,
-/// and its steps as they are done, and of the core nothing but the rules and the history is left for the printing.
+/// and its steps as they are done, and of the core nothing but the rules and the history is left for the printing. A
+/// script that can be done in the order that it asks for has each wait below its post, so it is done line by line.
 pub(crate) fn replay(alloc: Global, library: Library, scripts: Scripts) -> Result<Vec<u8>, NoMemory>
     requires one_spec { length library.specs.items ≡ 1 }
     requires one_script { length scripts.list.items ≡ 1 }
     requires catalogued { IsCatalogued library }
     requires counted { AreCounted (specs_in library) scripts }
-    ensures { IfOk result (λ text. IsTextOfHistories (specs_in library) scripts.list.items scripts.objects text.items) }
+    requires sound { AreSound (sync_of scripts.cuts.items) }
+    ensures { IfOk result (λ text. IsTextOfOrdered (specs_in library) scripts.list.items (sync_of scripts.cuts.items)
+        scripts.objects text.items) }
 {
     let Scripts { list, objects, .. } = scripts;
     let own = project_in_blocks(alloc, &list[0], 0)?;

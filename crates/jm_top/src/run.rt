@@ -1,6 +1,7 @@
 //! Running scripts over specifications.
 ghost use Rattle.std.specs.Prelude.{◌≡◌, ◌<◌, ◌≤◌, map, IfOk};
-ghost use Rattle.jm_top.specs.Histories.{IsTextOfHistories, IsTextOfSummaries};
+ghost use Rattle.jm_sync.specs.Checks.{sync_of};
+ghost use Rattle.jm_top.specs.Histories.{IsTextOfOrdered, IsTextOfSummaries};
 ghost use Rattle.jm_inputs.specs.Reading.{specs_in};
 ghost use Rattle.jm_top.specs.Runs.{CanRunOver, IsWatchOf, AreWatchesOf, AreRunsOf};
 
@@ -10,13 +11,13 @@ use jm_dispatch::Watch;
 use jm_inputs::{Library, Loaded, Scripts, Titles};
 use jm_machine::Rules;
 use jm_model::NoMemory;
-use jm_runner::{Gate, Running, run_scripts};
+use jm_runner::{Gate, Running, run_with_notes};
 use jm_script::Catalog;
 use std::alloc::Global;
 use std::sync::Wait;
 use std::thread::Threads;
 
-/// The printed histories of the specifications, over which the scripts run.
+/// The printed histories of the specifications, over which the scripts run in the order that they ask for.
 pub(crate) fn run<R: Threads + Wait + Sync, G: Gate>(
     rt: &R,
     alloc: Global,
@@ -25,8 +26,8 @@ pub(crate) fn run<R: Threads + Wait + Sync, G: Gate>(
     gate: &G,
 ) -> Result<Vec<u8>, NoMemory>
     requires ready { CanRunOver library scripts.now }
-    ensures { IfOk result (λ text. IsTextOfHistories
-        (specs_in library) scripts.now.list.items scripts.now.objects text.items) }
+    ensures { IfOk result (λ text. IsTextOfOrdered (specs_in library) scripts.now.list.items
+        (sync_of scripts.now.cuts.items) scripts.now.objects text.items) }
 {
     let runs = run_all(rt, alloc, library, scripts, gate)?;
     histories_text(
@@ -71,14 +72,21 @@ pub(crate) fn run_all<R: Threads + Wait + Sync, G: Gate>(
 ) -> Result<Runs, NoMemory>
     requires ready { CanRunOver library scripts.now }
     ensures catalog { IfOk result (λ runs. runs.catalog ≡ library.catalog) }
-    ensures ran { IfOk result
-        (λ runs. AreRunsOf library.specs.items scripts.now.list.items runs.titles.items runs.props.items) }
+    ensures ran { IfOk result (λ runs. AreRunsOf library.specs.items scripts.now.list.items
+        (sync_of scripts.now.cuts.items) runs.titles.items runs.props.items) }
 {
     let Library { specs, catalog } = library;
     let seats = scripts.list.len() as u32;
     let made = dispatchers(alloc, specs, scripts.objects.len(), seats)?;
     let Watched { titles, watches } = made;
-    let props = run_scripts(rt, alloc, watches, scripts.list.as_slice(), gate)?;
+    let props = run_with_notes(
+        rt,
+        alloc,
+        watches,
+        scripts.list.as_slice(),
+        scripts.cuts.as_slice(),
+        gate,
+    )?;
     Ok(Runs {
         catalog,
         titles,

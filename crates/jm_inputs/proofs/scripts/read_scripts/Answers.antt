@@ -1,11 +1,15 @@
-use Rattle.std.proofs.Common.{◌∙◌, length, sym, ap, Err, arith}
-use Rattle.std.specs.Prelude.{string_bytes}
+use Rattle.std.proofs.Common.{◌∙◌, length, sym, ap, subst, Err, arith}
+use Rattle.std.specs.Prelude.{map, string_bytes}
 use Rattle.std.proofs.lemmas.Result.{err_from_is_err_and}
+use Rattle.jm_sync.specs.Checks.{sync_of}
+use Rattle.jm_inputs.specs.declared.status.Status.{Status}
 use Rattle.jm_inputs.specs.Sources.{Named}
+use Rattle.jm_inputs.specs.Commands.{named}
+use Rattle.jm_inputs.specs.Causes.{IsNoOrder}
 use Rattle.jm_inputs.specs.Reading.{specs_in}
 use Rattle.jm_inputs.proofs.OneReadingLemmas.{same_err}
 use Rattle.jm_inputs.proofs.JobLemmas.{risen_before}
-use Rattle.jm_inputs.proofs.ScriptLemmas.{scripts_turn, scripts_end, scripts_count, whole_scripts}
+use Rattle.jm_inputs.proofs.ScriptLemmas.{scripts_turn, scripts_end, scripts_count, scripts_length, whole_scripts, in_order, not_in_order}
 use Rattle.jm_inputs.proofs.scripts.read_scripts.Goals as goal
 
 pub read_next-requires-clause-few : goal.read_next-requires-clause-few
@@ -36,5 +40,32 @@ loop-name-preserved g c = record {
   same = λ other. c.read_next.ensures.same other ∙ c.loop-name.invariant.same other;
 }
 
+pub check_order-requires : goal.check_order-requires
+check_order-requires g c =
+    let names = c.args.names.now in
+    let whole = whole_scripts (λ n. Named n) string_bytes (g.F.Folder.holds c.args.files.now) (specs_in c.args.library.now) names c.loop-name.name-index c.loop-name.scripts c.loop-name-test.false c.loop-name.invariant.read in
+    let many = scripts_length (λ n. Named n) string_bytes (g.F.Folder.holds c.args.files.now) (specs_in c.args.library.now) names c.loop-name.scripts whole in
+    rw c.as_slice.ensures.value (omega (arith, many, whole.counted.cut, c.requires.few))
+
+pub returns-in_err-check_order-clause-err : goal.returns-in_err-check_order-clause-err
+returns-in_err-check_order-clause-err g c =
+    let p = err_from_is_err_and c.from_residual-in_err-check_order.result c.from_residual-in_err-check_order.ensures.1 in
+    let names = c.args.names.now in
+    let specs = specs_in c.args.library.now in
+    let contents = g.F.Folder.holds c.args.files.now in
+    let whole = whole_scripts (λ n. Named n) string_bytes contents specs names c.loop-name.name-index c.loop-name.scripts c.loop-name-test.false c.loop-name.invariant.read in
+    rw (p.1, p.2) (not_in_order contents specs (length c.args.library.now.specs.items) (named (map string_bytes names)) c.loop-name.scripts whole _ (rw c.as_slice.ensures.value at c.in_err-check_order.ensures.err))
+
+pub returns-in_err-check_order-clause-read_failed : goal.returns-in_err-check_order-clause-read_failed
+returns-in_err-check_order-clause-read_failed g c = λ file is.
+    let p = err_from_is_err_and c.from_residual-in_err-check_order.result c.from_residual-in_err-check_order.ensures.1 in
+    let same = same_err (sym p.1 ∙ is) in
+    absurd (subst (λ (s : Status). IsNoOrder (sync_of c.as_slice.result.now) s) (sym p.2 ∙ same) c.in_err-check_order.ensures.err)
+
 pub returns-clause-read : goal.returns-clause-read
-returns-clause-read g c = whole_scripts (λ n. Named n) string_bytes (g.F.Folder.holds c.args.files.now) (specs_in c.args.library.now) c.args.names.now c.loop-name.name-index c.loop-name.scripts c.loop-name-test.false c.loop-name.invariant.read
+returns-clause-read g c =
+    let names = c.args.names.now in
+    let specs = specs_in c.args.library.now in
+    let contents = g.F.Folder.holds c.args.files.now in
+    let whole = whole_scripts (λ n. Named n) string_bytes contents specs names c.loop-name.name-index c.loop-name.scripts c.loop-name-test.false c.loop-name.invariant.read in
+    in_order contents specs (length c.args.library.now.specs.items) (named (map string_bytes names)) c.loop-name.scripts whole (rw c.as_slice.ensures.value at c.in_ok-check_order.ensures.sound)

@@ -11,7 +11,7 @@ returns-clause-told c = job_told
 
 pub returns-clause-one : goal.returns-clause-one
 returns-clause-one c =
-    λ words contents command specs scripts objects hs others job are they same.
-    (texts_are_told (map (lexicon objects) specs) hs others [] [] (job_names words contents command specs scripts objects job)
-    (job_told words contents command specs scripts objects hs job are) (job_told words contents command specs scripts objects others job they)
+    λ words contents command specs scripts objects asked hs others job are they same.
+    (texts_are_told (map (lexicon objects) specs) hs others [] [] (job_names words contents command specs scripts objects asked job)
+    (job_told words contents command specs scripts objects asked hs job are) (job_told words contents command specs scripts objects asked others job they)
     (ap (λ (x : List ℕ). x ++ []) same)).0

@@ -20,7 +20,8 @@ run_in_short-requires-clause-ready g c =
       specs = (omega (arith, specs), omega (arith, specs));
       scripts = (omega (arith, scripts), omega (arith, scripts));
       catalogued = read.library.catalogued;
-      counted = read.read.counted;
+      counted = read.read.read.counted;
+      sound = read.read.sound;
     }
 
 pub returns-in_err-text : goal.returns-in_err-text

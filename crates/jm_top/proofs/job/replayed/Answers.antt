@@ -22,14 +22,17 @@ replay-requires-clause-one_spec g c =
 
 pub replay-requires-clause-one_script : goal.replay-requires-clause-one_script
 replay-requires-clause-one_script g c =
-    let many = scripts_length (λ n. Named n) string_bytes (g.F.Folder.holds c.args.files.now) (specs_in c.in_ok-inputs.inputs.library) c.from_ref-2.result.now c.in_ok-inputs.inputs.scripts c.in_ok-inputs.ensures.read.read in
+    let many = scripts_length (λ n. Named n) string_bytes (g.F.Folder.holds c.args.files.now) (specs_in c.in_ok-inputs.inputs.library) c.from_ref-2.result.now c.in_ok-inputs.inputs.scripts c.in_ok-inputs.ensures.read.read.read in
     many ∙ c.from_ref-2.ensures.len
 
 pub replay-requires-clause-catalogued : goal.replay-requires-clause-catalogued
 replay-requires-clause-catalogued g c = c.in_ok-inputs.ensures.read.library.catalogued
 
 pub replay-requires-clause-counted : goal.replay-requires-clause-counted
-replay-requires-clause-counted g c = c.in_ok-inputs.ensures.read.read.counted
+replay-requires-clause-counted g c = c.in_ok-inputs.ensures.read.read.read.counted
+
+pub replay-requires-clause-sound : goal.replay-requires-clause-sound
+replay-requires-clause-sound g c = c.in_ok-inputs.ensures.read.read.sound
 
 pub returns-in_err-text-clause-carried_out : goal.returns-in_err-text-clause-carried_out
 returns-in_err-text-clause-carried_out g c =

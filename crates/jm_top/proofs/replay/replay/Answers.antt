@@ -28,5 +28,5 @@ returns c =
     let fits = script_fits library c.requires.catalogued scripts c.requires.counted c.requires.one_script c.index.result.now c.index.ensures in
     let own = c.in_ok-own.ensures.fitting (catalog_of (specs_in library)) (length scripts.objects) fits in
     made_text (λ text. text.items) _ _ c.replay_own.result
-    (own_text library c.requires.catalogued scripts c.requires.counted c.requires.one_script c.index.result.now c.index.ensures _ c.in-Some.loaded c.in-Some.ensures.items c.requires.one_spec c.name.result.now c.table.result.now c.name.ensures c.table.ensures (steps_in c.in_ok-own.own.items) own c.in_ok-own.ensures.value)
+    (own_text library c.requires.catalogued scripts c.requires.counted c.requires.one_script c.index.result.now c.index.ensures _ c.in-Some.loaded c.in-Some.ensures.items c.requires.one_spec c.name.result.now c.table.result.now c.name.ensures c.table.ensures (steps_in c.in_ok-own.own.items) own c.in_ok-own.ensures.value c.requires.sound)
     c.replay_own.ensures
