@@ -14,7 +14,7 @@ use Rattle.clap.specs.Faults.{fault_of}
 use Rattle.jm_cli.specs.declared.command.WordsError.{WordsError}
 use Rattle.jm_cli.specs.declared.command.WordsError.TheVariants.{Usage, NoMemory}
 use Rattle.jm_cli.specs.Words.{CommandWords, is_name, are_names, command_of}
-use Rattle.jm_cli.specs.Words.CommandWords.{Replay, Run, Check, Coenable, Gen, Sweep}
+use Rattle.jm_cli.specs.Words.CommandWords.{Replay, Run, Check, Coenable, Gen, Sweep, Audit}
 use Rattle.jm_cli.specs.Spelling.{Spells}
 use Rattle.jm_cli.specs.Line.{line_app, names_shape, is_whole, found_command, Makes}
 use Rattle.jm_cli.proofs.Saying.{both, spelled}
@@ -98,18 +98,22 @@ free_by words names (Sweep a b) s =
 free_by words names (Gen n) s =
     let name : is_name (decimal n) ≡ true = (both (is_name (decimal n)) true (subst (λ x. list_all is_name x ≡ true) s.0 names)).0 in
     ap (fault_of line_app) s.0 ∙ gen_enters.fault (decimal n ∷ []) ∙ ap (λ k. or_else k []) (one_free (decimal n) name)
+free_by words names (Audit history specs scripts) s =
+    absurd (no_separator (codes "audit" ∷ history ∷ specs) scripts (subst (λ x. list_all is_name x ≡ true) s.0 names))
 
 pub refused_line : (words : List Text) → list_all is_name words ≡ true → fault_of line_app words ≢ [] → command_of words ≡ None
 refused_line words names fault = none_if (command_of words) (λ c e. fault (free_by words names c (spelled words c e)))
 
--- words that spell a command other than `run` are names
+-- words that spell a command without a separator are names
 abbrev pub IsApart : CommandWords → Type 0
 IsApart (Run specs scripts) = ⊥
+IsApart (Audit history specs scripts) = ⊥
 IsApart c = Unit {0}
 
 pub names_apart : (words : List Text) (c : CommandWords) → IsApart c → Spells words c → list_all is_name words ≡ true
 names_apart words (Replay a b) apart s = rw (s.0, s.1, s.2) refl
 names_apart words (Run specs scripts) apart s = absurd apart
+names_apart words (Audit history specs scripts) apart s = absurd apart
 names_apart words (Check specs) apart s = rw s.0 s.1.each
 names_apart words (Coenable specs) apart s = rw s.0 s.1.each
 names_apart words (Sweep a b) apart s = rw (s.0, s.1, s.2) refl
@@ -119,6 +123,9 @@ names_apart words (Gen n) apart s = rw (s.0, decimal_name n s.1 s.2) refl
 pub names_by : (words : List Text) → position (bytes_eq (codes "--")) words ≡ None → (c : CommandWords) → Spells words c → list_all is_name words ≡ true
 names_by words none (Run specs scripts) s =
     absurd (none-some _ (sym none ∙ ap (position (bytes_eq (codes "--"))) s.0 ∙ separator_at (codes "run" ∷ specs) scripts s.1.each))
+names_by words none (Audit history specs scripts) s =
+    let name : list_all is_name (codes "audit" ∷ history ∷ specs) ≡ true = rw s.1 s.2.each in
+    absurd (none-some _ (sym none ∙ ap (position (bytes_eq (codes "--"))) s.0 ∙ separator_at (codes "audit" ∷ history ∷ specs) scripts name))
 names_by words none (Replay a b) s = names_apart words (Replay a b) tt s
 names_by words none (Check specs) s = names_apart words (Check specs) tt s
 names_by words none (Coenable specs) s = names_apart words (Coenable specs) tt s

@@ -8,8 +8,8 @@ use Rattle.std.proofs.lemmas.Bool.{false≢true, lt-ltb}
 use Rattle.std.proofs.lemmas.Bool.Decides.{eqb_tells}
 use Rattle.std.proofs.lemmas.List.{length-append}
 use Rattle.std.proofs.lemmas.Fmt.{decimal_nonempty, length-decimal-le, digits_decimal, digits_value-decimal, first_decimal}
-use Rattle.jm_cli.specs.Words.{CommandWords, is_name, are_names, is_short_number, rounds_of, run_of, command_of}
-use Rattle.jm_cli.specs.Words.CommandWords.{Replay, Run, Check, Coenable, Gen, Sweep}
+use Rattle.jm_cli.specs.Words.{CommandWords, is_name, are_names, is_short_number, rounds_of, run_of, audit_of, command_of}
+use Rattle.jm_cli.specs.Words.CommandWords.{Replay, Run, Check, Coenable, Gen, Sweep, Audit}
 use Rattle.jm_cli.specs.Spelling.{AreNames, Spells}
 use Rattle.jm_cli.proofs.Numbers.{own}
 use Rattle.jm_cli.proofs.Saying.{both, same_bytes}
@@ -63,6 +63,14 @@ run_told specs scripts first second =
     let at = separator_at specs scripts first.each in
     rw (at, take-append_seam specs (codes "--" ∷ scripts), drop-append-add specs (codes "--" ∷ scripts) 1, names_told specs first, names_told scripts second) refl
 
+audit_told : (history : List ℕ) (specs scripts : List (List ℕ)) → is_name history ≡ true → AreNames specs → AreNames scripts
+    → audit_of (history ∷ (specs ++ codes "--" ∷ scripts)) ≡ Some (Audit history specs scripts)
+audit_told history specs scripts name first second =
+    let names : list_all is_name (history ∷ specs) ≡ true = rw name first.each in
+    let at = separator_at (history ∷ specs) scripts names in
+    rw (at, take-append_seam specs (codes "--" ∷ scripts), drop-append-add (history ∷ specs) (codes "--" ∷ scripts) 1)
+    (rw (name, names_told specs first, names_told scripts second) refl)
+
 -- ---- the number
 -- a text whose first byte lies past another doesn't begin with that
 begins_past : (byte : ℕ) (word : List ℕ) → byte ≤ 48 → 48 < get_or word 0 0 → not (starts_with nat_eq word (byte ∷ [])) ≡ true
@@ -98,3 +106,4 @@ told words (Check specs) s = rw (s.0, names_told specs s.1) refl
 told words (Coenable specs) s = rw (s.0, names_told specs s.1) refl
 told words (Sweep spec recording) s = rw (s.0, s.1, s.2) refl
 told words (Gen n) s = rw (s.0, rounds_told n s.1 s.2) refl
+told words (Audit history specs scripts) s = rw s.0 (audit_told history specs scripts s.1 s.2 s.3)

@@ -1,5 +1,5 @@
 -- The words around the separator.
-use Rattle.std.proofs.Common.{ℕ, ◌≡◌, ◌≢◌, ◌∙◌, ◌+◌, ◌-◌, true, false, ◌&&◌, List, [], ◌∷◌, ◌++◌, length, get_or, map, take, drop, Option, Some, None, Result, Ok, Err, IfOk, codes, refl, sym, ap, subst, inl, inr, ◌⊎◌, length-drop}
+use Rattle.std.proofs.Common.{ℕ, ◌≡◌, ◌≢◌, ◌∙◌, ◌+◌, ◌-◌, Bool, true, false, if◌then◌else◌, ◌&&◌, List, [], ◌∷◌, ◌++◌, length, get_or, map, take, drop, Option, Some, None, Result, Ok, Err, IfOk, codes, refl, sym, ap, subst, inl, inr, ◌⊎◌, length-drop}
 use Rattle.std.specs.Prelude.{IfNone}
 use Rattle.clap.specs.Simple.{subcommand_of, subcommand_rows_of}
 use Rattle.clap.specs.Faults.{fault_of}
@@ -16,8 +16,8 @@ use Rattle.jm_cli.specs.declared.command.Command.{Command}
 use Rattle.jm_cli.specs.declared.command.WordsError.{WordsError}
 use Rattle.jm_cli.specs.declared.command.WordsError.TheVariants.{Usage, NoMemory}
 use Rattle.jm_model.specs.Words.{Text}
-use Rattle.jm_cli.specs.Words.{CommandWords, is_name, are_names, command_of, command_around, run_around}
-use Rattle.jm_cli.specs.Words.CommandWords.{Replay, Run, Check, Coenable, Gen, Sweep}
+use Rattle.jm_cli.specs.Words.{CommandWords, is_name, are_names, command_of, command_around, run_command, run_around, is_audit, audit_around}
+use Rattle.jm_cli.specs.Words.CommandWords.{Replay, Run, Check, Coenable, Gen, Sweep, Audit}
 use Rattle.jm_cli.specs.Spelling.{Spells}
 use Rattle.jm_cli.specs.Views.{Reads, command_words}
 use Rattle.jm_cli.specs.Line.{line_app}
@@ -35,8 +35,8 @@ same_command None None to from = refl
 same_command None (Some c) to from = from c refl
 same_command (Some c) p to from = sym (to c refl)
 
--- words around a separator spell `run` alone
-pub runs : (before after : List Text) (c : CommandWords) → command_around before after ≡ Some c
+-- these words spell `run` alone
+pub runs : (before after : List Text) (c : CommandWords) → run_command before after ≡ Some c
     → (specs : List Text) × (before ≡ codes "run" ∷ specs) × (are_names specs ≡ true) × (are_names after ≡ true) × (Run specs after ≡ c)
 runs [] after c e = absurd (none-some c e)
 runs (w ∷ specs) after c e =
@@ -49,15 +49,43 @@ runs (w ∷ specs) after c e =
     ]
 
 pub run_told_around : (before after specs : List Text) → before ≡ codes "run" ∷ specs → are_names specs ≡ true → are_names after ≡ true
-    → command_around before after ≡ Some (Run specs after)
+    → run_command before after ≡ Some (Run specs after)
 run_told_around before after specs is are after_are = rw is (rw (are, after_are) refl)
 
--- and these words are names
-pub around_names : (before after : List Text) (c : CommandWords) → command_around before after ≡ Some c
+-- and those behind `audit` that alone
+pub audits : (before after : List Text) (c : CommandWords) → audit_around before after ≡ Some c
+    → (history : Text) × (specs : List Text) × (before ≡ history ∷ specs) × (is_name history ≡ true) × (are_names specs ≡ true) × (are_names after ≡ true)
+    × (Audit history specs after ≡ c)
+audits [] after c e = absurd (none-some c e)
+audits (history ∷ specs) after c e =
+    let t = taken (is_name history && (are_names specs && are_names after)) (Audit history specs after) c e in
+    let b = both (is_name history) (are_names specs && are_names after) t.0 in
+    let d = both (are_names specs) (are_names after) b.1 in
+    (history, specs, refl, b.0, d.0, d.1, t.1)
+
+pub audit_told_around : (history : Text) (specs after : List Text) → is_name history ≡ true → are_names specs ≡ true → are_names after ≡ true
+    → audit_around (history ∷ specs) after ≡ Some (Audit history specs after)
+audit_told_around history specs after name are after_are = rw (name, are, after_are) refl
+
+audit_first : (before : List Text) → is_audit before ≡ true → before ≡ codes "audit" ∷ drop 1 before
+audit_first [] is = absurd (false≢true is)
+audit_first (w ∷ before) is = ap (λ x. x ∷ before) (same_bytes w (codes "audit") is)
+
+-- these words are names
+around_names_by : (before after : List Text) (c : CommandWords) (b : Bool) → is_audit before ≡ b
+    → (if b then audit_around (drop 1 before) after else run_command before after) ≡ Some c
     → (list_all is_name before ≡ true) × (list_all is_name after ≡ true)
-around_names before after c e =
+around_names_by before after c false is e =
     let r = runs before after c e in
     (ap (list_all is_name) r.1 ∙ (names_spelled r.0 r.2).each, (names_spelled after r.3).each)
+around_names_by before after c true is e =
+    let r = audits (drop 1 before) after c e in
+    let names : list_all is_name (codes "audit" ∷ r.0 ∷ r.1) ≡ true = rw r.3 (names_spelled r.1 r.4).each in
+    (ap (list_all is_name) (audit_first before is ∙ ap (λ x. codes "audit" ∷ x) r.2) ∙ names, (names_spelled after r.5).each)
+
+pub around_names : (before after : List Text) (c : CommandWords) → command_around before after ≡ Some c
+    → (list_all is_name before ≡ true) × (list_all is_name after ≡ true)
+around_names before after c e = around_names_by before after c (is_audit before) refl e
 
 module _ (words : List Text) (place : ℕ) (at : position (bytes_eq (codes "--")) words ≡ Some place) where
   split : words ≡ take place words ++ codes "--" ∷ drop (place + 1) words
@@ -80,16 +108,35 @@ module _ (words : List Text) (place : ℕ) (at : position (bytes_eq (codes "--")
       let after : drop (place + 1) words ≡ scripts =
       ap (drop (place + 1)) s.0 ∙ ap (λ n. drop (n + 1) ((codes "run" ∷ specs) ++ codes "--" ∷ scripts)) k ∙ drop-append-add (codes "run" ∷ specs) (codes "--" ∷ scripts) 1 in
       rw (before, after) (rw (names_told specs s.1, names_told scripts s.2) refl)
+  told_around (Audit history specs scripts) s =
+      let all : List Text = codes "audit" ∷ history ∷ specs in
+      let names : list_all is_name all ≡ true = rw s.1 s.2.each in
+      let first : Some place ≡ Some (length all) =
+      sym at ∙ ap (position (bytes_eq (codes "--"))) s.0 ∙ separator_at all scripts names in
+      let k : place ≡ length all = same_Some place (length all) first in
+      let before : take place words ≡ all =
+      ap (take place) s.0 ∙ ap (λ n. take n (all ++ codes "--" ∷ scripts)) k ∙ take-append_seam all (codes "--" ∷ scripts) in
+      let after : drop (place + 1) words ≡ scripts =
+      ap (drop (place + 1)) s.0 ∙ ap (λ n. drop (n + 1) (all ++ codes "--" ∷ scripts)) k ∙ drop-append-add all (codes "--" ∷ scripts) 1 in
+      rw (before, after) (rw (s.1, names_told specs s.2, names_told scripts s.3) refl)
   told_around (Replay a b) s = absurd (not_names (names_apart words (Replay a b) tt s))
   told_around (Check specs) s = absurd (not_names (names_apart words (Check specs) tt s))
   told_around (Coenable specs) s = absurd (not_names (names_apart words (Coenable specs) tt s))
   told_around (Sweep a b) s = absurd (not_names (names_apart words (Sweep a b) tt s))
   told_around (Gen n) s = absurd (not_names (names_apart words (Gen n) tt s))
 
-  said_around : (before after : List Text) → words ≡ before ++ codes "--" ∷ after → (c : CommandWords) → command_around before after ≡ Some c → Spells words c
-  said_around before after is c e =
+  said_around_by : (before after : List Text) → words ≡ before ++ codes "--" ∷ after → (c : CommandWords) (b : Bool) → is_audit before ≡ b
+      → (if b then audit_around (drop 1 before) after else run_command before after) ≡ Some c → Spells words c
+  said_around_by before after is c false not e =
       let r = runs before after c e in
       subst (Spells words) r.4 (is ∙ ap (λ x. x ++ codes "--" ∷ after) r.1, names_spelled r.0 r.2, names_spelled after r.3)
+  said_around_by before after is c true audit e =
+      let r = audits (drop 1 before) after c e in
+      let first : before ≡ codes "audit" ∷ r.0 ∷ r.1 = audit_first before audit ∙ ap (λ x. codes "audit" ∷ x) r.2 in
+      subst (Spells words) r.6 (is ∙ ap (λ x. x ++ codes "--" ∷ after) first, r.3, names_spelled r.1 r.4, names_spelled after r.5)
+
+  said_around : (before after : List Text) → words ≡ before ++ codes "--" ∷ after → (c : CommandWords) → command_around before after ≡ Some c → Spells words c
+  said_around before after is c e = said_around_by before after is c (is_audit before) refl e
 
   pub around : command_of words ≡ command_around (take place words) (drop (place + 1) words)
   around = same_command _ _ (λ c e. told_around c (spelled words c e))
@@ -132,19 +179,19 @@ reads_none None (Err e) (inr usage) = inl (ap (λ x. Err x) usage.0)
 -- ---- what clap refuses of words around a separator
 module _ (before after : List Text) where
   pub refused_before : (e : WordsError) → (e ≡ NoMemory) ⊎ ((e ≡ Usage) × (fault_of line_app before ≢ []))
-      → (e ≡ NoMemory) ⊎ ((e ≡ Usage) × (command_around before after ≡ None))
-  refused_before e refused = refused_as (command_around before after) e refused
-      (λ fault. none_if (command_around before after) (λ c is.
+      → (e ≡ NoMemory) ⊎ ((e ≡ Usage) × (run_command before after ≡ None))
+  refused_before e refused = refused_as (run_command before after) e refused
+      (λ fault. none_if (run_command before after) (λ c is.
       let r = runs before after c is in
       fault (ap (fault_of line_app) r.1 ∙ run_free r.0 r.2)))
 
   pub refused_after : (e : WordsError) → (e ≡ NoMemory) ⊎ ((e ≡ Usage) × (are_names after ≡ false))
-      → (e ≡ NoMemory) ⊎ ((e ≡ Usage) × (command_around before after ≡ None))
-  refused_after e refused = refused_as (command_around before after) e refused
-      (λ not. none_if (command_around before after) (λ c is. false≢true (sym not ∙ (runs before after c is).3)))
+      → (e ≡ NoMemory) ⊎ ((e ≡ Usage) × (run_command before after ≡ None))
+  refused_after e refused = refused_as (run_command before after) e refused
+      (λ not. none_if (run_command before after) (λ c is. false≢true (sym not ∙ (runs before after c is).3)))
 
   pub not_run : (m : ArgMatches) → subcommand_rows_of m ≡ subcommand_of line_app before → (subcommand_name_of m ≡ Some (codes "run") → ⊥)
-      → command_around before after ≡ None
-  not_run m found other = none_if (command_around before after) (λ c is.
+      → run_command before after ≡ None
+  not_run m found other = none_if (run_command before after) (λ c is.
       let r = runs before after c is in
       other (name_is m (codes "run") _ (found ∙ ap (subcommand_of line_app) r.1 ∙ run_enters.found r.0)))

@@ -9,8 +9,8 @@ use Rattle.std.proofs.lemmas.List.{take-append-drop, drop_more}
 use Rattle.std.proofs.lemmas.List.Quantifiers.{position-Some}
 use Rattle.std.proofs.lemmas.Slice.Eq.{bytes_eq-Decides}
 use Rattle.std.proofs.lemmas.Fmt.{decimal-digits_value, decimal_digit}
-use Rattle.jm_cli.specs.Words.{CommandWords, is_name, are_names, names_of, is_short_number, rounds_of, replay_of, run_around, run_of, check_of, coenable_of, gen_of, sweep_of, command_of}
-use Rattle.jm_cli.specs.Words.CommandWords.{Replay, Run, Check, Coenable, Gen, Sweep}
+use Rattle.jm_cli.specs.Words.{CommandWords, is_name, are_names, names_of, is_short_number, rounds_of, replay_of, run_around, run_of, audit_around, audit_of, check_of, coenable_of, gen_of, sweep_of, command_of}
+use Rattle.jm_cli.specs.Words.CommandWords.{Replay, Run, Check, Coenable, Gen, Sweep, Audit}
 use Rattle.jm_cli.specs.Spelling.{AreNames, Spells}
 use Rattle.jm_cli.proofs.Numbers.{own, digits, some}
 
@@ -76,6 +76,29 @@ run_spelled words c e =
     ∙ ap (λ w. before ++ w ∷ after) (sym (same_bytes (codes "--") (get_or words k []) at.1)) in
     subst (Spells (codes "run" ∷ words)) t.1 (ap (λ r. codes "run" ∷ r) split, names_spelled before b.0, names_spelled after b.1)
 
+audit_split : (words before after : List (List ℕ)) (c : CommandWords) → words ≡ before ++ codes "--" ∷ after → audit_around before after ≡ Some c
+    → Spells (codes "audit" ∷ words) c
+audit_split words [] after c is e = absurd (none-some c e)
+audit_split words (history ∷ specs) after c is e =
+    let t = taken (is_name history && (are_names specs && are_names after)) (Audit history specs after) c e in
+    let b = both (is_name history) (are_names specs && are_names after) t.0 in
+    let d = both (are_names specs) (are_names after) b.1 in
+    subst (Spells (codes "audit" ∷ words)) t.1
+    (ap (λ r. codes "audit" ∷ r) is, b.0, names_spelled specs d.0, names_spelled after d.1)
+
+audit_spelled : (words : List (List ℕ)) (c : CommandWords) → audit_of words ≡ Some c → Spells (codes "audit" ∷ words) c
+audit_spelled words c e =
+    let found = some_then (λ k. audit_around (take k words) (drop (k + 1) words)) (position (bytes_eq (codes "--")) words) c e in
+    let k = found.0 in
+    let before = take k words in
+    let after = drop (k + 1) words in
+    let at = position-Some (bytes_eq (codes "--")) words k [] found.1 in
+    let there = drop_more words k [] at.0 in
+    let split : words ≡ before ++ codes "--" ∷ after =
+    sym (take-append-drop k words) ∙ ap (λ r. before ++ r) there
+    ∙ ap (λ w. before ++ w ∷ after) (sym (same_bytes (codes "--") (get_or words k []) at.1)) in
+    audit_split words before after c split found.2
+
 check_spelled : (words : List (List ℕ)) (c : CommandWords) → check_of words ≡ Some c → Spells (codes "check" ∷ words) c
 check_spelled words c e =
     let found = some_map (λ specs. Check specs) (names_of words) c e in
@@ -134,7 +157,10 @@ spelled (w ∷ words) c e =
               | inl h ↦ rw (same_bytes w (codes "gen") h.0) (gen_spelled words c h.1)
               | inr h ↦ elim (chosen (bytes_eq w (codes "sweep")) _ _ c h.1) [
                 | inl h ↦ rw (same_bytes w (codes "sweep") h.0) (sweep_spelled words c h.1)
-                | inr h ↦ absurd (none-some c h.1)
+                | inr h ↦ elim (chosen (bytes_eq w (codes "audit")) _ _ c h.1) [
+                  | inl h ↦ rw (same_bytes w (codes "audit") h.0) (audit_spelled words c h.1)
+                  | inr h ↦ absurd (none-some c h.1)
+                ]
               ]
             ]
           ]

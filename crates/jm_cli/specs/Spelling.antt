@@ -3,7 +3,7 @@ use Rattle.std.specs.Prelude.{◌≡◌, ◌≤◌, true, List, [], ◌∷◌, �
 use Rattle.std.specs.List.{list_all}
 use Rattle.jm_model.specs.Words.{Text}
 use Rattle.jm_cli.specs.Words.{CommandWords, is_name}
-use Rattle.jm_cli.specs.Words.CommandWords.{Replay, Run, Check, Coenable, Gen, Sweep}
+use Rattle.jm_cli.specs.Words.CommandWords.{Replay, Run, Check, Coenable, Gen, Sweep, Audit}
 
 -- 1 to 16 words, each of which may name a file
 pub record AreNames (words : List Text) : Type 0 where
@@ -21,3 +21,6 @@ Spells words (Coenable specs) = (words ≡ codes "coenable" ∷ specs) × AreNam
 Spells words (Gen n) = (words ≡ codes "gen" ∷ decimal n ∷ []) × (1 ≤ n) × (n ≤ 8000)
 Spells words (Sweep spec recording) =
     (words ≡ codes "sweep" ∷ spec ∷ recording ∷ []) × (is_name spec ≡ true) × (is_name recording ≡ true)
+Spells words (Audit history specs scripts) =
+    (words ≡ codes "audit" ∷ history ∷ (specs ++ codes "--" ∷ scripts)) × (is_name history ≡ true) × AreNames specs
+    × AreNames scripts

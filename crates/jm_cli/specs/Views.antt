@@ -5,7 +5,7 @@ use Rattle.jm_cli.specs.declared.command.Command.TheVariants as read
 use Rattle.jm_cli.specs.declared.command.WordsError.{WordsError}
 use Rattle.jm_cli.specs.declared.command.WordsError.TheVariants.{Usage, NoMemory}
 use Rattle.jm_cli.specs.Words.{CommandWords}
-use Rattle.jm_cli.specs.Words.CommandWords.{Replay, Run, Check, Coenable, Gen, Sweep}
+use Rattle.jm_cli.specs.Words.CommandWords.{Replay, Run, Check, Coenable, Gen, Sweep, Audit}
 
 -- the command, with its names as bytes
 abbrev pub command_words : Command → CommandWords
@@ -15,6 +15,8 @@ command_words (read.Check specs) = Check (map string_bytes specs.items)
 command_words (read.Coenable specs) = Coenable (map string_bytes specs.items)
 command_words (read.Gen n) = Gen n
 command_words (read.Sweep spec recording) = Sweep (string_bytes spec) (string_bytes recording)
+command_words (read.Audit history specs scripts) =
+    Audit (string_bytes history) (map string_bytes specs.items) (map string_bytes scripts.items)
 
 -- the command that the words spell was read, or out of memory came between, or the words spell none
 abbrev pub Reads : Option CommandWords → Result Command WordsError → Type 0

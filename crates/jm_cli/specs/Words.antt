@@ -1,5 +1,5 @@
 -- The commands, and which words spell them.
-use Rattle.std.specs.Prelude.{ℕ, ◌+◌, Bool, not, ◌&&◌, nat_eq, nat_lt, nat_le, List, [], ◌∷◌, length, take, drop, codes, Option, Some, None, option_map, position, if◌then◌else◌}
+use Rattle.std.specs.Prelude.{ℕ, ◌+◌, Bool, false, not, ◌&&◌, nat_eq, nat_lt, nat_le, List, [], ◌∷◌, length, take, drop, codes, Option, Some, None, option_map, position, if◌then◌else◌}
 use Rattle.std.specs.List.{starts_with, list_all}
 use Rattle.std.specs.Char.{is_ascii_digit}
 use Rattle.std.specs.Option.{option_and_then}
@@ -7,7 +7,8 @@ use Rattle.std.specs.Str.{bytes_eq}
 use Rattle.std.specs.Str.Parse.{digits_value}
 use Rattle.jm_model.specs.Words.{Text}
 
--- a command: the names of its specifications and scripts, or of its recording, or how many rounds a workload has
+-- a command: the names of its specifications and scripts, of its recording or of a history, or how many rounds a
+-- workload has
 pub data CommandWords : Type 0 where
   Replay : (spec script : Text) → CommandWords
   Run : (specs scripts : List Text) → CommandWords
@@ -15,6 +16,7 @@ pub data CommandWords : Type 0 where
   Coenable : (specs : List Text) → CommandWords
   Gen : (n : ℕ) → CommandWords
   Sweep : (spec recording : Text) → CommandWords
+  Audit : (history : Text) (specs scripts : List Text) → CommandWords
 
 -- a word that may name a file: one that doesn't begin with `-`
 abbrev pub is_name : Text → Bool
@@ -57,6 +59,16 @@ run_of words =
     option_and_then (λ separator. run_around (take separator words) (drop (separator + 1) words))
     (position (bytes_eq (codes "--")) words)
 
+abbrev pub audit_around : List Text → List Text → Option CommandWords
+audit_around [] after = None
+audit_around (history ∷ specs) after =
+    if is_name history && (are_names specs && are_names after) then Some (Audit history specs after) else None
+
+abbrev pub audit_of : List Text → Option CommandWords
+audit_of words =
+    option_and_then (λ separator. audit_around (take separator words) (drop (separator + 1) words))
+    (position (bytes_eq (codes "--")) words)
+
 abbrev pub check_of : List Text → Option CommandWords
 check_of words = option_map (λ specs. Check specs) (names_of words)
 
@@ -76,10 +88,21 @@ command_of (command ∷ words) =
     else (if bytes_eq command (codes "check") then check_of words
     else (if bytes_eq command (codes "coenable") then coenable_of words
     else (if bytes_eq command (codes "gen") then gen_of words
-    else (if bytes_eq command (codes "sweep") then sweep_of words else None)))))
+    else (if bytes_eq command (codes "sweep") then sweep_of words
+    else (if bytes_eq command (codes "audit") then audit_of words else None))))))
+
+-- what words around a separator spell, where they are those of `run`
+abbrev pub run_command : List Text → List Text → Option CommandWords
+run_command [] after = None
+run_command (command ∷ before) after =
+    if bytes_eq command (codes "run") then run_around before after else None
+
+-- the first word is `audit`
+abbrev pub is_audit : List Text → Bool
+is_audit [] = false
+is_audit (command ∷ words) = bytes_eq command (codes "audit")
 
 -- the command that words around a separator spell
 abbrev pub command_around : List Text → List Text → Option CommandWords
-command_around [] after = None
-command_around (command ∷ before) after =
-    if bytes_eq command (codes "run") then run_around before after else None
+command_around before after =
+    if is_audit before then audit_around (drop 1 before) after else run_command before after

@@ -1,10 +1,10 @@
 //! The commands.
-ghost use Rattle.std.specs.Prelude.{codes, ◌≡◌, ◌⊎◌, true, map, string_bytes, position, Some, None, IfOk, IfNone, IsSome};
+ghost use Rattle.std.specs.Prelude.{codes, ◌≡◌, ◌<◌, ◌⊎◌, true, length, map, string_bytes, position, Some, None, IfOk, IfNone, IsSome};
 ghost use Rattle.std.specs.List.{list_all};
 ghost use Rattle.std.specs.Str.{bytes_eq};
 ghost use Rattle.clap.specs.Walk.{all_of, first_of, rows_of};
 ghost use Rattle.clap.specs.Matches.{found_of};
-ghost use Rattle.jm_cli.specs.Words.{is_name, command_of, command_around};
+ghost use Rattle.jm_cli.specs.Words.{is_name, is_audit, command_of, command_around, run_command, audit_around};
 ghost use Rattle.jm_cli.specs.Line.{is_whole, found_command, replay_found, check_found, coenable_found, gen_found, sweep_found};
 ghost use Rattle.jm_cli.specs.Views.{command_words, Reads};
 
@@ -43,6 +43,12 @@ pub enum Command {
         spec: String,
         recording: String,
     },
+    /// Tells whether a text is one that `run` may print.
+    Audit {
+        history: String,
+        specs: Vec<String>,
+        scripts: Vec<String>,
+    },
 }
 
 /// Why words give no command.
@@ -75,8 +81,9 @@ impl<T: Drop> From<AllocFailed<T>> for WordsError {
 }
 
 /// The command that words spell: `replay` and two names; `run`, 1 to 16 names, `--` and 1 to 16 names; `check` or
-/// `coenable` and 1 to 16 names; `gen` and a number from 1 to 8000; `sweep` and two names. A name is a word that doesn't begin with `-`, and a
-/// number has neither a sign nor a leading zero.
+/// `coenable` and 1 to 16 names; `gen` and a number from 1 to 8000; `sweep` and two names; `audit`, a name, and such
+/// names as those of `run`. A name is a word that doesn't begin with `-`, and a number has neither a sign nor a leading
+/// zero.
 ///
 /// The answer is `Usage` only where the words spell no command, and `NoMemory` where memory is short.
 pub fn read_words(alloc: Global, words: &[String]) -> Result<Command, WordsError>
@@ -98,14 +105,49 @@ fn read_around(alloc: Global, before: &[String], after: &[String]) -> Result<Com
     if !is_each_a_name(before) || !is_each_a_name(after) {
         return Err(WordsError::Usage);
     }
+    if is_audit(before) {
+        return read_audit(alloc, &before[1..], after);
+    }
     read_run(alloc, before, after)
 }
 
-/// The command that names around a separator spell.
+/// Whether the first word is `audit`.
+fn is_audit(words: &[String]) -> bool
+    ensures value { result ≡ is_audit (map string_bytes words.now) }
+    ensures some { result ≡ true → 0 < length words.now }
+{
+    match words.first() {
+        Some(word) => word.as_str() == "audit",
+        None => false,
+    }
+}
+
+/// The command that the names behind `audit`, around a separator, spell.
+fn read_audit(alloc: Global, before: &[String], after: &[String]) -> Result<Command, WordsError>
+    requires before { list_all is_name (map string_bytes before.now) ≡ true }
+    requires after { list_all is_name (map string_bytes after.now) ≡ true }
+    ensures { Reads (audit_around (map string_bytes before.now) (map string_bytes after.now)) result }
+{
+    match before.split_first() {
+        Some((history, specs)) => {
+            let history = copy(alloc, history.as_str())?;
+            let specs = parse_names(alloc, specs)?;
+            let scripts = parse_names(alloc, after)?;
+            Ok(Command::Audit {
+                history,
+                specs,
+                scripts,
+            })
+        }
+        None => Err(WordsError::Usage),
+    }
+}
+
+/// The command that names around a separator spell, where it is `run`.
 fn read_run(alloc: Global, before: &[String], after: &[String]) -> Result<Command, WordsError>
     requires before { list_all is_name (map string_bytes before.now) ≡ true }
     requires after { list_all is_name (map string_bytes after.now) ≡ true }
-    ensures { Reads (command_around (map string_bytes before.now) (map string_bytes after.now)) result }
+    ensures { Reads (run_command (map string_bytes before.now) (map string_bytes after.now)) result }
 {
     let line = parse_line(alloc, before)?;
     match line.subcommand_matches("run") {

@@ -186,6 +186,7 @@ module _ (contents : List ℕ → Option (List ℕ)) (specs : List Specification
   script_or_fault count names (x ∷ first) rest source scripts some objects texts middle fronts bytes fault told (held, script, more, later, behind_texts, e, t, gives, said, others) (byte, lines, behind, then_names, front_texts, f, u, g, tells, most) given is =
       let one = one_given contents x held byte told.0 gives g in
       let counts : count + step_count some ≡ (count + length lines) + step_count behind = ap (λ v. count + step_count v) f ∙ omega arith in
+<<<<<<< ours
       let here = (subst (λ v. IsScriptFile specs count names v script later) one said).said in
       let same_lines : script ≡ lines = here.lines ∙ sym tells.said.lines in
       let same_names : later ≡ then_names = here.named ∙ sym tells.said.named in
@@ -208,3 +209,16 @@ texts_one contents specs some_specs count some_count names some_names (x ∷ sou
     let one = one_given contents x held byte told.0 gives g in
     let rests = texts_one contents specs some_specs (count + length script) (some_count + length lines) later then_names sources more front objects rest middle tail told.1 behind most in
     t ∙ (λ i. one i ∷ rests i) ∙ sym u
+=======
+      let here = subst (λ v. IsScript specs count names v script later) one said in
+      let same_lines : script ≡ lines = here.lines ∙ sym tells.lines in
+      let same_names : later ≡ then_names = here.named ∙ sym tells.named in
+      script_or_fault (count + length lines) then_names first rest source more behind objects middle bytes fault told.1
+      (subst (λ v. SayScripts contents specs (count + length lines) v (first ++ source ∷ rest) more objects) same_names (subst (λ v. SayScripts contents specs (count + length v) later (first ++ source ∷ rest) more objects) same_lines others)) most given
+      (subst (λ n. IsScriptFault specs n middle bytes fault) counts is)
+
+  pub scripts_not_refused : (count : ℕ) (sources : List Source) (number : ℕ) (source : Source) (scripts before : List (List ScriptLine)) (objects names : List (List ℕ)) (bytes : List ℕ) (fault : ScriptFault) → AllTold contents sources → SayScripts contents specs count [] sources scripts objects
+      → AreScriptsUpTo contents specs count sources number source before names → Gives contents source bytes → IsScriptFault specs (count + step_count before) names bytes fault → ⊥
+  scripts_not_refused count sources number source scripts before objects names bytes fault told said reached given is =
+      script_or_fault count [] reached.first reached.rest source scripts before objects names bytes fault (subst (AllTold contents) reached.split told) (subst (λ v. SayScripts contents specs count [] v scripts objects) reached.split said) reached.read given is
+>>>>>>> theirs

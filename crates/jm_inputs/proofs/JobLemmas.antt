@@ -7,17 +7,25 @@ use Rattle.jm_model.specs.declared.fault.ScriptFault.TheVariants as script
 use Rattle.jm_script.specs.declared.script.ScriptLine.{ScriptLine}
 use Rattle.std.proofs.lemmas.Bool.{false≢true}
 use Rattle.jm_cli.specs.Words.{CommandWords, command_of}
-use Rattle.jm_cli.specs.Words.CommandWords.{Sweep}
+use Rattle.jm_cli.specs.Words.CommandWords.{Replay, Run, Check, Coenable, Gen, Sweep, Audit}
 use Rattle.jm_inputs.specs.declared.status.Status.{Status}
-use Rattle.jm_inputs.specs.declared.status.Status.TheVariants.{Done, Usage, BadSpec, BadScript, ReadFailed, WriteFailed, NoMemory}
+use Rattle.jm_inputs.specs.declared.status.Status.TheVariants.{Done, Usage, BadSpec, BadScript, ReadFailed, WriteFailed, NoMemory, BadHistory}
 use Rattle.jm_inputs.specs.Sources.{Source, Named, Gives}
-use Rattle.jm_inputs.specs.Commands.{named, spec_sources, script_sources, reads_recording, needs_families}
+use Rattle.jm_inputs.specs.Commands.{named, files_before, steps_before, most_of_history, IsHistorySound, spec_sources, script_sources, reads_recording, is_audit, needs_families}
 use Rattle.jm_inputs.specs.Specifications.{Specification, too_long as spec_too_long, most_bytes}
+<<<<<<< ours
 use Rattle.jm_inputs.specs.Scripts.{IsScriptFileFault, file_too_long}
 use Rattle.jm_inputs.specs.Inputs.{IsRefusal, faulty, SaySpecifications, AreReadUpTo, step_count, AreScriptsUpTo, asked_by}
 use Rattle.jm_inputs.specs.Recordings.{RecordedPart, IsRecordingFault}
 use Rattle.jm_inputs.specs.Jobs.{Job, Refused, Accepted, AcceptedParts, IsSound, IsJob, no_command, bad_spec, bad_script, bad_order, accepted, bad_part, accepted_parts, ReachesFile, spec_file, script_file, IsCaused, AreTold}
 use Rattle.jm_inputs.specs.Causes.{IsBeforeWriting, IsFaulty, IsNotLoaded, IsNoSpec, IsNoSpecIn, StopsSpecs, IsNoOrder, IsNoScript, IsNoScriptFileIn, StopsScripts, IsNoRecording, StopsCommand, short, at_spec, at_script, at_recording}
+=======
+use Rattle.jm_inputs.specs.Scripts.{IsScriptFault, too_long}
+use Rattle.jm_inputs.specs.Inputs.{IsRefusal, faulty, SaySpecifications, AreReadUpTo, step_count, SayScripts, AreScriptsUpTo}
+use Rattle.jm_inputs.specs.Recordings.{RecordedPart, IsRecordingFault}
+use Rattle.jm_inputs.specs.Jobs.{Job, Refused, Accepted, AcceptedParts, AcceptedAudit, IsSound, IsJob, no_command, bad_history, bad_spec, bad_script, accepted, bad_part, accepted_parts, accepted_audit, ReachesFile, history_file, spec_file, script_file, IsCaused, AreTold}
+use Rattle.jm_inputs.specs.Causes.{IsBeforeWriting, IsFaulty, IsNotLoaded, IsNoSpec, IsNoSpecIn, StopsSpecs, IsNoScript, IsNoScriptIn, StopsScripts, IsNoRecording, IsNoHistory, StopsCommand, short, at_history, at_spec, at_script, at_recording}
+>>>>>>> theirs
 use Rattle.jm_inputs.proofs.OneReadingLemmas.{same_some, same_err, never_some}
 use Rattle.jm_inputs.proofs.InputLemmas.{one_given, say_one, specs_not_refused, scripts_not_refused, texts_one}
 use Rattle.jm_inputs.proofs.RecordingLemmas.{recording_has_no_fault}
@@ -34,18 +42,45 @@ module _ (words : List (List ℕ)) (contents : List ℕ → Option (List ℕ)) (
   never_both : (c : CommandWords) (spec recording : List ℕ) → Sweep spec recording ≡ c → reads_recording c ≡ false → ⊥
   never_both c spec recording same separate = false≢true (sym separate ∙ ap reads_recording (sym same))
 
+  -- nor does one that audits a history
+  never_audit : (c : CommandWords) (history : List ℕ) (names files : List (List ℕ)) → Audit history names files ≡ c → is_audit c ≡ false → ⊥
+  never_audit c history names files same apart = false≢true (sym apart ∙ ap is_audit (sym same))
+
+  no_audit_steps : (c : CommandWords) → is_audit c ≡ false → steps_before c ≡ 0
+  no_audit_steps (Audit history names files) apart = absurd (false≢true (sym apart))
+  no_audit_steps (Replay spec script) apart = refl
+  no_audit_steps (Run specs scripts) apart = refl
+  no_audit_steps (Check specs) apart = refl
+  no_audit_steps (Coenable specs) apart = refl
+  no_audit_steps (Gen n) apart = refl
+  no_audit_steps (Sweep spec recording) apart = refl
+
   -- a job that isn't refused is refused for nothing
+<<<<<<< ours
   accepted_not_refused : (status : Status) (c : CommandWords) (specs : List Specification) (scripts : List (List ScriptLine)) (objects : List (List ℕ)) (asked : List (List SyncLine)) → IsJob words contents (Accepted c specs scripts objects asked) → IsJob words contents (Refused status) → ⊥
   accepted_not_refused status _ _ _ _ _ (accepted c specs scripts objects texts spelled said tells sound separate) (no_command none) = never_some (sym none ∙ spelled)
   accepted_not_refused _ _ _ _ _ _ (accepted c specs scripts objects texts spelled said tells sound separate) (bad_spec d number source before bytes fault names reached given is) =
+=======
+  accepted_not_refused : (status : Status) (c : CommandWords) (specs : List Specification) (scripts : List (List ScriptLine)) (objects : List (List ℕ)) → IsJob words contents (Accepted c specs scripts objects) → IsJob words contents (Refused status) → ⊥
+  accepted_not_refused status _ _ _ _ (accepted c specs scripts objects spelled said tells separate plain) (no_command none) = never_some (sym none ∙ spelled)
+  accepted_not_refused _ _ _ _ _ (accepted c specs scripts objects spelled said tells separate plain) (bad_history history names files bytes spells given long) =
+      never_audit c history names files (same_command c (Audit history names files) spelled spells) plain
+  accepted_not_refused _ _ _ _ _ (accepted c specs scripts objects spelled said tells separate plain) (bad_spec d number source before bytes fault names sound reached given is) =
+>>>>>>> theirs
       let same = same_command c d spelled names in
       let all = told c spelled in
       specs_not_refused contents (needs_families c) (spec_sources c) number source specs before bytes fault all.0 said
       (subst (λ (x : CommandWords). AreReadUpTo contents (needs_families x) (spec_sources x) number source before) same reached) given (subst (λ (x : CommandWords). IsRefusal (needs_families x) before bytes fault) same is)
+<<<<<<< ours
   accepted_not_refused _ _ _ _ _ _ (accepted c specs scripts objects texts spelled said tells sound separate) (bad_script d others number source before names bytes fault spells says reached given is apart) =
+=======
+  accepted_not_refused _ _ _ _ _ (accepted c specs scripts objects spelled said tells separate plain) (bad_script d others number source before names bytes fault spells sound says reached given is apart) =
+>>>>>>> theirs
       let same = same_command c d spelled spells in
       let all = told c spelled in
+      let none : steps_before c ≡ 0 = no_audit_steps c plain in
       let one = say_one contents (needs_families c) [] (spec_sources c) others specs all.0 (subst (λ (x : CommandWords). SaySpecifications contents (needs_families x) [] (spec_sources x) others) same says) said in
+<<<<<<< ours
       scripts_not_refused contents specs (script_sources c) number source scripts before objects texts names bytes fault all.1 tells
       (subst (λ v. AreScriptsUpTo contents v (script_sources c) number source before names) one (subst (λ (x : CommandWords). AreScriptsUpTo contents others (script_sources x) number source before names) same reached)) given
       (subst (λ v. IsScriptFileFault v (step_count before) names bytes fault) one is)
@@ -55,17 +90,27 @@ module _ (words : List (List ℕ)) (contents : List ℕ → Option (List ℕ)) (
       let one = texts_one contents others specs 0 0 [] [] (script_sources c) some scripts names held objects texts all.1 (subst (λ (x : CommandWords). SayScripts contents others 0 [] (script_sources x) some names held) same reads) tells in
       sound_not_wrong (asked_by texts) number fault sound (subst (λ v. IsWrong (asked_by v) number fault) one is)
   accepted_not_refused _ _ _ _ _ _ (accepted c specs scripts objects texts spelled said tells sound separate) (bad_part spec recording others bytes number fault spells says given is) =
+=======
+      scripts_not_refused contents specs 0 (script_sources c) number source scripts before objects names bytes fault all.1 tells
+      (subst (λ v. AreScriptsUpTo contents v 0 (script_sources c) number source before names) one
+      (subst (λ n. AreScriptsUpTo contents others n (script_sources c) number source before names) none (subst (λ (x : CommandWords). AreScriptsUpTo contents others (steps_before x) (script_sources x) number source before names) same reached))) given
+      (subst (λ v. IsScriptFault v (0 + step_count before) names bytes fault) one
+      (subst (λ n. IsScriptFault others (n + step_count before) names bytes fault) none (subst (λ (x : CommandWords). IsScriptFault others (steps_before x + step_count before) names bytes fault) same is)))
+  accepted_not_refused _ _ _ _ _ (accepted c specs scripts objects spelled said tells separate plain) (bad_part spec recording others bytes number fault spells says given is) =
+>>>>>>> theirs
       never_both c spec recording (same_command c (Sweep spec recording) spelled spells) separate
 
   -- nor one over the parts of a recording
   parts_not_refused : (status : Status) (specs : List Specification) (parts : List RecordedPart) → IsJob words contents (AcceptedParts specs parts) → IsJob words contents (Refused status) → ⊥
   parts_not_refused status _ _ (accepted_parts spec recording specs bytes parts spelled said given tells) (no_command none) = never_some (sym none ∙ spelled)
-  parts_not_refused _ _ _ (accepted_parts spec recording specs bytes parts spelled said given tells) (bad_spec d number source before held fault names reached gives is) =
+  parts_not_refused _ _ _ (accepted_parts spec recording specs bytes parts spelled said given tells) (bad_spec d number source before held fault names sound reached gives is) =
       let same = same_command (Sweep spec recording) d spelled names in
       let all = told (Sweep spec recording) spelled in
       specs_not_refused contents false (named (spec ∷ [])) number source specs before held fault all.0 said
       (subst (λ (x : CommandWords). AreReadUpTo contents (needs_families x) (spec_sources x) number source before) same reached) gives (subst (λ (x : CommandWords). IsRefusal (needs_families x) before held fault) same is)
-  parts_not_refused _ _ _ (accepted_parts spec recording specs bytes parts spelled said given tells) (bad_script d others number source before names held fault spells says reached gives is apart) =
+  parts_not_refused _ _ _ (accepted_parts spec recording specs bytes parts spelled said given tells) (bad_history history names files held spells gives long) =
+      never_audit (Sweep spec recording) history names files (same_command (Sweep spec recording) (Audit history names files) spelled spells) refl
+  parts_not_refused _ _ _ (accepted_parts spec recording specs bytes parts spelled said given tells) (bad_script d others number source before names held fault spells sound says reached gives is apart) =
       never_both d spec recording (same_command d (Sweep spec recording) spells spelled) apart
   parts_not_refused _ _ _ (accepted_parts spec recording specs bytes parts spelled said given tells) (bad_order d others some names held number fault spells says reads is apart) =
       never_both d spec recording (same_command d (Sweep spec recording) spells spelled) apart
@@ -78,10 +123,35 @@ module _ (words : List (List ℕ)) (contents : List ℕ → Option (List ℕ)) (
       let same_bytes = one_given contents (Named recording) held bytes all.1.0 (subst (λ v. Gives contents (Named v) held) one_recording gives) given in
       recording_has_no_fault specs bytes parts number fault tells (subst (λ v. IsRecordingFault specs v number fault) same_bytes (subst (λ v. IsRecordingFault v held number fault) one is))
 
+  -- nor one that audits a history
+  audit_not_refused : (status : Status) (specs : List Specification) (scripts : List (List ScriptLine)) (objects : List (List ℕ)) (bytes : List ℕ) → IsJob words contents (AcceptedAudit specs scripts objects bytes) → IsJob words contents (Refused status) → ⊥
+  audit_not_refused status _ _ _ _ (accepted_audit history names files bytes specs scripts objects spelled given small said tells) (no_command none) = never_some (sym none ∙ spelled)
+  audit_not_refused _ _ _ _ _ (accepted_audit history names files bytes specs scripts objects spelled given small said tells) (bad_history again specs_again scripts_again held spells gives long) =
+      let same = same_command (Audit history names files) (Audit again specs_again scripts_again) spelled spells in
+      let one_history : again ≡ history = cc same in
+      let all = told (Audit history names files) spelled in
+      let same_bytes = one_given contents (Named history) held bytes all.2.0 (subst (λ v. Gives contents (Named v) held) one_history gives) given in
+      omega (arith, small, long, ap (λ v. length v) same_bytes)
+  audit_not_refused _ _ _ _ _ (accepted_audit history names files bytes specs scripts objects spelled given small said tells) (bad_spec d number source before held fault spells sound reached gives is) =
+      let same = same_command (Audit history names files) d spelled spells in
+      let all = told (Audit history names files) spelled in
+      specs_not_refused contents false (named names) number source specs before held fault all.0 said
+      (subst (λ (x : CommandWords). AreReadUpTo contents (needs_families x) (spec_sources x) number source before) same reached) gives (subst (λ (x : CommandWords). IsRefusal (needs_families x) before held fault) same is)
+  audit_not_refused _ _ _ _ _ (accepted_audit history names files bytes specs scripts objects spelled given small said tells) (bad_script d others number source before texts held fault spells sound says reached gives is apart) =
+      let same = same_command (Audit history names files) d spelled spells in
+      let all = told (Audit history names files) spelled in
+      let one = say_one contents false [] (named names) others specs all.0 (subst (λ (x : CommandWords). SaySpecifications contents (needs_families x) [] (spec_sources x) others) same says) said in
+      scripts_not_refused contents specs 198000 (named files) number source scripts before objects texts held fault all.1 tells
+      (subst (λ v. AreScriptsUpTo contents v 198000 (named files) number source before texts) one (subst (λ (x : CommandWords). AreScriptsUpTo contents others (steps_before x) (script_sources x) number source before texts) same reached)) gives
+      (subst (λ v. IsScriptFault v (198000 + step_count before) texts held fault) one (subst (λ (x : CommandWords). IsScriptFault others (steps_before x + step_count before) texts held fault) same is))
+  audit_not_refused _ _ _ _ _ (accepted_audit history names files bytes specs scripts objects spelled given small said tells) (bad_part spec recording others held number fault spells says gives is) =
+      never_audit (Sweep spec recording) history names files (same_command (Sweep spec recording) (Audit history names files) spells spelled) refl
+
   not_refused : (status : Status) (job : Job) → IsSound job → IsJob words contents job → IsJob words contents (Refused status) → ⊥
   not_refused status (Refused other) sound job refused = sound
   not_refused status (Accepted c specs scripts objects asked) sound job refused = accepted_not_refused status c specs scripts objects asked job refused
   not_refused status (AcceptedParts specs parts) sound job refused = parts_not_refused status specs parts job refused
+  not_refused status (AcceptedAudit specs scripts objects bytes) sound job refused = audit_not_refused status specs scripts objects bytes job refused
 
   -- A command whose job isn't refused, and that met no fault of the folder or the sink, was done, or memory was short.
   pub completes : (job : Job) → IsSound job → IsJob words contents job → (status : Status) → IsCaused words contents status
@@ -91,18 +161,27 @@ module _ (words : List (List ℕ)) (contents : List ℕ → Option (List ℕ)) (
   completes job sound is Usage caused no_read no_write = absurd (not_refused Usage job sound is caused)
   completes job sound is (BadSpec f x) caused no_read no_write = absurd (not_refused (BadSpec f x) job sound is caused)
   completes job sound is (BadScript f x) caused no_read no_write = absurd (not_refused (BadScript f x) job sound is caused)
+  completes job sound is BadHistory caused no_read no_write = absurd (not_refused BadHistory job sound is caused)
   completes job sound is (ReadFailed f) caused no_read no_write = absurd (no_read f refl)
   completes job sound is WriteFailed caused no_read no_write = absurd (no_write refl)
 
 -- ---- the causes, in the order of the work
 
 module _ (words : List (List ℕ)) (contents : List ℕ → Option (List ℕ)) (c : CommandWords) (spelled : command_of words ≡ Some c) where
-  specs_stopped : (status : Status) → StopsSpecs contents (needs_families c) (spec_sources c) status → IsCaused words contents status
-  specs_stopped (BadSpec f x) h =
+  history_stopped : (history : List ℕ) (specs scripts : List (List ℕ)) → c ≡ Audit history specs scripts → (status : Status) → IsNoHistory contents history status → IsCaused words contents status
+  history_stopped history specs scripts is BadHistory h = bad_history history specs scripts h.0 (spelled ∙ ap (λ v. Some v) is) h.1 h.2
+  history_stopped history specs scripts is (ReadFailed f) h = subst (λ n. ReachesFile words contents n) (sym h) (history_file history specs scripts (spelled ∙ ap (λ v. Some v) is))
+  history_stopped history specs scripts is NoMemory h = tt
+  history_stopped history specs scripts is Done h = absurd h
+  history_stopped history specs scripts is Usage h = absurd h
+  history_stopped history specs scripts is (BadSpec n x) h = absurd h
+  history_stopped history specs scripts is (BadScript n x) h = absurd h
+  history_stopped history specs scripts is WriteFailed h = absurd h
+
+  specs_stopped : IsHistorySound contents c → (status : Status) → StopsSpecs contents (files_before c) (needs_families c) (spec_sources c) status → IsCaused words contents status
+  specs_stopped sound (BadSpec f x) h =
       let same : h.number ≡ f = sym h.stopped.0 in
-      bad_spec c f h.source h.before h.stopped.1.0 x spelled (subst (λ n. AreReadUpTo contents (needs_families c) (spec_sources c) n h.source h.before) same h.reached) h.stopped.1.1 h.stopped.1.2
-  specs_stopped (ReadFailed f) h =
-      let same : h.number ≡ f = sym h.stopped.0 in
+<<<<<<< ours
       spec_file c f h.source h.before spelled (subst (λ n. AreReadUpTo contents (needs_families c) (spec_sources c) n h.source h.before) same h.reached) h.stopped.1
   specs_stopped NoMemory h = tt
   specs_stopped Done h = absurd h.stopped
@@ -127,34 +206,66 @@ module _ (words : List (List ℕ)) (contents : List ℕ → Option (List ℕ)) (
   scripts_stopped specs said separate (BadSpec n x) (inr h) = absurd h.wrong
   scripts_stopped specs said separate WriteFailed (inl h) = absurd h.stopped
   scripts_stopped specs said separate WriteFailed (inr h) = absurd h.wrong
+=======
+      bad_spec c f h.source h.before h.stopped.1.0 x spelled sound (subst (λ n. AreReadUpTo contents (needs_families c) (spec_sources c) n h.source h.before) same h.reached) h.stopped.1.1 h.stopped.1.2
+  specs_stopped sound (ReadFailed f) h =
+      subst (λ n. ReachesFile words contents n) (sym h.stopped.0) (spec_file c h.number h.source h.before spelled sound h.reached h.stopped.1)
+  specs_stopped sound NoMemory h = tt
+  specs_stopped sound Done h = absurd h.stopped
+  specs_stopped sound Usage h = absurd h.stopped
+  specs_stopped sound (BadScript n x) h = absurd h.stopped
+  specs_stopped sound WriteFailed h = absurd h.stopped
+  specs_stopped sound BadHistory h = absurd h.stopped
+
+  scripts_stopped : IsHistorySound contents c → (specs : List Specification) → SaySpecifications contents (needs_families c) [] (spec_sources c) specs → reads_recording c ≡ false
+      → (status : Status) → StopsScripts contents specs (files_before c + length (spec_sources c)) (steps_before c) (script_sources c) status → IsCaused words contents status
+  scripts_stopped sound specs said separate (BadScript k x) h =
+      let same : h.number ≡ k = sym h.stopped.0 in
+      bad_script c specs k h.source h.before h.names h.stopped.1.0 x spelled sound said (subst (λ n. AreScriptsUpTo contents specs (steps_before c) (script_sources c) n h.source h.before h.names) same h.reached) h.stopped.1.1 h.stopped.1.2 separate
+  scripts_stopped sound specs said separate (ReadFailed f) h =
+      subst (λ n. ReachesFile words contents n) (sym h.stopped.0) (script_file c specs h.number h.source h.before h.names spelled sound said h.reached h.stopped.1)
+  scripts_stopped sound specs said separate NoMemory h = tt
+  scripts_stopped sound specs said separate Done h = absurd h.stopped
+  scripts_stopped sound specs said separate Usage h = absurd h.stopped
+  scripts_stopped sound specs said separate (BadSpec n x) h = absurd h.stopped
+  scripts_stopped sound specs said separate WriteFailed h = absurd h.stopped
+  scripts_stopped sound specs said separate BadHistory h = absurd h.stopped
+>>>>>>> theirs
 
   recording_stopped : (spec recording : List ℕ) (specs : List Specification) → c ≡ Sweep spec recording → SaySpecifications contents false [] (named (spec ∷ [])) specs → (status : Status) → IsNoRecording contents specs recording status → IsCaused words contents status
   recording_stopped spec recording specs is said (BadScript k x) h = bad_part spec recording specs h.0 k x (spelled ∙ ap (λ v. Some v) is) said h.1 h.2
   recording_stopped spec recording specs is said (ReadFailed f) h =
       subst (λ n. ReachesFile words contents n) (sym h)
+<<<<<<< ours
       (script_file (Sweep spec recording) specs 0 (Named recording) [] [] (spelled ∙ ap (λ v. Some v) is) said (record { first = []; rest = []; texts = []; split = refl; numbered = refl; read = (refl, refl, refl) }) tt)
+=======
+      (script_file (Sweep spec recording) specs 0 (Named recording) [] [] (spelled ∙ ap (λ v. Some v) is) tt said (record { first = []; rest = []; split = refl; numbered = refl; read = (refl, refl) }) tt)
+>>>>>>> theirs
   recording_stopped spec recording specs is said NoMemory h = tt
   recording_stopped spec recording specs is said Done h = absurd h
   recording_stopped spec recording specs is said Usage h = absurd h
   recording_stopped spec recording specs is said (BadSpec n x) h = absurd h
   recording_stopped spec recording specs is said WriteFailed h = absurd h
+  recording_stopped spec recording specs is said BadHistory h = absurd h
 
   pub stopped_caused : (status : Status) → StopsCommand contents c status → IsCaused words contents status
   stopped_caused _ short = tt
-  stopped_caused _ (at_spec status h) = specs_stopped status h
-  stopped_caused _ (at_script specs status said h separate) = scripts_stopped specs said separate status h
+  stopped_caused _ (at_history history specs scripts status is h) = history_stopped history specs scripts is status h
+  stopped_caused _ (at_spec status sound h) = specs_stopped sound status h
+  stopped_caused _ (at_script specs status sound said h separate) = scripts_stopped sound specs said separate status h
   stopped_caused _ (at_recording spec recording specs status is said h) = recording_stopped spec recording specs is said status h
 
 -- ---- such a status comes before anything is written
 
-before_spec : (contents : List ℕ → Option (List ℕ)) (families : Bool) (before : List Specification) (number : ℕ) (source : Source) (status : Status) → IsNoSpec contents families before number source status → IsBeforeWriting status
-before_spec contents families before number source Done h = h
-before_spec contents families before number source WriteFailed h = h
-before_spec contents families before number source Usage h = tt
-before_spec contents families before number source (BadSpec f x) h = tt
-before_spec contents families before number source (BadScript f x) h = tt
-before_spec contents families before number source (ReadFailed f) h = tt
-before_spec contents families before number source NoMemory h = tt
+before_spec : (contents : List ℕ → Option (List ℕ)) (families : Bool) (before : List Specification) (files number : ℕ) (source : Source) (status : Status) → IsNoSpec contents families before files number source status → IsBeforeWriting status
+before_spec contents families before files number source Done h = h
+before_spec contents families before files number source WriteFailed h = h
+before_spec contents families before files number source Usage h = tt
+before_spec contents families before files number source (BadSpec f x) h = tt
+before_spec contents families before files number source (BadScript f x) h = tt
+before_spec contents families before files number source (ReadFailed f) h = tt
+before_spec contents families before files number source NoMemory h = tt
+before_spec contents families before files number source BadHistory h = tt
 
 before_script : (contents : List ℕ → Option (List ℕ)) (specs : List Specification) (files count : ℕ) (names : List (List ℕ)) (number : ℕ) (source : Source) (status : Status) → IsNoScript contents specs files count names number source status → IsBeforeWriting status
 before_script contents specs files count names number source Done h = h
@@ -164,6 +275,7 @@ before_script contents specs files count names number source (BadSpec f x) h = t
 before_script contents specs files count names number source (BadScript f x) h = tt
 before_script contents specs files count names number source (ReadFailed f) h = tt
 before_script contents specs files count names number source NoMemory h = tt
+before_script contents specs files count names number source BadHistory h = tt
 
 before_order : (asked : List (List SyncLine)) (status : Status) → IsNoOrder asked status → IsBeforeWriting status
 before_order asked Done h = h
@@ -182,13 +294,30 @@ before_recording contents specs name (BadSpec f x) h = tt
 before_recording contents specs name (BadScript f x) h = tt
 before_recording contents specs name (ReadFailed f) h = tt
 before_recording contents specs name NoMemory h = tt
+before_recording contents specs name BadHistory h = tt
+
+before_history : (contents : List ℕ → Option (List ℕ)) (name : List ℕ) (status : Status) → IsNoHistory contents name status → IsBeforeWriting status
+before_history contents name Done h = h
+before_history contents name WriteFailed h = h
+before_history contents name Usage h = tt
+before_history contents name (BadSpec f x) h = tt
+before_history contents name (BadScript f x) h = tt
+before_history contents name (ReadFailed f) h = tt
+before_history contents name NoMemory h = tt
+before_history contents name BadHistory h = tt
 
 pub stopped_before : (contents : List ℕ → Option (List ℕ)) (c : CommandWords) (status : Status) → StopsCommand contents c status → IsBeforeWriting status
 stopped_before contents c _ short = tt
-stopped_before contents c _ (at_spec status h) = before_spec contents (needs_families c) h.before h.number h.source status h.stopped
+stopped_before contents c _ (at_history history specs scripts status is h) = before_history contents history status h
+stopped_before contents c _ (at_spec status sound h) = before_spec contents (needs_families c) h.before (files_before c) h.number h.source status h.stopped
 stopped_before contents c _ (at_recording spec recording specs status is said h) = before_recording contents specs recording status h
+<<<<<<< ours
 stopped_before contents c _ (at_script specs status said (inl h) separate) = before_script contents specs (length (spec_sources c)) (step_count h.before) h.names h.number h.source status h.stopped
 stopped_before contents c _ (at_script specs status said (inr h) separate) = before_order (asked_by h.texts) status h.wrong
+=======
+stopped_before contents c _ (at_script specs status sound said h separate) =
+    before_script contents specs (files_before c + length (spec_sources c)) (steps_before c + step_count h.before) h.names h.number h.source status h.stopped
+>>>>>>> theirs
 
 -- ---- files
 
@@ -197,47 +326,54 @@ more_than : (n : ℕ) → (bytes : List ℕ) × (n < length bytes)
 more_than zero = (0 ∷ [], omega arith)
 more_than (suc n) = let more = more_than n in (0 ∷ more.0, omega (arith, more.1))
 
-pub too_long_bytes : (o : Option (List ℕ)) → IfSome o (λ held. most_bytes < length held) → (bytes : List ℕ) × IfSome o (λ held. bytes ≡ held) × (most_bytes < length bytes)
-too_long_bytes None h = let more = more_than most_bytes in (more.0, tt, more.1)
-too_long_bytes (Some held) h = (held, refl, h)
+pub too_long_bytes : (most : ℕ) (o : Option (List ℕ)) → IfSome o (λ held. most < length held) → (bytes : List ℕ) × IfSome o (λ held. bytes ≡ held) × (most < length bytes)
+too_long_bytes most None h = let more = more_than most in (more.0, tt, more.1)
+too_long_bytes most (Some held) h = (held, refl, h)
 
 -- a file that is too long says no specification, and no script
 long_spec : (contents : List ℕ → Option (List ℕ)) (name : List ℕ) (families : Bool) (before : List Specification) → IfSome (contents name) (λ held. most_bytes < length held) → (bytes : List ℕ) × Gives contents (Named name) bytes × IsRefusal families before bytes spec.TooLong
 long_spec contents name families before h =
-    let long = too_long_bytes (contents name) h in
+    let long = too_long_bytes most_bytes (contents name) h in
     (long.0, long.1, faulty (spec_too_long long.2))
 
 long_script : (contents : List ℕ → Option (List ℕ)) (name : List ℕ) (specs : List Specification) (count : ℕ) (names : List (List ℕ)) → IfSome (contents name) (λ held. most_bytes < length held) → (bytes : List ℕ) × Gives contents (Named name) bytes × IsScriptFileFault specs count names bytes script.TooLong
 long_script contents name specs count names h =
+<<<<<<< ours
     let long = too_long_bytes (contents name) h in
     (long.0, long.1, file_too_long long.2)
+=======
+    let long = too_long_bytes most_bytes (contents name) h in
+    (long.0, long.1, too_long long.2)
+>>>>>>> theirs
 
 -- a file that wasn't loaded, as a source of specifications and as one of scripts
-pub faulty_not_loaded : (contents : List ℕ → Option (List ℕ)) (name : List ℕ) (number : ℕ) (status : Status) → IsFaulty status → IfSome (contents name) (λ held. most_bytes < length held) → IsNotLoaded contents name number status status
-faulty_not_loaded contents name number (BadSpec f x) h long = (refl, long)
-faulty_not_loaded contents name number (BadScript n x) h long = (refl, long)
-faulty_not_loaded contents name number Done h long = absurd h
-faulty_not_loaded contents name number Usage h long = absurd h
-faulty_not_loaded contents name number (ReadFailed f) h long = absurd h
-faulty_not_loaded contents name number WriteFailed h long = absurd h
-faulty_not_loaded contents name number NoMemory h long = absurd h
+pub faulty_not_loaded : (contents : List ℕ → Option (List ℕ)) (name : List ℕ) (number most : ℕ) (status : Status) → IsFaulty status → IfSome (contents name) (λ held. most < length held) → IsNotLoaded contents name number most status status
+faulty_not_loaded contents name number most (BadSpec f x) h long = (refl, long)
+faulty_not_loaded contents name number most (BadScript n x) h long = (refl, long)
+faulty_not_loaded contents name number most BadHistory h long = (refl, long)
+faulty_not_loaded contents name number most Done h long = absurd h
+faulty_not_loaded contents name number most Usage h long = absurd h
+faulty_not_loaded contents name number most (ReadFailed f) h long = absurd h
+faulty_not_loaded contents name number most WriteFailed h long = absurd h
+faulty_not_loaded contents name number most NoMemory h long = absurd h
 
 pub no_failed_read : {T : Type 0} (status : Status) (file : ℕ) → IsFaulty status → ◌≡◌ {A = Result T Status} (Err status) (Err (ReadFailed file)) → ⊥
 no_failed_read status file h is = subst IsFaulty (same_err is) h
 
-pub spec_not_loaded : (contents : List ℕ → Option (List ℕ)) (name : List ℕ) (families : Bool) (before : List Specification) (number : ℕ) (status : Status) → IsNotLoaded contents name number (BadSpec number spec.TooLong) status → IsNoSpec contents families before number (Named name) status
-spec_not_loaded contents name families before number (ReadFailed f) h = (h, tt)
-spec_not_loaded contents name families before number NoMemory h = tt
-spec_not_loaded contents name families before number (BadSpec f x) h =
+pub spec_not_loaded : (contents : List ℕ → Option (List ℕ)) (name : List ℕ) (families : Bool) (before : List Specification) (files number : ℕ) (status : Status) → IsNotLoaded contents name (files + number) most_bytes (BadSpec number spec.TooLong) status → IsNoSpec contents families before files number (Named name) status
+spec_not_loaded contents name families before files number (ReadFailed f) h = (h, tt)
+spec_not_loaded contents name families before files number NoMemory h = tt
+spec_not_loaded contents name families before files number (BadSpec f x) h =
     let same : f ≡ number = cc (h.0) in
     let fault : x ≡ spec.TooLong = cc (h.0) in
     (same, rw fault (long_spec contents name families before h.1))
-spec_not_loaded contents name families before number Done h = absurd (cc (h.0))
-spec_not_loaded contents name families before number Usage h = absurd (cc (h.0))
-spec_not_loaded contents name families before number (BadScript n x) h = absurd (cc (h.0))
-spec_not_loaded contents name families before number WriteFailed h = absurd (cc (h.0))
+spec_not_loaded contents name families before files number Done h = absurd (cc (h.0))
+spec_not_loaded contents name families before files number Usage h = absurd (cc (h.0))
+spec_not_loaded contents name families before files number (BadScript n x) h = absurd (cc (h.0))
+spec_not_loaded contents name families before files number WriteFailed h = absurd (cc (h.0))
+spec_not_loaded contents name families before files number BadHistory h = absurd (cc (h.0))
 
-pub script_not_loaded : (contents : List ℕ → Option (List ℕ)) (name : List ℕ) (specs : List Specification) (files count : ℕ) (names : List (List ℕ)) (number : ℕ) (status : Status) → IsNotLoaded contents name (files + number) (BadScript number script.TooLong) status → IsNoScript contents specs files count names number (Named name) status
+pub script_not_loaded : (contents : List ℕ → Option (List ℕ)) (name : List ℕ) (specs : List Specification) (files count : ℕ) (names : List (List ℕ)) (number : ℕ) (status : Status) → IsNotLoaded contents name (files + number) most_bytes (BadScript number script.TooLong) status → IsNoScript contents specs files count names number (Named name) status
 script_not_loaded contents name specs files count names number (ReadFailed f) h = (h, tt)
 script_not_loaded contents name specs files count names number NoMemory h = tt
 script_not_loaded contents name specs files count names number (BadScript n x) h =
@@ -248,16 +384,29 @@ script_not_loaded contents name specs files count names number Done h = absurd (
 script_not_loaded contents name specs files count names number Usage h = absurd (cc (h.0))
 script_not_loaded contents name specs files count names number (BadSpec n x) h = absurd (cc (h.0))
 script_not_loaded contents name specs files count names number WriteFailed h = absurd (cc (h.0))
+script_not_loaded contents name specs files count names number BadHistory h = absurd (cc (h.0))
+
+-- a history
+pub history_not_loaded : (contents : List ℕ → Option (List ℕ)) (name : List ℕ) (status : Status) → IsNotLoaded contents name 0 most_of_history BadHistory status → IsNoHistory contents name status
+history_not_loaded contents name (ReadFailed f) h = h
+history_not_loaded contents name NoMemory h = tt
+history_not_loaded contents name BadHistory h = too_long_bytes most_of_history (contents name) h.1
+history_not_loaded contents name Done h = absurd (cc (h.0))
+history_not_loaded contents name Usage h = absurd (cc (h.0))
+history_not_loaded contents name (BadSpec f x) h = absurd (cc (h.0))
+history_not_loaded contents name (BadScript n x) h = absurd (cc (h.0))
+history_not_loaded contents name WriteFailed h = absurd (cc (h.0))
 
 -- bytes that say none, as they stand in a source
-pub spec_from : (contents : List ℕ → Option (List ℕ)) (families : Bool) (before : List Specification) (number : ℕ) (source : Source) (bytes : List ℕ) → Gives contents source bytes → (status : Status) → IsNoSpecIn families before number bytes status → IsNoSpec contents families before number source status
-spec_from contents families before number source bytes given (BadSpec f x) h = (h.0, (bytes, given, h.1))
-spec_from contents families before number source bytes given NoMemory h = tt
-spec_from contents families before number source bytes given Done h = absurd h
-spec_from contents families before number source bytes given Usage h = absurd h
-spec_from contents families before number source bytes given (BadScript n x) h = absurd h
-spec_from contents families before number source bytes given (ReadFailed n) h = absurd h
-spec_from contents families before number source bytes given WriteFailed h = absurd h
+pub spec_from : (contents : List ℕ → Option (List ℕ)) (families : Bool) (before : List Specification) (files number : ℕ) (source : Source) (bytes : List ℕ) → Gives contents source bytes → (status : Status) → IsNoSpecIn families before number bytes status → IsNoSpec contents families before files number source status
+spec_from contents families before files number source bytes given (BadSpec f x) h = (h.0, (bytes, given, h.1))
+spec_from contents families before files number source bytes given NoMemory h = tt
+spec_from contents families before files number source bytes given Done h = absurd h
+spec_from contents families before files number source bytes given Usage h = absurd h
+spec_from contents families before files number source bytes given (BadScript n x) h = absurd h
+spec_from contents families before files number source bytes given (ReadFailed n) h = absurd h
+spec_from contents families before files number source bytes given WriteFailed h = absurd h
+spec_from contents families before files number source bytes given BadHistory h = absurd h
 
 pub script_from : (contents : List ℕ → Option (List ℕ)) (specs : List Specification) (files count : ℕ) (names : List (List ℕ)) (number : ℕ) (source : Source) (bytes : List ℕ) → Gives contents source bytes → (status : Status) → IsNoScriptFileIn specs count names number bytes status → IsNoScript contents specs files count names number source status
 script_from contents specs files count names number source bytes given (BadScript k x) h = (h.0, (bytes, given, h.1))
@@ -267,6 +416,7 @@ script_from contents specs files count names number source bytes given Usage h =
 script_from contents specs files count names number source bytes given (BadSpec n x) h = absurd h
 script_from contents specs files count names number source bytes given (ReadFailed n) h = absurd h
 script_from contents specs files count names number source bytes given WriteFailed h = absurd h
+script_from contents specs files count names number source bytes given BadHistory h = absurd h
 
 -- a count that rose later rose since before
 pub risen_before : {before middle after : ℕ} → before ≤ middle → HasRisen middle after → HasRisen before after

@@ -96,8 +96,8 @@ module _ {S : Type 0} (make : List ℕ → Source) (g : S → List ℕ) (content
     catalogued = h.next.catalogued;
   }
 
-  pub library_stops : (old : Library) (status : Status) → IsLibraryOf contents families (map make (map g (take i xs))) old → IsNoSpec contents families (specs_in old) (length old.specs.items) (make (g x)) status → StopsSpecs contents families (map make (map g xs)) status
-  library_stops old status before h = record {
+  pub library_stops : (files : ℕ) (old : Library) (status : Status) → IsLibraryOf contents families (map make (map g (take i xs))) old → IsNoSpec contents families (specs_in old) files (length old.specs.items) (make (g x)) status → StopsSpecs contents files families (map make (map g xs)) status
+  library_stops files old status before h = record {
     number = length old.specs.items;
     source = make (g x);
     before = specs_in old;
@@ -152,10 +152,10 @@ module _ {S : Type 0} (make : List ℕ → Source) (g : S → List ℕ) (content
       library_more make g contents families xs i x lt here old new before
       (subst (λ (v : List ℕ → Option (List ℕ)). HasNextFrom v (make (g x)) families old new) held (subst (λ n. HasNextFrom later (make n) families old new) is h))
 
-  pub library_ends : (old : Library) (status : Status) → IsLibraryOf contents families (map make (map g (take i xs))) old → IsNoSpec later families (specs_in old) (length old.specs.items) (make name) status → StopsSpecs contents families (map make (map g xs)) status
-  library_ends old status before h =
-      library_stops make g contents families xs i x lt here old status before
-      (subst (λ (v : List ℕ → Option (List ℕ)). IsNoSpec v families (specs_in old) (length old.specs.items) (make (g x)) status) held (subst (λ n. IsNoSpec later families (specs_in old) (length old.specs.items) (make n) status) is h))
+  pub library_ends : (files : ℕ) (old : Library) (status : Status) → IsLibraryOf contents families (map make (map g (take i xs))) old → IsNoSpec later families (specs_in old) files (length old.specs.items) (make name) status → StopsSpecs contents files families (map make (map g xs)) status
+  library_ends files old status before h =
+      library_stops make g contents families xs i x lt here files old status before
+      (subst (λ (v : List ℕ → Option (List ℕ)). IsNoSpec v families (specs_in old) files (length old.specs.items) (make (g x)) status) held (subst (λ n. IsNoSpec later families (specs_in old) files (length old.specs.items) (make n) status) is h))
 
 -- as many specifications as turns
 pub library_count : {S : Type 0} (make : List ℕ → Source) (g : S → List ℕ) (contents : List ℕ → Option (List ℕ)) (families : Bool) (xs : List S) (i : ℕ) (library : Library) → i ≤ length xs → IsLibraryOf contents families (map make (map g (take i xs))) library → length library.specs.items ≡ i

@@ -75,15 +75,22 @@ module _ (specs : List Specification) (catalog : List CatalogEntry) (over : cata
         script = script;
         said = said_by old new script whole;
         scripts = scripts;
+<<<<<<< ours
         asked = ap sync_of cuts ∙ map-append (λ (c : Cut). c.lines.items) old.cuts.items (cut ∷ []) ∙ ap (λ v. sync_of old.cuts.items ++ v ∷ []) lines;
         posted = posted;
+=======
+        longer = whole.counted;
+>>>>>>> theirs
         counted = record {
           fit = subst (All (FitsCatalog (catalog_of specs) (length new.objects))) (sym scripts)
               (All-push (FitsCatalog (catalog_of specs) (length new.objects)) old.list.items script
               (All-weaker (FitsCatalog (catalog_of specs) (length old.objects)) (FitsCatalog (catalog_of specs) (length new.objects)) (FitsCatalog-more (catalog_of specs) (length old.objects) (length new.objects) grown) old.list.items before.fit)
               (subst (λ v. FitsCatalog v (length new.objects) script) over fits));
+<<<<<<< ours
           steps_rise = subst (All (StepsRiseFrom 1)) (sym scripts) (All-push (StepsRiseFrom 1) old.list.items script before.steps_rise rising);
           counted = whole.counted ∙ ap (λ n. n + length script) before.counted ∙ sym (step_count-more old.list.items script) ∙ ap step_count (sym scripts);
+=======
+>>>>>>> theirs
           few_steps = steps;
           few_names = names;
           cut = omega (arith, one, one_cut, before.cut);
@@ -107,6 +114,7 @@ no_scripts contents specs s none unnamed uncut unposted counted = record { texts
 
 -- ---- what scripts ask for is checked
 
+<<<<<<< ours
 module _ (contents : List ℕ → Option (List ℕ)) (specs : List Specification) (files : ℕ) (sources : List Source) (s : Scripts) (read : AreScriptsRead contents specs sources s) where
   pub in_order : AreSound (sync_of s.cuts.items) → AreScriptsOf contents specs sources s
   in_order sound = record { read = read; sound = sound }
@@ -157,25 +165,81 @@ module _ {S : Type 0} (make : List ℕ → Source) (g : S → List ℕ) (content
 
 pub scripts_length : {S : Type 0} (make : List ℕ → Source) (g : S → List ℕ) (contents : List ℕ → Option (List ℕ)) (specs : List Specification) (xs : List S) (scripts : Scripts) → AreScriptsRead contents specs (map make (map g xs)) scripts → length scripts.list.items ≡ length xs
 scripts_length {S} make g contents specs xs scripts h = length-scripts contents specs 0 [] (map make (map g xs)) scripts.list.items scripts.objects h.texts h.said ∙ length-sources make g xs
+=======
+pub no_scripts : (contents : List ℕ → Option (List ℕ)) (specs : List Specification) (count : ℕ) (s : Scripts) → s.list.items ≡ [] → s.objects ≡ [] → s.count ≡ count → AreCounted specs s → AreScriptsOf contents specs count [] s
+no_scripts contents specs count s none unnamed same counted =
+    let steps : step_count s.list.items ≡ 0 = ap step_count none in
+    record { said = (none, unnamed); many = omega (arith, same, steps); counted = counted }
+
+-- ---- the loop over the names
+
+module _ {S : Type 0} (make : List ℕ → Source) (g : S → List ℕ) (contents : List ℕ → Option (List ℕ)) (specs : List Specification) (files count : ℕ) (xs : List S) (i : ℕ) (x : S) (lt : i < length xs) (here : x ≡ get_or xs i x) where
+  pub scripts_read_more : (old new : Scripts) → AreScriptsOf contents specs count (map make (map g (take i xs))) old → HasScriptFrom contents (make (g x)) specs old new → AreScriptsOf contents specs count (map make (map g (take (i + 1) xs))) new
+  scripts_read_more old new before h =
+      let steps : step_count new.list.items ≡ step_count old.list.items + length h.next.script = ap step_count h.next.scripts ∙ step_count-more old.list.items h.next.script in
+      record {
+        said = subst (λ v. SayScripts contents specs count [] v new.list.items new.objects) (sym (more_sources make g xs i x lt here))
+            (subst (λ v. SayScripts contents specs count [] (map make (map g (take i xs)) ++ make (g x) ∷ []) v new.objects) (sym h.next.scripts)
+            (scripts_more contents specs count [] (map make (map g (take i xs))) old.list.items old.objects (make (g x)) h.bytes h.next.script new.objects before.said h.given
+            (subst (λ n. IsScript specs n old.objects h.bytes h.next.script new.objects) before.many h.next.said)));
+        many = omega (arith, h.next.longer, before.many, steps);
+        counted = h.next.counted;
+      }
+
+  pub scripts_stop : (old : Scripts) (status : Status) → AreScriptsOf contents specs count (map make (map g (take i xs))) old → IsNoScript contents specs files old.count old.objects (length old.list.items) (make (g x)) status → StopsScripts contents specs files count (map make (map g xs)) status
+  scripts_stop old status before h = record {
+    number = length old.list.items;
+    source = make (g x);
+    before = old.list.items;
+    names = old.objects;
+    reached = record {
+      first = map make (map g (take i xs));
+      rest = map make (map g (drop (i + 1) xs));
+      split = split_sources make g xs i x lt here;
+      numbered = length-scripts contents specs count [] (map make (map g (take i xs))) old.list.items old.objects before.said;
+      read = before.said;
+    };
+    stopped = subst (λ n. IsNoScript contents specs files n old.objects (length old.list.items) (make (g x)) status) before.many h;
+  }
+
+pub scripts_length : {S : Type 0} (make : List ℕ → Source) (g : S → List ℕ) (contents : List ℕ → Option (List ℕ)) (specs : List Specification) (count : ℕ) (xs : List S) (scripts : Scripts) → AreScriptsOf contents specs count (map make (map g xs)) scripts → length scripts.list.items ≡ length xs
+scripts_length {S} make g contents specs count xs scripts h = length-scripts contents specs count [] (map make (map g xs)) scripts.list.items scripts.objects h.said ∙ length-sources make g xs
+>>>>>>> theirs
 
 -- ---- a turn of the loop, where the folder holds later what it held before
 
-module _ {S : Type 0} (make : List ℕ → Source) (g : S → List ℕ) (contents later : List ℕ → Option (List ℕ)) (same : (name : List ℕ) → later name ≡ contents name) (specs : List Specification) (files : ℕ) (xs : List S) (i : ℕ) (x : S) (lt : i < length xs) (here : x ≡ get_or xs i x) (name : List ℕ) (is : name ≡ g x) where
+module _ {S : Type 0} (make : List ℕ → Source) (g : S → List ℕ) (contents later : List ℕ → Option (List ℕ)) (same : (name : List ℕ) → later name ≡ contents name) (specs : List Specification) (files count : ℕ) (xs : List S) (i : ℕ) (x : S) (lt : i < length xs) (here : x ≡ get_or xs i x) (name : List ℕ) (is : name ≡ g x) where
   held : later ≡ contents
   held = λ j n. same n j
 
+<<<<<<< ours
   pub scripts_turn : (old new : Scripts) → AreScriptsRead contents specs (map make (map g (take i xs))) old → HasScriptFrom later (make name) specs old new → AreScriptsRead contents specs (map make (map g (take (i + 1) xs))) new
+=======
+  pub scripts_turn : (old new : Scripts) → AreScriptsOf contents specs count (map make (map g (take i xs))) old → HasScriptFrom later (make name) specs old new → AreScriptsOf contents specs count (map make (map g (take (i + 1) xs))) new
+>>>>>>> theirs
   scripts_turn old new before h =
-      scripts_read_more make g contents specs files xs i x lt here old new before
+      scripts_read_more make g contents specs files count xs i x lt here old new before
       (subst (λ (v : List ℕ → Option (List ℕ)). HasScriptFrom v (make (g x)) specs old new) held (subst (λ n. HasScriptFrom later (make n) specs old new) is h))
 
+<<<<<<< ours
   pub scripts_end : (old : Scripts) (status : Status) → AreScriptsRead contents specs (map make (map g (take i xs))) old → IsNoScript later specs files old.count old.objects (length old.list.items) (make name) status → StopsScripts contents specs files (map make (map g xs)) status
+=======
+  pub scripts_end : (old : Scripts) (status : Status) → AreScriptsOf contents specs count (map make (map g (take i xs))) old → IsNoScript later specs files old.count old.objects (length old.list.items) (make name) status → StopsScripts contents specs files count (map make (map g xs)) status
+>>>>>>> theirs
   scripts_end old status before h =
-      scripts_stop make g contents specs files xs i x lt here old status before
+      scripts_stop make g contents specs files count xs i x lt here old status before
       (subst (λ (v : List ℕ → Option (List ℕ)). IsNoScript v specs files old.count old.objects (length old.list.items) (make (g x)) status) held (subst (λ n. IsNoScript later specs files old.count old.objects (length old.list.items) (make n) status) is h))
 
+<<<<<<< ours
 pub scripts_count : {S : Type 0} (make : List ℕ → Source) (g : S → List ℕ) (contents : List ℕ → Option (List ℕ)) (specs : List Specification) (xs : List S) (i : ℕ) (scripts : Scripts) → i ≤ length xs → AreScriptsRead contents specs (map make (map g (take i xs))) scripts → length scripts.list.items ≡ i
 scripts_count {S} make g contents specs xs i scripts le h = scripts_length make g contents specs (take i xs) scripts h ∙ length-take-le i xs le
 
 pub whole_scripts : {S : Type 0} (make : List ℕ → Source) (g : S → List ℕ) (contents : List ℕ → Option (List ℕ)) (specs : List Specification) (xs : List S) (i : ℕ) (scripts : Scripts) → length xs ≤ i → AreScriptsRead contents specs (map make (map g (take i xs))) scripts → AreScriptsRead contents specs (map make (map g xs)) scripts
 whole_scripts {S} make g contents specs xs i scripts all h = subst (λ v. AreScriptsRead contents specs (map make (map g v)) scripts) (take_all i xs all) h
+=======
+pub scripts_count : {S : Type 0} (make : List ℕ → Source) (g : S → List ℕ) (contents : List ℕ → Option (List ℕ)) (specs : List Specification) (count : ℕ) (xs : List S) (i : ℕ) (scripts : Scripts) → i ≤ length xs → AreScriptsOf contents specs count (map make (map g (take i xs))) scripts → length scripts.list.items ≡ i
+scripts_count {S} make g contents specs count xs i scripts le h = scripts_length make g contents specs count (take i xs) scripts h ∙ length-take-le i xs le
+
+pub whole_scripts : {S : Type 0} (make : List ℕ → Source) (g : S → List ℕ) (contents : List ℕ → Option (List ℕ)) (specs : List Specification) (count : ℕ) (xs : List S) (i : ℕ) (scripts : Scripts) → length xs ≤ i → AreScriptsOf contents specs count (map make (map g (take i xs))) scripts → AreScriptsOf contents specs count (map make (map g xs)) scripts
+whole_scripts {S} make g contents specs count xs i scripts all h = subst (λ v. AreScriptsOf contents specs count (map make (map g v)) scripts) (take_all i xs all) h
+>>>>>>> theirs

@@ -1,5 +1,5 @@
 -- Why a command stops before its text is written.
-use Rattle.std.proofs.Common.{◌≡◌, ℕ, inl, inr, Bool, true, false, ◌&&◌, List, [], ◌∷◌, ◌++◌, length, Option, Some, None, Result, IfOk, refl, sym, ap, subst, ◌∙◌}
+use Rattle.std.proofs.Common.{◌≡◌, ◌+◌, ◌≤◌, ℕ, inl, inr, Bool, true, false, ◌&&◌, List, [], ◌∷◌, ◌++◌, length, Option, Some, None, Result, IfOk, refl, sym, ap, subst, ◌∙◌}
 use Rattle.std.specs.Prelude.{All, map, is_some, option_map, if◌then◌else◌}
 use Rattle.std.proofs.lemmas.Bool.{false≢true}
 use Rattle.std.proofs.lemmas.List.{length-map}
@@ -19,22 +19,27 @@ use Rattle.jm_machine.specs.Formulas.{is_grammar, IsReadAs}
 use Rattle.jm_machine.specs.Meanings.{RuleDefinition, has_grammar}
 use Rattle.jm_machine.specs.Compiling.{formula_of, IsFormula, AreFormulas, properties_said}
 use Rattle.jm_script.specs.Catalogs.{spec_names}
-use Rattle.jm_cli.specs.Words.CommandWords.{Replay, Run, Check, Coenable, Gen, Sweep}
+use Rattle.jm_cli.specs.Words.CommandWords.{Replay, Run, Check, Coenable, Gen, Sweep, Audit}
 use Rattle.jm_inputs.specs.declared.status.Status.{Status}
 use Rattle.jm_model.specs.declared.fault.ScriptFault.TheVariants as script
-use Rattle.jm_inputs.specs.declared.status.Status.TheVariants.{Done, Usage, BadSpec, BadScript, ReadFailed, WriteFailed, NoMemory}
+use Rattle.jm_inputs.specs.declared.status.Status.TheVariants.{Done, Usage, BadSpec, BadScript, ReadFailed, WriteFailed, NoMemory, BadHistory}
 use Rattle.jm_inputs.specs.declared.library.Library.{Library}
 use Rattle.jm_inputs.specs.declared.scripts.Scripts.{Scripts}
 use Rattle.jm_inputs.specs.declared.inputs.Inputs.{Inputs}
 use Rattle.jm_inputs.specs.Sources.{Source, Named, Given, Gives, IsFile}
-use Rattle.jm_inputs.specs.Commands.{named, given_files, workload_specs, workload_scripts}
-use Rattle.jm_inputs.specs.Specifications.{Specification, line_or, grammar_line_of, IsSpecification}
+use Rattle.jm_inputs.specs.Commands.{named, given_files, workload_specs, workload_scripts, most_of_history, IsHistorySound}
+use Rattle.jm_inputs.specs.Specifications.{Specification, most_bytes, line_or, grammar_line_of, IsSpecification}
 use Rattle.jm_inputs.specs.Scripts.{catalog_of}
+<<<<<<< ours
 use Rattle.jm_inputs.specs.Inputs.{grammar_fault, SaySpecifications, step_count, asked_by}
 use Rattle.jm_inputs.specs.Causes.{IsNotLoaded, IsNoSpec, IsNoOrder, IsNoScript, IsNoRecording, StopsSpecs, StopsScripts, StopsInputs, StopsCommand, short, at_spec, at_script, at_recording, IsNoRecordingIn}
+=======
+use Rattle.jm_inputs.specs.Inputs.{grammar_fault, SaySpecifications, step_count}
+use Rattle.jm_inputs.specs.Causes.{IsNotLoaded, IsNoSpec, IsNoScript, IsNoRecording, StopsSpecs, StopsScripts, StopsInputs, StopsCommand, short, at_history, at_spec, at_script, at_recording, IsNoRecordingIn}
+>>>>>>> theirs
 use Rattle.jm_inputs.specs.Reading.{Listed, listed_in, specification_of, specs_in, IsLibraryOf, AreScriptsOf, AreInputsOf}
 use Rattle.jm_inputs.specs.Recordings.{too_long}
-use Rattle.jm_inputs.proofs.JobLemmas.{too_long_bytes}
+use Rattle.jm_inputs.proofs.JobLemmas.{too_long_bytes, history_not_loaded}
 use Rattle.jm_inputs.proofs.OneReadingLemmas.{never_some}
 use Rattle.jm_inputs.proofs.LibraryLemmas.{length-specs_in}
 use Rattle.jm_inputs.proofs.InputLemmas.{length-said, length-scripts}
@@ -45,60 +50,77 @@ module _ (contents later : List ℕ → Option (List ℕ)) (same : (name : List 
   held : later ≡ contents
   held = λ i name. same name i
 
-  pub scripts_before : (specs : List Specification) (sources : List Source) (scripts : Scripts) → AreScriptsOf later specs sources scripts → AreScriptsOf contents specs sources scripts
-  scripts_before specs sources scripts h = subst (λ (v : List ℕ → Option (List ℕ)). AreScriptsOf v specs sources scripts) held h
+  pub scripts_before : (specs : List Specification) (count : ℕ) (sources : List Source) (scripts : Scripts) → AreScriptsOf later specs count sources scripts → AreScriptsOf contents specs count sources scripts
+  scripts_before specs count sources scripts h = subst (λ (v : List ℕ → Option (List ℕ)). AreScriptsOf v specs count sources scripts) held h
+
+  -- nor were inputs
+  pub inputs_before : (count : ℕ) (specs scripts : List Source) (inputs : Inputs) → AreInputsOf later count specs scripts inputs → AreInputsOf contents count specs scripts inputs
+  inputs_before count specs scripts inputs h = subst (λ (v : List ℕ → Option (List ℕ)). AreInputsOf v count specs scripts inputs) held h
+
+  pub stops_before : (files count : ℕ) (specs scripts : List Source) (status : Status) → StopsInputs later files count specs scripts status → StopsInputs contents files count specs scripts status
+  stops_before files count specs scripts status h = subst (λ (v : List ℕ → Option (List ℕ)). StopsInputs v files count specs scripts status) held h
 
   -- nor was a file loaded, or what it gives
-  pub not_loaded_before : (name : List ℕ) (number : ℕ) (long status : Status) → IsNotLoaded later name number long status → IsNotLoaded contents name number long status
-  not_loaded_before name number long status h = subst (λ (v : List ℕ → Option (List ℕ)). IsNotLoaded v name number long status) held h
+  pub not_loaded_before : (name : List ℕ) (number most : ℕ) (long status : Status) → IsNotLoaded later name number most long status → IsNotLoaded contents name number most long status
+  not_loaded_before name number most long status h = subst (λ (v : List ℕ → Option (List ℕ)). IsNotLoaded v name number most long status) held h
 
   pub given_before : (name bytes : List ℕ) → Gives later (Named name) bytes → Gives contents (Named name) bytes
   given_before name bytes h = subst (λ (v : List ℕ → Option (List ℕ)). Gives v (Named name) bytes) held h
 
   -- the scripts weren't read, behind these specifications
-  pub stopped_behind : (specs scripts : List Source) (library : Library) (status : Status) → IsLibraryOf contents false specs library → length library.specs.items ≡ length specs
-      → StopsScripts later (specs_in library) (length library.specs.items) scripts status → StopsInputs contents specs scripts status
-  stopped_behind specs scripts library status read many h =
-      inr (specs_in library, read.said, subst (λ n. StopsScripts contents (specs_in library) n scripts status) many (subst (λ (v : List ℕ → Option (List ℕ)). StopsScripts v (specs_in library) (length library.specs.items) scripts status) held h))
+  pub stopped_behind : (files count before : ℕ) (specs scripts : List Source) (library : Library) (status : Status) → IsLibraryOf contents false specs library → before ≡ files + length specs
+      → StopsScripts later (specs_in library) before count scripts status → StopsInputs contents files count specs scripts status
+  stopped_behind files count before specs scripts library status read many h =
+      inr (specs_in library, read.said, subst (λ n. StopsScripts contents (specs_in library) n count scripts status) many (subst (λ (v : List ℕ → Option (List ℕ)). StopsScripts v (specs_in library) before count scripts status) held h))
 
 module _ (contents : List ℕ → Option (List ℕ)) where
-  pub replay_stops : (spec script : List ℕ) (status : Status) → StopsInputs contents (named (spec ∷ [])) (named (script ∷ [])) status → StopsCommand contents (Replay spec script) status
-  replay_stops spec script status (inl h) = at_spec status h
-  replay_stops spec script status (inr h) = at_script h.0 status h.1 h.2 refl
+  pub replay_stops : (spec script : List ℕ) (status : Status) → StopsInputs contents 0 0 (named (spec ∷ [])) (named (script ∷ [])) status → StopsCommand contents (Replay spec script) status
+  replay_stops spec script status (inl h) = at_spec status tt h
+  replay_stops spec script status (inr h) = at_script h.0 status tt h.1 h.2 refl
 
-  pub run_stops : (specs scripts : List (List ℕ)) (status : Status) → StopsInputs contents (named specs) (named scripts) status → StopsCommand contents (Run specs scripts) status
-  run_stops specs scripts status (inl h) = at_spec status h
-  run_stops specs scripts status (inr h) = at_script h.0 status h.1 h.2 refl
+  pub run_stops : (specs scripts : List (List ℕ)) (status : Status) → StopsInputs contents 0 0 (named specs) (named scripts) status → StopsCommand contents (Run specs scripts) status
+  run_stops specs scripts status (inl h) = at_spec status tt h
+  run_stops specs scripts status (inr h) = at_script h.0 status tt h.1 h.2 refl
 
-  pub check_stops : (specs : List (List ℕ)) (status : Status) → StopsSpecs contents false (named specs) status → StopsCommand contents (Check specs) status
-  check_stops specs status h = at_spec status h
+  -- a history is audited behind one file
+  pub audit_stops : (history bytes : List ℕ) (specs scripts : List (List ℕ)) (status : Status) → Gives contents (Named history) bytes → length bytes ≤ most_of_history
+      → StopsInputs contents 1 198000 (named specs) (named scripts) status → StopsCommand contents (Audit history specs scripts) status
+  audit_stops history bytes specs scripts status given small (inl h) = at_spec status (bytes, given, small) h
+  audit_stops history bytes specs scripts status given small (inr h) = at_script h.0 status (bytes, given, small) h.1 h.2 refl
 
-  pub coenable_stops : (specs : List (List ℕ)) (status : Status) → StopsSpecs contents true (named specs) status → StopsCommand contents (Coenable specs) status
-  coenable_stops specs status h = at_spec status h
+  pub audit_unloaded : (history : List ℕ) (specs scripts : List (List ℕ)) (status : Status) → IsNotLoaded contents history 0 most_of_history BadHistory status → StopsCommand contents (Audit history specs scripts) status
+  audit_unloaded history specs scripts status h = at_history history specs scripts status refl (history_not_loaded contents history status h)
 
-  pub gen_stops : (n : ℕ) (specs scripts : List (List ℕ)) (status : Status) → specs ≡ workload_specs → scripts ≡ workload_scripts n → StopsInputs contents (given_files specs) (given_files scripts) status → StopsCommand contents (Gen n) status
-  gen_stops n specs scripts status first second h = stops (subst (λ v. StopsInputs contents (given_files workload_specs) (given_files v) status) second (subst (λ v. StopsInputs contents (given_files v) (given_files scripts) status) first h))
+  pub check_stops : (specs : List (List ℕ)) (status : Status) → StopsSpecs contents 0 false (named specs) status → StopsCommand contents (Check specs) status
+  check_stops specs status h = at_spec status tt h
+
+  pub coenable_stops : (specs : List (List ℕ)) (status : Status) → StopsSpecs contents 0 true (named specs) status → StopsCommand contents (Coenable specs) status
+  coenable_stops specs status h = at_spec status tt h
+
+  pub gen_stops : (n : ℕ) (specs scripts : List (List ℕ)) (status : Status) → specs ≡ workload_specs → scripts ≡ workload_scripts n → StopsInputs contents 0 0 (given_files specs) (given_files scripts) status → StopsCommand contents (Gen n) status
+  gen_stops n specs scripts status first second h = stops (subst (λ v. StopsInputs contents 0 0 (given_files workload_specs) (given_files v) status) second (subst (λ v. StopsInputs contents 0 0 (given_files v) (given_files scripts) status) first h))
     where
-      stops : StopsInputs contents (given_files workload_specs) (given_files (workload_scripts n)) status → StopsCommand contents (Gen n) status
-      stops (inl h) = at_spec status h
-      stops (inr h) = at_script h.0 status h.1 h.2 refl
+      stops : StopsInputs contents 0 0 (given_files workload_specs) (given_files (workload_scripts n)) status → StopsCommand contents (Gen n) status
+      stops (inl h) = at_spec status tt h
+      stops (inr h) = at_script h.0 status tt h.1 h.2 refl
 
-  pub sweep_stops : (spec recording : List ℕ) (status : Status) → StopsSpecs contents false (named (spec ∷ [])) status → StopsCommand contents (Sweep spec recording) status
-  sweep_stops spec recording status h = at_spec status h
+  pub sweep_stops : (spec recording : List ℕ) (status : Status) → StopsSpecs contents 0 false (named (spec ∷ [])) status → StopsCommand contents (Sweep spec recording) status
+  sweep_stops spec recording status h = at_spec status tt h
 
   -- the recording wasn't loaded, or says no parts
-  recording_not_loaded : (specs : List Specification) (recording : List ℕ) (status : Status) → IsNotLoaded contents recording 1 (BadScript 0 script.TooLong) status → IsNoRecording contents specs recording status
+  recording_not_loaded : (specs : List Specification) (recording : List ℕ) (status : Status) → IsNotLoaded contents recording 1 most_bytes (BadScript 0 script.TooLong) status → IsNoRecording contents specs recording status
   recording_not_loaded specs recording (ReadFailed f) h = h
   recording_not_loaded specs recording NoMemory h = tt
   recording_not_loaded specs recording (BadScript n x) h =
       let first : n ≡ 0 = cc (h.0) in
       let fault : x ≡ script.TooLong = cc (h.0) in
-      let long = too_long_bytes (contents recording) h.1 in
+      let long = too_long_bytes most_bytes (contents recording) h.1 in
       (long.0, long.1, rw (first, fault) (too_long long.2))
   recording_not_loaded specs recording Done h = absurd (cc (h.0))
   recording_not_loaded specs recording Usage h = absurd (cc (h.0))
   recording_not_loaded specs recording (BadSpec f x) h = absurd (cc (h.0))
   recording_not_loaded specs recording WriteFailed h = absurd (cc (h.0))
+  recording_not_loaded specs recording BadHistory h = absurd (cc (h.0))
 
   recording_from : (specs : List Specification) (recording bytes : List ℕ) → Gives contents (Named recording) bytes → (status : Status) → IsNoRecordingIn specs bytes status → IsNoRecording contents specs recording status
   recording_from specs recording bytes given (BadScript n x) h = (bytes, given, h)
@@ -108,18 +130,19 @@ module _ (contents : List ℕ → Option (List ℕ)) where
   recording_from specs recording bytes given Usage h = absurd h
   recording_from specs recording bytes given (BadSpec f x) h = absurd h
   recording_from specs recording bytes given WriteFailed h = absurd h
+  recording_from specs recording bytes given BadHistory h = absurd h
 
-  pub sweep_unloaded : (spec recording : List ℕ) (library : Library) (status : Status) → IsLibraryOf contents false (named (spec ∷ [])) library → IsNotLoaded contents recording 1 (BadScript 0 script.TooLong) status → StopsCommand contents (Sweep spec recording) status
+  pub sweep_unloaded : (spec recording : List ℕ) (library : Library) (status : Status) → IsLibraryOf contents false (named (spec ∷ [])) library → IsNotLoaded contents recording 1 most_bytes (BadScript 0 script.TooLong) status → StopsCommand contents (Sweep spec recording) status
   sweep_unloaded spec recording library status read h = at_recording spec recording (specs_in library) status refl read.said (recording_not_loaded (specs_in library) recording status h)
 
   pub sweep_faulty : (spec recording bytes : List ℕ) (library : Library) (status : Status) → IsLibraryOf contents false (named (spec ∷ [])) library → Gives contents (Named recording) bytes → IsNoRecordingIn (specs_in library) bytes status → StopsCommand contents (Sweep spec recording) status
   sweep_faulty spec recording bytes library status read given h = at_recording spec recording (specs_in library) status refl read.said (recording_from (specs_in library) recording bytes given status h)
 
   -- what was read of files that are those of a workload
-  pub inputs_are : (n : ℕ) (specs scripts : List (List ℕ)) (r : Result Inputs Status) → specs ≡ workload_specs → scripts ≡ workload_scripts n → IfOk r (AreInputsOf contents (given_files specs) (given_files scripts))
-      → IfOk r (AreInputsOf contents (given_files workload_specs) (given_files (workload_scripts n)))
+  pub inputs_are : (n : ℕ) (specs scripts : List (List ℕ)) (r : Result Inputs Status) → specs ≡ workload_specs → scripts ≡ workload_scripts n → IfOk r (AreInputsOf contents 0 (given_files specs) (given_files scripts))
+      → IfOk r (AreInputsOf contents 0 (given_files workload_specs) (given_files (workload_scripts n)))
   inputs_are n specs scripts r first second h =
-      subst (λ v. IfOk r (AreInputsOf contents (given_files workload_specs) (given_files v))) second (subst (λ v. IfOk r (AreInputsOf contents (given_files v) (given_files scripts))) first h)
+      subst (λ v. IfOk r (AreInputsOf contents 0 (given_files workload_specs) (given_files v))) second (subst (λ v. IfOk r (AreInputsOf contents 0 (given_files v) (given_files scripts))) first h)
 
 -- ---- files that are given
 
@@ -139,7 +162,7 @@ pub workload_library : (contents : List ℕ → Option (List ℕ)) (library : Li
 workload_library contents library h =
     sym (length-specs_in library h.catalogued) ∙ length-said contents false [] (given_files workload_specs) (specs_in library) h.said ∙ length-map workload_specs (λ bytes. Given bytes) ∙ specs_length
 
-pub workload_many : (contents : List ℕ → Option (List ℕ)) (specs : List Specification) (n : ℕ) (scripts : Scripts) → AreScriptsOf contents specs (given_files (workload_scripts n)) scripts → length scripts.list.items ≡ 4
+pub workload_many : (contents : List ℕ → Option (List ℕ)) (specs : List Specification) (n : ℕ) (scripts : Scripts) → AreScriptsOf contents specs 0 (given_files (workload_scripts n)) scripts → length scripts.list.items ≡ 4
 workload_many contents specs n scripts h =
     length-scripts contents specs 0 [] (given_files (workload_scripts n)) scripts.list.items scripts.objects h.read.texts h.read.said ∙ length-map (workload_scripts n) (λ bytes. Given bytes) ∙ scripts_length_of n
 
@@ -151,19 +174,26 @@ no_file (bytes ∷ files) [] rest source split is = let same : source ≡ Given 
 no_file (bytes ∷ files) (x ∷ first) rest source split is = no_file files first rest source (cc) is
 
 module _ (contents : List ℕ → Option (List ℕ)) (file : ℕ) where
-  given_specs_unread : (files : List (List ℕ)) (status : Status) → StopsSpecs contents false (given_files files) status → status ≡ ReadFailed file → ⊥
-  given_specs_unread files status h is = no_file files h.reached.first h.reached.rest h.source h.reached.split (subst (λ (s : Status). IsNoSpec contents false h.before h.number h.source s) is h.stopped).1
+  given_specs_unread : (files : List (List ℕ)) (status : Status) → StopsSpecs contents 0 false (given_files files) status → status ≡ ReadFailed file → ⊥
+  given_specs_unread files status h is = no_file files h.reached.first h.reached.rest h.source h.reached.split (subst (λ (s : Status). IsNoSpec contents false h.before 0 h.number h.source s) is h.stopped).1
 
+<<<<<<< ours
   given_scripts_unread : (specs : List Specification) (count : ℕ) (files : List (List ℕ)) (status : Status) → StopsScripts contents specs count (given_files files) status → status ≡ ReadFailed file → ⊥
   given_scripts_unread specs count files status (inl h) is =
       no_file files h.reached.first h.reached.rest h.source h.reached.split (subst (λ (s : Status). IsNoScript contents specs count (step_count h.before) h.names h.number h.source s) is h.stopped).1
   given_scripts_unread specs count files status (inr h) is = subst (λ (s : Status). IsNoOrder (asked_by h.texts) s) is h.wrong
+=======
+  given_scripts_unread : (specs : List Specification) (count : ℕ) (files : List (List ℕ)) (status : Status) → StopsScripts contents specs count 0 (given_files files) status → status ≡ ReadFailed file → ⊥
+  given_scripts_unread specs count files status h is =
+      no_file files h.reached.first h.reached.rest h.source h.reached.split (subst (λ (s : Status). IsNoScript contents specs count (0 + step_count h.before) h.names h.number h.source s) is h.stopped).1
+>>>>>>> theirs
 
   pub unread : (n : ℕ) (status : Status) → StopsCommand contents (Gen n) status → status ≡ ReadFailed file → ⊥
   unread n _ short is = absurd cc
-  unread n _ (at_spec status h) is = given_specs_unread workload_specs status h is
+  unread n _ (at_history history specs scripts status same h) is = absurd (cc same)
+  unread n _ (at_spec status sound h) is = given_specs_unread workload_specs status h is
   unread n _ (at_recording spec recording specs status same said h) is = absurd (cc same)
-  unread n _ (at_script specs status said h separate) is = given_scripts_unread specs (length (given_files workload_specs)) (workload_scripts n) status h is
+  unread n _ (at_script specs status sound said h separate) is = given_scripts_unread specs (0 + length (given_files workload_specs)) (workload_scripts n) status h is
 
 -- ---- families
 

@@ -63,7 +63,7 @@ abbrev pub step_count : List (List ScriptLine) → ℕ
 step_count [] = 0
 step_count (script ∷ scripts) = length script + step_count scripts
 
-module _ (contents : FileContents) (specs : List Specification) where
+module _ (contents : FileContents) (ordered : Bool) (specs : List Specification) where
   -- the sources say these scripts, in order, behind so many steps and with these names of objects; the names in the
   -- end, and the bytes of each source
   abbrev pub SayScripts : ℕ → List Text → List Source → List (List ScriptLine) → List Text → List Text → Type 0
@@ -71,31 +71,40 @@ module _ (contents : FileContents) (specs : List Specification) where
   SayScripts count names (source ∷ sources) scripts objects texts =
       (bytes : Text) × (script : List ScriptLine) × (more : List (List ScriptLine)) × (later : List Text)
       × (others : List Text) × (scripts ≡ script ∷ more) × (texts ≡ bytes ∷ others)
-      × Gives contents source bytes × IsScriptFile specs count names bytes script later
+      × Gives contents source bytes × IsScriptFile ordered specs count names bytes script later
       × SayScripts (count + length script) later sources more objects others
 
-  -- this source has this number among the sources, and those before it say these scripts, with these names of objects
-  pub record AreScriptsUpTo (sources : List Source) (number : ℕ) (source : Source)
+  -- This source has this number among the sources, and those before it say these scripts, with these names of objects,
+  -- behind so many steps.
+  pub record AreScriptsUpTo (count : ℕ) (sources : List Source) (number : ℕ) (source : Source)
       (scripts : List (List ScriptLine)) (objects : List Text) : Type 0 where
     pub first : List Source
     pub rest : List Source
     pub texts : List Text
     pub split : sources ≡ first ++ source ∷ rest
     pub numbered : number ≡ length first
-    pub read : SayScripts 0 [] first scripts objects texts
+    pub read : SayScripts count [] first scripts objects texts
 
 -- ---- what scripts ask for
 
+-- what a text asks for, behind these names, where it may ask for something; and the names then
+abbrev pub lines_in : Bool → List Text → Text → List SyncLine
+lines_in ordered names text = if ordered then sync_lines_of names text else []
+
+abbrev pub names_in : Bool → List Text → Text → List Text
+names_in ordered names text = if ordered then names_after names text else names
+
 -- what the texts of scripts ask for, one by one, behind these names
-abbrev pub asked_behind : List Text → List Text → List (List SyncLine)
-asked_behind names [] = []
-asked_behind names (text ∷ texts) = sync_lines_of names text ∷ asked_behind (names_after names text) texts
+abbrev pub asked_behind : Bool → List Text → List Text → List (List SyncLine)
+asked_behind ordered names [] = []
+asked_behind ordered names (text ∷ texts) =
+    lines_in ordered names text ∷ asked_behind ordered (names_in ordered names text) texts
 
 -- and the names then
-abbrev pub names_behind_all : List Text → List Text → List Text
-names_behind_all names [] = names
-names_behind_all names (text ∷ texts) = names_behind_all (names_after names text) texts
+abbrev pub names_behind_all : Bool → List Text → List Text → List Text
+names_behind_all ordered names [] = names
+names_behind_all ordered names (text ∷ texts) = names_behind_all ordered (names_in ordered names text) texts
 
 -- what the texts of scripts ask for: the names are told apart in all of them
-abbrev pub asked_by : List Text → List (List SyncLine)
-asked_by texts = asked_behind [] texts
+abbrev pub asked_by : Bool → List Text → List (List SyncLine)
+asked_by ordered texts = asked_behind ordered [] texts

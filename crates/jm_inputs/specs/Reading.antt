@@ -1,12 +1,12 @@
 -- What the calls that read specifications answer.
-use Rattle.std.specs.Prelude.{◌≡◌, ◌<◌, ◌≤◌, ◌*◌, ◌^◌, Bool, false, List, [], ◌∷◌, ◌++◌, length, map, All}
+use Rattle.std.specs.Prelude.{ℕ, ◌+◌, ◌≡◌, ◌<◌, ◌≤◌, ◌*◌, ◌^◌, Bool, false, List, [], ◌∷◌, ◌++◌, length, map, All}
 use Rattle.jm_model.specs.Words.{Text}
 use Rattle.jm_script.specs.declared.script.ScriptLine.{ScriptLine}
 use Rattle.jm_script.specs.Catalogs.{CatalogEntry}
 use Rattle.jm_script.specs.Fitting.{FitsCatalog}
 use Rattle.jm_script.specs.Meanings.{RisesFrom as StepsRiseFrom}
 use Rattle.jm_sync.specs.Checks.{AreSound, sync_of}
-use Rattle.jm_sync.specs.Cuts.{RisesFrom, names_after, sync_lines_of}
+use Rattle.jm_sync.specs.Cuts.{RisesFrom}
 use Rattle.jm_events.specs.Events.{EventDefinitions}
 use Rattle.jm_machine.specs.Meanings.{RuleDefinition, handler_count}
 use Rattle.jm_machine.specs.RuleSets.{CompiledRules}
@@ -19,7 +19,7 @@ use Rattle.jm_inputs.specs.declared.inputs.Inputs.{Inputs}
 use Rattle.jm_inputs.specs.Sources.{FileContents, Source, Gives}
 use Rattle.jm_inputs.specs.Specifications.{Specification, IsSpecification}
 use Rattle.jm_inputs.specs.Scripts.{catalog_of, IsScriptFile}
-use Rattle.jm_inputs.specs.Inputs.{IsAdmitted, SaySpecifications, step_count, SayScripts, asked_by, names_behind_all}
+use Rattle.jm_inputs.specs.Inputs.{IsAdmitted, SaySpecifications, step_count, SayScripts, lines_in, names_in, asked_by, names_behind_all}
 
 -- ---- specifications
 
@@ -110,13 +110,11 @@ pub record IsLibraryOf (contents : FileContents) (families : Bool) (sources : Li
 
 -- ---- scripts
 
--- Each script fits the specifications and the names of objects, and its lines rise; the counts are those of what was
--- read, and within their limits. Each script has a cut, whose lines rise, and whose names have numbers; these are few
--- enough.
+-- Each script fits the specifications and the names of objects, and its lines rise; the counts are within their limits.
+-- Each script has a cut, whose lines rise, and whose names have numbers; these are few enough.
 pub record AreCounted (specs : List Specification) (s : Scripts) : Type 0 where
   pub fit : All (FitsCatalog (catalog_of specs) (length s.objects)) s.list.items
   pub steps_rise : All (StepsRiseFrom 1) s.list.items
-  pub counted : s.count ≡ step_count s.list.items
   pub few_steps : s.count ≤ 200000
   pub few_names : length s.objects ≤ 65536
   pub cut : length s.cuts.items ≡ length s.list.items
@@ -125,37 +123,40 @@ pub record AreCounted (specs : List Specification) (s : Scripts) : Type 0 where
   pub few_posted : length s.posted ≤ length s.list.items * 4194305
 
 -- there is one script more, which the bytes of this file say, and what it asks for
-pub record HasScript (specs : List Specification) (bytes : Text) (old new : Scripts) : Type 0 where
+pub record HasScript (ordered : Bool) (specs : List Specification) (bytes : Text) (old new : Scripts) : Type 0 where
   pub script : List ScriptLine
-  pub said : IsScriptFile specs old.count old.objects bytes script new.objects
+  pub said : IsScriptFile ordered specs old.count old.objects bytes script new.objects
   pub scripts : new.list.items ≡ old.list.items ++ script ∷ []
-  pub asked : sync_of new.cuts.items ≡ sync_of old.cuts.items ++ sync_lines_of old.posted bytes ∷ []
-  pub posted : new.posted ≡ names_after old.posted bytes
+  pub longer : new.count ≡ old.count + length script
+  pub asked : sync_of new.cuts.items ≡ sync_of old.cuts.items ++ lines_in ordered old.posted bytes ∷ []
+  pub posted : new.posted ≡ names_in ordered old.posted bytes
   pub counted : AreCounted specs new
 
 -- which a file of this name says
-pub record HasScriptFrom (contents : FileContents) (source : Source) (specs : List Specification)
+pub record HasScriptFrom (contents : FileContents) (source : Source) (ordered : Bool) (specs : List Specification)
     (old new : Scripts) : Type 0 where
   pub bytes : Text
   pub given : Gives contents source bytes
-  pub next : HasScript specs bytes old new
+  pub next : HasScript ordered specs bytes old new
 
--- the scripts are what the sources say, with what they ask for
-pub record AreScriptsRead (contents : FileContents) (specs : List Specification) (sources : List Source)
-    (s : Scripts) : Type 0 where
-  pub texts : List Text
-  pub said : SayScripts contents specs 0 [] sources s.list.items s.objects texts
-  pub asked : sync_of s.cuts.items ≡ asked_by texts
-  pub posted : s.posted ≡ names_behind_all [] texts
-  pub counted : AreCounted specs s
+module _ (contents : FileContents) (ordered : Bool) where
+  -- the scripts are what the sources say, behind so many steps, which are counted with theirs, and what they ask for
+  pub record AreScriptsRead (specs : List Specification) (count : ℕ) (sources : List Source) (s : Scripts) : Type 0
+      where
+    pub texts : List Text
+    pub said : SayScripts contents ordered specs count [] sources s.list.items s.objects texts
+    pub many : s.count ≡ count + step_count s.list.items
+    pub asked : sync_of s.cuts.items ≡ asked_by ordered texts
+    pub posted : s.posted ≡ names_behind_all ordered [] texts
+    pub counted : AreCounted specs s
 
--- and nothing is wrong with that
-pub record AreScriptsOf (contents : FileContents) (specs : List Specification) (sources : List Source)
-    (s : Scripts) : Type 0 where
-  pub read : AreScriptsRead contents specs sources s
-  pub sound : AreSound (sync_of s.cuts.items)
+  -- and nothing is wrong with that
+  pub record AreScriptsOf (specs : List Specification) (count : ℕ) (sources : List Source) (s : Scripts) : Type 0
+      where
+    pub read : AreScriptsRead specs count sources s
+    pub sound : AreSound (sync_of s.cuts.items)
 
--- what was read is what these sources of specifications and of scripts say
-pub record AreInputsOf (contents : FileContents) (specs scripts : List Source) (inputs : Inputs) : Type 0 where
-  pub library : IsLibraryOf contents false specs inputs.library
-  pub read : AreScriptsOf contents (specs_in inputs.library) scripts inputs.scripts
+  -- what was read is what these sources of specifications and of scripts say, these behind so many steps
+  pub record AreInputsOf (count : ℕ) (specs scripts : List Source) (inputs : Inputs) : Type 0 where
+    pub library : IsLibraryOf contents false specs inputs.library
+    pub read : AreScriptsOf (specs_in inputs.library) count scripts inputs.scripts

@@ -1,6 +1,6 @@
 use Rattle.std.specs.Prelude.{ℕ}
 use Rattle.jm_inputs.specs.declared.status.Status.{Status}
-use Rattle.jm_inputs.specs.declared.status.Status.TheVariants.{Done, Usage, BadSpec, BadScript, ReadFailed, WriteFailed, NoMemory}
+use Rattle.jm_inputs.specs.declared.status.Status.TheVariants.{Done, Usage, BadSpec, BadScript, ReadFailed, WriteFailed, NoMemory, BadHistory}
 
 -- the exit status of the program
 abbrev pub code_of : Status → ℕ
@@ -11,3 +11,4 @@ code_of (BadScript script fault) = 4
 code_of (ReadFailed file) = 5
 code_of WriteFailed = 6
 code_of NoMemory = 7
+code_of BadHistory = 8

@@ -1,29 +1,29 @@
 //! The files of a command.
 ghost use Rattle.std.specs.Prelude.{◌≡◌, ◌≤◌, ℕ, List, length, IfOk, IfErr};
 ghost use Rattle.jm_inputs.specs.Sources.{Named, Gives};
-ghost use Rattle.jm_inputs.specs.Specifications.{most_bytes};
 ghost use Rattle.jm_inputs.specs.Causes.{CountsFailedReads, IsFaulty, IsNotLoaded};
 
-use crate::status::{MOST_BYTES, Status};
+use crate::status::Status;
 use jm_port::{Folder, LoadFault};
 
-/// The bytes of the file of this name, which has this number among all. One that is too long ends the command with the
-/// status that is given.
+/// The bytes of the file of this name, which has this number among all. One of more than `most` bytes ends the command
+/// with the status that is given.
 pub fn load<F: Folder>(
     name: &str,
     number: u32,
+    most: usize,
     too_long: Status,
     files: &mut F,
 ) -> Result<Vec<u8>, Status>
     requires { IsFaulty too_long }
-    ensures within { IfOk result (λ bytes. length bytes.items ≤ most_bytes) }
+    ensures within { IfOk result (λ bytes. length bytes.items ≤ most) }
     ensures held { IfOk result (λ bytes. Gives (F.holds files.old) (Named name.now) bytes.items) }
-    ensures err { IfErr result (IsNotLoaded (F.holds files.old) name.now number too_long) }
+    ensures err { IfErr result (IsNotLoaded (F.holds files.old) name.now number most too_long) }
     ensures read_failed { CountsFailedReads result (F.faults files.old) (F.faults files.new) }
     ensures never_falls { F.faults files.old ≤ F.faults files.new }
     ensures same { (other : List ℕ) → F.holds files.new other ≡ F.holds files.old other }
 {
-    match files.load(name, MOST_BYTES) {
+    match files.load(name, most) {
         Ok(bytes) => Ok(bytes),
         Err(LoadFault::Failed) => Err(Status::ReadFailed { file: number }),
         Err(LoadFault::TooLong) => Err(too_long),

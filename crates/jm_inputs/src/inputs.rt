@@ -8,7 +8,7 @@ ghost use Rattle.jm_inputs.specs.Causes.{CountsFailedReads, StopsInputs, StopsCo
 ghost use Rattle.jm_inputs.specs.Reading.{AreInputsOf};
 
 use crate::library::{Library, given_specifications, read_specifications};
-use crate::scripts::{Scripts, given_scripts, read_scripts};
+use crate::scripts::{Scripts, Setting, given_scripts, read_scripts};
 use crate::status::Status;
 use jm_gen::{GenError, Workload, workload};
 use jm_model::NoMemory;
@@ -27,18 +27,21 @@ pub fn read_inputs<F: Folder>(
     alloc: Global,
     specs: &[String],
     scripts: &[String],
+    setting: Setting,
     files: &mut F,
 ) -> Result<Inputs, Status>
     requires few_specs { length specs.now ≤ 16 }
     requires few_scripts { length scripts.now ≤ 16 }
-    ensures read { IfOk result (AreInputsOf (F.holds files.old) (named (map string_bytes specs.now))
-        (named (map string_bytes scripts.now))) }
-    ensures err { IfErr result (StopsInputs (F.holds files.old) (named (map string_bytes specs.now))
-        (named (map string_bytes scripts.now))) }
+    requires files { setting.files ≤ 1 }
+    requires steps { setting.steps ≤ 200000 }
+    ensures read { IfOk result (AreInputsOf (F.holds files.old) setting.ordered setting.steps
+        (named (map string_bytes specs.now)) (named (map string_bytes scripts.now))) }
+    ensures err { IfErr result (StopsInputs (F.holds files.old) setting.ordered setting.files setting.steps
+        (named (map string_bytes specs.now)) (named (map string_bytes scripts.now))) }
     ensures read_failed { CountsFailedReads result (F.faults files.old) (F.faults files.new) }
 {
-    let library = read_specifications(alloc, specs, false, files)?;
-    let scripts = read_scripts(alloc, scripts, &library, files)?;
+    let library = read_specifications(alloc, specs, setting.files, false, files)?;
+    let scripts = read_scripts(alloc, scripts, &library, setting, files)?;
     Ok(Inputs { library, scripts })
 }
 
@@ -47,10 +50,10 @@ fn given_inputs(alloc: Global, specs: &[Vec<u8>], scripts: &[Vec<u8>]) -> Result
     requires few_specs { length specs.now ≤ 16 }
     requires few_scripts { length scripts.now ≤ 16 }
     ensures read { (contents : FileContents)
-        → IfOk result (AreInputsOf contents (given_files (map (λ file. file.items) specs.now))
+        → IfOk result (AreInputsOf contents true 0 (given_files (map (λ file. file.items) specs.now))
         (given_files (map (λ file. file.items) scripts.now))) }
     ensures err { (contents : FileContents)
-        → IfErr result (StopsInputs contents (given_files (map (λ file. file.items) specs.now))
+        → IfErr result (StopsInputs contents true 0 0 (given_files (map (λ file. file.items) specs.now))
         (given_files (map (λ file. file.items) scripts.now))) }
 {
     let library = given_specifications(alloc, specs)?;
@@ -62,7 +65,7 @@ fn given_inputs(alloc: Global, specs: &[Vec<u8>], scripts: &[Vec<u8>]) -> Result
 pub fn read_workload(alloc: Global, n: u32) -> Result<Inputs, Status>
     requires { IsInRange n }
     ensures read { (contents : FileContents)
-        → IfOk result (AreInputsOf contents (given_files workload_specs) (given_files (workload_scripts n))) }
+        → IfOk result (AreInputsOf contents true 0 (given_files workload_specs) (given_files (workload_scripts n))) }
     ensures err { (contents : FileContents) → IfErr result (StopsCommand contents (Gen n)) }
 {
     let files = files_of(alloc, n)?;

@@ -26,6 +26,6 @@ pub use files::load;
 pub use inputs::{Inputs, read_inputs, read_workload};
 pub use laws::one_reading;
 pub use library::{Library, read_specifications};
-pub use scripts::{Scripts, too_long};
+pub use scripts::{Scripts, Setting, too_long};
 pub use specification::{Loaded, Titles};
-pub use status::Status;
+pub use status::{MOST_BYTES, Status};

@@ -59,23 +59,26 @@ impl Library {
     }
 }
 
-/// Reads the specifications of these names, in order. Where families are asked for, a grammar is refused.
+/// Reads the specifications of these names, in order, whose files stand behind so many others. Where families are asked
+/// for, a grammar is refused.
 pub fn read_specifications<F: Folder>(
     alloc: Global,
     names: &[String],
+    before: u32,
     families: bool,
     files: &mut F,
 ) -> Result<Library, Status>
-    requires { length names.now ≤ 16 }
+    requires few { length names.now ≤ 16 }
+    requires before { before ≤ 1 }
     ensures read { IfOk result (IsLibraryOf (F.holds files.old) families (named (map string_bytes names.now))) }
-    ensures err { IfErr result (StopsSpecs (F.holds files.old) families (named (map string_bytes names.now))) }
+    ensures err { IfErr result (StopsSpecs (F.holds files.old) before families (named (map string_bytes names.now))) }
     ensures read_failed { CountsFailedReads result (F.faults files.old) (F.faults files.new) }
     ensures never_falls { F.faults files.old ≤ F.faults files.new }
     ensures same { (other : List ℕ) → F.holds files.new other ≡ F.holds files.old other }
 {
     let mut library = Library::new(alloc);
     for name in names {
-        read_next(alloc, name.as_str(), families, files, &mut library)?;
+        read_next(alloc, name.as_str(), before, families, files, &mut library)?;
     }
     Ok(library)
 }
@@ -86,7 +89,7 @@ pub(crate) fn given_specifications(alloc: Global, files: &[Vec<u8>]) -> Result<L
     ensures read { (contents : FileContents)
         → IfOk result (IsLibraryOf contents false (given_files (map (λ file. file.items) files.now))) }
     ensures err { (contents : FileContents)
-        → IfErr result (StopsSpecs contents false (given_files (map (λ file. file.items) files.now))) }
+        → IfErr result (StopsSpecs contents 0 false (given_files (map (λ file. file.items) files.now))) }
 {
     let mut library = Library::new(alloc);
     for file in files {
@@ -109,25 +112,28 @@ fn read_given(alloc: Global, bytes: &[u8], library: &mut Library) -> Result<(), 
     read_bytes(alloc, bytes, number, false, library)
 }
 
-/// Reads the specification of this name, behind those of the library. After an error the library is of no use.
+/// Reads the specification of this name, behind those of the library, whose files stand behind so many others. After an
+/// error the library is of no use.
 fn read_next<F: Folder>(
     alloc: Global,
     name: &str,
+    before: u32,
     families: bool,
     files: &mut F,
     library: &mut Library,
 ) -> Result<(), Status>
+    requires before { before ≤ 1 }
     requires few { length library.old.specs.items < 16 }
     requires catalogued { IsCatalogued library.old }
     ensures read { OnOk result (HasNextFrom (F.holds files.old) (Named name.now) families library.old library.new) }
-    ensures err { IfErr result (IsNoSpec (F.holds files.old) families (specs_in library.old)
+    ensures err { IfErr result (IsNoSpec (F.holds files.old) families (specs_in library.old) before
         (length library.old.specs.items) (Named name.now)) }
     ensures read_failed { CountsFailedReads result (F.faults files.old) (F.faults files.new) }
     ensures never_falls { F.faults files.old ≤ F.faults files.new }
     ensures same { (other : List ℕ) → F.holds files.new other ≡ F.holds files.old other }
 {
     let number = library.specs.len() as u32;
-    let bytes = load(name, number, too_long(number), files)?;
+    let bytes = load(name, before + number, MOST_BYTES, too_long(number), files)?;
     read_bytes(alloc, bytes.as_slice(), number, families, library)
 }
 

@@ -1,11 +1,11 @@
 //! The scripts of a command, read one behind the other.
-ghost use Rattle.std.specs.Prelude.{◌≡◌, ◌+◌, ◌<◌, ◌≤◌, [], ℕ, List, length, map, IfOk, IfErr, OnOk, string_bytes};
+ghost use Rattle.std.specs.Prelude.{◌≡◌, ◌+◌, ◌<◌, ◌≤◌, [], ℕ, List, false, length, map, IfOk, IfErr, OnOk, string_bytes};
 ghost use Rattle.jm_model.specs.declared.fault.ScriptFault.{ScriptFault};
 ghost use Rattle.jm_inputs.specs.Commands.{named, given_files};
 ghost use Rattle.jm_inputs.specs.Sources.{FileContents, Named};
 ghost use Rattle.jm_inputs.specs.Specifications.{Specification, most_bytes};
 ghost use Rattle.jm_sync.specs.Checks.{AreSound, sync_of};
-ghost use Rattle.jm_inputs.specs.Scripts.{IsScriptFileFault};
+ghost use Rattle.jm_inputs.specs.Scripts.{IsScriptFileFault, IsSilent};
 ghost use Rattle.jm_inputs.specs.Reading.{specs_in, IsCatalogued, AreCounted, HasScript, HasScriptFrom, AreScriptsOf};
 ghost use Rattle.jm_inputs.specs.Causes.{CountsFailedReads, IsNoOrder, IsNoScript, IsNoScriptFileIn, StopsScripts};
 
@@ -16,11 +16,23 @@ use jm_events::Names;
 use jm_model::{ScriptError, ScriptFault};
 use jm_port::Folder;
 use jm_script::{Script, read_script};
-use jm_sync::{Cut, SyncError, check, cut};
+use jm_sync::{Cut, SyncError, SyncLine, check, cut};
+use memchr::memmem::find;
 use std::alloc::Global;
 
-/// Scripts in order, the names of their objects, and how many steps they have; the lines of each that ask for order,
-/// and the names that these post or wait for.
+/// How the scripts of a command are read.
+#[derive(Clone, Copy)]
+pub struct Setting {
+    /// How many files stand before those of the specifications: 0 or 1.
+    pub files: u32,
+    /// How many steps count as read before: at most 200,000.
+    pub steps: u32,
+    /// Whether lines that ask for order are taken out.
+    pub ordered: bool,
+}
+
+/// Scripts in order, the names of their objects, and how many steps count as read behind them; the lines of each that
+/// ask for order, and the names that these post or wait for.
 #[derive(Drop)]
 pub struct Scripts {
     pub list: Vec<Script>,
@@ -31,11 +43,12 @@ pub struct Scripts {
 }
 
 impl Scripts {
-    /// No script.
-    pub(crate) fn new(alloc: Global) -> Scripts
+    /// No script. So many steps count as read.
+    pub(crate) fn new(alloc: Global, count: u32) -> Scripts
+        requires { count ≤ 200000 }
         ensures list { result.list.items ≡ [] }
         ensures objects { result.objects ≡ [] }
-        ensures count { result.count ≡ 0 }
+        ensures count { result.count ≡ count }
         ensures cuts { result.cuts.items ≡ [] }
         ensures posted { result.posted ≡ [] }
         ensures counted { (specs : List Specification) → AreCounted specs result }
@@ -43,7 +56,7 @@ impl Scripts {
         Scripts {
             list: Vec::new(alloc),
             objects: Names::new(alloc),
-            count: 0,
+            count,
             cuts: Vec::new(alloc),
             posted: Names::new(alloc),
         }
@@ -56,20 +69,23 @@ pub(crate) fn read_scripts<F: Folder>(
     alloc: Global,
     names: &[String],
     library: &Library,
+    setting: Setting,
     files: &mut F,
 ) -> Result<Scripts, Status>
     requires few { length names.now ≤ 16 }
+    requires files { setting.files ≤ 1 }
+    requires steps { setting.steps ≤ 200000 }
     requires few_specs { length library.now.specs.items ≤ 16 }
     requires catalogued { IsCatalogued library.now }
-    ensures read { IfOk result (AreScriptsOf (F.holds files.old) (specs_in library.now)
+    ensures read { IfOk result (AreScriptsOf (F.holds files.old) setting.ordered (specs_in library.now) setting.steps
         (named (map string_bytes names.now))) }
-    ensures err { IfErr result (StopsScripts (F.holds files.old) (specs_in library.now) (length library.now.specs.items)
-        (named (map string_bytes names.now))) }
+    ensures err { IfErr result (StopsScripts (F.holds files.old) setting.ordered (specs_in library.now)
+        (setting.files + length library.now.specs.items) setting.steps (named (map string_bytes names.now))) }
     ensures read_failed { CountsFailedReads result (F.faults files.old) (F.faults files.new) }
 {
-    let mut scripts = Scripts::new(alloc);
+    let mut scripts = Scripts::new(alloc, setting.steps);
     for name in names {
-        read_next(alloc, name.as_str(), library, files, &mut scripts)?;
+        read_next(alloc, name.as_str(), library, setting, files, &mut scripts)?;
     }
     check_order(alloc, scripts.cuts.as_slice())?;
     Ok(scripts)
@@ -85,13 +101,13 @@ pub(crate) fn given_scripts(
     requires few { length files.now ≤ 16 }
     requires catalogued { IsCatalogued library.now }
     ensures read { (contents : FileContents)
-        → IfOk result (AreScriptsOf contents (specs_in library.now)
+        → IfOk result (AreScriptsOf contents true (specs_in library.now) 0
         (given_files (map (λ file. file.items) files.now))) }
     ensures err { (contents : FileContents)
-        → IfErr result (StopsScripts contents (specs_in library.now) (length library.now.specs.items)
+        → IfErr result (StopsScripts contents true (specs_in library.now) (length library.now.specs.items) 0
         (given_files (map (λ file. file.items) files.now))) }
 {
-    let mut scripts = Scripts::new(alloc);
+    let mut scripts = Scripts::new(alloc, 0);
     for file in files {
         read_given(alloc, file.as_slice(), library, &mut scripts)?;
     }
@@ -124,42 +140,44 @@ fn read_given(
     requires few { length scripts.old.list.items < 16 }
     requires catalogued { IsCatalogued library.now }
     requires counted { AreCounted (specs_in library.now) scripts.old }
-    ensures read { OnOk result (HasScript (specs_in library.now) bytes.now scripts.old scripts.new) }
-    ensures err { IfErr result (IsNoScriptFileIn (specs_in library.now) scripts.old.count scripts.old.objects
+    ensures read { OnOk result (HasScript true (specs_in library.now) bytes.now scripts.old scripts.new) }
+    ensures err { IfErr result (IsNoScriptFileIn true (specs_in library.now) scripts.old.count scripts.old.objects
         (length scripts.old.list.items) bytes.now) }
 {
     let number = scripts.list.len() as u32;
     if bytes.len() > MOST_BYTES {
         return Err(too_long(number));
     }
-    read_bytes(alloc, bytes, number, library, scripts)
+    read_bytes(alloc, bytes, number, library, true, scripts)
 }
 
-/// Reads the script of this name, behind the others. After an error these are of no use.
+/// Reads the script of this name, behind the others. After an error the scripts are of no use.
 fn read_next<F: Folder>(
     alloc: Global,
     name: &str,
     library: &Library,
+    setting: Setting,
     files: &mut F,
     scripts: &mut Scripts,
 ) -> Result<(), Status>
+    requires files { setting.files ≤ 1 }
     requires few { length scripts.old.list.items < 16 }
     requires few_specs { length library.now.specs.items ≤ 16 }
     requires catalogued { IsCatalogued library.now }
     requires counted { AreCounted (specs_in library.now) scripts.old }
     ensures read { OnOk result (HasScriptFrom (F.holds files.old) (Named name.now)
-        (specs_in library.now) scripts.old scripts.new) }
-    ensures err { IfErr result (IsNoScript (F.holds files.old) (specs_in library.now)
-        (length library.now.specs.items) scripts.old.count scripts.old.objects (length scripts.old.list.items)
-        (Named name.now)) }
+        setting.ordered (specs_in library.now) scripts.old scripts.new) }
+    ensures err { IfErr result (IsNoScript (F.holds files.old) setting.ordered (specs_in library.now)
+        (setting.files + length library.now.specs.items) scripts.old.count scripts.old.objects
+        (length scripts.old.list.items) (Named name.now)) }
     ensures read_failed { CountsFailedReads result (F.faults files.old) (F.faults files.new) }
     ensures never_falls { F.faults files.old ≤ F.faults files.new }
     ensures same { (other : List ℕ) → F.holds files.new other ≡ F.holds files.old other }
 {
     let number = scripts.list.len() as u32;
-    let before = library.specs.len() as u32;
-    let bytes = load(name, before + number, too_long(number), files)?;
-    read_bytes(alloc, bytes.as_slice(), number, library, scripts)
+    let specs = setting.files + library.specs.len() as u32;
+    let bytes = load(name, specs + number, MOST_BYTES, too_long(number), files)?;
+    read_bytes(alloc, bytes.as_slice(), number, library, setting.ordered, scripts)
 }
 
 /// The end of a command whose script of this number is too long.
@@ -179,17 +197,18 @@ fn read_bytes(
     bytes: &[u8],
     number: u32,
     library: &Library,
+    ordered: bool,
     scripts: &mut Scripts,
 ) -> Result<(), Status>
     requires small { length bytes.now ≤ most_bytes }
     requires few { length scripts.old.list.items < 16 }
     requires catalogued { IsCatalogued library.now }
     requires counted { AreCounted (specs_in library.now) scripts.old }
-    ensures read { OnOk result (HasScript (specs_in library.now) bytes.now scripts.old scripts.new) }
-    ensures err { IfErr result (IsNoScriptFileIn
+    ensures read { OnOk result (HasScript ordered (specs_in library.now) bytes.now scripts.old scripts.new) }
+    ensures err { IfErr result (IsNoScriptFileIn ordered
         (specs_in library.now) scripts.old.count scripts.old.objects number bytes.now) }
 {
-    match add(alloc, bytes, library, scripts) {
+    match add(alloc, bytes, library, ordered, scripts) {
         Ok(()) => Ok(()),
         Err(ScriptError::Bad(fault)) => {
             Err(Status::BadScript {
@@ -206,20 +225,36 @@ fn add(
     alloc: Global,
     bytes: &[u8],
     library: &Library,
+    ordered: bool,
     scripts: &mut Scripts,
 ) -> Result<(), ScriptError>
     requires small { length bytes.now ≤ most_bytes }
     requires few { length scripts.old.list.items < 16 }
     requires catalogued { IsCatalogued library.now }
     requires counted { AreCounted (specs_in library.now) scripts.old }
-    ensures read { OnOk result (HasScript (specs_in library.now) bytes.now scripts.old scripts.new) }
+    ensures read { OnOk result (HasScript ordered (specs_in library.now) bytes.now scripts.old scripts.new) }
     ensures fault { (fault : ScriptFault) → result ≡ Err (ScriptError.Bad fault)
-        → IsScriptFileFault (specs_in library.now) scripts.old.count scripts.old.objects bytes.now fault }
+        → IsScriptFileFault ordered (specs_in library.now) scripts.old.count scripts.old.objects bytes.now fault }
 {
-    let Cut { rest, lines } = cut(alloc, bytes, &mut scripts.posted)?;
+    if ordered && asks(bytes) {
+        let Cut { rest, lines } = cut(alloc, bytes, &mut scripts.posted)?;
+        return add_steps(alloc, rest.as_slice(), lines, library, scripts);
+    }
+    add_steps(alloc, bytes, Vec::new(alloc), library, scripts)
+}
+
+/// Reads the script that these bytes say, and adds it with the lines that ask for order.
+fn add_steps(
+    alloc: Global,
+    bytes: &[u8],
+    lines: Vec<SyncLine>,
+    library: &Library,
+    scripts: &mut Scripts,
+) -> Result<(), ScriptError>
+{
     let script = read_script(
         alloc,
-        rest.as_slice(),
+        bytes,
         &library.catalog,
         &mut scripts.objects,
         &mut scripts.count,
@@ -230,4 +265,11 @@ fn add(
         lines,
     })?;
     Ok(())
+}
+
+/// Whether some line of a script may ask for order. Where none does, it mostly says so.
+fn asks(bytes: &[u8]) -> bool
+    ensures { result ≡ false → IsSilent bytes.now }
+{
+    find(bytes, b"post").is_some() || find(bytes, b"wait").is_some()
 }

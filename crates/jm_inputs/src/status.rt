@@ -4,8 +4,8 @@ ghost use Rattle.jm_inputs.specs.Statuses.{code_of};
 
 use jm_model::{NoMemory, ScriptFault, SpecFault};
 
-/// The most bytes that a file may have.
-pub(crate) const MOST_BYTES: usize = 4_194_304;
+/// The most bytes that the file of a specification or a script may have.
+pub const MOST_BYTES: usize = 4_194_304;
 
 /// How a command ended. Specifications and scripts are numbered from 0, each by their own order, and files by the order
 /// of the words.
@@ -25,6 +25,8 @@ pub enum Status {
     WriteFailed,
     /// Memory was wanted and refused.
     NoMemory,
+    /// The history that is to be audited is too long.
+    BadHistory,
 }
 
 impl Status {
@@ -40,6 +42,7 @@ impl Status {
             Status::ReadFailed { .. } => 5,
             Status::WriteFailed => 6,
             Status::NoMemory => 7,
+            Status::BadHistory => 8,
         }
     }
 }

@@ -36,6 +36,12 @@ scripts_names contents specs count names [] scripts objects texts before said = 
 scripts_names contents specs count names (source ∷ sources) scripts objects texts before said =
     scripts_names contents specs (count + length said.1) said.3 sources said.2 objects said.4 (subst AreNames (sym said.8.said.named) (script_named (catalog_of specs) count (rest_of said.0) names before)) said.9
 
+<<<<<<< ours
 pub job_names : (words : List (List ℕ)) (contents : List ℕ → Option (List ℕ)) (command : CommandWords) (specs : List Specification) (scripts : List (List ScriptLine)) (objects : List (List ℕ)) (asked : List (List SyncLine)) → IsJob words contents (Accepted command specs scripts objects asked) → HaveNames (map (lexicon objects) specs)
 job_names words contents _ _ _ _ _ (accepted command specs scripts objects texts spelled said tells sound separate) =
     specifications_names objects (scripts_names contents specs 0 [] _ scripts objects texts no_names tells) contents _ [] _ specs said
+=======
+pub job_names : (words : List (List ℕ)) (contents : List ℕ → Option (List ℕ)) (command : CommandWords) (specs : List Specification) (scripts : List (List ScriptLine)) (objects : List (List ℕ)) → IsJob words contents (Accepted command specs scripts objects) → HaveNames (map (lexicon objects) specs)
+job_names words contents _ _ _ _ (accepted command specs scripts objects spelled said tells separate plain) =
+    specifications_names objects (scripts_names contents specs 0 [] _ scripts objects no_names tells) contents _ [] _ specs said
+>>>>>>> theirs

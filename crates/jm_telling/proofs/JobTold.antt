@@ -10,7 +10,7 @@ use Rattle.jm_sync.specs.Cuts.{rest_of}
 use Rattle.jm_machine.specs.Meanings.{RuleDefinition}
 use Rattle.jm_print.specs.Told.{AreToldBy}
 use Rattle.jm_cli.specs.Words.{CommandWords}
-use Rattle.jm_cli.specs.Words.CommandWords.{Replay, Run, Check, Coenable, Gen, Sweep}
+use Rattle.jm_cli.specs.Words.CommandWords.{Replay, Run, Check, Coenable, Gen, Sweep, Audit}
 use Rattle.jm_inputs.specs.Sources.{Source, Named}
 use Rattle.jm_inputs.specs.Commands.{IsWithin, script_sources, workload_scripts}
 use Rattle.jm_inputs.specs.Specifications.{Specification, IsSpecification}
@@ -59,6 +59,7 @@ few_sources (Check specs) within = omega arith
 few_sources (Coenable specs) within = omega arith
 few_sources (Gen n) within = omega arith
 few_sources (Sweep spec recording) within = omega arith
+few_sources (Audit history specs scripts) within = omega (arith, within.1.1, length-map scripts (λ name. Named name))
 
 -- ---- specifications
 
@@ -85,8 +86,14 @@ histories_told objects scripts short lines number (s ∷ specs) (h ∷ hs) said 
   histories_told objects scripts short lines (number + 1) specs hs said.1 are.1,
 )
 
+<<<<<<< ours
 pub job_told : (words : List (List ℕ)) (contents : List ℕ → Option (List ℕ)) (command : CommandWords) (specs : List Specification) (scripts : List (List ScriptLine)) (objects : List (List ℕ)) (asked : List (List SyncLine)) (hs : List (List Entry)) → IsJob words contents (Accepted command specs scripts objects asked) → AreHistoriesFrom 0 specs scripts hs → AreToldBy (map (lexicon objects) specs) hs
 job_told words contents _ _ _ _ _ hs (accepted command specs scripts objects texts spelled said tells sound separate) are =
     let fits = fit_scripts contents specs 0 [] (script_sources command) scripts objects texts tells in
+=======
+pub job_told : (words : List (List ℕ)) (contents : List ℕ → Option (List ℕ)) (command : CommandWords) (specs : List Specification) (scripts : List (List ScriptLine)) (objects : List (List ℕ)) (hs : List (List Entry)) → IsJob words contents (Accepted command specs scripts objects) → AreHistoriesFrom 0 specs scripts hs → AreToldBy (map (lexicon objects) specs) hs
+job_told words contents _ _ _ _ hs (accepted command specs scripts objects spelled said tells separate plain) are =
+    let fits = fit_scripts contents specs 0 [] (script_sources command) scripts objects tells in
+>>>>>>> theirs
     let short : length scripts ≤ 16 = omega (arith, fits.many, few_sources command (few_named words command spelled)) in
     histories_told objects scripts short fits.lines 0 specs hs (each_said contents _ [] _ specs said) are

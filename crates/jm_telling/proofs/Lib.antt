@@ -11,3 +11,4 @@ pub mod JobTold
 pub mod FaultLemmas
 pub mod TokenLemmas
 pub mod PartLemmas
+pub mod AuditLemmas

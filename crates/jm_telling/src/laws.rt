@@ -1,20 +1,22 @@
 //! What holds of the histories of all accepted commands, of the first faults of all files, and of the tokens of all
 //! specifications.
-ghost use Rattle.std.specs.Prelude.{◌≡◌, ℕ, List, Option, map};
+ghost use Rattle.std.specs.Prelude.{◌≡◌, ◌++◌, ◌∷◌, [], ℕ, List, Option, Some, codes, map};
 ghost use Rattle.std.specs.List.{AllZip};
 ghost use Rattle.jm_model.specs.declared.fault.ScriptFault.{ScriptFault};
 ghost use Rattle.jm_model.specs.declared.fault.SpecFault.{SpecFault};
 ghost use Rattle.jm_model.specs.declared.step.Entry.{Entry};
 ghost use Rattle.jm_script.specs.declared.script.ScriptLine.{ScriptLine};
 ghost use Rattle.jm_sync.specs.declared.line.SyncLine.{SyncLine};
-ghost use Rattle.jm_cli.specs.Words.{CommandWords};
+ghost use Rattle.jm_cli.specs.Words.{CommandWords, command_of};
+ghost use Rattle.jm_cli.specs.Words.CommandWords.{Run, Audit};
 ghost use Rattle.jm_print.specs.Told.{HaveNames, AreToldBy, texts_of};
 ghost use Rattle.jm_sweep.specs.Recordings.{parts_of};
 ghost use Rattle.jm_inputs.specs.Specifications.{Specification, IsSpecFault};
 ghost use Rattle.jm_inputs.specs.Scripts.{IsScriptFault};
 ghost use Rattle.jm_inputs.specs.Recordings.{RecordedPart, IsRecording};
 ghost use Rattle.jm_top.specs.Histories.{AreHistoriesFrom, lexicon};
-ghost use Rattle.jm_inputs.specs.Jobs.{IsJob, Accepted};
+ghost use Rattle.jm_inputs.specs.Jobs.{IsJob, Accepted, AcceptedAudit, AreTold};
+ghost use Rattle.jm_top.specs.Texts.{IsTextOf};
 ghost use Rattle.jm_telling.specs.FirstFaults.{IsSameFault};
 ghost use Rattle.jm_telling.specs.Parts.{IsPartAlone};
 ghost use Rattle.jm_telling.specs.TokenLaws.{TokensTile, WordsAreMaximal, MarksAreLongest, TextsAreQuoted, OpenIsUnclosed};
@@ -47,6 +49,23 @@ pub fn text_tells_histories()
         → AreHistoriesFrom 0 specs scripts others
         → texts_of (map (lexicon objects) specs) hs ≡ texts_of (map (lexicon objects) specs) others
         → hs ≡ others }
+{}
+
+/// What `run` wrote is answered `yes`: where the words of an audit name the specifications and the scripts of a run, and
+/// a history that holds a text of the run, each text of the audit is `yes`, unless it is refused.
+pub fn what_run_wrote_is_answered_yes()
+    ensures { (words others : List (List ℕ)) (contents : List ℕ → Option (List ℕ))
+        → (history : List ℕ) (names files : List (List ℕ))
+        → (specs again : List Specification) (scripts reread : List (List ScriptLine))
+        → (objects renamed : List (List ℕ)) (asked : List (List SyncLine)) (text bytes said : List ℕ)
+        → IsJob words contents (Accepted (Run names files) specs scripts objects asked)
+        → IsTextOf (Accepted (Run names files) specs scripts objects asked) text
+        → AreTold others contents
+        → command_of others ≡ Some (Audit history names files)
+        → contents history ≡ Some text
+        → IsJob others contents (AcceptedAudit again reread renamed bytes)
+        → IsTextOf (AcceptedAudit again reread renamed bytes) said
+        → said ≡ codes "yes" ++ 10 ∷ [] }
 {}
 
 /// Each part of an accepted recording is a script by itself, with the same steps and objects as behind the parts before

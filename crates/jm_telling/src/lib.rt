@@ -10,5 +10,6 @@ mod laws;
 
 pub use laws::{
     inputs_have_names, marks_are_longest, one_script_fault, one_spec_fault, open_is_unclosed,
-    parts_are_scripts, text_tells_histories, texts_are_quoted, tokens_tile, words_are_maximal,
+    parts_are_scripts, text_tells_histories, texts_are_quoted, tokens_tile,
+    what_run_wrote_is_answered_yes, words_are_maximal,
 };

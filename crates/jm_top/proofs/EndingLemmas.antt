@@ -6,7 +6,7 @@ use Rattle.jm_inputs.specs.Causes.{IsBeforeWriting}
 use Rattle.jm_inputs.specs.Jobs.{IsCaused}
 use Rattle.jm_top.specs.Endings.{WritesText, IsText, Writes, Ends, Reports}
 use Rattle.jm_inputs.specs.declared.status.Status.{Status}
-use Rattle.jm_inputs.specs.declared.status.Status.TheVariants.{Done, Usage, BadSpec, BadScript, ReadFailed, WriteFailed, NoMemory}
+use Rattle.jm_inputs.specs.declared.status.Status.TheVariants.{Done, Usage, BadSpec, BadScript, ReadFailed, WriteFailed, NoMemory, BadHistory}
 
 appended-nil : (written : Option (List ℕ)) → appended written [] ≡ written
 appended-nil None = refl
@@ -26,6 +26,7 @@ module _ (words : List (List ℕ)) (contents : List ℕ → Option (List ℕ)) w
   writes_text (BadSpec f x) before after text is w = absurd w
   writes_text (BadScript f x) before after text is w = absurd w
   writes_text (ReadFailed f) before after text is w = absurd w
+  writes_text BadHistory before after text is w = absurd w
 
   -- nothing was given to it
   pub writes_nothing : (status : Status) (before : Option (List ℕ)) → IsBeforeWriting status → Writes words contents status before before
@@ -36,6 +37,7 @@ module _ (words : List (List ℕ)) (contents : List ℕ → Option (List ℕ)) w
   writes_nothing (BadSpec f x) before h = refl
   writes_nothing (BadScript f x) before h = refl
   writes_nothing (ReadFailed f) before h = refl
+  writes_nothing BadHistory before h = refl
 
   -- the work ended before anything was written
   pub ends_before : (status : Status) → IsBeforeWriting status → IsCaused words contents status → (faults later : ℕ) (sink : ℕ × Option (List ℕ)) → ((file : ℕ) → status ≡ ReadFailed file → HasRisen faults later) → Ends words contents faults later sink sink status
@@ -55,6 +57,7 @@ module _ (words : List (List ℕ)) (contents : List ℕ → Option (List ℕ)) w
   writing_caused (BadSpec f x) before after text w = absurd w
   writing_caused (BadScript f x) before after text w = absurd w
   writing_caused (ReadFailed f) before after text w = absurd w
+  writing_caused BadHistory before after text w = absurd w
 
 pub writing_reads_none : (status : Status) (before after : Option (List ℕ)) (text : List ℕ) → WritesText status before after text → (file : ℕ) → status ≡ ReadFailed file → ⊥
 writing_reads_none status before after text w file is = subst (λ s. WritesText s before after text) is w
@@ -77,6 +80,7 @@ reports_weaker P Q (BadSpec f x) before after weaker h = h
 reports_weaker P Q (BadScript f x) before after weaker h = h
 reports_weaker P Q (ReadFailed f) before after weaker h = h
 reports_weaker P Q WriteFailed before after weaker h = h
+reports_weaker P Q BadHistory before after weaker h = h
 
 -- where a status was meant with which the work may have ended
 module _ {words : List (List ℕ)} {contents : List ℕ → Option (List ℕ)} {faults later : ℕ} {sink after : ℕ × Option (List ℕ)} {status : Status} where

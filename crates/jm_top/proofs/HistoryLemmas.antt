@@ -50,7 +50,8 @@ use Rattle.jm_top.specs.Histories.{lexicon, IsTextOfHistories, IsTextOfOrdered}
 use Rattle.jm_top.proofs.LoneLemmas.{lone_order}
 use Rattle.jm_top.specs.Replays.{IsReplayOf, IsPrintedReplay}
 use Rattle.jm_inputs.proofs.OneReadingLemmas.{same_some}
-use Rattle.jm_top.proofs.PrintLemmas.{IsNamedStep, printable}
+use Rattle.jm_print.specs.Names.{IsNamedStep}
+use Rattle.jm_print.proofs.PrintLemmas.{printable}
 
 -- ---- bindings
 

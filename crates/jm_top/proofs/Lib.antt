@@ -1,4 +1,4 @@
-pub mod PrintLemmas
+pub mod SheetLemmas
 pub mod EndingLemmas
 pub mod NameLemmas
 pub mod LoneLemmas

@@ -24,7 +24,7 @@ use Rattle.jm_sweep.specs.Sweeps.{Fits, IsReplayOfPart}
 use Rattle.jm_inputs.specs.declared.library.Library.{Library}
 use Rattle.jm_inputs.specs.declared.specification.Loaded.{Loaded}
 use Rattle.jm_inputs.specs.declared.status.Status.{Status}
-use Rattle.jm_inputs.specs.declared.status.Status.TheVariants.{Done, Usage, BadSpec, BadScript, ReadFailed, WriteFailed, NoMemory}
+use Rattle.jm_inputs.specs.declared.status.Status.TheVariants.{Done, Usage, BadSpec, BadScript, ReadFailed, WriteFailed, NoMemory, BadHistory}
 use Rattle.jm_top.specs.declared.sweep.Piece.{Piece}
 use Rattle.jm_inputs.specs.Specifications.{Specification, most_bytes}
 use Rattle.jm_inputs.specs.Scripts.{catalog_of, IsScript, IsScriptFault, in_line, meaning_over}
@@ -176,6 +176,7 @@ module _ (library : Library) (bytes : List ℕ) (spans : List (ℕ × ℕ)) (spl
   turn_err small i span lt here count old before (BadSpec f x) h = absurd h
   turn_err small i span lt here count old before (ReadFailed f) h = absurd h
   turn_err small i span lt here count old before WriteFailed h = absurd h
+  turn_err small i span lt here count old before BadHistory h = absurd h
 
   pub all_turns : length bytes ≤ most_bytes → (i : ℕ) → length spans ≤ i → (count : ℕ) (text : List ℕ) → IsSwept (specs_in library) (map (span_text bytes) (take i spans)) count text → IsSweptWhole (specs_in library) bytes text
   all_turns small i all count text h =

@@ -9,7 +9,7 @@ use Rattle.jm_model.specs.declared.fault.SpecFault.TheVariants as spec
 use Rattle.jm_model.specs.declared.fault.ScriptFault.{ScriptFault}
 use Rattle.jm_model.specs.declared.fault.ScriptFault.TheVariants as script
 use Rattle.jm_inputs.specs.declared.status.Status.{Status}
-use Rattle.jm_inputs.specs.declared.status.Status.TheVariants.{Done, Usage, BadSpec, BadScript, ReadFailed, WriteFailed, NoMemory}
+use Rattle.jm_inputs.specs.declared.status.Status.TheVariants.{Done, Usage, BadSpec, BadScript, ReadFailed, WriteFailed, NoMemory, BadHistory}
 
 -- what too many things of a kind are called
 abbrev pub counted_words : Counted → Text
@@ -119,6 +119,7 @@ usage_text =
     ++ codes "       jmop coenable SPEC.." ++ 10 ∷ []
     ++ codes "       jmop gen N" ++ 10 ∷ []
     ++ codes "       jmop sweep SPEC RECORDING" ++ 10 ∷ []
+    ++ codes "       jmop audit HISTORY SPEC.. -- SCRIPT.." ++ 10 ∷ []
 
 -- what the error sink is given
 abbrev pub fault_text_of : Status → Text
@@ -129,3 +130,4 @@ fault_text_of (BadScript number fault) = fault_line (codes "script") number (scr
 fault_text_of (ReadFailed file) = unreadable_line file
 fault_text_of WriteFailed = codes "jmop: the output cannot be written" ++ 10 ∷ []
 fault_text_of NoMemory = codes "jmop: no memory" ++ 10 ∷ []
+fault_text_of BadHistory = codes "jmop: the history is too long" ++ 10 ∷ []

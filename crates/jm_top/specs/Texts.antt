@@ -1,15 +1,20 @@
 -- The text of a command.
-use Rattle.std.specs.Prelude.{ℕ, ◌≡◌, List, [], ◌∷◌, ◌++◌, length, slice_get, IfSome}
+use Rattle.std.specs.Prelude.{ℕ, ◌≡◌, List, [], ◌∷◌, ◌++◌, length, slice_get, IfSome, codes}
+use Rattle.std.specs.Fmt.{decimal}
 use Rattle.std.specs.List.{flat_map}
 use Rattle.jm_model.specs.Words.{Text, Mask}
 use Rattle.jm_semantics.specs.Families.{IsFamily}
 use Rattle.jm_machine.specs.HandlerNames.{names_of}
+use Rattle.jm_script.specs.declared.script.ScriptLine.{ScriptLine}
+use Rattle.jm_audit.specs.declared.verdict.Verdict.{Verdict}
+use Rattle.jm_audit.specs.declared.verdict.Verdict.TheVariants.{Yes, No}
+use Rattle.jm_audit.specs.Verdicts.{IsVerdict}
 use Rattle.jm_print.specs.Checks.{check_text}
 use Rattle.jm_print.specs.Coenables.{coenable_text}
-use Rattle.jm_cli.specs.Words.CommandWords.{Replay, Run, Check, Coenable, Gen, Sweep}
+use Rattle.jm_cli.specs.Words.CommandWords.{Replay, Run, Check, Coenable, Gen, Sweep, Audit}
 use Rattle.jm_inputs.specs.Specifications.{Specification, meaning_of}
-use Rattle.jm_top.specs.Histories.{IsTextOfOrdered, IsTextOfSummaries, IsTextOfParts}
-use Rattle.jm_inputs.specs.Jobs.{Job, Refused, Accepted, AcceptedParts}
+use Rattle.jm_top.specs.Histories.{IsTextOfHistories, IsTextOfOrdered, IsTextOfSummaries, IsTextOfParts}
+use Rattle.jm_inputs.specs.Jobs.{Job, Refused, Accepted, AcceptedParts, AcceptedAudit}
 
 -- what a specification declares
 abbrev pub declared_text : Specification → Text
@@ -32,6 +37,19 @@ IsTextOfFamilies [] text = text ≡ []
 IsTextOfFamilies (s ∷ specs) text =
     (first : Text) × (more : Text) × (text ≡ first ++ more) × IsTextOfFamily s first × IsTextOfFamilies specs more
 
+-- what is said of a verdict
+abbrev pub verdict_text : Verdict → Text
+verdict_text Yes = codes "yes" ++ 10 ∷ []
+verdict_text (No line) = codes "no, line " ++ decimal line ++ 10 ∷ []
+
+-- The text says the verdict on a history: whether it is a text that a run of the scripts over the specifications may
+-- print, or the line behind the greatest number of whole lines with which such a text begins too.
+pub record IsTextOfVerdict (specs : List Specification) (scripts : List (List ScriptLine)) (objects : List Text)
+    (history text : Text) : Type 0 where
+  pub verdict : Verdict
+  pub right : IsVerdict (IsTextOfHistories specs scripts objects) history verdict
+  pub printed : text ≡ verdict_text verdict
+
 -- the text is one of the job, which isn't refused
 abbrev pub IsTextOf : Job → Text → Type 0
 IsTextOf (Refused status) text = ⊥
@@ -43,4 +61,6 @@ IsTextOf (Accepted (Check names) specs scripts objects asked) text = text ≡ fl
 IsTextOf (Accepted (Coenable names) specs scripts objects asked) text = IsTextOfFamilies specs text
 IsTextOf (Accepted (Gen n) specs scripts objects asked) text = IsTextOfSummaries specs scripts text
 IsTextOf (Accepted (Sweep spec recording) specs scripts objects asked) text = ⊥
+IsTextOf (Accepted (Audit history names files) specs scripts objects asked) text = ⊥
 IsTextOf (AcceptedParts specs parts) text = IsTextOfParts specs parts text
+IsTextOf (AcceptedAudit specs scripts objects history) text = IsTextOfVerdict specs scripts objects history text

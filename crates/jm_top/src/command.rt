@@ -19,15 +19,16 @@ use std::thread::Threads;
 
 /// Does a command, and tells how it ended. `words` are those of the command line without the program's name.
 ///
-/// The order of work, and of refusals, is: the words; each specification in order, loaded, read and compiled; each
-/// script in order, loaded and read, and then the order that they ask for, or the recording, loaded, and each of its
-/// parts in order, read; their steps; the whole text; the text given to `out`; and last, where the status isn't `Done`,
-/// its text given to `err`. Out of memory may end the work at any point.
+/// The order of work, and of refusals, is: the words; the history that is audited, loaded; each specification in order,
+/// loaded, read and compiled; each script in order, loaded and read, and then the order that they ask for, or the
+/// recording, loaded, and each of its parts in order, read; their steps; the whole text; the text given to `out`; and
+/// last, where the status isn't `Done`, its text given to `err`. Out of memory may end the work at any point.
 ///
 /// At `Done` the text is that of the command's job. For `replay` and `run` it is, for each specification in order, a
 /// printed history that is legal for what the specification means, and an interleaving of the scripts' steps for it, in
 /// the order that the scripts ask for: what stands above a `post` comes before what stands below its waits;
 /// for `sweep` such a text of `replay` for each part of the recording, in order, whatever number of threads works; for
+/// `audit` whether the history is such a text of `run`, or the line behind the most whole lines that one shares; for
 /// `gen` the summaries of such histories over the workload's files; for `check` what the specifications declare, and
 /// for `coenable` their families. A refusal is the job's first fault in the order of work. `ReadFailed` and
 /// `WriteFailed` come only where the folder or the sink counted a fault. So where the job has no fault, it is told what

@@ -1,6 +1,6 @@
 //! The text of each command.
 ghost use Rattle.std.specs.Prelude.{map, string_bytes};
-ghost use Rattle.jm_cli.specs.Words.CommandWords.{Replay, Run, Check, Coenable, Gen, Sweep};
+ghost use Rattle.jm_cli.specs.Words.CommandWords.{Replay, Run, Check, Coenable, Gen, Sweep, Audit};
 ghost use Rattle.jm_cli.specs.Views.{command_words};
 ghost use Rattle.jm_gen.specs.Scripts.{IsInRange};
 ghost use Rattle.jm_inputs.specs.Sources.{FileContents};
@@ -8,18 +8,38 @@ ghost use Rattle.jm_inputs.specs.Commands.{AreFew, IsWithin};
 ghost use Rattle.jm_inputs.specs.Causes.{CountsFailedReads};
 ghost use Rattle.jm_top.specs.CarriedOut.{IsCarriedOut};
 
+use crate::audit::verdict_on;
 use crate::blocks::{declared, families};
 use crate::replay::replay;
 use crate::run::{run, run_in_short};
 use crate::sweep::sweep;
 use jm_cli::Command;
-use jm_inputs::{Status, load, read_inputs, read_specifications, read_workload, too_long};
+use jm_inputs::{
+    MOST_BYTES, Setting, Status, load, read_inputs, read_specifications, read_workload, too_long,
+};
 use jm_port::Folder;
 use jm_runner::Gate;
 use std::alloc::Global;
 use std::slice;
 use std::sync::Wait;
 use std::thread::Threads;
+
+/// The most bytes that a history may have.
+const MOST_OF_HISTORY: usize = 67_108_864;
+
+/// How scripts are read that are run.
+const TO_RUN: Setting = Setting {
+    files: 0,
+    steps: 0,
+    ordered: true,
+};
+
+/// How scripts are read that a history is audited with: it is loaded before them, and 2,000 steps at most are left.
+const TO_AUDIT: Setting = Setting {
+    files: 1,
+    steps: 198_000,
+    ordered: false,
+};
 
 /// The text of a command.
 pub(crate) fn make_text<R: Threads + Wait + Sync, F: Folder, G: Gate>(
@@ -42,6 +62,11 @@ pub(crate) fn make_text<R: Threads + Wait + Sync, F: Folder, G: Gate>(
         Command::Coenable { specs } => coenabled(alloc, specs.as_slice(), files),
         Command::Gen { n } => generated(rt, alloc, *n, gate),
         Command::Sweep { spec, recording } => swept(rt, alloc, spec, recording, files),
+        Command::Audit {
+            history,
+            specs,
+            scripts,
+        } => audited(alloc, history, specs.as_slice(), scripts.as_slice(), files),
     }
 }
 
@@ -56,7 +81,13 @@ fn replayed<F: Folder>(
         (Replay (string_bytes spec.now) (string_bytes script.now)) result }
     ensures read_failed { CountsFailedReads result (F.faults files.old) (F.faults files.new) }
 {
-    let inputs = read_inputs(alloc, slice::from_ref(spec), slice::from_ref(script), files)?;
+    let inputs = read_inputs(
+        alloc,
+        slice::from_ref(spec),
+        slice::from_ref(script),
+        TO_RUN,
+        files,
+    )?;
     let text = replay(alloc, inputs.library, inputs.scripts)?;
     Ok(text)
 }
@@ -76,7 +107,7 @@ fn ran<R: Threads + Wait + Sync, F: Folder, G: Gate>(
         (Run (map string_bytes specs.now) (map string_bytes scripts.now)) result }
     ensures read_failed { CountsFailedReads result (F.faults files.old) (F.faults files.new) }
 {
-    let inputs = read_inputs(alloc, specs, scripts, files)?;
+    let inputs = read_inputs(alloc, specs, scripts, TO_RUN, files)?;
     let text = run(rt, alloc, inputs.library, &inputs.scripts, gate)?;
     Ok(text)
 }
@@ -87,7 +118,7 @@ fn checked<F: Folder>(alloc: Global, specs: &[String], files: &mut F) -> Result<
     ensures carried_out { IsCarriedOut (F.holds files.old) (Check (map string_bytes specs.now)) result }
     ensures read_failed { CountsFailedReads result (F.faults files.old) (F.faults files.new) }
 {
-    let library = read_specifications(alloc, specs, false, files)?;
+    let library = read_specifications(alloc, specs, 0, false, files)?;
     let text = declared(alloc, &library.catalog, library.specs.as_slice())?;
     Ok(text)
 }
@@ -98,7 +129,7 @@ fn coenabled<F: Folder>(alloc: Global, specs: &[String], files: &mut F) -> Resul
     ensures carried_out { IsCarriedOut (F.holds files.old) (Coenable (map string_bytes specs.now)) result }
     ensures read_failed { CountsFailedReads result (F.faults files.old) (F.faults files.new) }
 {
-    let library = read_specifications(alloc, specs, true, files)?;
+    let library = read_specifications(alloc, specs, 0, true, files)?;
     let text = families(alloc, &library.catalog, library.specs.as_slice())?;
     Ok(text)
 }
@@ -130,7 +161,33 @@ fn swept<R: Threads + Sync, F: Folder>(
         (Sweep (string_bytes spec.now) (string_bytes recording.now)) result }
     ensures read_failed { CountsFailedReads result (F.faults files.old) (F.faults files.new) }
 {
-    let library = read_specifications(alloc, slice::from_ref(spec), false, files)?;
-    let bytes = load(recording.as_str(), 1, too_long(0), files)?;
+    let library = read_specifications(alloc, slice::from_ref(spec), 0, false, files)?;
+    let bytes = load(recording.as_str(), 1, MOST_BYTES, too_long(0), files)?;
     sweep(rt, alloc, &library, bytes.as_slice())
+}
+
+/// The text of `audit`.
+fn audited<F: Folder>(
+    alloc: Global,
+    history: &String,
+    specs: &[String],
+    scripts: &[String],
+    files: &mut F,
+) -> Result<Vec<u8>, Status>
+    requires specs { AreFew (map string_bytes specs.now) }
+    requires scripts { AreFew (map string_bytes scripts.now) }
+    ensures carried_out { IsCarriedOut (F.holds files.old)
+        (Audit (string_bytes history.now) (map string_bytes specs.now) (map string_bytes scripts.now)) result }
+    ensures read_failed { CountsFailedReads result (F.faults files.old) (F.faults files.new) }
+{
+    let bytes = load(
+        history.as_str(),
+        0,
+        MOST_OF_HISTORY,
+        Status::BadHistory,
+        files,
+    )?;
+    let inputs = read_inputs(alloc, specs, scripts, TO_AUDIT, files)?;
+    let text = verdict_on(alloc, &inputs, bytes.as_slice())?;
+    Ok(text)
 }

@@ -12,6 +12,7 @@ const USAGE: &str = "usage: jmop replay SPEC SCRIPT
        jmop coenable SPEC..
        jmop gen N
        jmop sweep SPEC RECORDING
+       jmop audit HISTORY SPEC.. -- SCRIPT..
 ";
 
 /// The text for the error sink: nothing for `Done`, the commands for `Usage`, and else one line.
@@ -42,6 +43,7 @@ pub fn fault_text(alloc: Global, status: &Status) -> Result<Vec<u8>, NoMemory>
         Status::ReadFailed { file } => unreadable(alloc, *file),
         Status::WriteFailed => bytes_of(alloc, "jmop: the output cannot be written\n"),
         Status::NoMemory => bytes_of(alloc, "jmop: no memory\n"),
+        Status::BadHistory => bytes_of(alloc, "jmop: the history is too long\n"),
     }
 }
 

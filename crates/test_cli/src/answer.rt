@@ -57,6 +57,18 @@ fn told(alloc: Global, command: &Command) -> Result<String, AllocError> {
             put_word(&mut out, spec.as_str())?;
             put_word(&mut out, recording.as_str())?;
         }
+        Command::Audit {
+            history,
+            specs,
+            scripts,
+        } => {
+            put_word(&mut out, "audit")?;
+            put_word(&mut out, history.as_str())?;
+            put_word(&mut out, "with")?;
+            put_names(&mut out, specs.as_slice())?;
+            put_word(&mut out, "over")?;
+            put_names(&mut out, scripts.as_slice())?;
+        }
         Command::Gen { n } => return format!(in alloc; "gen {n}"),
     }
     Ok(out)

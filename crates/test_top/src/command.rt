@@ -215,6 +215,7 @@ fn status_of(words: &str) -> Status {
             file: 4_294_967_295,
         },
         "write" => Status::WriteFailed,
+        "history" => Status::BadHistory,
         _ => Status::NoMemory,
     }
 }

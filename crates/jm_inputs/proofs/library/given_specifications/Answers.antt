@@ -22,8 +22,8 @@ returns-in_err-read_given-clause-err c = λ contents.
     let p = err_from_is_err_and c.from_residual.result c.from_residual.ensures.1 in
     let bytes = c.as_slice.result.now in
     rw (p.1, p.2) (library_ends (λ b. Given b) (λ file. file.items) contents contents (λ name. refl) false c.args.files.now c.loop-file.file-index c.file-item.result c.loop-file-test.true c.file-item.is bytes c.as_slice.ensures.value
-    c.loop-file.library _ (c.loop-file.invariant contents)
-    (spec_from contents false (specs_in c.loop-file.library) (length c.loop-file.library.specs.items) (Given bytes) bytes refl _ c.in_err-read_given.ensures.err))
+    0 c.loop-file.library _ (c.loop-file.invariant contents)
+    (spec_from contents false (specs_in c.loop-file.library) 0 (length c.loop-file.library.specs.items) (Given bytes) bytes refl _ c.in_err-read_given.ensures.err))
 
 pub loop-file-preserved : goal.loop-file-preserved
 loop-file-preserved c = λ contents.

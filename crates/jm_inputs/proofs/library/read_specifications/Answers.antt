@@ -10,7 +10,7 @@ use Rattle.jm_inputs.proofs.library.read_specifications.Goals as goal
 pub read_next-requires-clause-few : goal.read_next-requires-clause-few
 read_next-requires-clause-few g c =
     let many = library_count (λ n. Named n) string_bytes (g.F.Folder.holds c.args.files.now) c.args.families c.args.names.now c.loop-name.name-index c.loop-name.library (omega arith) c.loop-name.invariant.read in
-    omega (arith, many, c.requires, c.loop-name-test.true)
+    omega (arith, many, c.requires.few, c.loop-name-test.true)
 
 pub read_next-requires-clause-catalogued : goal.read_next-requires-clause-catalogued
 read_next-requires-clause-catalogued g c = c.loop-name.invariant.read.catalogued
@@ -19,7 +19,7 @@ pub returns-in_err-read_next-clause-err : goal.returns-in_err-read_next-clause-e
 returns-in_err-read_next-clause-err g c =
     let p = err_from_is_err_and c.from_residual.result c.from_residual.ensures.1 in
     rw (p.1, p.2) (library_ends (λ n. Named n) string_bytes (g.F.Folder.holds c.args.files.now) (g.F.Folder.holds c.loop-name.files) c.loop-name.invariant.same c.args.families c.args.names.now c.loop-name.name-index c.name-item.result c.loop-name-test.true c.name-item.is c.as_str.result.now c.as_str.ensures.value
-    c.loop-name.library _ c.loop-name.invariant.read c.in_err-read_next.ensures.err)
+    c.args.before c.loop-name.library _ c.loop-name.invariant.read c.in_err-read_next.ensures.err)
 
 pub returns-in_err-read_next-clause-read_failed : goal.returns-in_err-read_next-clause-read_failed
 returns-in_err-read_next-clause-read_failed g c = λ file is.

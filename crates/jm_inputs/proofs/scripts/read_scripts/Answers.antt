@@ -1,5 +1,10 @@
+<<<<<<< ours
 use Rattle.std.proofs.Common.{◌∙◌, length, sym, ap, subst, Err, arith}
 use Rattle.std.specs.Prelude.{map, string_bytes}
+=======
+use Rattle.std.proofs.Common.{◌∙◌, ◌+◌, length, sym, ap, Err, arith}
+use Rattle.std.specs.Prelude.{string_bytes}
+>>>>>>> theirs
 use Rattle.std.proofs.lemmas.Result.{err_from_is_err_and}
 use Rattle.jm_sync.specs.Checks.{sync_of}
 use Rattle.jm_inputs.specs.declared.status.Status.{Status}
@@ -14,7 +19,7 @@ use Rattle.jm_inputs.proofs.scripts.read_scripts.Goals as goal
 
 pub read_next-requires-clause-few : goal.read_next-requires-clause-few
 read_next-requires-clause-few g c =
-    let many = scripts_count (λ n. Named n) string_bytes (g.F.Folder.holds c.args.files.now) (specs_in c.args.library.now) c.args.names.now c.loop-name.name-index c.loop-name.scripts (omega arith) c.loop-name.invariant.read in
+    let many = scripts_count (λ n. Named n) string_bytes (g.F.Folder.holds c.args.files.now) (specs_in c.args.library.now) c.args.count c.args.names.now c.loop-name.name-index c.loop-name.scripts (omega arith) c.loop-name.invariant.read in
     omega (arith, many, c.requires.few, c.loop-name-test.true)
 
 pub read_next-requires-clause-counted : goal.read_next-requires-clause-counted
@@ -23,7 +28,7 @@ read_next-requires-clause-counted g c = c.loop-name.invariant.read.counted
 pub returns-in_err-read_next-clause-err : goal.returns-in_err-read_next-clause-err
 returns-in_err-read_next-clause-err g c =
     let p = err_from_is_err_and c.from_residual.result c.from_residual.ensures.1 in
-    rw (p.1, p.2) (scripts_end (λ n. Named n) string_bytes (g.F.Folder.holds c.args.files.now) (g.F.Folder.holds c.loop-name.files) c.loop-name.invariant.same (specs_in c.args.library.now) (length c.args.library.now.specs.items) c.args.names.now c.loop-name.name-index c.name-item.result c.loop-name-test.true c.name-item.is c.as_str.result.now c.as_str.ensures.value
+    rw (p.1, p.2) (scripts_end (λ n. Named n) string_bytes (g.F.Folder.holds c.args.files.now) (g.F.Folder.holds c.loop-name.files) c.loop-name.invariant.same (specs_in c.args.library.now) (c.args.before + length c.args.library.now.specs.items) c.args.count c.args.names.now c.loop-name.name-index c.name-item.result c.loop-name-test.true c.name-item.is c.as_str.result.now c.as_str.ensures.value
     c.loop-name.scripts _ c.loop-name.invariant.read c.in_err-read_next.ensures.err)
 
 pub returns-in_err-read_next-clause-read_failed : goal.returns-in_err-read_next-clause-read_failed
@@ -34,7 +39,7 @@ returns-in_err-read_next-clause-read_failed g c = λ file is.
 
 pub loop-name-preserved : goal.loop-name-preserved
 loop-name-preserved g c = record {
-  read = scripts_turn (λ n. Named n) string_bytes (g.F.Folder.holds c.args.files.now) (g.F.Folder.holds c.loop-name.files) c.loop-name.invariant.same (specs_in c.args.library.now) (length c.args.library.now.specs.items) c.args.names.now c.loop-name.name-index c.name-item.result c.loop-name-test.true c.name-item.is c.as_str.result.now c.as_str.ensures.value
+  read = scripts_turn (λ n. Named n) string_bytes (g.F.Folder.holds c.args.files.now) (g.F.Folder.holds c.loop-name.files) c.loop-name.invariant.same (specs_in c.args.library.now) (c.args.before + length c.args.library.now.specs.items) c.args.count c.args.names.now c.loop-name.name-index c.name-item.result c.loop-name-test.true c.name-item.is c.as_str.result.now c.as_str.ensures.value
       c.loop-name.scripts _ c.loop-name.invariant.read c.in_ok-read_next.ensures.read;
   never_falls = omega (arith, c.loop-name.invariant.never_falls, c.read_next.ensures.never_falls);
   same = λ other. c.read_next.ensures.same other ∙ c.loop-name.invariant.same other;
@@ -63,9 +68,13 @@ returns-in_err-check_order-clause-read_failed g c = λ file is.
     absurd (subst (λ (s : Status). IsNoOrder (sync_of c.as_slice.result.now) s) (sym p.2 ∙ same) c.in_err-check_order.ensures.err)
 
 pub returns-clause-read : goal.returns-clause-read
+<<<<<<< ours
 returns-clause-read g c =
     let names = c.args.names.now in
     let specs = specs_in c.args.library.now in
     let contents = g.F.Folder.holds c.args.files.now in
     let whole = whole_scripts (λ n. Named n) string_bytes contents specs names c.loop-name.name-index c.loop-name.scripts c.loop-name-test.false c.loop-name.invariant.read in
     in_order contents specs (length c.args.library.now.specs.items) (named (map string_bytes names)) c.loop-name.scripts whole (rw c.as_slice.ensures.value at c.in_ok-check_order.ensures.sound)
+=======
+returns-clause-read g c = whole_scripts (λ n. Named n) string_bytes (g.F.Folder.holds c.args.files.now) (specs_in c.args.library.now) c.args.count c.args.names.now c.loop-name.name-index c.loop-name.scripts c.loop-name-test.false c.loop-name.invariant.read
+>>>>>>> theirs

@@ -22,7 +22,11 @@ replay-requires-clause-one_spec g c =
 
 pub replay-requires-clause-one_script : goal.replay-requires-clause-one_script
 replay-requires-clause-one_script g c =
+<<<<<<< ours
     let many = scripts_length (λ n. Named n) string_bytes (g.F.Folder.holds c.args.files.now) (specs_in c.in_ok-inputs.inputs.library) c.from_ref-2.result.now c.in_ok-inputs.inputs.scripts c.in_ok-inputs.ensures.read.read.read in
+=======
+    let many = scripts_length (λ n. Named n) string_bytes (g.F.Folder.holds c.args.files.now) (specs_in c.in_ok-inputs.inputs.library) 0 c.from_ref-2.result.now c.in_ok-inputs.inputs.scripts c.in_ok-inputs.ensures.read.read in
+>>>>>>> theirs
     many ∙ c.from_ref-2.ensures.len
 
 pub replay-requires-clause-catalogued : goal.replay-requires-clause-catalogued

@@ -20,7 +20,7 @@ returns-in_err-bytes-clause-carried_out g c =
     let contents = g.F.Folder.holds c.args.files.now in
     let later = g.F.Folder.holds c.read_specifications.new.files in
     rw (p.1, p.2) (sweep_unloaded contents (string_bytes c.args.spec.now) (string_bytes c.args.recording.now) c.in_ok-library.library _ (rw c.from_ref.ensures.value at c.in_ok-library.ensures.read)
-    (not_loaded_before contents later c.read_specifications.ensures.same _ 1 _ _ (rw (c.too_long.ensures, c.as_str.ensures.value) at c.in_err-bytes.ensures.err)))
+    (not_loaded_before contents later c.read_specifications.ensures.same _ 1 _ _ _ (rw (c.too_long.ensures, c.as_str.ensures.value) at c.in_err-bytes.ensures.err)))
 
 pub returns-in_err-bytes-clause-read_failed : goal.returns-in_err-bytes-clause-read_failed
 returns-in_err-bytes-clause-read_failed g c = λ file is.

@@ -1,0 +1,317 @@
+-- The sheets of a library's specifications: the scripts that were read fit them, and what they allow is what is allowed over
+-- the specifications.
+use Rattle.std.proofs.Common.{◌≡◌, ℕ, zero, suc, ◌+◌, ◌^◌, ◌<◌, ◌≤◌, List, [], ◌∷◌, ◌++◌, length, get_or, map, length-append, pow-suc, refl, sym, ◌∙◌, ap, subst, inl, inr, arith}
+use Rattle.std.specs.Prelude.{◌⊎◌, All, Option, Some, None, slice_get, unwrap_or, option_map}
+use Rattle.std.specs.Option.{option_map_or}
+use Rattle.std.proofs.lemmas.Option.{slice_get-map, none-some, same_Some, slice_get-get_or}
+use Rattle.std.proofs.lemmas.List.{length-map, length_push}
+use Rattle.std.proofs.lemmas.List.Elements.{All-head, All-tail, All-map, All-weaker}
+use Rattle.jm_model.specs.Bindings.{object_at, objects_of, mask_of}
+use Rattle.jm_model.specs.Meanings.{Meaning}
+use Rattle.jm_model.specs.declared.binding.Binding.{Binding}
+use Rattle.jm_model.specs.declared.step.Step.{Step}
+use Rattle.jm_model.specs.declared.step.Step.TheVariants.{Event, Death, Pass}
+use Rattle.jm_semantics.specs.Legality.{IsStepOf}
+use Rattle.jm_semantics.specs.Scripts.{projection_of}
+use Rattle.jm_events.specs.Events.{EventDefinition, EventDefinitions}
+use Rattle.jm_print.specs.Lexicons.{Lexicon, lexicon_of}
+use Rattle.jm_print.specs.Names.{IsNamedStep}
+use Rattle.jm_script.specs.Catalogs.{CatalogEntry, table_of}
+use Rattle.jm_script.specs.Events.{mask_at}
+use Rattle.jm_script.specs.Fitting.{FitsCatalog, FitsSpecification}
+use Rattle.jm_script.specs.Projections.{script_of}
+use Rattle.jm_script.specs.declared.script.ScriptLine.{ScriptLine}
+use Rattle.jm_script.proofs.FittingLemmas.{projection_fits}
+use Rattle.jm_machine.specs.Meanings.{PropertyDefinition, RuleDefinition, handler_count, rules_meaning}
+use Rattle.jm_machine.specs.HandlerNames.{numbered, numbered_from, names_for, names_of}
+use Rattle.jm_inputs.specs.declared.specification.Loaded.{Loaded}
+use Rattle.jm_inputs.specs.declared.library.Library.{Library}
+use Rattle.jm_inputs.specs.declared.scripts.Scripts.{Scripts}
+use Rattle.jm_inputs.specs.Scripts.{entry_of, catalog_of}
+use Rattle.jm_inputs.specs.Reading.{Listed, named_entry, listing, listed, listed_in, AreRulesOf, specification_of, IsWhole, specs_in, IsCatalogued, AreCounted}
+use Rattle.jm_semantics.specs.Legality.{IsLegal}
+use Rattle.jm_semantics.specs.Scripts.{IsInterleaving}
+use Rattle.jm_model.specs.declared.step.Entry.{Entry}
+use Rattle.jm_print.specs.Told.{texts_of}
+use Rattle.jm_inputs.specs.Specifications.{Specification, meaning_of}
+use Rattle.jm_audit.specs.declared.verdict.Verdict.{Verdict}
+use Rattle.jm_audit.specs.declared.verdict.Verdict.TheVariants.{Yes, No}
+use Rattle.jm_audit.specs.Fronts.{IsReached}
+use Rattle.jm_audit.specs.Verdicts.{IsVerdict}
+use Rattle.jm_audit.specs.Allowed as audit
+use Rattle.jm_audit.specs.Allowed.{steps_on}
+use Rattle.jm_top.specs.Histories.{AreHistoriesFrom, lexicon, IsTextOfHistories}
+use Rattle.jm_audit.specs.Sheets.{IsFit, AreFit, FitSheets}
+
+-- ---- bindings
+named_object : (b : Binding) (n p o : ℕ) → All (λ q. q < n) (objects_of b) → object_at b p ≡ Some o → o < n
+named_object [] n p o all at = absurd cc
+named_object (None ∷ b) n zero o all at = absurd cc
+named_object (None ∷ b) n (suc p) o all at = named_object b n p o all at
+named_object (Some q ∷ b) n zero o all at = subst (λ x. x < n) (same_Some q o at) (All-head (λ x. x < n) q (objects_of b) all)
+named_object (Some q ∷ b) n (suc p) o all at = named_object b n p o (All-tail (λ x. x < n) q (objects_of b) all) at
+
+bound_parameter : (b : Binding) (n p o : ℕ) → mask_of b < 2 ^ n → object_at b p ≡ Some o → p < n
+bound_parameter [] n p o small at = absurd cc
+bound_parameter (None ∷ b) n zero o small at = absurd cc
+bound_parameter (None ∷ b) zero (suc p) o small at = absurd (omega (arith, bound_parameter b zero p o (omega (arith, small)) at))
+bound_parameter (None ∷ b) (suc n) (suc p) o small at = omega (arith, bound_parameter b n p o (omega (arith, small, pow-suc 2 n)) at)
+bound_parameter (Some q ∷ b) zero p o small at = absurd (omega (arith, small))
+bound_parameter (Some q ∷ b) (suc n) zero o small at = omega arith
+bound_parameter (Some q ∷ b) (suc n) (suc p) o small at = omega (arith, bound_parameter b n p o (omega (arith, small, pow-suc 2 n)) at)
+
+-- ---- the meaning of rules
+mask_there : (events : List EventDefinition) (e : ℕ) → unwrap_or (slice_get (map (λ (x : EventDefinition). x.mask) events) e) 0 ≡ option_map_or (λ (x : EventDefinition). x.mask) (slice_get events e) 0
+mask_there events e = ap (λ o. unwrap_or o 0) (slice_get-map (λ (x : EventDefinition). x.mask) events e) ∙ by_case (slice_get events e)
+  where
+    by_case : (o : Option EventDefinition) → unwrap_or (option_map (λ (x : EventDefinition). x.mask) o) 0 ≡ option_map_or (λ (x : EventDefinition). x.mask) o 0
+    by_case None = refl
+    by_case (Some x) = refl
+
+small_masks : (masks : List ℕ) (bound : ℕ) → 0 < bound → All (λ m. m < bound) masks → (e : ℕ) → unwrap_or (slice_get masks e) 0 < bound
+small_masks [] bound some all e = some
+small_masks (m ∷ masks) bound some all zero = All-head (λ x. x < bound) m masks all
+small_masks (m ∷ masks) bound some all (suc e) = small_masks masks bound some (All-tail (λ x. x < bound) m masks all) e
+
+power_some : (n : ℕ) → 0 < 2 ^ n
+power_some zero = omega arith
+power_some (suc n) = omega (arith, power_some n, pow-suc 2 n)
+
+abbrev categories : List PropertyDefinition → List (List (List ℕ))
+categories ps = map (λ (p : PropertyDefinition). p.handlers) ps
+
+count_numbered : (j : ℕ) (ps : List PropertyDefinition) → length (numbered_from j (categories ps)) ≡ handler_count ps
+count_numbered j [] = refl
+count_numbered j (p ∷ ps) =
+    omega (arith, length-append (map (numbered j) p.handlers) (numbered_from (j + 1) (categories ps)), length-map p.handlers (numbered j), count_numbered (j + 1) ps)
+
+-- Rules of an entry that has this number in a catalog.
+module _ (entry : CatalogEntry) (rules : RuleDefinition) (whole : AreRulesOf entry rules) (catalog : List CatalogEntry) (number : ℕ) (there : table_of catalog number ≡ entry.table) where
+  mask_of_rules : (e : ℕ) → mask_at (table_of catalog number) e ≡ unwrap_or (slice_get rules.masks e) 0
+  mask_of_rules e = ap (λ (x : EventDefinitions). mask_at x e) there ∙ sym (ap (λ ms. unwrap_or (slice_get ms e) 0) whole.masks ∙ mask_there entry.table.events e)
+
+  letters_of_rules : length (table_of catalog number).events ≡ length rules.masks
+  letters_of_rules = ap (λ (x : EventDefinitions). length x.events) there ∙ sym (ap (λ ms. length ms) whole.masks ∙ length-map entry.table.events (λ (e : EventDefinition). e.mask))
+
+  small_params : (e : ℕ) → mask_at (table_of catalog number) e < 2 ^ length entry.table.parameters
+  small_params e =
+      subst (λ m. m < 2 ^ length entry.table.parameters) (sym (mask_of_rules e)) (small_masks rules.masks (2 ^ length entry.table.parameters) (power_some (length entry.table.parameters)) whole.fit e)
+
+  own_step : (n : ℕ) (x : Step) → FitsSpecification catalog n number x → IsStepOf (rules_meaning rules) x
+  own_step n (Event e b) fits = (subst (λ k. e.0 < k) letters_of_rules fits.event.event, fits.eight, fits.event.parameters ∙ mask_of_rules e.0)
+  own_step n (Death o) fits = tt
+  own_step n Pass fits = tt
+
+  named_step : (l : Lexicon) (n : ℕ) → length l.events ≡ length entry.table.events → length l.parameters ≡ length entry.table.parameters → length l.objects ≡ n → (x : Step) → FitsSpecification catalog n number x
+      → IsNamedStep l x
+  named_step l n events parameters objects (Event e b) fits = (
+    subst (λ k. e.0 < k) (sym events) (subst (λ (x : EventDefinitions). e.0 < length x.events) there fits.event.event),
+    λ p o at. (
+      subst (λ k. p < k) (sym parameters) (bound_parameter b (length entry.table.parameters) p o (subst (λ m. m < 2 ^ length entry.table.parameters) (sym fits.event.parameters) (small_params e.0)) at),
+      subst (λ k. o < k) (sym objects) (named_object b n p o fits.named at),
+    ),
+  )
+  named_step l n events parameters objects (Death o) fits = subst (λ k. o < k) (sym objects) fits
+  named_step l n events parameters objects Pass fits = tt
+
+-- ---- what is kept of a specification in its library
+listed_at : (es : List CatalogEntry) (ls : List Loaded) (k : ℕ) (name : List ℕ) (table : EventDefinitions) (l : Loaded) → length es ≡ length ls
+    → option_map (λ e. e.name) (slice_get es k) ≡ Some name → option_map (λ e. e.table) (slice_get es k) ≡ Some table → l ≡ get_or ls k l
+    → slice_get (listed es ls) k ≡ Some (listing (named_entry name table) l)
+listed_at [] ls k name table l same named there here = absurd cc
+listed_at (e ∷ es) [] k name table l same named there here = absurd (omega (arith, same))
+listed_at (e ∷ es) (m ∷ ls) zero name table l same named there here =
+    λ i. Some (listing (named_entry (same_Some e.name name named i) (same_Some e.table table there i)) (sym here i))
+listed_at (e ∷ es) (m ∷ ls) (suc k) name table l same named there here = listed_at es ls k name table l (omega (arith, same)) named there here
+
+All-at : {X : Type 0} (P : X → Type 0) (xs : List X) (k : ℕ) (x : X) → All P xs → slice_get xs k ≡ Some x → P x
+All-at P [] k x all at = absurd (none-some x at)
+All-at P (y ∷ xs) zero x all at = subst P (same_Some y x at) (All-head P y xs all)
+All-at P (y ∷ xs) (suc k) x all at = All-at P xs k x (All-tail P y xs all) at
+
+at_map : {A B : Type 0} (f : A → B) (xs : List A) (k : ℕ) (x : A) → slice_get xs k ≡ Some x → slice_get (map f xs) k ≡ Some (f x)
+at_map {A} {B} f xs k x at = slice_get-map f xs k ∙ ap (option_map f) at
+
+table_at : (ls : List Listed) (k : ℕ) (l : Listed) → slice_get ls k ≡ Some l → table_of (catalog_of (map specification_of ls)) k ≡ l.entry.table
+table_at ls k l at =
+    ap (λ v. option_map_or (λ (x : CatalogEntry). x.table) v (record { parameters = []; events = [] })) (at_map entry_of (map specification_of ls) k (specification_of l) (at_map specification_of ls k l at))
+
+projected : (catalog : List CatalogEntry) (names number : ℕ) (scripts : List (List ScriptLine)) → All (FitsCatalog catalog names) scripts
+    → All (λ steps. All (λ (step : ℕ × Step). FitsSpecification catalog names number step.1) steps) (steps_on scripts number)
+projected catalog names number scripts fit =
+    All-map (λ steps. All (λ (step : ℕ × Step). FitsSpecification catalog names number step.1) steps) (λ script. projection_of (script_of script) number) scripts
+    (All-weaker (FitsCatalog catalog names) (λ script. All (λ (step : ℕ × Step). FitsSpecification catalog names number step.1) (projection_of (script_of script) number)) (λ script fits. projection_fits catalog names number script fits) scripts fit)
+
+count_names : (r : RuleDefinition) → length (names_of r) ≡ handler_count r.properties
+count_names r = count_for r.properties
+  where
+    count_for : (ps : List PropertyDefinition) → length (names_for (categories ps)) ≡ handler_count ps
+    count_for [] = refl
+    count_for (p ∷ []) = omega arith
+    count_for (p ∷ q ∷ ps) = count_numbered 0 (p ∷ q ∷ ps)
+
+-- the steps of the scripts fit the sheet of the specification of this number
+own_fits : (library : Library) (scripts : Scripts) → IsCatalogued library → AreCounted (specs_in library) scripts → (n : ℕ) (name : List ℕ) (table : EventDefinitions) (l : Loaded)
+    → option_map (λ e. e.name) (slice_get library.catalog n) ≡ Some name → option_map (λ e. e.table) (slice_get library.catalog n) ≡ Some table → l ≡ get_or library.specs.items n l
+    → AreFit (rules_meaning l.rules.definition) (lexicon_of name table (names_of l.rules.definition) scripts.objects l.titles.texts.items) (steps_on scripts.list.items n)
+own_fits library scripts catalogued counted n name table l named there here =
+    let rules = l.rules.definition in
+    let words : Lexicon = lexicon_of name table (names_of rules) scripts.objects l.titles.texts.items in
+    let entry : CatalogEntry = named_entry name table in
+    let catalog : List CatalogEntry = catalog_of (specs_in library) in
+    let at : slice_get (listed_in library) n ≡ Some (listing entry l) = listed_at library.catalog library.specs.items n name table l catalogued.many named there here in
+    let whole : AreRulesOf entry rules = All-at IsWhole (listed_in library) n (listing entry l) catalogued.kept at in
+    let table_there : table_of catalog n ≡ table = table_at (listed_in library) n (listing entry l) at in
+    record {
+      handlers = omega (arith, count_names rules);
+      steps = λ k own is.
+          All-weaker (λ (s : ℕ × Step). FitsSpecification catalog (length scripts.objects) n s.1) (λ (s : ℕ × Step). IsFit (rules_meaning rules) words s.1)
+          (λ s fits. (
+            own_step entry rules whole catalog n table_there (length scripts.objects) s.1 fits,
+            named_step entry rules whole catalog n table_there words (length scripts.objects) (length-map table.events (λ (e : EventDefinition). e.name)) refl refl s.1 fits,
+          )) own
+          (All-at (λ steps. All (λ (s : ℕ × Step). FitsSpecification catalog (length scripts.objects) n s.1) steps) (steps_on scripts.list.items n) k own (projected catalog (length scripts.objects) n scripts.list.items counted.fit) is);
+    }
+
+-- and so they do by any names that are the same
+pub sheet_fits : (library : Library) (scripts : Scripts) → IsCatalogued library → AreCounted (specs_in library) scripts → (n : ℕ) (name : List ℕ) (table : EventDefinitions) (l : Loaded)
+    → option_map (λ e. e.name) (slice_get library.catalog n) ≡ Some name → option_map (λ e. e.table) (slice_get library.catalog n) ≡ Some table → l ≡ get_or library.specs.items n l
+    → (words : Lexicon) → words ≡ lexicon_of name table (names_of l.rules.definition) scripts.objects l.titles.texts.items
+    → AreFit (rules_meaning l.rules.definition) words (steps_on scripts.list.items n)
+sheet_fits library scripts catalogued counted n name table l named there here words same =
+    subst (λ (w : Lexicon). AreFit (rules_meaning l.rules.definition) w (steps_on scripts.list.items n)) (sym same) (own_fits library scripts catalogued counted n name table l named there here)
+
+-- what is kept of the specification of this number
+pub kept_at : (library : Library) → IsCatalogued library → (n : ℕ) (name : List ℕ) (table : EventDefinitions) (l : Loaded)
+    → option_map (λ e. e.name) (slice_get library.catalog n) ≡ Some name → option_map (λ e. e.table) (slice_get library.catalog n) ≡ Some table → l ≡ get_or library.specs.items n l
+    → (t : Specification) → slice_get (specs_in library) n ≡ Some t → specification_of (listing (named_entry name table) l) ≡ t
+kept_at library catalogued n name table l named there here t at =
+    let listed : slice_get (listed_in library) n ≡ Some (listing (named_entry name table) l) = listed_at library.catalog library.specs.items n name table l catalogued.many named there here in
+    same_Some _ t (sym (at_map specification_of (listed_in library) n (listing (named_entry name table) l) listed) ∙ at)
+
+-- ---- sheet by sheet
+pub many_more : {X : Type 0} (xs ys : List X) (x : X) (n : ℕ) → ys ≡ xs ++ x ∷ [] → length xs ≡ n → length ys ≡ n + 1
+many_more xs ys x n is many =
+    let grown : length ys ≡ length (xs ++ x ∷ []) = ap (λ v. length v) is in
+    omega (arith, grown, length_push xs x, many)
+
+one_more : {X : Type 0} (xs : List X) (x : X) (n : ℕ) (y : X) → slice_get (xs ++ x ∷ []) n ≡ Some y → (slice_get xs n ≡ Some y) ⊎ ((n ≡ length xs) × (x ≡ y))
+one_more [] x zero y at = inr (refl, same_Some x y at)
+one_more [] x (suc n) y at = absurd (none-some y at)
+one_more (z ∷ xs) x zero y at = inl at
+one_more (z ∷ xs) x (suc n) y at = elim (one_more xs x n y at) [
+  | inl other ↦ inl other
+  | inr last ↦ inr (ap suc last.0, last.1)
+]
+
+module _ {X : Type 0} (mean : X → Meaning) (words : X → Lexicon) (scripts : List (List ScriptLine)) where
+  pub fit_none : (xs : List X) → xs ≡ [] → FitSheets mean words scripts xs
+  fit_none xs none = subst (λ (ys : List X). FitSheets mean words scripts ys) (sym none) (λ n x at. absurd (none-some x at))
+
+  pub fit_more : (xs ys : List X) (x : X) (n : ℕ) → ys ≡ xs ++ x ∷ [] → length xs ≡ n → FitSheets mean words scripts xs → AreFit (mean x) (words x) (steps_on scripts n)
+      → FitSheets mean words scripts ys
+  fit_more xs ys x n is many all here =
+      subst (λ (zs : List X). FitSheets mean words scripts zs) (sym is)
+      (λ k y at. elim (one_more xs x k y at) [
+        | inl other ↦ all k y other
+        | inr last ↦
+            subst (λ (z : X). AreFit (mean z) (words z) (steps_on scripts k)) last.1
+            (subst (λ (j : ℕ). AreFit (mean x) (words x) (steps_on scripts j)) (sym (last.0 ∙ many)) here)
+      ])
+
+  -- ---- what sheets allow
+  -- each sheet is that of the specification of its place
+  abbrev pub AreSheetsOf : List X → List Specification → List (List ℕ) → Type 0
+  AreSheetsOf xs ts objects = (k : ℕ) (x : X) (t : Specification) → slice_get xs k ≡ Some x → slice_get ts k ≡ Some t
+      → (mean x ≡ meaning_of t) × (words x ≡ lexicon objects t)
+
+  pub sheets_none : (xs : List X) (ts : List Specification) (objects : List (List ℕ)) → xs ≡ [] → AreSheetsOf xs ts objects
+  sheets_none xs ts objects none = subst (λ (ys : List X). AreSheetsOf ys ts objects) (sym none) (λ k x t at there. absurd (none-some x at))
+
+  pub sheets_more : (xs ys : List X) (x : X) (n : ℕ) (ts : List Specification) (objects : List (List ℕ)) → ys ≡ xs ++ x ∷ [] → length xs ≡ n → AreSheetsOf xs ts objects
+      → ((t : Specification) → slice_get ts n ≡ Some t → (mean x ≡ meaning_of t) × (words x ≡ lexicon objects t)) → AreSheetsOf ys ts objects
+  sheets_more xs ys x n ts objects is many all here =
+      subst (λ (zs : List X). AreSheetsOf zs ts objects) (sym is)
+      (λ k y t at there. elim (one_more xs x k y at) [
+        | inl other ↦ all k y t other there
+        | inr last ↦
+            subst (λ (z : X). (mean z ≡ meaning_of t) × (words z ≡ lexicon objects t)) last.1 (here t (ap (slice_get ts) (sym (last.0 ∙ many)) ∙ there))
+      ])
+
+  same_words : (xs : List X) (ts : List Specification) (objects : List (List ℕ)) → length xs ≡ length ts → AreSheetsOf xs ts objects → map words xs ≡ map (lexicon objects) ts
+  same_words [] [] objects many same = refl
+  same_words [] (t ∷ ts) objects many same = absurd (omega (arith, many))
+  same_words (x ∷ xs) [] objects many same = absurd (omega (arith, many))
+  same_words (x ∷ xs) (t ∷ ts) objects many same =
+      let first : words x ≡ lexicon objects t = (same 0 x t refl refl).1 in
+      let rest = same_words xs ts objects (omega (arith, many)) (λ k. same (suc k)) in
+      λ i. first i ∷ rest i
+
+  histories_to : (n : ℕ) (xs : List X) (ts : List Specification) (objects : List (List ℕ)) (hs : List (List Entry)) → length xs ≡ length ts → AreSheetsOf xs ts objects
+      → audit.AreHistoriesFrom mean words scripts n xs hs → AreHistoriesFrom n ts scripts hs
+  histories_to n [] [] objects [] many same each = tt
+  histories_to n [] [] objects (h ∷ hs) many same each = absurd each
+  histories_to n [] (t ∷ ts) objects hs many same each = absurd (omega (arith, many))
+  histories_to n (x ∷ xs) [] objects hs many same each = absurd (omega (arith, many))
+  histories_to n (x ∷ xs) (t ∷ ts) objects [] many same each = absurd each
+  histories_to n (x ∷ xs) (t ∷ ts) objects (h ∷ hs) many same each = (
+    record { legal = subst (λ (m : Meaning). IsLegal m h) (same 0 x t refl refl).0 each.0.legal; woven = each.0.woven },
+    histories_to (n + 1) xs ts objects hs (omega (arith, many)) (λ k. same (suc k)) each.1,
+  )
+
+  histories_from : (n : ℕ) (xs : List X) (ts : List Specification) (objects : List (List ℕ)) (hs : List (List Entry)) → length xs ≡ length ts → AreSheetsOf xs ts objects
+      → AreHistoriesFrom n ts scripts hs → audit.AreHistoriesFrom mean words scripts n xs hs
+  histories_from n [] [] objects [] many same each = tt
+  histories_from n [] [] objects (h ∷ hs) many same each = absurd each
+  histories_from n [] (t ∷ ts) objects hs many same each = absurd (omega (arith, many))
+  histories_from n (x ∷ xs) [] objects hs many same each = absurd (omega (arith, many))
+  histories_from n (x ∷ xs) (t ∷ ts) objects [] many same each = absurd each
+  histories_from n (x ∷ xs) (t ∷ ts) objects (h ∷ hs) many same each = (
+    record { legal = subst (λ (m : Meaning). IsLegal m h) (sym (same 0 x t refl refl).0) each.0.legal; woven = each.0.woven },
+    histories_from (n + 1) xs ts objects hs (omega (arith, many)) (λ k. same (suc k)) each.1,
+  )
+
+  module _ (xs : List X) (ts : List Specification) (objects : List (List ℕ)) (many : length xs ≡ length ts) (same : AreSheetsOf xs ts objects) where
+    allowed_to : (text : List ℕ) → audit.IsAllowed mean words scripts xs text → IsTextOfHistories ts scripts objects text
+    allowed_to text h = record {
+      histories = h.histories;
+      each = histories_to 0 xs ts objects h.histories many same h.each;
+      printed = h.printed ∙ ap (λ ls. texts_of ls h.histories) (same_words xs ts objects many same);
+    }
+
+    allowed_from : (text : List ℕ) → IsTextOfHistories ts scripts objects text → audit.IsAllowed mean words scripts xs text
+    allowed_from text h = record {
+      histories = h.histories;
+      each = histories_from 0 xs ts objects h.histories many same h.each;
+      printed = h.printed ∙ ap (λ ls. texts_of ls h.histories) (sym (same_words xs ts objects many same));
+    }
+
+    reached_to : (text : List ℕ) (n : ℕ) → IsReached (audit.IsAllowed mean words scripts xs) text n → IsReached (IsTextOfHistories ts scripts objects) text n
+    reached_to text n h = record {
+      front = h.front;
+      lines = h.lines;
+      many = h.many;
+      here = h.here;
+      allowed = h.allowed;
+      is_allowed = allowed_to h.allowed h.is_allowed;
+      there = h.there;
+    }
+
+    reached_from : (text : List ℕ) (n : ℕ) → IsReached (IsTextOfHistories ts scripts objects) text n → IsReached (audit.IsAllowed mean words scripts xs) text n
+    reached_from text n h = record {
+      front = h.front;
+      lines = h.lines;
+      many = h.many;
+      here = h.here;
+      allowed = h.allowed;
+      is_allowed = allowed_from h.allowed h.is_allowed;
+      there = h.there;
+    }
+
+    -- the verdict over the sheets is that over the specifications
+    pub verdict_to : (text : List ℕ) (v : Verdict) → IsVerdict (audit.IsAllowed mean words scripts xs) text v → IsVerdict (IsTextOfHistories ts scripts objects) text v
+    verdict_to text Yes h = allowed_to text h
+    verdict_to text (No line) h = (
+      λ is. h.0 (allowed_from text is),
+      (h.1.0, h.1.1, reached_to text h.1.0 h.1.2, λ n reached. h.1.3 n (reached_from text n reached)),
+    )

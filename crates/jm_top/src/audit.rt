@@ -1,0 +1,70 @@
+//! Auditing a history.
+ghost use Rattle.std.specs.Prelude.{◌≡◌, ◌≤◌, length, IfOk};
+ghost use Rattle.jm_audit.specs.Verdicts.{IsVerdict};
+ghost use Rattle.jm_inputs.specs.Reading.{specs_in, IsCatalogued, AreCounted};
+ghost use Rattle.jm_top.specs.Histories.{IsTextOfHistories};
+ghost use Rattle.jm_top.specs.Texts.{verdict_text, IsTextOfVerdict};
+
+use jm_audit::{Sheet, Verdict, audit};
+use jm_inputs::Inputs;
+use jm_model::NoMemory;
+use std::alloc::Global;
+
+/// What is said of a history, over the specifications and the scripts that were read.
+pub(crate) fn verdict_on(
+    alloc: Global,
+    inputs: &Inputs,
+    history: &[u8],
+) -> Result<Vec<u8>, NoMemory>
+    requires specs { length inputs.now.library.specs.items ≤ 16 }
+    requires scripts { length inputs.now.scripts.list.items ≤ 16 }
+    requires catalogued { IsCatalogued inputs.now.library }
+    requires counted { AreCounted (specs_in inputs.now.library) inputs.now.scripts }
+    ensures { IfOk result (λ text. IsTextOfVerdict (specs_in inputs.now.library) inputs.now.scripts.list.items
+        inputs.now.scripts.objects history.now text.items) }
+{
+    let verdict = verdict(alloc, inputs, history)?;
+    said(alloc, &verdict)
+}
+
+/// The verdict on a history.
+fn verdict(alloc: Global, inputs: &Inputs, history: &[u8]) -> Result<Verdict, NoMemory>
+    requires specs { length inputs.now.library.specs.items ≤ 16 }
+    requires scripts { length inputs.now.scripts.list.items ≤ 16 }
+    requires catalogued { IsCatalogued inputs.now.library }
+    requires counted { AreCounted (specs_in inputs.now.library) inputs.now.scripts }
+    ensures { IfOk result (IsVerdict (IsTextOfHistories (specs_in inputs.now.library) inputs.now.scripts.list.items
+        inputs.now.scripts.objects) history.now) }
+{
+    let library = &inputs.library;
+    let scripts = &inputs.scripts;
+    let mut sheets = Vec::new(alloc);
+    for number in 0..library.catalog.len() {
+        let loaded = &library.specs[number as usize];
+        sheets.push(Sheet {
+            rules: &loaded.rules,
+            name: library.catalog.name(number),
+            table: library.catalog.table(number),
+            categories: loaded.rules.handlers(),
+            handlers: loaded.titles.texts.as_slice(),
+        })?;
+    }
+    audit(
+        alloc,
+        sheets.as_slice(),
+        scripts.list.as_slice(),
+        &scripts.objects,
+        history,
+    )
+}
+
+/// What is said of a verdict.
+fn said(alloc: Global, verdict: &Verdict) -> Result<Vec<u8>, NoMemory>
+    ensures { IfOk result (λ text. text.items ≡ verdict_text verdict.now) }
+{
+    let text = match verdict {
+        Verdict::Yes => format!(in alloc; "yes\n")?,
+        Verdict::No { line } => format!(in alloc; "no, line {line}\n")?,
+    };
+    Ok(text.into_bytes())
+}
