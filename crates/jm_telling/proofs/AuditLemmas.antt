@@ -10,7 +10,7 @@ use Rattle.jm_script.specs.Meanings.{LineMeaning, ScriptMeaning, step_meaning, s
 use Rattle.jm_script.specs.declared.script.ScriptLine.{ScriptLine}
 use Rattle.jm_sync.specs.declared.line.SyncLine.{SyncLine}
 use Rattle.jm_sync.specs.Cuts.{rest_of}
-use Rattle.jm_cli.specs.Words.{CommandWords, command_of}
+use Rattle.jm_cli.specs.Words.{command_of}
 use Rattle.jm_cli.specs.Words.CommandWords.{Run, Audit}
 use Rattle.jm_audit.specs.declared.verdict.Verdict.{Verdict}
 use Rattle.jm_audit.specs.declared.verdict.Verdict.TheVariants.{Yes, No}

@@ -20,7 +20,7 @@ use Rattle.jm_sync.specs.declared.line.SyncKind.TheVariants.{Post, Wait}
 use Rattle.jm_sync.specs.declared.line.SyncLine.{SyncLine}
 use Rattle.jm_sync.specs.Checks.{line_at, Reachable, at_post, at_wait, AreSound}
 use Rattle.jm_sync.specs.Cuts.{RisesFrom as SyncRisesFrom}
-use Rattle.jm_runner.specs.Orders.{post_at, wait_at, StandBefore, HasAbove, AreBehind, IsOrdered}
+use Rattle.jm_runner.specs.Orders.{post_at, wait_at, StandBefore, AreBehind, IsOrdered}
 use Rattle.jm_runner.proofs.LineLemmas.{sync_rises}
 use Rattle.jm_runner.proofs.OrderLemmas.{gives_order}
 use Rattle.jm_runner.proofs.PlaceLemmas.{contains_at}
