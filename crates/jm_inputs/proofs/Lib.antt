@@ -5,6 +5,7 @@ pub mod InputLemmas
 pub mod RecordingLemmas
 pub mod OrderLemmas
 pub mod SilentLemmas
+pub mod NameLemmas
 pub mod JobLemmas
 pub mod LibraryLemmas
 pub mod ScriptLemmas

@@ -5,6 +5,7 @@ use Rattle.jm_script.specs.declared.script.ScriptLine.{ScriptLine}
 use Rattle.jm_script.specs.Catalogs.{CatalogEntry}
 use Rattle.jm_script.specs.Fitting.{FitsCatalog}
 use Rattle.jm_script.specs.Meanings.{RisesFrom as StepsRiseFrom}
+use Rattle.jm_script.specs.Objects.{IsExtension}
 use Rattle.jm_sync.specs.declared.line.Cut.{Cut}
 use Rattle.jm_sync.specs.declared.line.SyncLine.{SyncLine}
 use Rattle.jm_sync.specs.Checks.{AreSound, sync_of}
@@ -140,6 +141,13 @@ pub record HasSteps (specs : List Specification) (bytes : Text) (lines : List Sy
   pub asked : cut.lines.items ≡ lines
   pub cuts : new.cuts.items ≡ old.cuts.items ++ cut ∷ []
   pub posted : new.posted ≡ old.posted
+
+-- no script more was read: the others are as before, and there may be new names of objects at the end
+pub record AreLeft (old new : Scripts) : Type 0 where
+  pub list : new.list.items ≡ old.list.items
+  pub cuts : new.cuts.items ≡ old.cuts.items
+  pub posted : new.posted ≡ old.posted
+  pub names : IsExtension old.objects new.objects
 
 -- there is one script more, which the bytes of this file say, and what it asks for
 pub record HasScript (ordered : Bool) (specs : List Specification) (bytes : Text) (old new : Scripts) : Type 0 where

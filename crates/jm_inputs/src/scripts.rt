@@ -1,23 +1,22 @@
 //! The scripts of a command, read one behind the other.
-ghost use Rattle.std.specs.Prelude.{◌≡◌, ◌+◌, ◌<◌, ◌≤◌, [], ℕ, List, false, length, map, IfOk, IfErr, OnOk, string_bytes};
+ghost use Rattle.std.specs.Prelude.{◌≡◌, ◌+◌, ◌<◌, ◌≤◌, [], ℕ, List, length, map, take, Some, IfOk, IfErr, OnOk, string_bytes};
 ghost use Rattle.jm_model.specs.declared.fault.ScriptFault.{ScriptFault};
 ghost use Rattle.jm_inputs.specs.Commands.{named, given_files};
 ghost use Rattle.jm_inputs.specs.Sources.{FileContents, Named};
 ghost use Rattle.jm_inputs.specs.Specifications.{Specification, most_bytes};
 ghost use Rattle.jm_sync.specs.Checks.{AreSound, sync_of};
-ghost use Rattle.jm_inputs.specs.Scripts.{meaning_over, IsScriptFileFault, IsSilent};
-ghost use Rattle.jm_inputs.specs.Reading.{specs_in, IsCatalogued, AreCounted, HasSteps, HasScript, HasScriptFrom, AreScriptsOf};
+ghost use Rattle.jm_inputs.specs.Scripts.{meaning_over, IsScriptFileFault};
+ghost use Rattle.jm_inputs.specs.Reading.{specs_in, IsCatalogued, AreCounted, HasSteps, AreLeft, HasScript, HasScriptFrom, AreScriptsOf};
 ghost use Rattle.jm_inputs.specs.Causes.{CountsFailedReads, IsNoOrder, IsNoScript, IsNoScriptFileIn, StopsScripts};
 
 use crate::files::load;
 use crate::library::Library;
 use crate::status::{MOST_BYTES, Status};
 use jm_events::Names;
-use jm_model::{ScriptError, ScriptFault};
+use jm_model::{NoMemory, ScriptError, ScriptFault};
 use jm_port::Folder;
 use jm_script::{Script, read_script};
 use jm_sync::{Cut, SyncError, SyncLine, check, cut};
-use memchr::memmem::find;
 use std::alloc::Global;
 
 /// How the scripts of a command are read.
@@ -220,7 +219,8 @@ fn read_bytes(
     }
 }
 
-/// Reads the script that these bytes say, behind the others. Of its cut the lines are kept that ask for order.
+/// Reads the script that these bytes say, behind the others. It is read as it stands, and again without the lines that
+/// ask for order where it has a fault so: as it stands each of these is one.
 fn add(
     alloc: Global,
     bytes: &[u8],
@@ -236,11 +236,29 @@ fn add(
     ensures fault { (fault : ScriptFault) → result ≡ Err (ScriptError.Bad fault)
         → IsScriptFileFault ordered (specs_in library.now) scripts.old.count scripts.old.objects bytes.now fault }
 {
-    if ordered && asks(bytes) {
-        let Cut { rest, lines } = cut(alloc, bytes, &mut scripts.posted)?;
-        return add_steps(alloc, rest.as_slice(), lines, library, scripts);
+    let names = scripts.objects.len();
+    let count = scripts.count;
+    match add_steps(alloc, bytes, Vec::new(alloc), library, scripts) {
+        Err(ScriptError::Bad(_)) if ordered => {
+            scripts.objects = first_names(alloc, &scripts.objects, names)?;
+            scripts.count = count;
+            let Cut { rest, lines } = cut(alloc, bytes, &mut scripts.posted)?;
+            add_steps(alloc, rest.as_slice(), lines, library, scripts)
+        }
+        result => result,
     }
-    add_steps(alloc, bytes, Vec::new(alloc), library, scripts)
+}
+
+/// The first so many of these names, under the same numbers.
+fn first_names(alloc: Global, names: &Names, count: u32) -> Result<Names, NoMemory>
+    requires { count ≤ length names.now }
+    ensures { IfOk result (λ first. first ≡ take count names.now) }
+{
+    let mut first = Names::new(alloc);
+    for number in 0..count {
+        first.add(names.name(number))?;
+    }
+    Ok(first)
 }
 
 /// Reads the script that these bytes say, and adds it with the lines that ask for order.
@@ -258,6 +276,7 @@ fn add_steps(
     ensures read { OnOk result (HasSteps (specs_in library.now) bytes.now lines.items scripts.old scripts.new) }
     ensures fault { (fault : ScriptFault) → result ≡ Err (ScriptError.Bad fault)
         → (meaning_over (specs_in library.now) scripts.old.count scripts.old.objects bytes.now).fault ≡ Some fault }
+    ensures left { (fault : ScriptFault) → result ≡ Err (ScriptError.Bad fault) → AreLeft scripts.old scripts.new }
 {
     let script = read_script(
         alloc,
@@ -272,11 +291,4 @@ fn add_steps(
         lines,
     })?;
     Ok(())
-}
-
-/// Whether some line of a script may ask for order. Where none does, it mostly says so.
-fn asks(bytes: &[u8]) -> bool
-    ensures { result ≡ false → IsSilent bytes.now }
-{
-    find(bytes, b"post").is_some() || find(bytes, b"wait").is_some()
 }
