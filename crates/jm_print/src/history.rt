@@ -154,6 +154,7 @@ impl Printer<'_> {
     }
 
     /// An entry, with the lines that follow.
+    #[inline(always)]
     fn entry(&self, page: &mut Page, entry: &Entry) -> Result<(), NoMemory>
         requires { IsPrintable self.now entry.now }
         ensures { OnOk result (page.new ≡ page.old ++ full_entry_text self.now entry.now) }
@@ -166,6 +167,7 @@ impl Printer<'_> {
     }
 
     /// What is said of a step of an entry and its outcome.
+    #[inline(always)]
     fn step(
         &self,
         page: &mut Page,
