@@ -177,7 +177,14 @@ fn read_next<F: Folder>(
     let number = scripts.list.len() as u32;
     let specs = setting.files + library.specs.len() as u32;
     let bytes = load(name, specs + number, MOST_BYTES, too_long(number), files)?;
-    read_bytes(alloc, bytes.as_slice(), number, library, setting.ordered, scripts)
+    read_bytes(
+        alloc,
+        bytes.as_slice(),
+        number,
+        library,
+        setting.ordered,
+        scripts,
+    )
 }
 
 /// The end of a command whose script of this number is too long.
