@@ -1,5 +1,7 @@
 //! The scripts of a command, read one behind the other.
-ghost use Rattle.std.specs.Prelude.{◌≡◌, ◌+◌, ◌<◌, ◌≤◌, [], ℕ, List, length, map, take, Some, IfOk, IfErr, OnOk, string_bytes};
+ghost use Rattle.std.specs.Prelude.{◌≡◌, ◌+◌, ◌<◌, ◌≤◌, [], ℕ, List, true, length, map, take, Some, IfOk, IfErr, OnOk, string_bytes};
+ghost use Rattle.std.specs.List.{IsDistinct};
+ghost use Rattle.std.specs.Str.{bytes_eq};
 ghost use Rattle.jm_model.specs.declared.fault.ScriptFault.{ScriptFault};
 ghost use Rattle.jm_inputs.specs.Commands.{named, given_files};
 ghost use Rattle.jm_inputs.specs.Sources.{FileContents, Named};
@@ -258,7 +260,8 @@ fn add(
 
 /// The first so many of these names, under the same numbers.
 fn first_names(alloc: Global, names: &Names, count: u32) -> Result<Names, NoMemory>
-    requires { count ≤ length names.now }
+    requires count { count ≤ length names.now }
+    requires distinct { IsDistinct bytes_eq (take count names.now) }
     ensures { IfOk result (λ first. first ≡ take count names.now) }
 {
     let mut first = Names::new(alloc);

@@ -63,17 +63,18 @@ behind_line line (Some target) m e = e
 
 silent : (catalog : List CatalogEntry) (count line : ℕ) (names lines : List (List ℕ)) → (lines_meaning catalog count line names lines).fault ≡ None → AreSilent lines
 silent catalog count line names [] e = tt
-silent catalog count line names (bytes ∷ lines) e = by_request (request_of bytes) refl
+silent catalog count line names (bytes ∷ lines) e = by_request (λ c o sound. silent catalog c (line + 1) o lines sound) (request_of bytes) refl
   where
-    by_meaning : (m : Result LineMeaning ScriptFault) → (led_by line count names m (λ count_then names_then. lines_meaning catalog count_then (line + 1) names_then lines)).fault ≡ None → AreSilent lines
-    by_meaning (Err fault) e = absurd (never_some (sym e))
-    by_meaning (Ok m) e = silent catalog (count + steps_of m.target) (line + 1) m.names lines (behind_line line m.target (lines_meaning catalog (count + steps_of m.target) (line + 1) m.names lines) e)
+    by_meaning : ((c : ℕ) (o : List (List ℕ)) → (lines_meaning catalog c (line + 1) o lines).fault ≡ None → AreSilent lines) → (m : Result LineMeaning ScriptFault)
+        → (led_by line count names m (λ c o. lines_meaning catalog c (line + 1) o lines)).fault ≡ None → AreSilent lines
+    by_meaning behind (Err fault) e = absurd (never_some (sym e))
+    by_meaning behind (Ok m) e = behind (count + steps_of m.target) m.names (behind_line line m.target (lines_meaning catalog (count + steps_of m.target) (line + 1) m.names lines) e)
 
-    by_request : (r : Option Request) → request_of bytes ≡ r → AreSilent (bytes ∷ lines)
-    by_request None is = (is, by_meaning (line_meaning catalog count line bytes names) e)
-    by_request (Some r) is =
+    by_request : ((c : ℕ) (o : List (List ℕ)) → (lines_meaning catalog c (line + 1) o lines).fault ≡ None → AreSilent lines) → (r : Option Request) → request_of bytes ≡ r → AreSilent (bytes ∷ lines)
+    by_request behind None is = (is, by_meaning behind (line_meaning catalog count line bytes names) e)
+    by_request behind (Some r) is =
         let bad = bad_line catalog count line names bytes r is in
-        absurd (never_some (sym (ap (λ m. (led_by line count names m (λ count_then names_then. lines_meaning catalog count_then (line + 1) names_then lines)).fault) (sym bad) ∙ e)))
+        absurd (never_some (sym (ap (λ m. (led_by line count names m (λ c o. lines_meaning catalog c (line + 1) o lines)).fault) (sym bad) ∙ e)))
 
 silent_rest : (lines : List (List ℕ)) → AreSilent lines → map rest_of_line lines ≡ lines
 silent_rest [] h = refl
