@@ -24,8 +24,9 @@ use Rattle.jm_inputs.specs.Specifications.{Specification, most_bytes}
 use Rattle.jm_inputs.specs.Scripts.{catalog_of, meaning_over, IsScript, steps_text, IsScriptFile, IsScriptFileFault, in_file}
 use Rattle.jm_inputs.specs.Inputs.{step_count, SayScripts, lines_in, names_in, asked_by, names_behind_all}
 use Rattle.jm_inputs.specs.Causes.{IsNoOrder, IsNoScript, StopsScripts}
-use Rattle.jm_inputs.specs.Reading.{AreCounted, HasSteps, HasScript, HasScriptFrom, AreScriptsRead, AreScriptsOf}
+use Rattle.jm_inputs.specs.Reading.{AreCounted, HasSteps, AreLeft, HasScript, HasScriptFrom, AreScriptsRead, AreScriptsOf}
 use Rattle.jm_inputs.proofs.SilentLemmas.{AsItStands}
+use Rattle.jm_inputs.proofs.NameLemmas.{first_kept}
 use Rattle.jm_inputs.proofs.InputLemmas.{split_sources, more_sources, length-sources, length-scripts, scripts_more, step_count-more, asked_more, names_more}
 
 -- ---- names that are posted or waited for
@@ -147,20 +148,8 @@ module _ (ordered : Bool) (specs : List Specification) (bytes : List ℕ) (small
 
 -- a script that is cut, or read as it stands
 module _ (ordered : Bool) (specs : List Specification) (bytes : List ℕ) (small : length bytes ≤ most_bytes) where
-  cut_middle : ordered ≡ true → (old : Scripts) (names : List (List ℕ)) → names ≡ names_after old.posted bytes → IsMiddle ordered bytes old (record old { posted = names })
-  cut_middle on old names posted = record { list = refl; objects = refl; count = refl; cuts = refl; posted = posted ∙ ap (λ b. names_in b old.posted bytes) (sym on) }
-
   cut_text : ordered ≡ true → (text : List ℕ) → text ≡ rest_of bytes → text ≡ steps_text ordered bytes
   cut_text on text is = is ∙ ap (λ b. steps_text b bytes) (sym on)
-
-  pub script_cut : ordered ≡ true → (text : List ℕ) → text ≡ rest_of bytes → (old new : Scripts) (names : List (List ℕ)) (lines : List SyncLine) → AreCounted specs old → names ≡ names_after old.posted bytes → lines ≡ sync_lines_of old.posted bytes → RisesFrom 1 lines
-      → All (λ (l : SyncLine). l.name < length names) lines → HasSteps specs text lines (record old { posted = names }) new → HasScript ordered specs bytes old new
-  script_cut on text is old new names lines before posted asked rises numbered h =
-      script_added ordered specs bytes small text (cut_text on text is) old (record old { posted = names }) new lines before (cut_middle on old names posted) (asked ∙ ap (λ b. lines_in b old.posted bytes) (sym on)) rises numbered h
-
-  pub cut_refused : ordered ≡ true → (text : List ℕ) → text ≡ rest_of bytes → (old : Scripts) (names : List (List ℕ)) (fault : ScriptFault) → names ≡ names_after old.posted bytes → (meaning_over specs old.count old.objects text).fault ≡ Some fault
-      → IsScriptFileFault ordered specs old.count old.objects bytes fault
-  cut_refused on text is old names fault posted first = script_refused ordered specs bytes small text (cut_text on text is) old (record old { posted = names }) fault (cut_middle on old names posted) first
 
   kept_middle : AsItStands ordered bytes → (old : Scripts) → IsMiddle ordered bytes old old
   kept_middle h old = record { list = refl; objects = refl; count = refl; cuts = refl; posted = h.names old.posted }
@@ -172,6 +161,27 @@ module _ (ordered : Bool) (specs : List Specification) (bytes : List ℕ) (small
 
   pub kept_refused : AsItStands ordered bytes → (old : Scripts) (fault : ScriptFault) → (meaning_over specs old.count old.objects bytes).fault ≡ Some fault → IsScriptFileFault ordered specs old.count old.objects bytes fault
   kept_refused stands old fault first = script_refused ordered specs bytes small bytes stands.text old old fault (kept_middle stands old) first
+
+-- a script that is read again, behind the names of objects from before
+module _ (ordered : Bool) (specs : List Specification) (bytes : List ℕ) (small : length bytes ≤ most_bytes) (on : ordered ≡ true) (text : List ℕ) (text_is : text ≡ rest_of bytes) (old left : Scripts) (refused : AreLeft old left) (number : ℕ) (many : number ≡ length old.objects) (names posted : List (List ℕ))
+  (first : names ≡ take number left.objects) (posted_is : posted ≡ names_after left.posted bytes) where
+  again_middle : IsMiddle ordered bytes old (record left { objects = names; count = old.count; posted = posted })
+  again_middle = record {
+    list = refused.list;
+    objects = first ∙ ap (λ n. take n left.objects) many ∙ first_kept old.objects left.objects refused.names;
+    count = refl;
+    cuts = refused.cuts;
+    posted = posted_is ∙ ap (λ v. names_after v bytes) refused.posted ∙ ap (λ b. names_in b old.posted bytes) (sym on);
+  }
+
+  pub script_again : (new : Scripts) (lines : List SyncLine) → AreCounted specs old → lines ≡ sync_lines_of left.posted bytes → RisesFrom 1 lines → All (λ (l : SyncLine). l.name < length posted) lines
+      → HasSteps specs text lines (record left { objects = names; count = old.count; posted = posted }) new → HasScript ordered specs bytes old new
+  script_again new lines before asked rises numbered h =
+      script_added ordered specs bytes small text (cut_text ordered specs bytes small on text text_is) old (record left { objects = names; count = old.count; posted = posted }) new lines before again_middle
+      (asked ∙ ap (λ v. sync_lines_of v bytes) refused.posted ∙ ap (λ b. lines_in b old.posted bytes) (sym on)) rises numbered h
+
+  pub again_refused : (fault : ScriptFault) → (meaning_over specs old.count names text).fault ≡ Some fault → IsScriptFileFault ordered specs old.count old.objects bytes fault
+  again_refused fault is = script_refused ordered specs bytes small text (cut_text ordered specs bytes small on text text_is) old (record left { objects = names; count = old.count; posted = posted }) fault again_middle is
 
 pub ok_then : {V E : Type 0} (P Q : Type 0) (r : Result V E) → (P → Q) → OnOk r P → OnOk r Q
 ok_then P Q (Ok v) f h = f h

@@ -14,6 +14,7 @@ use jm_history::{Entry, History};
 use jm_model::{Binding, Firing, Firings, Letter, NoMemory, Outcome, Step};
 use std::alloc::Global;
 use std::marker::Model;
+use std::slice;
 
 /// So many pieces tell about how long the text of all of them is, by so many of their first entries.
 const SAMPLES: usize = 64;
@@ -98,7 +99,7 @@ pub fn render_entry(
         objects,
     };
     let mut page = Page::new(alloc);
-    printer.entry(&mut page, entry)?;
+    printer.entries(&mut page, slice::from_ref(entry))?;
     Ok(page.into_bytes())
 }
 
@@ -154,7 +155,6 @@ impl Printer<'_> {
     }
 
     /// An entry, with the lines that follow.
-    #[inline(always)]
     fn entry(&self, page: &mut Page, entry: &Entry) -> Result<(), NoMemory>
         requires { IsPrintable self.now entry.now }
         ensures { OnOk result (page.new ≡ page.old ++ full_entry_text self.now entry.now) }
@@ -167,7 +167,6 @@ impl Printer<'_> {
     }
 
     /// What is said of a step of an entry and its outcome.
-    #[inline(always)]
     fn step(
         &self,
         page: &mut Page,
