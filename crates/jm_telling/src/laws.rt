@@ -1,6 +1,6 @@
 //! What holds of the histories of all accepted commands, of the first faults of all files, and of the tokens of all
 //! specifications.
-ghost use Rattle.std.specs.Prelude.{◌≡◌, ◌++◌, ◌∷◌, [], ℕ, List, Option, Some, codes, map};
+ghost use Rattle.std.specs.Prelude.{◌≡◌, ◌++◌, ◌∷◌, [], ℕ, List, Option, Some, codes, length, map};
 ghost use Rattle.std.specs.List.{AllZip};
 ghost use Rattle.jm_model.specs.declared.fault.ScriptFault.{ScriptFault};
 ghost use Rattle.jm_model.specs.declared.fault.SpecFault.{SpecFault};
@@ -9,9 +9,10 @@ ghost use Rattle.jm_script.specs.declared.script.ScriptLine.{ScriptLine};
 ghost use Rattle.jm_sync.specs.declared.line.SyncLine.{SyncLine};
 ghost use Rattle.jm_cli.specs.Words.{CommandWords, command_of};
 ghost use Rattle.jm_cli.specs.Words.CommandWords.{Run, Audit};
-ghost use Rattle.jm_print.specs.Told.{HaveNames, AreToldBy, texts_of};
+ghost use Rattle.jm_print.specs.Texts.{history_text};
+ghost use Rattle.jm_print.specs.Told.{AreNames, HaveNames, AreTold as AreEntriesTold, AreToldBy, texts_of};
 ghost use Rattle.jm_sweep.specs.Recordings.{parts_of};
-ghost use Rattle.jm_inputs.specs.Specifications.{Specification, IsSpecFault};
+ghost use Rattle.jm_inputs.specs.Specifications.{Specification, IsSpecification, IsSpecFault, meaning_of};
 ghost use Rattle.jm_inputs.specs.Scripts.{IsScriptFault};
 ghost use Rattle.jm_inputs.specs.Recordings.{RecordedPart, IsRecording};
 ghost use Rattle.jm_top.specs.Histories.{AreHistoriesFrom, lexicon};
@@ -19,6 +20,7 @@ ghost use Rattle.jm_inputs.specs.Jobs.{IsJob, Accepted, AcceptedAudit, AreTold};
 ghost use Rattle.jm_top.specs.Texts.{IsTextOf};
 ghost use Rattle.jm_telling.specs.FirstFaults.{IsSameFault};
 ghost use Rattle.jm_telling.specs.Parts.{IsPartAlone};
+ghost use Rattle.jm_telling.specs.Tellable.{IsTellable};
 ghost use Rattle.jm_telling.specs.TokenLaws.{TokensTile, WordsAreMaximal, MarksAreLongest, TextsAreQuoted, OpenIsUnclosed};
 
 /// The names of an accepted command are fit to be printed: in each of its specifications the parameters, the events and
@@ -49,6 +51,20 @@ pub fn text_tells_histories()
         → AreHistoriesFrom 0 specs scripts others
         → texts_of (map (lexicon objects) specs) hs ≡ texts_of (map (lexicon objects) specs) others
         → hs ≡ others }
+{}
+
+/// A legal history of a specification is told by its text, by itself: whatever scripts it is of, if no event was out of
+/// memory, its objects are among those that have names, and the numbers of its callers and lines are below 2^64. Two
+/// such histories with one text are one.
+pub fn legal_histories_are_told()
+    ensures told { (bytes : List ℕ) (s : Specification) (objects : List (List ℕ)) (h : List Entry)
+        → IsSpecification bytes s → IsTellable (meaning_of s) (length objects) h → AreEntriesTold (lexicon objects s) h }
+    ensures one { (bytes : List ℕ) (s : Specification) (objects : List (List ℕ)) (h other : List Entry)
+        → IsSpecification bytes s → AreNames objects
+        → IsTellable (meaning_of s) (length objects) h
+        → IsTellable (meaning_of s) (length objects) other
+        → history_text (lexicon objects s) h ≡ history_text (lexicon objects s) other
+        → h ≡ other }
 {}
 
 /// What `run` wrote is answered `yes`: where the words of an audit name the specifications and the scripts of a run, and
