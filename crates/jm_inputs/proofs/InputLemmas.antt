@@ -8,11 +8,10 @@ use Rattle.jm_model.specs.declared.fault.ScriptFault.{ScriptFault}
 use Rattle.jm_events.specs.Names.{number_of}
 use Rattle.jm_script.specs.Catalogs.{spec_names}
 use Rattle.jm_script.specs.declared.script.ScriptLine.{ScriptLine}
-use Rattle.jm_sync.specs.Cuts.{names_after, sync_lines_of}
 use Rattle.jm_inputs.specs.Sources.{Source, Named, Given, Gives, IsTold, AllTold}
 use Rattle.jm_inputs.specs.Specifications.{Specification, IsSpecification}
 use Rattle.jm_inputs.specs.Scripts.{catalog_of, IsScript, IsScriptFault, too_long, in_line, IsScriptFile, IsScriptFileFault, file_too_long, in_file}
-use Rattle.jm_inputs.specs.Inputs.{grammar_fault, refusal_of, IsAdmitted, IsRefusal, faulty, refused, SaySpecifications, AreReadUpTo, step_count, SayScripts, AreScriptsUpTo, asked_behind, names_behind_all}
+use Rattle.jm_inputs.specs.Inputs.{grammar_fault, refusal_of, IsAdmitted, IsRefusal, faulty, refused, SaySpecifications, AreReadUpTo, step_count, SayScripts, AreScriptsUpTo, lines_in, names_in, asked_behind, names_behind_all}
 use Rattle.jm_inputs.proofs.OneReadingLemmas.{one_specification, specification_has_no_fault, never_some}
 
 -- ---- lists
@@ -120,8 +119,8 @@ pub step_count-more : (scripts : List (List ScriptLine)) (script : List ScriptLi
 step_count-more [] script = omega arith
 step_count-more (x ∷ scripts) script = omega (arith, step_count-more scripts script)
 
-module _ (contents : List ℕ → Option (List ℕ)) (specs : List Specification) where
-  pub length-scripts : (count : ℕ) (names : List (List ℕ)) (sources : List Source) (scripts : List (List ScriptLine)) (objects texts : List (List ℕ)) → SayScripts contents specs count names sources scripts objects texts → length scripts ≡ length sources
+module _ (contents : List ℕ → Option (List ℕ)) (ordered : Bool) (specs : List Specification) where
+  pub length-scripts : (count : ℕ) (names : List (List ℕ)) (sources : List Source) (scripts : List (List ScriptLine)) (objects texts : List (List ℕ)) → SayScripts contents ordered specs count names sources scripts objects texts → length scripts ≡ length sources
   length-scripts count names [] scripts objects texts (none, same, silent) = ap (λ v. length v) none
   length-scripts count names (x ∷ sources) scripts objects texts (bytes, script, more, later, others, e, t, given, is, rest) =
       let same : length scripts ≡ length (script ∷ more) = ap (λ v. length v) e in
@@ -130,8 +129,8 @@ module _ (contents : List ℕ → Option (List ℕ)) (specs : List Specification
 
   -- one more
   pub scripts_more : (count : ℕ) (names : List (List ℕ)) (sources : List Source) (scripts : List (List ScriptLine)) (middle texts : List (List ℕ)) (source : Source) (bytes : List ℕ) (script : List ScriptLine) (objects : List (List ℕ))
-      → SayScripts contents specs count names sources scripts middle texts → Gives contents source bytes → IsScriptFile specs (count + step_count scripts) middle bytes script objects
-      → SayScripts contents specs count names (sources ++ source ∷ []) (scripts ++ script ∷ []) objects (texts ++ bytes ∷ [])
+      → SayScripts contents ordered specs count names sources scripts middle texts → Gives contents source bytes → IsScriptFile ordered specs (count + step_count scripts) middle bytes script objects
+      → SayScripts contents ordered specs count names (sources ++ source ∷ []) (scripts ++ script ∷ []) objects (texts ++ bytes ∷ [])
   scripts_more count names [] scripts middle texts source bytes script objects (none, same, silent) given is =
       let zero : count + step_count scripts ≡ count = ap (λ v. count + step_count v) none ∙ omega arith in (
         bytes,
@@ -142,7 +141,7 @@ module _ (contents : List ℕ → Option (List ℕ)) (specs : List Specification
         ap (λ v. v ++ script ∷ []) none,
         ap (λ v. v ++ bytes ∷ []) silent,
         given,
-        subst (λ v. IsScriptFile specs count v bytes script objects) same (subst (λ n. IsScriptFile specs n middle bytes script objects) zero is),
+        subst (λ v. IsScriptFile ordered specs count v bytes script objects) same (subst (λ n. IsScriptFile ordered specs n middle bytes script objects) zero is),
         (refl, refl, refl),
       )
   scripts_more count names (x ∷ sources) scripts middle texts source bytes script objects (held, first, more, later, others, e, t, gives, said, rest) given is =
@@ -156,69 +155,54 @@ module _ (contents : List ℕ → Option (List ℕ)) (specs : List Specification
         ap (λ v. v ++ bytes ∷ []) t,
         gives,
         said,
-        scripts_more (count + length first) later sources more middle others source bytes script objects rest given (subst (λ n. IsScriptFile specs n middle bytes script objects) counts is),
+        scripts_more (count + length first) later sources more middle others source bytes script objects rest given (subst (λ n. IsScriptFile ordered specs n middle bytes script objects) counts is),
       )
 
 -- what the texts ask for with one text more, and the names then
-pub asked_more : (names texts : List (List ℕ)) (text : List ℕ) → asked_behind names (texts ++ text ∷ []) ≡ asked_behind names texts ++ sync_lines_of (names_behind_all names texts) text ∷ []
-asked_more names [] text = refl
-asked_more names (x ∷ texts) text = ap (λ v. sync_lines_of names x ∷ v) (asked_more (names_after names x) texts text)
+module _ (ordered : Bool) where
+  pub asked_more : (names texts : List (List ℕ)) (text : List ℕ) → asked_behind ordered names (texts ++ text ∷ []) ≡ asked_behind ordered names texts ++ lines_in ordered (names_behind_all ordered names texts) text ∷ []
+  asked_more names [] text = refl
+  asked_more names (x ∷ texts) text = ap (λ v. lines_in ordered names x ∷ v) (asked_more (names_in ordered names x) texts text)
 
-pub names_more : (names texts : List (List ℕ)) (text : List ℕ) → names_behind_all names (texts ++ text ∷ []) ≡ names_after (names_behind_all names texts) text
-names_more names [] text = refl
-names_more names (x ∷ texts) text = names_more (names_after names x) texts text
+  pub names_more : (names texts : List (List ℕ)) (text : List ℕ) → names_behind_all ordered names (texts ++ text ∷ []) ≡ names_in ordered (names_behind_all ordered names texts) text
+  names_more names [] text = refl
+  names_more names (x ∷ texts) text = names_more (names_in ordered names x) texts text
 
 pub script_has_no_fault : (specs : List Specification) (count : ℕ) (names : List (List ℕ)) (bytes : List ℕ) (script : List ScriptLine) (objects : List (List ℕ)) (fault : ScriptFault) → IsScript specs count names bytes script objects → IsScriptFault specs count names bytes fault → ⊥
 script_has_no_fault specs count names bytes script objects _ h (too_long more) = omega (arith, more, h.small)
 script_has_no_fault specs count names bytes script objects _ h (in_line fault small some) = never_some (sym h.sound ∙ some)
 
-file_has_no_fault : (specs : List Specification) (count : ℕ) (names : List (List ℕ)) (bytes : List ℕ) (script : List ScriptLine) (objects : List (List ℕ)) (fault : ScriptFault) → IsScriptFile specs count names bytes script objects → IsScriptFileFault specs count names bytes fault → ⊥
-file_has_no_fault specs count names bytes script objects _ h (file_too_long more) = omega (arith, more, h.small)
-file_has_no_fault specs count names bytes script objects _ h (in_file fault small some) = never_some (sym h.said.sound ∙ some)
+file_has_no_fault : (ordered : Bool) (specs : List Specification) (count : ℕ) (names : List (List ℕ)) (bytes : List ℕ) (script : List ScriptLine) (objects : List (List ℕ)) (fault : ScriptFault) → IsScriptFile ordered specs count names bytes script objects → IsScriptFileFault ordered specs count names bytes fault → ⊥
+file_has_no_fault ordered specs count names bytes script objects _ h (file_too_long more) = omega (arith, more, h.small)
+file_has_no_fault ordered specs count names bytes script objects _ h (in_file fault small some) = never_some (sym h.said.sound ∙ some)
 
-module _ (contents : List ℕ → Option (List ℕ)) (specs : List Specification) where
+module _ (contents : List ℕ → Option (List ℕ)) (ordered : Bool) (specs : List Specification) where
   script_or_fault : (count : ℕ) (names : List (List ℕ)) (first rest : List Source) (source : Source) (scripts some : List (List ScriptLine)) (objects texts middle fronts : List (List ℕ)) (bytes : List ℕ) (fault : ScriptFault) → AllTold contents (first ++ source ∷ rest)
-      → SayScripts contents specs count names (first ++ source ∷ rest) scripts objects texts → SayScripts contents specs count names first some middle fronts → Gives contents source bytes → IsScriptFileFault specs (count + step_count some) middle bytes fault → ⊥
+      → SayScripts contents ordered specs count names (first ++ source ∷ rest) scripts objects texts → SayScripts contents ordered specs count names first some middle fronts → Gives contents source bytes → IsScriptFileFault ordered specs (count + step_count some) middle bytes fault → ⊥
   script_or_fault count names [] rest source scripts some objects texts middle fronts bytes fault told (held, script, more, later, behind_texts, e, t, gives, said, others) (none, same, silent) given is =
       let zero : count + step_count some ≡ count = ap (λ v. count + step_count v) none ∙ omega arith in
       let one = one_given contents source held bytes told.0 gives given in
-      file_has_no_fault specs count names bytes script later fault (subst (λ v. IsScriptFile specs count names v script later) one said) (subst (λ v. IsScriptFileFault specs count v bytes fault) same (subst (λ n. IsScriptFileFault specs n middle bytes fault) zero is))
+      file_has_no_fault ordered specs count names bytes script later fault (subst (λ v. IsScriptFile ordered specs count names v script later) one said) (subst (λ v. IsScriptFileFault ordered specs count v bytes fault) same (subst (λ n. IsScriptFileFault ordered specs n middle bytes fault) zero is))
   script_or_fault count names (x ∷ first) rest source scripts some objects texts middle fronts bytes fault told (held, script, more, later, behind_texts, e, t, gives, said, others) (byte, lines, behind, then_names, front_texts, f, u, g, tells, most) given is =
       let one = one_given contents x held byte told.0 gives g in
       let counts : count + step_count some ≡ (count + length lines) + step_count behind = ap (λ v. count + step_count v) f ∙ omega arith in
-<<<<<<< ours
-      let here = (subst (λ v. IsScriptFile specs count names v script later) one said).said in
+      let here = (subst (λ v. IsScriptFile ordered specs count names v script later) one said).said in
       let same_lines : script ≡ lines = here.lines ∙ sym tells.said.lines in
       let same_names : later ≡ then_names = here.named ∙ sym tells.said.named in
       script_or_fault (count + length lines) then_names first rest source more behind objects behind_texts middle front_texts bytes fault told.1
-      (subst (λ v. SayScripts contents specs (count + length lines) v (first ++ source ∷ rest) more objects behind_texts) same_names (subst (λ v. SayScripts contents specs (count + length v) later (first ++ source ∷ rest) more objects behind_texts) same_lines others)) most given
-      (subst (λ n. IsScriptFileFault specs n middle bytes fault) counts is)
+      (subst (λ v. SayScripts contents ordered specs (count + length lines) v (first ++ source ∷ rest) more objects behind_texts) same_names (subst (λ v. SayScripts contents ordered specs (count + length v) later (first ++ source ∷ rest) more objects behind_texts) same_lines others)) most given
+      (subst (λ n. IsScriptFileFault ordered specs n middle bytes fault) counts is)
 
-  pub scripts_not_refused : (sources : List Source) (number : ℕ) (source : Source) (scripts before : List (List ScriptLine)) (objects texts names : List (List ℕ)) (bytes : List ℕ) (fault : ScriptFault) → AllTold contents sources → SayScripts contents specs 0 [] sources scripts objects texts
-      → AreScriptsUpTo contents specs sources number source before names → Gives contents source bytes → IsScriptFileFault specs (step_count before) names bytes fault → ⊥
-  scripts_not_refused sources number source scripts before objects texts names bytes fault told said reached given is =
-      let none : step_count before ≡ 0 + step_count before = omega arith in
-      script_or_fault 0 [] reached.first reached.rest source scripts before objects texts names reached.texts bytes fault (subst (AllTold contents) reached.split told) (subst (λ v. SayScripts contents specs 0 [] v scripts objects texts) reached.split said) reached.read given
-      (subst (λ n. IsScriptFileFault specs n names bytes fault) none is)
+  pub scripts_not_refused : (count : ℕ) (sources : List Source) (number : ℕ) (source : Source) (scripts before : List (List ScriptLine)) (objects texts names : List (List ℕ)) (bytes : List ℕ) (fault : ScriptFault) → AllTold contents sources
+      → SayScripts contents ordered specs count [] sources scripts objects texts → AreScriptsUpTo contents ordered specs count sources number source before names → Gives contents source bytes → IsScriptFileFault ordered specs (count + step_count before) names bytes fault → ⊥
+  scripts_not_refused count sources number source scripts before objects texts names bytes fault told said reached given is =
+      script_or_fault count [] reached.first reached.rest source scripts before objects texts names reached.texts bytes fault (subst (AllTold contents) reached.split told) (subst (λ v. SayScripts contents ordered specs count [] v scripts objects texts) reached.split said) reached.read given is
 
 -- sources that are told give their bytes alone
-pub texts_one : (contents : List ℕ → Option (List ℕ)) (specs some_specs : List Specification) (count some_count : ℕ) (names some_names : List (List ℕ)) (sources : List Source) (scripts some : List (List ScriptLine)) (objects texts middle others : List (List ℕ)) → AllTold contents sources
-    → SayScripts contents specs count names sources scripts objects texts → SayScripts contents some_specs some_count some_names sources some middle others → texts ≡ others
-texts_one contents specs some_specs count some_count names some_names [] scripts some objects texts middle others told (none, same, silent) (none_too, same_too, silent_too) = silent ∙ sym silent_too
-texts_one contents specs some_specs count some_count names some_names (x ∷ sources) scripts some objects texts middle others told (held, script, more, later, rest, e, t, gives, said, behind) (byte, lines, front, then_names, tail, f, u, g, tells, most) =
+pub texts_one : (contents : List ℕ → Option (List ℕ)) (ordered : Bool) (specs some_specs : List Specification) (count some_count : ℕ) (names some_names : List (List ℕ)) (sources : List Source) (scripts some : List (List ScriptLine)) (objects texts middle others : List (List ℕ)) → AllTold contents sources
+    → SayScripts contents ordered specs count names sources scripts objects texts → SayScripts contents ordered some_specs some_count some_names sources some middle others → texts ≡ others
+texts_one contents ordered specs some_specs count some_count names some_names [] scripts some objects texts middle others told (none, same, silent) (none_too, same_too, silent_too) = silent ∙ sym silent_too
+texts_one contents ordered specs some_specs count some_count names some_names (x ∷ sources) scripts some objects texts middle others told (held, script, more, later, rest, e, t, gives, said, behind) (byte, lines, front, then_names, tail, f, u, g, tells, most) =
     let one = one_given contents x held byte told.0 gives g in
-    let rests = texts_one contents specs some_specs (count + length script) (some_count + length lines) later then_names sources more front objects rest middle tail told.1 behind most in
+    let rests = texts_one contents ordered specs some_specs (count + length script) (some_count + length lines) later then_names sources more front objects rest middle tail told.1 behind most in
     t ∙ (λ i. one i ∷ rests i) ∙ sym u
-=======
-      let here = subst (λ v. IsScript specs count names v script later) one said in
-      let same_lines : script ≡ lines = here.lines ∙ sym tells.lines in
-      let same_names : later ≡ then_names = here.named ∙ sym tells.named in
-      script_or_fault (count + length lines) then_names first rest source more behind objects middle bytes fault told.1
-      (subst (λ v. SayScripts contents specs (count + length lines) v (first ++ source ∷ rest) more objects) same_names (subst (λ v. SayScripts contents specs (count + length v) later (first ++ source ∷ rest) more objects) same_lines others)) most given
-      (subst (λ n. IsScriptFault specs n middle bytes fault) counts is)
-
-  pub scripts_not_refused : (count : ℕ) (sources : List Source) (number : ℕ) (source : Source) (scripts before : List (List ScriptLine)) (objects names : List (List ℕ)) (bytes : List ℕ) (fault : ScriptFault) → AllTold contents sources → SayScripts contents specs count [] sources scripts objects
-      → AreScriptsUpTo contents specs count sources number source before names → Gives contents source bytes → IsScriptFault specs (count + step_count before) names bytes fault → ⊥
-  scripts_not_refused count sources number source scripts before objects names bytes fault told said reached given is =
-      script_or_fault count [] reached.first reached.rest source scripts before objects names bytes fault (subst (AllTold contents) reached.split told) (subst (λ v. SayScripts contents specs count [] v scripts objects) reached.split said) reached.read given is
->>>>>>> theirs

@@ -1,5 +1,5 @@
 -- Scripts that can be done in the order that they ask for have no fault of that kind.
-use Rattle.std.proofs.Common.{◌≡◌, ◌⊎◌, inl, inr, ⊎_elim, ℕ, zero, suc, ◌+◌, ◌<◌, ◌≤◌, false, List, [], ◌∷◌, ◌++◌, length, get_or, take, Some, slice_get, refl, sym, ap, subst, ◌∙◌, append_assoc, arith, length-append}
+use Rattle.std.proofs.Common.{◌≡◌, ◌⊎◌, inl, inr, ⊎_elim, ℕ, zero, suc, ◌+◌, ◌<◌, ◌≤◌, false, List, [], ◌∷◌, ◌++◌, length, get_or, take, None, Some, slice_get, refl, sym, ap, subst, ◌∙◌, append_assoc, arith, length-append}
 use Rattle.std.specs.Prelude.{All, Contains, nat_eq}
 use Rattle.std.specs.List.{IsDistinct}
 use Rattle.std.proofs.lemmas.Bool.Decides.{nat_tests}
@@ -11,7 +11,8 @@ use Rattle.jm_model.specs.declared.fault.ScriptFault.{ScriptFault}
 use Rattle.jm_model.specs.declared.fault.ScriptFault.TheVariants.{TooLong, BadLine, UnknownSpec, UnknownEvent, WrongCount, TooManyObjects, TooManyLines, TooManyNotes, DuplicatePost, Stuck}
 use Rattle.jm_sync.specs.declared.line.SyncKind.TheVariants.{Post}
 use Rattle.jm_sync.specs.declared.line.SyncLine.{SyncLine}
-use Rattle.jm_sync.specs.Checks.{all_lines, posted_by, posts_of, AreSound, StandsBehind, IsSecondPost, IsWrong}
+use Rattle.jm_inputs.specs.Inputs.{asked_behind, asked_by}
+use Rattle.jm_sync.specs.Checks.{all_lines, posted_by, posts_of, line_at, AreSound, StandsBehind, IsSecondPost, IsWrong}
 
 in_cons : {A : Type 0} (x y : A) (xs : List A) (k : ℕ) → k < length (x ∷ xs) → get_or (x ∷ xs) k y ≡ y → (x ≡ y) ⊎ Contains xs y
 in_cons x y xs zero less e = inl e
@@ -77,3 +78,32 @@ sound_not_wrong scripts k (UnknownEvent number) sound h = h
 sound_not_wrong scripts k (WrongCount number) sound h = h
 sound_not_wrong scripts k (TooManyObjects number) sound h = h
 sound_not_wrong scripts k (TooManyLines number) sound h = h
+
+-- ---- scripts that may ask for nothing
+
+no_lines : (names texts : List (List ℕ)) → all_lines (asked_behind false names texts) ≡ []
+no_lines names [] = refl
+no_lines names (text ∷ texts) = no_lines names texts
+
+no_line_at : (names texts : List (List ℕ)) (k i : ℕ) → line_at (asked_behind false names texts) k i ≡ None
+no_line_at names [] k i = refl
+no_line_at names (text ∷ texts) zero i = refl
+no_line_at names (text ∷ texts) (suc k) i = no_line_at names texts k i
+
+none_stands : (texts : List (List ℕ)) (k : ℕ) (before : List SyncLine) (l : SyncLine) → StandsBehind (asked_by false texts) k before l → ⊥
+none_stands texts k before l h =
+    let more = around (asked_by false texts) k before l h in
+    omega (arith, ap (λ v. length v) (no_lines [] texts), ap (λ v. length v) more.1, length-append before (l ∷ more.0))
+
+-- nothing is wrong with what isn't asked for
+pub unasked_not_wrong : (texts : List (List ℕ)) (k : ℕ) (fault : ScriptFault) → IsWrong (asked_by false texts) k fault → ⊥
+unasked_not_wrong texts k (TooManyNotes number) h = none_stands texts k h.before h.line h.stands
+unasked_not_wrong texts k (DuplicatePost number) h = none_stands texts k h.1.before h.1.line h.1.stands
+unasked_not_wrong texts k (Stuck number) h = none-some h.2.line (sym (no_line_at [] texts k h.2.place) ∙ h.2.there)
+unasked_not_wrong texts k TooLong h = h
+unasked_not_wrong texts k (BadLine number) h = h
+unasked_not_wrong texts k (UnknownSpec number) h = h
+unasked_not_wrong texts k (UnknownEvent number) h = h
+unasked_not_wrong texts k (WrongCount number) h = h
+unasked_not_wrong texts k (TooManyObjects number) h = h
+unasked_not_wrong texts k (TooManyLines number) h = h

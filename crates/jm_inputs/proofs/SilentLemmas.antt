@@ -1,79 +1,148 @@
--- Bytes that are a script as they stand ask for no order: each line that asks for some is a bad one.
-use Rattle.std.proofs.Common.{◌≡◌, ◌⊎◌, inl, inr, ⊎_elim, ℕ, ◌+◌, Bool, true, false, List, [], ◌∷◌, Option, Some, None, Result, Ok, Err, refl, sym, ap, subst, ◌∙◌}
-use Rattle.std.specs.Prelude.{map, if◌then◌else◌}
+-- A script in which neither `post` nor `wait` stands asks for no order.
+use Rattle.std.proofs.Common.{◌≡◌, ℕ, ◌+◌, ◌-◌, ◌<◌, ◌≤◌, Bool, true, false, cond, ◌==◌, List, [], ◌∷◌, ◌++◌, filter, length, get_or, take, drop, Option, Some, None, is_some, slice_index, refl, sym, ap, subst, ◌∙◌, append_assoc, append-nil, take-append-drop, get_or-append-add, length-append, arith}
+use Rattle.std.specs.Prelude.{map}
 use Rattle.std.specs.Str.{bytes_eq}
-use Rattle.std.proofs.lemmas.Slice.Eq.{bytes_eq-Decides}
-use Rattle.std.specs.List.{join_with_byte}
+use Rattle.std.specs.Str.Lines.{strip_carriage_return}
+use Rattle.std.specs.List.{slice_split, onto_first, position_or_len, join_with_byte}
+use Rattle.std.proofs.lemmas.Bool.{false≢true}
+use Rattle.std.proofs.lemmas.List.{get_or_append_left}
 use Rattle.std.proofs.lemmas.List.Splits.{join_with_byte-slice_split}
-use Rattle.jm_model.specs.declared.fault.ScriptFault.{ScriptFault}
-use Rattle.jm_model.specs.declared.fault.ScriptFault.TheVariants.{BadLine}
-use Rattle.jm_lines.specs.Lines.{lines_of, words_of}
+use Rattle.std.proofs.lemmas.Slice.Eq.{bytes_eq-Decides}
+use Rattle.memchr.specs.Find.{FindsNeedle, OccursAt}
+use Rattle.jm_lines.specs.Lines.{is_line_feed, is_hash, is_blank, lines_of, content_of, is_some_word, words_of}
 use Rattle.jm_lines.specs.Objects.{is_object}
-use Rattle.jm_script.specs.Statements.{statement_of}
-use Rattle.jm_script.specs.Catalogs.{CatalogEntry}
-use Rattle.jm_script.specs.declared.script.Target.{Target}
-use Rattle.jm_script.specs.Meanings.{LineMeaning, ScriptMeaning, statement_meaning, words_meaning, line_meaning, with_line, steps_of, led_by, lines_meaning, script_meaning}
 use Rattle.jm_sync.specs.declared.line.SyncKind.{SyncKind}
 use Rattle.jm_sync.specs.declared.line.SyncKind.TheVariants.{Post, Wait}
+use Rattle.jm_sync.specs.declared.line.SyncLine.{SyncLine}
 use Rattle.jm_sync.specs.Cuts.{Request, post_word, wait_word, kind_of, request_under, words_request, request_of, rest_of_line, rest_of, names_behind, names_after, sync_lines_behind, sync_lines_of}
+use Rattle.jm_inputs.specs.Scripts.{steps_text, IsSilent}
+use Rattle.jm_inputs.specs.Inputs.{lines_in, names_in}
 use Rattle.jm_inputs.proofs.OneReadingLemmas.{never_some}
 
--- a word that asks for something is one of two
-asked_word : (word : List ℕ) (kind : SyncKind) → kind_of word ≡ Some kind → (word ≡ post_word) ⊎ (word ≡ wait_word)
-asked_word word kind e = by_case (bytes_eq word post_word) (bytes_eq word wait_word) refl refl e
+-- ---- what stands in a text, in a row
+
+pub record StandsIn (text word : List ℕ) : Type 0 where
+  pub front : List ℕ
+  pub back : List ℕ
+  pub split : text ≡ front ++ (word ++ back)
+
+behind_one : (x : ℕ) (text word : List ℕ) → StandsIn text word → StandsIn (x ∷ text) word
+behind_one x text word h = record { front = x ∷ h.front; back = h.back; split = ap (λ v. x ∷ v) h.split }
+
+within : (text line word : List ℕ) → StandsIn text line → StandsIn line word → StandsIn text word
+within text line word a b =
+    let inner : (b.front ++ (word ++ b.back)) ++ a.back ≡ b.front ++ (word ++ (b.back ++ a.back)) = append_assoc b.front (word ++ b.back) a.back ∙ ap (λ v. b.front ++ v) (append_assoc word b.back a.back) in
+    record {
+      front = a.front ++ b.front;
+      back = b.back ++ a.back;
+      split = a.split ∙ ap (λ v. a.front ++ (v ++ a.back)) b.split ∙ ap (λ v. a.front ++ v) inner ∙ sym (append_assoc a.front b.front (word ++ (b.back ++ a.back)));
+    }
+
+itself : (text : List ℕ) → StandsIn text text
+itself text = record { front = []; back = []; split = sym (append-nil text) }
+
+taken : (n : ℕ) (text : List ℕ) → StandsIn text (take n text)
+taken n text = record { front = []; back = drop n text; split = sym (take-append-drop n text) }
+
+abbrev AllStand : List ℕ → List (List ℕ) → Type 0
+AllStand text [] = Unit {0}
+AllStand text (word ∷ words) = StandsIn text word × AllStand text words
+
+all_behind_one : (x : ℕ) (text : List ℕ) (words : List (List ℕ)) → AllStand text words → AllStand (x ∷ text) words
+all_behind_one x text [] h = tt
+all_behind_one x text (word ∷ words) h = (behind_one x text word h.0, all_behind_one x text words h.1)
+
+all_within : (text line : List ℕ) (words : List (List ℕ)) → StandsIn text line → AllStand line words → AllStand text words
+all_within text line [] stands h = tt
+all_within text line (word ∷ words) stands h = (within text line word stands h.0, all_within text line words stands h.1)
+
+-- ---- the parts of a text that is split: the first stands at its front
+
+abbrev AreParts : List ℕ → List (List ℕ) → Type 0
+AreParts text [] = Unit {0}
+AreParts text (part ∷ parts) = ((back : List ℕ) × (text ≡ part ++ back)) × AllStand text parts
+
+all_stand : (text : List ℕ) (parts : List (List ℕ)) → AreParts text parts → AllStand text parts
+all_stand text [] h = tt
+all_stand text (part ∷ parts) h = (record { front = []; back = h.0.0; split = h.0.1 }, h.1)
+
+longer_first : (x : ℕ) (text : List ℕ) (parts : List (List ℕ)) → AreParts text parts → AreParts (x ∷ text) (onto_first x parts)
+longer_first x text [] h = ((text, refl), tt)
+longer_first x text (part ∷ parts) h = ((h.0.0, ap (λ v. x ∷ v) h.0.1), all_behind_one x text parts h.1)
+
+one_more : (x : ℕ) (text : List ℕ) (parts : List (List ℕ)) (b : Bool) → AreParts text parts → AreParts (x ∷ text) (cond b ([] ∷ parts) (onto_first x parts))
+one_more x text parts true h = ((x ∷ text, refl), all_behind_one x text parts (all_stand text parts h))
+one_more x text parts false h = longer_first x text parts h
+
+are_parts : (p : ℕ → Bool) (text : List ℕ) → AreParts text (slice_split p text)
+are_parts p [] = (([], refl), tt)
+are_parts p (x ∷ text) = one_more x text (slice_split p text) (p x) (are_parts p text)
+
+-- ---- words and lines
+
+kept_one : (p : List ℕ → Bool) (text part : List ℕ) (parts : List (List ℕ)) (b : Bool) → StandsIn text part → AllStand text (filter p parts) → AllStand text (cond b (part ∷ filter p parts) (filter p parts))
+kept_one p text part parts true here rest = (here, rest)
+kept_one p text part parts false here rest = rest
+
+kept : (p : List ℕ → Bool) (text : List ℕ) (parts : List (List ℕ)) → AllStand text parts → AllStand text (filter p parts)
+kept p text [] h = tt
+kept p text (part ∷ parts) h = kept_one p text part parts (p part) h.0 (kept p text parts h.1)
+
+stripped : (line : List ℕ) → StandsIn line (strip_carriage_return line)
+stripped line = by_case (slice_index line (length line - 1) == 13)
   where
-    by_case : (b c : Bool) → bytes_eq word post_word ≡ b → bytes_eq word wait_word ≡ c → (if b then Some Post else (if c then Some Wait else None)) ≡ Some kind → (word ≡ post_word) ⊎ (word ≡ wait_word)
-    by_case true c is other e = inl ((bytes_eq-Decides word post_word).0 is)
-    by_case false true is other e = inr ((bytes_eq-Decides word wait_word).0 other)
-    by_case false false is other e = absurd (never_some e)
+    by_case : (b : Bool) → StandsIn line (cond b (take (length line - 1) line) line)
+    by_case true = taken (length line - 1) line
+    by_case false = itself line
 
--- and begins no step
-no_step : (word name : List ℕ) (kind : SyncKind) → kind_of word ≡ Some kind → statement_of word (name ∷ []) ≡ None
-no_step word name kind e =
-    ⊎_elim
-    (λ (is : word ≡ post_word). subst (λ (w : List ℕ). statement_of w (name ∷ []) ≡ None) (sym is) refl)
-    (λ (is : word ≡ wait_word). subst (λ (w : List ℕ). statement_of w (name ∷ []) ≡ None) (sym is) refl)
-    (asked_word word kind e)
+content_stands : (line : List ℕ) → StandsIn line (content_of line)
+content_stands line =
+    let text = strip_carriage_return line in
+    within line text (content_of line) (stripped line) (taken (position_or_len is_hash text) text)
 
--- so its line is a bad one
-module _ (catalog : List CatalogEntry) (count line : ℕ) (names : List (List ℕ)) where
-  two_words : (word name : List ℕ) (r : Request) (b : Bool) (k : Option SyncKind) → kind_of word ≡ k → (if b then request_under name k else None) ≡ Some r → words_meaning catalog count line names (word ∷ name ∷ []) ≡ Err (BadLine line)
-  two_words word name r true (Some kind) is e = ap (λ s. statement_meaning catalog count line names s) (no_step word name kind is)
-  two_words word name r true None is e = absurd (never_some e)
-  two_words word name r false k is e = absurd (never_some e)
+words_stand : (line : List ℕ) → AllStand line (words_of line)
+words_stand line =
+    let text = content_of line in
+    all_within line text (words_of line) (content_stands line) (kept is_some_word text (slice_split is_blank text) (all_stand text (slice_split is_blank text) (are_parts is_blank text)))
 
-  bad_words : (words : List (List ℕ)) (r : Request) → words_request words ≡ Some r → words_meaning catalog count line names words ≡ Err (BadLine line)
-  bad_words [] r e = absurd (never_some e)
-  bad_words (word ∷ []) r e = absurd (never_some e)
-  bad_words (word ∷ name ∷ []) r e = two_words word name r (is_object name) (kind_of word) refl e
-  bad_words (word ∷ name ∷ more ∷ words) r e = absurd (never_some e)
+lines_stand : (bytes : List ℕ) → AllStand bytes (lines_of bytes)
+lines_stand bytes = all_stand bytes (lines_of bytes) (are_parts is_line_feed bytes)
 
-  bad_line : (bytes : List ℕ) (r : Request) → request_of bytes ≡ Some r → line_meaning catalog count line bytes names ≡ Err (BadLine line)
-  unfolding request_of line_meaning
-  bad_line bytes r e = bad_words (words_of bytes) r e
+-- ---- lines that ask for nothing
+
+nothing_under : (b : Bool) (name : List ℕ) (kind : Option SyncKind) → kind ≡ None → cond {A = Option Request} b (request_under name kind) None ≡ None
+nothing_under true name None none = refl
+nothing_under true name (Some kind) none = absurd (never_some (sym none))
+nothing_under false name kind none = refl
+
+no_kind : (word : List ℕ) → (word ≡ post_word → ⊥) → (word ≡ wait_word → ⊥) → kind_of word ≡ None
+no_kind word no_post no_wait = by_case (bytes_eq word post_word) (bytes_eq word wait_word) refl refl
+  where
+    by_case : (b c : Bool) → bytes_eq word post_word ≡ b → bytes_eq word wait_word ≡ c → cond {A = Option SyncKind} b (Some Post) (cond c (Some Wait) None) ≡ None
+    by_case true c is other = absurd (no_post ((bytes_eq-Decides word post_word).0 is))
+    by_case false true is other = absurd (no_wait ((bytes_eq-Decides word wait_word).0 other))
+    by_case false false is other = refl
 
 -- none of these lines asks for something
 abbrev AreSilent : List (List ℕ) → Type 0
 AreSilent [] = Unit {0}
 AreSilent (line ∷ lines) = (request_of line ≡ None) × AreSilent lines
 
-behind_line : (line : ℕ) (target : Option Target) (m : ScriptMeaning) → (with_line line target m).fault ≡ None → m.fault ≡ None
-behind_line line None m e = e
-behind_line line (Some target) m e = e
+module _ (bytes : List ℕ) (no_post : StandsIn bytes post_word → ⊥) (no_wait : StandsIn bytes wait_word → ⊥) where
+  no_request : (words : List (List ℕ)) → AllStand bytes words → words_request words ≡ None
+  no_request [] all = refl
+  no_request (word ∷ []) all = refl
+  no_request (word ∷ name ∷ []) all =
+      nothing_under (is_object name) name (kind_of word) (no_kind word (λ is. no_post (subst (StandsIn bytes) is all.0)) (λ is. no_wait (subst (StandsIn bytes) is all.0)))
+  no_request (word ∷ name ∷ more ∷ words) all = refl
 
-silent : (catalog : List CatalogEntry) (count line : ℕ) (names lines : List (List ℕ)) → (lines_meaning catalog count line names lines).fault ≡ None → AreSilent lines
-silent catalog count line names [] e = tt
-silent catalog count line names (bytes ∷ lines) e = by_request (request_of bytes) refl
-  where
-    by_meaning : (m : Result LineMeaning ScriptFault) → (led_by line count names m (λ count_then names_then. lines_meaning catalog count_then (line + 1) names_then lines)).fault ≡ None → AreSilent lines
-    by_meaning (Err fault) e = absurd (never_some (sym e))
-    by_meaning (Ok m) e = silent catalog (count + steps_of m.target) (line + 1) m.names lines (behind_line line m.target (lines_meaning catalog (count + steps_of m.target) (line + 1) m.names lines) e)
+  silent_line : (line : List ℕ) → StandsIn bytes line → request_of line ≡ None
+  unfolding request_of
+  silent_line line stands = no_request (words_of line) (all_within bytes line (words_of line) stands (words_stand line))
 
-    by_request : (r : Option Request) → request_of bytes ≡ r → AreSilent (bytes ∷ lines)
-    by_request None is = (is, by_meaning (line_meaning catalog count line bytes names) e)
-    by_request (Some r) is =
-        let bad = bad_line catalog count line names bytes r is in
-        absurd (never_some (sym (ap (λ m. (led_by line count names m (λ count_then names_then. lines_meaning catalog count_then (line + 1) names_then lines)).fault) (sym bad) ∙ e)))
+  silent : (lines : List (List ℕ)) → AllStand bytes lines → AreSilent lines
+  silent [] all = tt
+  silent (line ∷ lines) all = (silent_line line all.0, silent lines all.1)
 
 silent_rest : (lines : List (List ℕ)) → AreSilent lines → map rest_of_line lines ≡ lines
 silent_rest [] h = refl
@@ -90,18 +159,41 @@ silent_names : (names lines : List (List ℕ)) → AreSilent lines → names_beh
 silent_names names [] h = refl
 silent_names names (line ∷ lines) h = rw h.0 (silent_names names lines h.1)
 
--- a script without a fault asks for nothing
-pub record IsSilent (bytes : List ℕ) : Type 0 where
-  pub rest : rest_of bytes ≡ bytes
-  pub lines : (names : List (List ℕ)) → sync_lines_of names bytes ≡ []
-  pub names : (names : List (List ℕ)) → names_after names bytes ≡ names
-
-pub sound_asks_nothing : (catalog : List CatalogEntry) (count : ℕ) (bytes : List ℕ) (names : List (List ℕ)) → (script_meaning catalog count bytes names).fault ≡ None → IsSilent bytes
-unfolding script_meaning rest_of sync_lines_of names_after
-sound_asks_nothing catalog count bytes names e =
-    let h = silent catalog count 1 names (lines_of bytes) e in
+asks_nothing : (bytes : List ℕ) → (StandsIn bytes post_word → ⊥) → (StandsIn bytes wait_word → ⊥) → IsSilent bytes
+unfolding rest_of sync_lines_of names_after
+asks_nothing bytes no_post no_wait =
+    let h = silent bytes no_post no_wait (lines_of bytes) (lines_stand bytes) in
     record {
       rest = ap (join_with_byte 10) (silent_rest (lines_of bytes) h) ∙ join_with_byte-slice_split 10 bytes;
-      lines = λ posted. silent_lines 1 posted (lines_of bytes) h;
-      names = λ posted. silent_names posted (lines_of bytes) h;
+      lines = λ names. silent_lines 1 names (lines_of bytes) h;
+      names = λ names. silent_names names (lines_of bytes) h;
     }
+
+-- ---- what a search answers
+
+occurs : (bytes word : List ℕ) (h : StandsIn bytes word) → OccursAt bytes word (length h.front)
+occurs bytes word h = record {
+  fits = omega (arith, ap (λ v. length v) h.split, length-append h.front (word ++ h.back), length-append word h.back);
+  reads = λ j less. ap (λ v. get_or v (length h.front + j) 0) h.split ∙ get_or-append-add h.front (word ++ h.back) j 0 ∙ get_or_append_left word h.back 0 j less;
+}
+
+not_found : (bytes word : List ℕ) (r : Option ℕ) → FindsNeedle bytes word 0 r → is_some r ≡ false → StandsIn bytes word → ⊥
+not_found bytes word None none is h = none (length h.front) (omega arith) (omega (arith, (occurs bytes word h).fits)) (occurs bytes word h)
+not_found bytes word (Some k) found is h = false≢true (sym is)
+
+-- where neither word is found, nothing is asked for
+pub silent_where_none : (bytes : List ℕ) (r s : Option ℕ) → FindsNeedle bytes post_word 0 r → FindsNeedle bytes wait_word 0 s → is_some r ≡ false → is_some s ≡ false → IsSilent bytes
+silent_where_none bytes r s post wait no_post no_wait = asks_nothing bytes (not_found bytes post_word r post no_post) (not_found bytes wait_word s wait no_wait)
+
+-- ---- a script that is read as it stands
+
+pub record AsItStands (ordered : Bool) (bytes : List ℕ) : Type 0 where
+  pub text : bytes ≡ steps_text ordered bytes
+  pub lines : (names : List (List ℕ)) → ◌≡◌ {A = List SyncLine} [] (lines_in ordered names bytes)
+  pub names : (names : List (List ℕ)) → names ≡ names_in ordered names bytes
+
+pub as_it_stands : (ordered : Bool) (bytes : List ℕ) → (ordered ≡ true → IsSilent bytes) → AsItStands ordered bytes
+as_it_stands true bytes h =
+    let silence = h refl in
+    record { text = sym silence.rest; lines = λ names. sym (silence.lines names); names = λ names. sym (silence.names names) }
+as_it_stands false bytes h = record { text = refl; lines = λ names. refl; names = λ names. refl }

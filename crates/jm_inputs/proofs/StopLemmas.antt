@@ -30,13 +30,8 @@ use Rattle.jm_inputs.specs.Sources.{Source, Named, Given, Gives, IsFile}
 use Rattle.jm_inputs.specs.Commands.{named, given_files, workload_specs, workload_scripts, most_of_history, IsHistorySound}
 use Rattle.jm_inputs.specs.Specifications.{Specification, most_bytes, line_or, grammar_line_of, IsSpecification}
 use Rattle.jm_inputs.specs.Scripts.{catalog_of}
-<<<<<<< ours
 use Rattle.jm_inputs.specs.Inputs.{grammar_fault, SaySpecifications, step_count, asked_by}
-use Rattle.jm_inputs.specs.Causes.{IsNotLoaded, IsNoSpec, IsNoOrder, IsNoScript, IsNoRecording, StopsSpecs, StopsScripts, StopsInputs, StopsCommand, short, at_spec, at_script, at_recording, IsNoRecordingIn}
-=======
-use Rattle.jm_inputs.specs.Inputs.{grammar_fault, SaySpecifications, step_count}
-use Rattle.jm_inputs.specs.Causes.{IsNotLoaded, IsNoSpec, IsNoScript, IsNoRecording, StopsSpecs, StopsScripts, StopsInputs, StopsCommand, short, at_history, at_spec, at_script, at_recording, IsNoRecordingIn}
->>>>>>> theirs
+use Rattle.jm_inputs.specs.Causes.{IsNotLoaded, IsNoSpec, IsNoOrder, IsNoScript, IsNoRecording, StopsSpecs, StopsScripts, StopsInputs, StopsCommand, short, at_history, at_spec, at_script, at_recording, IsNoRecordingIn}
 use Rattle.jm_inputs.specs.Reading.{Listed, listed_in, specification_of, specs_in, IsLibraryOf, AreScriptsOf, AreInputsOf}
 use Rattle.jm_inputs.specs.Recordings.{too_long}
 use Rattle.jm_inputs.proofs.JobLemmas.{too_long_bytes, history_not_loaded}
@@ -50,15 +45,15 @@ module _ (contents later : List ℕ → Option (List ℕ)) (same : (name : List 
   held : later ≡ contents
   held = λ i name. same name i
 
-  pub scripts_before : (specs : List Specification) (count : ℕ) (sources : List Source) (scripts : Scripts) → AreScriptsOf later specs count sources scripts → AreScriptsOf contents specs count sources scripts
-  scripts_before specs count sources scripts h = subst (λ (v : List ℕ → Option (List ℕ)). AreScriptsOf v specs count sources scripts) held h
+  pub scripts_before : (ordered : Bool) (specs : List Specification) (count : ℕ) (sources : List Source) (scripts : Scripts) → AreScriptsOf later ordered specs count sources scripts → AreScriptsOf contents ordered specs count sources scripts
+  scripts_before ordered specs count sources scripts h = subst (λ (v : List ℕ → Option (List ℕ)). AreScriptsOf v ordered specs count sources scripts) held h
 
   -- nor were inputs
-  pub inputs_before : (count : ℕ) (specs scripts : List Source) (inputs : Inputs) → AreInputsOf later count specs scripts inputs → AreInputsOf contents count specs scripts inputs
-  inputs_before count specs scripts inputs h = subst (λ (v : List ℕ → Option (List ℕ)). AreInputsOf v count specs scripts inputs) held h
+  pub inputs_before : (ordered : Bool) (count : ℕ) (specs scripts : List Source) (inputs : Inputs) → AreInputsOf later ordered count specs scripts inputs → AreInputsOf contents ordered count specs scripts inputs
+  inputs_before ordered count specs scripts inputs h = subst (λ (v : List ℕ → Option (List ℕ)). AreInputsOf v ordered count specs scripts inputs) held h
 
-  pub stops_before : (files count : ℕ) (specs scripts : List Source) (status : Status) → StopsInputs later files count specs scripts status → StopsInputs contents files count specs scripts status
-  stops_before files count specs scripts status h = subst (λ (v : List ℕ → Option (List ℕ)). StopsInputs v files count specs scripts status) held h
+  pub stops_before : (ordered : Bool) (files count : ℕ) (specs scripts : List Source) (status : Status) → StopsInputs later ordered files count specs scripts status → StopsInputs contents ordered files count specs scripts status
+  stops_before ordered files count specs scripts status h = subst (λ (v : List ℕ → Option (List ℕ)). StopsInputs v ordered files count specs scripts status) held h
 
   -- nor was a file loaded, or what it gives
   pub not_loaded_before : (name : List ℕ) (number most : ℕ) (long status : Status) → IsNotLoaded later name number most long status → IsNotLoaded contents name number most long status
@@ -68,23 +63,24 @@ module _ (contents later : List ℕ → Option (List ℕ)) (same : (name : List 
   given_before name bytes h = subst (λ (v : List ℕ → Option (List ℕ)). Gives v (Named name) bytes) held h
 
   -- the scripts weren't read, behind these specifications
-  pub stopped_behind : (files count before : ℕ) (specs scripts : List Source) (library : Library) (status : Status) → IsLibraryOf contents false specs library → before ≡ files + length specs
-      → StopsScripts later (specs_in library) before count scripts status → StopsInputs contents files count specs scripts status
-  stopped_behind files count before specs scripts library status read many h =
-      inr (specs_in library, read.said, subst (λ n. StopsScripts contents (specs_in library) n count scripts status) many (subst (λ (v : List ℕ → Option (List ℕ)). StopsScripts v (specs_in library) before count scripts status) held h))
+  pub stopped_behind : (ordered : Bool) (files count before : ℕ) (specs scripts : List Source) (library : Library) (status : Status) → IsLibraryOf contents false specs library → before ≡ files + length specs
+      → StopsScripts later ordered (specs_in library) before count scripts status → StopsInputs contents ordered files count specs scripts status
+  stopped_behind ordered files count before specs scripts library status read many h =
+      inr
+      (specs_in library, read.said, subst (λ n. StopsScripts contents ordered (specs_in library) n count scripts status) many (subst (λ (v : List ℕ → Option (List ℕ)). StopsScripts v ordered (specs_in library) before count scripts status) held h))
 
 module _ (contents : List ℕ → Option (List ℕ)) where
-  pub replay_stops : (spec script : List ℕ) (status : Status) → StopsInputs contents 0 0 (named (spec ∷ [])) (named (script ∷ [])) status → StopsCommand contents (Replay spec script) status
+  pub replay_stops : (spec script : List ℕ) (status : Status) → StopsInputs contents true 0 0 (named (spec ∷ [])) (named (script ∷ [])) status → StopsCommand contents (Replay spec script) status
   replay_stops spec script status (inl h) = at_spec status tt h
   replay_stops spec script status (inr h) = at_script h.0 status tt h.1 h.2 refl
 
-  pub run_stops : (specs scripts : List (List ℕ)) (status : Status) → StopsInputs contents 0 0 (named specs) (named scripts) status → StopsCommand contents (Run specs scripts) status
+  pub run_stops : (specs scripts : List (List ℕ)) (status : Status) → StopsInputs contents true 0 0 (named specs) (named scripts) status → StopsCommand contents (Run specs scripts) status
   run_stops specs scripts status (inl h) = at_spec status tt h
   run_stops specs scripts status (inr h) = at_script h.0 status tt h.1 h.2 refl
 
   -- a history is audited behind one file
   pub audit_stops : (history bytes : List ℕ) (specs scripts : List (List ℕ)) (status : Status) → Gives contents (Named history) bytes → length bytes ≤ most_of_history
-      → StopsInputs contents 1 198000 (named specs) (named scripts) status → StopsCommand contents (Audit history specs scripts) status
+      → StopsInputs contents false 1 198000 (named specs) (named scripts) status → StopsCommand contents (Audit history specs scripts) status
   audit_stops history bytes specs scripts status given small (inl h) = at_spec status (bytes, given, small) h
   audit_stops history bytes specs scripts status given small (inr h) = at_script h.0 status (bytes, given, small) h.1 h.2 refl
 
@@ -97,10 +93,10 @@ module _ (contents : List ℕ → Option (List ℕ)) where
   pub coenable_stops : (specs : List (List ℕ)) (status : Status) → StopsSpecs contents 0 true (named specs) status → StopsCommand contents (Coenable specs) status
   coenable_stops specs status h = at_spec status tt h
 
-  pub gen_stops : (n : ℕ) (specs scripts : List (List ℕ)) (status : Status) → specs ≡ workload_specs → scripts ≡ workload_scripts n → StopsInputs contents 0 0 (given_files specs) (given_files scripts) status → StopsCommand contents (Gen n) status
-  gen_stops n specs scripts status first second h = stops (subst (λ v. StopsInputs contents 0 0 (given_files workload_specs) (given_files v) status) second (subst (λ v. StopsInputs contents 0 0 (given_files v) (given_files scripts) status) first h))
+  pub gen_stops : (n : ℕ) (specs scripts : List (List ℕ)) (status : Status) → specs ≡ workload_specs → scripts ≡ workload_scripts n → StopsInputs contents true 0 0 (given_files specs) (given_files scripts) status → StopsCommand contents (Gen n) status
+  gen_stops n specs scripts status first second h = stops (subst (λ v. StopsInputs contents true 0 0 (given_files workload_specs) (given_files v) status) second (subst (λ v. StopsInputs contents true 0 0 (given_files v) (given_files scripts) status) first h))
     where
-      stops : StopsInputs contents 0 0 (given_files workload_specs) (given_files (workload_scripts n)) status → StopsCommand contents (Gen n) status
+      stops : StopsInputs contents true 0 0 (given_files workload_specs) (given_files (workload_scripts n)) status → StopsCommand contents (Gen n) status
       stops (inl h) = at_spec status tt h
       stops (inr h) = at_script h.0 status tt h.1 h.2 refl
 
@@ -139,10 +135,10 @@ module _ (contents : List ℕ → Option (List ℕ)) where
   sweep_faulty spec recording bytes library status read given h = at_recording spec recording (specs_in library) status refl read.said (recording_from (specs_in library) recording bytes given status h)
 
   -- what was read of files that are those of a workload
-  pub inputs_are : (n : ℕ) (specs scripts : List (List ℕ)) (r : Result Inputs Status) → specs ≡ workload_specs → scripts ≡ workload_scripts n → IfOk r (AreInputsOf contents 0 (given_files specs) (given_files scripts))
-      → IfOk r (AreInputsOf contents 0 (given_files workload_specs) (given_files (workload_scripts n)))
+  pub inputs_are : (n : ℕ) (specs scripts : List (List ℕ)) (r : Result Inputs Status) → specs ≡ workload_specs → scripts ≡ workload_scripts n → IfOk r (AreInputsOf contents true 0 (given_files specs) (given_files scripts))
+      → IfOk r (AreInputsOf contents true 0 (given_files workload_specs) (given_files (workload_scripts n)))
   inputs_are n specs scripts r first second h =
-      subst (λ v. IfOk r (AreInputsOf contents 0 (given_files workload_specs) (given_files v))) second (subst (λ v. IfOk r (AreInputsOf contents 0 (given_files v) (given_files scripts))) first h)
+      subst (λ v. IfOk r (AreInputsOf contents true 0 (given_files workload_specs) (given_files v))) second (subst (λ v. IfOk r (AreInputsOf contents true 0 (given_files v) (given_files scripts))) first h)
 
 -- ---- files that are given
 
@@ -162,9 +158,9 @@ pub workload_library : (contents : List ℕ → Option (List ℕ)) (library : Li
 workload_library contents library h =
     sym (length-specs_in library h.catalogued) ∙ length-said contents false [] (given_files workload_specs) (specs_in library) h.said ∙ length-map workload_specs (λ bytes. Given bytes) ∙ specs_length
 
-pub workload_many : (contents : List ℕ → Option (List ℕ)) (specs : List Specification) (n : ℕ) (scripts : Scripts) → AreScriptsOf contents specs 0 (given_files (workload_scripts n)) scripts → length scripts.list.items ≡ 4
+pub workload_many : (contents : List ℕ → Option (List ℕ)) (specs : List Specification) (n : ℕ) (scripts : Scripts) → AreScriptsOf contents true specs 0 (given_files (workload_scripts n)) scripts → length scripts.list.items ≡ 4
 workload_many contents specs n scripts h =
-    length-scripts contents specs 0 [] (given_files (workload_scripts n)) scripts.list.items scripts.objects h.read.texts h.read.said ∙ length-map (workload_scripts n) (λ bytes. Given bytes) ∙ scripts_length_of n
+    length-scripts contents true specs 0 [] (given_files (workload_scripts n)) scripts.list.items scripts.objects h.read.texts h.read.said ∙ length-map (workload_scripts n) (λ bytes. Given bytes) ∙ scripts_length_of n
 
 -- no file is among them
 no_file : (files : List (List ℕ)) (first rest : List Source) (source : Source) → given_files files ≡ first ++ source ∷ rest → IsFile source → ⊥
@@ -177,16 +173,10 @@ module _ (contents : List ℕ → Option (List ℕ)) (file : ℕ) where
   given_specs_unread : (files : List (List ℕ)) (status : Status) → StopsSpecs contents 0 false (given_files files) status → status ≡ ReadFailed file → ⊥
   given_specs_unread files status h is = no_file files h.reached.first h.reached.rest h.source h.reached.split (subst (λ (s : Status). IsNoSpec contents false h.before 0 h.number h.source s) is h.stopped).1
 
-<<<<<<< ours
-  given_scripts_unread : (specs : List Specification) (count : ℕ) (files : List (List ℕ)) (status : Status) → StopsScripts contents specs count (given_files files) status → status ≡ ReadFailed file → ⊥
+  given_scripts_unread : (specs : List Specification) (count : ℕ) (files : List (List ℕ)) (status : Status) → StopsScripts contents true specs count 0 (given_files files) status → status ≡ ReadFailed file → ⊥
   given_scripts_unread specs count files status (inl h) is =
-      no_file files h.reached.first h.reached.rest h.source h.reached.split (subst (λ (s : Status). IsNoScript contents specs count (step_count h.before) h.names h.number h.source s) is h.stopped).1
-  given_scripts_unread specs count files status (inr h) is = subst (λ (s : Status). IsNoOrder (asked_by h.texts) s) is h.wrong
-=======
-  given_scripts_unread : (specs : List Specification) (count : ℕ) (files : List (List ℕ)) (status : Status) → StopsScripts contents specs count 0 (given_files files) status → status ≡ ReadFailed file → ⊥
-  given_scripts_unread specs count files status h is =
-      no_file files h.reached.first h.reached.rest h.source h.reached.split (subst (λ (s : Status). IsNoScript contents specs count (0 + step_count h.before) h.names h.number h.source s) is h.stopped).1
->>>>>>> theirs
+      no_file files h.reached.first h.reached.rest h.source h.reached.split (subst (λ (s : Status). IsNoScript contents true specs count (0 + step_count h.before) h.names h.number h.source s) is h.stopped).1
+  given_scripts_unread specs count files status (inr h) is = subst (λ (s : Status). IsNoOrder (asked_by true h.texts) s) is h.wrong
 
   pub unread : (n : ℕ) (status : Status) → StopsCommand contents (Gen n) status → status ≡ ReadFailed file → ⊥
   unread n _ short is = absurd cc

@@ -5,6 +5,8 @@ use Rattle.jm_script.specs.declared.script.ScriptLine.{ScriptLine}
 use Rattle.jm_script.specs.Catalogs.{CatalogEntry}
 use Rattle.jm_script.specs.Fitting.{FitsCatalog}
 use Rattle.jm_script.specs.Meanings.{RisesFrom as StepsRiseFrom}
+use Rattle.jm_sync.specs.declared.line.Cut.{Cut}
+use Rattle.jm_sync.specs.declared.line.SyncLine.{SyncLine}
 use Rattle.jm_sync.specs.Checks.{AreSound, sync_of}
 use Rattle.jm_sync.specs.Cuts.{RisesFrom}
 use Rattle.jm_events.specs.Events.{EventDefinitions}
@@ -18,7 +20,7 @@ use Rattle.jm_inputs.specs.declared.scripts.Scripts.{Scripts}
 use Rattle.jm_inputs.specs.declared.inputs.Inputs.{Inputs}
 use Rattle.jm_inputs.specs.Sources.{FileContents, Source, Gives}
 use Rattle.jm_inputs.specs.Specifications.{Specification, IsSpecification}
-use Rattle.jm_inputs.specs.Scripts.{catalog_of, IsScriptFile}
+use Rattle.jm_inputs.specs.Scripts.{catalog_of, IsScript, IsScriptFile}
 use Rattle.jm_inputs.specs.Inputs.{IsAdmitted, SaySpecifications, step_count, SayScripts, lines_in, names_in, asked_by, names_behind_all}
 
 -- ---- specifications
@@ -121,6 +123,23 @@ pub record AreCounted (specs : List Specification) (s : Scripts) : Type 0 where
   pub rising : All (λ cut. RisesFrom 1 cut.lines.items) s.cuts.items
   pub numbered : All (λ cut. All (λ l. l.name < length s.posted) cut.lines.items) s.cuts.items
   pub few_posted : length s.posted ≤ length s.list.items * 4194305
+
+-- there is one script more, which these bytes say as they stand, and one cut more, which has these lines
+pub record HasSteps (specs : List Specification) (bytes : Text) (lines : List SyncLine) (old new : Scripts) : Type 0
+    where
+  pub script : List ScriptLine
+  pub said : IsScript specs old.count old.objects bytes script new.objects
+  pub fits : FitsCatalog (catalog_of specs) (length new.objects) script
+  pub steps_rise : StepsRiseFrom 1 script
+  pub grown : length old.objects ≤ length new.objects
+  pub scripts : new.list.items ≡ old.list.items ++ script ∷ []
+  pub longer : new.count ≡ old.count + length script
+  pub few_steps : new.count ≤ 200000
+  pub few_names : length new.objects ≤ 65536
+  pub cut : Cut
+  pub asked : cut.lines.items ≡ lines
+  pub cuts : new.cuts.items ≡ old.cuts.items ++ cut ∷ []
+  pub posted : new.posted ≡ old.posted
 
 -- there is one script more, which the bytes of this file say, and what it asks for
 pub record HasScript (ordered : Bool) (specs : List Specification) (bytes : Text) (old new : Scripts) : Type 0 where

@@ -5,8 +5,8 @@ ghost use Rattle.jm_inputs.specs.Commands.{named, given_files};
 ghost use Rattle.jm_inputs.specs.Sources.{FileContents, Named};
 ghost use Rattle.jm_inputs.specs.Specifications.{Specification, most_bytes};
 ghost use Rattle.jm_sync.specs.Checks.{AreSound, sync_of};
-ghost use Rattle.jm_inputs.specs.Scripts.{IsScriptFileFault, IsSilent};
-ghost use Rattle.jm_inputs.specs.Reading.{specs_in, IsCatalogued, AreCounted, HasScript, HasScriptFrom, AreScriptsOf};
+ghost use Rattle.jm_inputs.specs.Scripts.{meaning_over, IsScriptFileFault, IsSilent};
+ghost use Rattle.jm_inputs.specs.Reading.{specs_in, IsCatalogued, AreCounted, HasSteps, HasScript, HasScriptFrom, AreScriptsOf};
 ghost use Rattle.jm_inputs.specs.Causes.{CountsFailedReads, IsNoOrder, IsNoScript, IsNoScriptFileIn, StopsScripts};
 
 use crate::files::load;
@@ -251,6 +251,13 @@ fn add_steps(
     library: &Library,
     scripts: &mut Scripts,
 ) -> Result<(), ScriptError>
+    requires small { length bytes.now ≤ most_bytes }
+    requires few_steps { scripts.old.count ≤ 200000 }
+    requires few_names { length scripts.old.objects ≤ 65536 }
+    requires catalogued { IsCatalogued library.now }
+    ensures read { OnOk result (HasSteps (specs_in library.now) bytes.now lines.items scripts.old scripts.new) }
+    ensures fault { (fault : ScriptFault) → result ≡ Err (ScriptError.Bad fault)
+        → (meaning_over (specs_in library.now) scripts.old.count scripts.old.objects bytes.now).fault ≡ Some fault }
 {
     let script = read_script(
         alloc,

@@ -1,4 +1,4 @@
-use Rattle.std.proofs.Common.{None, false, refl, inl, length, arith}
+use Rattle.std.proofs.Common.{None, true, false, refl, inl, length, arith}
 use Rattle.std.specs.Prelude.{map}
 use Rattle.std.proofs.lemmas.Result.{err_from_is_err_and}
 use Rattle.jm_inputs.specs.Sources.{Given}
@@ -23,7 +23,7 @@ returns-in_err-scripts-clause-err c = λ contents.
     let scripts = map (λ file. file.items) c.args.scripts.now in
     let read = c.in_ok-library.ensures.read contents in
     let many = library_length (λ b. Given b) (λ file. file.items) contents false c.args.specs.now c.in_ok-library.library read in
-    rw (p.1, p.2) (stopped_behind contents contents (λ name. refl) 0 0 (length c.in_ok-library.library.specs.items) (given_files specs) (given_files scripts) c.in_ok-library.library _ read (omega (arith, many, length-sources (λ b. Given b) (λ file. file.items) c.args.specs.now)) (c.in_err-scripts.ensures.err contents))
+    rw (p.1, p.2) (stopped_behind contents contents (λ name. refl) true 0 0 (length c.in_ok-library.library.specs.items) (given_files specs) (given_files scripts) c.in_ok-library.library _ read (omega (arith, many, length-sources (λ b. Given b) (λ file. file.items) c.args.specs.now)) (c.in_err-scripts.ensures.err contents))
 
 pub returns-clause-read : goal.returns-clause-read
 returns-clause-read c = λ contents. record { library = c.in_ok-library.ensures.read contents; read = c.in_ok-scripts.ensures.read contents }

@@ -6,11 +6,7 @@ use Rattle.jm_inputs.proofs.scripts.read_scripts.Given as goal
 
 abbrev pub invariant-loop-name : goal.invariant-loop-name
 invariant-loop-name g l = record {
-<<<<<<< ours
-  read : AreScriptsRead (g.F.Folder.holds l.initial.files) (specs_in l.library) (named (map string_bytes (take l.name-index l.names))) l.scripts;
-=======
-  read : AreScriptsOf (g.F.Folder.holds l.initial.files) (specs_in l.library) l.count (named (map string_bytes (take l.name-index l.names))) l.scripts;
->>>>>>> theirs
+  read : AreScriptsRead (g.F.Folder.holds l.initial.files) l.setting.ordered (specs_in l.library) l.setting.steps (named (map string_bytes (take l.name-index l.names))) l.scripts;
   never_falls : g.F.Folder.faults l.initial.files ≤ g.F.Folder.faults l.files;
   same : (other : List ℕ) → g.F.Folder.holds l.files other ≡ g.F.Folder.holds l.initial.files other;
 }

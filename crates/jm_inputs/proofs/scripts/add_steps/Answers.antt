@@ -1,0 +1,27 @@
+use Rattle.std.proofs.Common.{◌≡◌, length, refl, sym, ap, subst, ◌∙◌}
+use Rattle.std.proofs.lemmas.Result.{err_from_is_err_and}
+use Rattle.jm_model.specs.declared.fault.ScriptError.{ScriptError}
+use Rattle.jm_script.specs.Answers.{IsLeft}
+use Rattle.jm_script.specs.Meanings.{script_meaning}
+use Rattle.jm_inputs.specs.Reading.{specs_in}
+use Rattle.jm_inputs.proofs.OneReadingLemmas.{same_err}
+use Rattle.jm_inputs.proofs.LibraryLemmas.{its_catalog}
+use Rattle.jm_inputs.proofs.ScriptLemmas.{steps_added, steps_refused}
+use Rattle.jm_inputs.proofs.scripts.add_steps.Goals as goal
+
+pub returns-in_err-script-clause-fault : goal.returns-in_err-script-clause-fault
+returns-in_err-script-clause-fault c = λ fault is.
+    let p = err_from_is_err_and c.from_residual.result c.from_residual.ensures.1 in
+    let same = same_err (sym p.1 ∙ is) in
+    let library = c.args.library.now in
+    let old = c.args.scripts.now in
+    let bytes = c.args.bytes.now in
+    steps_refused (specs_in library) library.catalog (sym (its_catalog library c.requires.catalogued)) bytes c.requires.small old fault c.read_script.new.objects c.read_script.new.count
+    (subst (λ (e : ScriptError). IsLeft (script_meaning library.catalog old.count bytes old.objects) old.count old.objects e c.read_script.new.objects c.read_script.new.count) (sym p.2 ∙ same) c.in_err-script.ensures.err)
+
+pub returns-clause-read : goal.returns-clause-read
+returns-clause-read c =
+    let library = c.args.library.now in
+    steps_added (specs_in library) library.catalog (sym (its_catalog library c.requires.catalogued)) c.args.bytes.now c.requires.small c.args.scripts.now _ c.in_ok-script.script _ c.args.lines.items
+    c.in_ok-script.ensures.ok c.in_ok-script.ensures.fitting c.in_ok-script.ensures.rising c.in_ok-script.ensures.bounded.0 c.in_ok-script.ensures.bounded.1 c.in_ok-script.ensures.grown c.in_ok-push.ensures.items
+    refl c.in_ok-push-2.ensures.items refl
