@@ -1,8 +1,8 @@
 -- Scripts, read one behind the other.
-use Rattle.std.proofs.Common.{◌≡◌, ℕ, ◌+◌, ◌*◌, ◌<◌, ◌≤◌, ◌^◌, Bool, true, false, List, [], ◌∷◌, ◌++◌, length, get_or, take, drop, Option, Some, refl, sym, ap, subst, ◌∙◌, inl, inr, arith, length-append}
-use Rattle.std.specs.Prelude.{map, All}
+use Rattle.std.proofs.Common.{◌≡◌, ℕ, ◌+◌, ◌*◌, ◌<◌, ◌≤◌, ◌^◌, Bool, true, false, List, [], ◌∷◌, ◌++◌, length, get_or, take, drop, Option, Some, Result, Ok, Err, refl, sym, ap, subst, ◌∙◌, inl, inr, arith, length-append}
+use Rattle.std.specs.Prelude.{map, All, OnOk}
 use Rattle.std.proofs.lemmas.List.{length-take-le, take_all, length_push, map-append}
-use Rattle.std.proofs.lemmas.List.Elements.{All-push, All-weaker}
+use Rattle.std.proofs.lemmas.List.Elements.{All-nil, All-push, All-weaker}
 use Rattle.jm_model.specs.declared.fault.ScriptFault.{ScriptFault}
 use Rattle.jm_script.specs.declared.script.ScriptLine.{ScriptLine}
 use Rattle.jm_script.specs.Catalogs.{CatalogEntry}
@@ -14,7 +14,7 @@ use Rattle.jm_script.proofs.FittingLemmas.{FitsCatalog-more}
 use Rattle.jm_sync.specs.declared.line.SyncLine.{SyncLine}
 use Rattle.jm_sync.specs.declared.line.Cut.{Cut}
 use Rattle.jm_sync.specs.Checks.{AreSound, sync_of}
-use Rattle.jm_sync.specs.Cuts.{Request, IsExtension, RisesFrom, request_of, names_with, names_behind, names_after}
+use Rattle.jm_sync.specs.Cuts.{Request, IsExtension, RisesFrom, rest_of, request_of, names_with, names_behind, names_after, sync_lines_of}
 use Rattle.jm_sync.proofs.CutLemmas.{IsExtension-none, IsExtension-names_with, length-names_after}
 use Rattle.jm_lines.specs.Lines.{lines_of}
 use Rattle.jm_inputs.specs.declared.scripts.Scripts.{Scripts}
@@ -25,6 +25,7 @@ use Rattle.jm_inputs.specs.Scripts.{catalog_of, meaning_over, IsScript, steps_te
 use Rattle.jm_inputs.specs.Inputs.{step_count, SayScripts, lines_in, names_in, asked_by, names_behind_all}
 use Rattle.jm_inputs.specs.Causes.{IsNoOrder, IsNoScript, StopsScripts}
 use Rattle.jm_inputs.specs.Reading.{AreCounted, HasSteps, HasScript, HasScriptFrom, AreScriptsRead, AreScriptsOf}
+use Rattle.jm_inputs.proofs.SilentLemmas.{AsItStands}
 use Rattle.jm_inputs.proofs.InputLemmas.{split_sources, more_sources, length-sources, length-scripts, scripts_more, step_count-more, asked_more, names_more}
 
 -- ---- names that are posted or waited for
@@ -143,6 +144,38 @@ module _ (ordered : Bool) (specs : List Specification) (bytes : List ℕ) (small
       in_file fault small
       (subst (λ v. (meaning_over specs old.count old.objects v).fault ≡ Some fault) text_is
       (subst (λ v. (meaning_over specs old.count v text).fault ≡ Some fault) is.objects (subst (λ n. (meaning_over specs n middle.objects text).fault ≡ Some fault) is.count first)))
+
+-- a script that is cut, or read as it stands
+module _ (ordered : Bool) (specs : List Specification) (bytes : List ℕ) (small : length bytes ≤ most_bytes) where
+  cut_middle : ordered ≡ true → (old : Scripts) (names : List (List ℕ)) → names ≡ names_after old.posted bytes → IsMiddle ordered bytes old (record old { posted = names })
+  cut_middle on old names posted = record { list = refl; objects = refl; count = refl; cuts = refl; posted = posted ∙ ap (λ b. names_in b old.posted bytes) (sym on) }
+
+  cut_text : ordered ≡ true → (text : List ℕ) → text ≡ rest_of bytes → text ≡ steps_text ordered bytes
+  cut_text on text is = is ∙ ap (λ b. steps_text b bytes) (sym on)
+
+  pub script_cut : ordered ≡ true → (text : List ℕ) → text ≡ rest_of bytes → (old new : Scripts) (names : List (List ℕ)) (lines : List SyncLine) → AreCounted specs old → names ≡ names_after old.posted bytes → lines ≡ sync_lines_of old.posted bytes → RisesFrom 1 lines
+      → All (λ (l : SyncLine). l.name < length names) lines → HasSteps specs text lines (record old { posted = names }) new → HasScript ordered specs bytes old new
+  script_cut on text is old new names lines before posted asked rises numbered h =
+      script_added ordered specs bytes small text (cut_text on text is) old (record old { posted = names }) new lines before (cut_middle on old names posted) (asked ∙ ap (λ b. lines_in b old.posted bytes) (sym on)) rises numbered h
+
+  pub cut_refused : ordered ≡ true → (text : List ℕ) → text ≡ rest_of bytes → (old : Scripts) (names : List (List ℕ)) (fault : ScriptFault) → names ≡ names_after old.posted bytes → (meaning_over specs old.count old.objects text).fault ≡ Some fault
+      → IsScriptFileFault ordered specs old.count old.objects bytes fault
+  cut_refused on text is old names fault posted first = script_refused ordered specs bytes small text (cut_text on text is) old (record old { posted = names }) fault (cut_middle on old names posted) first
+
+  kept_middle : AsItStands ordered bytes → (old : Scripts) → IsMiddle ordered bytes old old
+  kept_middle h old = record { list = refl; objects = refl; count = refl; cuts = refl; posted = h.names old.posted }
+
+  pub script_kept : AsItStands ordered bytes → (old new : Scripts) (lines : List SyncLine) → lines ≡ [] → AreCounted specs old → HasSteps specs bytes lines old new → HasScript ordered specs bytes old new
+  script_kept stands old new lines none before h =
+      script_added ordered specs bytes small bytes stands.text old old new lines before (kept_middle stands old) (none ∙ stands.lines old.posted) (subst (RisesFrom 1) (sym none) tt)
+      (subst (All (λ (l : SyncLine). l.name < length old.posted)) (sym none) (All-nil (λ (l : SyncLine). l.name < length old.posted))) h
+
+  pub kept_refused : AsItStands ordered bytes → (old : Scripts) (fault : ScriptFault) → (meaning_over specs old.count old.objects bytes).fault ≡ Some fault → IsScriptFileFault ordered specs old.count old.objects bytes fault
+  kept_refused stands old fault first = script_refused ordered specs bytes small bytes stands.text old old fault (kept_middle stands old) first
+
+pub ok_then : {V E : Type 0} (P Q : Type 0) (r : Result V E) → (P → Q) → OnOk r P → OnOk r Q
+ok_then P Q (Ok v) f h = f h
+ok_then P Q (Err e) f h = tt
 
 module _ (contents : List ℕ → Option (List ℕ)) (ordered : Bool) (specs : List Specification) where
   pub no_scripts : (count : ℕ) (s : Scripts) → s.list.items ≡ [] → s.objects ≡ [] → s.count ≡ count → s.cuts.items ≡ [] → s.posted ≡ [] → AreCounted specs s → AreScriptsRead contents ordered specs count [] s

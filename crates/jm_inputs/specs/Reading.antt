@@ -126,20 +126,20 @@ pub record AreCounted (specs : List Specification) (s : Scripts) : Type 0 where
 
 -- there is one script more, which these bytes say as they stand, and one cut more, which has these lines
 pub record HasSteps (specs : List Specification) (bytes : Text) (lines : List SyncLine) (old new : Scripts) : Type 0
-    where
-  pub script : List ScriptLine
-  pub said : IsScript specs old.count old.objects bytes script new.objects
-  pub fits : FitsCatalog (catalog_of specs) (length new.objects) script
-  pub steps_rise : StepsRiseFrom 1 script
-  pub grown : length old.objects ≤ length new.objects
-  pub scripts : new.list.items ≡ old.list.items ++ script ∷ []
-  pub longer : new.count ≡ old.count + length script
-  pub few_steps : new.count ≤ 200000
-  pub few_names : length new.objects ≤ 65536
-  pub cut : Cut
-  pub asked : cut.lines.items ≡ lines
-  pub cuts : new.cuts.items ≡ old.cuts.items ++ cut ∷ []
-  pub posted : new.posted ≡ old.posted
+  where
+    pub script : List ScriptLine
+    pub said : IsScript specs old.count old.objects bytes script new.objects
+    pub fits : FitsCatalog (catalog_of specs) (length new.objects) script
+    pub steps_rise : StepsRiseFrom 1 script
+    pub grown : length old.objects ≤ length new.objects
+    pub scripts : new.list.items ≡ old.list.items ++ script ∷ []
+    pub longer : new.count ≡ old.count + length script
+    pub few_steps : new.count ≤ 200000
+    pub few_names : length new.objects ≤ 65536
+    pub cut : Cut
+    pub asked : cut.lines.items ≡ lines
+    pub cuts : new.cuts.items ≡ old.cuts.items ++ cut ∷ []
+    pub posted : new.posted ≡ old.posted
 
 -- there is one script more, which the bytes of this file say, and what it asks for
 pub record HasScript (ordered : Bool) (specs : List Specification) (bytes : Text) (old new : Scripts) : Type 0 where
@@ -161,19 +161,19 @@ pub record HasScriptFrom (contents : FileContents) (source : Source) (ordered : 
 module _ (contents : FileContents) (ordered : Bool) where
   -- the scripts are what the sources say, behind so many steps, which are counted with theirs, and what they ask for
   pub record AreScriptsRead (specs : List Specification) (count : ℕ) (sources : List Source) (s : Scripts) : Type 0
-      where
-    pub texts : List Text
-    pub said : SayScripts contents ordered specs count [] sources s.list.items s.objects texts
-    pub many : s.count ≡ count + step_count s.list.items
-    pub asked : sync_of s.cuts.items ≡ asked_by ordered texts
-    pub posted : s.posted ≡ names_behind_all ordered [] texts
-    pub counted : AreCounted specs s
+    where
+      pub texts : List Text
+      pub said : SayScripts contents ordered specs count [] sources s.list.items s.objects texts
+      pub many : s.count ≡ count + step_count s.list.items
+      pub asked : sync_of s.cuts.items ≡ asked_by ordered texts
+      pub posted : s.posted ≡ names_behind_all ordered [] texts
+      pub counted : AreCounted specs s
 
   -- and nothing is wrong with that
   pub record AreScriptsOf (specs : List Specification) (count : ℕ) (sources : List Source) (s : Scripts) : Type 0
-      where
-    pub read : AreScriptsRead specs count sources s
-    pub sound : AreSound (sync_of s.cuts.items)
+    where
+      pub read : AreScriptsRead specs count sources s
+      pub sound : AreSound (sync_of s.cuts.items)
 
   -- what was read is what these sources of specifications and of scripts say, these behind so many steps
   pub record AreInputsOf (count : ℕ) (specs scripts : List Source) (inputs : Inputs) : Type 0 where

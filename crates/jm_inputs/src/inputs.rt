@@ -1,5 +1,5 @@
 //! What a command reads, before it is done.
-ghost use Rattle.std.specs.Prelude.{◌≡◌, ◌≤◌, length, map, IfOk, IfErr, string_bytes};
+ghost use Rattle.std.specs.Prelude.{◌≡◌, ◌≤◌, true, length, map, IfOk, IfErr, string_bytes};
 ghost use Rattle.jm_cli.specs.Words.CommandWords.{Gen};
 ghost use Rattle.jm_gen.specs.Scripts.{IsInRange};
 ghost use Rattle.jm_inputs.specs.Sources.{FileContents};

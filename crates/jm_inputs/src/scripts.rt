@@ -1,5 +1,5 @@
 //! The scripts of a command, read one behind the other.
-ghost use Rattle.std.specs.Prelude.{◌≡◌, ◌+◌, ◌<◌, ◌≤◌, [], ℕ, List, false, length, map, IfOk, IfErr, OnOk, string_bytes};
+ghost use Rattle.std.specs.Prelude.{◌≡◌, ◌+◌, ◌<◌, ◌≤◌, [], ℕ, List, true, false, length, map, IfOk, IfErr, OnOk, string_bytes};
 ghost use Rattle.jm_model.specs.declared.fault.ScriptFault.{ScriptFault};
 ghost use Rattle.jm_inputs.specs.Commands.{named, given_files};
 ghost use Rattle.jm_inputs.specs.Sources.{FileContents, Named};
@@ -177,7 +177,14 @@ fn read_next<F: Folder>(
     let number = scripts.list.len() as u32;
     let specs = setting.files + library.specs.len() as u32;
     let bytes = load(name, specs + number, MOST_BYTES, too_long(number), files)?;
-    read_bytes(alloc, bytes.as_slice(), number, library, setting.ordered, scripts)
+    read_bytes(
+        alloc,
+        bytes.as_slice(),
+        number,
+        library,
+        setting.ordered,
+        scripts,
+    )
 }
 
 /// The end of a command whose script of this number is too long.
