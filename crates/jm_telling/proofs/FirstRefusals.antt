@@ -24,11 +24,11 @@ same_tail e = cc
 
 module _ (families : Bool) (before : List Specification) (bytes : List ℕ) where
   -- bytes are refused for one thing
-  one_refusal : (fault other : SpecFault) → IsRefusal families before bytes fault → IsRefusal families before bytes other → IsSameFault fault other
-  one_refusal fault other (faulty a) (faulty b) = one_spec_fault bytes fault other a b
-  one_refusal fault other (faulty a) (refused t says also) = absurd (specification_has_no_fault bytes t fault says a)
-  one_refusal fault other (refused s said some) (faulty b) = absurd (specification_has_no_fault bytes s other said b)
-  one_refusal fault other (refused s said some) (refused t says also) =
+  one_reason : (fault other : SpecFault) → IsRefusal families before bytes fault → IsRefusal families before bytes other → IsSameFault fault other
+  one_reason fault other (faulty a) (faulty b) = one_spec_fault bytes fault other a b
+  one_reason fault other (faulty a) (refused t says also) = absurd (specification_has_no_fault bytes t fault says a)
+  one_reason fault other (refused s said some) (faulty b) = absurd (specification_has_no_fault bytes s other said b)
+  one_reason fault other (refused s said some) (refused t says also) =
       inl (same_some (sym some ∙ ap (refusal_of families before) (one_specification bytes s t said says) ∙ also))
 
   -- and if they are admitted, for nothing
@@ -52,7 +52,7 @@ module _ (contents : List ℕ → Option (List ℕ)) (families : Bool) where
       → (length first ≡ length others) × IsSameFault fault other
   one_refused_spec before [] [] rest tail source x specs some bytes held fault other told split none nothing given gives is too =
       let one = one_given contents source bytes held told.0 given (subst (λ v. Gives contents v held) (sym (same_head split)) gives) in
-      (refl, one_refusal families before held fault other (refused_first before specs bytes held fault none one is) (refused_first before some held held other nothing refl too))
+      (refl, one_reason families before held fault other (refused_first before specs bytes held fault none one is) (refused_first before some held held other nothing refl too))
   one_refused_spec before [] (y ∷ others) rest tail source x specs some bytes held fault other told split none (byte, s, more, e, g, admitted, later) given gives is too =
       let one = one_given contents source bytes byte told.0 given (subst (λ v. Gives contents v byte) (sym (same_head split)) g) in
       absurd (admitted_or_refused families before byte s fault admitted (refused_first before specs bytes byte fault none one is))

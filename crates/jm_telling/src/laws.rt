@@ -1,6 +1,6 @@
-//! What holds of the histories of all accepted commands, of the first faults of all files, and of the tokens of all
-//! specifications.
-ghost use Rattle.std.specs.Prelude.{◌≡◌, ◌++◌, ◌∷◌, [], ℕ, List, Option, Some, codes, length, map};
+//! What holds of the histories of all accepted commands, of the first faults of all files, of the jobs of all commands,
+//! and of the tokens of all specifications.
+ghost use Rattle.std.specs.Prelude.{◌≡◌, ◌⊎◌, ◌++◌, ◌∷◌, [], ℕ, List, Option, Some, codes, length, map};
 ghost use Rattle.std.specs.List.{AllZip};
 ghost use Rattle.jm_model.specs.declared.fault.ScriptFault.{ScriptFault};
 ghost use Rattle.jm_model.specs.declared.fault.SpecFault.{SpecFault};
@@ -16,9 +16,11 @@ ghost use Rattle.jm_inputs.specs.Specifications.{Specification, IsSpecification,
 ghost use Rattle.jm_inputs.specs.Scripts.{IsScriptFault};
 ghost use Rattle.jm_inputs.specs.Recordings.{RecordedPart, IsRecording};
 ghost use Rattle.jm_top.specs.Histories.{AreHistoriesFrom, lexicon};
-ghost use Rattle.jm_inputs.specs.Jobs.{IsJob, Accepted, AcceptedAudit, AreTold};
+ghost use Rattle.jm_inputs.specs.declared.status.Status.{Status};
+ghost use Rattle.jm_inputs.specs.Jobs.{Job, Refused, Accepted, AcceptedAudit, IsJob, IsCaused, AreTold};
 ghost use Rattle.jm_top.specs.Texts.{IsTextOf};
-ghost use Rattle.jm_telling.specs.FirstFaults.{IsSameFault};
+ghost use Rattle.jm_top.specs.Endings.{Writes};
+ghost use Rattle.jm_telling.specs.FirstFaults.{IsSameFault, IsSameStatus, IsSameJob, IsInterrupted};
 ghost use Rattle.jm_telling.specs.Parts.{IsPartAlone};
 ghost use Rattle.jm_telling.specs.Tellable.{IsTellable};
 ghost use Rattle.jm_telling.specs.TokenLaws.{TokensTile, WordsAreMaximal, MarksAreLongest, TextsAreQuoted, OpenIsUnclosed};
@@ -103,6 +105,26 @@ pub fn one_script_fault()
 pub fn one_spec_fault()
     ensures { (bytes : List ℕ) (fault other : SpecFault)
         → IsSpecFault bytes fault → IsSpecFault bytes other → IsSameFault fault other }
+{}
+
+/// A command has one job, where it is told what its files hold, but for the line of `Syntax`: either it is refused with
+/// one status, or it is accepted, over the same specifications and scripts, parts or history.
+pub fn one_job()
+    ensures { (words : List (List ℕ)) (contents : List ℕ → Option (List ℕ)) (job other : Job)
+        → AreTold words contents
+        → IsJob words contents job → IsJob words contents other → IsSameJob job other }
+{}
+
+/// A command whose job is refused ends with that refusal, where it is told what its files hold, but for the line of
+/// `Syntax`, or as a file couldn't be read or memory was short. So says what `jmop` ensures of its status and its sink:
+/// it is never `Done` or `WriteFailed`, nor a refusal of something else.
+pub fn one_refusal()
+    ensures { (words : List (List ℕ)) (contents : List ℕ → Option (List ℕ)) (status other : Status)
+        → (before after : Option (List ℕ))
+        → AreTold words contents
+        → IsJob words contents (Refused status)
+        → Writes words contents other before after → IsCaused words contents other
+        → IsSameStatus status other ⊎ IsInterrupted other }
 {}
 
 /// The tokens of a specification and what is dropped between them tile its bytes: in order, without overlap, and from
