@@ -1,5 +1,5 @@
 -- A script in which neither `post` nor `wait` stands asks for no order.
-use Rattle.std.proofs.Common.{◌≡◌, ℕ, ◌+◌, ◌-◌, ◌<◌, ◌≤◌, Bool, true, false, cond, ◌==◌, List, [], ◌∷◌, ◌++◌, filter, length, get_or, take, drop, Option, Some, None, is_some, slice_index, refl, sym, ap, subst, ◌∙◌, append_assoc, append-nil, take-append-drop, get_or-append-add, length-append, arith}
+use Rattle.std.proofs.Common.{◌≡◌, ℕ, ◌+◌, ◌-◌, Bool, true, false, cond, ◌==◌, List, [], ◌∷◌, ◌++◌, filter, length, get_or, take, drop, Option, Some, None, is_some, slice_index, refl, sym, ap, subst, ◌∙◌, append_assoc, append-nil, take-append-drop, get_or-append-add, length-append, arith}
 use Rattle.std.specs.Prelude.{map}
 use Rattle.std.specs.Str.{bytes_eq}
 use Rattle.std.specs.Str.Lines.{strip_carriage_return}

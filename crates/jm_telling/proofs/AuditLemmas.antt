@@ -8,7 +8,9 @@ use Rattle.jm_script.specs.Catalogs.{CatalogEntry}
 use Rattle.jm_script.specs.Statements.{Statement, statement_of}
 use Rattle.jm_script.specs.Meanings.{LineMeaning, ScriptMeaning, step_meaning, statement_meaning, words_meaning, line_meaning, with_line, steps_of, led_by, lines_meaning, script_meaning}
 use Rattle.jm_script.specs.declared.script.ScriptLine.{ScriptLine}
-use Rattle.jm_cli.specs.Words.{CommandWords, command_of}
+use Rattle.jm_sync.specs.declared.line.SyncLine.{SyncLine}
+use Rattle.jm_sync.specs.Cuts.{rest_of}
+use Rattle.jm_cli.specs.Words.{command_of}
 use Rattle.jm_cli.specs.Words.CommandWords.{Run, Audit}
 use Rattle.jm_audit.specs.declared.verdict.Verdict.{Verdict}
 use Rattle.jm_audit.specs.declared.verdict.Verdict.TheVariants.{Yes, No}
@@ -17,13 +19,14 @@ use Rattle.jm_inputs.specs.Sources.{Source, Named, Gives, AllTold}
 use Rattle.jm_inputs.specs.Commands.{named}
 use Rattle.jm_inputs.specs.Specifications.{Specification}
 use Rattle.jm_inputs.specs.Scripts.{catalog_of, IsScript}
-use Rattle.jm_inputs.specs.Inputs.{SaySpecifications, SayScripts}
+use Rattle.jm_inputs.specs.Inputs.{SaySpecifications, SayScripts, asked_by}
 use Rattle.jm_inputs.specs.Jobs.{IsJob, Accepted, accepted, AcceptedAudit, accepted_audit, AreTold}
 use Rattle.jm_inputs.proofs.OneReadingLemmas.{never_some, same_some}
 use Rattle.jm_inputs.proofs.InputLemmas.{one_given, say_one}
 use Rattle.jm_inputs.proofs.RecordingLemmas.{with_line_fault}
-use Rattle.jm_top.specs.Histories.{IsTextOfHistories}
+use Rattle.jm_top.specs.Histories.{IsTextOfHistories, IsTextOfOrdered}
 use Rattle.jm_top.specs.Texts.{verdict_text, IsTextOfVerdict, IsTextOf}
+use Rattle.jm_telling.proofs.SilentLemmas.{sound_is_whole}
 
 -- ---- scripts that are sound after some steps, and after others, are the same
 
@@ -81,17 +84,19 @@ module _ (catalog : List CatalogEntry) where
   unfolding script_meaning
   script_same count less bytes names sound other = lines_same count less 1 names _ sound other
 
+-- scripts that are read as they stand ask for no order, so they are read the same where they may
 module _ (contents : List ℕ → Option (List ℕ)) (specs : List Specification) where
-  scripts_same : (count less : ℕ) (names : List (List ℕ)) (sources : List Source) (scripts others : List (List ScriptLine)) (objects things : List (List ℕ)) → AllTold contents sources
-      → SayScripts contents specs count names sources scripts objects → SayScripts contents specs less names sources others things → (scripts ≡ others) × (objects ≡ things)
-  scripts_same count less names [] scripts others objects things told (none, same) (empty, alike) = (none ∙ sym empty, same ∙ sym alike)
-  scripts_same count less names (source ∷ sources) scripts others objects things told (bytes, script, more, later, e, given, is, rest) (held, lines, behind, then_names, f, gives, said, others_rest) =
+  scripts_same : (count less : ℕ) (names : List (List ℕ)) (sources : List Source) (scripts others : List (List ScriptLine)) (objects things texts files : List (List ℕ)) → AllTold contents sources
+      → SayScripts contents false specs count names sources scripts objects texts → SayScripts contents true specs less names sources others things files → (scripts ≡ others) × (objects ≡ things)
+  scripts_same count less names [] scripts others objects things texts files told (none, same, _) (empty, alike, _) = (none ∙ sym empty, same ∙ sym alike)
+  scripts_same count less names (source ∷ sources) scripts others objects things texts files told (bytes, script, more, later, more_texts, e, _, given, is, rest) (held, lines, behind, then_names, more_files, f, _, gives, said, others_rest) =
       let one = one_given contents source held bytes told.0 gives given in
-      let here = subst (λ v. IsScript specs less names v lines then_names) one said in
-      let meaning = script_same (catalog_of specs) count less bytes names is.sound here.sound in
-      let same_lines : script ≡ lines = is.lines ∙ ap (λ (m : ScriptMeaning). m.lines) meaning ∙ sym here.lines in
-      let same_names : then_names ≡ later = here.named ∙ ap (λ (m : ScriptMeaning). m.names) (sym meaning) ∙ sym is.named in
-      let both = scripts_same (count + length script) (less + length lines) later sources more behind objects things told.1 rest (subst (λ v. SayScripts contents specs (less + length lines) v sources behind things) same_names others_rest) in
+      let whole = sound_is_whole (catalog_of specs) count bytes names is.said.sound in
+      let here = subst (λ v. IsScript specs less names v lines then_names) whole (subst (λ v. IsScript specs less names (rest_of v) lines then_names) one said.said) in
+      let meaning = script_same (catalog_of specs) count less bytes names is.said.sound here.sound in
+      let same_lines : script ≡ lines = is.said.lines ∙ ap (λ (m : ScriptMeaning). m.lines) meaning ∙ sym here.lines in
+      let same_names : then_names ≡ later = here.named ∙ ap (λ (m : ScriptMeaning). m.names) (sym meaning) ∙ sym is.said.named in
+      let both = scripts_same (count + length script) (less + length lines) later sources more behind objects things more_texts more_files told.1 rest (subst (λ v. SayScripts contents true specs (less + length lines) v sources behind things more_files) same_names others_rest) in
       (e ∙ (λ i. same_lines i ∷ both.0 i) ∙ sym f, both.1)
 
 -- ---- a history that is a text of the run
@@ -108,21 +113,25 @@ held_one : (o : Option (List ℕ)) (bytes text : List ℕ) → o ≡ Some text �
 held_one None bytes text e h = absurd (never_some e)
 held_one (Some held) bytes text e h = h ∙ same_some e
 
-pub run_answered : (words others : List (List ℕ)) (contents : List ℕ → Option (List ℕ)) (history : List ℕ) (names files : List (List ℕ)) (specs again : List Specification) (scripts reread : List (List ScriptLine)) (objects renamed : List (List ℕ)) (text bytes said : List ℕ)
-    → IsJob words contents (Accepted (Run names files) specs scripts objects) → IsTextOf (Accepted (Run names files) specs scripts objects) text
+-- a text of a run, whatever order was asked for
+unordered : (specs : List Specification) (scripts : List (List ScriptLine)) (asked : List (List SyncLine)) (objects : List (List ℕ)) (text : List ℕ) → IsTextOfOrdered specs scripts asked objects text → IsTextOfHistories specs scripts objects text
+unordered specs scripts asked objects text is = record { histories = is.histories; each = is.each; printed = is.printed }
+
+pub run_answered : (words others : List (List ℕ)) (contents : List ℕ → Option (List ℕ)) (history : List ℕ) (names files : List (List ℕ)) (specs again : List Specification) (scripts reread : List (List ScriptLine)) (objects renamed : List (List ℕ)) (asked : List (List SyncLine)) (text bytes said : List ℕ)
+    → IsJob words contents (Accepted (Run names files) specs scripts objects asked) → IsTextOf (Accepted (Run names files) specs scripts objects asked) text
     → AreTold others contents → command_of others ≡ Some (Audit history names files) → contents history ≡ Some text
     → IsJob others contents (AcceptedAudit again reread renamed bytes) → IsTextOf (AcceptedAudit again reread renamed bytes) said → said ≡ codes "yes" ++ 10 ∷ []
-run_answered words others contents history names files _ _ _ _ _ _ text _ said (accepted (Run names files) specs scripts objects spelled told tells separate plain) is known asked holds (accepted_audit name sheets lists bytes again reread renamed spells given small says reads) answer =
-    let same : Audit name sheets lists ≡ Audit history names files = same_some (sym spells ∙ asked) in
+run_answered words others contents history names files _ _ _ _ _ _ _ text _ said (accepted (Run names files) specs scripts objects texts spelled told tells sound separate plain) is known heard holds (accepted_audit name sheets lists bytes again reread renamed rewritten spells given small says reads) answer =
+    let same : Audit name sheets lists ≡ Audit history names files = same_some (sym spells ∙ heard) in
     let same_history : name ≡ history = cc same in
     let same_sheets : sheets ≡ names = cc same in
     let same_lists : lists ≡ files = cc same in
-    let all = known (Audit history names files) asked in
+    let all = known (Audit history names files) heard in
     let bytes_are : bytes ≡ text = held_one (contents history) bytes text holds (subst (λ v. Gives contents (Named v) bytes) same_history given) in
     let specs_are : again ≡ specs = say_one contents false [] (named names) again specs all.0 (subst (λ v. SaySpecifications contents false [] (named v) again) same_sheets says) told in
-    let reads_here = subst (λ v. SayScripts contents v 198000 [] (named files) reread renamed) specs_are (subst (λ v. SayScripts contents again 198000 [] (named v) reread renamed) same_lists reads) in
-    let both = scripts_same contents specs 198000 0 [] (named files) reread scripts renamed objects all.1 reads_here tells in
-    answered specs scripts objects text said is
+    let reads_here = subst (λ v. SayScripts contents false v 198000 [] (named files) reread renamed rewritten) specs_are (subst (λ v. SayScripts contents false again 198000 [] (named v) reread renamed rewritten) same_lists reads) in
+    let both = scripts_same contents specs 198000 0 [] (named files) reread scripts renamed objects rewritten texts all.1 reads_here tells in
+    answered specs scripts objects text said (unordered specs scripts (asked_by true texts) objects text is)
     (subst (λ v. IsTextOfVerdict specs scripts objects v said) bytes_are
     (subst (λ v. IsTextOfVerdict specs scripts v bytes said) both.1
     (subst (λ v. IsTextOfVerdict specs v renamed bytes said) both.0

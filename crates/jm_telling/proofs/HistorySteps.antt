@@ -33,7 +33,8 @@ use Rattle.jm_print.specs.Texts.{IsPrintable}
 use Rattle.jm_print.specs.Told.{BindsSome, HaveEight, FitsStep, IsTold, AreTold}
 use Rattle.jm_inputs.specs.Specifications.{Specification, meaning_of}
 use Rattle.jm_top.specs.Histories.{IsHistoryOf, lexicon}
-use Rattle.jm_top.proofs.PrintLemmas.{IsNamedStep, printable}
+use Rattle.jm_print.specs.Names.{IsNamedStep}
+use Rattle.jm_print.proofs.PrintLemmas.{printable}
 use Rattle.jm_telling.specs.Tellable.{NamesWithin, IsTellable}
 use Rattle.jm_telling.proofs.TableMasks.{HasMasks, mask_within}
 use Rattle.jm_telling.proofs.ScriptSteps.{HasObjects, IsLineIn}

@@ -1,5 +1,5 @@
 -- The names of what an accepted command reads.
-use Rattle.std.proofs.Common.{ℕ, ◌+◌, Bool, List, [], ◌∷◌, ◌++◌, length, map, Option, sym, subst}
+use Rattle.std.proofs.Common.{ℕ, ◌+◌, Bool, true, List, [], ◌∷◌, ◌++◌, length, map, Option, sym, subst}
 use Rattle.jm_script.specs.declared.script.ScriptLine.{ScriptLine}
 use Rattle.jm_sync.specs.declared.line.SyncLine.{SyncLine}
 use Rattle.jm_sync.specs.Cuts.{rest_of}
@@ -31,17 +31,11 @@ specifications_names objects named contents families before (source ∷ sources)
     subst (λ (ss : List Specification). HaveNames (map (lexicon objects) ss)) (sym said.3)
     (specification_names objects named said.0 said.1 said.5.said, specifications_names objects named contents families (before ++ said.1 ∷ []) sources said.2 said.6)
 
-scripts_names : (contents : List ℕ → Option (List ℕ)) (specs : List Specification) (count : ℕ) (names : List (List ℕ)) (sources : List Source) (scripts : List (List ScriptLine)) (objects texts : List (List ℕ)) → AreNames names → SayScripts contents specs count names sources scripts objects texts → AreNames objects
+scripts_names : (contents : List ℕ → Option (List ℕ)) (specs : List Specification) (count : ℕ) (names : List (List ℕ)) (sources : List Source) (scripts : List (List ScriptLine)) (objects texts : List (List ℕ)) → AreNames names → SayScripts contents true specs count names sources scripts objects texts → AreNames objects
 scripts_names contents specs count names [] scripts objects texts before said = subst AreNames (sym said.1) before
 scripts_names contents specs count names (source ∷ sources) scripts objects texts before said =
     scripts_names contents specs (count + length said.1) said.3 sources said.2 objects said.4 (subst AreNames (sym said.8.said.named) (script_named (catalog_of specs) count (rest_of said.0) names before)) said.9
 
-<<<<<<< ours
 pub job_names : (words : List (List ℕ)) (contents : List ℕ → Option (List ℕ)) (command : CommandWords) (specs : List Specification) (scripts : List (List ScriptLine)) (objects : List (List ℕ)) (asked : List (List SyncLine)) → IsJob words contents (Accepted command specs scripts objects asked) → HaveNames (map (lexicon objects) specs)
-job_names words contents _ _ _ _ _ (accepted command specs scripts objects texts spelled said tells sound separate) =
+job_names words contents _ _ _ _ _ (accepted command specs scripts objects texts spelled said tells sound separate plain) =
     specifications_names objects (scripts_names contents specs 0 [] _ scripts objects texts no_names tells) contents _ [] _ specs said
-=======
-pub job_names : (words : List (List ℕ)) (contents : List ℕ → Option (List ℕ)) (command : CommandWords) (specs : List Specification) (scripts : List (List ScriptLine)) (objects : List (List ℕ)) → IsJob words contents (Accepted command specs scripts objects) → HaveNames (map (lexicon objects) specs)
-job_names words contents _ _ _ _ (accepted command specs scripts objects spelled said tells separate plain) =
-    specifications_names objects (scripts_names contents specs 0 [] _ scripts objects no_names tells) contents _ [] _ specs said
->>>>>>> theirs

@@ -1,5 +1,5 @@
 -- The histories of an accepted command are told by their texts.
-use Rattle.std.proofs.Common.{◌≡◌, ℕ, ◌+◌, ◌≤◌, ◌^◌, Bool, List, [], ◌∷◌, ◌++◌, length, map, Option, sym, ap, subst, ◌∙◌, arith}
+use Rattle.std.proofs.Common.{◌≡◌, ℕ, ◌+◌, ◌≤◌, ◌^◌, Bool, true, List, [], ◌∷◌, ◌++◌, length, map, Option, sym, ap, subst, ◌∙◌, arith}
 use Rattle.std.specs.List.{AllByRecursion}
 use Rattle.std.proofs.lemmas.List.{length-map}
 use Rattle.jm_model.specs.declared.step.Entry.{Entry}
@@ -35,7 +35,7 @@ record AreFitScripts (names : List (List ℕ)) (sources : List Source) (scripts 
   many : length scripts ≡ length sources
   lines : AreLinesIn (length objects) scripts
 
-fit_scripts : (contents : List ℕ → Option (List ℕ)) (specs : List Specification) (count : ℕ) (names : List (List ℕ)) (sources : List Source) (scripts : List (List ScriptLine)) (objects texts : List (List ℕ)) → SayScripts contents specs count names sources scripts objects texts → AreFitScripts names sources scripts objects
+fit_scripts : (contents : List ℕ → Option (List ℕ)) (specs : List Specification) (count : ℕ) (names : List (List ℕ)) (sources : List Source) (scripts : List (List ScriptLine)) (objects texts : List (List ℕ)) → SayScripts contents true specs count names sources scripts objects texts → AreFitScripts names sources scripts objects
 fit_scripts contents specs count names [] scripts objects texts said =
     subst (λ (ss : List (List ScriptLine)). AreFitScripts names [] ss objects) (sym said.0)
     (record { grown = omega (arith, ap (λ (os : List (List ℕ)). length os) said.1); many = omega arith; lines = tt })
@@ -86,14 +86,8 @@ histories_told objects scripts short lines number (s ∷ specs) (h ∷ hs) said 
   histories_told objects scripts short lines (number + 1) specs hs said.1 are.1,
 )
 
-<<<<<<< ours
 pub job_told : (words : List (List ℕ)) (contents : List ℕ → Option (List ℕ)) (command : CommandWords) (specs : List Specification) (scripts : List (List ScriptLine)) (objects : List (List ℕ)) (asked : List (List SyncLine)) (hs : List (List Entry)) → IsJob words contents (Accepted command specs scripts objects asked) → AreHistoriesFrom 0 specs scripts hs → AreToldBy (map (lexicon objects) specs) hs
-job_told words contents _ _ _ _ _ hs (accepted command specs scripts objects texts spelled said tells sound separate) are =
+job_told words contents _ _ _ _ _ hs (accepted command specs scripts objects texts spelled said tells sound separate plain) are =
     let fits = fit_scripts contents specs 0 [] (script_sources command) scripts objects texts tells in
-=======
-pub job_told : (words : List (List ℕ)) (contents : List ℕ → Option (List ℕ)) (command : CommandWords) (specs : List Specification) (scripts : List (List ScriptLine)) (objects : List (List ℕ)) (hs : List (List Entry)) → IsJob words contents (Accepted command specs scripts objects) → AreHistoriesFrom 0 specs scripts hs → AreToldBy (map (lexicon objects) specs) hs
-job_told words contents _ _ _ _ hs (accepted command specs scripts objects spelled said tells separate plain) are =
-    let fits = fit_scripts contents specs 0 [] (script_sources command) scripts objects tells in
->>>>>>> theirs
     let short : length scripts ≤ 16 = omega (arith, fits.many, few_sources command (few_named words command spelled)) in
     histories_told objects scripts short fits.lines 0 specs hs (each_said contents _ [] _ specs said) are

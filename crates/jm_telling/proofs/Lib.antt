@@ -15,4 +15,5 @@ pub mod OneJob
 pub mod OneRefusal
 pub mod TokenLemmas
 pub mod PartLemmas
+pub mod SilentLemmas
 pub mod AuditLemmas

@@ -1,6 +1,5 @@
 -- The commands, by what was read.
-<<<<<<< ours
-use Rattle.std.proofs.Common.{◌≡◌, ℕ, true, false, List, [], ◌∷◌, Option, Some, Result, Ok, Err, IfOk, IfErr, refl, ap, subst, ◌∙◌}
+use Rattle.std.proofs.Common.{◌≡◌, ◌≤◌, ℕ, true, false, List, [], ◌∷◌, length, Option, Some, Result, Ok, Err, IfOk, IfErr, refl, ap, subst, ◌∙◌}
 use Rattle.std.specs.List.{flat_map}
 use Rattle.std.specs.Global.{Vec}
 use Rattle.std.proofs.lemmas.List.Elements.{All-nil}
@@ -8,28 +7,16 @@ use Rattle.jm_sync.specs.declared.line.Cut.{Cut}
 use Rattle.jm_sync.specs.Checks.{AreSound, sync_of}
 use Rattle.jm_runner.proofs.PostLemmas.{none_sound}
 use Rattle.jm_inputs.specs.Inputs.{asked_by}
-use Rattle.jm_cli.specs.Words.CommandWords.{Replay, Run, Check, Coenable, Gen, Sweep}
-=======
-use Rattle.std.proofs.Common.{◌≡◌, ◌≤◌, ℕ, true, false, List, [], ◌∷◌, length, Option, Some, Result, Ok, Err, IfOk, IfErr, refl, ap, ◌∙◌}
-use Rattle.std.specs.List.{flat_map}
-use Rattle.std.specs.Global.{Vec}
 use Rattle.jm_cli.specs.Words.CommandWords.{Replay, Run, Check, Coenable, Gen, Sweep, Audit}
->>>>>>> theirs
 use Rattle.jm_inputs.specs.declared.status.Status.{Status}
 use Rattle.jm_model.specs.declared.fault.ScriptFault.TheVariants as script
 use Rattle.jm_inputs.specs.declared.status.Status.TheVariants.{ReadFailed}
 use Rattle.jm_inputs.specs.declared.library.Library.{Library}
 use Rattle.jm_inputs.specs.declared.inputs.Inputs.{Inputs}
 use Rattle.jm_inputs.specs.Sources.{Named, Gives}
-<<<<<<< ours
-use Rattle.jm_inputs.specs.Commands.{named, given_files, workload_specs, workload_scripts}
-use Rattle.jm_top.specs.Histories.{IsTextOfOrdered, IsTextOfSummaries}
-use Rattle.jm_top.specs.Texts.{declared_text, IsTextOfFamilies}
-=======
 use Rattle.jm_inputs.specs.Commands.{named, given_files, workload_specs, workload_scripts, most_of_history}
-use Rattle.jm_top.specs.Histories.{IsTextOfHistories, IsTextOfSummaries}
+use Rattle.jm_top.specs.Histories.{IsTextOfOrdered, IsTextOfSummaries}
 use Rattle.jm_top.specs.Texts.{declared_text, IsTextOfFamilies, IsTextOfVerdict}
->>>>>>> theirs
 use Rattle.jm_inputs.specs.Causes.{IsNoRecordingIn}
 use Rattle.jm_inputs.specs.Reading.{specs_in, IsLibraryOf, AreInputsOf}
 use Rattle.jm_top.specs.Sweeps.{IsSweptWhole}
@@ -45,13 +32,8 @@ nothing_asked : AreSound []
 nothing_asked = none_sound [] (All-nil (λ (cut : Cut). cut.lines.items ≡ []))
 
 module _ (contents : List ℕ → Option (List ℕ)) where
-<<<<<<< ours
-  pub replay_made : (spec script : List ℕ) (inputs : Inputs) (text : List ℕ) → AreInputsOf contents (named (spec ∷ [])) (named (script ∷ [])) inputs
+  pub replay_made : (spec script : List ℕ) (inputs : Inputs) (text : List ℕ) → AreInputsOf contents true 0 (named (spec ∷ [])) (named (script ∷ [])) inputs
       → IsTextOfOrdered (specs_in inputs.library) inputs.scripts.list.items (sync_of inputs.scripts.cuts.items) inputs.scripts.objects text → IsTextOfCommand contents (Replay spec script) text
-=======
-  pub replay_made : (spec script : List ℕ) (inputs : Inputs) (text : List ℕ) → AreInputsOf contents 0 (named (spec ∷ [])) (named (script ∷ [])) inputs
-      → IsTextOfHistories (specs_in inputs.library) inputs.scripts.list.items inputs.scripts.objects text → IsTextOfCommand contents (Replay spec script) text
->>>>>>> theirs
   replay_made spec script inputs text h made = of_scripts (record {
     specs = specs_in inputs.library;
     scripts = inputs.scripts.list.items;
@@ -61,20 +43,12 @@ module _ (contents : List ℕ → Option (List ℕ)) where
     told = h.read.read.said;
     sound = subst AreSound h.read.read.asked h.read.sound;
     separate = refl;
-<<<<<<< ours
+    plain = refl;
     is_text = subst (λ v. IsTextOfOrdered (specs_in inputs.library) inputs.scripts.list.items v inputs.scripts.objects text) h.read.read.asked made;
   })
 
-  pub run_made : (specs scripts : List (List ℕ)) (inputs : Inputs) (text : List ℕ) → AreInputsOf contents (named specs) (named scripts) inputs
+  pub run_made : (specs scripts : List (List ℕ)) (inputs : Inputs) (text : List ℕ) → AreInputsOf contents true 0 (named specs) (named scripts) inputs
       → IsTextOfOrdered (specs_in inputs.library) inputs.scripts.list.items (sync_of inputs.scripts.cuts.items) inputs.scripts.objects text → IsTextOfCommand contents (Run specs scripts) text
-=======
-    plain = refl;
-    is_text = made;
-  })
-
-  pub run_made : (specs scripts : List (List ℕ)) (inputs : Inputs) (text : List ℕ) → AreInputsOf contents 0 (named specs) (named scripts) inputs
-      → IsTextOfHistories (specs_in inputs.library) inputs.scripts.list.items inputs.scripts.objects text → IsTextOfCommand contents (Run specs scripts) text
->>>>>>> theirs
   run_made specs scripts inputs text h made = of_scripts (record {
     specs = specs_in inputs.library;
     scripts = inputs.scripts.list.items;
@@ -84,15 +58,11 @@ module _ (contents : List ℕ → Option (List ℕ)) where
     told = h.read.read.said;
     sound = subst AreSound h.read.read.asked h.read.sound;
     separate = refl;
-<<<<<<< ours
-    is_text = subst (λ v. IsTextOfOrdered (specs_in inputs.library) inputs.scripts.list.items v inputs.scripts.objects text) h.read.read.asked made;
-=======
     plain = refl;
-    is_text = made;
->>>>>>> theirs
+    is_text = subst (λ v. IsTextOfOrdered (specs_in inputs.library) inputs.scripts.list.items v inputs.scripts.objects text) h.read.read.asked made;
   })
 
-  pub gen_made : (n : ℕ) (inputs : Inputs) (text : List ℕ) → AreInputsOf contents 0 (given_files workload_specs) (given_files (workload_scripts n)) inputs → IsTextOfSummaries (specs_in inputs.library) inputs.scripts.list.items text → IsTextOfCommand contents (Gen n) text
+  pub gen_made : (n : ℕ) (inputs : Inputs) (text : List ℕ) → AreInputsOf contents true 0 (given_files workload_specs) (given_files (workload_scripts n)) inputs → IsTextOfSummaries (specs_in inputs.library) inputs.scripts.list.items text → IsTextOfCommand contents (Gen n) text
   gen_made n inputs text h made = of_scripts (record {
     specs = specs_in inputs.library;
     scripts = inputs.scripts.list.items;
@@ -107,7 +77,7 @@ module _ (contents : List ℕ → Option (List ℕ)) where
   })
 
   pub audit_made : (history bytes : List ℕ) (specs scripts : List (List ℕ)) (inputs : Inputs) (text : List ℕ) → Gives contents (Named history) bytes → length bytes ≤ most_of_history
-      → AreInputsOf contents 198000 (named specs) (named scripts) inputs
+      → AreInputsOf contents false 198000 (named specs) (named scripts) inputs
       → IsTextOfVerdict (specs_in inputs.library) inputs.scripts.list.items inputs.scripts.objects bytes text → IsTextOfCommand contents (Audit history specs scripts) text
   audit_made history bytes specs scripts inputs text given small h made = of_audit (record {
     history = history;
@@ -117,11 +87,12 @@ module _ (contents : List ℕ → Option (List ℕ)) where
     specs = specs_in inputs.library;
     scripts = inputs.scripts.list.items;
     objects = inputs.scripts.objects;
+    texts = h.read.read.texts;
     is = refl;
     given = given;
     small = small;
     said = h.library.said;
-    told = h.read.said;
+    told = h.read.read.said;
     is_text = made;
   })
 
@@ -145,17 +116,10 @@ module _ (contents : List ℕ → Option (List ℕ)) where
   sweep_carried_out spec recording bytes library (Err status) read given made none = sweep_faulty contents spec recording bytes library status read given none
 
   pub check_made : (specs : List (List ℕ)) (library : Library) (text : List ℕ) → IsLibraryOf contents false (named specs) library → text ≡ flat_map declared_text (specs_in library) → IsTextOfCommand contents (Check specs) text
-<<<<<<< ours
-  check_made specs library text h made = of_scripts (record { specs = specs_in library; scripts = []; objects = []; texts = []; said = h.said; told = (refl, refl, refl); sound = nothing_asked; separate = refl; is_text = made })
+  check_made specs library text h made = of_scripts (record { specs = specs_in library; scripts = []; objects = []; texts = []; said = h.said; told = (refl, refl, refl); sound = nothing_asked; separate = refl; plain = refl; is_text = made })
 
   pub coenable_made : (specs : List (List ℕ)) (library : Library) (text : List ℕ) → IsLibraryOf contents true (named specs) library → IsTextOfFamilies (specs_in library) text → IsTextOfCommand contents (Coenable specs) text
-  coenable_made specs library text h made = of_scripts (record { specs = specs_in library; scripts = []; objects = []; texts = []; said = h.said; told = (refl, refl, refl); sound = nothing_asked; separate = refl; is_text = made })
-=======
-  check_made specs library text h made = of_scripts (record { specs = specs_in library; scripts = []; objects = []; said = h.said; told = (refl, refl); separate = refl; plain = refl; is_text = made })
-
-  pub coenable_made : (specs : List (List ℕ)) (library : Library) (text : List ℕ) → IsLibraryOf contents true (named specs) library → IsTextOfFamilies (specs_in library) text → IsTextOfCommand contents (Coenable specs) text
-  coenable_made specs library text h made = of_scripts (record { specs = specs_in library; scripts = []; objects = []; said = h.said; told = (refl, refl); separate = refl; plain = refl; is_text = made })
->>>>>>> theirs
+  coenable_made specs library text h made = of_scripts (record { specs = specs_in library; scripts = []; objects = []; texts = []; said = h.said; told = (refl, refl, refl); sound = nothing_asked; separate = refl; plain = refl; is_text = made })
 
 module _ (contents : List ℕ → Option (List ℕ)) (file : ℕ) where
   -- so none fails to be read
@@ -167,13 +131,8 @@ module _ (contents : List ℕ → Option (List ℕ)) (file : ℕ) where
 module _ (words : List (List ℕ)) (contents : List ℕ → Option (List ℕ)) (c : CommandWords) (spelled : command_of words ≡ Some c) where
   pub text_made : (text : List ℕ) → IsTextOfCommand contents c text → IsText words contents text
   text_made text (of_scripts h) = record {
-<<<<<<< ours
-    job = Accepted c h.specs h.scripts h.objects (asked_by h.texts);
-    is_job = accepted c h.specs h.scripts h.objects h.texts spelled h.said h.told h.sound h.separate;
-=======
-    job = Accepted c h.specs h.scripts h.objects;
-    is_job = accepted c h.specs h.scripts h.objects spelled h.said h.told h.separate h.plain;
->>>>>>> theirs
+    job = Accepted c h.specs h.scripts h.objects (asked_by true h.texts);
+    is_job = accepted c h.specs h.scripts h.objects h.texts spelled h.said h.told h.sound h.separate h.plain;
     is_text = h.is_text;
   }
   text_made text (of_recording h) = record {
@@ -183,6 +142,6 @@ module _ (words : List (List ℕ)) (contents : List ℕ → Option (List ℕ)) (
   }
   text_made text (of_audit h) = record {
     job = AcceptedAudit h.specs h.scripts h.objects h.bytes;
-    is_job = accepted_audit h.history h.names h.files h.bytes h.specs h.scripts h.objects (spelled ∙ ap (λ v. Some v) h.is) h.given h.small h.said h.told;
+    is_job = accepted_audit h.history h.names h.files h.bytes h.specs h.scripts h.objects h.texts (spelled ∙ ap (λ v. Some v) h.is) h.given h.small h.said h.told;
     is_text = h.is_text;
   }

@@ -108,10 +108,10 @@ entries_of_lists P lists h each is = All-weaker (Contains h) (λ (x : Entry). P 
 -- Rules of an entry that has this number in a catalog.
 module _ (entry : CatalogEntry) (rules : RuleDefinition) (whole : AreRulesOf entry rules) (catalog : List CatalogEntry) (number : ℕ) (there : table_of catalog number ≡ entry.table) where
   -- the letters and their parameters are those of the events
-  mask_of_rules : (e : ℕ) → mask_at (table_of catalog number) e ≡ unwrap_or (slice_get rules.masks e) 0
+  pub mask_of_rules : (e : ℕ) → mask_at (table_of catalog number) e ≡ unwrap_or (slice_get rules.masks e) 0
   mask_of_rules e = ap (λ (x : EventDefinitions). mask_at x e) there ∙ sym (ap (λ ms. unwrap_or (slice_get ms e) 0) whole.masks ∙ mask_there entry.table.events e)
 
-  letters_of_rules : length (table_of catalog number).events ≡ length rules.masks
+  pub letters_of_rules : length (table_of catalog number).events ≡ length rules.masks
   letters_of_rules = ap (λ (x : EventDefinitions). length x.events) there ∙ sym (ap (λ ms. length ms) whole.masks ∙ length-map entry.table.events (λ (e : EventDefinition). e.mask))
 
   -- a step that fits the specification is one of its meaning
@@ -126,7 +126,7 @@ module _ (entry : CatalogEntry) (rules : RuleDefinition) (whole : AreRulesOf ent
       subst (λ m. m < 2 ^ length entry.table.parameters) (sym (mask_of_rules e)) (small_masks rules.masks (2 ^ length entry.table.parameters) (power_some (length entry.table.parameters)) whole.fit e)
 
   -- and has names
-  fitting_named : (titles : Titles) (objects : List (List ℕ)) (x : Step) → FitsSpecification catalog (length objects) number x → IsNamedStep (lexicon objects (titled entry titles rules)) x
+  pub fitting_named : (titles : Titles) (objects : List (List ℕ)) (x : Step) → FitsSpecification catalog (length objects) number x → IsNamedStep (lexicon objects (titled entry titles rules)) x
   fitting_named titles objects (Event e b) fits = (
     subst (λ n. e.0 < n) (sym (length-map entry.table.events (λ (x : EventDefinition). x.name))) (subst (λ (x : EventDefinitions). e.0 < length x.events) there fits.event.event),
     λ p o at. (bound_parameter b (length entry.table.parameters) p o (subst (λ m. m < 2 ^ length entry.table.parameters) (sym fits.event.parameters) (small_params e.0)) at, named_object b (length objects) p o fits.named at),
@@ -255,6 +255,7 @@ replay_text entry titles rules script objects text h = record {
 
 ordered_text : (entry : CatalogEntry) (titles : Titles) (rules : RuleDefinition) (script : List ScriptLine) (objects : List (List ℕ)) (asked : List (List SyncLine)) (text : List ℕ)
     → (h : IsPrintedReplay (rules_meaning rules) (projection_of (script_of script) 0) (lexicon objects (titled entry titles rules)) text) → IsOrdered h.history asked → IsTextOfOrdered (titled entry titles rules ∷ []) (script ∷ []) asked objects text
+unfolding replay_text
 ordered_text entry titles rules script objects asked text h ordered =
     let made = replay_text entry titles rules script objects text h in
     record { histories = made.histories; each = made.each; ordered = All-cons (λ (x : List Entry). IsOrdered x asked) h.history [] ordered (All-nil (λ (x : List Entry). IsOrdered x asked)); printed = made.printed }

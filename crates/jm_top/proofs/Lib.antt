@@ -1,8 +1,8 @@
-pub mod SheetLemmas
 pub mod EndingLemmas
 pub mod NameLemmas
 pub mod LoneLemmas
 pub mod HistoryLemmas
+pub mod SheetLemmas
 pub mod FewLemmas
 pub mod RunLemmas
 pub mod TextLemmas

@@ -20,7 +20,7 @@ use Rattle.jm_sync.specs.declared.line.SyncKind.TheVariants.{Post, Wait}
 use Rattle.jm_sync.specs.declared.line.SyncLine.{SyncLine}
 use Rattle.jm_sync.specs.Checks.{line_at, Reachable, at_post, at_wait, AreSound}
 use Rattle.jm_sync.specs.Cuts.{RisesFrom as SyncRisesFrom}
-use Rattle.jm_runner.specs.Orders.{post_at, wait_at, StandBefore, HasAbove, AreBehind, IsOrdered}
+use Rattle.jm_runner.specs.Orders.{post_at, wait_at, StandBefore, AreBehind, IsOrdered}
 use Rattle.jm_runner.proofs.LineLemmas.{sync_rises}
 use Rattle.jm_runner.proofs.OrderLemmas.{gives_order}
 use Rattle.jm_runner.proofs.PlaceLemmas.{contains_at}
@@ -73,13 +73,13 @@ rises_earlier n m (l ∷ script) le rising =
 
 steps_rise : (n s : ℕ) (script : List ScriptLine) → RisesFrom n script → StepsRise n (projection_of (script_of script) s)
 steps_rise n s [] rising = tt
-steps_rise n s (l ∷ script) rising = by_case (is_for s (spec_of l.target)) refl
+steps_rise n s (l ∷ script) rising =
+    let first : n ≤ l.line = rising.0 in
+    by_case (is_for s (spec_of l.target)) refl (steps_rise (l.line + 1) s script rising.1) (steps_rise n s script (rises_earlier n (l.line + 1) script (omega (arith, first)) rising.1))
   where
-    by_case : (b : Bool) → is_for s (spec_of l.target) ≡ b → StepsRise n (projection_of (script_of (l ∷ script)) s)
-    by_case true e = rw e (rising.0, steps_rise (l.line + 1) s script rising.1)
-    by_case false e =
-        let first : n ≤ l.line = rising.0 in
-        rw e (steps_rise n s script (rises_earlier n (l.line + 1) script (omega arith) rising.1))
+    by_case : (b : Bool) → is_for s (spec_of l.target) ≡ b → StepsRise (l.line + 1) (projection_of (script_of script) s) → StepsRise n (projection_of (script_of script) s) → StepsRise n (projection_of (script_of (l ∷ script)) s)
+    by_case true e more rest = rw e (rising.0, more)
+    by_case false e more rest = rw e rest
 
 all_later : (n : ℕ) (steps : List (ℕ × Step)) → StepsRise n steps → All (λ (step : ℕ × Step). n ≤ step.0) steps
 all_later n [] rising = All-nil (λ (step : ℕ × Step). n ≤ step.0)

@@ -1,39 +1,34 @@
 -- The sheets of a library's specifications: the scripts that were read fit them, and what they allow is what is allowed over
 -- the specifications.
-use Rattle.std.proofs.Common.{◌≡◌, ℕ, zero, suc, ◌+◌, ◌^◌, ◌<◌, ◌≤◌, List, [], ◌∷◌, ◌++◌, length, get_or, map, length-append, pow-suc, refl, sym, ◌∙◌, ap, subst, inl, inr, arith}
-use Rattle.std.specs.Prelude.{◌⊎◌, All, Option, Some, None, slice_get, unwrap_or, option_map}
+use Rattle.std.proofs.Common.{◌≡◌, ℕ, zero, suc, ◌+◌, ◌<◌, List, [], ◌∷◌, ◌++◌, length, get_or, map, refl, sym, ◌∙◌, ap, subst, inl, inr, arith}
+use Rattle.std.specs.Prelude.{◌⊎◌, All, Option, Some, None, slice_get, option_map}
 use Rattle.std.specs.Option.{option_map_or}
-use Rattle.std.proofs.lemmas.Option.{slice_get-map, none-some, same_Some, slice_get-get_or}
-use Rattle.std.proofs.lemmas.List.{length-map, length_push}
+use Rattle.std.proofs.lemmas.Option.{slice_get-map, none-some, same_Some}
+use Rattle.std.proofs.lemmas.List.{length_push}
 use Rattle.std.proofs.lemmas.List.Elements.{All-head, All-tail, All-map, All-weaker}
-use Rattle.jm_model.specs.Bindings.{object_at, objects_of, mask_of}
 use Rattle.jm_model.specs.Meanings.{Meaning}
-use Rattle.jm_model.specs.declared.binding.Binding.{Binding}
 use Rattle.jm_model.specs.declared.step.Step.{Step}
 use Rattle.jm_model.specs.declared.step.Step.TheVariants.{Event, Death, Pass}
 use Rattle.jm_semantics.specs.Legality.{IsStepOf}
 use Rattle.jm_semantics.specs.Scripts.{projection_of}
-use Rattle.jm_events.specs.Events.{EventDefinition, EventDefinitions}
+use Rattle.jm_events.specs.Events.{EventDefinitions}
 use Rattle.jm_print.specs.Lexicons.{Lexicon, lexicon_of}
-use Rattle.jm_print.specs.Names.{IsNamedStep}
 use Rattle.jm_script.specs.Catalogs.{CatalogEntry, table_of}
-use Rattle.jm_script.specs.Events.{mask_at}
 use Rattle.jm_script.specs.Fitting.{FitsCatalog, FitsSpecification}
 use Rattle.jm_script.specs.Projections.{script_of}
 use Rattle.jm_script.specs.declared.script.ScriptLine.{ScriptLine}
 use Rattle.jm_script.proofs.FittingLemmas.{projection_fits}
-use Rattle.jm_machine.specs.Meanings.{PropertyDefinition, RuleDefinition, handler_count, rules_meaning}
-use Rattle.jm_machine.specs.HandlerNames.{numbered, numbered_from, names_for, names_of}
+use Rattle.jm_machine.specs.Meanings.{RuleDefinition, rules_meaning}
+use Rattle.jm_machine.specs.HandlerNames.{names_of}
 use Rattle.jm_inputs.specs.declared.specification.Loaded.{Loaded}
 use Rattle.jm_inputs.specs.declared.library.Library.{Library}
 use Rattle.jm_inputs.specs.declared.scripts.Scripts.{Scripts}
 use Rattle.jm_inputs.specs.Scripts.{entry_of, catalog_of}
 use Rattle.jm_inputs.specs.Reading.{Listed, named_entry, listing, listed, listed_in, AreRulesOf, specification_of, IsWhole, specs_in, IsCatalogued, AreCounted}
 use Rattle.jm_semantics.specs.Legality.{IsLegal}
-use Rattle.jm_semantics.specs.Scripts.{IsInterleaving}
 use Rattle.jm_model.specs.declared.step.Entry.{Entry}
 use Rattle.jm_print.specs.Told.{texts_of}
-use Rattle.jm_inputs.specs.Specifications.{Specification, meaning_of}
+use Rattle.jm_inputs.specs.Specifications.{Specification}
 use Rattle.jm_audit.specs.declared.verdict.Verdict.{Verdict}
 use Rattle.jm_audit.specs.declared.verdict.Verdict.TheVariants.{Yes, No}
 use Rattle.jm_audit.specs.Fronts.{IsReached}
@@ -41,78 +36,16 @@ use Rattle.jm_audit.specs.Verdicts.{IsVerdict}
 use Rattle.jm_audit.specs.Allowed as audit
 use Rattle.jm_audit.specs.Allowed.{steps_on}
 use Rattle.jm_top.specs.Histories.{AreHistoriesFrom, lexicon, IsTextOfHistories}
+use Rattle.jm_top.proofs.NameLemmas.{count_names}
+use Rattle.jm_top.proofs.HistoryLemmas.{mask_of_rules, letters_of_rules, fitting_named}
 use Rattle.jm_audit.specs.Sheets.{IsFit, AreFit, FitSheets}
 
--- ---- bindings
-named_object : (b : Binding) (n p o : ℕ) → All (λ q. q < n) (objects_of b) → object_at b p ≡ Some o → o < n
-named_object [] n p o all at = absurd cc
-named_object (None ∷ b) n zero o all at = absurd cc
-named_object (None ∷ b) n (suc p) o all at = named_object b n p o all at
-named_object (Some q ∷ b) n zero o all at = subst (λ x. x < n) (same_Some q o at) (All-head (λ x. x < n) q (objects_of b) all)
-named_object (Some q ∷ b) n (suc p) o all at = named_object b n p o (All-tail (λ x. x < n) q (objects_of b) all) at
-
-bound_parameter : (b : Binding) (n p o : ℕ) → mask_of b < 2 ^ n → object_at b p ≡ Some o → p < n
-bound_parameter [] n p o small at = absurd cc
-bound_parameter (None ∷ b) n zero o small at = absurd cc
-bound_parameter (None ∷ b) zero (suc p) o small at = absurd (omega (arith, bound_parameter b zero p o (omega (arith, small)) at))
-bound_parameter (None ∷ b) (suc n) (suc p) o small at = omega (arith, bound_parameter b n p o (omega (arith, small, pow-suc 2 n)) at)
-bound_parameter (Some q ∷ b) zero p o small at = absurd (omega (arith, small))
-bound_parameter (Some q ∷ b) (suc n) zero o small at = omega arith
-bound_parameter (Some q ∷ b) (suc n) (suc p) o small at = omega (arith, bound_parameter b n p o (omega (arith, small, pow-suc 2 n)) at)
-
--- ---- the meaning of rules
-mask_there : (events : List EventDefinition) (e : ℕ) → unwrap_or (slice_get (map (λ (x : EventDefinition). x.mask) events) e) 0 ≡ option_map_or (λ (x : EventDefinition). x.mask) (slice_get events e) 0
-mask_there events e = ap (λ o. unwrap_or o 0) (slice_get-map (λ (x : EventDefinition). x.mask) events e) ∙ by_case (slice_get events e)
-  where
-    by_case : (o : Option EventDefinition) → unwrap_or (option_map (λ (x : EventDefinition). x.mask) o) 0 ≡ option_map_or (λ (x : EventDefinition). x.mask) o 0
-    by_case None = refl
-    by_case (Some x) = refl
-
-small_masks : (masks : List ℕ) (bound : ℕ) → 0 < bound → All (λ m. m < bound) masks → (e : ℕ) → unwrap_or (slice_get masks e) 0 < bound
-small_masks [] bound some all e = some
-small_masks (m ∷ masks) bound some all zero = All-head (λ x. x < bound) m masks all
-small_masks (m ∷ masks) bound some all (suc e) = small_masks masks bound some (All-tail (λ x. x < bound) m masks all) e
-
-power_some : (n : ℕ) → 0 < 2 ^ n
-power_some zero = omega arith
-power_some (suc n) = omega (arith, power_some n, pow-suc 2 n)
-
-abbrev categories : List PropertyDefinition → List (List (List ℕ))
-categories ps = map (λ (p : PropertyDefinition). p.handlers) ps
-
-count_numbered : (j : ℕ) (ps : List PropertyDefinition) → length (numbered_from j (categories ps)) ≡ handler_count ps
-count_numbered j [] = refl
-count_numbered j (p ∷ ps) =
-    omega (arith, length-append (map (numbered j) p.handlers) (numbered_from (j + 1) (categories ps)), length-map p.handlers (numbered j), count_numbered (j + 1) ps)
-
--- Rules of an entry that has this number in a catalog.
-module _ (entry : CatalogEntry) (rules : RuleDefinition) (whole : AreRulesOf entry rules) (catalog : List CatalogEntry) (number : ℕ) (there : table_of catalog number ≡ entry.table) where
-  mask_of_rules : (e : ℕ) → mask_at (table_of catalog number) e ≡ unwrap_or (slice_get rules.masks e) 0
-  mask_of_rules e = ap (λ (x : EventDefinitions). mask_at x e) there ∙ sym (ap (λ ms. unwrap_or (slice_get ms e) 0) whole.masks ∙ mask_there entry.table.events e)
-
-  letters_of_rules : length (table_of catalog number).events ≡ length rules.masks
-  letters_of_rules = ap (λ (x : EventDefinitions). length x.events) there ∙ sym (ap (λ ms. length ms) whole.masks ∙ length-map entry.table.events (λ (e : EventDefinition). e.mask))
-
-  small_params : (e : ℕ) → mask_at (table_of catalog number) e < 2 ^ length entry.table.parameters
-  small_params e =
-      subst (λ m. m < 2 ^ length entry.table.parameters) (sym (mask_of_rules e)) (small_masks rules.masks (2 ^ length entry.table.parameters) (power_some (length entry.table.parameters)) whole.fit e)
-
-  own_step : (n : ℕ) (x : Step) → FitsSpecification catalog n number x → IsStepOf (rules_meaning rules) x
-  own_step n (Event e b) fits = (subst (λ k. e.0 < k) letters_of_rules fits.event.event, fits.eight, fits.event.parameters ∙ mask_of_rules e.0)
-  own_step n (Death o) fits = tt
-  own_step n Pass fits = tt
-
-  named_step : (l : Lexicon) (n : ℕ) → length l.events ≡ length entry.table.events → length l.parameters ≡ length entry.table.parameters → length l.objects ≡ n → (x : Step) → FitsSpecification catalog n number x
-      → IsNamedStep l x
-  named_step l n events parameters objects (Event e b) fits = (
-    subst (λ k. e.0 < k) (sym events) (subst (λ (x : EventDefinitions). e.0 < length x.events) there fits.event.event),
-    λ p o at. (
-      subst (λ k. p < k) (sym parameters) (bound_parameter b (length entry.table.parameters) p o (subst (λ m. m < 2 ^ length entry.table.parameters) (sym fits.event.parameters) (small_params e.0)) at),
-      subst (λ k. o < k) (sym objects) (named_object b n p o fits.named at),
-    ),
-  )
-  named_step l n events parameters objects (Death o) fits = subst (λ k. o < k) (sym objects) fits
-  named_step l n events parameters objects Pass fits = tt
+-- ---- the steps of a specification
+own_step : (entry : CatalogEntry) (rules : RuleDefinition) → AreRulesOf entry rules → (catalog : List CatalogEntry) (number : ℕ) → table_of catalog number ≡ entry.table → (n : ℕ) (x : Step) → FitsSpecification catalog n number x → IsStepOf (rules_meaning rules) x
+own_step entry rules whole catalog number there n (Event e b) fits =
+    (subst (λ k. e.0 < k) (letters_of_rules entry rules whole catalog number there) fits.event.event, fits.eight, fits.event.parameters ∙ mask_of_rules entry rules whole catalog number there e.0)
+own_step entry rules whole catalog number there n (Death o) fits = tt
+own_step entry rules whole catalog number there n Pass fits = tt
 
 -- ---- what is kept of a specification in its library
 listed_at : (es : List CatalogEntry) (ls : List Loaded) (k : ℕ) (name : List ℕ) (table : EventDefinitions) (l : Loaded) → length es ≡ length ls
@@ -142,14 +75,6 @@ projected catalog names number scripts fit =
     All-map (λ steps. All (λ (step : ℕ × Step). FitsSpecification catalog names number step.1) steps) (λ script. projection_of (script_of script) number) scripts
     (All-weaker (FitsCatalog catalog names) (λ script. All (λ (step : ℕ × Step). FitsSpecification catalog names number step.1) (projection_of (script_of script) number)) (λ script fits. projection_fits catalog names number script fits) scripts fit)
 
-count_names : (r : RuleDefinition) → length (names_of r) ≡ handler_count r.properties
-count_names r = count_for r.properties
-  where
-    count_for : (ps : List PropertyDefinition) → length (names_for (categories ps)) ≡ handler_count ps
-    count_for [] = refl
-    count_for (p ∷ []) = omega arith
-    count_for (p ∷ q ∷ ps) = count_numbered 0 (p ∷ q ∷ ps)
-
 -- the steps of the scripts fit the sheet of the specification of this number
 own_fits : (library : Library) (scripts : Scripts) → IsCatalogued library → AreCounted (specs_in library) scripts → (n : ℕ) (name : List ℕ) (table : EventDefinitions) (l : Loaded)
     → option_map (λ e. e.name) (slice_get library.catalog n) ≡ Some name → option_map (λ e. e.table) (slice_get library.catalog n) ≡ Some table → l ≡ get_or library.specs.items n l
@@ -168,7 +93,7 @@ own_fits library scripts catalogued counted n name table l named there here =
           All-weaker (λ (s : ℕ × Step). FitsSpecification catalog (length scripts.objects) n s.1) (λ (s : ℕ × Step). IsFit (rules_meaning rules) words s.1)
           (λ s fits. (
             own_step entry rules whole catalog n table_there (length scripts.objects) s.1 fits,
-            named_step entry rules whole catalog n table_there words (length scripts.objects) (length-map table.events (λ (e : EventDefinition). e.name)) refl refl s.1 fits,
+            fitting_named entry rules whole catalog n table_there l.titles scripts.objects s.1 fits,
           )) own
           (All-at (λ steps. All (λ (s : ℕ × Step). FitsSpecification catalog (length scripts.objects) n s.1) steps) (steps_on scripts.list.items n) k own (projected catalog (length scripts.objects) n scripts.list.items counted.fit) is);
     }
@@ -204,7 +129,10 @@ one_more (z ∷ xs) x (suc n) y at = elim (one_more xs x n y at) [
   | inr last ↦ inr (ap suc last.0, last.1)
 ]
 
-module _ {X : Type 0} (mean : X → Meaning) (words : X → Lexicon) (scripts : List (List ScriptLine)) where
+module _ {X : Type 0} (rules : X → RuleDefinition) (words : X → Lexicon) (scripts : List (List ScriptLine)) where
+  abbrev pub mean : X → Meaning
+  mean x = rules_meaning (rules x)
+
   pub fit_none : (xs : List X) → xs ≡ [] → FitSheets mean words scripts xs
   fit_none xs none = subst (λ (ys : List X). FitSheets mean words scripts ys) (sym none) (λ n x at. absurd (none-some x at))
 
@@ -223,19 +151,19 @@ module _ {X : Type 0} (mean : X → Meaning) (words : X → Lexicon) (scripts : 
   -- each sheet is that of the specification of its place
   abbrev pub AreSheetsOf : List X → List Specification → List (List ℕ) → Type 0
   AreSheetsOf xs ts objects = (k : ℕ) (x : X) (t : Specification) → slice_get xs k ≡ Some x → slice_get ts k ≡ Some t
-      → (mean x ≡ meaning_of t) × (words x ≡ lexicon objects t)
+      → (rules x ≡ t.rules) × (words x ≡ lexicon objects t)
 
   pub sheets_none : (xs : List X) (ts : List Specification) (objects : List (List ℕ)) → xs ≡ [] → AreSheetsOf xs ts objects
   sheets_none xs ts objects none = subst (λ (ys : List X). AreSheetsOf ys ts objects) (sym none) (λ k x t at there. absurd (none-some x at))
 
   pub sheets_more : (xs ys : List X) (x : X) (n : ℕ) (ts : List Specification) (objects : List (List ℕ)) → ys ≡ xs ++ x ∷ [] → length xs ≡ n → AreSheetsOf xs ts objects
-      → ((t : Specification) → slice_get ts n ≡ Some t → (mean x ≡ meaning_of t) × (words x ≡ lexicon objects t)) → AreSheetsOf ys ts objects
+      → ((t : Specification) → slice_get ts n ≡ Some t → (rules x ≡ t.rules) × (words x ≡ lexicon objects t)) → AreSheetsOf ys ts objects
   sheets_more xs ys x n ts objects is many all here =
       subst (λ (zs : List X). AreSheetsOf zs ts objects) (sym is)
       (λ k y t at there. elim (one_more xs x k y at) [
         | inl other ↦ all k y t other there
         | inr last ↦
-            subst (λ (z : X). (mean z ≡ meaning_of t) × (words z ≡ lexicon objects t)) last.1 (here t (ap (slice_get ts) (sym (last.0 ∙ many)) ∙ there))
+            subst (λ (z : X). (rules z ≡ t.rules) × (words z ≡ lexicon objects t)) last.1 (here t (ap (slice_get ts) (sym (last.0 ∙ many)) ∙ there))
       ])
 
   same_words : (xs : List X) (ts : List Specification) (objects : List (List ℕ)) → length xs ≡ length ts → AreSheetsOf xs ts objects → map words xs ≡ map (lexicon objects) ts
@@ -255,7 +183,7 @@ module _ {X : Type 0} (mean : X → Meaning) (words : X → Lexicon) (scripts : 
   histories_to n (x ∷ xs) [] objects hs many same each = absurd (omega (arith, many))
   histories_to n (x ∷ xs) (t ∷ ts) objects [] many same each = absurd each
   histories_to n (x ∷ xs) (t ∷ ts) objects (h ∷ hs) many same each = (
-    record { legal = subst (λ (m : Meaning). IsLegal m h) (same 0 x t refl refl).0 each.0.legal; woven = each.0.woven },
+    record { legal = subst (λ (r : RuleDefinition). IsLegal (rules_meaning r) h) (same 0 x t refl refl).0 each.0.legal; woven = each.0.woven },
     histories_to (n + 1) xs ts objects hs (omega (arith, many)) (λ k. same (suc k)) each.1,
   )
 
@@ -267,7 +195,7 @@ module _ {X : Type 0} (mean : X → Meaning) (words : X → Lexicon) (scripts : 
   histories_from n (x ∷ xs) [] objects hs many same each = absurd (omega (arith, many))
   histories_from n (x ∷ xs) (t ∷ ts) objects [] many same each = absurd each
   histories_from n (x ∷ xs) (t ∷ ts) objects (h ∷ hs) many same each = (
-    record { legal = subst (λ (m : Meaning). IsLegal m h) (sym (same 0 x t refl refl).0) each.0.legal; woven = each.0.woven },
+    record { legal = subst (λ (r : RuleDefinition). IsLegal (rules_meaning r) h) (sym (same 0 x t refl refl).0) each.0.legal; woven = each.0.woven },
     histories_from (n + 1) xs ts objects hs (omega (arith, many)) (λ k. same (suc k)) each.1,
   )
 

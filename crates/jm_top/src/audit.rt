@@ -24,7 +24,7 @@ pub(crate) fn verdict_on(
         inputs.now.scripts.objects history.now text.items) }
 {
     let verdict = verdict(alloc, inputs, history)?;
-    said(alloc, &verdict)
+    said(alloc, verdict)
 }
 
 /// The verdict on a history.
@@ -59,8 +59,8 @@ fn verdict(alloc: Global, inputs: &Inputs, history: &[u8]) -> Result<Verdict, No
 }
 
 /// What is said of a verdict.
-fn said(alloc: Global, verdict: &Verdict) -> Result<Vec<u8>, NoMemory>
-    ensures { IfOk result (λ text. text.items ≡ verdict_text verdict.now) }
+fn said(alloc: Global, verdict: Verdict) -> Result<Vec<u8>, NoMemory>
+    ensures { IfOk result (λ text. text.items ≡ verdict_text verdict) }
 {
     let text = match verdict {
         Verdict::Yes => format!(in alloc; "yes\n")?,

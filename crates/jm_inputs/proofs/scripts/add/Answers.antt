@@ -16,7 +16,7 @@ pub returns-then-asks-clause-read : goal.returns-then-asks-clause-read
 returns-then-asks-clause-read c =
     let rest : c.as_slice.result.now ≡ rest_of c.args.bytes.now = c.as_slice.ensures.value ∙ c.in_ok-rest.ensures.rest in
     ok_then _ _ c.add_steps.result
-    (script_cut c.args.ordered (specs_in c.args.library.now) c.args.bytes.now c.requires.small c.if-ordered.true c.as_slice.result.now rest c.args.scripts.now c.add_steps.new.scripts c.cut.new.names c.in_ok-rest.lines.items c.requires.counted c.in_ok-rest.ensures.ok
+    (script_cut c.args.ordered (specs_in c.args.library.now) c.args.bytes.now c.requires.small c.if-ordered.true c.as_slice.result.now rest c.args.scripts.now c.add_steps.new.scripts c.cut.new.names c.in_ok-rest.field-0.lines.items c.requires.counted c.in_ok-rest.ensures.ok
     c.in_ok-rest.ensures.lines c.in_ok-rest.ensures.rising c.in_ok-rest.ensures.named) c.add_steps.ensures.read
 
 pub returns-then-asks-clause-fault : goal.returns-then-asks-clause-fault

@@ -1,5 +1,5 @@
 use Rattle.std.specs.Prelude.{map, string_bytes}
-use Rattle.std.proofs.Common.{◌∙◌, sym, ap, Err, arith}
+use Rattle.std.proofs.Common.{◌∙◌, sym, ap, Err, false, arith}
 use Rattle.std.proofs.lemmas.Result.{err_from_is_err_and}
 use Rattle.std.proofs.lemmas.List.{length-map}
 use Rattle.jm_inputs.specs.Sources.{Named}
@@ -33,7 +33,7 @@ returns-in_err-inputs-clause-carried_out g c =
     let specs = map string_bytes c.args.specs.now in
     let scripts = map string_bytes c.args.scripts.now in
     rw (p.1, p.2) (audit_stops contents (string_bytes c.args.history.now) c.in_ok-bytes.bytes.items specs scripts _ (rw c.as_str.ensures.value at c.in_ok-bytes.ensures.held) c.in_ok-bytes.ensures.within
-    (stops_before contents later c.load.ensures.same 1 198000 (named specs) (named scripts) _ c.in_err-inputs.ensures.err))
+    (stops_before contents later c.load.ensures.same false 1 198000 (named specs) (named scripts) _ c.in_err-inputs.ensures.err))
 
 pub returns-in_err-inputs-clause-read_failed : goal.returns-in_err-inputs-clause-read_failed
 returns-in_err-inputs-clause-read_failed g c = λ file is.
@@ -48,14 +48,14 @@ verdict_on-requires-clause-specs g c =
 
 pub verdict_on-requires-clause-scripts : goal.verdict_on-requires-clause-scripts
 verdict_on-requires-clause-scripts g c =
-    let many = scripts_length (λ n. Named n) string_bytes (g.F.Folder.holds c.load.new.files) (specs_in c.in_ok-inputs.inputs.library) 198000 c.args.scripts.now c.in_ok-inputs.inputs.scripts c.in_ok-inputs.ensures.read.read in
+    let many = scripts_length (λ n. Named n) string_bytes (g.F.Folder.holds c.load.new.files) false (specs_in c.in_ok-inputs.inputs.library) 198000 c.args.scripts.now c.in_ok-inputs.inputs.scripts c.in_ok-inputs.ensures.read.read.read in
     omega (arith, many, c.requires.scripts.1, length-map c.args.scripts.now string_bytes)
 
 pub verdict_on-requires-clause-catalogued : goal.verdict_on-requires-clause-catalogued
 verdict_on-requires-clause-catalogued g c = c.in_ok-inputs.ensures.read.library.catalogued
 
 pub verdict_on-requires-clause-counted : goal.verdict_on-requires-clause-counted
-verdict_on-requires-clause-counted g c = c.in_ok-inputs.ensures.read.read.counted
+verdict_on-requires-clause-counted g c = c.in_ok-inputs.ensures.read.read.read.counted
 
 pub returns-in_err-text-clause-carried_out : goal.returns-in_err-text-clause-carried_out
 returns-in_err-text-clause-carried_out g c =
@@ -69,4 +69,4 @@ returns-clause-carried_out g c =
     let specs = map string_bytes c.args.specs.now in
     let scripts = map string_bytes c.args.scripts.now in
     audit_made contents (string_bytes c.args.history.now) c.in_ok-bytes.bytes.items specs scripts c.in_ok-inputs.inputs c.in_ok-text.text.items (rw c.as_str.ensures.value at c.in_ok-bytes.ensures.held) c.in_ok-bytes.ensures.within
-    (inputs_before contents later c.load.ensures.same 198000 (named specs) (named scripts) c.in_ok-inputs.inputs c.in_ok-inputs.ensures.read) (rw c.as_slice.ensures.value at c.in_ok-text.ensures)
+    (inputs_before contents later c.load.ensures.same false 198000 (named specs) (named scripts) c.in_ok-inputs.inputs c.in_ok-inputs.ensures.read) (rw c.as_slice.ensures.value at c.in_ok-text.ensures)

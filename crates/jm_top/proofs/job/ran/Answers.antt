@@ -1,5 +1,5 @@
 use Rattle.std.specs.Prelude.{map, string_bytes}
-use Rattle.std.proofs.Common.{arith}
+use Rattle.std.proofs.Common.{true, arith}
 use Rattle.std.proofs.lemmas.Result.{err_from_is_err_and}
 use Rattle.std.proofs.lemmas.List.{length-map}
 use Rattle.jm_inputs.specs.Sources.{Named}
@@ -27,11 +27,7 @@ run-requires-clause-ready g c =
     let contents = g.F.Folder.holds c.args.files.now in
     let read = c.in_ok-inputs.ensures.read in
     let specs = library_length (λ n. Named n) string_bytes contents _ c.args.specs.now c.in_ok-inputs.inputs.library read.library in
-<<<<<<< ours
-    let scripts = scripts_length (λ n. Named n) string_bytes contents (specs_in c.in_ok-inputs.inputs.library) c.args.scripts.now c.in_ok-inputs.inputs.scripts read.read.read in
-=======
-    let scripts = scripts_length (λ n. Named n) string_bytes contents (specs_in c.in_ok-inputs.inputs.library) 0 c.args.scripts.now c.in_ok-inputs.inputs.scripts read.read in
->>>>>>> theirs
+    let scripts = scripts_length (λ n. Named n) string_bytes contents true (specs_in c.in_ok-inputs.inputs.library) 0 c.args.scripts.now c.in_ok-inputs.inputs.scripts read.read.read in
     λ words bounds. record {
       specs = (omega (arith, specs, c.requires.specs.0, length-map c.args.specs.now string_bytes), omega (arith, specs, c.requires.specs.1, length-map c.args.specs.now string_bytes));
       scripts = (omega (arith, scripts, c.requires.scripts.0, length-map c.args.scripts.now string_bytes), omega (arith, scripts, c.requires.scripts.1, length-map c.args.scripts.now string_bytes));

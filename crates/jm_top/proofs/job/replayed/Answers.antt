@@ -1,5 +1,5 @@
 use Rattle.std.specs.Prelude.{string_bytes}
-use Rattle.std.proofs.Common.{◌∙◌}
+use Rattle.std.proofs.Common.{◌∙◌, true}
 use Rattle.std.proofs.lemmas.Result.{err_from_is_err_and}
 use Rattle.jm_inputs.specs.Sources.{Named}
 use Rattle.jm_inputs.specs.Causes.{short}
@@ -22,11 +22,7 @@ replay-requires-clause-one_spec g c =
 
 pub replay-requires-clause-one_script : goal.replay-requires-clause-one_script
 replay-requires-clause-one_script g c =
-<<<<<<< ours
-    let many = scripts_length (λ n. Named n) string_bytes (g.F.Folder.holds c.args.files.now) (specs_in c.in_ok-inputs.inputs.library) c.from_ref-2.result.now c.in_ok-inputs.inputs.scripts c.in_ok-inputs.ensures.read.read.read in
-=======
-    let many = scripts_length (λ n. Named n) string_bytes (g.F.Folder.holds c.args.files.now) (specs_in c.in_ok-inputs.inputs.library) 0 c.from_ref-2.result.now c.in_ok-inputs.inputs.scripts c.in_ok-inputs.ensures.read.read in
->>>>>>> theirs
+    let many = scripts_length (λ n. Named n) string_bytes (g.F.Folder.holds c.args.files.now) true (specs_in c.in_ok-inputs.inputs.library) 0 c.from_ref-2.result.now c.in_ok-inputs.inputs.scripts c.in_ok-inputs.ensures.read.read.read in
     many ∙ c.from_ref-2.ensures.len
 
 pub replay-requires-clause-catalogued : goal.replay-requires-clause-catalogued
