@@ -23,7 +23,8 @@ ghost use Rattle.jm_top.specs.Endings.{Writes};
 ghost use Rattle.jm_telling.specs.FirstFaults.{IsSameFault, IsSameStatus, IsSameJob, IsInterrupted};
 ghost use Rattle.jm_telling.specs.Parts.{IsPartAlone};
 ghost use Rattle.jm_telling.specs.Tellable.{IsTellable};
-ghost use Rattle.jm_telling.specs.TokenLaws.{TokensTile, WordsAreMaximal, MarksAreLongest, TextsAreQuoted, OpenIsUnclosed};
+ghost use Rattle.jm_telling.specs.TokenLaws.{TokensTile, WordsAreMaximal, MarksAreLongest, TextsAreQuoted};
+ghost use Rattle.jm_telling.specs.TokenLaws.{OpenIsUnclosed};
 
 /// The names of an accepted command are fit to be printed: in each of its specifications the parameters, the events and
 /// the handlers each have names of their own, and so have the objects; and none of these holds a line feed, a space,
@@ -60,7 +61,8 @@ pub fn text_tells_histories()
 /// such histories with one text are one.
 pub fn legal_histories_are_told()
     ensures told { (bytes : List ℕ) (s : Specification) (objects : List (List ℕ)) (h : List Entry)
-        → IsSpecification bytes s → IsTellable (meaning_of s) (length objects) h → AreEntriesTold (lexicon objects s) h }
+        → IsSpecification bytes s → IsTellable (meaning_of s) (length objects) h
+        → AreEntriesTold (lexicon objects s) h }
     ensures one { (bytes : List ℕ) (s : Specification) (objects : List (List ℕ)) (h other : List Entry)
         → IsSpecification bytes s → AreNames objects
         → IsTellable (meaning_of s) (length objects) h
@@ -69,8 +71,8 @@ pub fn legal_histories_are_told()
         → h ≡ other }
 {}
 
-/// What `run` wrote is answered `yes`: where the words of an audit name the specifications and the scripts of a run, and
-/// a history that holds a text of the run, each text of the audit is `yes`, unless it is refused.
+/// What `run` wrote is answered `yes`: where the words of an audit name the specifications and the scripts of a run,
+/// and a history that holds a text of the run, each text of the audit is `yes`, unless it is refused.
 pub fn what_run_wrote_is_answered_yes()
     ensures { (words others : List (List ℕ)) (contents : List ℕ → Option (List ℕ))
         → (history : List ℕ) (names files : List (List ℕ))
@@ -152,8 +154,8 @@ pub fn texts_are_quoted()
 {}
 
 /// Where the bytes of a specification can't be cut into tokens, a text isn't closed on its line, or a comment isn't
-/// closed at all. It begins where the tokens before it, with what is dropped, end; and the line that is named is the one
-/// on which it begins.
+/// closed at all. It begins where the tokens before it, with what is dropped, end; and the line that is named is the
+/// one on which it begins.
 pub fn open_is_unclosed()
     ensures { OpenIsUnclosed }
 {}
