@@ -21,7 +21,7 @@ pub enum Command {
         spec: String,
         script: String,
     },
-    /// Runs scripts over specifications, each script on a thread of its own.
+    /// Runs scripts over specifications at once, on threads where they can be had.
     Run {
         specs: Vec<String>,
         scripts: Vec<String>,

@@ -1,5 +1,5 @@
 -- Each entry of a history of scripts is told by its line.
-use Rattle.std.proofs.Common.{◌≡◌, ℕ, zero, suc, ◌<◌, ◌≤◌, ◌^◌, Bool, true, false, cond, List, [], ◌∷◌, ◌++◌, Some, None, map, filter, length, pow-suc, sym, ap, subst, ◌∙◌, arith}
+use Rattle.std.proofs.Common.{◌≡◌, ◌≢◌, ℕ, zero, suc, ◌<◌, ◌≤◌, ◌^◌, Bool, true, false, cond, List, [], ◌∷◌, ◌++◌, Some, None, map, filter, length, pow-suc, sym, ap, subst, ◌∙◌, arith}
 use Rattle.std.specs.Prelude.{All, Contains, ◌==◌, ◌%◌, find, filter_map, unwrap_or, slice_get}
 use Rattle.std.specs.List.{AllByRecursion}
 use Rattle.std.proofs.Math.Nat.{mod-lt}
@@ -18,7 +18,7 @@ use Rattle.jm_model.specs.declared.step.Outcome.TheVariants.{Fired, Refused, Don
 use Rattle.jm_model.specs.declared.step.Entry.{Entry}
 use Rattle.jm_semantics.specs.Histories.{is_dead}
 use Rattle.jm_semantics.specs.Scripts.{is_for, steps_of, projection_of, IsInterleaving}
-use Rattle.jm_semantics.specs.Legality.{IsReply, IsStepOf, IsLegalAfter}
+use Rattle.jm_semantics.specs.Legality.{IsReply, IsStepOf, IsLegalAfter, IsLegal}
 use Rattle.jm_semantics.proofs.ListLemmas.{Contains-filter, Contains-map}
 use Rattle.jm_events.specs.Events.{EventDefinition, event_names}
 use Rattle.jm_events.proofs.NameLemmas.{at_place}
@@ -35,6 +35,7 @@ use Rattle.jm_inputs.specs.Specifications.{Specification, meaning_of}
 use Rattle.jm_top.specs.Histories.{IsHistoryOf, lexicon}
 use Rattle.jm_print.specs.Names.{IsNamedStep}
 use Rattle.jm_print.proofs.PrintLemmas.{printable}
+use Rattle.jm_telling.specs.Tellable.{NamesWithin, IsTellable}
 use Rattle.jm_telling.proofs.TableMasks.{HasMasks, mask_within}
 use Rattle.jm_telling.proofs.ScriptSteps.{HasObjects, IsLineIn}
 
@@ -45,6 +46,11 @@ abbrev StepHas : ℕ → Step → Type 0
 StepHas n (Event e b) = AllByRecursion (λ o. o < n) (objects_of b)
 StepHas n (Death o) = o < n
 StepHas n Pass = Unit {0}
+
+within_has : (n : ℕ) (step : Step) → NamesWithin n step → StepHas n step
+within_has n (Event e b) within = recursion_from_All (λ (o : ℕ). o < n) (objects_of b) within
+within_has n (Death o) within = within
+within_has n Pass within = tt
 
 -- and its line fits 64 bits
 abbrev IsStepIn : ℕ → ℕ × Step → Type 0
@@ -145,13 +151,10 @@ module _ (s : Specification) (objects : List (List ℕ)) (masks : s.rules.masks 
   step_named (Death o) own has = has
   step_named Pass own has = tt
 
-  -- a history of it
-  module _ (number : ℕ) (scripts : List (List ScriptLine)) (few_scripts : length scripts ≤ 16) (lines : AllByRecursion (AllByRecursion (IsLineIn (length objects) (2 ^ 64))) scripts) (h : List Entry) (is : IsHistoryOf number s scripts h) where
-    steps_in : (x : Entry) → Contains h x → IsStepIn (length objects) (x.line, x.step)
-    steps_in x among = entry_of_lists (IsStepIn (length objects)) (map (λ script. projection_of (script_of script) number) scripts) h (all_projected (length objects) number scripts lines) is.woven x among
-
+  -- a legal history of it, whose steps name objects that are there
+  module _ (h : List Entry) (legal : IsLegal (meaning_of s) h) (done : All (λ x. x.outcome ≢ NoMemory) h) (steps_in : (x : Entry) → Contains h x → IsStepIn (length objects) (x.line, x.step)) (callers_small : (x : Entry) → Contains h x → x.caller < 2 ^ 64) where
     legal_steps : All (λ x. IsStepOf (meaning_of s) x.step) h
-    legal_steps = All-from_recursion (λ (x : Entry). IsStepOf (meaning_of s) x.step) h (steps_legal (meaning_of s) [] h is.legal)
+    legal_steps = All-from_recursion (λ (x : Entry). IsStepOf (meaning_of s) x.step) h (steps_legal (meaning_of s) [] h legal)
 
     named_steps : All (λ x. IsNamedStep (lexicon objects s) x.step) h
     named_steps = All-weaker (Contains h) (λ (x : Entry). IsNamedStep (lexicon objects s) x.step)
@@ -160,10 +163,37 @@ module _ (s : Specification) (objects : List (List ℕ)) (masks : s.rules.masks 
     printed : All (IsPrintable (lexicon objects s)) h
     printed =
         let few : handler_count s.rules.properties ≤ length (names_of s.rules) = omega (arith, count_names s.rules) in
-        printable (lexicon objects s) (meaning_of s) few h named_steps is.woven.done is.legal
+        printable (lexicon objects s) (meaning_of s) few h named_steps done legal
 
     fitting : All (λ x. FitsStep x.step x.outcome) h
-    fitting = All-from_recursion (λ (x : Entry). FitsStep x.step x.outcome) h (replies_fit (meaning_of s) [] h is.legal)
+    fitting = All-from_recursion (λ (x : Entry). FitsStep x.step x.outcome) h (replies_fit (meaning_of s) [] h legal)
+
+    entry_told : (x : Entry) → Contains h x → IsTold (lexicon objects s) x
+    entry_told x among = record {
+      printable = All-contains (IsPrintable (lexicon objects s)) h x printed among;
+      fits = All-contains (λ (y : Entry). FitsStep y.step y.outcome) h x fitting among;
+      caller = callers_small x among;
+      line = (steps_in x among).1;
+    }
+
+    pub legal_told : AreTold (lexicon objects s) h
+    legal_told = each h (recursion_from_All (IsTold (lexicon objects s)) h (All-weaker (Contains h) (IsTold (lexicon objects s)) entry_told h (All-contains_itself h)))
+      where
+        each : (g : List Entry) → AllByRecursion (IsTold (lexicon objects s)) g → AreTold (lexicon objects s) g
+        each [] all = tt
+        each (x ∷ g) all = (all.0, each g all.1)
+
+  -- what is said of a legal history by itself
+  pub tellable_told : (h : List Entry) → IsTellable (meaning_of s) (length objects) h → AreTold (lexicon objects s) h
+  tellable_told h tellable =
+      legal_told h tellable.legal tellable.done
+      (λ x among. (within_has (length objects) x.step (All-contains (λ (y : Entry). NamesWithin (length objects) y.step) h x tellable.named among), All-contains (λ (y : Entry). y.line < 2 ^ 64) h x tellable.lines among))
+      (λ x among. All-contains (λ (y : Entry). y.caller < 2 ^ 64) h x tellable.callers among)
+
+  -- a history of scripts
+  module _ (number : ℕ) (scripts : List (List ScriptLine)) (few_scripts : length scripts ≤ 16) (lines : AllByRecursion (AllByRecursion (IsLineIn (length objects) (2 ^ 64))) scripts) (h : List Entry) (is : IsHistoryOf number s scripts h) where
+    script_steps : (x : Entry) → Contains h x → IsStepIn (length objects) (x.line, x.step)
+    script_steps x among = entry_of_lists (IsStepIn (length objects)) (map (λ script. projection_of (script_of script) number) scripts) h (all_projected (length objects) number scripts lines) is.woven x among
 
     caller_small : (x : Entry) → Contains h x → x.caller < 2 ^ 64
     caller_small x among =
@@ -171,17 +201,5 @@ module _ (s : Specification) (objects : List (List ℕ)) (masks : s.rules.masks 
         let many = length-map scripts (λ script. projection_of (script_of script) number) in
         omega (arith, below, many, few_scripts)
 
-    entry_told : (x : Entry) → Contains h x → IsTold (lexicon objects s) x
-    entry_told x among = record {
-      printable = All-contains (IsPrintable (lexicon objects s)) h x printed among;
-      fits = All-contains (λ (y : Entry). FitsStep y.step y.outcome) h x fitting among;
-      caller = caller_small x among;
-      line = (steps_in x among).1;
-    }
-
     pub history_told : AreTold (lexicon objects s) h
-    history_told = each h (recursion_from_All (IsTold (lexicon objects s)) h (All-weaker (Contains h) (IsTold (lexicon objects s)) entry_told h (All-contains_itself h)))
-      where
-        each : (g : List Entry) → AllByRecursion (IsTold (lexicon objects s)) g → AreTold (lexicon objects s) g
-        each [] all = tt
-        each (x ∷ g) all = (all.0, each g all.1)
+    history_told = legal_told h is.legal is.woven.done script_steps caller_small

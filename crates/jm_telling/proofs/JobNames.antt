@@ -20,7 +20,7 @@ use Rattle.jm_telling.proofs.ObjectNames.{script_named}
 pub specification_tables : (bytes : List ℕ) (s : Specification) → IsSpecification bytes s → HasTableNames s.table
 specification_tables bytes s is = subst HasTableNames (sym is.table) (table_names bytes is.told.told.0.params is.told.told.0.events is.tree.table is.told.told.3.table)
 
-specification_names : (objects : List (List ℕ)) → AreNames objects → (bytes : List ℕ) (s : Specification) → IsSpecification bytes s → HasNames (lexicon objects s)
+pub specification_names : (objects : List (List ℕ)) → AreNames objects → (bytes : List ℕ) (s : Specification) → IsSpecification bytes s → HasNames (lexicon objects s)
 specification_names objects named bytes s is =
     let tables = specification_tables bytes s is in
     record { parameters = tables.parameters; events = tables.events; handlers = handlers_named bytes s is; objects = named }

@@ -73,7 +73,7 @@ each_said contents families before (source ∷ sources) specs said =
     subst (λ (ss : List Specification). AllByRecursion IsSaid ss) (sym said.3) ((said.0, said.5.said), each_said contents families (before ++ said.1 ∷ []) sources said.2 said.6)
 
 -- the letters of a specification have the sets of its events
-said_masks : (bytes : List ℕ) (s : Specification) → IsSpecification bytes s → s.rules.masks ≡ map (λ (e : EventDefinition). e.mask) s.table.events
+pub said_masks : (bytes : List ℕ) (s : Specification) → IsSpecification bytes s → s.rules.masks ≡ map (λ (e : EventDefinition). e.mask) s.table.events
 said_masks bytes s is =
     ap (λ (r : RuleDefinition). r.masks) is.rules.rules ∙ ap (λ (t : EventDefinitions). map (λ (e : EventDefinition). e.mask) t.events) (sym is.table)
 

@@ -9,6 +9,10 @@ pub mod ScriptSteps
 pub mod HistorySteps
 pub mod JobTold
 pub mod FaultLemmas
+pub mod FirstRefusals
+pub mod OneOrder
+pub mod OneJob
+pub mod OneRefusal
 pub mod TokenLemmas
 pub mod PartLemmas
 pub mod SilentLemmas
