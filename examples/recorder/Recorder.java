@@ -113,10 +113,13 @@ public final class Recorder implements Closeable {
   }
 
   /**
-   * Writes an event. Its name is {@code RULE.EVENT}, and its objects stand in the order of the rule's parameters, of
-   * which those are left out that the event doesn't have.
+   * Writes an event. Its name is {@code RULE.EVENT}, and its objects, none of them null, stand in the order of the
+   * rule's parameters, of which those are left out that the event doesn't have.
    */
   public void event(String name, Object... of) {
+    if (name.indexOf('.') < 0) {
+      throw new IllegalArgumentException("an event is named RULE.EVENT, and not " + name);
+    }
     writeDeaths();
     StringBuilder text = new StringBuilder(name);
     Named[] named = new Named[of.length];
@@ -382,12 +385,15 @@ public final class Recorder implements Closeable {
       return (name.length() > 100 ? name.substring(0, 100) : name.isEmpty() ? "_" : name) + ".txt";
     }
 
-    /** Writes the lines up to the first one that has no room, and says how many there are. */
+    /** Writes the lines up to the first one that has no room, and tells how many these are. */
     private int writeAll(List<Line> lines, Map<String, String> files) throws IOException {
       for (int number = 0; number < lines.size(); number++) {
         Line line = lines.get(number);
         List<Group> groups = line.groups().map(Group::root).distinct()
             .sorted(Comparator.comparing((Group group) -> group.number).reversed()).collect(Collectors.toList());
+        if (groups.isEmpty()) {
+          continue; // a death of what no line names
+        }
         Script script = line.isDeath() ? groups.get(0).script : scriptOf(files.get(line.thread));
         objects += line.count(one -> one.scripts.isEmpty());
         if (objects > MOST_OBJECTS || posts + waits + 2 * groups.size() > MOST_NOTES
