@@ -20,7 +20,8 @@ import java.util.concurrent.locks.ReentrantLock;
  * A program to be recorded: three clerks and a stock keeper, each a thread, over shared lists, maps and locks. In some
  * rounds a clerk makes a mistake, in a line that says 'planted'. At the end it prints how often each rule was broken.
  *
- * <p>Words: {@code [--rounds N] [--deaths] FILE}, or {@code --folder FOLDER} for a script of each rule.
+ * <p>Words: {@code [--rounds N] [--deaths] FILE}; {@code --folder FOLDER} for a script of each rule, or
+ * {@code --threads FOLDER} for a script of each thread.
  */
 public final class Shop {
   private final Calls calls;
@@ -40,17 +41,19 @@ public final class Shop {
   public static void main(String[] words) throws Exception {
     int rounds = 30;
     boolean deaths = false;
-    boolean folder = false;
+    String form = "";
     Path path = null;
     for (int k = 0; k < words.length; k++) {
       switch (words[k]) {
         case "--rounds": rounds = Integer.parseInt(words[++k]); break;
         case "--deaths": deaths = true; break;
-        case "--folder": folder = true; break;
+        case "--folder":
+        case "--threads": form = words[k]; break;
         default: path = Path.of(words[k]);
       }
     }
-    Recorder recorder = (folder ? Recorder.toFolder(path) : Recorder.toFile(path)).withPlaces(Calls.class);
+    Recorder recorder = (form.equals("--folder") ? Recorder.toFolder(path)
+        : form.equals("--threads") ? Recorder.toThreads(path) : Recorder.toFile(path)).withPlaces(Calls.class);
     if (deaths) {
       recorder.withDeaths();
     }
