@@ -1,7 +1,7 @@
 -- The sheets of a library's specifications: the scripts that were read fit them, and what they allow is what is allowed over
 -- the specifications.
 use Rattle.std.proofs.Common.{◌≡◌, ℕ, zero, suc, ◌+◌, ◌<◌, List, [], ◌∷◌, ◌++◌, length, get_or, map, refl, sym, ◌∙◌, ap, subst, inl, inr, arith}
-use Rattle.std.specs.Prelude.{◌⊎◌, All, Option, Some, None, slice_get, option_map}
+use Rattle.std.specs.Prelude.{◌⊎◌, All, Some, slice_get, option_map}
 use Rattle.std.specs.Option.{option_map_or}
 use Rattle.std.proofs.lemmas.Option.{slice_get-map, none-some, same_Some}
 use Rattle.std.proofs.lemmas.List.{length_push}
