@@ -1,7 +1,8 @@
 ghost use Rattle.std.specs.Prelude.{ℕ, ◌≡◌, ◌≢◌, ◌+◌, ◌*◌, ◌/◌, ◌<◌, ◌≤◌, ◌⊎◌, ◌^◌, Option, Some, None, List, Contains, IfSome, OnOk, IfOk, true, false, length, map, slice_index, slice_index_or, slice_set};
 ghost use Rattle.std.specs.Int.{bit_at};
 ghost use Rattle.jm_model.specs.Bindings.{is_below, mask_of};
-ghost use Rattle.jm_awake.specs.Awake.{Lists, fresh, list_at, card_at, number_at, path_in, IsOn, IsMourned, IsKept, IsListOf, HasNone, Occupant, Occupants, with_slot, AreFound, AreSoundBut, AreSound, AreStill, IsAwake, IsWakable, AreAllAbove};
+ghost use Rattle.jm_awake.specs.Awake.{Lists, fresh, list_at, card_at, number_at, path_in, is_there, IsOn, IsMourned, IsKept, IsListOf, HasNone, Occupant, Occupants, with_slot, AreFound, AreSoundBut, AreSound, AreStill, IsAwake, IsWakable, AreAllAbove};
+ghost use Rattle.jm_awake.specs.declared.card.Listed.{Listed as Entry};
 ghost use Rattle.jm_awake.specs.Steps.{IsCarded, IsCovered, IsAged, HasRoom, IsFewer, Takes, IsWokenAt, IsWoken, IsListedAt, AreListedIn, IsPlaceMade, IsMade};
 
 use crate::card::{Card, Listed, awake_at, without};
@@ -154,6 +155,17 @@ impl Awake {
         self.cards.as_slice()
     }
 
+    /// Whether an entry still counts: its slot has the monitor that was listed.
+    #[inline(always)]
+    pub fn is_there(&self, entry: &Listed) -> bool
+        ensures { result ≡ is_there self.now.cards entry.now }
+    {
+        match self.cards.get(entry.slot()) {
+            Some(card) => card.is_there(entry),
+            None => false,
+        }
+    }
+
     /// Drops from the list at a place what doesn't count any more, and what isn't in the lists of its letter any more.
     pub fn tidy(&mut self, place: usize)
         ensures sound { (q : Option ℕ) (o : Occupants) → (q ≡ None) ⊎ (q ≡ Some place) → AreSoundBut q o self.old
@@ -266,6 +278,7 @@ impl Awake {
             → IsKept self.old place → o slot ≡ Some x → is_below (list_at self.old place).binding x.instance ≡ true
             → AreSoundBut (Some place) o self.old → AreSoundBut (Some place) o self.new }
         ensures lists { self.new.lists ≡ self.old.lists }
+        ensures there { (x : Entry) → is_there self.new.cards x ≡ is_there self.old.cards x }
         ensures on { (k e : ℕ) → (k ≡ slot → e ≡ letter.0 → ⊥) → IsOn (card_at self.old k) e
             → IsOn (card_at self.new k) e }
     {
