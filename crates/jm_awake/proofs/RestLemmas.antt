@@ -1,6 +1,6 @@
 -- Monitors that rest, or are in the lists, and lists that are sound for monitors that look the same.
 use Rattle.std.proofs.Common.{◌≡◌, ℕ, ◌⊎◌, inl, inr, true, List, Option, Some, None, refl, sym, ap, ◌∙◌, subst}
-use Rattle.std.specs.Prelude.{Contains, slice_index_or}
+use Rattle.std.specs.Prelude.{Contains, AllPairs, ◌≢◌, slice_index_or}
 use Rattle.std.specs.Int.{bit_at}
 use Rattle.std.proofs.lemmas.Option.{none-some}
 use Rattle.std.proofs.lemmas.Bool.{cases_eq}
@@ -8,8 +8,9 @@ use Rattle.jm_model.specs.Bindings.{is_below}
 use Rattle.jm_model.specs.declared.binding.Binding.{Binding}
 use Rattle.jm_awake.specs.declared.card.Card.{Card}
 use Rattle.jm_awake.specs.declared.card.Listed.{Listed}
-use Rattle.jm_awake.specs.Awake.{SlotList, Lists, fresh, list_at, card_at, IsOn, IsKept, IsListOf, Occupant, Occupants, IsEntry, AreSoundBut, AreSound, AreStill, IsAwake, AreRested}
+use Rattle.jm_awake.specs.Awake.{SlotList, Lists, fresh, list_at, card_at, entry_of, IsOn, IsKept, IsListOf, Occupant, Occupants, IsEntry, AreSoundBut, AreSound, AreStill, IsAwake, AreRested}
 use Rattle.jm_awake.specs.Steps.{IsFewer}
+use Rattle.jm_awake.proofs.SoundLemmas.{found_along}
 
 -- monitors that look the same to the lists
 pub sound_along : (q : Option ℕ) (o after : Occupants) (a : Lists) → ((k : ℕ) → after k ≡ o k) → AreSoundBut q o a → AreSoundBut q after a
@@ -106,3 +107,28 @@ made_rested Rests o old new e b slots rested lists on here all place k x kept at
       ]
   | inr of ↦ inl (subst (IsOn (card_at new k)) (sym of.letter) (here k place kept (all k x at (subst (λ (t : Binding). is_below t x.instance ≡ true) of.binding below))))
 ]
+
+-- fewer lists are sound
+pub fewer_sound : (q : Option ℕ) (o : Occupants) (old new : Lists) → IsFewer old new → AreSoundBut q o old → AreSoundBut q o new
+fewer_sound q o old new fewer sound = record {
+  found = λ place kept.
+      let same = fewer.each place kept in
+      found_along old new place (list_at old place) (list_at new place) fewer.rows fewer.letters fewer.masks (ap (λ (l : SlotList). l.letter) same) (ap (λ (l : SlotList). l.binding) same) (sound.found place (was place kept));
+  listed = λ place k x kept at below on.
+      let same = fewer.each place kept in
+      let card : card_at new k ≡ card_at old k = ap (λ (cs : List Card). slice_index_or cs k fresh) fewer.cards in
+      let old_below : is_below (list_at old place).binding x.instance ≡ true = subst (λ (l : SlotList). is_below l.binding x.instance ≡ true) same below in
+      let old_on : IsOn (card_at old k) (list_at old place).letter = subst (λ (l : SlotList). IsOn (card_at old k) l.letter) same (subst (λ (d : Card). IsOn d (list_at new place).letter) card on) in
+      subst (λ (l : SlotList). Contains l.entries (entry_of k (card_at new k))) (sym same)
+      (subst (λ (d : Card). Contains (list_at old place).entries (entry_of k d)) (sym card) (sound.listed place k x (was place kept) at old_below old_on));
+  each = λ place x kept has.
+      let same = fewer.each place kept in
+      let old_has : Contains (list_at old place).entries x = subst (λ (l : SlotList). Contains l.entries x) same has in
+      subst (λ (l : SlotList). IsEntry (q ≡ Some place) o new.cards l x) (sym same)
+      (subst (λ (cs : List Card). IsEntry (q ≡ Some place) o cs (list_at old place) x) (sym fewer.cards) (sound.each place x (was place kept) old_has));
+  apart = λ place kept. subst (λ (l : SlotList). AllPairs (λ x y. x ≢ y) l.entries) (sym (fewer.each place kept)) (sound.apart place (was place kept));
+  blank = λ k e free on. sound.blank k e free (subst (λ (cs : List Card). IsOn (slice_index_or cs k fresh) e) fewer.cards on);
+}
+  where
+    was : (place : ℕ) → IsKept new place → IsKept old place
+    was place kept = sym (ap (λ (l : SlotList). l.is_kept) (fewer.each place kept)) ∙ kept

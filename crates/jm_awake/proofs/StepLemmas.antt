@@ -1,6 +1,6 @@
 -- One slot's card changes: its monitor is mourned, rests or goes, or another comes.
 use Rattle.std.proofs.Common.{◌≡◌, ℕ, ◌<◌, ◌≤◌, ◌+◌, ◌*◌, ◌/◌, ◌%◌, ◌⊎◌, inl, inr, Bool, true, cond, Option, Some, None, length, refl, sym, ap, ◌∙◌, subst, arith}
-use Rattle.std.specs.Prelude.{Contains, slice_index_or, ◌==◌}
+use Rattle.std.specs.Prelude.{Contains, List, slice_index_or, ◌==◌, ◌&&◌, nat_lt}
 use Rattle.std.specs.Int.{bit_at}
 use Rattle.std.proofs.lemmas.Bool.{cases_eq, eq-eqb, eqb-true, false_from_ne_true}
 use Rattle.std.proofs.lemmas.Option.{same_Some, none-some}
@@ -9,7 +9,7 @@ use Rattle.std.proofs.lemmas.List.{get_or_past}
 use Rattle.jm_model.specs.Bindings.{is_below}
 use Rattle.jm_awake.specs.declared.card.Listed.{Listed}
 use Rattle.jm_awake.specs.declared.card.Card.{Card}
-use Rattle.jm_awake.specs.Awake.{Lists, fresh, list_at, card_at, IsOn, IsThere, IsMourned, entry_of, IsKept, Occupant, Occupants, with_slot, IsOccupied, AreSoundBut}
+use Rattle.jm_awake.specs.Awake.{Lists, fresh, list_at, card_at, IsOn, IsThere, IsMourned, entry_of, is_there, IsKept, Occupant, Occupants, with_slot, IsOccupied, AreSoundBut}
 use Rattle.jm_awake.specs.Steps.{IsCarded, IsAged, Takes}
 use Rattle.jm_awake.proofs.SoundLemmas.{entry_same, same_place, stepped_sound}
 
@@ -211,3 +211,9 @@ comes_unlisted q o a slot y free sound =
       blank = λ e none on. absurd (none-some y (sym none ∙ with_here o slot (Some y)));
     })
     sound
+
+-- cards of the same ages count the same
+pub there_same : (old new : List Card) → length new ≡ length old → ((k : ℕ) → (slice_index_or new k fresh).age ≡ (slice_index_or old k fresh).age) → (x : Listed) → is_there new x ≡ is_there old x
+there_same old new size ages x =
+    ap (λ (n : ℕ). nat_lt x.slot n && ((slice_index_or new x.slot fresh).age / 2 == x.age / 2)) size
+    ∙ ap (λ (n : ℕ). nat_lt x.slot (length old) && (n / 2 == x.age / 2)) (ages x.slot)

@@ -299,6 +299,7 @@ impl Awake {
             → bit_at (card_at self.new slot).letters e ≡ bit_at (card_at self.old slot).letters e }
         ensures back { (e : ℕ) → IsOn (card_at self.new slot) e → IsOn (card_at self.old slot) e }
         ensures kept { (e : ℕ) → (e ≡ letter → ⊥) → IsOn (card_at self.old slot) e → IsOn (card_at self.new slot) e }
+        ensures size { length self.new.cards ≡ length self.old.cards }
     {
         self.cards[slot].unlist(letter);
     }

@@ -176,7 +176,7 @@ fn counted_advance<M: Monitor, L: Ledger>(
     requires one { blank.parts ≡ 1 }
     requires can { CanPlan (M.meaning (M.definition rules.now)) objects.now letter.0 binding.now store.old }
     requires known { IsTrue known ↔ Contains store.old.marks binding.now }
-    ensures { Advances (M.meaning (M.definition rules.now)) (M.StandsFor rules.now) objects.now letter.0 binding.now
+    ensures advances { Advances (M.meaning (M.definition rules.now)) (M.StandsFor rules.now) objects.now letter.0 binding.now
         store.old store.new result }
     ensures listed { KeepListed (M.meaning (M.definition rules.now)) (M.StandsFor rules.now) objects.now
         store.old.monitors store.new.monitors awake.old awake.new }
