@@ -316,7 +316,7 @@ impl Awake {
         }
     }
 
-    #[inline(always)]
+    #[inline(never)]
     fn leave_card(&mut self, slot: usize) -> bool
         requires { slot < length self.old.cards }
         ensures carded { IsCarded self.old self.new }

@@ -67,7 +67,9 @@ fn answer<M: Monitor>(
     if known {
         let _letters = rules.letters();
         if let Some(place) = awake.find(letter, binding) {
-            return answer_listed(alloc, rules, objects, store, awake, place, letter, binding);
+            let (outcome, copy) =
+                answer_listed(alloc, rules, objects, store, awake, place, letter, binding);
+            return (outcome, copy);
         }
     }
     if let Some(done) = counted_advance::<M, Brand>(
@@ -82,7 +84,8 @@ fn answer<M: Monitor>(
     ) {
         return (Outcome::Fired(done.answer), Outcome::Fired(done.copy));
     }
-    fire(rules, objects, store, awake, letter, binding, known)
+    let (outcome, copy) = fire(rules, objects, store, awake, letter, binding, known);
+    (outcome, copy)
 }
 
 /// The same, where its list was found.
@@ -202,6 +205,7 @@ fn first_dead(objects: &Objects, binding: &Binding) -> Option<u32>
 }
 
 /// The same, worked out.
+#[inline(never)]
 fn fire<M: Monitor>(
     rules: &M,
     objects: &Objects,

@@ -1,32 +1,40 @@
 -- Events of which it is known which monitors they may change.
 use Rattle.std.proofs.Common.{◌≡◌, ◌≢◌, ℕ, zero, suc, ◌+◌, ◌<◌, ◌≤◌, ◌⊎◌, inl, inr, Bool, true, false, cond, ◌&&◌, ◌||◌, not, List, [], ◌∷◌, ◌++◌, length, map, take, drop, get_or, refl, sym, ap, ◌∙◌, subst, append-nil, arith}
-use Rattle.std.specs.Prelude.{Option, Some, None, Contains, AllPairs, filter, slice_set}
-use Rattle.std.specs.List.{list_any}
-use Rattle.std.proofs.lemmas.Bool.{both_ways, cases_Bool, cases_eq, false≢true}
+use Rattle.std.specs.Prelude.{Option, Some, None, Contains, AllPairs, filter, count_by, slice_set, slice_index_or, bit_and}
+use Rattle.std.proofs.lemmas.Bool.{both_ways, cases_Bool, cases_eq, eq-eqb, false≢true}
 use Rattle.std.proofs.lemmas.Option.{same_Some, none-some}
 use Rattle.std.proofs.lemmas.List.{take_more, map-append, get_or-set_same, get_or-set_other}
 use Rattle.std.proofs.lemmas.List.Elements.{Contains-append_left, Contains-append_right, Contains-append_cases, filter-append}
-use Rattle.jm_model.specs.Bindings.{is_below, is_compatible, mask_of}
+use Rattle.jm_model.specs.Bindings.{is_below, is_compatible, mask_of, objects_of}
 use Rattle.jm_model.specs.Meanings.{Meaning}
 use Rattle.jm_model.specs.declared.binding.Binding.{Binding}
 use Rattle.jm_semantics.proofs.ListLemmas.{Contains-cons_cases, Contains-head}
 use Rattle.jm_index.proofs.ReadLemmas.{Contains-none, Contains-cons}
 use Rattle.jm_awake.specs.declared.card.Card.{Card}
 use Rattle.jm_awake.specs.declared.card.Listed.{Listed}
-use Rattle.jm_awake.specs.Awake.{Lists, list_at, card_at, is_there, slots_there, IsOn, IsKept, IsListOf, Occupant, Occupants, with_slot, AreFound, AreSoundBut, AreSound, AreStill, IsWakable, AreRested}
+use Rattle.jm_awake.specs.Awake.{SlotList, Lists, no_list, list_at, card_at, is_there, slots_there, IsOn, IsKept, IsListOf, Occupant, Occupants, with_slot, AreFound, AreSoundBut, AreSound, AreStill, IsWakable, AreRested, AreAllAbove, HasNone}
+use Rattle.jm_awake.proofs.SoundLemmas.{none_sound, none_rested}
+use Rattle.jm_awake.proofs.ListLemmas.{filtered_from, filtered_passes}
 use Rattle.jm_awake.proofs.StepLemmas.{with_here, with_other}
 use Rattle.jm_awake.proofs.ReadLemmas.{read_each, read_apart, read_all}
-use Rattle.jm_awake.proofs.RestLemmas.{sound_along, rested_still, IsAsBefore}
-use Rattle.jm_marks.specs.Marks.{dead_mask_of}
+use Rattle.jm_awake.proofs.RestLemmas.{sound_along, rested_still, made_rested, IsAsBefore}
+use Rattle.jm_index.specs.Index.{Pair, Binds}
+use Rattle.jm_marks.specs.Marks.{dead_mask_of, is_dead_object}
 use Rattle.jm_monitors.specs.declared.stored.Stored.{Stored}
-use Rattle.jm_monitors.specs.Steps.{IsResting, IsAliveState, IsBase}
+use Rattle.jm_monitors.specs.Steps.{IsResting, IsAliveState, IsBase, AreResting, after_death}
+use Rattle.jm_monitors.proofs.DeathLemmas.{object-placed, cut_by_own_death-lem}
 use Rattle.jm_store.specs.declared.moves.Move.{Move}
-use Rattle.jm_store.specs.Slots.{monitor_at, stored_in}
-use Rattle.jm_store.specs.Moves.{IsAtRest, IsRead, IsReadIn, IsReadAt, IsPushed, AreGiven, AreMovesRead, after_move, after_moves, AreApart, has_all, asks_by, ends_all}
+use Rattle.jm_store.specs.Slots.{monitors_of, monitor_at, stored_in}
+use Rattle.jm_store.specs.Moves.{IsAtRest, IsRead, IsReadIn, IsReadAt, AreGiven, AreMovesRead, AreVisited, after_move, after_moves, AreApart, has_all, asks_by, ends_all}
 use Rattle.jm_store.specs.Listed.{occupant_for, occupant_of, occupants_of, slots_listed, RestsAt, RestsIn, AreListedBut, AreListed, AreOthersAtRest, Comes, IsInAll, IsFor}
-use Rattle.jm_store.proofs.GivenLemmas.{pairs_none, pairs_cons, pairs_append, pairs_head, pairs_tail}
+use Rattle.jm_store.proofs.GivenLemmas.{pairs_none, pairs_cons, pairs_append, pairs_head, pairs_tail, given_all, Contains-from_map}
+use Rattle.jm_store.proofs.SlotLemmas.{place_of}
+use Rattle.jm_store.proofs.CommitLemmas.{housed_within}
+use Rattle.jm_store.proofs.HousingLemmas.{pair_by_slot}
+use Rattle.jm_store.specs.declared.monitors.Slot.{Slot}
+use Rattle.jm_store.specs.Housing.{IsHoused}
 use Rattle.jm_store.proofs.MoveLemmas.{compatible_above}
-use Rattle.jm_store.proofs.VisitLemmas.{below_within, all_within, slots_counted}
+use Rattle.jm_store.proofs.VisitLemmas.{below_within, all_within, mask_within, asked_above, slots_counted}
 use Rattle.jm_store.proofs.RestingLemmas.{given_append}
 use Rattle.jm_store.proofs.AfterLemmas.{moved_other, length-after}
 
@@ -178,6 +186,13 @@ module _ (m : Meaning) {S : Type 0} (Stands : S → List ℕ → Type 0) (dead :
             ]);
       }
 
+  -- no list
+  pub none_listed : (monitors : List (Option (Stored S))) (lists : Lists) → HasNone lists → AreListed m Stands dead monitors lists
+  none_listed monitors lists none = record {
+    sound = none_sound None (occupants_of monitors) lists none;
+    rested = none_rested (RestsIn m Stands dead monitors) (occupants_of monitors) lists none;
+  }
+
   -- ---- moves
   pub listed_move : (monitors : List (Option (Stored S))) (old new : Lists) (move : Move S) (k : ℕ) → move.slot ≡ Some k → IsFor monitors move → (move.stays ≡ true → AreListed m Stands dead (slice_set monitors k (Some move.monitor)) new)
       → (move.stays ≡ false → AreListed m Stands dead (slice_set monitors k None) new) → AreListed m Stands dead (after_move move monitors) new
@@ -201,7 +216,13 @@ for_after {S} move moves monitors apart is k slot =
     let same = after_others moves monitors k (λ y has other. pairs_head (λ (a c : Move S). (j : ℕ) → a.slot ≡ Some j → c.slot ≡ Some j → ⊥) move moves apart y has k slot other) in
     (omega (arith, size, here.0), λ s at. here.1 s (sym same ∙ at))
 
--- ---- the moves of all monitors above a binding, where the others rest
+-- the moves from some place on
+pub apart_drop : {S : Type 0} (moves : List (Move S)) (i : ℕ) → AreApart moves → AreApart (drop i moves)
+apart_drop moves zero apart = apart
+apart_drop [] (suc i) apart = apart
+apart_drop {S} (x ∷ moves) (suc i) apart = apart_drop moves i (pairs_tail (λ (a c : Move S). (j : ℕ) → a.slot ≡ Some j → c.slot ≡ Some j → ⊥) x moves apart)
+
+-- ---- what becomes of other lists
 dec_in : (xs : List ℕ) (k : ℕ) → Contains xs k ⊎ (Contains xs k → ⊥)
 dec_in [] k = inr (λ c. Contains-none k c)
 dec_in (x ∷ xs) k =
@@ -213,6 +234,93 @@ dec_in (x ∷ xs) k =
       ]
     ]
 
+pub in_all_still : (mid new : Lists) (k : ℕ) (t : Binding) → AreStill None mid new → IsInAll mid k t → IsInAll new k t
+in_all_still mid new k t still told place kept below =
+    let was = still place kept in
+    let on = told place was.kept (subst (λ (c : Binding). is_below c t ≡ true) was.binding below) in
+    subst (IsOn (card_at new k)) (sym was.letter) (was.on k (λ none. none-some k none) on)
+
+pub still_same : (a : Lists) → AreStill None a a
+still_same a place kept = record { kept = kept; letter = refl; binding = refl; on = λ k other on. on }
+
+pub with_same : (o : Occupants) (k : ℕ) (x : Occupant) → o k ≡ Some x → (j : ℕ) → o j ≡ with_slot o k (Some x) j
+with_same o k x at j = elim (cases_eq j k) [
+  | inl same ↦ ap o same ∙ at ∙ sym (with_here o k (Some x)) ∙ sym (ap (with_slot o k (Some x)) same)
+  | inr other ↦ sym (with_other o k j (Some x) other)
+]
+
+module _ (m : Meaning) {S : Type 0} (Stands : S → List ℕ → Type 0) (dead : List Bool) (monitors : List (Option (Stored S))) (old new : Lists) where
+  -- a monitor that rests at a letter leaves the lists of the letter
+  pub listed_off : (place slot e : ℕ) (b : Binding) (s : Stored S) → IsListOf (list_at old place) e b → monitor_at monitors slot ≡ Some s → IsAtRest m Stands e b dead s → new.lists ≡ old.lists
+      → ((p : ℕ) (o : Occupants) (x : Occupant) → (list_at old p).letter ≡ e → IsKept old p → o slot ≡ Some x → is_below (list_at old p).binding x.instance ≡ true → AreSoundBut (Some p) o old → AreSoundBut (Some p) o new)
+      → ((k d : ℕ) → (k ≡ slot → d ≡ e → ⊥) → IsOn (card_at old k) d → IsOn (card_at new k) d) → AreListedBut m Stands dead (Some place) monitors old → AreListedBut m Stands dead (Some place) monitors new
+  listed_off place slot e b s of at resting lists sound on listed = record {
+    sound = sound place (occupants_of monitors) (occupant_for s.instance) of.letter of.kept (occupant_some (monitor_at monitors slot) s at)
+        (subst (λ (t : Binding). is_below t s.instance ≡ true) (sym of.binding) resting.0) listed.sound;
+    rested = λ p k x kept here below.
+        let same : list_at new p ≡ list_at old p = ap (λ (l : List SlotList). slice_index_or l p no_list) lists in
+        let letter : (list_at new p).letter ≡ (list_at old p).letter = ap (λ (l : SlotList). l.letter) same in
+        elim (listed.rested p k x (sym (ap (λ (l : SlotList). l.is_kept) same) ∙ kept) here (subst (λ (l : SlotList). is_below l.binding x.instance ≡ true) same below)) [
+          | inl was ↦ elim (cases_eq k slot) [
+            | inl mine ↦ elim (cases_eq (list_at old p).letter e) [
+              | inl its ↦ inr (subst (λ (n : ℕ). RestsAt m Stands dead n (monitor_at monitors k)) (sym (letter ∙ its)) (subst (RestsAt m Stands dead e) (sym (ap (monitor_at monitors) mine ∙ at)) (resting.1, resting.2)))
+              | inr other ↦ inl (subst (IsOn (card_at new k)) (sym letter) (on k (list_at old p).letter (λ is its. other its) was))
+            ]
+            | inr other ↦ inl (subst (IsOn (card_at new k)) (sym letter) (on k (list_at old p).letter (λ is its. other is) was))
+          ]
+          | inr rests ↦ inr (subst (λ (n : ℕ). RestsAt m Stands dead n (monitor_at monitors k)) (sym letter) rests)
+        ];
+  }
+
+  -- a list more, of all monitors above its binding
+  pub listed_made : (e : ℕ) (b : Binding) (slots : List ℕ) → AreVisited (has_all b) b monitors slots → ((k : ℕ) (s : Stored S) → Contains slots k → monitor_at monitors k ≡ Some s → is_below b s.instance ≡ true)
+      → ((o : Occupants) → AreAllAbove o old b slots → AreSound o old → AreSound o new) → ((k d place : ℕ) → IsKept new place → IsOn (card_at old k) d → IsOn (card_at new k) d)
+      → ((k place : ℕ) → IsKept new place → Contains slots k → IsOn (card_at new k) e) → ((place : ℕ) → IsKept new place → (list_at new place ≡ list_at old place) ⊎ IsListOf (list_at new place) e b)
+      → AreListed m Stands dead monitors old → AreListed m Stands dead monitors new
+  listed_made e b slots visit above sound on here lists listed = record {
+    sound = sound (occupants_of monitors) (record {
+      apart = visit.apart;
+      each = λ k has.
+          let (s, at, compatible) = visit.each k has in
+          (occupant_for s.instance, occupant_some (monitor_at monitors k) s at, above k s has at, λ dies. absurd (false≢true dies));
+      all = all;
+    }) listed.sound;
+    rested = made_rested (RestsIn m Stands dead monitors) (occupants_of monitors) old new e b slots listed.rested lists on here all;
+  }
+    where
+      all : (k : ℕ) (x : Occupant) → occupants_of monitors k ≡ Some x → is_below b x.instance ≡ true → Contains slots k
+      all k x at below =
+          let (s, is, instance) = occupant_at (monitor_at monitors k) x at in
+          let under : is_below b s.instance ≡ true = ap (is_below b) instance ∙ below in
+          visit.all k s is (compatible_above b s.instance under) (eq-eqb (bit_and (mask_of b) (mask_of s.instance)) (mask_of b) (mask_within b s.instance under))
+
+  -- the death of an object, whose monitors are in all lists
+  pub listed_mourned : (o : ℕ) → AreStill None old new → AreSound (occupants_of monitors) new → ((k : ℕ) (s : Stored S) → monitor_at monitors k ≡ Some s → Binds s.instance o → IsInAll new k s.instance)
+      → AreListed m Stands dead monitors old → AreListed m Stands (after_death dead o) monitors new
+  listed_mourned o still sound told listed = record {
+    sound = sound;
+    rested = rested_still (RestsIn m Stands dead monitors) (RestsIn m Stands (after_death dead o) monitors) None (occupants_of monitors) (occupants_of monitors) old new still listed.rested (λ k x at.
+        let (s, is, instance) = occupant_at (monitor_at monitors k) x at in
+        elim (dec_in (objects_of s.instance) o) [
+          | inl binds ↦ inr (λ place kept below. inl (told k s is (object-placed s.instance o binds) place kept (ap (is_below (list_at new place).binding) instance ∙ below)))
+          | inr free ↦ inl (record {
+            not_left = λ none. none-some k none;
+            before = x;
+            at = at;
+            instance = refl;
+            rests = λ e rests.
+                let was : RestsAt m Stands dead e (Some s) = subst (RestsAt m Stands dead e) is rests in
+                subst (RestsAt m Stands (after_death dead o) e) (sym is) (was.0, λ w stands cut.
+                let (q, among, live, dies) = cut_by_own_death-lem m w s.instance dead (after_death dead o) (was.1 w stands) cut in
+                elim (cases_eq q o) [
+                  | inl same ↦ free (subst (λ (n : ℕ). Contains (objects_of s.instance) n) same among)
+                  | inr other ↦ both_ways (is_dead_object dead q) live (sym (get_or-set_other dead o q true false other) ∙ dies)
+                ]);
+          })
+        ]);
+  }
+
+-- ---- the moves of all monitors above a binding, where the others rest
 ask_known : (t r : Bool) → (t || (not true && r)) ≡ true → t ≡ true
 ask_known true r h = refl
 ask_known false r h = absurd (false≢true h)
@@ -226,7 +334,7 @@ module _ {S : Type 0} (b : Binding) (monitors : List (Option (Stored S))) where
   above_compatible slots above k c = let (s, at, below) = above k c in (s, at, compatible_above b s.instance below)
 
   -- they are some of those that are compatible
-  pub above_counted : (slots : List ℕ) → AllPairs (λ j k. j ≢ k) slots → AreAbove slots → length slots ≤ length (filter (λ (s : Stored S). is_compatible s.instance b) (stored_in monitors))
+  pub above_counted : (slots : List ℕ) → AllPairs (λ j k. j ≢ k) slots → AreAbove slots → length slots ≤ count_by (λ (s : Stored S). is_compatible s.instance b) (stored_in monitors)
   above_counted slots apart above = slots_counted monitors (λ s. is_compatible s.instance b) slots apart (above_compatible slots above)
 
   module _ (m : Meaning) (Stands : S → List ℕ → Type 0) (letter : ℕ) (dead : List Bool) (marks : List Binding) where
@@ -321,7 +429,7 @@ module _ {S : Type 0} (b : Binding) (monitors : List (Option (Stored S))) where
                   | inr other ↦ Contains-append_right slots u.list k other
                 ];
           };
-          given = subst (λ (l : List (Move S)). AreGiven Read (slots ++ u.list) l) (append-nil moves) (given_append Read Read slots u.list moves [] given (none_given u.list u.each));
+          given = subst (λ (l : List (Move S)). AreGiven Read (slots ++ u.list) l) (append-nil moves) (given_append Read slots u.list moves [] given (none_given u.list u.each));
         }
 
     -- what is read of a monitor above b, which is a mark, is a move, or that it rests
@@ -329,3 +437,36 @@ module _ {S : Type 0} (b : Binding) (monitors : List (Option (Stored S))) where
     read_rests k s below (inr resting) = resting
     read_rests k s below (inl (inl none)) = absurd (none (compatible_above b s.instance below, inl below))
     read_rests k s below (inl (inr (apart, over))) = absurd (both_ways (is_below b s.instance) apart below)
+
+    -- where nothing moves, all above b rest
+    pub none_rests : (ending : List ℕ) (moves : List (Move S)) → AreMovesRead m Stands letter b dead marks (asks_by true ending letter b) monitors moves → moves ≡ [] → Contains marks b
+        → AreResting m Stands dead letter b (stored_in monitors) marks
+    none_rests ending moves read none marked = record {
+      marked = marked;
+      each = λ s there below.
+          let (k, at) = place_of monitors s there in
+          let has = read.visit.all k s at (compatible_above b s.instance below) (asked_above true ending letter b s.instance below) in
+          let (o, is, among) = given_all Read read.slots moves k read.given has in
+          let resting = read_rests k s below (subst (λ (x : Option (Stored S)). IsReadIn m Stands letter b dead marks k x None) at (subst (λ (y : Option (Move S)). Read k y) (no_move o among) is)) in
+          (resting.1, resting.2);
+    }
+      where
+        no_move : (o : Option (Move S)) → ((y : Move S) → o ≡ Some y → Contains moves y) → o ≡ None
+        no_move None among = refl
+        no_move (Some y) among = absurd (Contains-none y (subst (λ (l : List (Move S)). Contains l y) none (among y refl)))
+
+-- the monitors of a list's slots lie above its binding
+pub listed_above : (m : Meaning) {S : Type 0} (Stands : S → List ℕ → Type 0) (dead : List Bool) (q : Option ℕ) (monitors : List (Option (Stored S))) (lists : Lists) (place e : ℕ) (b : Binding) → IsListOf (list_at lists place) e b
+    → AreListedBut m Stands dead q monitors lists → AreAbove b monitors (slots_listed lists place)
+listed_above m {S} Stands dead q monitors lists place e b of listed k has =
+    let (x, among, slot) = Contains-from_map (λ (y : Listed). y.slot) (filter (is_there lists.cards) (list_at lists place).entries) k has in
+    let (s, at, below) = listed_each m Stands dead q monitors lists place e b of listed x (filtered_from (is_there lists.cards) (list_at lists place).entries x among) (filtered_passes (is_there lists.cards) (list_at lists place).entries x among) in
+    (s, subst (λ (n : ℕ). monitor_at monitors n ≡ Some s) slot at, below)
+
+-- a move of a plan is for its slot
+pub for_plan : {S : Type 0} (slots : List (Slot S)) (pairs : List Pair) (move : Move S) → IsHoused slots pairs → ((k : ℕ) → move.slot ≡ Some k → Contains pairs (record { binding = move.monitor.instance; slot = k }))
+    → IsFor (monitors_of slots) move
+for_plan slots pairs move housed leads k slot =
+    let pair : Pair = record { binding = move.monitor.instance; slot = k } in
+    let there = leads k slot in
+    (housed_within slots pairs housed pair there, λ s at. sym (pair_by_slot slots pairs k s.instance housed (housed.paired k s at) pair there refl))

@@ -2,15 +2,13 @@
 ghost use Rattle.std.specs.Prelude.{◌≡◌, ℕ, Bool, List, Option, None, Contains};
 ghost use Rattle.jm_awake.specs.Awake.{Occupants, AreFound, AreStill};
 ghost use Rattle.jm_monitors.specs.declared.stored.Stored.{Stored as Kept};
-ghost use Rattle.jm_model.specs.Meanings.{Meaning};
-ghost use Rattle.jm_model.specs.Words.{Word};
 ghost use Rattle.jm_store.specs.declared.moves.Move.{Move as Change};
 ghost use Rattle.jm_store.specs.Moves.{after_move, after_moves, AreApart};
 ghost use Rattle.jm_store.specs.Listed.{Comes, IsInAll, IsFor, KeepListed};
 
 use crate::moves::Move;
 use jm_awake::Awake;
-use jm_model::Binding;
+use jm_model::{Binding, Monitor};
 
 /// Puts a slot into all lists whose bindings lie below the instance of its monitor, which comes or moved.
 #[inline(always)]
@@ -38,10 +36,10 @@ fn wake_listed(awake: &mut Awake, slot: usize, instance: &Binding)
 
 /// Takes in what a move makes of the monitor of its slot.
 #[inline(always)]
-pub(crate) fn follow<S>(awake: &mut Awake, step: &Move<S>)
-    ensures { (m : Meaning) (Stands : S → Word → Type 0) (dead : List Bool) (monitors : List (Option (Kept S)))
-        → IsFor monitors step.now
-        → KeepListed m Stands dead monitors (after_move step.now monitors) awake.old awake.new }
+pub(crate) fn follow<M: Monitor>(awake: &mut Awake, step: &Move<M::State>)
+    ensures { (rules : M) (dead : List Bool) (monitors : List (Option (Kept M.State))) → IsFor monitors step.now
+        → KeepListed (M.meaning (M.definition rules)) (M.StandsFor rules) dead monitors
+        (after_move step.now monitors) awake.old awake.new }
 {
     let Some(slot) = step.slot else { return };
     if step.stays {
@@ -52,15 +50,15 @@ pub(crate) fn follow<S>(awake: &mut Awake, step: &Move<S>)
 }
 
 /// Takes in what some moves make of the monitors of their slots.
-pub(crate) fn follow_all<S>(awake: &mut Awake, moves: &[Move<S>])
-    ensures { (m : Meaning) (Stands : S → Word → Type 0) (dead : List Bool) (monitors : List (Option (Kept S)))
-        → AreApart moves.now
-        → ((move : Change S) → Contains moves.now move → IsFor monitors move)
-        → KeepListed m Stands dead monitors (after_moves moves.now monitors) awake.old awake.new }
+pub(crate) fn follow_all<M: Monitor>(awake: &mut Awake, moves: &[Move<M::State>])
+    ensures { (rules : M) (dead : List Bool) (monitors : List (Option (Kept M.State))) → AreApart moves.now
+        → ((move : Change M.State) → Contains moves.now move → IsFor monitors move)
+        → KeepListed (M.meaning (M.definition rules)) (M.StandsFor rules) dead monitors
+        (after_moves moves.now monitors) awake.old awake.new }
 {
     let mut left = moves.len();
     while left > 0 {
         left -= 1;
-        follow(awake, &moves[left]);
+        follow::<M>(awake, &moves[left]);
     }
 }

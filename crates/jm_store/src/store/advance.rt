@@ -422,7 +422,7 @@ impl<M: Monitor> Store<M> {
         self.place_one(&mut step)?;
         self.end_one(rules, &step.monitor);
         let stays = step.stays;
-        follow(awake, &step);
+        follow::<M>(awake, &step);
         self.carry_out(step);
         self.close(binding, known);
         Some(Done {

@@ -48,6 +48,9 @@ impl<M: Monitor> Store<M> {
         ensures steps { steps.new ≤ steps.old + count_by (λ s. is_compatible s.instance binding.now)
             (stored_of self.old) }
     {
+        if awake.entries(place).is_empty() {
+            return Ok(None);
+        }
         let moves = self.take_moves();
         let event = Event {
             rules,
@@ -182,13 +185,13 @@ impl<M: Monitor> Store<M> {
         ensures { (rules : M) (dead : List Bool) → KeepListed (M.meaning (M.definition rules)) (M.StandsFor rules) dead
             self.now.monitors (monitors_after self.now plan.now) awake.old awake.new }
     {
-        if awake.letters() != 0 {
-            follow_all(awake, plan.moves.as_slice());
-        }
+        let _monitors = &self.monitors;
+        follow_all::<M>(awake, plan.moves.as_slice());
     }
 
     /// Makes a list of the monitors above an event's binding, which the event reads from now on, if memory isn't wanting;
     /// where some is, lists are let go.
+    #[inline(never)]
     pub fn list(
         &self,
         rules: &M,
@@ -241,6 +244,7 @@ impl<M: Monitor> Store<M> {
 
     /// Takes in the death of an object, of which there is no event any more: its lists are let go, and its monitors come
     /// into all others, since it may have cut them. It takes no memory; where there is no room, lists are let go.
+    #[inline(never)]
     pub fn mourn(&mut self, awake: &mut Awake, object: u32)
         requires { flag_of self.old.index.dropped object ≡ false }
         ensures same { self.new ≡ self.old }
@@ -267,8 +271,8 @@ impl<M: Monitor> Store<M> {
         ensures sound { AreSound (occupants_of self.now.monitors) awake.old
             → AreSound (occupants_of self.now.monitors) awake.new }
         ensures still { AreStill None awake.old awake.new }
-        ensures told { AreFound awake.old → (k : ℕ) (s : Kept M.State) → Contains slots.now k
-            → monitor_at self.now.monitors k ≡ Some s → IsInAll awake.new k s.instance }
+        ensures told { AreSound (occupants_of self.now.monitors) awake.old → (k : ℕ) (s : Kept M.State)
+            → Contains slots.now k → monitor_at self.now.monitors k ≡ Some s → IsInAll awake.new k s.instance }
     {
         for slot in slots {
             self.wake_one(awake, *slot);
