@@ -3,7 +3,7 @@ use Rattle.std.proofs.Common.{◌≡◌, ◌≢◌, ℕ, zero, suc, ◌+◌, ◌
 use Rattle.std.specs.Prelude.{Option, Some, None, Contains, AllPairs, filter, count_by, slice_set, slice_index_or, bit_and}
 use Rattle.std.proofs.lemmas.Bool.{both_ways, cases_Bool, cases_eq, eq-eqb, false≢true}
 use Rattle.std.proofs.lemmas.Option.{same_Some, none-some}
-use Rattle.std.proofs.lemmas.List.{take_more, map-append, get_or-set_same, get_or-set_other}
+use Rattle.std.proofs.lemmas.List.{take_more, map-append, get_or_default, get_or-set_same, get_or-set_other}
 use Rattle.std.proofs.lemmas.List.Elements.{Contains-append_left, Contains-append_right, Contains-append_cases, filter-append}
 use Rattle.jm_model.specs.Bindings.{is_below, is_compatible, mask_of, objects_of}
 use Rattle.jm_model.specs.Meanings.{Meaning}
@@ -69,6 +69,25 @@ pub slots_next : (cards : List Card) (xs : List Listed) (i : ℕ) (x : Listed) (
     → slots_there cards (take (i + 1) xs) ≡ slots_there cards (take i xs) ++ cond t (x.slot ∷ []) []
 slots_next cards xs i x t low at is =
     ap (slots_there cards) (take_more xs i x low ∙ ap (λ (y : Listed). take i xs ++ y ∷ []) (sym at)) ∙ slots_push cards (take i xs) x t is
+
+-- no more of some entries than of all
+pub slots_fewer : (cards : List Card) (xs : List Listed) (i : ℕ) → length (slots_there cards (take i xs)) ≤ length (slots_there cards xs)
+slots_fewer cards xs zero = omega arith
+slots_fewer cards [] (suc i) = omega arith
+slots_fewer cards (x ∷ xs) (suc i) = by (slots_fewer cards xs i) (is_there cards x) refl
+  where
+    by : length (slots_there cards (take i xs)) ≤ length (slots_there cards xs) → (t : Bool) → is_there cards x ≡ t → length (slots_there cards (x ∷ take i xs)) ≤ length (slots_there cards (x ∷ xs))
+    by few true e = rw e (omega (arith, few))
+    by few false e = rw e few
+
+-- one entry more, at some place of the same list
+pub slots_at : (cards : List Card) (xs ys : List Listed) (i : ℕ) (none : Listed) (t : Bool) → ys ≡ xs → i < length xs → is_there cards (get_or ys i none) ≡ t
+    → slots_there cards (take (i + 1) xs) ≡ slots_there cards (take i xs) ++ cond t ((get_or ys i none).slot ∷ []) []
+slots_at cards xs ys i none t same low is =
+    slots_next cards xs i (get_or ys i none) t low (ap (λ (l : List Listed). get_or l i none) same ∙ get_or_default xs i none (get_or ys i none) low) is
+
+pub same_list : (old new : Lists) (place : ℕ) → new.lists ≡ old.lists → list_at new place ≡ list_at old place
+same_list old new place lists = ap (λ (l : List SlotList). slice_index_or l place no_list) lists
 
 -- ---- what a list tells
 module _ (m : Meaning) {S : Type 0} (Stands : S → List ℕ → Type 0) (dead : List Bool) (q : Option ℕ) (monitors : List (Option (Stored S))) (lists : Lists) (place e : ℕ) (b : Binding) (of : IsListOf (list_at lists place) e b)

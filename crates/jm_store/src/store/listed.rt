@@ -209,10 +209,11 @@ impl<M: Monitor> Store<M> {
     {
         let alloc = *self.domains.allocator();
         let mut above = Vec::new(alloc);
-        if self.add_above(objects, binding, &mut above).is_ok() {
-            let _letters = rules.letters();
-            awake.list_all(letter, binding, above.as_slice());
-        }
+        let Ok(()) = self.add_above(objects, binding, &mut above) else {
+            return;
+        };
+        let _letters = rules.letters();
+        awake.list_all(letter, binding, above.as_slice());
     }
 
     /// Adds the slots of the monitors above a binding.

@@ -1,21 +1,6 @@
-use Rattle.std.proofs.Common.{rules, ◌≡◌, ℕ, ◌+◌, ◌<◌, ◌≤◌, ◌↔◌, [], List, Bool, Some, None, Contains, IfOk, OnOk, IsTrue, true, false, length, count_by, ◌-◌, ◌*◌, ◌/◌, ◌%◌, nat_eq, nat_lt, ◌∷◌, ◌++◌, slice_index_or, slice_set, bit_and, bit_or, Fits, w8, w32, w64, Bor, MutBor}
-use Rattle.jm_model.specs.Bindings.{is_below, is_compatible}
-use Rattle.jm_awake.specs.declared.card.Listed.{Listed as Entry}
-use Rattle.jm_awake.specs.Awake.{list_at, is_there, IsListOf, AreSound, AreFound, AreStill}
-use Rattle.jm_index.specs.Index.{AreLive, IsFitting, flag_of}
-use Rattle.jm_monitors.specs.declared.stored.Stored.{Stored as Kept}
-use Rattle.jm_monitors.specs.Steps.{after_death}
-use Rattle.jm_store.specs.Slots.{monitor_at}
-use Rattle.jm_store.specs.Moves.{AreGiven, IsReadAt, IsPushed, AreMovesRead, AreVisited, asks_by, has_all}
-use Rattle.jm_store.specs.Contents.{stored_of, monitors_after, IsPlanFor}
-use Rattle.jm_store.specs.Listed.{occupants_of, slots_listed, AreListed, AreListedBut, KeepListed, IsInAll}
-use Rattle.jm_store.specs.Plans.{CanPlan, PlansUnlessRests}
+use Rattle.std.proofs.Common.{◌≡◌, List, [], length, refl, sym, ap, ◌∙◌, subst}
+use Rattle.jm_store.proofs.ListedLemmas.{none_rests}
 use Rattle.jm_store.proofs.store.Store.plan_listed.Goals as goal
 
--- src/store/listed.rt:63:13
-pub returns-then-is_empty-clause-plans : goal.returns-then-is_empty-clause-plans
-returns-then-is_empty-clause-plans g c = ?
-
--- src/store/listed.rt:65:20
-pub returns-in_err-plan-clause-plans : goal.returns-in_err-plan-clause-plans
-returns-in_err-plan-clause-plans g c = ?
+pub returns-then-is_empty-2-clause-plans : goal.returns-then-is_empty-2-clause-plans
+returns-then-is_empty-2-clause-plans g c = ?
