@@ -30,7 +30,7 @@ use Rattle.jm_store.specs.Listed.{occupant_for, occupant_of, occupants_of, slots
 use Rattle.jm_store.proofs.GivenLemmas.{pairs_none, pairs_cons, pairs_append, pairs_head, pairs_tail, given_all, Contains-from_map}
 use Rattle.jm_store.proofs.SlotLemmas.{place_of}
 use Rattle.jm_store.proofs.CommitLemmas.{housed_within}
-use Rattle.jm_store.proofs.HousingLemmas.{pair_by_slot}
+use Rattle.jm_store.proofs.HousingLemmas.{pair_by_slot, same_one}
 use Rattle.jm_store.specs.declared.monitors.Slot.{Slot}
 use Rattle.jm_store.specs.Housing.{IsHoused}
 use Rattle.jm_store.proofs.MoveLemmas.{compatible_above}
@@ -53,6 +53,10 @@ within zero s [] at = absurd (none-some s at)
 within (suc k) s [] at = absurd (none-some s at)
 within zero s (x ∷ xs) at = omega arith
 within (suc k) s (x ∷ xs) at = let lt = within k s xs at in omega (arith, lt)
+
+pub empty_list : {X : Type 0} (xs : List X) → length xs ≡ 0 → xs ≡ []
+empty_list [] none = refl
+empty_list (x ∷ xs) none = absurd (omega (arith, none))
 
 -- ---- the slots of entries
 slots_push : (cards : List Card) (xs : List Listed) (x : Listed) (t : Bool) → is_there cards x ≡ t → slots_there cards (xs ++ x ∷ []) ≡ slots_there cards xs ++ cond t (x.slot ∷ []) []
@@ -489,3 +493,26 @@ for_plan slots pairs move housed leads k slot =
     let pair : Pair = record { binding = move.monitor.instance; slot = k } in
     let there = leads k slot in
     (housed_within slots pairs housed pair there, λ s at. sym (pair_by_slot slots pairs k s.instance housed (housed.paired k s at) pair there refl))
+
+pub for_slots : {S : Type 0} (monitors : List (Option (Stored S))) (pairs : List Pair) (move : Move S) → AllPairs (λ a c. a.slot ≢ c.slot) pairs → ((pair : Pair) → Contains pairs pair → pair.slot < length monitors)
+    → ((k : ℕ) (s : Stored S) → monitor_at monitors k ≡ Some s → Contains pairs (record { binding = s.instance; slot = k })) → ((k : ℕ) → move.slot ≡ Some k → Contains pairs (record { binding = move.monitor.instance; slot = k }))
+    → IsFor monitors move
+for_slots monitors pairs move apart low paired leads k slot =
+    let pair : Pair = record { binding = move.monitor.instance; slot = k } in
+    let there = leads k slot in
+    (low pair there, λ s at.
+    let other : Pair = record { binding = s.instance; slot = k } in
+    ap (λ (p : Pair). p.binding) (same_one (λ (p : Pair). p.slot) pairs other pair apart (paired k s at) there refl))
+
+-- where a list has nothing, all above its binding rest
+pub empty_rests : (m : Meaning) {S : Type 0} (Stands : S → List ℕ → Type 0) (dead : List Bool) (monitors : List (Option (Stored S))) (lists : Lists) (place e : ℕ) (b : Binding) (marks : List Binding) → IsListOf (list_at lists place) e b
+    → AreListed m Stands dead monitors lists → (list_at lists place).entries ≡ [] → Contains marks b → AreResting m Stands dead e b (stored_in monitors) marks
+empty_rests m {S} Stands dead monitors lists place e b marks of listed none marked = record {
+  marked = marked;
+  each = λ s there below.
+      let (k, at) = place_of monitors s there in
+      elim (listed_rest m Stands dead None monitors lists place e b of listed k s at below) [
+        | inl has ↦ absurd (Contains-none k (subst (λ (l : List Listed). Contains (slots_there lists.cards l) k) none has))
+        | inr rests ↦ (rests.1, rests.2)
+      ];
+}

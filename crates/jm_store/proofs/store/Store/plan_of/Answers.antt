@@ -28,7 +28,8 @@ pub open_plan-requires-clause-leads : goal.open_plan-requires-clause-leads
 open_plan-requires-clause-leads g c =
     let m = g.M.Monitor.meaning (g.M.Monitor.definition c.args.rules.now) in
     let Stands = g.M.Monitor.StandsFor c.args.rules.now in
-    let whole = completed m Stands _ _ _ _ _ _ _ c.requires.read in
+    let read = rw (← c.self.view_is) at c.requires.read in
+    let whole = completed m Stands _ _ _ _ _ _ _ read in
     rw (← c.self.view_is)
     (λ move k there slot.
     leads_moves m Stands _ _ _ _ _ _ _ whole.all _ c.self.invariant.housed.paired move k (Contains-append_left c.args.moves.items whole.resting move there) slot)

@@ -40,7 +40,7 @@ returns-clause-moves g c =
     let known : c.args.event.now.known ≡ true = c.requires.known.1 c.requires.marked in
     subst (λ (v : Bool). AreMovesRead m Stands e b dead marks (asks_by v ending e b) monitors c.read_listed-read.new.moves.items) (sym known)
     (listed_all b monitors m Stands e dead marks ending (slots_listed lists place) c.read_listed-read.new.moves.items (listed_apart m Stands dead None monitors lists place e b c.requires.of c.requires.listed)
-    (listed_above m Stands dead None monitors lists place e b c.requires.of c.requires.listed) c.read_listed-read.ensures.moves
+    (listed_above m Stands dead None monitors lists place e b c.requires.of c.requires.listed) c.in_ok-read.ensures.moves
     (listed_rest m Stands dead None monitors lists place e b c.requires.of c.requires.listed))
 
 pub returns-clause-listed : goal.returns-clause-listed

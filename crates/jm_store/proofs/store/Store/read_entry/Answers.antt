@@ -1,6 +1,7 @@
 use Rattle.std.proofs.Common.{◌≡◌, ℕ, Option, subst, sym, ap}
 use Rattle.std.specs.Prelude.{Some, None}
 use Rattle.jm_store.specs.Slots.{monitor_at}
+use Rattle.jm_store.specs.declared.moves.Move.{Move}
 use Rattle.jm_store.specs.Moves.{IsRead}
 use Rattle.jm_store.proofs.MoveLemmas.{compatible_above}
 use Rattle.jm_store.proofs.ListedLemmas.{listed_off, read_rests}
@@ -18,6 +19,6 @@ returns-in-None-clause-listed g c = λ place of listed.
     let dead = c.args.event.now.objects.now in
     let base = c.in-Some.base.now in
     let at : monitor_at c.args.self.now.monitors c.args.slot ≡ Some base = rw (← c.self.view_is) c.in-Some.ensures.value in
-    let read : IsRead m Stands e b dead c.args.event.now.marks.now.list c.args.slot base None = rw (← c.in-None.is) c.in_ok-step.ensures in
+    let read : IsRead m Stands e b dead c.args.event.now.marks.now.list c.args.slot base None = subst (λ (o : Option (Move g.row.M-State.Denot)). IsRead m Stands e b dead c.args.event.now.marks.now.list c.args.slot base o) c.in-None.is c.in_ok-step.ensures in
     let resting = read_rests b c.args.self.now.monitors m Stands e dead c.args.event.now.marks.now.list c.args.slot base (c.requires.above base at) read in
     listed_off m Stands dead c.args.self.now.monitors c.args.awake.now c.unlist.new.self place c.args.slot e b base of at resting c.unlist.ensures.lists c.unlist.ensures.sound c.unlist.ensures.on listed
