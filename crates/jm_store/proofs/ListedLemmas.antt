@@ -12,16 +12,16 @@ use Rattle.jm_semantics.proofs.ListLemmas.{Contains-cons_cases, Contains-head}
 use Rattle.jm_index.proofs.ReadLemmas.{Contains-none, Contains-cons}
 use Rattle.jm_awake.specs.declared.card.Card.{Card}
 use Rattle.jm_awake.specs.declared.card.Listed.{Listed}
-use Rattle.jm_awake.specs.Awake.{SlotList, Lists, no_list, list_at, card_at, is_there, slots_there, IsOn, IsKept, IsListOf, Occupant, Occupants, with_slot, AreFound, AreSoundBut, AreSound, AreStill, IsWakable, AreRested, AreAllAbove, HasNone}
+use Rattle.jm_awake.specs.Awake.{SlotList, Lists, no_list, list_at, card_at, is_there, slots_there, IsOn, IsKept, IsListOf, Occupant, Occupants, with_slot, AreFound, AreSoundBut, AreSound, AreStill, IsWakable, AreAllAbove, HasNone}
 use Rattle.jm_awake.proofs.SoundLemmas.{none_sound, none_rested}
 use Rattle.jm_awake.proofs.ListLemmas.{filtered_from, filtered_passes}
 use Rattle.jm_awake.proofs.StepLemmas.{with_here, with_other}
 use Rattle.jm_awake.proofs.ReadLemmas.{read_each, read_apart, read_all}
 use Rattle.jm_awake.proofs.RestLemmas.{sound_along, rested_still, made_rested, IsAsBefore}
 use Rattle.jm_index.specs.Index.{Pair, Binds}
-use Rattle.jm_marks.specs.Marks.{dead_mask_of, is_dead_object}
+use Rattle.jm_marks.specs.Marks.{is_dead_object}
 use Rattle.jm_monitors.specs.declared.stored.Stored.{Stored}
-use Rattle.jm_monitors.specs.Steps.{IsResting, IsAliveState, IsBase, AreResting, after_death}
+use Rattle.jm_monitors.specs.Steps.{AreResting, after_death}
 use Rattle.jm_monitors.proofs.DeathLemmas.{object-placed, cut_by_own_death-lem}
 use Rattle.jm_store.specs.declared.moves.Move.{Move}
 use Rattle.jm_store.specs.Slots.{monitors_of, monitor_at, stored_in}
@@ -333,12 +333,15 @@ module _ (m : Meaning) {S : Type 0} (Stands : S → List ℕ → Type 0) (dead :
             instance = refl;
             rests = λ e rests.
                 let was : RestsAt m Stands dead e (Some s) = subst (RestsAt m Stands dead e) is rests in
-                subst (RestsAt m Stands (after_death dead o) e) (sym is) (was.0, λ w stands cut.
-                let (q, among, live, dies) = cut_by_own_death-lem m w s.instance dead (after_death dead o) (was.1 w stands) cut in
-                elim (cases_eq q o) [
-                  | inl same ↦ free (subst (λ (n : ℕ). Contains (objects_of s.instance) n) same among)
-                  | inr other ↦ both_ways (is_dead_object dead q) live (sym (get_or-set_other dead o q true false other) ∙ dies)
-                ]);
+                subst (RestsAt m Stands (after_death dead o) e) (sym is) (
+                  was.0,
+                  λ w stands cut.
+                      let (q, among, live, dies) = cut_by_own_death-lem m w s.instance dead (after_death dead o) (was.1 w stands) cut in
+                      elim (cases_eq q o) [
+                        | inl same ↦ free (subst (λ (n : ℕ). Contains (objects_of s.instance) n) same among)
+                        | inr other ↦ both_ways (is_dead_object dead q) live (sym (get_or-set_other dead o q true false other) ∙ dies)
+                      ],
+                );
           })
         ]);
   }
@@ -499,10 +502,12 @@ pub for_slots : {S : Type 0} (monitors : List (Option (Stored S))) (pairs : List
     → IsFor monitors move
 for_slots monitors pairs move apart low paired leads k slot =
     let pair : Pair = record { binding = move.monitor.instance; slot = k } in
-    let there = leads k slot in
-    (low pair there, λ s at.
-    let other : Pair = record { binding = s.instance; slot = k } in
-    ap (λ (p : Pair). p.binding) (same_one (λ (p : Pair). p.slot) pairs other pair apart (paired k s at) there refl))
+    let there = leads k slot in (
+      low pair there,
+      λ s at.
+          let other : Pair = record { binding = s.instance; slot = k } in
+          ap (λ (p : Pair). p.binding) (same_one (λ (p : Pair). p.slot) pairs other pair apart (paired k s at) there refl),
+    )
 
 -- where a list has nothing, all above its binding rest
 pub empty_rests : (m : Meaning) {S : Type 0} (Stands : S → List ℕ → Type 0) (dead : List Bool) (monitors : List (Option (Stored S))) (lists : Lists) (place e : ℕ) (b : Binding) (marks : List Binding) → IsListOf (list_at lists place) e b

@@ -61,7 +61,7 @@ impl<M: Monitor> Store<M> {
             known: true,
         };
         let moves = self.reach_listed(&event, awake, place, moves, steps)?;
-        if moves.is_empty() {
+        if moves.as_slice().is_empty() {
             self.give_moves(moves);
             return Ok(None);
         }

@@ -1,6 +1,4 @@
-use Rattle.std.proofs.Common.{◌≡◌, ℕ, ◌+◌, ◌-◌, ◌<◌, Bool, List, Option, [], ◌∷◌, drop, length, refl, sym, ap, ◌∙◌, subst, arith}
-use Rattle.std.specs.Prelude.{Contains}
-use Rattle.jm_monitors.specs.declared.stored.Stored.{Stored}
+use Rattle.std.proofs.Common.{◌≡◌, ℕ, ◌+◌, ◌-◌, ◌<◌, List, [], ◌∷◌, drop, length, refl, sym, ap, ◌∙◌, subst, arith}
 use Rattle.jm_store.specs.declared.moves.Move.{Move}
 use Rattle.jm_store.specs.Moves.{after_moves, AreApart}
 use Rattle.jm_store.specs.Listed.{AreListed}

@@ -1,4 +1,4 @@
-use Rattle.std.proofs.Common.{ℕ, Bool, List, Option, ◌≤◌, drop, length}
+use Rattle.std.proofs.Common.{Bool, List, Option, ◌≤◌, drop, length}
 use Rattle.std.specs.Prelude.{Contains}
 use Rattle.jm_monitors.specs.declared.stored.Stored.{Stored}
 use Rattle.jm_store.specs.declared.moves.Move.{Move}

@@ -1,4 +1,3 @@
-use Rattle.std.proofs.Common.{Option}
 use Rattle.std.specs.Prelude.{None}
 use Rattle.jm_awake.proofs.StepLemmas.{comes_unlisted}
 use Rattle.jm_store.proofs.ListedLemmas.{wakable_none}

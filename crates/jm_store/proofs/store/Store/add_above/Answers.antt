@@ -1,10 +1,9 @@
-use Rattle.std.proofs.Common.{◌≡◌, ℕ, ◌++◌, List, [], true, false, take, get_or, sym, ap, ◌∙◌, append-nil, subst}
+use Rattle.std.proofs.Common.{◌≡◌, ℕ, ◌++◌, List, true, false, sym, ap, ◌∙◌, append-nil, subst}
 use Rattle.std.specs.Prelude.{Contains}
 use Rattle.std.proofs.lemmas.Bool.{eq-eqb}
 use Rattle.std.proofs.lemmas.List.{take_all}
 use Rattle.jm_model.specs.Bindings.{mask_of}
-use Rattle.jm_index.specs.Index.{asked_slots}
-use Rattle.jm_store.specs.Moves.{visited, has_all, AreVisited}
+use Rattle.jm_store.specs.Moves.{visited, has_all}
 use Rattle.jm_store.proofs.VisitLemmas.{visited_taken, visited_above, are_visited, not_all}
 use Rattle.jm_store.proofs.store.Store.add_above.Goals as goal
 use Rattle.jm_store.proofs.store.Store.add_above.Goals.{then-mask-domain+in_ok-compatible_into+in_ok-extend_from_slice, else-mask-domain}

@@ -1,5 +1,5 @@
-use Rattle.std.proofs.Common.{◌≡◌, ℕ, List, false, refl, sym, ap, ◌∙◌, subst}
-use Rattle.std.specs.Prelude.{Option, Some, Contains}
+use Rattle.std.proofs.Common.{◌≡◌, ℕ, List, sym, ap, ◌∙◌, subst}
+use Rattle.std.specs.Prelude.{Option, Some}
 use Rattle.jm_semantics.specs.Traces.{ParametricEvent}
 use Rattle.jm_monitors.proofs.BaseLemmas.{object-among}
 use Rattle.jm_monitors.specs.declared.stored.Stored.{Stored}

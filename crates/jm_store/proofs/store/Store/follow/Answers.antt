@@ -1,7 +1,3 @@
-use Rattle.std.proofs.Common.{◌≡◌, ℕ, List, sym, subst}
-use Rattle.std.specs.Prelude.{Some, Contains}
-use Rattle.jm_index.specs.Index.{PairList}
-use Rattle.jm_store.specs.Contents.{ArePlaced}
 use Rattle.jm_store.proofs.ListedLemmas.{for_plan}
 use Rattle.jm_store.proofs.store.Store.follow.Goals as goal
 

@@ -1,4 +1,4 @@
-use Rattle.std.proofs.Common.{◌≡◌, ℕ, List, Option, Bool, false, refl, sym, ap, ◌∙◌, subst}
+use Rattle.std.proofs.Common.{◌≡◌, ℕ, List, false, refl, sym, subst}
 use Rattle.std.specs.Prelude.{Some, None, Contains}
 use Rattle.jm_awake.specs.Awake.{Lists}
 use Rattle.jm_awake.proofs.RestLemmas.{fewer_sound, fewer_still}

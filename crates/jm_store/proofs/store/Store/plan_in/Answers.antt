@@ -1,5 +1,3 @@
-use Rattle.std.proofs.Common.{List, sym, ap, subst}
-use Rattle.jm_model.specs.declared.binding.Binding.{Binding}
 use Rattle.jm_monitors.proofs.BaseLemmas.{object-among}
 use Rattle.jm_store.proofs.store.Store.plan_in.Goals as goal
 

@@ -1,4 +1,4 @@
-use Rattle.std.proofs.Common.{◌≡◌, ◌≢◌, ◌++◌, List, refl, sym, ap, subst, length}
+use Rattle.std.proofs.Common.{◌≢◌, ◌++◌, List, refl, sym, subst, length}
 use Rattle.std.specs.Prelude.{Contains, IsTrue}
 use Rattle.jm_model.specs.declared.binding.Binding.{Binding}
 use Rattle.std.proofs.lemmas.Result.{err_from_is_err_and}

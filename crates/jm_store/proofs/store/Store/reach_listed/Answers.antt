@@ -1,4 +1,4 @@
-use Rattle.std.proofs.Common.{◌≡◌, ℕ, ◌+◌, inr, true, Bool, List, Option, refl, sym, subst, arith}
+use Rattle.std.proofs.Common.{◌≡◌, inr, true, Bool, refl, sym, subst, arith}
 use Rattle.std.specs.Prelude.{Some, None}
 use Rattle.jm_store.specs.Moves.{AreMovesRead, asks_by}
 use Rattle.jm_store.specs.Listed.{occupants_of, slots_listed}

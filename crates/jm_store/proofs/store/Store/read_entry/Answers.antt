@@ -1,4 +1,4 @@
-use Rattle.std.proofs.Common.{◌≡◌, ℕ, Option, subst, sym, ap}
+use Rattle.std.proofs.Common.{◌≡◌, Option, subst}
 use Rattle.std.specs.Prelude.{Some, None}
 use Rattle.jm_store.specs.Slots.{monitor_at}
 use Rattle.jm_store.specs.declared.moves.Move.{Move}

@@ -1,15 +1,14 @@
-use Rattle.std.proofs.Common.{◌≡◌, ℕ, ◌+◌, ◌<◌, ◌≤◌, ◌++◌, List, [], ◌∷◌, Bool, true, false, Option, take, length, get_or, refl, sym, ap, ◌∙◌, subst, arith, append-nil}
-use Rattle.std.specs.Prelude.{Some, None, Contains}
+use Rattle.std.proofs.Common.{◌≡◌, ◌+◌, ◌<◌, List, [], ◌∷◌, true, false, take, length, get_or, refl, sym, ap, ◌∙◌, subst, arith, append-nil}
+use Rattle.std.specs.Prelude.{Some, Contains}
 use Rattle.std.proofs.lemmas.List.{take_all, length-append}
 use Rattle.std.proofs.lemmas.List.Elements.{Contains-get_or}
 use Rattle.std.proofs.lemmas.Option.{same_Some}
 use Rattle.jm_awake.specs.declared.card.Listed.{Listed}
-use Rattle.jm_awake.specs.Awake.{SlotList, no_list, list_at, is_there, slots_there, IsListOf}
+use Rattle.jm_awake.specs.Awake.{SlotList, list_at, slots_there, IsListOf}
 use Rattle.jm_awake.proofs.RestLemmas.{loosen}
 use Rattle.jm_model.specs.Bindings.{is_below}
 use Rattle.jm_store.specs.Slots.{monitor_at}
 use Rattle.jm_monitors.specs.declared.stored.Stored.{Stored}
-use Rattle.jm_store.specs.Moves.{AreGiven}
 use Rattle.jm_store.specs.Listed.{occupants_of}
 use Rattle.jm_store.proofs.GivenLemmas.{pushed}
 use Rattle.jm_store.proofs.ListedLemmas.{listed_each, slots_at, slots_fewer, same_list}

@@ -1,4 +1,4 @@
-use Rattle.std.proofs.Common.{◌≡◌, ℕ, ◌+◌, ◌≤◌, take, length}
+use Rattle.std.proofs.Common.{◌≡◌, ◌+◌, ◌≤◌, take, length}
 use Rattle.std.specs.Prelude.{Some}
 use Rattle.jm_awake.specs.declared.card.Listed.{Listed}
 use Rattle.jm_awake.specs.Awake.{list_at, is_there, slots_there}

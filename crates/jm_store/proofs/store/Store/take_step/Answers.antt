@@ -7,7 +7,7 @@ use Rattle.jm_model.specs.declared.binding.Binding.{Binding}
 use Rattle.jm_semantics.proofs.ListLemmas.{Contains-head}
 use Rattle.jm_monitors.specs.Steps.{AreMarksAfter}
 use Rattle.jm_store.specs.declared.moves.Move.{Move}
-use Rattle.jm_store.specs.Contents.{with_open, with_ending}
+use Rattle.jm_store.specs.Contents.{with_ending}
 use Rattle.jm_store.proofs.VisitLemmas.{settled_monitor}
 use Rattle.jm_store.proofs.GivenLemmas.{one_pair}
 use Rattle.jm_store.proofs.CommitLemmas.{filled_on, unplanned}

@@ -1,5 +1,5 @@
-use Rattle.std.proofs.Common.{◌≡◌, ℕ, inl, inr, List, take, sym, ap, ◌∙◌, subst}
-use Rattle.std.specs.Prelude.{Contains, Some}
+use Rattle.std.proofs.Common.{ℕ, inl, inr, List, sym, ap, ◌∙◌, subst}
+use Rattle.std.specs.Prelude.{Contains}
 use Rattle.jm_index.proofs.ReadLemmas.{Contains-none}
 use Rattle.jm_index.proofs.ListedLemmas.{taken_cases, take_whole}
 use Rattle.jm_awake.proofs.WakeLemmas.{still_trans}

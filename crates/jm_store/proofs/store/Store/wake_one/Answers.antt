@@ -1,4 +1,4 @@
-use Rattle.std.proofs.Common.{◌≡◌, inr, Option, sym, ap, subst}
+use Rattle.std.proofs.Common.{◌≡◌, inr}
 use Rattle.std.specs.Prelude.{Some, None}
 use Rattle.jm_awake.proofs.RestLemmas.{sound_along}
 use Rattle.jm_store.specs.Listed.{occupant_for, occupants_of}
