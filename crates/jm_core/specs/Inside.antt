@@ -14,9 +14,10 @@ use Rattle.jm_semantics.specs.Legality.{IsLegal}
 use Rattle.jm_marks.specs.Marks.{is_dead_object}
 use Rattle.jm_monitors.specs.declared.stored.Stored.{Stored}
 use Rattle.jm_monitors.specs.Deaths.{AreFlagsOf}
-use Rattle.jm_monitors.specs.Steps.{NoneCutAbove, AreResting}
+use Rattle.jm_monitors.specs.Steps.{NoneCutAbove}
 use Rattle.jm_store.specs.Contents.{Contents, stored_of, IsFit, IsStoreAfter}
-use Rattle.jm_core.specs.declared.rest.Rest.{Rest}
+use Rattle.jm_store.specs.Listed.{AreListed}
+use Rattle.jm_awake.specs.Awake.{Lists}
 use Rattle.jm_core.specs.Cores.{IsTidy}
 
 -- the instances of monitors
@@ -61,17 +62,13 @@ module _ (m : Meaning) {S : Type 0} (Stands : S → Word → Type 0) where
       (first_dead_by dead a.binding ≡ None) × IsUntouched trace dead before after
   IsOutcomeOf trace dead a before after _ = ⊥
 
-  -- the event that is known, if one is, leaves all monitors above its binding as they are
-  abbrev pub IsRested : List Bool → Contents S → Rest → Type 0
-  IsRested dead store rest =
-      rest.is_known ≡ true → AreResting m Stands dead rest.letter.0 rest.binding (stored_of store) store.marks
-
-  -- The event a came to an outcome, which is told twice. The store has no open plan and fits the objects; of whatever
-  -- trace it was one, the outcome is the event's after it, and what is known to rest is so in the store after.
-  pub record Performs (dead : List Bool) (a : ParametricEvent) (before after : Contents S) (rest rested : Rest)
+  -- The event a came to an outcome, which is told twice. The store has no open plan and fits the objects, and the lists
+  -- tell of it; of whatever trace it was one, the outcome is the event's after it.
+  pub record Performs (dead : List Bool) (a : ParametricEvent) (before after : Contents S) (old new : Lists)
       (outcomes : Outcome × Outcome) : Type 0 where
     pub twice : outcomes.1 ≡ outcomes.0
     pub closed : after.is_open ≡ false
     pub fits : IsFit after dead
-    pub works : (trace : List ParametricEvent) → IsStoreAfter m Stands trace dead before → IsRested dead before rest
-        → IsOutcomeOf trace dead a before after outcomes.0 × IsRested dead after rested
+    pub listed : AreListed m Stands dead after.monitors new
+    pub works : (trace : List ParametricEvent) → IsStoreAfter m Stands trace dead before
+        → IsOutcomeOf trace dead a before after outcomes.0

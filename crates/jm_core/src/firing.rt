@@ -1,12 +1,14 @@
 //! What an event comes to in a store.
-ghost use Rattle.std.specs.Prelude.{◌≡◌, ◌↔◌, false, None, Contains, IsTrue, length};
+ghost use Rattle.std.specs.Prelude.{◌≡◌, ◌<◌, ◌↔◌, false, None, Contains, IsTrue, length};
 ghost use Rattle.jm_index.specs.Index.{AreBelow};
 ghost use Rattle.jm_monitors.specs.Steps.{IsLiveEvent};
 ghost use Rattle.jm_store.specs.Contents.{IsFit};
-ghost use Rattle.jm_store.specs.Plans.{Advances, CanPlan, Plans};
+ghost use Rattle.jm_awake.specs.Awake.{list_at, IsListOf};
+ghost use Rattle.jm_store.specs.Listed.{AreListed, KeepListed};
+ghost use Rattle.jm_store.specs.Plans.{Advances, CanPlan, Plans, PlansUnlessRests};
 ghost use Rattle.jm_core.specs.Inside.{first_dead_by, Performs};
 
-use crate::rest::Rest;
+use jm_awake::Awake;
 use jm_model::{Binding, Firings, Letter, Monitor, NoMemory, Outcome, Steps};
 use jm_objects::Objects;
 use jm_store::{Done, Plan, Store};
@@ -22,7 +24,7 @@ pub(crate) fn perform<M: Monitor>(
     rules: &M,
     objects: &Objects,
     store: &mut Store<M>,
-    rest: &mut Rest,
+    awake: &mut Awake,
     letter: Letter,
     binding: &Binding,
 ) -> (Outcome, Outcome)
@@ -32,51 +34,133 @@ pub(crate) fn perform<M: Monitor>(
     requires event { first_dead_by objects.now binding.now ≡ None
         → IsLiveEvent (M.meaning (M.definition rules.now)) objects.now letter.0 binding.now }
     requires there { AreBelow (length objects.now) binding.now }
+    requires listed { AreListed (M.meaning (M.definition rules.now)) (M.StandsFor rules.now) objects.now
+        store.old.monitors awake.old }
     ensures { Performs (M.meaning (M.definition rules.now)) (M.StandsFor rules.now) objects.now
-        (record { letter = letter.0; binding = binding.now }) store.old store.new rest.old rest.new result }
+        (record { letter = letter.0; binding = binding.now }) store.old store.new awake.old awake.new result }
 {
     match first_dead(objects, binding) {
         Some(object) => (Outcome::Refused(object), Outcome::Refused(object)),
-        None => answer(alloc, rules, objects, store, rest, letter, binding),
+        None => answer(alloc, rules, objects, store, awake, letter, binding),
     }
 }
 
-/// What an event comes to that binds no dead object. One that is known to leave all as it is isn't worked out again.
+/// What an event comes to that binds no dead object. Where there is a list of it, only the listed monitors are read.
 #[inline(always)]
 fn answer<M: Monitor>(
     alloc: Global,
     rules: &M,
     objects: &Objects,
     store: &mut Store<M>,
-    rest: &mut Rest,
+    awake: &mut Awake,
     letter: Letter,
     binding: &Binding,
 ) -> (Outcome, Outcome)
     requires can { CanPlan (M.meaning (M.definition rules.now)) objects.now letter.0 binding.now store.old }
     requires live { first_dead_by objects.now binding.now ≡ None }
+    requires listed { AreListed (M.meaning (M.definition rules.now)) (M.StandsFor rules.now) objects.now
+        store.old.monitors awake.old }
     ensures { Performs (M.meaning (M.definition rules.now)) (M.StandsFor rules.now) objects.now
-        (record { letter = letter.0; binding = binding.now }) store.old store.new rest.old rest.new result }
+        (record { letter = letter.0; binding = binding.now }) store.old store.new awake.old awake.new result }
 {
-    if rest.is_of(letter, binding) {
-        return (
-            Outcome::Fired(Firings::new(alloc)),
-            Outcome::Fired(Firings::new(alloc)),
-        );
-    }
     let known = store.is_mark(binding);
+    if known {
+        let _letters = rules.letters();
+        if let Some(place) = awake.find(letter, binding) {
+            let (outcome, copy) =
+                answer_listed(alloc, rules, objects, store, awake, place, letter, binding);
+            return (outcome, copy);
+        }
+    }
     if let Some(done) = counted_advance::<M, Brand>(
         rules,
         objects,
         store,
+        awake,
         letter,
         binding,
         known,
         Blank::new(1),
     ) {
-        rest.follow(false, !done.stays, letter, binding);
         return (Outcome::Fired(done.answer), Outcome::Fired(done.copy));
     }
-    fire(rules, objects, store, rest, letter, binding, known)
+    let (outcome, copy) = fire(rules, objects, store, awake, letter, binding, known);
+    (outcome, copy)
+}
+
+/// The same, where its list was found.
+#[inline(never)]
+fn answer_listed<M: Monitor>(
+    alloc: Global,
+    rules: &M,
+    objects: &Objects,
+    store: &mut Store<M>,
+    awake: &mut Awake,
+    place: usize,
+    letter: Letter,
+    binding: &Binding,
+) -> (Outcome, Outcome)
+    requires can { CanPlan (M.meaning (M.definition rules.now)) objects.now letter.0 binding.now store.old }
+    requires known { Contains store.old.marks binding.now }
+    requires within { place < length awake.old.lists }
+    requires of { IsListOf (list_at awake.old place) letter.0 binding.now }
+    requires live { first_dead_by objects.now binding.now ≡ None }
+    requires listed { AreListed (M.meaning (M.definition rules.now)) (M.StandsFor rules.now) objects.now
+        store.old.monitors awake.old }
+    ensures { Performs (M.meaning (M.definition rules.now)) (M.StandsFor rules.now) objects.now
+        (record { letter = letter.0; binding = binding.now }) store.old store.new awake.old awake.new result }
+{
+    let planned = counted_listed::<M, Brand>(
+        rules,
+        objects,
+        store,
+        awake,
+        place,
+        letter,
+        binding,
+        Blank::new(1),
+    );
+    match planned {
+        Ok(Some(plan)) => {
+            store.follow(awake, &plan);
+            let (answer, copy) = store.commit(plan);
+            (Outcome::Fired(answer), Outcome::Fired(copy))
+        }
+        Ok(None) => (
+            Outcome::Fired(Firings::new(alloc)),
+            Outcome::Fired(Firings::new(alloc)),
+        ),
+        Err(NoMemory) => (Outcome::NoMemory, Outcome::NoMemory),
+    }
+}
+
+/// Plans an event of which there is a list, with a counter made of a ledger of one part.
+fn counted_listed<M: Monitor, L: Ledger>(
+    rules: &M,
+    objects: &Objects,
+    store: &mut Store<M>,
+    awake: &mut Awake,
+    place: usize,
+    letter: Letter,
+    binding: &Binding,
+    blank: Blank,
+) -> Result<Option<Plan<M::State>>, NoMemory>
+    requires name { blank.name ≡ L.name }
+    requires parts { blank.parts ≡ L.parts }
+    requires one { blank.parts ≡ 1 }
+    requires can { CanPlan (M.meaning (M.definition rules.now)) objects.now letter.0 binding.now store.old }
+    requires known { Contains store.old.marks binding.now }
+    requires within { place < length awake.old.lists }
+    requires of { IsListOf (list_at awake.old place) letter.0 binding.now }
+    requires listed { AreListed (M.meaning (M.definition rules.now)) (M.StandsFor rules.now) objects.now
+        store.old.monitors awake.old }
+    ensures plans { PlansUnlessRests (M.meaning (M.definition rules.now)) (M.StandsFor rules.now) objects.now letter.0
+        binding.now store.old store.new result }
+    ensures listed { AreListed (M.meaning (M.definition rules.now)) (M.StandsFor rules.now) objects.now
+        store.old.monitors awake.new }
+{
+    let mut steps = Steps::<L>::new(blank);
+    store.plan_listed(rules, objects, awake, place, letter, binding, &mut steps)
 }
 
 /// Does an event at once, if it makes something of one monitor or none, with a counter made of a ledger of one part.
@@ -84,6 +168,7 @@ fn counted_advance<M: Monitor, L: Ledger>(
     rules: &M,
     objects: &Objects,
     store: &mut Store<M>,
+    awake: &mut Awake,
     letter: Letter,
     binding: &Binding,
     known: bool,
@@ -94,11 +179,13 @@ fn counted_advance<M: Monitor, L: Ledger>(
     requires one { blank.parts ≡ 1 }
     requires can { CanPlan (M.meaning (M.definition rules.now)) objects.now letter.0 binding.now store.old }
     requires known { IsTrue known ↔ Contains store.old.marks binding.now }
-    ensures { Advances (M.meaning (M.definition rules.now)) (M.StandsFor rules.now) objects.now letter.0 binding.now
+    ensures advances { Advances (M.meaning (M.definition rules.now)) (M.StandsFor rules.now) objects.now letter.0 binding.now
         store.old store.new result }
+    ensures listed { KeepListed (M.meaning (M.definition rules.now)) (M.StandsFor rules.now) objects.now
+        store.old.monitors store.new.monitors awake.old awake.new }
 {
     let mut steps = Steps::<L>::new(blank);
-    store.advance_one(rules, objects, letter, binding, known, &mut steps)
+    store.advance_one(rules, objects, awake, letter, binding, known, &mut steps)
 }
 
 /// The first dead object that a binding binds, in the order of the parameters.
@@ -118,11 +205,12 @@ fn first_dead(objects: &Objects, binding: &Binding) -> Option<u32>
 }
 
 /// The same, worked out.
+#[inline(never)]
 fn fire<M: Monitor>(
     rules: &M,
     objects: &Objects,
     store: &mut Store<M>,
-    rest: &mut Rest,
+    awake: &mut Awake,
     letter: Letter,
     binding: &Binding,
     known: bool,
@@ -130,15 +218,19 @@ fn fire<M: Monitor>(
     requires can { CanPlan (M.meaning (M.definition rules.now)) objects.now letter.0 binding.now store.old }
     requires known { IsTrue known ↔ Contains store.old.marks binding.now }
     requires live { first_dead_by objects.now binding.now ≡ None }
+    requires listed { AreListed (M.meaning (M.definition rules.now)) (M.StandsFor rules.now) objects.now
+        store.old.monitors awake.old }
     ensures { Performs (M.meaning (M.definition rules.now)) (M.StandsFor rules.now) objects.now
-        (record { letter = letter.0; binding = binding.now }) store.old store.new rest.old rest.new result }
+        (record { letter = letter.0; binding = binding.now }) store.old store.new awake.old awake.new result }
 {
     match counted_plan::<M, Brand>(rules, objects, store, letter, binding, known, Blank::new(1)) {
         Ok(plan) => {
-            let rests = plan.rests(rules, letter);
-            let drops = plan.only_drops();
+            let many = known && plan.met_many();
+            store.follow(awake, &plan);
             let (answer, copy) = store.commit(plan);
-            rest.follow(rests, drops, letter, binding);
+            if many {
+                store.list(rules, objects, awake, letter, binding);
+            }
             (Outcome::Fired(answer), Outcome::Fired(copy))
         }
         Err(NoMemory) => (Outcome::NoMemory, Outcome::NoMemory),

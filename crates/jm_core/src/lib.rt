@@ -7,6 +7,5 @@
 
 mod firing;
 mod prop;
-mod rest;
 
 pub use prop::Prop;

@@ -8,7 +8,7 @@ ghost use Rattle.jm_core.specs.Memory.{StepKeepsMemory};
 ghost use Rattle.jm_core.specs.Replays.{Replayed, ReplayedInPart};
 
 use crate::firing::perform;
-use crate::rest::Rest;
+use jm_awake::Awake;
 use jm_history::{History, Node, Spare};
 use jm_model::{Binding, Monitor, NoMemory, Outcome, Step};
 use jm_objects::Objects;
@@ -21,7 +21,7 @@ pub struct Prop<M: Monitor> {
     rules: M,
     objects: Objects,
     store: Store<M>,
-    rest: Rest,
+    awake: Awake,
     history: History,
     alloc: Global,
 }
@@ -33,7 +33,7 @@ impl<M: Monitor> Drop for Prop<M> {
             rules: _,
             objects: _,
             store: _,
-            rest: _,
+            awake: _,
             history: _,
             alloc: _,
         } = self;
@@ -44,7 +44,8 @@ impl<M: Monitor> Model for Prop<M> {
     ghost use Rattle.std.specs.Prelude.{length};
     ghost use Rattle.jm_store.specs.Contents.{stored_of};
     ghost use Rattle.jm_core.specs.Cores.{Core};
-    ghost use Rattle.jm_core.specs.Inside.{IsCore, IsRested, instances_of};
+    ghost use Rattle.jm_core.specs.Inside.{IsCore, instances_of};
+    ghost use Rattle.jm_store.specs.Listed.{AreListed};
 
     ghost Value = { Core M.Definition };
 
@@ -57,7 +58,7 @@ impl<M: Monitor> Model for Prop<M> {
     } };
 
     ghost invariant = { λ p. IsCore (M.meaning (M.definition p.rules)) (M.StandsFor p.rules) p.history p.objects p.store
-        × IsRested (M.meaning (M.definition p.rules)) (M.StandsFor p.rules) p.objects p.store p.rest };
+        × AreListed (M.meaning (M.definition p.rules)) (M.StandsFor p.rules) p.objects p.store.monitors p.awake };
 }
 
 impl<M: Monitor> Prop<M> {
@@ -76,7 +77,7 @@ impl<M: Monitor> Prop<M> {
             rules,
             objects,
             store,
-            rest: Rest::new(),
+            awake: Awake::new(alloc),
             history: History::new(),
             alloc,
         })
@@ -111,7 +112,7 @@ impl<M: Monitor> Prop<M> {
             &self.rules,
             &self.objects,
             &mut self.store,
-            &mut self.rest,
+            &mut self.awake,
             *letter,
             binding,
         );
@@ -144,7 +145,7 @@ impl<M: Monitor> Prop<M> {
         };
         let object = *object;
         if self.objects.kill(object) {
-            self.rest.forget();
+            self.store.mourn(&mut self.awake, object);
             self.history.push_sparing(node, Outcome::Done, spare);
             Outcome::Done
         } else {
@@ -173,7 +174,7 @@ impl<M: Monitor> Prop<M> {
         ensures fits { FitsHistory (M.meaning self.new.definition) self.new.entries self.new.stored self.new.marks }
     {
         let kept = self.store.dispose(&self.rules, &self.objects);
-        self.rest.forget();
+        self.awake.forget();
         self.history.push_sparing(node, Outcome::Kept(kept), spare);
         Outcome::Kept(kept)
     }
@@ -272,7 +273,7 @@ impl<M: Monitor> Prop<M> {
             rules,
             objects: _,
             store: _,
-            rest: _,
+            awake: _,
             history,
             alloc: _,
         } = self;

@@ -309,8 +309,9 @@ impl Index {
         Ok(())
     }
 
-    /// Adds the slots of the pairs that bind an object, if it wasn't dropped.
-    fn add_slots_of(&self, object: u32, slots: &mut Vec<usize>) -> Result<(), NoRoom>
+    /// Adds the slots of the pairs that bind an object, if it wasn't dropped, and takes no memory. `NoRoom` comes only
+    /// where the list is full before they are all in it.
+    pub fn add_slots_of(&self, object: u32, slots: &mut Vec<usize>) -> Result<(), NoRoom>
         ensures kept { OnOk result ((k : ℕ) → Contains slots.old.items k → Contains slots.new.items k) }
         ensures all { OnOk result
             (AreListed self.now (λ o. (o ≡ object) × (flag_of self.now.dropped o ≡ false)) slots.new.items) }

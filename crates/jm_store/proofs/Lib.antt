@@ -23,3 +23,4 @@ pub mod SparedLemmas
 pub mod StoreLemmas
 mod AdvanceLemmas
 mod DirectLemmas
+pub mod ListedLemmas

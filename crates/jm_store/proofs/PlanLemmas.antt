@@ -42,6 +42,7 @@ pub plans_untouched : (m : Meaning) {S : Type 0} (Stands : S → Word → Type 0
     → Plans m Stands dead letter b store store (Err e)
 plans_untouched m Stands dead letter b store e can = record {
   stored = refl;
+  monitors = λ k. refl;
   marks = refl;
   fewer = λ e d ends. ends;
   fits = can.fits;

@@ -48,7 +48,7 @@ apart_left xs ys h = pairs_left (λ x y. (n : ℕ) → x.slot ≡ Some n → y.s
 pub distinct_left : {S : Type 0} (xs ys : List (Move S)) → AreDistinct (xs ++ ys) → AreDistinct xs
 distinct_left xs ys h = pairs_left (λ x y. x.monitor.instance ≢ y.monitor.instance) xs ys h
 
-given_append : {X Y : Type 0} (R : X → Option Y → Type 0) (xs us : List X) (ys vs : List Y) → AreGiven R xs ys → AreGiven R us vs → AreGiven R (xs ++ us) (ys ++ vs)
+pub given_append : {X Y : Type 0} (R : X → Option Y → Type 0) (xs us : List X) (ys vs : List Y) → AreGiven R xs ys → AreGiven R us vs → AreGiven R (xs ++ us) (ys ++ vs)
 given_append {X} {Y} R [] us ys vs is more = subst (λ (l : List Y). AreGiven R us (l ++ vs)) (sym is) more
 given_append {X} {Y} R (x ∷ xs) us ys vs (o, gives, (rest, given, is)) more =
     (o, gives, (rest ++ vs, given_append R xs us rest vs given more, ap (λ (l : List Y). l ++ vs) is ∙ cons-append R o rest vs))

@@ -232,7 +232,7 @@ no_head : (m n : ℕ) → IsWithin (1 + 2 * m) (2 * n) → ⊥
 no_head m n h = omega (arith, h 0, bit_at_lowest (1 + 2 * m), bit_at_lowest (2 * n))
 
 -- a binding lies below a compatible one that binds all its parameters
-below_within : (b t : Binding) → is_compatible t b ≡ true → IsWithin (mask_of b) (mask_of t) → is_below b t ≡ true
+pub below_within : (b t : Binding) → is_compatible t b ≡ true → IsWithin (mask_of b) (mask_of t) → is_below b t ≡ true
 below_within [] [] c h = refl
 below_within [] (y ∷ t) c h = absurd (false≢true c)
 below_within (x ∷ b) [] c h = absurd (false≢true c)
@@ -243,8 +243,20 @@ below_within (Some o ∷ b) (Some q ∷ t) c h =
     let cs = and_parts (q == o) (is_compatible t b) c in
     and_from (o == q) (is_below b t) (eq-eqb o q (sym (eqb-true q o cs.0))) (below_within b t cs.1 (tail_within 1 1 (mask_of b) (mask_of t) (mask_of (Some o ∷ b)) (mask_of (Some q ∷ t)) (omega arith) (omega arith) refl refl h))
 
-all_within : (b : Binding) (d : ℕ) → has_all b d ≡ true → IsWithin (mask_of b) d
+pub all_within : (b : Binding) (d : ℕ) → has_all b d ≡ true → IsWithin (mask_of b) d
 all_within b d h p = omega (arith, bit_at_and (mask_of b) d p, ap (λ n. bit_at n p) (eqb-true (bit_and (mask_of b) d) (mask_of b) h))
+
+-- the monitors of the slots that are read where all parameters are bound lie above the binding
+pub visited_above : {S : Type 0} (b : Binding) (slots : List (Slot S)) (pairs : List Pair) (ds : List ℕ) → IsHoused slots pairs → IsSettled slots pairs → (k : ℕ) (s : Stored S) → Contains (visited (has_all b) b pairs ds) k
+    → monitor_at (monitors_of slots) k ≡ Some s → is_below b s.instance ≡ true
+visited_above {S} b slots pairs ds h settled k s has at =
+    let v = visited_by (has_all b) b pairs ds k has in
+    let by = v.asked_for in
+    let (r, here, is) = settled_monitor slots pairs h settled by.pair by.among in
+    let there : Some r ≡ Some s = sym here ∙ ap (monitor_at (monitors_of slots)) by.slot ∙ at in
+    let same : r ≡ s = cc in
+    let within : IsWithin (mask_of b) (mask_of by.pair.binding) = subst (IsWithin (mask_of b)) (sym by.domain) (all_within b v.domain v.ask) in
+    subst (λ (t : Binding). is_below b t ≡ true) (sym is ∙ ap (λ (x : Stored S). x.instance) same) (below_within b by.pair.binding by.compatible within)
 
 pub only_above : {S : Type 0} (b : Binding) (slots : List (Slot S)) (marks : List Binding) (open' : Bool) (index : PairList) (ending ds : List ℕ) (k : ℕ) → IsHoused slots index.list → IsSettled slots index.list
     → AreDomains ds index.list → visited (has_all b) b index.list ds ≡ k ∷ []

@@ -5,3 +5,4 @@ pub mod Housing
 pub mod Reports
 pub mod Laws
 pub mod Plans
+pub mod Listed

@@ -1,15 +1,15 @@
 -- What working out an event needs of a store, what it leaves of it, and what it answers.
-use Rattle.std.specs.Prelude.{ℕ, ◌≡◌, Bool, true, false, List, Contains, Option, Result, IfNone, IfSome, IfOk, OnOk, OnErr, length}
+use Rattle.std.specs.Prelude.{ℕ, ◌≡◌, Bool, true, false, List, Option, Some, None, Result, Ok, Err, IfNone, IfSome, IfOk, OnOk, OnErr, length}
 use Rattle.jm_model.specs.Words.{Word}
 use Rattle.jm_model.specs.Meanings.{Meaning}
 use Rattle.jm_model.specs.declared.binding.Binding.{Binding}
 use Rattle.jm_model.specs.declared.step.NoMemory.{NoMemory}
 use Rattle.jm_semantics.specs.Traces.{ParametricEvent}
 use Rattle.jm_index.specs.Index.{AreBelow}
-use Rattle.jm_monitors.specs.declared.stored.Stored.{Stored}
-use Rattle.jm_monitors.specs.Steps.{IsLiveEvent, AreMarksAfter}
+use Rattle.jm_monitors.specs.Steps.{IsLiveEvent, AreMarksAfter, AreResting}
 use Rattle.jm_store.specs.declared.moves.Plan.{Plan}
 use Rattle.jm_store.specs.declared.store.advance.Done.{Done}
+use Rattle.jm_store.specs.Slots.{monitor_at}
 use Rattle.jm_store.specs.Moves.{EndsFewer}
 use Rattle.jm_store.specs.Contents.{Contents, stored_of, IsFit, IsStoreAfter, IsPlanFor, IsPlanOf, IsEventDone}
 
@@ -28,6 +28,7 @@ module _ (m : Meaning) {S : Type 0} (Stands : S → Word → Type 0) (dead : Lis
   -- there is a plan, open in the store, that fits it, and is that of the event after each such trace.
   pub record Plans (result : Result (Plan S) NoMemory) : Type 0 where
     pub stored : stored_of new ≡ stored_of old
+    pub monitors : (k : ℕ) → monitor_at new.monitors k ≡ monitor_at old.monitors k
     pub marks : new.marks ≡ old.marks
     pub fewer : EndsFewer old.ending new.ending
     pub fits : IsFit new dead
@@ -40,9 +41,14 @@ module _ (m : Meaning) {S : Type 0} (Stands : S → Word → Type 0) (dead : Lis
     pub works : IfOk result (λ plan. (trace : List ParametricEvent) → IsStoreAfter m Stands trace dead old
         → IsPlanOf m Stands trace dead letter new plan)
 
-  -- The event was done at once, and is answered twice; its binding is a mark. Where no monitor that it moved or made
-  -- stays, each that is stored was stored before. Or monitors and marks are as before, and of whatever trace the store
-  -- was one, it still is.
+  -- There is a plan; or none is needed, since the event leaves each monitor above its binding as it is.
+  abbrev pub PlansUnlessRests : Result (Option (Plan S)) NoMemory → Type 0
+  PlansUnlessRests (Ok None) = (new ≡ old) × AreResting m Stands dead letter b (stored_of old) old.marks
+  PlansUnlessRests (Ok (Some plan)) = Plans (Ok plan)
+  PlansUnlessRests (Err e) = Plans (Err e)
+
+  -- The event was done at once, and is answered twice; its binding is a mark. Or monitors and marks are as before, and of
+  -- whatever trace the store was one, it still is.
   pub record Advances (result : Option Done) : Type 0 where
     pub stored : IfNone result (stored_of new ≡ stored_of old)
     pub unmarked : IfNone result (new.marks ≡ old.marks)
@@ -52,7 +58,5 @@ module _ (m : Meaning) {S : Type 0} (Stands : S → Word → Type 0) (dead : Lis
     pub closed : new.is_open ≡ false
     pub marks : IfSome result (λ done. AreMarksAfter b old.marks new.marks)
     pub twice : IfSome result (λ done. done.copy ≡ done.answer)
-    pub dropped : IfSome result (λ done. done.stays ≡ false
-        → (s : Stored S) → Contains (stored_of new) s → Contains (stored_of old) s)
     pub works : IfSome result (λ done. (trace : List ParametricEvent) → IsStoreAfter m Stands trace dead old
         → IsEventDone m Stands trace dead letter b new done.answer)

@@ -16,6 +16,7 @@ mod monitors;
 mod moves;
 mod report;
 mod store;
+mod waking;
 
 pub use laws::death_keeps_store;
 pub use moves::{Move, Plan};

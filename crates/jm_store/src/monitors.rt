@@ -99,6 +99,15 @@ impl<S: Drop> Monitors<S> {
         }
     }
 
+    /// The instance of a slot's monitor. Nothing else of the monitor is read.
+    pub(crate) fn instance(&self, slot: usize) -> Option<Binding>
+        ensures { MatchOption result (monitor_at (monitors_of self.now.slots) slot ≡ None)
+            (λ t. (s : Kept S) × (monitor_at (monitors_of self.now.slots) slot ≡ Some s) × (s.instance ≡ t)) }
+    {
+        let monitor = self.peek(slot)?;
+        Some(monitor.instance)
+    }
+
     /// Makes a free slot planned, or adds a planned one.
     pub(crate) fn reserve(&mut self) -> Result<usize, NoMemory>
         ensures reserved { IfOk result (λ k. IsReserved self.old.slots self.new.slots k) }

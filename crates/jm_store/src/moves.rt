@@ -1,12 +1,12 @@
 //! What an event comes to, before it is carried out.
-ghost use Rattle.std.specs.Prelude.{◌≡◌, ◌<◌, IsTrue, true, false, None, Contains};
+ghost use Rattle.std.specs.Prelude.{◌≡◌, ◌<◌, IsTrue, None, Contains};
 ghost use Rattle.jm_monitors.specs.Steps.{IsResting};
 ghost use Rattle.jm_store.specs.declared.moves.Move.{Move as Change};
 
 use jm_model::{Binding, Firings, Letter, Monitor};
 use jm_monitors::Stored;
 
-/// From so many monitors on it is worth finding out whether the event leaves the monitors as they are from now on.
+/// From so many monitors on it is worth keeping a list of those that an event may change.
 const MANY: usize = 8;
 
 /// What a monitor that an event reaches becomes.
@@ -33,33 +33,9 @@ pub struct Plan<S> {
 }
 
 impl<S> Plan<S> {
-    /// Whether no monitor changes or is made: all that the event reaches goes, or is at rest.
-    pub fn only_drops(&self) -> bool
-        ensures { IsTrue result → (move : Change S) → Contains self.now.moves.items move → move.stays ≡ false }
-    {
-        for step in &self.moves {
-            if step.stays {
-                return false;
-            }
-        }
-        true
-    }
-
-    /// Whether many monitors are met, and the letter leaves each that moves and stays as it is then.
-    pub fn rests<M: Monitor<State = S>>(&self, rules: &M, letter: Letter) -> bool
-        requires { letter.0 < (M.meaning (M.definition rules.now)).letters }
-        ensures { IsTrue result → (move : Change S) → Contains self.now.moves.items move → move.stays ≡ true
-            → IsResting (M.meaning (M.definition rules.now)) (M.StandsFor rules.now) letter.0 move.monitor.state }
-    {
-        if self.met < MANY {
-            return false;
-        }
-        for step in &self.moves {
-            if step.stays && !is_resting(rules, &step.monitor.state, letter) {
-                return false;
-            }
-        }
-        true
+    /// Whether so many monitors were met that a list of those that the event may change is worth its while.
+    pub fn met_many(&self) -> bool {
+        self.met >= MANY
     }
 }
 

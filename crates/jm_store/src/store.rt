@@ -9,6 +9,7 @@ ghost use Rattle.jm_store.specs.Contents.{Contents, stored_of, IsFit, IsStoreAft
 mod advance;
 mod commit;
 mod dispose;
+mod listed;
 mod place;
 mod reach;
 

@@ -8,6 +8,7 @@ ghost use Rattle.jm_monitors.specs.Steps.{AreMarksAfter};
 ghost use Rattle.jm_store.specs.Slots.{monitor_at};
 ghost use Rattle.jm_store.specs.Moves.{AreGiven, IsReadAt, IsPushed, IsCompatibleAt, AreMovesRead, asks_by, EndsFewer, IsEnding};
 ghost use Rattle.jm_store.specs.Contents.{stored_of, with_ending, with_open, IsFit, IsFilled, ArePlaced, ArePlacedOf, ArePaired, IsSlotAdvanced, IsAbove, IsStepTaken};
+ghost use Rattle.jm_store.specs.Listed.{KeepListed};
 ghost use Rattle.jm_store.specs.Plans.{CanPlan, Advances};
 
 use super::Store;
@@ -16,6 +17,8 @@ use crate::ending::end_fewer;
 use crate::event::Event;
 use crate::moves::Move;
 use crate::report::report_one;
+use crate::waking::{follow, wake};
+use jm_awake::Awake;
 use jm_marks::dead_mask;
 use jm_model::{Binding, Firings, Letter, Monitor, NoMemory, Steps};
 use jm_monitors::Stored;
@@ -65,6 +68,7 @@ impl<M: Monitor> Store<M> {
         &mut self,
         rules: &M,
         objects: &Objects,
+        awake: &mut Awake,
         letter: Letter,
         binding: &Binding,
         known: bool,
@@ -74,11 +78,15 @@ impl<M: Monitor> Store<M> {
         requires known { IsTrue known ↔ Contains self.old.marks binding.now }
         ensures advances { Advances (M.meaning (M.definition rules.now)) (M.StandsFor rules.now) objects.now letter.0
             binding.now self.old self.new result }
+        ensures listed { KeepListed (M.meaning (M.definition rules.now)) (M.StandsFor rules.now) objects.now
+            self.old.monitors self.new.monitors awake.old awake.new }
         ensures steps { steps.new ≤ steps.old + count_by (λ s. is_compatible s.instance binding.now)
             (stored_of self.old) }
     {
         let mut slots = self.take_slots();
-        let done = self.advance_in(rules, objects, letter, binding, known, &mut slots, steps);
+        let done = self.advance_in(
+            rules, objects, awake, letter, binding, known, &mut slots, steps,
+        );
         self.give_slots(slots);
         done
     }
@@ -88,6 +96,7 @@ impl<M: Monitor> Store<M> {
         &mut self,
         rules: &M,
         objects: &Objects,
+        awake: &mut Awake,
         letter: Letter,
         binding: &Binding,
         known: bool,
@@ -98,13 +107,15 @@ impl<M: Monitor> Store<M> {
         requires known { IsTrue known ↔ Contains self.old.marks binding.now }
         ensures advances { Advances (M.meaning (M.definition rules.now)) (M.StandsFor rules.now) objects.now letter.0
             binding.now self.old self.new result }
+        ensures listed { KeepListed (M.meaning (M.definition rules.now)) (M.StandsFor rules.now) objects.now
+            self.old.monitors self.new.monitors awake.old awake.new }
         ensures steps { steps.new ≤ steps.old + count_by (λ s. is_compatible s.instance binding.now)
             (stored_of self.old) }
     {
         if known {
             if let Some(above) = self.only_slot_above(objects, binding, slots) {
                 return match above {
-                    Some(slot) => self.advance_slot(rules, objects, letter, slot, steps),
+                    Some(slot) => self.advance_slot(rules, objects, awake, letter, slot, steps),
                     None => Some(Done::nothing(*self.domains.allocator())),
                 };
             }
@@ -112,7 +123,7 @@ impl<M: Monitor> Store<M> {
                 return None;
             }
         }
-        self.advance_only(rules, objects, letter, binding, known, slots, steps)
+        self.advance_only(rules, objects, awake, letter, binding, known, slots, steps)
     }
 
     /// The slot of the only monitor above a binding, or that there is none. Where several are, or memory is wanting, it
@@ -154,6 +165,7 @@ impl<M: Monitor> Store<M> {
         &mut self,
         rules: &M,
         objects: &Objects,
+        awake: &mut Awake,
         letter: Letter,
         slot: usize,
         steps: &mut Steps<L>,
@@ -169,6 +181,8 @@ impl<M: Monitor> Store<M> {
             → monitor_at self.old.monitors slot ≡ Some base
             → IsSlotAdvanced (M.meaning (M.definition rules.now)) (M.StandsFor rules.now) letter.0 objects.now slot base
             self.old self.new done.stays done.answer) }
+        ensures listed { KeepListed (M.meaning (M.definition rules.now)) (M.StandsFor rules.now) objects.now
+            self.old.monitors self.new.monitors awake.old awake.new }
         ensures steps { steps.new ≤ steps.old + 1 }
     {
         let base = self.monitors.lend(slot, steps)?;
@@ -185,8 +199,10 @@ impl<M: Monitor> Store<M> {
         end_fewer(&mut self.ending, base.instance.mask(), rules.ending(&state));
         let instance = base.instance;
         if stays {
+            wake(awake, slot, &instance);
             self.monitors.put(slot, Stored { instance, state });
         } else {
+            awake.leave(slot);
             self.index.remove(&instance);
             self.monitors.release(slot);
         }
@@ -203,6 +219,7 @@ impl<M: Monitor> Store<M> {
         &mut self,
         rules: &M,
         objects: &Objects,
+        awake: &mut Awake,
         letter: Letter,
         binding: &Binding,
         known: bool,
@@ -213,6 +230,8 @@ impl<M: Monitor> Store<M> {
         requires known { IsTrue known ↔ Contains self.old.marks binding.now }
         ensures advances { Advances (M.meaning (M.definition rules.now)) (M.StandsFor rules.now) objects.now letter.0
             binding.now self.old self.new result }
+        ensures listed { KeepListed (M.meaning (M.definition rules.now)) (M.StandsFor rules.now) objects.now
+            self.old.monitors self.new.monitors awake.old awake.new }
         ensures steps { steps.new ≤ steps.old + count_by (λ s. is_compatible s.instance binding.now)
             (stored_of self.old) }
     {
@@ -227,7 +246,7 @@ impl<M: Monitor> Store<M> {
         match self.find_only(&event, slots, steps)? {
             Some(step) => {
                 self.room_for(&step, slots)?;
-                self.take_step(rules, step, binding, known)
+                self.take_step(rules, awake, step, binding, known)
             }
             None => self.take_none(binding, known),
         }
@@ -363,6 +382,7 @@ impl<M: Monitor> Store<M> {
     fn take_step(
         &mut self,
         rules: &M,
+        awake: &mut Awake,
         mut step: Move<M::State>,
         binding: &Binding,
         known: bool,
@@ -384,6 +404,8 @@ impl<M: Monitor> Store<M> {
         ensures stays { IfSome result (λ done. done.stays ≡ step.stays) }
         ensures taken { IfSome result (λ done. IsStepTaken (M.meaning (M.definition rules.now))
             (M.StandsFor rules.now) step self.old self.new done.answer) }
+        ensures listed { (dead : List Bool) → KeepListed (M.meaning (M.definition rules.now)) (M.StandsFor rules.now) dead
+            self.old.monitors self.new.monitors awake.old awake.new }
     {
         let Ok(answer) = report_one(
             *self.domains.allocator(),
@@ -400,6 +422,7 @@ impl<M: Monitor> Store<M> {
         self.place_one(&mut step)?;
         self.end_one(rules, &step.monitor);
         let stays = step.stays;
+        follow::<M>(awake, &step);
         self.carry_out(step);
         self.close(binding, known);
         Some(Done {

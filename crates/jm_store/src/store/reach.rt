@@ -114,6 +114,30 @@ impl<M: Monitor> Store<M> {
         };
         let mut met = 0;
         let moves = self.reach(&event, slots, moves, &mut met, steps)?;
+        self.plan_of(rules, objects, letter, binding, known, moves, met)
+    }
+
+    /// Opens the plan of an event that makes these moves, and met so many monitors.
+    #[inline(always)]
+    #[tactic(auto, using(crate::proofs::PlanLemmas::plans_untouched))]
+    pub(super) fn plan_of(
+        &mut self,
+        rules: &M,
+        objects: &Objects,
+        letter: Letter,
+        binding: &Binding,
+        known: bool,
+        moves: Vec<Move<M::State>>,
+        met: usize,
+    ) -> Result<Plan<M::State>, NoMemory>
+        requires can { CanPlan (M.meaning (M.definition rules.now)) objects.now letter.0 binding.now self.old }
+        requires known { IsTrue known ↔ Contains self.old.marks binding.now }
+        requires read { AreMovesRead (M.meaning (M.definition rules.now)) (M.StandsFor rules.now) letter.0
+            binding.now objects.now self.old.marks (asks_by known self.old.ending letter.0 binding.now)
+            self.old.monitors moves.items }
+        ensures { Plans (M.meaning (M.definition rules.now)) (M.StandsFor rules.now) objects.now letter.0
+            binding.now self.old self.new result }
+    {
         let answer = report(*self.domains.allocator(), rules, &moves)?;
         let copy = answer.copy()?;
         let moves = self.open_plan(moves)?;
@@ -129,7 +153,7 @@ impl<M: Monitor> Store<M> {
     }
 
     /// Takes the room for moves, which is empty then.
-    fn take_moves(&mut self) -> Vec<Move<M::State>>
+    pub(super) fn take_moves(&mut self) -> Vec<Move<M::State>>
         ensures same { self.new ≡ self.old }
         ensures none { result.items ≡ [] }
     {
@@ -137,6 +161,13 @@ impl<M: Monitor> Store<M> {
         let mut moves = mem::replace(&mut self.moves, Vec::new(alloc));
         moves.clear();
         moves
+    }
+
+    /// Gives the room for moves back.
+    pub(super) fn give_moves(&mut self, moves: Vec<Move<M::State>>)
+        ensures { self.new ≡ self.old }
+    {
+        self.moves = moves;
     }
 
     /// What the event makes of the stored monitors, and how many it met.

@@ -1,8 +1,12 @@
-use Rattle.std.proofs.Common.{refl, sym, ap, ◌∙◌, subst, length}
+use Rattle.std.proofs.Common.{◌≡◌, List, Option, refl, sym, ap, ◌∙◌, subst, length}
+use Rattle.std.specs.Prelude.{None}
 use Rattle.jm_model.specs.declared.binding.Binding.{Binding}
 use Rattle.jm_model.specs.declared.step.Outcome.TheVariants.{Fired}
 use Rattle.jm_index.specs.Index.{AreBelow}
-use Rattle.jm_core.proofs.FireLemmas.{carried_out, rest_followed, rest_untouched}
+use Rattle.jm_monitors.specs.declared.stored.Stored.{Stored}
+use Rattle.jm_store.specs.Listed.{AreListed}
+use Rattle.jm_store.proofs.ListedLemmas.{listed_same}
+use Rattle.jm_core.proofs.FireLemmas.{carried_out}
 use Rattle.jm_core.proofs.firing.fire.Goals as goal
 
 pub returns-in-Ok : goal.returns-in-Ok
@@ -12,21 +16,21 @@ returns-in-Ok g c =
     let dead = c.args.objects.now in
     let planned = c.in-Ok.ensures in
     let done = c.commit-answer.ensures in
+    let before = c.counted_plan.new.store in
+    let after = c.commit-answer.new.self in
+    let first = listed_same m Stands dead None c.args.store.now.monitors before.monitors c.args.awake.now planned.monitors c.requires.listed in
+    let followed = c.follow.ensures c.args.rules.now dead first in
+    let committed : AreListed m Stands dead after.monitors c.follow.new.awake = subst (λ (l : List (Option (Stored g.row.M-State.Denot))). AreListed m Stands dead l c.follow.new.awake) (sym done.monitors) followed in
     record {
       twice = ap Fired (done.copy ∙ sym done.answer);
       closed = done.closed;
       fits = done.fits dead planned.fits (subst (λ (b : Binding). AreBelow (length dead) b) (sym planned.binding) c.requires.can.there);
-      works = λ trace holds rested.
+      listed = ?;
+      works = λ trace holds.
           let works = planned.works trace holds in
-          let before = c.counted_plan.new.store in
-          let after = c.commit-answer.new.self in
           let out = carried_out m Stands trace dead c.args.letter.0 c.args.binding.now before after c.in-Ok.plan c.commit-answer.result.0
           works planned.binding (done.works c.args.rules.now trace dead c.args.letter.0 works) done.answer in
-          let known = rest_followed m Stands trace dead c.args.letter.0 c.args.binding.now before after c.in-Ok.plan c.args.rest.now c.follow.new.self c.rests-rests.result c.only_drops-drops.result
-          works planned.binding done.monitors done.marks
-          (rest_untouched m Stands dead c.args.store.now before c.args.rest.now planned.stored planned.marks rested)
-          c.rests-rests.ensures c.only_drops-drops.ensures c.follow.ensures in
-          ((c.requires.live, out.0, out.1), known);
+          (c.requires.live, out.0, out.1);
     }
 
 pub returns-in-Err : goal.returns-in-Err
@@ -38,5 +42,6 @@ returns-in-Err g c =
       twice = refl;
       closed = same.closed;
       fits = same.fits;
-      works = λ trace holds rested. ((c.requires.live, record { stored = same.stored; marks = same.marks; holds = same.keeps trace holds }), rest_untouched m Stands c.args.objects.now c.args.store.now c.counted_plan.new.store c.args.rest.now same.stored same.marks rested);
+      listed = listed_same m Stands c.args.objects.now None c.args.store.now.monitors c.counted_plan.new.store.monitors c.args.awake.now same.monitors c.requires.listed;
+      works = λ trace holds. (c.requires.live, record { stored = same.stored; marks = same.marks; holds = same.keeps trace holds });
     }

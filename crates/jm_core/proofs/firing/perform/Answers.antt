@@ -6,5 +6,6 @@ returns-in-Some g c = record {
   twice = refl;
   closed = c.requires.closed;
   fits = c.requires.fits;
-  works = λ trace holds rested. ((sym c.in-Some.ensures, record { stored = refl; marks = refl; holds = holds }), rested);
+  listed = c.requires.listed;
+  works = λ trace holds. (sym c.in-Some.ensures, record { stored = refl; marks = refl; holds = holds });
 }

@@ -9,10 +9,12 @@ use Rattle.jm_model.specs.declared.step.Entry.{Entry}
 use Rattle.jm_history.specs.Nodes.{answered}
 use Rattle.jm_marks.specs.Marks.{is_dead_object}
 use Rattle.jm_core.specs.Steps.{IsDeathOf}
-use Rattle.jm_core.specs.Inside.{IsRested, IsCore}
+use Rattle.jm_index.specs.Index.{flag_of}
+use Rattle.jm_store.specs.Listed.{AreListed}
+use Rattle.std.proofs.lemmas.Bool.{false≢true, false_from_ne_true}
+use Rattle.jm_core.specs.Inside.{IsCore}
 use Rattle.jm_core.proofs.FitLemmas.{fits_history}
 use Rattle.jm_core.proofs.CoreLemmas.{core_after_death, core_after_refusal}
-use Rattle.jm_core.proofs.FireLemmas.{rest_none}
 use Rattle.jm_core.proofs.prop.Prop.do_death.Goals as goal
 
 pub invariant_of-self : goal.invariant_of-self
@@ -28,7 +30,15 @@ invariant_of-self g c =
     let core = subst (λ (l : List Entry). IsCore m Stands l c.kill.new.self c.self.inside.store) (sym c.push_sparing.ensures)
     (subst (λ (d : List Bool). IsCore m Stands (c.self.inside.history ++ answered c.args.node Done ∷ []) d c.self.inside.store) (sym c.kill.ensures.dead)
     (core_after_death m Stands c.self.inside.history dead c.self.inside.store c.args.node o c.self.invariant.0 is within alive)) in
-    (core, rest_none m Stands c.kill.new.self c.self.inside.store c.forget.new.self c.forget.ensures)
+    let listed = rw (← c.kill.ensures.dead) (c.mourn.ensures.listed c.self.inside.rules dead c.self.invariant.1) in
+    rw c.mourn.ensures.same (core, listed)
+
+pub mourn-requires : goal.mourn-requires
+mourn-requires g c =
+    let dead = c.self.inside.objects in
+    let o = c.in-Death.object in
+    let alive : is_dead_object dead o ≡ false = get_or_from_slice_get dead o (not c.kill.result) false c.kill.ensures.answer ∙ ap not c.if-kill.true in
+    false_from_ne_true (flag_of c.self.inside.store.index.dropped o) (λ gone. false≢true (sym alive ∙ c.self.invariant.0.fits.index.reached o gone))
 
 pub invariant_of-self-else-kill : goal.invariant_of-self-else-kill
 invariant_of-self-else-kill g c =
@@ -42,7 +52,7 @@ invariant_of-self-else-kill g c =
     let core = subst (λ (l : List Entry). IsCore m Stands l c.kill.new.self c.self.inside.store) (sym c.push_sparing-else-kill.ensures)
     (subst (λ (d : List Bool). IsCore m Stands (c.self.inside.history ++ answered c.args.node (Refused o) ∷ []) d c.self.inside.store) (sym kept)
     (core_after_refusal m Stands c.self.inside.history dead c.self.inside.store c.args.node o c.self.invariant.0 is gone)) in
-    (core, subst (λ (d : List Bool). IsRested m Stands d c.self.inside.store c.self.inside.rest) (sym kept) c.self.invariant.1)
+    (core, subst (λ (d : List Bool). AreListed m Stands d c.self.inside.store.monitors c.self.inside.awake) (sym kept) c.self.invariant.1)
 
 pub returns-then-kill-clause-legal : goal.returns-then-kill-clause-legal
 returns-then-kill-clause-legal g c = (invariant_of-self g c).0.legal

@@ -56,12 +56,12 @@ invariant_of-self g c =
     let fits : IsEventOf m c.args.self.now.objects (Event c.in-Event.letter c.in-Event.binding) =
     subst (λ (s : Step). IsEventOf m c.args.self.now.objects s) is
     (subst (λ (core : Core g.row.M-Definition.Denot). IsEventOf (g.M.Monitor.meaning core.definition) c.args.self.now.objects c.args.node.step) (sym c.self.view_is) c.requires) in
-    let works = done.works (trace_of h) c.self.invariant.0.holds c.self.invariant.1 in
+    let works = done.works (trace_of h) c.self.invariant.0.holds in
     let core = subst (λ (l : List Entry). IsCore m Stands l dead after) (sym c.push_sparing.ensures)
     (subst (λ (o : Outcome). IsCore m Stands (h ++ answered c.args.node o ∷ []) dead after) (sym done.twice)
     (core_after_event m Stands h dead before after c.args.node c.in-Event.letter c.in-Event.binding c.perform-outcome.result.0 c.self.invariant.0 is fits.0 done.closed done.fits
-    works.0)) in
-    (core, works.1)
+    works)) in
+    (core, done.listed)
 
 pub returns-clause-memory : goal.returns-clause-memory
 returns-clause-memory g c =
@@ -72,7 +72,7 @@ returns-clause-memory g c =
     let a : ParametricEvent = record { letter = c.in-Event.letter.0; binding = c.in-Event.binding } in
     let next : Core g.row.M-Definition.Denot = record { definition = g.M.Monitor.definition c.self.inside.rules; objects = length c.self.inside.objects; entries = c.push_sparing.new.self; stored = instances_of (stored_of after); marks = after.marks } in
     keeps_memory m Stands (trace_of h) c.self.inside.objects a c.self.inside.store after c.perform-outcome.result.0 c.args.self.now next
-    (c.perform-outcome.ensures.works (trace_of h) c.self.invariant.0.holds c.self.invariant.1).0 (sym (ap (λ core. core.stored) c.self.view_is)) (sym (ap (λ core. core.marks) c.self.view_is)) refl refl
+    (c.perform-outcome.ensures.works (trace_of h) c.self.invariant.0.holds) (sym (ap (λ core. core.stored) c.self.view_is)) (sym (ap (λ core. core.marks) c.self.view_is)) refl refl
 
 pub returns-clause-legal : goal.returns-clause-legal
 returns-clause-legal g c = (invariant_of-self g c).0.legal

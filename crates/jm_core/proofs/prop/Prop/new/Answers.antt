@@ -3,7 +3,7 @@ use Rattle.jm_model.specs.declared.step.Entry.{Entry}
 use Rattle.jm_core.specs.Inside.{IsCore}
 use Rattle.jm_core.proofs.FitLemmas.{fits_history}
 use Rattle.jm_core.proofs.CoreLemmas.{core_at_start}
-use Rattle.jm_core.proofs.FireLemmas.{rest_none}
+use Rattle.jm_store.proofs.ListedLemmas.{none_listed}
 use Rattle.jm_core.proofs.prop.Prop.new.Goals as goal
 
 pub invariant_of-result : goal.invariant_of-result
@@ -14,7 +14,7 @@ invariant_of-result g c =
     let start = core_at_start m Stands c.args.objects store c.in_ok-store.ensures.closed c.in_ok-store.ensures.fits c.in_ok-store.ensures.holds in
     let core = subst (λ (h : List Entry). IsCore m Stands h c.in_ok-objects.objects store) (sym c.new-4.ensures)
     (subst (λ (dead : List Bool). IsCore m Stands [] dead store) (sym c.in_ok-objects.ensures) start) in
-    (core, rest_none m Stands c.in_ok-objects.objects store c.new-3.result c.new-3.ensures)
+    (core, none_listed m Stands c.in_ok-objects.objects store.monitors c.new-3.result c.new-3.ensures)
 
 pub returns-clause-fits : goal.returns-clause-fits
 returns-clause-fits g c =

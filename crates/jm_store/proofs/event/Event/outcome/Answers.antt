@@ -1,5 +1,5 @@
-use Rattle.std.proofs.Common.{inl, inr, sym, ap, ◌∙◌}
-use Rattle.std.specs.Prelude.{Some, None, bit_and}
+use Rattle.std.proofs.Common.{inl, inr, sym}
+use Rattle.std.specs.Prelude.{Some, None}
 use Rattle.std.proofs.lemmas.Bool.{both_ways}
 use Rattle.jm_store.specs.declared.moves.Move.{Move}
 use Rattle.jm_store.proofs.EventLemmas.{advanced_next, left_known, left_uncovered, left_lost, moved_above, moved_made}

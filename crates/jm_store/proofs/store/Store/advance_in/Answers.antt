@@ -1,5 +1,5 @@
-use Rattle.std.proofs.Common.{◌≡◌, ℕ, List, false, refl, sym, ap, ◌∙◌, subst}
-use Rattle.std.specs.Prelude.{Option, Some, Contains}
+use Rattle.std.proofs.Common.{◌≡◌, ℕ, List, sym, ap, ◌∙◌, subst}
+use Rattle.std.specs.Prelude.{Option, Some}
 use Rattle.jm_semantics.specs.Traces.{ParametricEvent}
 use Rattle.jm_monitors.proofs.BaseLemmas.{object-among}
 use Rattle.jm_monitors.specs.declared.stored.Stored.{Stored}
@@ -7,7 +7,7 @@ use Rattle.jm_monitors.specs.Steps.{AreMarksAfter}
 use Rattle.jm_store.specs.declared.store.advance.Done.{Done}
 use Rattle.jm_store.specs.Slots.{monitor_at}
 use Rattle.jm_store.specs.Contents.{Contents, stored_of, IsStoreAfter, IsEventDone, IsSlotAdvanced, IsOnlyAbove, IsNoneAbove, IsAbove}
-use Rattle.jm_store.proofs.AdvanceLemmas.{option_map, reached_one, one_counted, one_done, one_dropped, none_done, still_known}
+use Rattle.jm_store.proofs.AdvanceLemmas.{option_map, reached_one, one_counted, one_done, none_done, still_known}
 use Rattle.jm_store.proofs.DirectLemmas.{if_none, in_some}
 use Rattle.jm_store.proofs.store.Store.advance_in.Goals as goal
 
@@ -37,9 +37,6 @@ returns-in-Some-above-clause-advances g c =
       closed = did.closed;
       marks = in_some result (λ (done : Done). AreMarksAfter b old.marks new.marks) (λ done. rw did.marks (still_known b old.marks known));
       twice = did.twice;
-      dropped = option_map result (Unit {0}) Moved
-          (λ (done : Done). done.stays ≡ false → (s : Stored g.row.M-State.Denot) → Contains (stored_of new) s → Contains (stored_of old) s)
-          (λ done h. one_dropped m Stands c.args.letter.0 b c.args.objects.now old new slot base done.stays done.answer only at known (h base at)) did.done;
       works = option_map result (Unit {0}) Moved
           (λ (done : Done). (trace : List ParametricEvent) → IsStoreAfter m Stands trace c.args.objects.now old → IsEventDone m Stands trace c.args.objects.now c.args.letter.0 b new done.answer)
           (λ done h trace holds. one_done m Stands c.args.letter.0 b c.args.objects.now old new slot base done.stays done.answer only at known (h base at) trace c.requires.can.event c.requires.can.fits.index.reached holds) did.done;
@@ -69,7 +66,6 @@ returns-in-None-clause-advances g c =
       closed = c.requires.can.closed;
       marks = still_known b old.marks known;
       twice = c.nothing.ensures.copy ∙ sym c.nothing.ensures.answer;
-      dropped = λ gone s there. there;
       works = λ trace holds. rw c.nothing.ensures.answer
           (none_done m Stands c.args.letter.0 b c.args.objects.now old none known trace c.requires.can.event c.requires.can.fits.index.reached holds);
     }

@@ -1,20 +1,19 @@
-use Rattle.std.proofs.Common.{◌≡◌, ℕ, List, [], ◌∷◌, ◌++◌, Bool, false, refl, sym, ap, ◌∙◌, subst}
-use Rattle.std.specs.Prelude.{Some, Contains}
-use Rattle.std.specs.Option.{option_to_list}
+use Rattle.std.proofs.Common.{◌≡◌, ℕ, List, [], ◌∷◌, sym, ap, ◌∙◌, subst}
+use Rattle.std.specs.Prelude.{Option, Some, Contains}
 use Rattle.jm_model.specs.declared.binding.Binding.{Binding}
 use Rattle.jm_semantics.specs.Traces.{ParametricEvent}
 use Rattle.jm_index.specs.Index.{Pair}
 use Rattle.jm_monitors.proofs.BaseLemmas.{object-among}
 use Rattle.jm_monitors.specs.declared.stored.Stored.{Stored}
 use Rattle.jm_monitors.specs.Steps.{AreMarksAfter}
-use Rattle.jm_store.specs.declared.moves.Move.{Move}
 use Rattle.jm_store.specs.declared.store.advance.Done.{Done}
 use Rattle.jm_store.specs.Slots.{monitor_at}
+use Rattle.jm_store.specs.Listed.{AreListed}
 use Rattle.jm_store.specs.Moves.{AreMovesRead, asks_by}
 use Rattle.jm_store.specs.Contents.{Contents, stored_of, IsStoreAfter, IsEventDone, IsStepTaken, IsFilled, ArePaired}
 use Rattle.jm_store.proofs.VisitLemmas.{settled_monitor}
 use Rattle.jm_store.proofs.FitLemmas.{are_paired}
-use Rattle.jm_store.proofs.DirectLemmas.{if_none, if_some, in_some, step_within, step_slotted, step_leads, step_kept, step_done, step_dropped, none_done}
+use Rattle.jm_store.proofs.DirectLemmas.{if_none, if_some, step_within, step_slotted, step_leads, step_kept, step_done, none_done}
 use Rattle.jm_store.proofs.store.Store.advance_only.Goals as goal
 
 pub find_only-requires-clause-known : goal.find_only-requires-clause-known
@@ -74,9 +73,6 @@ returns-in_ok-room_for-in-Some-clause-advances g c =
       closed = t.closed;
       marks = t.marks;
       twice = t.twice;
-      dropped = if_some result (λ (done : Done). done.stays ≡ step.stays) Taken
-          (λ (done : Done). done.stays ≡ false → (s : Stored g.row.M-State.Denot) → Contains (stored_of new) s → Contains (stored_of old) s)
-          (λ done stays taken gone. step_dropped m Stands step old new done.answer taken (sym stays ∙ gone)) t.stays t.taken;
       works = if_some result (λ (done : Done). AreMarksAfter b old.marks new.marks) Taken
           (λ (done : Done). (trace : List ParametricEvent) → IsStoreAfter m Stands trace dead old → IsEventDone m Stands trace dead letter b new done.answer)
           (λ done added taken trace holds. step_done m Stands letter b dead c.args.known old new step done.answer c.requires.known.0 read c.requires.can.fits c.requires.can.there taken added trace c.requires.can.event holds) t.marks t.taken;
@@ -109,9 +105,17 @@ returns-in-None-clause-advances g c =
       closed = t.closed;
       marks = t.marks;
       twice = if_some result (λ (done : Done). done.copy ≡ []) (λ (done : Done). done.answer ≡ []) (λ (done : Done). done.copy ≡ done.answer) (λ done copy answer. copy ∙ sym answer) t.copy t.answer;
-      dropped = in_some result (λ (done : Done). done.stays ≡ false → (s : Stored g.row.M-State.Denot) → Contains (stored_of new) s → Contains (stored_of old) s) (λ done gone. rw t.monitors (λ s there. there));
       works = if_some result (λ (done : Done). AreMarksAfter b old.marks new.marks) (λ (done : Done). done.answer ≡ [])
           (λ (done : Done). (trace : List ParametricEvent) → IsStoreAfter m Stands trace dead old → IsEventDone m Stands trace dead letter b new done.answer)
           (λ done added answer. rw answer (none_done m Stands letter b dead c.args.known old new c.requires.known.0 read paired filled c.requires.can.fits t.monitors t.index t.ending added
           c.requires.can.event)) t.marks t.answer;
     }
+
+pub returns-in_ok-room_for-in-Some-clause-listed : goal.returns-in_ok-room_for-in-Some-clause-listed
+returns-in_ok-room_for-in-Some-clause-listed g c = c.take_step.ensures.listed c.args.objects.now
+
+pub returns-in-None-clause-listed : goal.returns-in-None-clause-listed
+returns-in-None-clause-listed g c = λ listed.
+    let m = g.M.Monitor.meaning (g.M.Monitor.definition c.args.rules.now) in
+    let Stands = g.M.Monitor.StandsFor c.args.rules.now in
+    subst (λ (l : List (Option (Stored g.row.M-State.Denot))). AreListed m Stands c.args.objects.now l c.args.awake.now) (sym c.take_none.ensures.monitors) listed

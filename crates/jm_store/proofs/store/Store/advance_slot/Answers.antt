@@ -1,11 +1,15 @@
-use Rattle.std.proofs.Common.{◌≡◌, ℕ, List, refl, sym, ◌∙◌, subst}
-use Rattle.std.specs.Prelude.{Some, not, slice_set}
+use Rattle.std.proofs.Common.{◌≡◌, ℕ, List, refl, sym, ap, ◌∙◌, subst}
+use Rattle.std.specs.Prelude.{Option, Some, None, not, slice_set}
+use Rattle.std.proofs.lemmas.Option.{same_Some}
+use Rattle.jm_awake.specs.Awake.{Lists}
+use Rattle.jm_store.specs.Listed.{AreListed}
+use Rattle.jm_store.proofs.ListedLemmas.{listed_put, listed_drop, within as slot_within}
 use Rattle.jm_store.specs.declared.monitors.Slot.TheVariants.{Free}
 use Rattle.std.proofs.lemmas.Bool.{not-true, not-false, both_ways}
 use Rattle.std.proofs.lemmas.List.{map-set}
 use Rattle.jm_model.specs.Meanings.{IsCutWord}
 use Rattle.jm_monitors.specs.declared.stored.Stored.{Stored}
-use Rattle.jm_store.specs.Slots.{monitor_in}
+use Rattle.jm_store.specs.Slots.{monitor_in, monitor_at}
 use Rattle.jm_store.specs.Moves.{IsNext}
 use Rattle.jm_index.specs.Index.{Pair}
 use Rattle.jm_store.specs.Housing.{IsHoused}
@@ -74,3 +78,28 @@ returns-clause-done g c = λ base at.
         dropped = rw (w.self-is, ← c.self.view_is) w.remove.ensures.dropped;
       }
     ])
+
+pub returns-clause-listed : goal.returns-clause-listed
+returns-clause-listed g c = λ listed.
+    let m = g.M.Monitor.meaning (g.M.Monitor.definition c.args.rules.now) in
+    let Stands = g.M.Monitor.StandsFor c.args.rules.now in
+    let monitors = c.args.self.now.monitors in
+    let dead = c.args.objects.now in
+    let slot = c.args.slot in
+    let base = c.in_ok-base.base.now in
+    let old = c.args.awake.now in
+    let at : monitor_at monitors slot ≡ Some base = rw (← c.self.view_is) c.in_ok-base.ensures.value in
+    let low = slot_within slot base monitors at in
+    let s : Stored g.row.M-State.Denot = record { instance = base.instance; state = c.in-Ok.state } in
+    elim c.if-stays.branch [
+      | then-stays w ↦
+          let is : c.if-stays.self.monitors ≡ slice_set monitors slot (Some s) = rw (w.self-is, ← c.self.view_is, w.put.ensures) (map-set monitor_in _ _ _) in
+          subst (λ (l : List (Option (Stored g.row.M-State.Denot))). AreListed m Stands dead l c.if-stays.awake) (sym is)
+          (subst (λ (a : Lists). AreListed m Stands dead (slice_set monitors slot (Some s)) a) (sym w.awake-is)
+          (listed_put m Stands dead monitors old w.wake.new.awake slot s low (λ t there. sym (ap (λ (x : Stored g.row.M-State.Denot). x.instance) (same_Some base t (sym at ∙ there)))) w.wake.ensures.sound w.wake.ensures.still w.wake.ensures.told listed))
+      | else-stays w ↦
+          let is : c.if-stays.self.monitors ≡ slice_set monitors slot None = rw (w.self-is, ← c.self.view_is, w.release.ensures) (map-set monitor_in _ _ _) in
+          subst (λ (l : List (Option (Stored g.row.M-State.Denot))). AreListed m Stands dead l c.if-stays.awake) (sym is)
+          (subst (λ (a : Lists). AreListed m Stands dead (slice_set monitors slot None) a) (sym w.awake-is)
+          (listed_drop m Stands dead monitors old w.leave.new.self slot low w.leave.ensures.sound w.leave.ensures.still listed))
+    ]

@@ -1,4 +1,4 @@
-use Rattle.std.proofs.Common.{◌≡◌, inl, inr}
+use Rattle.std.proofs.Common.{inl, inr}
 use Rattle.std.proofs.lemmas.Bool.{false≢true}
 use Rattle.jm_store.proofs.CommitLemmas.{marks_added}
 use Rattle.jm_store.proofs.FitLemmas.{housed_fits}

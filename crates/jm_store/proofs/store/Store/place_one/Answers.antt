@@ -1,9 +1,7 @@
 use Rattle.std.proofs.Common.{◌≡◌, inl, inr, List, [], ◌∷◌, refl, sym, ap, ◌∙◌, subst}
-use Rattle.std.specs.Prelude.{Some, None, Contains}
+use Rattle.std.specs.Prelude.{Some, Contains}
 use Rattle.jm_index.specs.Index.{Pair}
-use Rattle.std.specs.Option.{is_some}
 use Rattle.std.proofs.lemmas.Bool.{cases_Bool, false≢true}
-use Rattle.std.proofs.lemmas.Option.{none-some}
 use Rattle.jm_store.specs.declared.moves.Move.{Move}
 use Rattle.jm_store.proofs.VisitLemmas.{was_none}
 use Rattle.jm_store.proofs.FitLemmas.{are_paired}

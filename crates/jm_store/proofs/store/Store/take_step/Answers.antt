@@ -1,10 +1,13 @@
 use Rattle.std.proofs.Common.{◌≡◌, ℕ, inl, inr, List, [], ◌∷◌, refl, sym, ap, ◌∙◌, subst}
-use Rattle.std.specs.Prelude.{Some, Contains}
+use Rattle.std.specs.Prelude.{Option, Some, None, Contains}
+use Rattle.jm_monitors.specs.declared.stored.Stored.{Stored}
+use Rattle.jm_store.specs.Listed.{AreListed}
+use Rattle.jm_store.proofs.ListedLemmas.{listed_same, for_slots}
 use Rattle.jm_model.specs.declared.binding.Binding.{Binding}
 use Rattle.jm_semantics.proofs.ListLemmas.{Contains-head}
 use Rattle.jm_monitors.specs.Steps.{AreMarksAfter}
 use Rattle.jm_store.specs.declared.moves.Move.{Move}
-use Rattle.jm_store.specs.Contents.{with_open, with_ending}
+use Rattle.jm_store.specs.Contents.{with_ending}
 use Rattle.jm_store.proofs.VisitLemmas.{settled_monitor}
 use Rattle.jm_store.proofs.GivenLemmas.{one_pair}
 use Rattle.jm_store.proofs.CommitLemmas.{filled_on, unplanned}
@@ -90,3 +93,23 @@ returns-clause-taken g c =
       ended = rw ending c.end_one.ensures.ended;
       report = c.in-Ok.ensures;
     }
+
+pub returns-in_err-place_one-clause-listed : goal.returns-in_err-place_one-clause-listed
+returns-in_err-place_one-clause-listed g c = λ dead listed.
+    let m = g.M.Monitor.meaning (g.M.Monitor.definition c.args.rules.now) in
+    let Stands = g.M.Monitor.StandsFor c.args.rules.now in
+    let p = rw c.in_ok-open_for.ensures.opened at c.in_err-place_one.ensures in
+    listed_same m Stands dead None c.args.self.now.monitors c.place_one.new.self.monitors c.args.awake.now p.monitors listed
+
+pub returns-clause-listed : goal.returns-clause-listed
+returns-clause-listed g c = λ dead listed.
+    let m = g.M.Monitor.meaning (g.M.Monitor.definition c.args.rules.now) in
+    let Stands = g.M.Monitor.StandsFor c.args.rules.now in
+    let p = rw c.in_ok-open_for.ensures.opened at c.in_ok-place_one.ensures in
+    let carried = rw c.end_one.ensures.same at c.carry_out.ensures in
+    let mid = c.place_one.new.self in
+    let step = c.place_one.new.step in
+    let first = listed_same m Stands dead None c.args.self.now.monitors mid.monitors c.args.awake.now p.monitors listed in
+    let is = for_slots mid.monitors mid.index.list step carried.slots p.paired.within p.paired.paired (λ k slot. p.placed.leads step k (Contains-head step []) slot) in
+    let moved = c.follow.ensures c.args.rules.now dead mid.monitors is first in
+    subst (λ (l : List (Option (Stored g.row.M-State.Denot))). AreListed m Stands dead l c.follow.new.awake) (sym (c.close.ensures.monitors ∙ carried.monitors)) moved

@@ -1,0 +1,10 @@
+pub mod CardLemmas
+pub mod PathLemmas
+pub mod ListLemmas
+pub mod SoundLemmas
+pub mod StepLemmas
+pub mod WakeLemmas
+pub mod AwakeLemmas
+pub mod MadeLemmas
+pub mod ReadLemmas
+pub mod RestLemmas

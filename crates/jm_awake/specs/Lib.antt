@@ -1,0 +1,3 @@
+pub mod Awake
+pub mod Added
+pub mod Steps
