@@ -67,8 +67,9 @@ fn answer<M: Monitor>(
     if known {
         let _letters = rules.letters();
         if let Some(place) = awake.find(letter, binding) {
-            let (outcome, copy) =
-                answer_listed(alloc, rules, objects, store, awake, place, letter, binding);
+            let (outcome, copy) = answer_listed(
+                alloc, rules, objects, store, awake, place, letter, binding,
+            );
             return (outcome, copy);
         }
     }
