@@ -1,7 +1,7 @@
 -- What the properties of a tree say beside their rules, one after the other.
 use Rattle.std.proofs.Common.{◌≡◌, ℕ, ◌+◌, ◌<◌, List, [], ◌∷◌, ◌++◌, length, get_or, map, take, refl, ap, sym, subst, ◌∙◌, append_assoc, append-nil}
 use Rattle.std.specs.Prelude.{slice_range}
-use Rattle.std.proofs.lemmas.List.{take_more, map_push, map-append}
+use Rattle.std.proofs.lemmas.List.{take_more, map_push}
 use Rattle.std.proofs.lemmas.Grind.{flat_map-append}
 use Rattle.jm_text.specs.declared.token.Token.{Token}
 use Rattle.jm_handler.specs.declared.term.Term.{Term}

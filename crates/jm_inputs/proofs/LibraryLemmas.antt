@@ -1,11 +1,11 @@
 -- A library that grows.
-use Rattle.std.proofs.Common.{◌≡◌, ℕ, ◌+◌, ◌<◌, ◌≤◌, Bool, true, false, ◌&&◌, List, [], ◌∷◌, ◌++◌, length, get_or, take, drop, Option, Some, None, Result, Ok, Err, refl, sym, ap, subst, ◌∙◌, arith}
+use Rattle.std.proofs.Common.{◌≡◌, ℕ, ◌+◌, ◌<◌, ◌≤◌, Bool, List, [], ◌∷◌, ◌++◌, length, get_or, take, drop, Option, Some, None, Result, Ok, Err, refl, sym, ap, subst, ◌∙◌, arith}
 use Rattle.std.specs.Prelude.{map, All, IsSome, OnOk}
 use Rattle.std.proofs.lemmas.List.{map-append, length-map, length_push, length-take-le, take_all}
 use Rattle.std.proofs.lemmas.List.Elements.{All-push}
 use Rattle.jm_events.specs.Names.{number_of}
 use Rattle.jm_model.specs.declared.fault.SpecFault.{SpecFault}
-use Rattle.jm_model.specs.declared.fault.SpecFault.TheVariants.{DuplicateSpec, UnsupportedLogic}
+use Rattle.jm_model.specs.declared.fault.SpecFault.TheVariants.{DuplicateSpec}
 use Rattle.jm_model.specs.declared.fault.SpecError.{SpecError}
 use Rattle.jm_model.specs.declared.fault.SpecError.TheVariants.{Bad, NoMemory}
 use Rattle.jm_script.specs.Catalogs.{CatalogEntry, spec_names}
@@ -15,7 +15,7 @@ use Rattle.jm_inputs.specs.declared.library.Library.{Library}
 use Rattle.jm_inputs.specs.declared.status.Status.{Status}
 use Rattle.jm_inputs.specs.Sources.{Source}
 use Rattle.jm_inputs.specs.Scripts.{catalog_of}
-use Rattle.jm_inputs.specs.Inputs.{grammar_fault, refusal_of, IsRefusal, refused, SaySpecifications}
+use Rattle.jm_inputs.specs.Inputs.{grammar_fault, IsRefusal, refused, SaySpecifications}
 use Rattle.jm_inputs.specs.Causes.{IsNoSpec, StopsSpecs}
 use Rattle.jm_inputs.specs.Reading.{listing, listed, listing_of, listed_in, specification_of, IsWhole, IsRead, specs_in, IsCatalogued, HasNext, HasNextFrom, IsLibraryOf}
 use Rattle.jm_inputs.proofs.OneReadingLemmas.{same_err}

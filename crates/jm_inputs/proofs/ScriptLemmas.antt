@@ -14,7 +14,7 @@ use Rattle.jm_script.proofs.FittingLemmas.{FitsCatalog-more}
 use Rattle.jm_sync.specs.declared.line.SyncLine.{SyncLine}
 use Rattle.jm_sync.specs.declared.line.Cut.{Cut}
 use Rattle.jm_sync.specs.Checks.{AreSound, sync_of}
-use Rattle.jm_sync.specs.Cuts.{Request, IsExtension, RisesFrom, rest_of, request_of, names_with, names_behind, names_after, sync_lines_of}
+use Rattle.jm_sync.specs.Cuts.{Request, RisesFrom, rest_of, request_of, names_with, names_behind, names_after, sync_lines_of}
 use Rattle.jm_sync.proofs.CutLemmas.{IsExtension-none, IsExtension-names_with, length-names_after}
 use Rattle.jm_lines.specs.Lines.{lines_of}
 use Rattle.jm_inputs.specs.declared.scripts.Scripts.{Scripts}
@@ -22,7 +22,7 @@ use Rattle.jm_inputs.specs.declared.status.Status.{Status}
 use Rattle.jm_inputs.specs.Sources.{Source}
 use Rattle.jm_inputs.specs.Specifications.{Specification, most_bytes}
 use Rattle.jm_inputs.specs.Scripts.{catalog_of, meaning_over, IsScript, steps_text, IsScriptFile, IsScriptFileFault, in_file}
-use Rattle.jm_inputs.specs.Inputs.{step_count, SayScripts, lines_in, names_in, asked_by, names_behind_all}
+use Rattle.jm_inputs.specs.Inputs.{step_count, SayScripts, lines_in, names_in, asked_by}
 use Rattle.jm_inputs.specs.Causes.{IsNoOrder, IsNoScript, StopsScripts}
 use Rattle.jm_inputs.specs.Reading.{AreCounted, HasSteps, AreLeft, HasScript, HasScriptFrom, AreScriptsRead, AreScriptsOf}
 use Rattle.jm_inputs.proofs.SilentLemmas.{AsItStands}

@@ -9,7 +9,6 @@ use Rattle.jm_runner.proofs.PostLemmas.{none_sound}
 use Rattle.jm_inputs.specs.Inputs.{asked_by}
 use Rattle.jm_cli.specs.Words.CommandWords.{Replay, Run, Check, Coenable, Gen, Sweep, Audit}
 use Rattle.jm_inputs.specs.declared.status.Status.{Status}
-use Rattle.jm_model.specs.declared.fault.ScriptFault.TheVariants as script
 use Rattle.jm_inputs.specs.declared.status.Status.TheVariants.{ReadFailed}
 use Rattle.jm_inputs.specs.declared.library.Library.{Library}
 use Rattle.jm_inputs.specs.declared.inputs.Inputs.{Inputs}

@@ -255,6 +255,7 @@ replay_text entry titles rules script objects text h = record {
 
 ordered_text : (entry : CatalogEntry) (titles : Titles) (rules : RuleDefinition) (script : List ScriptLine) (objects : List (List ℕ)) (asked : List (List SyncLine)) (text : List ℕ)
     → (h : IsPrintedReplay (rules_meaning rules) (projection_of (script_of script) 0) (lexicon objects (titled entry titles rules)) text) → IsOrdered h.history asked → IsTextOfOrdered (titled entry titles rules ∷ []) (script ∷ []) asked objects text
+unfolding replay_text
 ordered_text entry titles rules script objects asked text h ordered =
     let made = replay_text entry titles rules script objects text h in
     record { histories = made.histories; each = made.each; ordered = All-cons (λ (x : List Entry). IsOrdered x asked) h.history [] ordered (All-nil (λ (x : List Entry). IsOrdered x asked)); printed = made.printed }

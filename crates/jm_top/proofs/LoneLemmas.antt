@@ -73,13 +73,13 @@ rises_earlier n m (l ∷ script) le rising =
 
 steps_rise : (n s : ℕ) (script : List ScriptLine) → RisesFrom n script → StepsRise n (projection_of (script_of script) s)
 steps_rise n s [] rising = tt
-steps_rise n s (l ∷ script) rising = by_case (is_for s (spec_of l.target)) refl
+steps_rise n s (l ∷ script) rising =
+    let first : n ≤ l.line = rising.0 in
+    by_case (is_for s (spec_of l.target)) refl (steps_rise (l.line + 1) s script rising.1) (steps_rise n s script (rises_earlier n (l.line + 1) script (omega (arith, first)) rising.1))
   where
-    by_case : (b : Bool) → is_for s (spec_of l.target) ≡ b → StepsRise n (projection_of (script_of (l ∷ script)) s)
-    by_case true e = rw e (rising.0, steps_rise (l.line + 1) s script rising.1)
-    by_case false e =
-        let first : n ≤ l.line = rising.0 in
-        rw e (steps_rise n s script (rises_earlier n (l.line + 1) script (omega arith) rising.1))
+    by_case : (b : Bool) → is_for s (spec_of l.target) ≡ b → StepsRise (l.line + 1) (projection_of (script_of script) s) → StepsRise n (projection_of (script_of script) s) → StepsRise n (projection_of (script_of (l ∷ script)) s)
+    by_case true e more rest = rw e (rising.0, more)
+    by_case false e more rest = rw e rest
 
 all_later : (n : ℕ) (steps : List (ℕ × Step)) → StepsRise n steps → All (λ (step : ℕ × Step). n ≤ step.0) steps
 all_later n [] rising = All-nil (λ (step : ℕ × Step). n ≤ step.0)

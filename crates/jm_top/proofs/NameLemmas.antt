@@ -1,5 +1,5 @@
 -- Each handler has a name.
-use Rattle.std.proofs.Common.{◌≡◌, ℕ, ◌+◌, List, [], ◌∷◌, ◌++◌, map, length, refl, arith, length-append}
+use Rattle.std.proofs.Common.{◌≡◌, ℕ, ◌+◌, List, [], ◌∷◌, map, length, refl, arith, length-append}
 use Rattle.std.proofs.lemmas.List.{length-map}
 use Rattle.jm_machine.specs.Meanings.{PropertyDefinition, RuleDefinition, handler_count}
 use Rattle.jm_machine.specs.HandlerNames.{numbered, numbered_from, names_for, names_of}

@@ -1,7 +1,7 @@
 -- The sheets of a library's specifications: the scripts that were read fit them, and what they allow is what is allowed over
 -- the specifications.
 use Rattle.std.proofs.Common.{◌≡◌, ℕ, zero, suc, ◌+◌, ◌<◌, List, [], ◌∷◌, ◌++◌, length, get_or, map, refl, sym, ◌∙◌, ap, subst, inl, inr, arith}
-use Rattle.std.specs.Prelude.{◌⊎◌, All, Option, Some, None, slice_get, option_map}
+use Rattle.std.specs.Prelude.{◌⊎◌, All, Some, slice_get, option_map}
 use Rattle.std.specs.Option.{option_map_or}
 use Rattle.std.proofs.lemmas.Option.{slice_get-map, none-some, same_Some}
 use Rattle.std.proofs.lemmas.List.{length_push}
@@ -28,7 +28,7 @@ use Rattle.jm_inputs.specs.Reading.{Listed, named_entry, listing, listed, listed
 use Rattle.jm_semantics.specs.Legality.{IsLegal}
 use Rattle.jm_model.specs.declared.step.Entry.{Entry}
 use Rattle.jm_print.specs.Told.{texts_of}
-use Rattle.jm_inputs.specs.Specifications.{Specification, meaning_of}
+use Rattle.jm_inputs.specs.Specifications.{Specification}
 use Rattle.jm_audit.specs.declared.verdict.Verdict.{Verdict}
 use Rattle.jm_audit.specs.declared.verdict.Verdict.TheVariants.{Yes, No}
 use Rattle.jm_audit.specs.Fronts.{IsReached}
@@ -129,7 +129,10 @@ one_more (z ∷ xs) x (suc n) y at = elim (one_more xs x n y at) [
   | inr last ↦ inr (ap suc last.0, last.1)
 ]
 
-module _ {X : Type 0} (mean : X → Meaning) (words : X → Lexicon) (scripts : List (List ScriptLine)) where
+module _ {X : Type 0} (rules : X → RuleDefinition) (words : X → Lexicon) (scripts : List (List ScriptLine)) where
+  abbrev pub mean : X → Meaning
+  mean x = rules_meaning (rules x)
+
   pub fit_none : (xs : List X) → xs ≡ [] → FitSheets mean words scripts xs
   fit_none xs none = subst (λ (ys : List X). FitSheets mean words scripts ys) (sym none) (λ n x at. absurd (none-some x at))
 
@@ -148,19 +151,19 @@ module _ {X : Type 0} (mean : X → Meaning) (words : X → Lexicon) (scripts : 
   -- each sheet is that of the specification of its place
   abbrev pub AreSheetsOf : List X → List Specification → List (List ℕ) → Type 0
   AreSheetsOf xs ts objects = (k : ℕ) (x : X) (t : Specification) → slice_get xs k ≡ Some x → slice_get ts k ≡ Some t
-      → (mean x ≡ meaning_of t) × (words x ≡ lexicon objects t)
+      → (rules x ≡ t.rules) × (words x ≡ lexicon objects t)
 
   pub sheets_none : (xs : List X) (ts : List Specification) (objects : List (List ℕ)) → xs ≡ [] → AreSheetsOf xs ts objects
   sheets_none xs ts objects none = subst (λ (ys : List X). AreSheetsOf ys ts objects) (sym none) (λ k x t at there. absurd (none-some x at))
 
   pub sheets_more : (xs ys : List X) (x : X) (n : ℕ) (ts : List Specification) (objects : List (List ℕ)) → ys ≡ xs ++ x ∷ [] → length xs ≡ n → AreSheetsOf xs ts objects
-      → ((t : Specification) → slice_get ts n ≡ Some t → (mean x ≡ meaning_of t) × (words x ≡ lexicon objects t)) → AreSheetsOf ys ts objects
+      → ((t : Specification) → slice_get ts n ≡ Some t → (rules x ≡ t.rules) × (words x ≡ lexicon objects t)) → AreSheetsOf ys ts objects
   sheets_more xs ys x n ts objects is many all here =
       subst (λ (zs : List X). AreSheetsOf zs ts objects) (sym is)
       (λ k y t at there. elim (one_more xs x k y at) [
         | inl other ↦ all k y t other there
         | inr last ↦
-            subst (λ (z : X). (mean z ≡ meaning_of t) × (words z ≡ lexicon objects t)) last.1 (here t (ap (slice_get ts) (sym (last.0 ∙ many)) ∙ there))
+            subst (λ (z : X). (rules z ≡ t.rules) × (words z ≡ lexicon objects t)) last.1 (here t (ap (slice_get ts) (sym (last.0 ∙ many)) ∙ there))
       ])
 
   same_words : (xs : List X) (ts : List Specification) (objects : List (List ℕ)) → length xs ≡ length ts → AreSheetsOf xs ts objects → map words xs ≡ map (lexicon objects) ts
@@ -180,7 +183,7 @@ module _ {X : Type 0} (mean : X → Meaning) (words : X → Lexicon) (scripts : 
   histories_to n (x ∷ xs) [] objects hs many same each = absurd (omega (arith, many))
   histories_to n (x ∷ xs) (t ∷ ts) objects [] many same each = absurd each
   histories_to n (x ∷ xs) (t ∷ ts) objects (h ∷ hs) many same each = (
-    record { legal = subst (λ (m : Meaning). IsLegal m h) (same 0 x t refl refl).0 each.0.legal; woven = each.0.woven },
+    record { legal = subst (λ (r : RuleDefinition). IsLegal (rules_meaning r) h) (same 0 x t refl refl).0 each.0.legal; woven = each.0.woven },
     histories_to (n + 1) xs ts objects hs (omega (arith, many)) (λ k. same (suc k)) each.1,
   )
 
@@ -192,7 +195,7 @@ module _ {X : Type 0} (mean : X → Meaning) (words : X → Lexicon) (scripts : 
   histories_from n (x ∷ xs) [] objects hs many same each = absurd (omega (arith, many))
   histories_from n (x ∷ xs) (t ∷ ts) objects [] many same each = absurd each
   histories_from n (x ∷ xs) (t ∷ ts) objects (h ∷ hs) many same each = (
-    record { legal = subst (λ (m : Meaning). IsLegal m h) (sym (same 0 x t refl refl).0) each.0.legal; woven = each.0.woven },
+    record { legal = subst (λ (r : RuleDefinition). IsLegal (rules_meaning r) h) (sym (same 0 x t refl refl).0) each.0.legal; woven = each.0.woven },
     histories_from (n + 1) xs ts objects hs (omega (arith, many)) (λ k. same (suc k)) each.1,
   )
 

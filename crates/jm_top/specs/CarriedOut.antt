@@ -1,5 +1,5 @@
 -- What the work of a command answers.
-use Rattle.std.specs.Prelude.{ℕ, ◌≡◌, ◌≤◌, false, List, [], ◌∷◌, length, Result, Ok, Err}
+use Rattle.std.specs.Prelude.{ℕ, ◌≡◌, ◌≤◌, true, false, List, [], ◌∷◌, length, Result, Ok, Err}
 use Rattle.std.specs.Global.{Vec}
 use Rattle.jm_model.specs.Words.{Text}
 use Rattle.jm_script.specs.declared.script.ScriptLine.{ScriptLine}

@@ -1,7 +1,7 @@
 //! What the cases ask.
 use crate::verdict::verdict;
 use jm_audit::Verdict;
-use jm_inputs::read_inputs;
+use jm_inputs::{Setting, read_inputs};
 use jm_model::NoMemory;
 use jm_port::{Folder, SureFolder};
 use std::alloc::{AllocError, Global};
@@ -25,7 +25,18 @@ pub(crate) fn answer(alloc: Global, case: &Case) -> Result<String, AllocError> {
     if specs.len() > 16 || scripts.len() > 16 {
         return String::from_str(alloc, "too many files");
     }
-    match read_inputs(alloc, specs.as_slice(), scripts.as_slice(), &mut folder) {
+    let setting = Setting {
+        files: 1,
+        steps: 198_000,
+        ordered: false,
+    };
+    match read_inputs(
+        alloc,
+        specs.as_slice(),
+        scripts.as_slice(),
+        setting,
+        &mut folder,
+    ) {
         Ok(inputs) => shown(alloc, verdict(alloc, &inputs, text.as_slice())),
         Err(status) => format!(in alloc; "{status:?}"),
     }
