@@ -164,7 +164,7 @@ module _ (ordered : Bool) (specs : List Specification) (bytes : List ℕ) (small
 
 -- a script that is read again, behind the names of objects from before
 module _ (ordered : Bool) (specs : List Specification) (bytes : List ℕ) (small : length bytes ≤ most_bytes) (on : ordered ≡ true) (text : List ℕ) (text_is : text ≡ rest_of bytes) (old left : Scripts) (refused : AreLeft old left) (number : ℕ) (many : number ≡ length old.objects) (names posted : List (List ℕ))
-  (first : names ≡ take number left.objects) (posted_is : posted ≡ names_after left.posted bytes) where
+    (first : names ≡ take number left.objects) (posted_is : posted ≡ names_after left.posted bytes) where
   again_middle : IsMiddle ordered bytes old (record left { objects = names; count = old.count; posted = posted })
   again_middle = record {
     list = refused.list;

@@ -11,5 +11,4 @@ pub mod JobTold
 pub mod FaultLemmas
 pub mod TokenLemmas
 pub mod PartLemmas
-pub mod SilentLemmas
 pub mod AuditLemmas
