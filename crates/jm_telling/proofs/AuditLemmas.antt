@@ -24,9 +24,9 @@ use Rattle.jm_inputs.specs.Jobs.{IsJob, Accepted, accepted, AcceptedAudit, accep
 use Rattle.jm_inputs.proofs.OneReadingLemmas.{never_some, same_some}
 use Rattle.jm_inputs.proofs.InputLemmas.{one_given, say_one}
 use Rattle.jm_inputs.proofs.RecordingLemmas.{with_line_fault}
+use Rattle.jm_inputs.proofs.SilentLemmas.{sound_asks_nothing}
 use Rattle.jm_top.specs.Histories.{IsTextOfHistories, IsTextOfOrdered}
 use Rattle.jm_top.specs.Texts.{verdict_text, IsTextOfVerdict, IsTextOf}
-use Rattle.jm_telling.proofs.SilentLemmas.{sound_is_whole}
 
 -- ---- scripts that are sound after some steps, and after others, are the same
 
@@ -91,8 +91,8 @@ module _ (contents : List ℕ → Option (List ℕ)) (specs : List Specification
   scripts_same count less names [] scripts others objects things texts files told (none, same, _) (empty, alike, _) = (none ∙ sym empty, same ∙ sym alike)
   scripts_same count less names (source ∷ sources) scripts others objects things texts files told (bytes, script, more, later, more_texts, e, _, given, is, rest) (held, lines, behind, then_names, more_files, f, _, gives, said, others_rest) =
       let one = one_given contents source held bytes told.0 gives given in
-      let whole = sound_is_whole (catalog_of specs) count bytes names is.said.sound in
-      let here = subst (λ v. IsScript specs less names v lines then_names) whole (subst (λ v. IsScript specs less names (rest_of v) lines then_names) one said.said) in
+      let silence = sound_asks_nothing (catalog_of specs) count bytes names is.said.sound in
+      let here = subst (λ v. IsScript specs less names v lines then_names) silence.rest (subst (λ v. IsScript specs less names (rest_of v) lines then_names) one said.said) in
       let meaning = script_same (catalog_of specs) count less bytes names is.said.sound here.sound in
       let same_lines : script ≡ lines = is.said.lines ∙ ap (λ (m : ScriptMeaning). m.lines) meaning ∙ sym here.lines in
       let same_names : then_names ≡ later = here.named ∙ ap (λ (m : ScriptMeaning). m.names) (sym meaning) ∙ sym is.said.named in

@@ -15,5 +15,4 @@ pub mod OneJob
 pub mod OneRefusal
 pub mod TokenLemmas
 pub mod PartLemmas
-pub mod SilentLemmas
 pub mod AuditLemmas
