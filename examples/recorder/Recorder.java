@@ -92,7 +92,7 @@ public final class Recorder implements Closeable {
         throw new FileAlreadyExistsException(folder.toString(), null, "the folder isn't empty");
       }
     }
-    return new Recorder(new ByThread(folder, Set.of(wholeRules)));
+    return new Recorder(new ByThread(folder, new HashSet<>(List.of(wholeRules))));
   }
 
   /** Also writes a line {@code death} for each object that was collected, at the next event or at the end. */
@@ -310,7 +310,7 @@ public final class Recorder implements Closeable {
 
     ByThread(Path folder, Set<String> wholeRules) {
       this.folder = folder;
-      this.wholeRules = new HashSet<>(wholeRules);
+      this.wholeRules = wholeRules;
     }
 
     @Override
