@@ -37,7 +37,7 @@ use Rattle.jm_machine.specs.declared.formula.Formula.{Formula}
 use Rattle.jm_machine.specs.declared.formula.Formula.TheVariants.{Machine, Regular, RegularSuffix, Temporal, Grammatical, GrammaticalSuffix}
 use Rattle.jm_machine.specs.Formulas.{IsRefusedIn, IsTableFault}
 use Rattle.jm_machine.specs.FirstRefusals.{IsFirstRefusal}
-use Rattle.jm_machine.specs.Handlers.{handlers_fault, suffix_fault}
+use Rattle.jm_machine.specs.Handlers.{handlers_fault}
 use Rattle.jm_machine.specs.Compiling.{formula_of, IsRefusedFormula, AreFormulas, IsFirstTableFault, IsFaultyTree, in_formulas, in_handlers, in_suffix, in_tables}
 use Rattle.jm_machine.proofs.ReadingLemmas.{one_formulas, formulas_or_fault}
 use Rattle.jm_inputs.specs.Specifications.{Specification, IsSpecFault, too_long, no_tokens, in_frame, in_tree}

@@ -1,5 +1,5 @@
 -- The names of the handlers of several properties, which begin with the number of the property.
-use Rattle.std.proofs.Common.{◌≡◌, ℕ, zero, suc, ◌+◌, ◌<◌, ◌≤◌, List, [], ◌∷◌, ◌++◌, map, length, Some, slice_get, refl, sym, subst, arith}
+use Rattle.std.proofs.Common.{◌≡◌, ℕ, zero, suc, ◌+◌, ◌≤◌, List, [], ◌∷◌, ◌++◌, map, length, Some, slice_get, refl, subst, arith}
 use Rattle.std.specs.Prelude.{decimal, codes}
 use Rattle.std.proofs.lemmas.Option.{none-some, same_Some}
 use Rattle.jm_machine.specs.HandlerNames.{numbered, numbered_from, names_for, AreEachDistinct}
