@@ -49,8 +49,8 @@ pub record IsScriptFile (ordered : Bool) (specs : List Specification) (count : �
   pub said : IsScript specs count names (steps_text ordered bytes) script objects
 
 -- the first fault of the bytes of such a file: they are too many, or a line that is read has it
-pub data IsScriptFileFault (ordered : Bool) (specs : List Specification) (count : ℕ) (names : List Text) (bytes : Text) : ScriptFault
-    → Type 0 where
+pub data IsScriptFileFault (ordered : Bool) (specs : List Specification) (count : ℕ) (names : List Text)
+    (bytes : Text) : ScriptFault → Type 0 where
   file_too_long : most_bytes < length bytes → IsScriptFileFault ordered specs count names bytes TooLong
   in_file : (fault : ScriptFault)
       → length bytes ≤ most_bytes

@@ -121,7 +121,7 @@ pub run_answered : (words others : List (List ℕ)) (contents : List ℕ → Opt
     → IsJob words contents (Accepted (Run names files) specs scripts objects asked) → IsTextOf (Accepted (Run names files) specs scripts objects asked) text
     → AreTold others contents → command_of others ≡ Some (Audit history names files) → contents history ≡ Some text
     → IsJob others contents (AcceptedAudit again reread renamed bytes) → IsTextOf (AcceptedAudit again reread renamed bytes) said → said ≡ codes "yes" ++ 10 ∷ []
-run_answered words others contents history names files _ _ _ _ _ _ _ text _ said (accepted (Run names files) specs scripts objects texts spelled told tells sound separate plain) is known heard holds (accepted_audit name sheets lists bytes again reread renamed rewritten spells given small says reads) answer =
+run_answered words others contents history names files _ _ _ _ _ _ _ text _ said (accepted _ specs scripts objects texts spelled told tells sound separate plain) is known heard holds (accepted_audit name sheets lists bytes again reread renamed rewritten spells given small says reads) answer =
     let same : Audit name sheets lists ≡ Audit history names files = same_some (sym spells ∙ heard) in
     let same_history : name ≡ history = cc same in
     let same_sheets : sheets ≡ names = cc same in
