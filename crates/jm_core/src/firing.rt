@@ -1,6 +1,6 @@
 //! What an event comes to in a store.
 ghost use Rattle.std.specs.Prelude.{◌≡◌, ◌<◌, ◌↔◌, false, None, Contains, IsTrue, length};
-ghost use Rattle.jm_index.specs.Index.{AreBelow};
+ghost use Rattle.jm_index.specs.Index.{AreBelow, AreLive, IsFitting};
 ghost use Rattle.jm_monitors.specs.Steps.{IsLiveEvent};
 ghost use Rattle.jm_store.specs.Contents.{IsFit};
 ghost use Rattle.jm_awake.specs.Awake.{list_at, IsListOf};
@@ -67,10 +67,14 @@ fn answer<M: Monitor>(
     if known {
         let _letters = rules.letters();
         if let Some(place) = awake.find(letter, binding) {
+<<<<<<< HEAD
             let (outcome, copy) = answer_listed(
                 alloc, rules, objects, store, awake, place, letter, binding,
             );
             return (outcome, copy);
+=======
+            return answer_listed(alloc, rules, objects, store, awake, place, letter, binding);
+>>>>>>> a35d428b18bb3bdb602e62892c2c644bf8c26185
         }
     }
     if let Some(done) = counted_advance::<M, Brand>(
@@ -85,12 +89,11 @@ fn answer<M: Monitor>(
     ) {
         return (Outcome::Fired(done.answer), Outcome::Fired(done.copy));
     }
-    let (outcome, copy) = fire(rules, objects, store, awake, letter, binding, known);
-    (outcome, copy)
+    fire(rules, objects, store, awake, letter, binding, known)
 }
 
 /// The same, where its list was found.
-#[inline(never)]
+#[inline(always)]
 fn answer_listed<M: Monitor>(
     alloc: Global,
     rules: &M,
@@ -206,7 +209,6 @@ fn first_dead(objects: &Objects, binding: &Binding) -> Option<u32>
 }
 
 /// The same, worked out.
-#[inline(never)]
 fn fire<M: Monitor>(
     rules: &M,
     objects: &Objects,
@@ -229,12 +231,32 @@ fn fire<M: Monitor>(
             let many = known && plan.met_many();
             store.follow(awake, &plan);
             let (answer, copy) = store.commit(plan);
-            if many {
-                store.list(rules, objects, awake, letter, binding);
-            }
+            list_many(rules, objects, store, awake, letter, binding, many);
             (Outcome::Fired(answer), Outcome::Fired(copy))
         }
         Err(NoMemory) => (Outcome::NoMemory, Outcome::NoMemory),
+    }
+}
+
+/// Lists the monitors above the binding of an event, if it met many.
+fn list_many<M: Monitor>(
+    rules: &M,
+    objects: &Objects,
+    store: &Store<M>,
+    awake: &mut Awake,
+    letter: Letter,
+    binding: &Binding,
+    many: bool,
+)
+    requires closed { store.now.is_open ≡ false }
+    requires letter { letter.0 < (M.meaning (M.definition rules.now)).letters }
+    requires fits { IsFitting store.now.index objects.now }
+    requires live { AreLive objects.now binding.now }
+    ensures { KeepListed (M.meaning (M.definition rules.now)) (M.StandsFor rules.now) objects.now
+        store.now.monitors store.now.monitors awake.old awake.new }
+{
+    if many {
+        store.list(rules, objects, awake, letter, binding);
     }
 }
 

@@ -25,6 +25,7 @@ use std::sync::ledger::Ledger;
 impl<M: Monitor> Store<M> {
     /// Works out an event whose binding is a mark, and of which there is a list: only the monitors of the list are read,
     /// each once, and those at rest leave it. Where no monitor changes, there is no plan.
+    #[inline(never)]
     pub fn plan_listed<L: Ledger>(
         &mut self,
         rules: &M,

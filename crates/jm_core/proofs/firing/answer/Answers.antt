@@ -1,12 +1,12 @@
-use Rattle.std.proofs.Common.{◌≡◌, List, Option, ap, ◌∙◌}
+use Rattle.std.proofs.Common.{ap}
 use Rattle.jm_model.specs.declared.step.Outcome.TheVariants.{Fired}
 use Rattle.jm_semantics.specs.Traces.{ParametricEvent}
 use Rattle.jm_core.proofs.FireLemmas.{outcome_before}
 use Rattle.jm_core.proofs.firing.answer.Goals as goal
 
-pub returns-in-Some-done : goal.returns-in-Some-done
-returns-in-Some-done g c =
-    let done = c.in-Some-done.ensures in
+pub returns-in-Some-counted_advance : goal.returns-in-Some-counted_advance
+returns-in-Some-counted_advance g c =
+    let done = c.in-Some-counted_advance.ensures in
     record {
       twice = ap Fired done.advances.twice;
       closed = done.advances.closed;
@@ -19,7 +19,7 @@ returns-in-Some-done g c =
 
 pub fire-requires : goal.fire-requires
 fire-requires g c =
-    let kept = c.in_default.ensures in
+    let kept = c.in_default-counted_advance.ensures in
     record {
       can = record { closed = kept.advances.closed; fits = kept.advances.fits; event = c.requires.can.event; there = c.requires.can.there };
       known = rw kept.advances.unmarked c.is_mark-known.ensures;
@@ -31,7 +31,7 @@ pub returns : goal.returns
 returns g c =
     let m = g.M.Monitor.meaning (g.M.Monitor.definition c.args.rules.now) in
     let Stands = g.M.Monitor.StandsFor c.args.rules.now in
-    let kept = c.in_default.ensures in
+    let kept = c.in_default-counted_advance.ensures in
     let fired = c.fire.ensures in
     let mid = c.counted_advance.new.store in
     let a : ParametricEvent = record { letter = c.args.letter.0; binding = c.args.binding.now } in

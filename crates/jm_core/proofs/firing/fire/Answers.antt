@@ -1,16 +1,26 @@
-use Rattle.std.proofs.Common.{◌≡◌, List, Option, refl, sym, ap, ◌∙◌, subst, length}
+use Rattle.std.proofs.Common.{List, Option, refl, sym, ap, ◌∙◌, subst, length}
 use Rattle.std.specs.Prelude.{None}
 use Rattle.jm_model.specs.declared.binding.Binding.{Binding}
 use Rattle.jm_model.specs.declared.step.Outcome.TheVariants.{Fired}
 use Rattle.jm_index.specs.Index.{AreBelow}
+use Rattle.jm_monitors.proofs.BaseLemmas.{object-among}
 use Rattle.jm_monitors.specs.declared.stored.Stored.{Stored}
 use Rattle.jm_store.specs.Listed.{AreListed}
 use Rattle.jm_store.proofs.ListedLemmas.{listed_same}
 use Rattle.jm_core.proofs.FireLemmas.{carried_out}
 use Rattle.jm_core.proofs.firing.fire.Goals as goal
 
-pub returns-in-Ok : goal.returns-in-Ok
-returns-in-Ok g c =
+pub list_many-requires-clause-fits : goal.list_many-requires-clause-fits
+list_many-requires-clause-fits g c =
+    let dead = c.args.objects.now in
+    let planned = c.in-Ok.ensures in
+    (c.commit-answer.ensures.fits dead planned.fits (subst (λ (b : Binding). AreBelow (length dead) b) (sym planned.binding) c.requires.can.there)).index
+
+pub list_many-requires-clause-live : goal.list_many-requires-clause-live
+list_many-requires-clause-live g c = λ o binds. c.requires.can.event.live o (object-among _ binds.0 o binds.1)
+
+pub returns-after-known : goal.returns-after-known
+returns-after-known g c =
     let m = g.M.Monitor.meaning (g.M.Monitor.definition c.args.rules.now) in
     let Stands = g.M.Monitor.StandsFor c.args.rules.now in
     let dead = c.args.objects.now in
@@ -25,7 +35,7 @@ returns-in-Ok g c =
       twice = ap Fired (done.copy ∙ sym done.answer);
       closed = done.closed;
       fits = done.fits dead planned.fits (subst (λ (b : Binding). AreBelow (length dead) b) (sym planned.binding) c.requires.can.there);
-      listed = ?;
+      listed = c.list_many.ensures committed;
       works = λ trace holds.
           let works = planned.works trace holds in
           let out = carried_out m Stands trace dead c.args.letter.0 c.args.binding.now before after c.in-Ok.plan c.commit-answer.result.0

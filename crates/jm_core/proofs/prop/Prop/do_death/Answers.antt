@@ -30,7 +30,8 @@ invariant_of-self g c =
     let core = subst (λ (l : List Entry). IsCore m Stands l c.kill.new.self c.self.inside.store) (sym c.push_sparing.ensures)
     (subst (λ (d : List Bool). IsCore m Stands (c.self.inside.history ++ answered c.args.node Done ∷ []) d c.self.inside.store) (sym c.kill.ensures.dead)
     (core_after_death m Stands c.self.inside.history dead c.self.inside.store c.args.node o c.self.invariant.0 is within alive)) in
-    let listed = rw (← c.kill.ensures.dead) (c.mourn.ensures.listed c.self.inside.rules dead c.self.invariant.1) in
+    let mourned = c.mourn.ensures.listed c.self.inside.rules dead c.self.invariant.1 in
+    let listed : AreListed m Stands c.kill.new.self c.self.inside.store.monitors c.mourn.new.awake = subst (λ (d : List Bool). AreListed m Stands d c.self.inside.store.monitors c.mourn.new.awake) (sym c.kill.ensures.dead) mourned in
     rw c.mourn.ensures.same (core, listed)
 
 pub mourn-requires : goal.mourn-requires
@@ -59,7 +60,7 @@ returns-then-kill-clause-legal g c = (invariant_of-self g c).0.legal
 
 pub returns-then-kill-clause-fits : goal.returns-then-kill-clause-fits
 returns-then-kill-clause-fits g c =
-    fits_history (g.M.Monitor.meaning (g.M.Monitor.definition c.self.inside.rules)) (g.M.Monitor.StandsFor c.self.inside.rules) c.push_sparing.new.self c.kill.new.self c.self.inside.store (invariant_of-self g c).0
+    fits_history (g.M.Monitor.meaning (g.M.Monitor.definition c.self.inside.rules)) (g.M.Monitor.StandsFor c.self.inside.rules) c.push_sparing.new.self c.kill.new.self c.mourn.new.self (invariant_of-self g c).0
 
 pub returns-else-kill-clause-legal : goal.returns-else-kill-clause-legal
 returns-else-kill-clause-legal g c = (invariant_of-self-else-kill g c).0.legal
