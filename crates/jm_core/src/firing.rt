@@ -67,14 +67,7 @@ fn answer<M: Monitor>(
     if known {
         let _letters = rules.letters();
         if let Some(place) = awake.find(letter, binding) {
-<<<<<<< HEAD
-            let (outcome, copy) = answer_listed(
-                alloc, rules, objects, store, awake, place, letter, binding,
-            );
-            return (outcome, copy);
-=======
             return answer_listed(alloc, rules, objects, store, awake, place, letter, binding);
->>>>>>> a35d428b18bb3bdb602e62892c2c644bf8c26185
         }
     }
     if let Some(done) = counted_advance::<M, Brand>(
