@@ -174,7 +174,7 @@ impl<M: Monitor> Prop<M> {
         ensures fits { FitsHistory (M.meaning self.new.definition) self.new.entries self.new.stored self.new.marks }
     {
         let kept = self.store.dispose(&self.rules, &self.objects);
-        self.awake.forget();
+        self.store.settle(&mut self.awake);
         self.history.push_sparing(node, Outcome::Kept(kept), spare);
         Outcome::Kept(kept)
     }

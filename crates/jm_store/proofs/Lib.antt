@@ -24,3 +24,4 @@ pub mod StoreLemmas
 mod AdvanceLemmas
 mod DirectLemmas
 pub mod ListedLemmas
+pub mod SettledLemmas

@@ -73,3 +73,8 @@ abbrev pub IsFor : {S : Type 0} → List (Option (Stored S)) → Move S → Type
 IsFor {S} monitors move =
     (k : ℕ) → move.slot ≡ Some k
     → (k < length monitors) × ((s : Stored S) → monitor_at monitors k ≡ Some s → s.instance ≡ move.monitor.instance)
+
+-- some of the monitors are left, each in its slot, and there are as many slots
+pub record AreLeftOf {S : Type 0} (before after : List (Option (Stored S))) : Type 0 where
+  pub size : length after ≡ length before
+  pub each : (k : ℕ) (s : Stored S) → monitor_at after k ≡ Some s → monitor_at before k ≡ Some s

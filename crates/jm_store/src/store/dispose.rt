@@ -6,6 +6,7 @@ ghost use Rattle.jm_monitors.specs.Steps.{IsThinned, AreSpared, AreLiveMarks};
 ghost use Rattle.jm_store.specs.Slots.{monitor_at};
 ghost use Rattle.jm_store.specs.Moves.{IsSwept};
 ghost use Rattle.jm_store.specs.Contents.{stored_of, IsFit, IsStoreAfter, IsCutDown};
+ghost use Rattle.jm_store.specs.Listed.{AreLeftOf};
 
 use super::Store;
 use jm_index::NoRoom;
@@ -23,6 +24,7 @@ impl<M: Monitor> Store<M> {
         ensures alive { AreSpared (M.meaning (M.definition rules.now)) (M.StandsFor rules.now) self.old.index.dropped
             (stored_of self.old)
             → AreSpared (M.meaning (M.definition rules.now)) (M.StandsFor rules.now) objects.now (stored_of self.new) }
+        ensures slots { AreLeftOf self.old.monitors self.new.monitors }
         ensures marks { AreLiveMarks objects.now self.old.marks self.new.marks }
         ensures ending { self.new.ending ≡ self.old.ending }
         ensures keeps { (trace : List ParametricEvent)

@@ -1,5 +1,5 @@
 //! Events of which it is known which monitors they may change: the others are at rest, and aren't read.
-ghost use Rattle.std.specs.Prelude.{◌≡◌, ℕ, ◌+◌, ◌<◌, ◌≤◌, ◌↔◌, [], List, Bool, Some, None, Contains, IfOk, OnOk, IsTrue, true, false, length, count_by};
+ghost use Rattle.std.specs.Prelude.{◌≡◌, ℕ, ◌+◌, ◌<◌, ◌≤◌, ◌↔◌, [], List, Bool, Option, Some, None, Contains, IfOk, OnOk, IsTrue, true, false, length, count_by};
 ghost use Rattle.jm_model.specs.Bindings.{is_below, is_compatible};
 ghost use Rattle.jm_awake.specs.declared.card.Listed.{Listed as Entry};
 ghost use Rattle.jm_awake.specs.Awake.{list_at, is_there, IsListOf, AreSound, AreFound, AreStill};
@@ -9,7 +9,7 @@ ghost use Rattle.jm_monitors.specs.Steps.{after_death};
 ghost use Rattle.jm_store.specs.Slots.{monitor_at};
 ghost use Rattle.jm_store.specs.Moves.{AreGiven, IsReadAt, IsPushed, AreMovesRead, AreVisited, asks_by, has_all};
 ghost use Rattle.jm_store.specs.Contents.{stored_of, monitors_after, IsPlanFor};
-ghost use Rattle.jm_store.specs.Listed.{occupants_of, slots_listed, AreListed, AreListedBut, KeepListed, IsInAll};
+ghost use Rattle.jm_store.specs.Listed.{occupants_of, slots_listed, AreListed, AreListedBut, AreLeftOf, KeepListed, IsInAll};
 ghost use Rattle.jm_store.specs.Plans.{CanPlan, PlansUnlessRests};
 
 use super::Store;
@@ -266,6 +266,26 @@ impl<M: Monitor> Store<M> {
             Err(NoRoom) => awake.forget(),
         }
         self.give_slots(slots);
+    }
+
+    /// Takes in that a pass dropped monitors: their slots leave the lists. It takes no memory.
+    #[inline(never)]
+    pub fn settle(&self, awake: &mut Awake)
+        ensures { (rules : M) (dead : List Bool) (before : List (Option (Kept M.State)))
+            → AreLeftOf before self.now.monitors
+            → KeepListed (M.meaning (M.definition rules)) (M.StandsFor rules) dead before self.now.monitors
+            awake.old awake.new }
+    {
+        if awake.letters() == 0 {
+            awake.forget();
+            return;
+        }
+        for slot in 0..self.monitors.count_slots() {
+            match self.monitors.instance(slot) {
+                Some(_) => {}
+                None => awake.leave(slot),
+            }
+        }
     }
 
     /// Puts the monitors of these slots into all lists.

@@ -4,7 +4,6 @@ use Rattle.jm_semantics.specs.Histories.{trace_of}
 use Rattle.jm_core.specs.Inside.{IsCore}
 use Rattle.jm_core.proofs.FitLemmas.{fits_history}
 use Rattle.jm_core.proofs.CoreLemmas.{core_after_pass}
-use Rattle.jm_store.proofs.ListedLemmas.{none_listed}
 use Rattle.jm_core.proofs.prop.Prop.do_pass.Goals as goal
 
 pub invariant_of-self : goal.invariant_of-self
@@ -15,7 +14,7 @@ invariant_of-self g c =
     let small : c.dispose-kept.result < 2 ^ 64 = c.dispose-kept.type_inv in
     let core = subst (λ (l : List Entry). IsCore m Stands l c.self.inside.objects c.dispose-kept.new.self) (sym c.push_sparing.ensures)
     (core_after_pass m Stands c.self.inside.history c.self.inside.objects c.self.inside.store c.dispose-kept.new.self c.args.node c.dispose-kept.result c.self.invariant.0 c.requires (record { thinned = done.thinned; alive = done.alive c.self.invariant.0.holds.spared; left_marks = done.marks }) small done.left done.closed done.fits (done.keeps (trace_of c.self.inside.history) c.self.invariant.0.holds)) in
-    (core, none_listed m Stands c.self.inside.objects c.dispose-kept.new.self.monitors c.forget.new.self c.forget.ensures)
+    (core, c.settle.ensures c.self.inside.rules c.self.inside.objects c.self.inside.store.monitors done.slots c.self.invariant.1)
 
 pub returns-clause-legal : goal.returns-clause-legal
 returns-clause-legal g c = (invariant_of-self g c).0.legal

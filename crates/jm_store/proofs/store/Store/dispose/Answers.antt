@@ -8,6 +8,7 @@ use Rattle.jm_marks.specs.Marks.{has_live}
 use Rattle.jm_store.specs.Slots.{monitors_of}
 use Rattle.jm_store.proofs.PassLemmas.{kept_swept, single_housed, thinned, alive, live_marks}
 use Rattle.jm_store.proofs.FitLemmas.{housed_fits}
+use Rattle.jm_store.proofs.SettledLemmas.{left_down}
 use Rattle.jm_store.proofs.StoreLemmas.{store_after_pass}
 use Rattle.jm_store.proofs.store.Store.dispose.Goals as goal
 
@@ -54,3 +55,10 @@ returns-clause-keeps g c =
     let Stands = g.M.Monitor.StandsFor c.args.rules.now in
     λ trace holds.
     store_after_pass m Stands trace c.args.objects.now c.args.self.now _ (returns-clause-thinned g c) (returns-clause-alive g c) (returns-clause-marks g c) (returns-clause-ending g c) c.drop_dead.ensures.fits.reached holds
+
+pub returns-clause-slots : goal.returns-clause-slots
+returns-clause-slots g c =
+    let m = g.M.Monitor.meaning (g.M.Monitor.definition c.args.rules.now) in
+    let Stands = g.M.Monitor.StandsFor c.args.rules.now in
+    let down = rw (← c.self.view_is) at c.drop_all_cut.ensures.down in
+    left_down m Stands c.args.objects.now c.args.self.now _ down
