@@ -115,9 +115,9 @@ where
             requires hands { All (λ v. CanWork M.meaning watches.now scripts.now v.items) hands.items }
             requires named { IsNamed
                 J.scripts J.cuts J.watches scripts.now (sync_of cuts.now) watches.now notices.now }
-            ensures count { IfOk result (λ back. vec_len back ≡ vec_len hands.entry) }
+            ensures count { IfOk result (λ back. vec_len back ≡ vec_len hands) }
             ensures worked { IfOk result (λ back. (k : ℕ) (before : _) (after : _)
-                → slice_get hands.entry.items k ≡ Some before → slice_get back.items k ≡ Some after
+                → slice_get hands.items k ≡ Some before → slice_get back.items k ≡ Some after
                 → HasWorked
                 watches.entry.now scripts.entry.now (sync_of cuts.entry.now) before.items after.items) }
         {
@@ -134,7 +134,7 @@ where
                         requires named { IsNamed
                             J.scripts J.cuts J.watches scripts.now (sync_of cuts.now) watches.now notices.now }
                         ensures { IfOk result (λ back. HasWorked watches.entry.now scripts.entry.now
-                            (sync_of cuts.entry.now) seats.entry.items back.items) }
+                            (sync_of cuts.entry.now) seats.items back.items) }
                     { work_one(rt, alloc, watches, scripts, cuts, notices, seats, gate) },
                 );
                 let Ok(worker) = started else {
