@@ -1,5 +1,5 @@
 -- What the threads of workers give back.
-use Rattle.std.proofs.Common.{◌≡◌, ℕ, ◌<◌, List, map, length, Some, slice_get, sym, ap, ◌∙◌, subst, arith}
+use Rattle.std.proofs.Common.{◌≡◌, ℕ, ◌<◌, List, [], ◌∷◌, ◌++◌, map, length, Some, slice_get, refl, sym, ap, ◌∙◌, subst, arith}
 use Rattle.std.specs.Prelude.{IfOk, Result, Ok}
 use Rattle.std.specs.Option.{option_map}
 use Rattle.std.specs.PromisedHandle.{KeepsEach}
@@ -13,6 +13,31 @@ use Rattle.jm_sync.specs.declared.line.SyncLine.{SyncLine}
 use Rattle.jm_runner.specs.Hands.{HasWorked}
 use Rattle.jm_runner.specs.Notes.{IsNamed}
 use Rattle.jm_runner.proofs.PlaceLemmas.{map_get}
+
+-- one more at the end of a list and of what it is mapped to
+pub map_snoc : {A B : Type 0} (f : A → B) (xs more : List A) (x : A) (ys : List B) (y : B) → more ≡ xs ++ x ∷ [] → map f xs ≡ ys → f x ≡ y → map f more ≡ ys ++ y ∷ []
+map_snoc {A} f xs more x ys y is same last = ap (λ l. map f l) is ∙ at_end xs ∙ ap (λ l. l ++ f x ∷ []) same ∙ ap (λ z. ys ++ z ∷ []) last
+  where
+    at_end : (l : List A) → map f (l ++ x ∷ []) ≡ map f l ++ f x ∷ []
+    at_end [] = refl
+    at_end (z ∷ l) = ap (λ m. f z ∷ m) (at_end l)
+
+-- what is behind a place goes on with its first element
+pub snoc_rest : {A : Type 0} (xs rest : List A) (x : A) → (xs ++ x ∷ []) ++ rest ≡ xs ++ x ∷ rest
+snoc_rest [] rest x = refl
+snoc_rest (y ∷ xs) rest x = ap (λ l. y ∷ l) (snoc_rest xs rest x)
+
+pub none_left : {A : Type 0} (xs : List A) → length xs ≡ 0 → xs ≡ []
+none_left [] size = refl
+none_left (x ∷ xs) size = absurd (omega (arith, size))
+
+-- where nothing is behind it, it is the whole
+pub ends : {A : Type 0} (xs rest whole : List A) → xs ++ rest ≡ whole → rest ≡ [] → xs ≡ whole
+ends {A} xs rest whole all none = sym (alone xs) ∙ ap (λ l. xs ++ l) (sym none) ∙ all
+  where
+    alone : (l : List A) → l ++ [] ≡ l
+    alone [] = refl
+    alone (y ∷ l) = ap (λ m. y ∷ m) (alone l)
 
 -- what threads that keep their promises gave back, where all gave a value
 pub promises_met : {T E P : Type 0} (g : Promise.Ghosts P (Result T E)) (before_of : P → T) (R : T → T → Type 0) (n : ℕ) (handles : List (PromisedHandle (Result T E) P)) (results : List (Result T E)) (hands values : List T) (k : ℕ) (before after : T)

@@ -3,7 +3,7 @@ ghost use Rattle.std.specs.Prelude.{◌≡◌, ℕ, All, IfOk, Ok, Some, map, sl
 ghost use Rattle.jm_sync.specs.Checks.{sync_of};
 ghost use Rattle.jm_runner.specs.Notes.{IsNamed};
 ghost use Rattle.jm_runner.specs.Hands.{CanWork, HasWorked};
-ghost use denote.Param.Send.{IsSync};
+ghost use denote.Param.Send.{IsSend, IsSync};
 
 use crate::gate::Gate;
 use crate::notices::Notices;
@@ -112,6 +112,8 @@ where
         thread::scope_env(),
         rt,
         |scope| -> Result<Vec<Vec<Seat<M>>>, NoMemory>
+            requires sent { IsSend M.row × IsSend J.row × IsSend M.State.row }
+            requires shared { IsSync J.row × IsSync G.row × IsSync R.row }
             requires hands { All (λ v. CanWork M.meaning watches.now scripts.now v.items) hands.items }
             requires named { IsNamed
                 J.scripts J.cuts J.watches scripts.now (sync_of cuts.now) watches.now notices.now }
