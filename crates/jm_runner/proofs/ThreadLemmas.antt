@@ -6,6 +6,7 @@ use Rattle.std.specs.PromisedHandle.{KeepsEach}
 use Rattle.std.specs.declared.thread.PromisedHandle.{PromisedHandle}
 use Rattle.std.specs.declared.thread.Promise as Promise
 use Rattle.std.proofs.lemmas.Option.{slice_get-map, slice_get_within, get_or_from_slice_get}
+use Rattle.std.proofs.lemmas.List.{length-map}
 use Rattle.jm_model.specs.declared.step.Entry.{Entry}
 use Rattle.jm_turn.specs.Seats.{LockModel, SeatModel}
 use Rattle.jm_script.specs.declared.script.ScriptLine.{ScriptLine}
@@ -26,6 +27,9 @@ map_snoc {A} f xs more x ys y is same last = ap (λ l. map f l) is ∙ at_end xs
 pub snoc_rest : {A : Type 0} (xs rest : List A) (x : A) → (xs ++ x ∷ []) ++ rest ≡ xs ++ x ∷ rest
 snoc_rest [] rest x = refl
 snoc_rest (y ∷ xs) rest x = ap (λ l. y ∷ l) (snoc_rest xs rest x)
+
+pub same_length : {A B : Type 0} (f : A → B) (xs : List A) (ys : List B) → map f xs ≡ ys → length xs ≡ length ys
+same_length f xs ys same = sym (length-map xs f) ∙ ap (λ l. length l) same
 
 pub none_left : {A : Type 0} (xs : List A) → length xs ≡ 0 → xs ≡ []
 none_left [] size = refl

@@ -123,11 +123,6 @@ where
                 → HasWorked
                 watches.entry.now scripts.entry.now (sync_of cuts.entry.now) before.items after.items) }
         {
-            // The workers share the watches and the board, as `work_apart` shows.
-            may_be_shared::<Lock<Watched<M>>>();
-            may_be_shared::<Watch<M>>();
-            may_be_shared::<Board<Parcel<M, J>, GaveUp>>();
-            may_be_shared::<Notices<M, J>>();
             let mut workers = Vec::with_capacity(alloc, hands.len())?;
             for seats in hands {
                 let promise: Works<M, J> = Works {
