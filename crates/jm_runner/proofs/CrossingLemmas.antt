@@ -7,6 +7,10 @@ use Rattle.jm_history.specs.contracts.history.History as History
 use Rattle.jm_store.specs.contracts.store.Store as Store
 use Rattle.jm_core.specs.contracts.prop.Prop as Prop
 use Rattle.jm_dispatch.specs.contracts.watched.Watched as Watched
+use Rattle.jm_dispatch.specs.contracts.watched.Fixed as Fixed
+use Rattle.jm_dispatch.specs.contracts.watched.WatchedKept.TheImpl as kept
+use Rattle.jm_dispatch.specs.contracts.watch.Watch as Watch
+use Rattle.jm_model.specs.contracts.step.Entry as Entry
 use Rattle.jm_model.specs.declared.monitor.Monitor as Monitor
 use Rattle.atomic_table.proofs.shared.Shared.TheSendSync as shared
 use Rattle.atomic_table.proofs.send_lease.SendLease.TheSendSync as lease
@@ -21,6 +25,9 @@ use Rattle.jm_sync.specs.declared.shelves.Posted as Posted
 use Rattle.jm_runner.specs.contracts.parcel.Parcel as Parcel
 use Rattle.jm_runner.specs.contracts.notices.Notices as Notices
 use Rattle.jm_runner.specs.declared.parcel.Naming as Naming
+use mir.Syntax.{w8}
+use denote.Array.{Array}
+use denote.Plain.{UInt}
 use denote.RattleType.{RattleType}
 use denote.Param.Send.{IsSend, IsSync, sendable}
 
@@ -46,6 +53,14 @@ module _ (V E F : RattleType) (k : Kept.Ghosts V.Denot E.Denot F.Denot) where
 
   pub note_row : IsSend V → IsSend (Note.the_row V E F k)
   note_row s = search (seat.the_send, crosses, sendable) depth 100 fits 20000
+
+module _ (M S D : RattleType) (m : Monitor.Ghosts M.Denot S.Denot D.Denot) where
+  -- a watch has a lock and the masks of its letters
+  pub watch_row : IsSend M → IsSend S → IsSync (Watch.the_row M S D m)
+  watch_row sm ss =
+      let lock = lock_row (Watched.the_row M S D m) Entry.the_row (Fixed.the_row D) (kept.ghosts M S D m kept.no_dict kept.no_dict kept.no_dict) (watched_row M S D m sm ss) in
+      let masks : IsSync (Array (UInt w8) 32) = search sendable in
+      record { shared = λ d b o κ x. (((lock.shared x.0.lock b _ κ, (masks.shared x.0.masks b _ κ, tt)), (λ q. tt)), tt) }
 
 module _ (T W : RattleType) (t : Posted.Ghosts T.Denot) (w : Posted.Ghosts W.Denot) where
   shelves_row : IsSend T → IsSend W → IsSend (Shelves.the_row T W t w)

@@ -7,4 +7,5 @@ pub mod NoteLemmas
 pub mod WorkLemmas
 pub mod RunLemmas
 pub mod CrossingLemmas
+pub mod ThreadLemmas
 mod OrderRows

@@ -108,6 +108,15 @@ impl<M: Monitor, J: Naming<M::Definition>> Notices<M, J> {
         }
     }
 
+    /// Gives up all names that the scripts post.
+    pub(crate) fn give_up_all(&self, rt: &impl Wait, cuts: &[Cut])
+        requires { HaveNamesBelow self.now (sync_of cuts.now) }
+    {
+        for cut in cuts {
+            self.give_up(rt, &cut.lines);
+        }
+    }
+
     /// Gives up the names that these lines post.
     pub(crate) fn give_up(&self, rt: &impl Wait, lines: &[SyncLine])
         requires { All (λ l. l.name < self.now) lines.now }

@@ -3,7 +3,7 @@ ghost use Rattle.std.specs.Prelude.{◌≡◌, ℕ, All, IfOk, Ok, Some, map, sl
 ghost use Rattle.jm_sync.specs.Checks.{sync_of};
 ghost use Rattle.jm_runner.specs.Notes.{IsNamed};
 ghost use Rattle.jm_runner.specs.Hands.{CanWork, HasWorked};
-ghost use denote.Param.Send.{IsSync};
+ghost use denote.Param.Send.{IsSend, IsSync};
 
 use crate::gate::Gate;
 use crate::notices::Notices;
@@ -15,16 +15,149 @@ use jm_script::Script;
 use jm_sync::{Board, Cut, GaveUp};
 use jm_turn::Lock;
 use std::alloc::Global;
+use std::marker::PhantomData;
+use std::snapshot::Snapshot;
 use std::sync::Wait;
-use std::thread::Threads;
+use std::thread::{Promise, Threads};
 use std::{mem, thread};
 
 /// One for each script at most.
 const THREADS: usize = 16;
 
-/// All workers do their scripts, each on a thread of its own; where no thread can be had the caller does the work. They
-/// get the seats of one caller each, and give them back.
+/// All workers do their scripts. They get the seats of one caller each, and give them back. Where some script asks for
+/// order each worker has a thread of its own, or the answer is NoMemory; elsewhere the caller does what no thread can be
+/// had for.
 pub(crate) fn work_all<
+    M: Monitor + Send,
+    J: Naming<M::Definition> + Send + Sync,
+    G: Gate,
+    R: Threads + Wait + Sync,
+>(
+    rt: &R,
+    alloc: Global,
+    watches: &[Watch<M>],
+    scripts: &[Script],
+    cuts: &[Cut],
+    notices: &Notices<M, J>,
+    hands: Vec<Vec<Seat<M>>>,
+    gate: &G,
+) -> Result<Vec<Vec<Seat<M>>>, NoMemory>
+where
+    M::State: Send,
+    requires hands { All (λ v. CanWork M.meaning watches.now scripts.now v.items) hands.items }
+    requires named { IsNamed J.scripts J.cuts J.watches scripts.now (sync_of cuts.now) watches.now notices.now }
+    ensures count { IfOk result (λ back. vec_len back ≡ vec_len hands) }
+    ensures worked { IfOk result (λ back. (k : ℕ) (before : _) (after : _) → slice_get hands.items k ≡ Some before
+        → slice_get back.items k ≡ Some after
+        → HasWorked watches.now scripts.now (sync_of cuts.now) before.items after.items) }
+{
+    if asks_for_order(cuts) {
+        work_in_threads(rt, alloc, watches, scripts, cuts, notices, hands, gate)
+    } else {
+        work_apart(rt, alloc, watches, scripts, cuts, notices, hands, gate)
+    }
+}
+
+/// Whether some script has a line that asks for order.
+fn asks_for_order(cuts: &[Cut]) -> bool {
+    for cut in cuts {
+        if !cut.lines.is_empty() {
+            return true;
+        }
+    }
+    false
+}
+
+/// What a worker's thread gives back: seats that have done the script of these, where there was memory for it.
+#[derive(Drop)]
+struct Works<M: Monitor, J: Naming<M::Definition>> {
+    before: Snapshot<Vec<Seat<M>>>,
+    of: PhantomData<J>,
+}
+
+impl<M: Monitor, J: Naming<M::Definition>> Promise<Result<Vec<Seat<M>>, NoMemory>> for Works<M, J> {
+    ghost use Rattle.std.specs.Prelude.{IfOk};
+    ghost use Rattle.jm_runner.specs.Hands.{HasWorked};
+
+    ghost kept_by = { λ p r. IfOk r (λ back. HasWorked J.watches J.scripts J.cuts p.before.value.items back.items) };
+}
+
+/// The same, each on a thread of its own. Where one can't be had all names are given up, so that no worker waits for one
+/// that doesn't begin, and the answer is NoMemory once all that were begun have ended.
+fn work_in_threads<
+    M: Monitor + Send,
+    J: Naming<M::Definition> + Send + Sync,
+    G: Gate,
+    R: Threads + Wait + Sync,
+>(
+    rt: &R,
+    alloc: Global,
+    watches: &[Watch<M>],
+    scripts: &[Script],
+    cuts: &[Cut],
+    notices: &Notices<M, J>,
+    hands: Vec<Vec<Seat<M>>>,
+    gate: &G,
+) -> Result<Vec<Vec<Seat<M>>>, NoMemory>
+where
+    M::State: Send,
+    requires hands { All (λ v. CanWork M.meaning watches.now scripts.now v.items) hands.items }
+    requires named { IsNamed J.scripts J.cuts J.watches scripts.now (sync_of cuts.now) watches.now notices.now }
+    ensures count { IfOk result (λ back. vec_len back ≡ vec_len hands) }
+    ensures worked { IfOk result (λ back. (k : ℕ) (before : _) (after : _) → slice_get hands.items k ≡ Some before
+        → slice_get back.items k ≡ Some after
+        → HasWorked watches.now scripts.now (sync_of cuts.now) before.items after.items) }
+{
+    thread::scope(
+        thread::scope_env(),
+        rt,
+        |scope| -> Result<Vec<Vec<Seat<M>>>, NoMemory>
+            requires sent { IsSend M.row × IsSend J.row × IsSend M.State.row }
+            requires shared { IsSync J.row × IsSync G.row × IsSync R.row }
+            requires hands { All (λ v. CanWork M.meaning watches.now scripts.now v.items) hands.items }
+            requires named { IsNamed
+                J.scripts J.cuts J.watches scripts.now (sync_of cuts.now) watches.now notices.now }
+            ensures count { IfOk result (λ back. vec_len back ≡ vec_len hands) }
+            ensures worked { IfOk result (λ back. (k : ℕ) (before : _) (after : _)
+                → slice_get hands.items k ≡ Some before → slice_get back.items k ≡ Some after
+                → HasWorked
+                watches.entry.now scripts.entry.now (sync_of cuts.entry.now) before.items after.items) }
+        {
+            let mut workers = Vec::with_capacity(alloc, hands.len())?;
+            for seats in hands {
+                let promise: Works<M, J> = Works {
+                    before: Snapshot::of(&seats),
+                    of: PhantomData,
+                };
+                let started = scope.spawn_with(
+                    promise,
+                    move || -> Result<Vec<Seat<M>>, NoMemory>
+                        requires can { CanWork M.meaning watches.now scripts.now seats.items }
+                        requires named { IsNamed
+                            J.scripts J.cuts J.watches scripts.now (sync_of cuts.now) watches.now notices.now }
+                        ensures { IfOk result (λ back. HasWorked watches.entry.now scripts.entry.now
+                            (sync_of cuts.entry.now) seats.items back.items) }
+                    { work_one(rt, alloc, watches, scripts, cuts, notices, seats, gate) },
+                );
+                let Ok(worker) = started else {
+                    notices.give_up_all(rt, cuts);
+                    return Err(NoMemory);
+                };
+                let Ok(()) = workers.push(worker) else {
+                    notices.give_up_all(rt, cuts);
+                    return Err(NoMemory);
+                };
+            }
+            let Ok(back) = thread::join_promised(rt, workers) else {
+                return Err(NoMemory);
+            };
+            all_ok(alloc, back)
+        },
+    )
+}
+
+/// The same, each on a thread of its own where one can be had; elsewhere the caller does the work.
+fn work_apart<
     M: Monitor + Send,
     J: Naming<M::Definition> + Send + Sync,
     G: Gate,
