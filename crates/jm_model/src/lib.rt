@@ -16,6 +16,6 @@ mod steps;
 pub use binding::Binding;
 pub use fault::{Counted, ScriptError, ScriptFault, SpecError, SpecFault};
 pub use firings::{Firing, Firings};
-pub use monitor::Monitor;
+pub use monitor::{AT_REST, Monitor, NO_NUMBER};
 pub use step::{Entry, Letter, NoMemory, Outcome, Step};
 pub use steps::Steps;

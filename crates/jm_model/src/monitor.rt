@@ -1,7 +1,14 @@
-ghost use Rattle.std.specs.Prelude.{ℕ, ◌≡◌, ◌∷◌, ◌↔◌, ◌^◌, ◌≤◌, List, [], ◌++◌, ◌<◌, IfOk, IsBitSet, IsTrue};
+ghost use Rattle.std.specs.Prelude.{ℕ, ◌≡◌, ◌≢◌, ◌∷◌, ◌↔◌, ◌^◌, ◌≤◌, List, [], ◌++◌, ◌<◌, Some, IfOk, IfSome, IsBitSet, IsTrue, slice_get};
 ghost use Rattle.jm_model.specs.Meanings.{Meaning, IsHit, IsCutWord};
+ghost use Rattle.jm_model.specs.Numbers.{no_number, at_rest, IsPlainMove, IsAtRest, AreEnds};
 
 use crate::step::{Letter, NoMemory};
+
+/// In place of the number of the state that a letter leads to: nothing is said.
+pub const NO_NUMBER: u16 = 65535;
+
+/// In place of the number of the state that a letter leads to: the letter leaves the state as it is.
+pub const AT_REST: u16 = 65534;
 
 /// A specification's properties, run a letter at a time.
 ///
@@ -11,6 +18,8 @@ use crate::step::{Letter, NoMemory};
 ///
 /// A state that no call of the monitor answered may be passed to it too. Where such a state stands for no word, nothing
 /// is said of what is answered.
+///
+/// Some states have a number. What is asked at an event of many of these can be looked up by their numbers.
 pub trait Monitor: Drop {
     type State: Drop;
 
@@ -22,6 +31,8 @@ pub trait Monitor: Drop {
     ghost meaning: { Self.Definition → Meaning };
 
     ghost StandsFor: { Self → Self.State → List ℕ → Type 0 };
+
+    ghost HasNumber: { Self → Self.State → ℕ → Type 0 };
 
     /// How many letters there are, at most 32. They are numbered from 0.
     fn letters(&self) -> u8
@@ -85,5 +96,42 @@ pub trait Monitor: Drop {
     {
         let _state = state;
         0
+    }
+
+    /// The number of a state, where it has one.
+    fn number(&self, state: &Self::State) -> Option<u16>
+        ensures { IfSome result (λ k. HasNumber self.now state.now k) }
+    {
+        let _state = state;
+        None
+    }
+
+    /// Makes a state that has a number one with another number.
+    fn renumber(&self, state: &mut Self::State, number: u16)
+        ensures { (k : ℕ) → HasNumber self.now state.old k → HasNumber self.now state.new number };
+
+    /// By the number of a state that of the state to which the letter leads, where that hits no handler, and an instance
+    /// of it isn't cut while nothing of it is dead. `AT_REST` stands where this is the state itself, which the letter
+    /// leaves as it is. `NO_NUMBER` says nothing.
+    fn plain(&self, letter: Letter) -> &[u16]
+        requires { letter.0 < (meaning (definition self.now)).letters }
+        ensures moves { (k n : ℕ) → slice_get result.now k ≡ Some n → n ≢ no_number → n ≢ at_rest
+            → (before after : Self.State) → HasNumber self.now before k → HasNumber self.now after n
+            → IsPlainMove Self.State (meaning (definition self.now)) (StandsFor self.now) letter.0 before after }
+        ensures rests { (k : ℕ) → slice_get result.now k ≡ Some at_rest → (state : Self.State)
+            → HasNumber self.now state k
+            → IsAtRest Self.State (meaning (definition self.now)) (StandsFor self.now) letter.0 state }
+    {
+        let _letter = letter;
+        &[]
+    }
+
+    /// By the number of a state letters that end an instance, as `ending` answers them.
+    fn endings(&self) -> &[u32]
+        ensures { (k mask : ℕ) → slice_get result.now k ≡ Some mask → (state : Self.State)
+            → HasNumber self.now state k
+            → AreEnds Self.State (meaning (definition self.now)) (StandsFor self.now) mask state }
+    {
+        &[]
     }
 }
