@@ -25,3 +25,5 @@ mod AdvanceLemmas
 mod DirectLemmas
 pub mod ListedLemmas
 pub mod SettledLemmas
+pub mod WalkLemmas
+pub mod ShiftLemmas

@@ -6,3 +6,4 @@ pub mod Reports
 pub mod Laws
 pub mod Plans
 pub mod Listed
+pub mod Walks

@@ -17,6 +17,7 @@ mod moves;
 mod report;
 mod store;
 mod waking;
+mod walk;
 
 pub use laws::death_keeps_store;
 pub use moves::{Move, Plan};

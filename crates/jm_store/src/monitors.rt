@@ -1,11 +1,13 @@
 //! The container of the monitors.
-ghost use Rattle.std.specs.Prelude.{◌≡◌, ℕ, ◌+◌, ◌↔◌, [], ◌∷◌, ◌<◌, true, false, List, map, length, slice_set, IfOk, OnOk, OnErr, MatchOption, IsTrue, Some, None};
+ghost use Rattle.std.specs.Prelude.{◌≡◌, ◌≢◌, ℕ, ◌+◌, ◌↔◌, [], ◌∷◌, ◌<◌, true, false, List, AllPairs, map, length, slice_set, IfOk, OnOk, OnErr, MatchOption, IsTrue, Some, None};
 ghost use Rattle.jm_monitors.specs.declared.stored.Stored.{Stored as Kept};
 ghost use Rattle.jm_monitors.specs.Steps.{IsCutState, IsAliveState};
 ghost use Rattle.jm_marks.specs.Marks.{dead_mask_of};
 ghost use Rattle.jm_store.specs.Slots.{monitors_of, monitor_at, stored_in, slot_at, count_in, IsReserved};
+ghost use Rattle.jm_store.specs.Walks.{AreShifted, AreAlike};
 ghost use Rattle.jm_store.specs.declared.monitors.Slot.TheVariants.{Free, Planned, Taken};
 
+use crate::walk::{Shift, shift_all};
 use jm_marks::dead_mask;
 use jm_model::{Binding, Monitor, NoMemory, Steps};
 use jm_monitors::Stored;
@@ -187,6 +189,18 @@ impl<S: Drop> Monitors<S> {
         } else {
             None
         }
+    }
+
+    /// Gives each shift's monitor the state with its number.
+    #[inline(always)]
+    pub(crate) fn shift_all<M: Monitor<State = S>>(&mut self, rules: &M, shifts: &[Shift])
+        requires { AllPairs (λ x y. x.slot ≢ y.slot) shifts.now }
+        ensures moved { AreShifted (M.HasNumber rules.now) shifts.now (monitors_of self.old.slots)
+            (monitors_of self.new.slots) }
+        ensures alike { AreAlike self.old.slots self.new.slots }
+        ensures free { self.new.free ≡ self.old.free }
+    {
+        shift_all(rules, self.slots.as_mut_slice(), shifts);
     }
 
     /// How many monitors there are.

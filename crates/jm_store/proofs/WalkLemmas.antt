@@ -1,0 +1,154 @@
+-- Monitors of a list that are read by their numbers, and get other numbers.
+use Rattle.std.proofs.Common.{◌≡◌, ◌≢◌, ℕ, zero, suc, ◌+◌, ◌*◌, ◌/◌, ◌%◌, ◌^◌, ◌<◌, ◌≤◌, ◌⊎◌, inl, inr, Bool, true, false, cond, List, [], ◌∷◌, ◌++◌, length, take, map, get_or, refl, sym, ap, ◌∙◌, subst, arith}
+use Rattle.std.specs.Prelude.{Option, Some, None, Contains, AllPairs, slice_get, slice_index, slice_set, ◌==◌}
+use Rattle.std.specs.Int.{w32, bit_at, trailing_zeros}
+use Rattle.std.proofs.lemmas.Bool.{cases_eq, cases_lt, false≢true, eqb-true}
+use Rattle.std.proofs.lemmas.List.{get_or_default, get_or-take, get_or_past, length-take-le, take_more}
+use Rattle.std.proofs.lemmas.List.Elements.{Contains-push_cases, Contains-append_left, Contains-push}
+use Rattle.std.proofs.lemmas.Option.{same_Some, none-some, get_or_from_slice_get}
+use Rattle.std.proofs.lemmas.Nat.Bits.{bit_at_above}
+use Rattle.jm_model.specs.Bindings.{is_below, object_at, mask_of, mask_where}
+use Rattle.jm_model.specs.declared.binding.Binding.{Binding}
+use Rattle.jm_semantics.proofs.BindingLemmas.{below-object}
+use Rattle.jm_index.specs.Index.{AreLive, flag_of}
+use Rattle.jm_index.proofs.ReadLemmas.{Contains-none}
+use Rattle.jm_awake.proofs.CardLemmas.{first_left}
+use Rattle.jm_awake.proofs.PathLemmas.{bound_one, unbound_zero}
+use Rattle.jm_marks.specs.Marks.{dead_mask_of, is_dead_object}
+use Rattle.jm_monitors.specs.declared.stored.Stored.{Stored}
+use Rattle.jm_store.specs.declared.walk.Shift.{Shift}
+use Rattle.jm_store.specs.declared.monitors.Slot.{Slot}
+use Rattle.jm_store.specs.declared.monitors.Slot.TheVariants.{Free, Planned, Taken}
+use Rattle.jm_store.specs.Slots.{count_in, monitor_in, monitor_at, monitors_of, slot_at, stored_in}
+use Rattle.jm_store.specs.Walks.{IsShifted, AreShifted, IsAlike, AreAlike}
+use Rattle.jm_store.proofs.SlotLemmas.{monitor_at-slot, slot_at-set_same, slot_at-set_other, used_within, monitor_used}
+
+-- ---- what is dead of an instance
+-- where no object that is bound is of a kind, the set of those that are is empty
+none_where : (kind : ℕ → Bool) (t : Binding) → ((p o : ℕ) → object_at t p ≡ Some o → kind o ≡ false) → mask_where kind t ≡ 0
+none_where kind [] none = refl
+none_where kind (None ∷ t) none = let rest = none_where kind t (λ p. none (suc p)) in omega (arith, rest)
+none_where kind (Some o ∷ t) none = let rest = none_where kind t (λ p. none (suc p)) in rw (none zero o refl) (omega (arith, rest))
+
+-- An event's objects are alive. Where those are that an instance above it has besides, nothing of the instance is dead.
+pub whole_above : (dead : List Bool) (b t : Binding) (others : ℕ) → is_below b t ≡ true → AreLive dead b
+    → ((p : ℕ) → bit_at (mask_of t) p ≡ 1 → (bit_at (mask_of b) p ≡ 1 → ⊥) → bit_at others p ≡ 1)
+    → ((p o : ℕ) → bit_at others p ≡ 1 → object_at t p ≡ Some o → is_dead_object dead o ≡ false) → dead_mask_of dead t ≡ 0
+whole_above dead b t others below live left alive = none_where (is_dead_object dead) t (λ p o at. by p o at (object_at b p) refl)
+  where
+    by : (p o : ℕ) → object_at t p ≡ Some o → (x : Option ℕ) → object_at b p ≡ x → is_dead_object dead o ≡ false
+    by p o at None none = alive p o (left p (bound_one t p o at) (unbound_zero b p none)) at
+    by p o at (Some q) some = subst (λ (n : ℕ). flag_of dead n ≡ false) (same_Some q o (sym (below-object b t p q below some) ∙ at)) (live q (p, some))
+
+-- the first parameter of a set is one of the eight
+pub first_small : (left : ℕ) → 0 < left → left < 2 ^ 8 → trailing_zeros w32 left < 8
+first_small left some small = elim (cases_lt (trailing_zeros w32 left) 8) [
+  | inl low ↦ low
+  | inr high ↦
+      let fits : left < 2 ^ 32 = omega (arith, small) in
+      let none = bit_at_above left 8 (trailing_zeros w32 left) small high in
+      let one = (first_left left some fits).1 in
+      absurd (omega (arith, none, one))
+]
+
+-- an object's flag, by the words of all flags
+pub dead_by_word : (flags : List Bool) (words : List ℕ) (o : ℕ)
+    → ((k : ℕ) → k < length flags → slice_get flags k ≡ Some (bit_at (slice_index words (k / 64)) (k % 64) == 1))
+    → (bit_at (slice_index words (o / 64)) (o % 64) == 1) ≡ false → is_dead_object flags o ≡ false
+dead_by_word flags words o each off = elim (cases_lt o (length flags)) [
+  | inl low ↦ get_or_from_slice_get flags o false false (each o low ∙ ap (λ (v : Bool). Some v) off)
+  | inr high ↦ get_or_past flags o false high
+]
+
+-- ---- slots that have as much as they had
+module _ {S : Type 0} where
+  alike_slot : (x : Slot S) → IsAlike x x
+  alike_slot (Free next) = refl
+  alike_slot Planned = refl
+  alike_slot (Taken s) = (s, refl, refl)
+
+  pub alike_same : (slots : List (Slot S)) → AreAlike slots slots
+  alike_same slots = record { size = refl; each = λ k. alike_slot (slot_at slots k) }
+
+  alike_then : (x y z : Slot S) → IsAlike x y → IsAlike y z → IsAlike x z
+  alike_then (Free next) y z first second = subst (λ (w : Slot S). IsAlike w z) first second
+  alike_then Planned y z first second = subst (λ (w : Slot S). IsAlike w z) first second
+  alike_then (Taken s) y z (t, is, same) second =
+      let (u, now, next) = subst (λ (w : Slot S). IsAlike w z) is second in (u, now, next ∙ same)
+
+  pub alike_next : (xs ys zs : List (Slot S)) → AreAlike xs ys → AreAlike ys zs → AreAlike xs zs
+  alike_next xs ys zs first second = record {
+    size = second.size ∙ first.size;
+    each = λ k. alike_then (slot_at xs k) (slot_at ys k) (slot_at zs k) (first.each k) (second.each k);
+  }
+
+  -- a monitor that gets another state
+  pub alike_set : (slots : List (Slot S)) (k : ℕ) (s t : Stored S) → k < length slots → slot_at slots k ≡ Taken s → t.instance ≡ s.instance → length (slice_set slots k (Taken t)) ≡ length slots
+      → AreAlike slots (slice_set slots k (Taken t))
+  alike_set slots k s t low at same size = record {
+    size = size;
+    each = λ j. elim (cases_eq j k) [
+      | inl is ↦ subst (λ (n : ℕ). IsAlike (slot_at slots n) (slot_at (slice_set slots k (Taken t)) n)) (sym is)
+          (subst (λ (x : Slot S). IsAlike x (slot_at (slice_set slots k (Taken t)) k)) (sym at) (t, slot_at-set_same slots k (Taken t) low, same))
+      | inr other ↦ subst (IsAlike (slot_at slots j)) (sym (slot_at-set_other slots k j (Taken t) other)) (alike_slot (slot_at slots j))
+    ];
+  }
+
+  count_one : (x y : Slot S) → IsAlike x y → (xs ys : List (Slot S)) → length (stored_in (monitors_of xs)) ≡ length (stored_in (monitors_of ys))
+      → length (stored_in (monitors_of (x ∷ xs))) ≡ length (stored_in (monitors_of (y ∷ ys)))
+  count_one (Free next) y is xs ys same = rw is same
+  count_one Planned y is xs ys same = rw is same
+  count_one (Taken s) y (t, is, instance) xs ys same = rw is (omega (arith, same))
+
+  -- there are as many monitors
+  count_alike : (xs ys : List (Slot S)) → length ys ≡ length xs → ((k : ℕ) → IsAlike (slot_at xs k) (slot_at ys k)) → length (stored_in (monitors_of xs)) ≡ length (stored_in (monitors_of ys))
+  count_alike [] [] size each = refl
+  count_alike [] (y ∷ ys) size each = absurd (omega (arith, size))
+  count_alike (x ∷ xs) [] size each = absurd (omega (arith, size))
+  count_alike (x ∷ xs) (y ∷ ys) size each = count_one x y (each zero) xs ys (count_alike xs ys (omega (arith, size)) (λ k. each (suc k)))
+
+  pub alike_counted : (xs ys : List (Slot S)) → AreAlike xs ys → length (stored_in (monitors_of xs)) ≡ length (stored_in (monitors_of ys))
+  alike_counted xs ys alike = count_alike xs ys alike.size alike.each
+
+-- ---- a monitor in a slot that gets another
+pub renumbered : {S : Type 0} (slots : List (Slot S)) (k : ℕ) (old s next : Stored S) → slot_at slots k ≡ Taken old → monitor_at (monitors_of slots) k ≡ Some s
+    → (old ≡ s) × (monitor_at (monitors_of (slice_set slots k (Taken next))) k ≡ Some next)
+renumbered {S} slots k old s next taken at =
+    let low = used_within slots k (monitor_used slots k s at) in
+    let here : Some old ≡ Some s = sym (monitor_at-slot slots k ∙ ap monitor_in taken) ∙ at in
+    (same_Some old s here, monitor_at-slot (slice_set slots k (Taken next)) k ∙ ap monitor_in (slot_at-set_same slots k (Taken next) low))
+
+pub renumbered_others : {S : Type 0} (slots : List (Slot S)) (k j : ℕ) (x : Slot S) → (j ≡ k → ⊥) → monitor_at (monitors_of (slice_set slots k x)) j ≡ monitor_at (monitors_of slots) j
+renumbered_others slots k j x other = monitor_at-slot (slice_set slots k x) j ∙ ap monitor_in (slot_at-set_other slots k j x other) ∙ sym (monitor_at-slot slots j)
+
+-- ---- shifts that are carried out
+module _ {S : Type 0} (HasNumber : S → ℕ → Type 0) where
+  pub shifted_none : (monitors : List (Option (Stored S))) → AreShifted HasNumber [] monitors monitors
+  shifted_none monitors = record { each = λ shift has. absurd (Contains-none shift has); others = λ k none. refl; size = refl }
+
+  pub shifted_more : (shifts : List Shift) (i : ℕ) (x : Shift) (first before after : List (Option (Stored S))) → i < length shifts → x ≡ get_or shifts i x → AllPairs (λ a b. a.slot ≢ b.slot) shifts
+      → AreShifted HasNumber (take i shifts) first before → IsShifted HasNumber (monitor_at before x.slot) (monitor_at after x.slot) x.number → ((k : ℕ) → (k ≡ x.slot → ⊥) → monitor_at after k ≡ monitor_at before k)
+      → length after ≡ length before → AreShifted HasNumber (take (i + 1) shifts) first after
+  shifted_more shifts i x first before after low at apart done one others size = record {
+    each = λ shift has. elim (Contains-push_cases (take i shifts) x shift (subst (λ (l : List Shift). Contains l shift) more has)) [
+      | inl was ↦ λ s k here number.
+          let (t, there, instance, is) = done.each shift was s k here number in
+          (t, others shift.slot (λ same. earlier shift was same) ∙ there, instance, is)
+      | inr same ↦ subst (λ (y : Shift). IsShifted HasNumber (monitor_at first y.slot) (monitor_at after y.slot) y.number) same
+          (λ s k here number. one s k (done.others x.slot (λ shift has is. earlier shift has is) ∙ here) number)
+    ];
+    others = λ k none.
+        others k (λ same. none x (subst (λ (l : List Shift). Contains l x) (sym more) (Contains-push (take i shifts) x)) (sym same))
+        ∙ done.others k (λ shift has. none shift (subst (λ (l : List Shift). Contains l shift) (sym more) (Contains-append_left (take i shifts) (x ∷ []) shift has)));
+    size = size ∙ done.size;
+  }
+    where
+      more : take (i + 1) shifts ≡ take i shifts ++ x ∷ []
+      more = take_more shifts i x low ∙ ap (λ (y : Shift). take i shifts ++ y ∷ []) (sym at)
+
+      earlier : (shift : Shift) → Contains (take i shifts) shift → shift.slot ≡ x.slot → ⊥
+      earlier shift (j, within, is) same =
+          let small : j < i = (let size = length-take-le i shifts (omega (arith, low)) in omega (arith, within, size)) in
+          let mine : get_or shifts j shift ≡ shift = sym (get_or-take i shifts j shift small) ∙ is in
+          let other : get_or shifts i shift ≡ x = get_or_default shifts i shift x low ∙ sym at in
+          apart j i shift small low (ap (λ (y : Shift). y.slot) mine ∙ same ∙ sym (ap (λ (y : Shift). y.slot) other))

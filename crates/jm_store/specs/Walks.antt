@@ -1,0 +1,79 @@
+-- How the monitors of a list are read, where their numbers tell all of them what the event makes of them, and how those
+-- that it changes get other numbers.
+use Rattle.std.specs.Prelude.{ℕ, ◌≡◌, ◌≢◌, Bool, List, Option, Some, None, Contains, length, slice_get}
+use Rattle.std.specs.Int.{bit_at}
+use Rattle.jm_model.specs.Words.{Mask, Word}
+use Rattle.jm_model.specs.Bindings.{is_below}
+use Rattle.jm_model.specs.Meanings.{Meaning}
+use Rattle.jm_model.specs.Numbers.{no_number, at_rest, IsPlainMove, IsAtRest as RestsBy, AreEnds}
+use Rattle.jm_model.specs.declared.binding.Binding.{Binding}
+use Rattle.jm_awake.specs.declared.card.Card.{Card}
+use Rattle.jm_awake.specs.Awake.{Lists, card_at, IsOn}
+use Rattle.jm_marks.specs.Marks.{dead_mask_of}
+use Rattle.jm_monitors.specs.declared.stored.Stored.{Stored}
+use Rattle.jm_monitors.specs.Steps.{IsOverAfter}
+use Rattle.jm_store.specs.declared.walk.Shift.{Shift}
+use Rattle.jm_store.specs.declared.monitors.Slot.{Slot}
+use Rattle.jm_store.specs.declared.monitors.Slot.TheVariants.{Free, Planned, Taken}
+use Rattle.jm_store.specs.Slots.{slot_at, monitor_at}
+use Rattle.jm_store.specs.Moves.{IsAtRest}
+
+module _ (m : Meaning) {S : Type 0} (Stands : S → Word → Type 0) (HasNumber : S → ℕ → Type 0) (letter : ℕ) where
+  -- The rows tell by the number of a state what the letter makes of it, and which letters end an instance of it.
+  pub record AreRows (plain : List ℕ) (endings : List Mask) : Type 0 where
+    pub moves : (k n : ℕ) → slice_get plain k ≡ Some n → n ≢ no_number → n ≢ at_rest → (before after : S)
+        → HasNumber before k → HasNumber after n → IsPlainMove S m Stands letter before after
+    pub rests : (k : ℕ) → slice_get plain k ≡ Some at_rest → (state : S) → HasNumber state k
+        → RestsBy S m Stands letter state
+    pub ends : (k mask : ℕ) → slice_get endings k ≡ Some mask → (state : S) → HasNumber state k
+        → AreEnds S m Stands mask state
+
+  module _ (dead : List Bool) (b : Binding) (ends : Mask) where
+    -- The event moves the monitor of a slot with this card, above b, whose state has a number, to each state with the
+    -- other number, and that is all: nothing of the monitor is dead, its slot is in the lists of all letters that have
+    -- some, and the letters of `ends` end each such state.
+    pub record IsShifting (letters : Mask) (card : Card) (base : Stored S) (number : ℕ) : Type 0 where
+      pub before : ℕ
+      pub has : HasNumber base.state before
+      pub below : is_below b base.instance ≡ true
+      pub whole : dead_mask_of dead base.instance ≡ 0
+      pub moves : (after : S) → HasNumber after number → IsPlainMove S m Stands letter base.state after
+      pub on : (e : ℕ) → bit_at letters e ≡ 1 → IsOn card e
+      pub over : (after : S) → HasNumber after number → (e : ℕ) → bit_at ends e ≡ 1
+          → IsOverAfter m Stands e after 0
+
+    -- what the event makes of the monitor of a slot: another number, or nothing, since the monitor rests
+    abbrev pub IsShiftIn : Lists → ℕ → Option (Stored S) → Option Shift → Type 0
+    IsShiftIn lists k monitor None = (s : Stored S) × (monitor ≡ Some s) × IsAtRest m Stands letter b dead s
+    IsShiftIn lists k monitor (Some shift) =
+        (s : Stored S) × (monitor ≡ Some s) × (shift.slot ≡ k)
+        × IsShifting lists.letters (card_at lists k) s shift.number
+
+    abbrev pub IsShiftAt : Lists → List (Option (Stored S)) → ℕ → Option Shift → Type 0
+    IsShiftAt lists monitors k shift = IsShiftIn lists k (monitor_at monitors k) shift
+
+-- a monitor whose state had a number got one that has this number
+abbrev pub IsShifted : {S : Type 0} → (S → ℕ → Type 0) → Option (Stored S) → Option (Stored S) → ℕ → Type 0
+IsShifted {S} HasNumber before after number =
+    (s : Stored S) (k : ℕ) → before ≡ Some s → HasNumber s.state k
+    → (t : Stored S) × (after ≡ Some t) × (t.instance ≡ s.instance) × HasNumber t.state number
+
+-- each of the shifts was carried out, and no other monitor changed
+pub record AreShifted {S : Type 0} (HasNumber : S → ℕ → Type 0) (shifts : List Shift)
+    (before after : List (Option (Stored S))) : Type 0 where
+  pub each : (shift : Shift) → Contains shifts shift
+      → IsShifted HasNumber (monitor_at before shift.slot) (monitor_at after shift.slot) shift.number
+  pub others : (k : ℕ) → ((shift : Shift) → Contains shifts shift → shift.slot ≡ k → ⊥)
+      → monitor_at after k ≡ monitor_at before k
+  pub size : length after ≡ length before
+
+-- a slot has as much as it had: a monitor of the same instance, or none
+abbrev pub IsAlike : {S : Type 0} → Slot S → Slot S → Type 0
+IsAlike {S} (Taken s) new = (t : Stored S) × (new ≡ Taken t) × (t.instance ≡ s.instance)
+IsAlike {S} Planned new = new ≡ Planned
+IsAlike {S} (Free next) new = new ≡ Free next
+
+-- and so have all
+pub record AreAlike {S : Type 0} (old new : List (Slot S)) : Type 0 where
+  pub size : length new ≡ length old
+  pub each : (k : ℕ) → IsAlike (slot_at old k) (slot_at new k)
