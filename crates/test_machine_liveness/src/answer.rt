@@ -1,5 +1,6 @@
 use crate::cuts::{cuts, rests};
 use crate::families::{families, states};
+use crate::numbers::numbers;
 use jm_machine::Rules;
 use jm_model::SpecError;
 use std::alloc::{AllocError, Global};
@@ -23,6 +24,7 @@ fn rules_text(alloc: Global, case: &Case, rules: &Rules) -> Result<String, Alloc
         "cut" => cuts(alloc, &mut out, rules, &case.first, &case.second)?,
         "family" => families(alloc, &mut out, rules)?,
         "states" => states(alloc, &mut out, rules)?,
+        "numbers" => numbers(alloc, &mut out, rules, &case.first)?,
         "rests" => rests(alloc, &mut out, rules, &case.first)?,
         _ => out.push_str("no such verb")?,
     }

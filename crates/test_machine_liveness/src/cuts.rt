@@ -27,7 +27,7 @@ pub(crate) fn cuts(
 }
 
 /// The configuration with the letter of a digit at its end.
-fn later(
+pub(crate) fn later(
     rules: &Rules,
     configuration: &Configuration,
     digit: u8,
@@ -87,7 +87,7 @@ fn add_rests(
 }
 
 /// The letters of a mask, as digits, or a dash where there is none.
-fn add_letters(
+pub(crate) fn add_letters(
     alloc: Global,
     out: &mut String,
     rules: &Rules,

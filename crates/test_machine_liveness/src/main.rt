@@ -1,10 +1,11 @@
 //! The cases of what may still follow: which dead parameters cut an instance after each letter of a word, the coenable
-//! families, and the letters at which an instance rests or ends.
+//! families, the letters at which an instance rests or ends, and what is told by the numbers of states.
 #![tactic(auto)]
 
 mod answer;
 mod cuts;
 mod families;
+mod numbers;
 
 use answer::answer;
 use std::io;
