@@ -1,10 +1,10 @@
-use Rattle.std.proofs.Common.{◌≡◌, ℕ, ◌*◌, ◌/◌, ◌%◌, ◌^◌, ◌<◌, ◌≤◌, Bool, true, false, List, length, get_or, refl, ◌≢◌, sym, ◌∙◌, ap, arith, eqb, Some, replicate, ◌⊎◌, ⊎_elim, inl, inr}
+use Rattle.std.proofs.Common.{◌≡◌, ℕ, zero, suc, ◌*◌, ◌/◌, ◌%◌, ◌^◌, ◌<◌, ◌≤◌, Bool, true, false, List, length, get_or, refl, ◌≢◌, sym, ◌∙◌, ap, subst, arith, eqb, Some, replicate, ◌⊎◌, ⊎_elim, inl, inr}
 use Rattle.std.specs.Prelude.{slice_get, bit_or, not}
 use Rattle.std.specs.Int.{w64, bit_at}
 use Rattle.std.proofs.Math.ListN.{set, length-set}
 use Rattle.std.proofs.lemmas.List.{same_lists, length-replicate, get_or-replicate, get_or-set_same, get_or-set_other}
-use Rattle.std.proofs.lemmas.Bool.{cases_eq, cases_lt, eq-eqb}
-use Rattle.std.proofs.lemmas.Option.{slice_get-get_or}
+use Rattle.std.proofs.lemmas.Bool.{cases_eq, cases_lt, eq-eqb, false≢true}
+use Rattle.std.proofs.lemmas.Option.{slice_get-get_or, same_Some}
 use Rattle.std.proofs.lemmas.List.FromFn.{length-map-range_with_len, get_or-map-range_with_len}
 use Rattle.std.proofs.lemmas.Nat.Bits.{bit_at-zero, bit_at_set_same, bit_at_set_other}
 use Rattle.std.proofs.lemmas.Grind.{get_or_default_zero}
@@ -114,3 +114,12 @@ flags_of-kill n words k v word e h room is =
 pub not-not : (b : Bool) → not (not b) ≡ b
 not-not true = refl
 not-not false = refl
+
+-- of live objects none is dead
+none_in : (n o : ℕ) → slice_get (replicate n false) o ≡ Some true → ⊥
+none_in zero o is = absurd cc
+none_in (suc n) zero is = false≢true (same_Some false true is)
+none_in (suc n) (suc o) is = none_in n o is
+
+pub none_dead : (n : ℕ) (words : List ℕ) → flags_of n words ≡ replicate n false → (o : ℕ) → slice_get (flags_of n words) o ≡ Some true → ⊥
+none_dead n words all o is = none_in n o (subst (λ (l : List Bool). slice_get l o ≡ Some true) all is)

@@ -9,17 +9,19 @@ use std::marker::Model;
 pub struct Objects {
     words: Vec<u64>,
     len: u32,
+    /// Whether some object is dead.
+    any_dead: bool,
 }
 
 impl Model for Objects {
     ghost use Rattle.std.specs.Prelude.{List, Bool};
-    ghost use Rattle.jm_objects.specs.Flags.{flags_of, IsRoom};
+    ghost use Rattle.jm_objects.specs.Flags.{flags_of, IsKept};
 
     ghost Value = { List Bool };
 
     ghost view = { λ o. flags_of o.len o.words.items };
 
-    ghost invariant = { λ o. IsRoom o.len o.words.items };
+    ghost invariant = { λ o. IsKept o.len o.words.items o.any_dead };
 }
 
 impl Objects {
@@ -28,7 +30,11 @@ impl Objects {
         ensures { IfOk result (λ objects. objects ≡ replicate n false) }
     {
         let words = vec![in alloc; 0u64; (n as usize).div_ceil(64)]?;
-        Ok(Objects { words, len: n })
+        Ok(Objects {
+            words,
+            len: n,
+            any_dead: false,
+        })
     }
 
     /// How many objects there are, dead ones among them.
@@ -36,6 +42,13 @@ impl Objects {
         ensures { result ≡ length self.now }
     {
         self.len
+    }
+
+    /// Whether some object is dead.
+    pub fn any_dead(&self) -> bool
+        ensures { result ≡ false → (o : ℕ) → slice_get self.now o ≡ Some true → ⊥ }
+    {
+        self.any_dead
     }
 
     /// Whether an object is dead.
@@ -73,6 +86,7 @@ impl Objects {
         let index = object as usize / 64;
         let word = self.words[index];
         self.words[index] = word | 1 << (object % 64);
+        self.any_dead = true;
         (word >> (object % 64)) % 2 == 0
     }
 }
