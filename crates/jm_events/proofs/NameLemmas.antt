@@ -1,15 +1,13 @@
-use Rattle.std.proofs.Common.{ℕ, ◌≡◌, ◌≢◌, ◌==◌, ◌<◌, ◌≤◌, ◌+◌, ◌↔◌, ◌⊎◌, inl, inr, suc, zero, Bool, true, false, cond, not, ltb, ◌||◌, List, [], ◌∷◌, ◌++◌, Option, Some, None, IsNone, map, length, take, slice_get, position, Contains, String, Result, Ok, Err, OnOk, IfOk, is_some, option_map, refl, sym, ap, subst, ◌∙◌, arith}
-use Rattle.std.specs.String.{string_bytes, string_eq}
-use Rattle.indexmap.specs.IndexSet.{insert_key}
+use Rattle.std.proofs.Common.{ℕ, ◌≡◌, ◌≢◌, ◌==◌, ◌<◌, ◌≤◌, ◌+◌, ◌↔◌, ◌⊎◌, inl, inr, suc, zero, Bool, true, false, cond, not, ltb, ◌||◌, List, [], ◌∷◌, ◌++◌, Option, Some, None, IsNone, length, take, slice_get, position, Contains, Result, Ok, Err, OnOk, IfOk, is_some, option_map, refl, sym, ap, subst, ◌∙◌, arith}
 use Rattle.std.specs.List.{IsDistinct, AllByRecursion, list_any, position_or_len}
 use Rattle.std.specs.Str.{bytes_eq}
 use Rattle.std.specs.Cmp.Lexicographic.{nat_list_eq_equiv}
 use Rattle.std.proofs.lemmas.Bool.{false≢true, cases_lt}
-use Rattle.std.proofs.lemmas.Map.Keys.{IsDistinct-head, IsDistinct-tail, IsDistinct-cons, any_passes_from_place}
+use Rattle.std.proofs.lemmas.Map.Keys.{IsDistinct-head, IsDistinct-tail, any_passes_from_place}
 use Rattle.std.proofs.lemmas.Bool.Decides.{nat_tests, eqb_tells}
 use Rattle.std.proofs.lemmas.List.Quantifiers.{position-Some}
 use Rattle.std.proofs.lemmas.Option.{none-some, same_Some, slice_get_within, get_or_from_slice_get, slice_get-get_or}
-use Rattle.std.proofs.lemmas.List.{map-append, take_more}
+use Rattle.std.proofs.lemmas.List.{take_more}
 use Rattle.std.proofs.lemmas.Slice.Eq.{bytes_eq-Decides}
 use Rattle.jm_events.specs.Names.{number_of, with_name}
 
@@ -30,30 +28,6 @@ position-cons p x xs =
     elim (p x) as (λ b. cond {A = Option ℕ} (ltb (cond (not b) (1 + i) 0) (suc (length xs))) (Some (cond (not b) (1 + i) 0)) None ≡ cond b (Some 0) (option_map suc (position p xs)))
     [ true ↦ first_place (length xs) | false ↦ later_place i (length xs) ]
 
--- ---- names of texts
-
--- the first place whose image passes
-pub position-map : {X Y : Type 0} (f : X → Y) (p : Y → Bool) (xs : List X) → position (λ x. p (f x)) xs ≡ position p (map f xs)
-position-map f p [] = refl
-position-map f p (x ∷ xs) = rw (position-cons p (f x) (map f xs), position-cons (λ y. p (f y)) x xs, position-map f p xs) refl
-
--- whether an image passes
-pub list_any-map : {X Y : Type 0} (f : X → Y) (p : Y → Bool) (xs : List X) → list_any (λ x. p (f x)) xs ≡ list_any p (map f xs)
-list_any-map f p [] = refl
-list_any-map f p (x ∷ xs) = ap (λ b. p (f x) || b) (list_any-map f p xs)
-
--- what holds of each image
-AllByRecursion-map : {X Y : Type 0} (f : X → Y) (P : Y → Type 0) (xs : List X) → AllByRecursion (λ x. P (f x)) xs → AllByRecursion P (map f xs)
-AllByRecursion-map f P [] h = h
-AllByRecursion-map f P (x ∷ xs) h = (h.0, AllByRecursion-map f P xs h.1)
-
--- keys that a test of their images tells apart have distinct images
-pub IsDistinct-map : {X Y : Type 0} (f : X → Y) (e : Y → Y → Bool) (xs : List X) → IsDistinct (λ a b. e (f a) (f b)) xs → IsDistinct e (map f xs)
-unfolding IsDistinct
-IsDistinct-map f e [] h = tt
-IsDistinct-map f e (x ∷ xs) h =
-    IsDistinct-cons e (f x) (map f xs) (AllByRecursion-map f (λ y. e (f x) y ≡ false) xs (IsDistinct-head _ x xs h)) (IsDistinct-map f e xs (IsDistinct-tail _ x xs h))
-
 -- ---- the number of a name
 
 -- what the test of two names says
@@ -70,7 +44,7 @@ at_place P (y ∷ xs) zero x all e = subst P (same_Some y x e) all.0
 at_place P (y ∷ xs) (suc k) x all e = at_place P xs k x all.1 e
 
 -- the name at a place has that place as its number
-number_from_place : (names : List (List ℕ)) (name : List ℕ) (k : ℕ) → IsDistinct bytes_eq names → slice_get names k ≡ Some name → number_of names name ≡ Some k
+pub number_from_place : (names : List (List ℕ)) (name : List ℕ) (k : ℕ) → IsDistinct bytes_eq names → slice_get names k ≡ Some name → number_of names name ≡ Some k
 number_from_place [] name k distinct e = absurd (none-some name e)
 number_from_place (x ∷ names) name zero distinct e =
     let here : bytes_eq name x ≡ true = is_same_name name x (sym (same_Some x name e)) in
@@ -94,6 +68,16 @@ number_of-at names name distinct k = (place_from_number names name k, number_fro
 none_or_some : (o : Option ℕ) → (o ≡ None) ⊎ ((k : ℕ) × (o ≡ Some k))
 none_or_some None = inl refl
 none_or_some (Some k) = inr (k, refl)
+
+-- a name that stands nowhere has no number
+pub no_number : (names : List (List ℕ)) (name : List ℕ) → ((k : ℕ) → k < length names → slice_get names k ≢ Some name) → number_of names name ≡ None
+no_number names name absent =
+    elim (none_or_some (number_of names name)) [
+      | inl none ↦ none
+      | inr found ↦
+          let at = place_from_number names name found.0 found.1 in
+          absurd (absent found.0 (slice_get_within names found.0 name at) at)
+    ]
 
 -- a name that stands somewhere is among the names
 place_has : (names : List (List ℕ)) (name : List ℕ) (k : ℕ) → slice_get names k ≡ Some name → Contains names name
@@ -151,13 +135,6 @@ with_name-known names name k at = rw (list_any-place names name k at) refl
 pub with_name-new : (names : List (List ℕ)) (name : List ℕ) → number_of names name ≡ None → with_name names name ≡ names ++ name ∷ []
 with_name-new names name e = rw (list_any-no_number names name e) refl
 
--- the names of the keys after an insertion
-pub map-insert_key : {Z : Type 0} (keys : List (String Z)) (key : String Z) (name : List ℕ) → string_bytes key ≡ name → number_of (map string_bytes keys) name ≡ None → map string_bytes (insert_key string_eq keys key) ≡ map string_bytes keys ++ name ∷ []
-map-insert_key keys key name e none =
-    let new : list_any (string_eq key) keys ≡ false =
-    list_any-map string_bytes (bytes_eq (string_bytes key)) keys ∙ rw e (list_any-no_number (map string_bytes keys) name none) in
-    rw (new, map-append, e) refl
-
 -- the last element
 pub slice_get-end : {X : Type 0} (xs : List X) (x : X) → slice_get (xs ++ x ∷ []) (length xs) ≡ Some x
 slice_get-end [] x = refl
@@ -172,7 +149,7 @@ number_at_end (Err x) old new name e end = tt
 pub test_false : (a b : ℕ) → a ≢ b → (a == b) ≡ false
 test_false a b differ = elim (eqb_tells a b) [ inl same ↦ absurd (differ same.1) | inr other ↦ other.0 ]
 
--- ---- a copy of the names
+-- ---- the first elements
 
 -- the first n elements, at a place among them
 pub slice_get-take : {X : Type 0} (n k : ℕ) (xs : List X) → k < n → slice_get (take n xs) k ≡ slice_get xs k

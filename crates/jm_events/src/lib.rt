@@ -2,6 +2,8 @@
 //! number is its place in the head; an event's number, its letter, is the place of its first mention.
 #![tactic(auto)]
 
+mod chains;
+mod hash;
 mod names;
 mod table;
 

@@ -8,7 +8,7 @@ returns-in-Some-clause-ok c = with_name-known c.args.self.now c.args.name.now c.
 
 pub returns-in-None-clause-ok : goal.returns-in-None-clause-ok
 returns-in-None-clause-ok c =
-    on_ok_weaker c.append.result (λ e. e ∙ sym (with_name-new c.args.self.now c.args.name.now (sym c.in-None.ensures.value))) c.append.ensures.ok
+    on_ok_weaker c.append_hashed.result (λ e. e ∙ sym (with_name-new c.args.self.now c.args.name.now (sym c.in-None.ensures.value))) c.append_hashed.ensures.ok
 
 pub returns-in-None-clause-number : goal.returns-in-None-clause-number
-returns-in-None-clause-number c = number_at_end _ _ _ _ c.append.ensures.ok c.append.ensures.number
+returns-in-None-clause-number c = number_at_end _ _ _ _ c.append_hashed.ensures.ok c.append_hashed.ensures.number
