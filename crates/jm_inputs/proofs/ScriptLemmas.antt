@@ -148,9 +148,6 @@ module _ (ordered : Bool) (specs : List Specification) (bytes : List ℕ) (small
 
 -- a script that is cut, or read as it stands
 module _ (ordered : Bool) (specs : List Specification) (bytes : List ℕ) (small : length bytes ≤ most_bytes) where
-  cut_text : ordered ≡ true → (text : List ℕ) → text ≡ rest_of bytes → text ≡ steps_text ordered bytes
-  cut_text on text is = is ∙ ap (λ b. steps_text b bytes) (sym on)
-
   kept_middle : AsItStands ordered bytes → (old : Scripts) → IsMiddle ordered bytes old old
   kept_middle h old = record { list = refl; objects = refl; count = refl; cuts = refl; posted = h.names old.posted }
 
@@ -162,26 +159,23 @@ module _ (ordered : Bool) (specs : List Specification) (bytes : List ℕ) (small
   pub kept_refused : AsItStands ordered bytes → (old : Scripts) (fault : ScriptFault) → (meaning_over specs old.count old.objects bytes).fault ≡ Some fault → IsScriptFileFault ordered specs old.count old.objects bytes fault
   kept_refused stands old fault first = script_refused ordered specs bytes small bytes stands.text old old fault (kept_middle stands old) first
 
--- a script that is read again, behind the names of objects from before
-module _ (ordered : Bool) (specs : List Specification) (bytes : List ℕ) (small : length bytes ≤ most_bytes) (on : ordered ≡ true) (text : List ℕ) (text_is : text ≡ rest_of bytes) (old left : Scripts) (refused : AreLeft old left) (number : ℕ) (many : number ≡ length old.objects) (names posted : List (List ℕ))
-    (first : names ≡ take number left.objects) (posted_is : posted ≡ names_after left.posted bytes) where
-  again_middle : IsMiddle ordered bytes old (record left { objects = names; count = old.count; posted = posted })
-  again_middle = record {
-    list = refused.list;
-    objects = first ∙ ap (λ n. take n left.objects) many ∙ first_kept old.objects left.objects refused.names;
-    count = refl;
-    cuts = refused.cuts;
-    posted = posted_is ∙ ap (λ v. names_after v bytes) refused.posted ∙ ap (λ b. names_in b old.posted bytes) (sym on);
-  }
+-- a script that is cut
+module _ (specs : List Specification) (bytes : List ℕ) (small : length bytes ≤ most_bytes) (text : List ℕ) (text_is : text ≡ rest_of bytes) (old : Scripts) (names : List (List ℕ)) (names_are : names ≡ names_after old.posted bytes) where
+  cut_middle : IsMiddle true bytes old (record old { posted = names })
+  cut_middle = record { list = refl; objects = refl; count = refl; cuts = refl; posted = names_are }
 
-  pub script_again : (new : Scripts) (lines : List SyncLine) → AreCounted specs old → lines ≡ sync_lines_of left.posted bytes → RisesFrom 1 lines → All (λ (l : SyncLine). l.name < length posted) lines
-      → HasSteps specs text lines (record left { objects = names; count = old.count; posted = posted }) new → HasScript ordered specs bytes old new
-  script_again new lines before asked rises numbered h =
-      script_added ordered specs bytes small text (cut_text ordered specs bytes small on text text_is) old (record left { objects = names; count = old.count; posted = posted }) new lines before again_middle
-      (asked ∙ ap (λ v. sync_lines_of v bytes) refused.posted ∙ ap (λ b. lines_in b old.posted bytes) (sym on)) rises numbered h
+  pub script_cut : (new : Scripts) (lines : List SyncLine) → AreCounted specs old → lines ≡ sync_lines_of old.posted bytes → RisesFrom 1 lines → All (λ (l : SyncLine). l.name < length names) lines
+      → HasSteps specs text lines (record old { posted = names }) new → HasScript true specs bytes old new
+  script_cut new lines before asked rises numbered h = script_added true specs bytes small text text_is old (record old { posted = names }) new lines before cut_middle asked rises numbered h
 
-  pub again_refused : (fault : ScriptFault) → (meaning_over specs old.count names text).fault ≡ Some fault → IsScriptFileFault ordered specs old.count old.objects bytes fault
-  again_refused fault is = script_refused ordered specs bytes small text (cut_text ordered specs bytes small on text text_is) old (record left { objects = names; count = old.count; posted = posted }) fault again_middle is
+  pub cut_refused : (fault : ScriptFault) → (meaning_over specs old.count old.objects text).fault ≡ Some fault → IsScriptFileFault true specs old.count old.objects bytes fault
+  cut_refused fault first = script_refused true specs bytes small text text_is old (record old { posted = names }) fault cut_middle first
+
+-- a script that was refused leaves the others as they were, once the names of its objects are taken back
+pub taken_back : (old left : Scripts) (number : ℕ) (names : List (List ℕ)) → AreLeft old left → number ≡ length old.objects → names ≡ take number left.objects → record left { objects = names; count = old.count } ≡ old
+taken_back old left number names refused many first =
+    let objects : names ≡ old.objects = first ∙ ap (λ n. take n left.objects) many ∙ first_kept old.objects left.objects refused.names in
+    λ i. record { list = refused.list i; objects = objects i; count = old.count; cuts = refused.cuts i; posted = refused.posted i }
 
 pub ok_then : {V E : Type 0} (P Q : Type 0) (r : Result V E) → (P → Q) → OnOk r P → OnOk r Q
 ok_then P Q (Ok v) f h = f h

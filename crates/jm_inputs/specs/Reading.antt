@@ -144,8 +144,8 @@ pub record HasSteps (specs : List Specification) (bytes : Text) (lines : List Sy
 
 -- no script more was read: the others are as before, and there may be new names of objects at the end
 pub record AreLeft (old new : Scripts) : Type 0 where
-  pub list : new.list.items ≡ old.list.items
-  pub cuts : new.cuts.items ≡ old.cuts.items
+  pub list : new.list ≡ old.list
+  pub cuts : new.cuts ≡ old.cuts
   pub posted : new.posted ≡ old.posted
   pub names : IsExtension old.objects new.objects
 

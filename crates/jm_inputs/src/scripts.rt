@@ -19,7 +19,11 @@ use jm_model::{NoMemory, ScriptError, ScriptFault};
 use jm_port::Folder;
 use jm_script::{Script, read_script};
 use jm_sync::{Cut, SyncError, SyncLine, check, cut};
+use memchr::memmem::find;
 use std::alloc::Global;
+
+/// How many bytes of a script are near its end.
+const NEAR_THE_END: usize = 4096;
 
 /// How the scripts of a command are read.
 #[derive(Clone, Copy)]
@@ -228,8 +232,8 @@ fn read_bytes(
     }
 }
 
-/// Reads the script that these bytes say, behind the others. It is read as it stands, and again without the lines that
-/// ask for order where it has a fault so: as it stands each of these is one.
+/// Reads the script that these bytes say, behind the others. Unless it seems to ask for order it is read as it stands,
+/// and without the lines that ask for order where it has a fault so: as it stands each of these is one.
 fn add(
     alloc: Global,
     bytes: &[u8],
@@ -245,17 +249,45 @@ fn add(
     ensures fault { (fault : ScriptFault) → result ≡ Err (ScriptError.Bad fault)
         → IsScriptFileFault ordered (specs_in library.now) scripts.old.count scripts.old.objects bytes.now fault }
 {
+    if ordered && seems_to_ask(bytes, scripts) {
+        return add_cut(alloc, bytes, library, scripts);
+    }
     let names = scripts.objects.len();
     let count = scripts.count;
     match add_steps(alloc, bytes, Vec::new(alloc), library, scripts) {
         Err(ScriptError::Bad(_)) if ordered => {
             scripts.objects = first_names(alloc, &scripts.objects, names)?;
             scripts.count = count;
-            let Cut { rest, lines } = cut(alloc, bytes, &mut scripts.posted)?;
-            add_steps(alloc, rest.as_slice(), lines, library, scripts)
+            add_cut(alloc, bytes, library, scripts)
         }
         result => result,
     }
+}
+
+/// Whether these bytes seem to ask for order, behind the others: some of those do, or one of the two words stands near
+/// the end. It says nothing for sure.
+fn seems_to_ask(bytes: &[u8], scripts: &Scripts) -> bool {
+    let end = &bytes[bytes.len().saturating_sub(NEAR_THE_END)..];
+    scripts.posted.len() > 0 || find(end, b"post").is_some() || find(end, b"wait").is_some()
+}
+
+/// Reads the script that is left of these bytes without the lines that ask for order, behind the others.
+fn add_cut(
+    alloc: Global,
+    bytes: &[u8],
+    library: &Library,
+    scripts: &mut Scripts,
+) -> Result<(), ScriptError>
+    requires small { length bytes.now ≤ most_bytes }
+    requires few { length scripts.old.list.items < 16 }
+    requires catalogued { IsCatalogued library.now }
+    requires counted { AreCounted (specs_in library.now) scripts.old }
+    ensures read { OnOk result (HasScript true (specs_in library.now) bytes.now scripts.old scripts.new) }
+    ensures fault { (fault : ScriptFault) → result ≡ Err (ScriptError.Bad fault)
+        → IsScriptFileFault true (specs_in library.now) scripts.old.count scripts.old.objects bytes.now fault }
+{
+    let Cut { rest, lines } = cut(alloc, bytes, &mut scripts.posted)?;
+    add_steps(alloc, rest.as_slice(), lines, library, scripts)
 }
 
 /// The first so many of these names, under the same numbers.

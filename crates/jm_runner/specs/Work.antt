@@ -15,7 +15,7 @@ use Rattle.jm_dispatch.specs.Steps.{caller_of}
 use Rattle.jm_runner.specs.Orders.{KeepsOrder}
 
 module _ {F : Type 0} where
-  -- Seat k of the watch, whose own entries are these steps, in order. None met want of memory.
+  -- Seat k of the watch, whose own entries are these steps, in order. None ran out of memory.
   pub record HasDone (k : ℕ) (steps : List (ℕ × Step)) (watch : LockModel F) (seat : SeatModel Entry F) : Type 0 where
     pub lock : IsSeatOf watch seat
     pub number : seat.number ≡ k

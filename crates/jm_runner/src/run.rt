@@ -30,7 +30,7 @@ pub struct Running<M: Monitor> {
 /// Runs 1 to 16 scripts over 1 to 16 specifications, and gives the core of each specification. Script k is caller k:
 /// its lines are done in order by a worker, a death on every specification in order. Each worker has a thread of its
 /// own; where none can be had, some scripts are done one after another. Each line stands between `before` and `after`
-/// of the gate. The answer is NoMemory where a worker met want of memory, which stops it and no other.
+/// of the gate. The answer is NoMemory where a worker ran out of memory, which stops it and no other.
 ///
 /// The watches are fresh, each with all its seats, as many as there are scripts.
 pub fn run_scripts<M: Monitor + Send, G: Gate, R: Threads + Wait + Sync>(
@@ -57,9 +57,9 @@ where
 
 /// The same, where scripts ask for order: each has its cut, and no fault is in these. Each history has its entries in
 /// that order. A line that posts a name lets the lines that wait for it go on, and tells them what was done above it. A
-/// worker that stops for want of memory gives up the names that it hasn't posted; so does one that waits for such a
-/// name, and the answer is NoMemory. That a wait ends isn't promised: where no thread can be had, a script may wait for
-/// one that comes after it.
+/// worker that runs out of memory gives up the names that it hasn't posted; so does one that waits for such a name, and
+/// the answer is NoMemory. Where some script asks for order each worker needs a thread of its own, and where one can't
+/// be had the answer is NoMemory too. That a wait ends is in no clause.
 pub fn run_with_notes<M: Monitor + Send, G: Gate, R: Threads + Wait + Sync>(
     rt: &R,
     alloc: Global,

@@ -1,5 +1,6 @@
-//! The workers: each has the seats of one caller, and a thread of its own where one can be had.
-ghost use Rattle.std.specs.Prelude.{◌≡◌, ℕ, All, IfOk, Ok, Some, map, slice_get, vec_len};
+//! The workers: each has the seats of one caller, and a thread of its own where one can be had. Where scripts may wait
+//! for each other, each needs one.
+ghost use Rattle.std.specs.Prelude.{◌≡◌, ◌↔◌, ℕ, [], All, IsTrue, IfOk, Ok, Some, map, slice_get, vec_len};
 ghost use Rattle.jm_sync.specs.Checks.{sync_of};
 ghost use Rattle.jm_runner.specs.Notes.{IsNamed};
 ghost use Rattle.jm_runner.specs.Hands.{CanWork, HasWorked};
@@ -24,9 +25,23 @@ use std::{mem, thread};
 /// One for each script at most.
 const THREADS: usize = 16;
 
+/// What a worker's thread gives back: seats that have done the script of these, where there was memory for it.
+#[derive(Drop)]
+struct Works<M: Monitor, J: Naming<M::Definition>> {
+    before: Snapshot<Vec<Seat<M>>>,
+    of: PhantomData<J>,
+}
+
+impl<M: Monitor, J: Naming<M::Definition>> Promise<Result<Vec<Seat<M>>, NoMemory>> for Works<M, J> {
+    ghost use Rattle.std.specs.Prelude.{IfOk};
+    ghost use Rattle.jm_runner.specs.Hands.{HasWorked};
+
+    ghost kept_by = { λ p r. IfOk r (λ back. HasWorked J.watches J.scripts J.cuts p.before.value.items back.items) };
+}
+
 /// All workers do their scripts. They get the seats of one caller each, and give them back. Where some script asks for
-/// order each worker has a thread of its own, or the answer is NoMemory; elsewhere the caller does what no thread can be
-/// had for.
+/// order each worker has a thread of its own, or the answer is NoMemory; elsewhere the caller does what no thread can
+/// be had for.
 pub(crate) fn work_all<
     M: Monitor + Send,
     J: Naming<M::Definition> + Send + Sync,
@@ -51,40 +66,24 @@ where
         → slice_get back.items k ≡ Some after
         → HasWorked watches.now scripts.now (sync_of cuts.now) before.items after.items) }
 {
-    if asks_for_order(cuts) {
-        work_in_threads(rt, alloc, watches, scripts, cuts, notices, hands, gate)
+    if ask_for_nothing(cuts) {
+        work_unordered(rt, alloc, watches, scripts, cuts, notices, hands, gate)
     } else {
-        work_apart(rt, alloc, watches, scripts, cuts, notices, hands, gate)
+        work_ordered(rt, alloc, watches, scripts, cuts, notices, hands, gate)
     }
 }
 
-/// Whether some script has a line that asks for order.
-fn asks_for_order(cuts: &[Cut]) -> bool {
-    for cut in cuts {
-        if !cut.lines.is_empty() {
-            return true;
-        }
-    }
-    false
+/// Whether no script has a line that asks for order.
+fn ask_for_nothing(cuts: &[Cut]) -> bool
+    ensures { IsTrue result ↔ All (λ cut. cut.lines.items ≡ []) cuts.now }
+{
+    cuts.iter().all(|cut| cut.lines.is_empty())
 }
 
-/// What a worker's thread gives back: seats that have done the script of these, where there was memory for it.
-#[derive(Drop)]
-struct Works<M: Monitor, J: Naming<M::Definition>> {
-    before: Snapshot<Vec<Seat<M>>>,
-    of: PhantomData<J>,
-}
-
-impl<M: Monitor, J: Naming<M::Definition>> Promise<Result<Vec<Seat<M>>, NoMemory>> for Works<M, J> {
-    ghost use Rattle.std.specs.Prelude.{IfOk};
-    ghost use Rattle.jm_runner.specs.Hands.{HasWorked};
-
-    ghost kept_by = { λ p r. IfOk r (λ back. HasWorked J.watches J.scripts J.cuts p.before.value.items back.items) };
-}
-
-/// The same, each on a thread of its own. Where one can't be had all names are given up, so that no worker waits for one
-/// that doesn't begin, and the answer is NoMemory once all that were begun have ended.
-fn work_in_threads<
+/// Workers do scripts that ask for order, each on a thread of its own. Where one can't be had all names are given up,
+/// so that no worker waits for one that never begins. The answer then is NoMemory, once those that were begun have
+/// ended.
+fn work_ordered<
     M: Monitor + Send,
     J: Naming<M::Definition> + Send + Sync,
     G: Gate,
@@ -156,8 +155,9 @@ where
     )
 }
 
-/// The same, each on a thread of its own where one can be had; elsewhere the caller does the work.
-fn work_apart<
+/// Workers do scripts that ask for no order, each on a thread of its own where one can be had. The caller does the
+/// others, one after another.
+fn work_unordered<
     M: Monitor + Send,
     J: Naming<M::Definition> + Send + Sync,
     G: Gate,

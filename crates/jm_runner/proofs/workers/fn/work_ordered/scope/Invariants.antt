@@ -1,6 +1,6 @@
 use Rattle.std.proofs.Common.{◌≡◌, ◌++◌, All, map}
 use Rattle.jm_runner.specs.Hands.{CanWork}
-use Rattle.jm_runner.proofs.workers.fn.work_in_threads.scope.Given as goal
+use Rattle.jm_runner.proofs.workers.fn.work_ordered.scope.Given as goal
 
 abbrev pub invariant-loop-seats : goal.invariant-loop-seats
 invariant-loop-seats g l = record {

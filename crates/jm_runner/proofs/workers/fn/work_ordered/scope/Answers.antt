@@ -5,14 +5,14 @@ use Rattle.std.proofs.lemmas.List.Elements.{All-head, All-tail}
 use Rattle.atomic_table.proofs.shared.Seat.TheSendSync as seat
 use Rattle.jm_runner.proofs.CrossingLemmas.{watched_row, watch_row, notices_row}
 use Rattle.jm_runner.proofs.ThreadLemmas.{same_length, map_snoc, snoc_rest, none_left, ends, promises_met, named_worked, worked_named_back}
-use Rattle.std.proofs.Common.{◌≡◌, ◌∙◌, ◌++◌, ◌∷◌, [], All, Ok, List, map, length, vec_len, refl, sym, ap, subst, arith, rules}
+use Rattle.std.proofs.Common.{◌≡◌, ◌∙◌, ◌++◌, [], All, map, vec_len, refl, sym, ap, subst, arith}
 use Rattle.jm_sync.specs.Checks.{sync_of}
 use Rattle.jm_runner.specs.Hands.{CanWork, HasWorked}
 use denote.Param.{param}
 use denote.Param.Send.{IsSend, IsSync, sendable}
-use Rattle.jm_runner.proofs.workers.fn.work_in_threads.scope.Lts as place
-use Rattle.jm_runner.proofs.workers.fn.work_in_threads.scope.Given.{Over}
-use Rattle.jm_runner.proofs.workers.fn.work_in_threads.scope.Goals as goal
+use Rattle.jm_runner.proofs.workers.fn.work_ordered.scope.Lts as place
+use Rattle.jm_runner.proofs.workers.fn.work_ordered.scope.Given.{Over}
+use Rattle.jm_runner.proofs.workers.fn.work_ordered.scope.Goals as goal
 
 pub loop-seats-init : goal.loop-seats-init
 loop-seats-init g c = record {

@@ -12,10 +12,10 @@ use denote.Array.{Array}
 use denote.Plain.{UInt}
 use denote.Param.{param}
 use denote.Param.Send.{IsSend, IsSync, sendable}
-use Rattle.jm_runner.specs.contracts.workers.work_apart as asked
-use Rattle.jm_runner.proofs.workers.work_apart.Lts as place
-use Rattle.jm_runner.proofs.workers.work_apart.Given.{Over}
-use Rattle.jm_runner.proofs.workers.work_apart.Goals as goal
+use Rattle.jm_runner.specs.contracts.workers.work_unordered as asked
+use Rattle.jm_runner.proofs.workers.work_unordered.Lts as place
+use Rattle.jm_runner.proofs.workers.work_unordered.Given.{Over}
+use Rattle.jm_runner.proofs.workers.work_unordered.Goals as goal
 
 pub may_be_shared-requires-sync-T : goal.may_be_shared-requires-sync-T
 may_be_shared-requires-sync-T g c κs within = search (watched_row, lock_row, crosses, maps, sendable) depth 100 fits 20000
