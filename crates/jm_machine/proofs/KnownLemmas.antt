@@ -1,11 +1,12 @@
 -- What the rules know of what may still follow, in the words of the meaning.
-use Rattle.std.proofs.Common.{◌≡◌, ◌≢◌, ℕ, ◌<◌, ◌⊎◌, inl, inr, Bool, true, false, not, ◌&&◌, List, [], ◌∷◌, ◌++◌, length, refl, sym, ◌∙◌, ap, subst}
-use Rattle.std.specs.Prelude.{All, Contains, codes, ◌↔◌, IsTrue, IsBitSet, slice_index}
+use Rattle.std.proofs.Common.{◌≡◌, ◌≢◌, ℕ, ◌<◌, ◌⊎◌, inl, inr, Bool, true, false, not, ◌&&◌, List, [], ◌∷◌, ◌++◌, Some, length, refl, sym, ◌∙◌, ap, subst}
+use Rattle.std.specs.Prelude.{All, Contains, codes, ◌↔◌, IsTrue, IsBitSet, slice_get, slice_index, slice_index_or}
 use Rattle.std.specs.List.{list_any}
 use Rattle.std.specs.List.Sorted.{IsStrictlySortedBy}
 use Rattle.std.specs.Ordering.{nat_cmp}
 use Rattle.std.specs.Str.{bytes_eq}
 use Rattle.jm_model.specs.Meanings.{Meaning, IsHit, CanHit, IsCutWord}
+use Rattle.jm_model.specs.Numbers.{no_number, at_rest, IsPlainMove, IsAtRest, AreEnds}
 use Rattle.jm_semantics.specs.Families.{IsFamily}
 use Rattle.jm_events.specs.Names.{number_of}
 use Rattle.jm_events.specs.Events.{EventDefinitions}
@@ -28,7 +29,7 @@ use Rattle.jm_machine.specs.Rests.{IsRest}
 use Rattle.jm_machine.specs.PropertyMeanings.{PropertyRules, Resets, property_meaning, is_failing_grammar}
 use Rattle.jm_machine.specs.CompiledProperties.{CompiledProperty, IsCompiledProperty, IsGoalOf, IsHandledBy, definition_of, may_begin}
 use Rattle.jm_machine.specs.Places.{IsPlaceAfter, IsBegun, Stands}
-use Rattle.jm_machine.specs.Outlooks.{StateFacts, ParseFacts, AreFactsOf, IsEndingLetter, CanHitFrom, IsLeftOf, CanMatch}
+use Rattle.jm_machine.specs.Outlooks.{StateFacts, ParseFacts, AreFactsOf, IsEndingLetter, IsPlainState, IsPlainEntry, CanHitFrom, IsLeftOf, CanMatch}
 use Rattle.jm_machine.specs.Known.{IsKnown}
 use Rattle.jm_machine.proofs.OptionLemmas.{looked_up}
 use Rattle.jm_machine.proofs.GoalLemmas.{begins_as_listed, number_in, number_set}
@@ -38,7 +39,7 @@ use Rattle.jm_machine.proofs.PropertyLemmas.{handled_told, hit_handled, run_hits
 use Rattle.jm_machine.proofs.CutLemmas.{not_so, cut_words, can_hit_run, barren_quiet, stood_more, stood_first}
 use Rattle.jm_machine.proofs.ParseLemmas.{failing_cut, matching_cut}
 use Rattle.jm_machine.proofs.FamilyLemmas.{family_is}
-use Rattle.jm_machine.proofs.OutlookLemmas.{no_bit_of_zero}
+use Rattle.jm_machine.proofs.OutlookLemmas.{no_bit_of_zero, mask_at}
 
 -- ---- a table
 
@@ -206,6 +207,64 @@ module _ (masks : List ℕ) (formula : Formula) (handlers : List (List ℕ)) (go
     known_first_ends (States t) set known e bits is bit w empty =
         subst (λ (x : List ℕ). IsCutWord m (x ++ e ∷ []) 0) (sym empty) (first_cut t facts set known e (subst (λ (n : ℕ). IsBitSet n e) is bit))
     known_first_ends (Parses c) set known e bits is bit w empty = absurd known.told
+
+    -- ---- by the numbers of states
+
+    plain_move : (t : Transitions) (set : IsCompiledProperty (rules_with (States t)))
+        (known : IsKnown d goal (States t) (Table facts)) (e s n : ℕ)
+        → IsPlainState t facts.hits goal facts.needs e s n
+        → IsPlainMove Place m (IsPlaceAfter (rules_with (States t))) e (State s) (State n)
+    plain_move t set known e s n plain = record {
+      leads = λ w h. (
+        begun_later (rules_with (States t)) w e h.0,
+        subst (λ (next : ℕ). Stands (rules_with (States t)) (State next) (w ++ e ∷ [])) (sym plain.next)
+            (stood_more d t goal known.events set known.masks g.groups listed marked s e w plain.letter h.1),
+      );
+      quiet = λ w h k hit. silent t facts set known n w h.0 h.1 plain.quiet k hit;
+      goes_on = λ w h cut.
+          let told : AreFactsOf t goal known.events facts = known.told in
+          let alive = plain.goes_on t goal known.events told.needs in
+          let within = there t facts set known n h.1.0 h.1.2 in
+          let can = (can_run t facts set known (State n) w 0 h).1 (within, alive) in
+          (cut_words d w 0 (not_failing t facts set known)).1 cut can;
+    }
+
+    entry_at : (t : Transitions) (known : IsKnown d goal (States t) (Table facts)) (e : ℕ) (row : List ℕ)
+        → row ≡ slice_index_or facts.plain e [] → (s entry : ℕ) → slice_get row s ≡ Some entry
+        → IsPlainEntry t facts.hits goal facts.needs e s entry
+    entry_at t known e row is s entry at =
+        let told : AreFactsOf t goal known.events facts = known.told in
+        told.plain e s entry (subst (λ (xs : List ℕ). slice_get xs s ≡ Some entry) is at)
+
+    pub known_plain : (engine : Engine) → IsCompiledProperty (rules_with engine)
+        → IsKnown d goal engine (Table facts) → (e : ℕ) (row : List ℕ) → row ≡ slice_index_or facts.plain e []
+        → (s n : ℕ) → slice_get row s ≡ Some n → n ≢ no_number → n ≢ at_rest
+        → IsPlainMove Place m (IsPlaceAfter (rules_with engine)) e (State s) (State n)
+    known_plain (States t) set known e row is s n at some moves =
+        plain_move t set known e s n ((entry_at t known e row is s n at).moves some moves)
+    known_plain (Parses c) set known e row is s n at some moves = absurd known.told
+
+    pub known_at_rest : (engine : Engine) → IsCompiledProperty (rules_with engine)
+        → IsKnown d goal engine (Table facts) → (e : ℕ) (row : List ℕ) → row ≡ slice_index_or facts.plain e []
+        → (s : ℕ) → slice_get row s ≡ Some at_rest
+        → IsAtRest Place m (IsPlaceAfter (rules_with engine)) e (State s)
+    known_at_rest (States t) set known e row is s at =
+        let move = plain_move t set known e s s ((entry_at t known e row is s at_rest at).rests refl) in record {
+          stays = move.leads;
+          quiet = move.quiet;
+          goes_on = move.goes_on;
+        }
+    known_at_rest (Parses c) set known e row is s at = absurd known.told
+
+    pub known_endings : (engine : Engine) → IsCompiledProperty (rules_with engine)
+        → IsKnown d goal engine (Table facts) → (masks : List ℕ) → masks ≡ facts.ending
+        → (s mask : ℕ) → slice_get masks s ≡ Some mask → AreEnds Place m (IsPlaceAfter (rules_with engine)) mask (State s)
+    known_endings engine set known masks is s mask at =
+        let here : mask ≡ slice_index facts.ending s =
+        mask_at facts.ending s mask (subst (λ (xs : List ℕ). slice_get xs s ≡ Some mask) is at) in record {
+          quiet = λ w h e k bit. known_quiet engine set known s e mask here bit w h k;
+          cut = λ w h e bit. known_ends engine set known s e mask here bit w h;
+        }
 
     pub known_family : (engine : Engine) → IsCompiledProperty (rules_with engine) → IsKnown d goal engine (Table facts) → (e : ℕ) (family : List ℕ) → e < length masks → ((mask : ℕ) → Contains family mask → mask < 256) → IsStrictlySortedBy nat_cmp family
         → ((t : Transitions) (g : GoalDefinition) (v : EventDefinitions) → AreNeedsOf t g v facts.needs → (mask : ℕ) → mask < 256 → Contains family mask ↔ IsInFamily t g v e mask) → IsFamily m e family

@@ -1,6 +1,6 @@
 -- What is worked out for states and first letters: masks of letters, and lists of these.
 use Rattle.std.proofs.Common.{ℕ, zero, suc, ◌≡◌, ◌<◌, ◌+◌, ◌*◌, ◌%◌, ◌^◌, ◌⊎◌, inl, inr, Bool, true, false, not, List, [], ◌∷◌, ◌++◌, Some, length, bit_or, refl, sym, ◌∙◌, ap, subst, arith}
-use Rattle.std.specs.Prelude.{IsTrue, IsBitSet, slice_get, slice_index}
+use Rattle.std.specs.Prelude.{IsTrue, IsBitSet, map, slice_get, slice_index, slice_index_or}
 use Rattle.std.specs.Int.{w32}
 use Rattle.std.proofs.lemmas.Bool.{false≢true}
 use Rattle.std.proofs.lemmas.List.{length-append}
@@ -62,3 +62,20 @@ get_push P (z ∷ zs) x place count each here zero y at = each zero y at
 get_push P (z ∷ zs) x zero count each here (suc e) y at = absurd (omega (arith, count))
 get_push P (z ∷ zs) x (suc place) count each here (suc e) y at =
     get_push (λ n v. P (suc n) v) zs x place (omega (arith, count)) (λ n v. each (suc n) v) here e y at
+
+-- one row more at the end of rows
+pub rows_push : {X : Type 0} (items : X → List ℕ) (P : ℕ → List ℕ → Type 0) (xs : List X) (x : X) (place : ℕ)
+    → length xs ≡ place → ((e : ℕ) → P e []) → ((e : ℕ) → P e (slice_index_or (map items xs) e [])) → P place (items x)
+    → (e : ℕ) → P e (slice_index_or (map items (xs ++ x ∷ [])) e [])
+rows_push items P [] x place count none each here zero = subst (λ (n : ℕ). P n (items x)) (sym count) here
+rows_push items P [] x place count none each here (suc e) = none (suc e)
+rows_push items P (y ∷ ys) x place count none each here zero = each zero
+rows_push items P (y ∷ ys) x zero count none each here (suc e) = absurd (omega (arith, count))
+rows_push items P (y ∷ ys) x (suc place) count none each here (suc e) =
+    rows_push items (λ n row. P (suc n) row) ys x place (omega (arith, count)) (λ n. none (suc n)) (λ n. each (suc n)) here e
+
+-- the mask at a place
+pub mask_at : (xs : List ℕ) (k mask : ℕ) → slice_get xs k ≡ Some mask → mask ≡ slice_index xs k
+mask_at [] k mask at = absurd cc
+mask_at (x ∷ xs) zero mask at = sym (same_some at)
+mask_at (x ∷ xs) (suc k) mask at = mask_at xs k mask at

@@ -8,6 +8,7 @@ use Rattle.std.proofs.lemmas.List.{length-map, length-append}
 use Rattle.std.proofs.lemmas.Nat.Bits.{bit_at_and, bit_at-lt}
 use Rattle.std.proofs.lemmas.Option.{same_Some, none-some, slice_get_within, slice_get-map}
 use Rattle.jm_model.specs.Meanings.{Meaning, IsCreated, IsHit, IsCutWord}
+use Rattle.jm_model.specs.Numbers.{IsPlainMove, IsAtRest, AreEnds}
 use Rattle.jm_semantics.specs.Families.{IsNeeded}
 use Rattle.jm_machine.specs.declared.place.Place.{Place}
 use Rattle.jm_machine.specs.declared.place.Place.TheVariants as place
@@ -19,6 +20,7 @@ use Rattle.jm_machine.specs.RuleSets.{CompiledRules, IsRuleSet, IsAlike, AreRule
 use Rattle.jm_machine.specs.HandlerNames.{numbered, numbered_from, names_for, names_of}
 use Rattle.jm_machine.specs.Configurations.{place_at, AreAfter, IsConfigurationOf}
 use Rattle.jm_machine.specs.declared.configuration.Configuration.{Configuration}
+use Rattle.jm_machine.specs.declared.configuration.Configuration.TheVariants as configuration
 use Rattle.jm_model.specs.declared.step.NoMemory.{NoMemory}
 use Rattle.jm_machine.proofs.ProductLemmas.{hit_of, hit_by, cut_of, needed_of, first_within, first_next}
 use Rattle.jm_machine.proofs.GoalLemmas.{no_bit, set_here, kept_other}
@@ -462,6 +464,37 @@ module _ (first : CompiledProperty) (others : List CompiledProperty) (given : Op
     pub alone_follows : (next : Place) (e : ℕ) → ((w : List ℕ) → IsPlaceAfter first place w → IsPlaceAfter first next (w ++ e ∷ []))
         → (w : List ℕ) → AreAfter (first ∷ others) [] place w → AreAfter (first ∷ others) [] next (w ++ e ∷ [])
     alone_follows next e step w after = only_after made made_set one first refl next (w ++ e ∷ []) (step w (after 0 first refl))
+
+  -- what is told of the only property's states by their numbers is so of the rules
+  pub alone_plain : (e s n : ℕ)
+      → IsPlainMove Place (property_meaning first.definition) (IsPlaceAfter first) e (place.State s) (place.State n)
+      → IsPlainMove Configuration (rules_meaning (rules_with first others)) (IsConfigurationOf made) e
+      (configuration.State s) (configuration.State n)
+  alone_plain e s n move = record {
+    leads = λ w h. (h.0, alone_follows h.0 (place.State s) (place.State n) e move.leads w h.1);
+    quiet = λ w h k hit. move.quiet w (h.1 0 first refl) k ((only_hits made made_set h.0 first refl w k).1 hit);
+    goes_on = λ w h cut. move.goes_on w (h.1 0 first refl) ((only_cut made made_set h.0 first refl w 0).1 cut);
+  }
+
+  pub alone_at_rest : (e s : ℕ)
+      → IsAtRest Place (property_meaning first.definition) (IsPlaceAfter first) e (place.State s)
+      → IsAtRest Configuration (rules_meaning (rules_with first others)) (IsConfigurationOf made) e
+      (configuration.State s)
+  alone_at_rest e s rest =
+      let move = alone_plain e s s (record { leads = rest.stays; quiet = rest.quiet; goes_on = rest.goes_on }) in record {
+        stays = move.leads;
+        quiet = move.quiet;
+        goes_on = move.goes_on;
+      }
+
+  pub alone_endings : (mask s : ℕ)
+      → AreEnds Place (property_meaning first.definition) (IsPlaceAfter first) mask (place.State s)
+      → AreEnds Configuration (rules_meaning (rules_with first others)) (IsConfigurationOf made) mask
+      (configuration.State s)
+  alone_endings mask s ends = record {
+    quiet = λ w h. alone_quiet h.0 (place.State s) mask ends.quiet w h.1;
+    cut = λ w h. alone_ends h.0 (place.State s) mask ends.cut w h.1;
+  }
 
 -- where a configuration of the next place leads
 pub configured : (r : CompiledRules) (result : Result Configuration NoMemory) (here next : Place) (more : List ℕ) → IfOk result (λ c. (w : List ℕ) → AreAfter r.parts [] next w → IsConfigurationOf r c w)

@@ -1,6 +1,7 @@
 -- What may still follow the runs of compiled rules, as it is kept.
-use Rattle.std.specs.Prelude.{ℕ, ◌≡◌, ◌<◌, ◌↔◌, ◌⊎◌, Bool, true, false, List, [], ◌∷◌, Some, IsBitSet, IsSomeAnd, length, slice_get, slice_index}
+use Rattle.std.specs.Prelude.{ℕ, ◌≡◌, ◌≢◌, ◌<◌, ◌↔◌, ◌⊎◌, Bool, true, false, List, [], ◌∷◌, Some, IsBitSet, IsSomeAnd, length, slice_get, slice_index, slice_index_or}
 use Rattle.jm_model.specs.Words.{Word, Mask}
+use Rattle.jm_model.specs.Numbers.{no_number, at_rest}
 use Rattle.jm_events.specs.Events.{EventDefinitions}
 use Rattle.jm_goal.specs.Goals.{GoalDefinition}
 use Rattle.jm_table.specs.Tables.{Transitions, IsTable, next_of}
@@ -19,13 +20,15 @@ use Rattle.jm_machine.specs.CompiledProperties.{may_begin}
 -- ---- of a table
 
 -- For each state the handlers that it hits, the letters that leave it as it is, and those that end an instance, each as
--- a mask; the letters that end an instance of the empty word; and what is needed.
+-- a mask; the letters that end an instance of the empty word; what is needed; and by letter and state the state to which
+-- a plain move leads.
 pub record StateFacts : Type 0 where
   pub hits : List ℕ
   pub idle : List ℕ
   pub ending : List ℕ
   pub first_ending : ℕ
   pub needs : NeedSets
+  pub plain : List (List ℕ)
 
 -- bit k of a state's mask is set where the category of handler k holds of the words that lead to the state
 abbrev pub AreHandlerMasks : Engine → GoalDefinition → List ℕ → Type 0
@@ -48,6 +51,27 @@ module _ (t : Transitions) (hits : List ℕ) where
     pub ends : (u : Transitions) (g : GoalDefinition) (v : EventDefinitions) → AreNeedsOf u g v needs
         → IsAlive (IsNeededFrom u g v (step_of t goal state e)) 0 → ⊥
 
+  -- the letter leads from the state to this one, which hits nothing, and from which some word leads to a handled one
+  pub record IsPlainState (goal : GoalDefinition) (needs : NeedSets) (e state reached : ℕ) : Type 0 where
+    pub letter : e < t.letters
+    pub next : reached ≡ step_of t goal state e
+    pub quiet : slice_index hits reached ≡ 0
+    pub goes_on : (u : Transitions) (g : GoalDefinition) (v : EventDefinitions) → AreNeedsOf u g v needs
+        → IsAlive (IsNeededFrom u g v reached) 0
+
+  -- What stands in the row of the letter for the state is so: the state that it leads to, if that is another one, or that
+  -- it leaves the state as it is.
+  pub record IsPlainEntry (goal : GoalDefinition) (needs : NeedSets) (e state entry : ℕ) : Type 0 where
+    pub moves : entry ≢ no_number → entry ≢ at_rest → IsPlainState goal needs e state entry
+    pub rests : entry ≡ at_rest → IsPlainState goal needs e state state
+
+  abbrev pub IsPlainRow : GoalDefinition → NeedSets → ℕ → List ℕ → Type 0
+  IsPlainRow goal needs e row =
+      (state entry : ℕ) → slice_get row state ≡ Some entry → IsPlainEntry goal needs e state entry
+
+  abbrev pub ArePlainRows : GoalDefinition → NeedSets → List (List ℕ) → Type 0
+  ArePlainRows goal needs rows = (e : ℕ) → IsPlainRow goal needs e (slice_index_or rows e [])
+
   abbrev pub AreIdle : List ℕ → Type 0
   AreIdle idle = (state e : ℕ) → state < t.states → IsBitSet (slice_index idle state) e → IsIdleLetter state e
 
@@ -69,6 +93,7 @@ pub record AreFactsOf (t : Transitions) (goal : GoalDefinition) (events : EventD
   pub ending : AreEnding t f.hits goal f.needs f.ending
   pub first_ending : (e : ℕ) → IsBitSet f.first_ending e → IsFirstEnding t goal f.hits f.needs e
   pub needs : AreNeedsOf t goal events f.needs
+  pub plain : ArePlainRows t f.hits goal f.needs f.plain
 
 -- some word of one or more letters without a dead parameter leads from the place's state to a handled one; from
 -- the empty word it is one that may begin so

@@ -8,6 +8,8 @@ ghost use Rattle.jm_machine.specs.Formulas.{category_names, is_grammar};
 ghost use Rattle.jm_machine.specs.Handlers.{AreCategories};
 ghost use Rattle.jm_machine.specs.PropertyMeanings.{Resets, property_rules_of, property_meaning};
 ghost use Rattle.jm_model.specs.Meanings.{IsHit, IsCutWord};
+ghost use Rattle.jm_model.specs.Numbers.{no_number, at_rest, IsPlainMove, IsAtRest, AreEnds};
+ghost use Rattle.jm_machine.specs.declared.place.Place.{Place};
 ghost use Rattle.jm_machine.specs.Places.{Stands, IsPlaceAfter};
 ghost use Rattle.jm_machine.specs.Engines.{letters_of_engine, categories_of_engine, is_parsing, HasParams, IsPlaceOf, IsCompiled, IsMinimal};
 ghost use Rattle.jm_machine.specs.CompiledProperties.{numbers_of, IsCompiledProperty, IsHandledBy};
@@ -259,6 +261,30 @@ impl Property {
         }
     }
 
+    /// By state of the table the state to which the letter leads plainly, or that it leaves the state as it is.
+    pub(crate) fn plain_states(&self, letter: Letter) -> &[u16]
+        ensures moves { (k n : ℕ) → slice_get result.now k ≡ Some n → n ≢ no_number → n ≢ at_rest → IsPlainMove Place
+            (property_meaning self.now.definition) (IsPlaceAfter self.now) letter.0 (place.State k) (place.State n) }
+        ensures rests { (k : ℕ) → slice_get result.now k ≡ Some at_rest → IsAtRest Place
+            (property_meaning self.now.definition) (IsPlaceAfter self.now) letter.0 (place.State k) }
+    {
+        match &self.outlook {
+            Outlook::Table(outlook) => outlook.plain_states(letter),
+            Outlook::Grammar(_) => &[],
+        }
+    }
+
+    /// By state of the table the letters that end an instance.
+    pub(crate) fn state_endings(&self) -> &[u32]
+        ensures { (k mask : ℕ) → slice_get result.now k ≡ Some mask → AreEnds Place
+            (property_meaning self.now.definition) (IsPlaceAfter self.now) mask (place.State k) }
+    {
+        match &self.outlook {
+            Outlook::Table(outlook) => outlook.endings(),
+            Outlook::Grammar(_) => &[],
+        }
+    }
+
     /// The place of the words that have one letter more, of which there is one already.
     #[inline(always)]
     fn step(&self, place: &Place, letter: Letter) -> Result<Place, NoMemory>
@@ -355,6 +381,8 @@ impl Monitor for Property {
 
     ghost StandsFor = { λ r s w. IsPlaceAfter r s w };
 
+    ghost HasNumber = { λ r s n. ⊥ };
+
     fn letters(&self) -> u8 {
         self.masks.len() as u8
     }
@@ -422,5 +450,10 @@ impl Monitor for Property {
             (Place::Start, Outlook::Table(outlook)) => outlook.first_ending(),
             _ => 0,
         }
+    }
+
+    fn renumber(&self, state: &mut Place, number: u16) {
+        let _state = state;
+        let _number = number;
     }
 }

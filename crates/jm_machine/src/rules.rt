@@ -529,9 +529,11 @@ fn is_bit_set(bits: u16, number: u8) -> bool
 }
 
 impl Monitor for Rules {
+    ghost use Rattle.std.specs.Prelude.{◌≡◌};
     ghost use Rattle.jm_machine.specs.RuleSets.{CompiledRules};
     ghost use Rattle.jm_machine.specs.Meanings.{rules_meaning};
     ghost use Rattle.jm_machine.specs.Configurations.{IsConfigurationOf};
+    ghost use Rattle.jm_machine.specs.declared.configuration.Configuration.{Configuration};
 
     type State = Configuration;
 
@@ -542,6 +544,8 @@ impl Monitor for Rules {
     ghost meaning = { λ r. rules_meaning r.definition };
 
     ghost StandsFor = { λ r s w. IsConfigurationOf r s w };
+
+    ghost HasNumber = { λ r s n. s ≡ Configuration.State n };
 
     fn letters(&self) -> u8 {
         self.first.letters()
@@ -613,5 +617,28 @@ impl Monitor for Rules {
             Configuration::State(state) => self.first.ending_of_state(*state),
             _ => self.ending_elsewhere(state),
         }
+    }
+
+    #[inline(always)]
+    fn number(&self, state: &Configuration) -> Option<u16> {
+        match state {
+            Configuration::State(number) => Some(*number),
+            _ => None,
+        }
+    }
+
+    #[inline(always)]
+    fn renumber(&self, state: &mut Configuration, number: u16) {
+        if let Configuration::State(state) = state {
+            *state = number;
+        }
+    }
+
+    fn plain(&self, letter: Letter) -> &[u16] {
+        self.first.plain_states(letter)
+    }
+
+    fn endings(&self) -> &[u32] {
+        self.first.state_endings()
     }
 }

@@ -1,5 +1,5 @@
 //! What may still follow the states of a table.
-ghost use Rattle.std.specs.Prelude.{ℕ, ◌≡◌, ◌<◌, ◌↔◌, All, Contains, IsTrue, IsBitSet, IfOk, length, slice_index};
+ghost use Rattle.std.specs.Prelude.{ℕ, ◌≡◌, ◌≢◌, ◌<◌, ◌↔◌, [], All, Contains, IsTrue, IsBitSet, IfOk, length, map, slice_index, slice_index_or};
 ghost use Rattle.std.specs.List.Sorted.{IsStrictlySortedBy};
 ghost use Rattle.std.specs.Ordering.{nat_cmp};
 ghost use Rattle.jm_events.specs.Events.{EventDefinitions};
@@ -8,7 +8,7 @@ ghost use Rattle.jm_table.specs.Tables.{Transitions};
 ghost use Rattle.jm_coenable.specs.Needs.{AreFit, AreNeedsOf, IsAlive, IsNeededFrom, IsInFamily};
 ghost use Rattle.jm_machine.specs.declared.engine.Engine.TheVariants.{States};
 ghost use Rattle.jm_machine.specs.Engines.{categories_of_engine};
-ghost use Rattle.jm_machine.specs.Outlooks.{AreHandlerMasks, IsIdleLetter, IsEndingLetter, IsFirstEnding, AreIdle, AreEnding, AreFactsOf, CanHitFrom};
+ghost use Rattle.jm_machine.specs.Outlooks.{AreHandlerMasks, IsIdleLetter, IsEndingLetter, IsFirstEnding, IsPlainEntry, IsPlainRow, ArePlainRows, AreIdle, AreEnding, AreFactsOf, CanHitFrom};
 
 use crate::engine::{Engine, handlers_at};
 use crate::goal::may_begin;
@@ -16,13 +16,13 @@ use crate::place::Place;
 use jm_coenable::{Needs, step};
 use jm_events::EventTable;
 use jm_goal::Goal;
-use jm_model::{Letter, NoMemory};
+use jm_model::{AT_REST, Letter, NO_NUMBER, NoMemory};
 use jm_table::Table;
 use std::alloc::Global;
 use std::marker::Model;
 
-/// For each state the handlers that it hits, the letters that leave it as it is, those that end an instance, and what
-/// is needed to be hit again. Contracts see it as its `StateFacts`.
+/// For each state the handlers that it hits, the letters that leave it as it is, those that end an instance, what is
+/// needed to be hit again, and where letters lead. Contracts see it as its `StateFacts`.
 pub(crate) struct TableOutlook {
     hits: Vec<u16>,
     idle: Vec<u32>,
@@ -30,6 +30,9 @@ pub(crate) struct TableOutlook {
     /// The letters that end an instance of the empty word.
     first_ending: u32,
     needs: Needs,
+    /// By letter and state the state to which the letter leads, where that is plain, `AT_REST` where it leaves the state as
+    /// it is, and else `NO_NUMBER`.
+    plain: Vec<Vec<u16>>,
 }
 
 // Written out, so that a drop is one call.
@@ -41,12 +44,13 @@ impl Drop for TableOutlook {
             ending: _,
             first_ending: _,
             needs: _,
+            plain: _,
         } = self;
     }
 }
 
 impl Model for TableOutlook {
-    ghost use Rattle.std.specs.Prelude.{◌≡◌, length};
+    ghost use Rattle.std.specs.Prelude.{◌≡◌, length, map};
     ghost use Rattle.jm_machine.specs.Outlooks.{StateFacts};
 
     ghost Value = { StateFacts };
@@ -57,6 +61,7 @@ impl Model for TableOutlook {
       ending = o.ending.items;
       first_ending = o.first_ending;
       needs = o.needs;
+      plain = map (λ row. row.items) o.plain.items;
     } };
 
     ghost invariant = { λ o. length o.needs.alive ≡ length o.hits.items };
@@ -80,12 +85,14 @@ impl TableOutlook {
         let idle = idle_masks(alloc, table, hits.as_slice())?;
         let ending = ending_masks(alloc, table, goal, hits.as_slice(), &needs)?;
         let first_ending = first_ending(table, goal, hits.as_slice(), &needs);
+        let plain = plain_rows(alloc, table, goal, hits.as_slice(), &needs)?;
         Ok(TableOutlook {
             hits,
             idle,
             ending,
             first_ending,
             needs,
+            plain,
         })
     }
 
@@ -116,6 +123,23 @@ impl TableOutlook {
         match self.ending.get(state as usize) {
             Some(ending) => *ending,
             None => 0,
+        }
+    }
+
+    /// By state the letters that end an instance.
+    pub(crate) fn endings(&self) -> &[u32]
+        ensures { result.now ≡ self.now.ending }
+    {
+        self.ending.as_slice()
+    }
+
+    /// By state the state to which the letter leads plainly, or that it leaves the state as it is.
+    pub(crate) fn plain_states(&self, letter: Letter) -> &[u16]
+        ensures { result.now ≡ slice_index_or self.now.plain letter.0 [] }
+    {
+        match self.plain.get(letter.0 as usize) {
+            Some(row) => row.as_slice(),
+            None => &[],
         }
     }
 
@@ -303,4 +327,74 @@ fn is_first_ending(table: &Table, goal: &Goal, hits: &[u16], needs: &Needs, lett
     // A table has few letters: the proof learns it from the call.
     letter.0 < table.letters()
         && (!may_begin(goal, letter) || is_ending(table, goal, hits, needs, start, letter))
+}
+
+/// For each letter the row of where it leads plainly.
+fn plain_rows(
+    alloc: Global,
+    table: &Table,
+    goal: &Goal,
+    hits: &[u16],
+    needs: &Needs,
+) -> Result<Vec<Vec<u16>>, NoMemory>
+    requires groups { All (λ group. group < length table.now.groups) goal.now.groups }
+    requires count { length hits.now ≡ table.now.states }
+    requires needs { length needs.now.alive ≡ table.now.states }
+    ensures { IfOk result (λ rows. ArePlainRows table.now hits.now goal.now needs.now
+        (map (λ row. row.items) rows.items)) }
+{
+    let mut rows = Vec::with_capacity(alloc, table.letters() as usize)?;
+    for letter in 0..table.letters() {
+        rows.push(plain_row(alloc, table, goal, hits, needs, Letter(letter))?)?;
+    }
+    Ok(rows)
+}
+
+/// For each state the state to which a letter leads plainly, or that it leaves the state as it is.
+fn plain_row(
+    alloc: Global,
+    table: &Table,
+    goal: &Goal,
+    hits: &[u16],
+    needs: &Needs,
+    letter: Letter,
+) -> Result<Vec<u16>, NoMemory>
+    requires groups { All (λ group. group < length table.now.groups) goal.now.groups }
+    requires count { length hits.now ≡ table.now.states }
+    requires needs { length needs.now.alive ≡ table.now.states }
+    requires letter { letter.0 < table.now.letters }
+    ensures { IfOk result (λ row. IsPlainRow table.now hits.now goal.now needs.now letter.0 row.items) }
+{
+    let mut row = Vec::with_capacity(alloc, hits.len())?;
+    for state in 0..table.len() {
+        row.push(plain_state(table, goal, hits, needs, state, letter))?;
+    }
+    Ok(row)
+}
+
+/// The state to which a letter leads, where that hits nothing and isn't cut while nothing is dead; `AT_REST`, where that
+/// is the state itself. Else `NO_NUMBER`.
+fn plain_state(
+    table: &Table,
+    goal: &Goal,
+    hits: &[u16],
+    needs: &Needs,
+    state: u16,
+    letter: Letter,
+) -> u16
+    requires groups { All (λ group. group < length table.now.groups) goal.now.groups }
+    requires state { state < table.now.states }
+    requires count { length hits.now ≡ table.now.states }
+    requires needs { length needs.now.alive ≡ table.now.states }
+    requires letter { letter.0 < table.now.letters }
+    ensures { IsPlainEntry table.now hits.now goal.now needs.now letter.0 state result }
+{
+    // A table has few states: the proof learns it from the call.
+    let _states = table.len();
+    let reached = step(table, goal, state, letter);
+    if hits[reached as usize] == 0 && needs.alive(reached, true, 0) {
+        if reached == state { AT_REST } else { reached }
+    } else {
+        NO_NUMBER
+    }
 }

@@ -36,6 +36,8 @@ impl<'a, M: Monitor> Monitor for Lent<'a, M> {
 
     ghost StandsFor = { λ l s w. M.StandsFor l s w };
 
+    ghost HasNumber = { λ l s n. M.HasNumber l s n };
+
     fn letters(&self) -> u8 {
         self.rules.letters()
     }
@@ -74,5 +76,21 @@ impl<'a, M: Monitor> Monitor for Lent<'a, M> {
 
     fn ending(&self, state: &M::State) -> u32 {
         self.rules.ending(state)
+    }
+
+    fn number(&self, state: &M::State) -> Option<u16> {
+        self.rules.number(state)
+    }
+
+    fn renumber(&self, state: &mut M::State, number: u16) {
+        self.rules.renumber(state, number);
+    }
+
+    fn plain(&self, letter: Letter) -> &[u16] {
+        self.rules.plain(letter)
+    }
+
+    fn endings(&self) -> &[u32] {
+        self.rules.endings()
     }
 }

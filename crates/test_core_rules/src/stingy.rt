@@ -38,6 +38,8 @@ impl Monitor for Stingy {
 
     ghost StandsFor = { λ s r w. IsConfigurationOf s.rules r w };
 
+    ghost HasNumber = { λ m s n. ⊥ };
+
     fn letters(&self) -> u8 {
         self.rules.letters()
     }
@@ -81,5 +83,10 @@ impl Monitor for Stingy {
 
     fn ending(&self, state: &Configuration) -> u32 {
         self.rules.ending(state)
+    }
+
+    fn renumber(&self, state: &mut Configuration, number: u16) {
+        let _state = state;
+        let _number = number;
     }
 }

@@ -43,6 +43,8 @@ impl Monitor for Meet {
 
     ghost StandsFor = { λ m s w. s.moved ≡ has_letter w };
 
+    ghost HasNumber = { λ m s n. ⊥ };
+
     fn letters(&self) -> u8 {
         1
     }
@@ -84,5 +86,10 @@ impl Monitor for Meet {
     fn cut(&self, state: &Met, dead: u8) -> bool {
         let _state = *state;
         has_first(dead)
+    }
+
+    fn renumber(&self, state: &mut Met, number: u16) {
+        let _state = state;
+        let _number = number;
     }
 }

@@ -124,6 +124,8 @@ impl Monitor for Table {
 
     ghost StandsFor = { λ t s w. (s.state ≡ state_from t 0 w) × (s.moved ≡ has_letter w) };
 
+    ghost HasNumber = { λ m s n. ⊥ };
+
     fn letters(&self) -> u8 {
         let params: &[u8] = &self.params;
         params.len() as u8
@@ -170,5 +172,10 @@ impl Monitor for Table {
     fn cut(&self, state: &Configuration, dead: u8) -> bool {
         let _state = *state;
         self.has_no_letter(dead)
+    }
+
+    fn renumber(&self, state: &mut Configuration, number: u16) {
+        let _state = state;
+        let _number = number;
     }
 }
