@@ -1,8 +1,11 @@
 -- What shifts make of the monitors: what the moves of an event make of them.
-use Rattle.std.proofs.Common.{◌≡◌, ◌≢◌, ℕ, zero, suc, ◌<◌, ◌⊎◌, inl, inr, Bool, true, cond, List, [], ◌∷◌, refl, sym, ap, ◌∙◌, subst, arith}
-use Rattle.std.specs.Prelude.{Option, Some, None, Contains, AllPairs}
+use Rattle.std.proofs.Common.{◌≡◌, ◌≢◌, ℕ, zero, suc, ◌<◌, ◌⊎◌, inl, inr, Bool, true, cond, List, [], ◌∷◌, length, refl, sym, ap, ◌∙◌, subst, arith}
+use Rattle.std.specs.Prelude.{Option, Some, None, Contains, AllPairs, slice_set}
+use Rattle.std.specs.Int.{bit_at}
 use Rattle.std.specs.List.{cons_option}
 use Rattle.std.proofs.lemmas.Bool.{cases_eq}
+use Rattle.std.proofs.lemmas.List.{get_or-set_same}
+use Rattle.std.proofs.lemmas.Option.{same_Some}
 use Rattle.jm_model.specs.Bindings.{is_below}
 use Rattle.jm_model.specs.Meanings.{Meaning, IsHit}
 use Rattle.jm_model.specs.Numbers.{IsPlainMove}
@@ -13,14 +16,16 @@ use Rattle.jm_awake.specs.Awake.{Lists, list_at, card_at, IsOn}
 use Rattle.jm_awake.proofs.RestLemmas.{sound_along}
 use Rattle.jm_marks.specs.Marks.{dead_mask_of}
 use Rattle.jm_monitors.specs.declared.stored.Stored.{Stored}
-use Rattle.jm_monitors.specs.Steps.{IsAliveState}
+use Rattle.jm_monitors.specs.Steps.{IsAliveState, IsOverAfter}
 use Rattle.jm_store.specs.declared.moves.Move.{Move}
 use Rattle.jm_store.specs.declared.walk.Shift.{Shift}
 use Rattle.jm_store.specs.Slots.{monitor_at}
-use Rattle.jm_store.specs.Moves.{AreGiven, IsMoved, IsReadIn, IsReadAt}
+use Rattle.jm_store.specs.Moves.{AreGiven, IsMoved, IsReadIn, IsReadAt, after_move, after_moves}
 use Rattle.jm_store.specs.Listed.{occupant_of, occupant_for, occupants_of, RestsAt, AreListed}
 use Rattle.jm_store.specs.Walks.{IsShifting, IsShiftAt, AreShifted}
+use Rattle.jm_store.proofs.AfterLemmas.{moved_other, length-after}
 use Rattle.jm_store.proofs.GivenLemmas.{given_each, given_pairs}
+use Rattle.jm_store.proofs.ListedLemmas.{within, after_others}
 use Rattle.jm_store.proofs.MoveLemmas.{join_above, compatible_above}
 
 -- ---- the slots that shifts have
@@ -123,3 +128,108 @@ module _ (m : Meaning) {S : Type 0} (Stands : S → List ℕ → Type 0) (HasNum
         ]
       ];
     }
+
+    -- ---- moves that make the same of the monitors
+    -- the move of a slot's monitor that got another number
+    abbrev IsMove : Move S → Type 0
+    IsMove move = (k : ℕ) × (x : IsShiftedAt k) × (move ≡ move_to k x.next)
+
+    record AreMoves (marks : List Binding) (xs : List ℕ) (ys : List Shift) (moves : List (Move S)) : Type 0 where
+      read : AreGiven (IsReadAt m Stands letter b dead marks monitors) xs moves
+      each : (move : Move S) → Contains moves move → IsMove move
+      all : (shift : Shift) → Contains ys shift → (move : Move S) × Contains moves move × (move.slot ≡ Some shift.slot)
+
+    moves_for : (marks : List Binding) (xs : List ℕ) (ys : List Shift) → AreGiven (IsShiftAt m Stands HasNumber letter dead b ends lists monitors) xs ys → ((y : Shift) → Contains ys y → Contains shifts y)
+        → (moves : List (Move S)) × AreMoves marks xs ys moves
+    moves_for marks [] ys none within =
+        ([], record { read = refl; each = λ move has. absurd (Contains-none move has); all = λ shift has. absurd (Contains-none shift (subst (λ (l : List Shift). Contains l shift) none has)) })
+    moves_for marks (k ∷ xs) ys (o, gives, (rest, given, is)) within = by o gives is (λ inside. moves_for marks xs rest given inside)
+      where
+        by : (p : Option Shift) → IsShiftAt m Stands HasNumber letter dead b ends lists monitors k p → ys ≡ cons_option p rest → (((y : Shift) → Contains rest y → Contains shifts y) → (moves : List (Move S)) × AreMoves marks xs rest moves)
+            → (moves : List (Move S)) × AreMoves marks (k ∷ xs) ys moves
+        by None (s, at, resting) same more =
+            let (moves, are) = more (λ y has. within y (subst (λ (l : List Shift). Contains l y) (sym same) has)) in (
+              moves,
+              record {
+                read = (None, subst (λ (v : Option (Stored S)). IsReadIn m Stands letter b dead marks k v None) (sym at) (inr resting), (moves, are.read, refl));
+                each = are.each;
+                all = λ shift has. are.all shift (subst (λ (l : List Shift). Contains l shift) same has);
+              },
+            )
+        by (Some shift) gives same more =
+            let head : Contains ys shift = subst (λ (l : List Shift). Contains l shift) (sym same) (Contains-head shift rest) in
+            let x = shifted_of k shift (within shift head) gives in
+            let move = move_to k x.next in
+            let (moves, are) = more (λ y has. within y (subst (λ (l : List Shift). Contains l y) (sym same) (Contains-cons shift y rest has))) in (
+              move ∷ moves,
+              record {
+                read = (Some move, subst (λ (v : Option (Stored S)). IsReadIn m Stands letter b dead marks k v (Some move)) (sym x.here) (shift_moved marks k x), (moves, are.read, refl));
+                each = λ y has. elim (Contains-cons_cases move moves y has) [ inl is' ↦ (k, x, sym is') | inr later ↦ are.each y later ];
+                all = λ y has. elim (Contains-cons_cases shift rest y (subst (λ (l : List Shift). Contains l y) same has)) [
+                  | inl is' ↦ (move, Contains-head move moves, ap (λ (n : ℕ). Some n) (sym gives.2 ∙ ap (λ (z : Shift). z.slot) is'))
+                  | inr later ↦ let (z, among, slot) = are.all y later in (z, Contains-cons move z moves among, slot)
+                ];
+              },
+            )
+
+    -- after the moves a slot that one has is as after the shifts
+    slot_after : (moves : List (Move S)) → ((move : Move S) → Contains moves move → IsMove move) → (k : ℕ)
+        → (monitor_at (after_moves moves monitors) k ≡ monitor_at after k) ⊎ ((move : Move S) → Contains moves move → move.slot ≡ Some k → ⊥)
+    slot_after [] each k = inr (λ move has. absurd (Contains-none move has))
+    slot_after (y ∷ moves) each k =
+        by (each y (Contains-head y moves)) (slot_after moves (λ move has. each move (Contains-cons y move moves has)) k)
+      where
+        rest : List (Option (Stored S))
+        rest = after_moves moves monitors
+
+        by : IsMove y → (monitor_at rest k ≡ monitor_at after k) ⊎ ((move : Move S) → Contains moves move → move.slot ≡ Some k → ⊥)
+            → (monitor_at (after_move y rest) k ≡ monitor_at after k) ⊎ ((move : Move S) → Contains (y ∷ moves) move → move.slot ≡ Some k → ⊥)
+        by (j, x, is) below = elim (cases_eq k j) [
+          | inl same ↦
+              let size : length rest ≡ length monitors = length-after moves monitors in
+              let low = within j x.base monitors x.here in
+              inl (ap (λ (z : Move S). monitor_at (after_move z rest) k) is ∙ ap (monitor_at (slice_set rest j (Some x.next))) same
+              ∙ get_or-set_same rest j (Some x.next) None (omega (arith, size, low)) ∙ sym x.now ∙ sym (ap (monitor_at after) same))
+          | inr other ↦
+              let apart : y.slot ≡ Some k → ⊥ = λ (at : y.slot ≡ Some k). other (sym (same_Some j k (sym (ap (λ (z : Move S). z.slot) is) ∙ at))) in
+              elim below [
+                | inl there ↦ inl (moved_other y.slot (cond y.stays (Some y.monitor) None) rest k apart ∙ there)
+                | inr none ↦ inr (λ move has slot. elim (Contains-cons_cases y moves move has) [
+                  | inl is' ↦ apart (ap (λ (z : Move S). z.slot) is' ∙ slot)
+                  | inr later ↦ none move later slot
+                ])
+              ]
+        ]
+
+    -- The shifts make of the monitors what these moves make of them. Each move's monitor stays, hits nothing, and the letters
+    -- of `ends` end it.
+    pub record IsMadeBy (marks : List Binding) (moves : List (Move S)) : Type 0 where
+      pub read : AreGiven (IsReadAt m Stands letter b dead marks monitors) slots moves
+      pub same : (k : ℕ) → monitor_at (after_moves moves monitors) k ≡ monitor_at after k
+      pub stays : (move : Move S) → Contains moves move → move.stays ≡ true
+      pub quiet : (move : Move S) → Contains moves move → (w : List ℕ) → Stands move.monitor.state w → (h : ℕ) → IsHit m w h → ⊥
+      pub over : (move : Move S) → Contains moves move → (e : ℕ) → bit_at ends e ≡ 1 → IsOverAfter m Stands e move.monitor.state 0
+      pub from : (move : Move S) → Contains moves move → (k : ℕ) × (s : Stored S) × (monitor_at monitors k ≡ Some s) × (is_below b s.instance ≡ true) × (move.slot ≡ Some k) × (move.monitor.instance ≡ s.instance)
+
+    pub shifts_as_moves : (marks : List Binding) → (moves : List (Move S)) × IsMadeBy marks moves
+    shifts_as_moves marks =
+        let (moves, are) = moves_for marks slots shifts given (λ y has. has) in (
+          moves,
+          record {
+            read = are.read;
+            same = λ k. elim (slot_after moves are.each k) [
+              | inl there ↦ there
+              | inr none ↦ elim (shift_or_none shifts k) [
+                | inl (shift, has, slot) ↦
+                    let (move, among, at) = are.all shift has in
+                    absurd (none move among (at ∙ ap (λ (n : ℕ). Some n) slot))
+                | inr absent ↦ after_others moves monitors k none ∙ sym (moved.others k absent)
+              ]
+            ];
+            stays = λ move has. let (k, x, is) = are.each move has in ap (λ (z : Move S). z.stays) is;
+            quiet = λ move has. let (k, x, is) = are.each move has in subst (λ (z : Move S). (w : List ℕ) → Stands z.monitor.state w → (h : ℕ) → IsHit m w h → ⊥) (sym is) (shift_quiet k x);
+            over = λ move has. let (k, x, is) = are.each move has in
+                subst (λ (z : Move S). (e : ℕ) → bit_at ends e ≡ 1 → IsOverAfter m Stands e z.monitor.state 0) (sym is) (x.is.over x.next.state x.has);
+            from = λ move has. let (k, x, is) = are.each move has in (k, x.base, x.here, x.is.below, ap (λ (z : Move S). z.slot) is, ap (λ (z : Move S). z.monitor.instance) is ∙ x.instance);
+          },
+        )

@@ -1,8 +1,13 @@
 -- An event that gives monitors other states and does nothing else: what it comes to.
-use Rattle.std.proofs.Common.{◌≡◌, ℕ, zero, suc, ◌⊎◌, inl, inr, Bool, true, false, List, [], ◌∷◌, ◌++◌, length, refl, sym, ap, ◌∙◌, subst}
-use Rattle.std.specs.Prelude.{Option, Some, None, Contains, slice_index_or}
+use Rattle.std.proofs.Common.{◌≡◌, ℕ, zero, suc, ◌⊎◌, inl, inr, Bool, true, false, ◌+◌, ◌<◌, max, take, get_or, List, [], ◌∷◌, ◌++◌, length, refl, sym, ap, ◌∙◌, subst, arith}
+use Rattle.std.specs.Prelude.{Option, Some, None, Contains, bit_or, slice_index_or}
 use Rattle.std.specs.Int.{bit_at}
+use Rattle.std.proofs.lemmas.Bool.{false≢true, eqb-true}
+use Rattle.std.proofs.lemmas.List.{take_more, same_lists, get_or_default}
+use Rattle.std.proofs.lemmas.List.Elements.{Contains-append_cases}
+use Rattle.std.proofs.lemmas.Nat.Bits.{bit_at-lt, bit_at_or}
 use Rattle.std.proofs.lemmas.Option.{none-some, same_Some}
+use Rattle.std.proofs.Math.Nat.{max_comm}
 use Rattle.jm_model.specs.Bindings.{is_below, mask_of}
 use Rattle.jm_model.specs.Meanings.{Meaning, IsHit}
 use Rattle.jm_model.specs.declared.binding.Binding.{Binding}
@@ -18,14 +23,14 @@ use Rattle.jm_store.specs.declared.monitors.Slot.TheVariants.{Free, Planned, Tak
 use Rattle.jm_store.specs.declared.moves.Move.{Move}
 use Rattle.jm_store.specs.declared.walk.Shift.{Shift}
 use Rattle.jm_store.specs.Slots.{IsUsed, monitor_in, monitors_of, monitor_at, slot_at, stored_in}
-use Rattle.jm_store.specs.Moves.{AreGiven, AreMovesRead, AreEnding, AreApart, after_moves, asks_by, ends_all, reached_by}
+use Rattle.jm_store.specs.Moves.{AreGiven, AreMovesRead, AreEnding, AreApart, after_moves, asks_by, ends_all, has_all, reached_by}
 use Rattle.jm_store.specs.Contents.{Contents, stored_of, ArePlaced, ArePlacedOf, ArePaired, IsFilled, IsStoreAfter, IsEventDone}
 use Rattle.jm_store.specs.Housing.{IsHoused, IsSettled, IsKept}
 use Rattle.jm_store.specs.Listed.{AreListed, slots_listed}
 use Rattle.jm_store.specs.Plans.{CanPlan}
 use Rattle.jm_store.specs.Walks.{IsShiftAt, AreShifted, IsAlike, AreAlike}
 use Rattle.jm_store.proofs.AfterLemmas.{length-after}
-use Rattle.jm_store.proofs.DirectLemmas.{done_at_once}
+use Rattle.jm_store.proofs.DirectLemmas.{done_at_once, one_of}
 use Rattle.jm_store.proofs.EndingLemmas.{fewer-refl}
 use Rattle.jm_store.proofs.GivenLemmas.{Contains-from_map}
 use Rattle.jm_store.proofs.ListedLemmas.{listed_above, listed_apart, listed_rest, listed_all}
@@ -95,13 +100,10 @@ module _ {S : Type 0} (old new : List (Slot S)) (alike : AreAlike old new) where
 -- ---- lists that have the same at each place
 same_all : {X : Type 0} (xs ys : List (Option X)) → length xs ≡ length ys
     → ((k : ℕ) → slice_index_or xs k None ≡ slice_index_or ys k None) → xs ≡ ys
-same_all [] [] size each = refl
-same_all [] (y ∷ ys) size each = absurd cc
-same_all (x ∷ xs) [] size each = absurd cc
-same_all (x ∷ xs) (y ∷ ys) size each =
-    let head : x ≡ y = each 0 in
-    let tail : xs ≡ ys = same_all xs ys cc (λ k. each (suc k)) in
-    cc
+same_all {X} xs ys size each = same_lists xs ys size by
+  where
+    by : (k : ℕ) (d : Option X) → k < length xs → get_or xs k d ≡ get_or ys k d
+    by k d low = get_or_default xs k d None low ∙ each k ∙ sym (get_or_default ys k d None (omega (arith, size, low)))
 
 -- ---- what the event comes to
 module _ (m : Meaning) {S : Type 0} (Stands : S → List ℕ → Type 0) (HasNumber : S → ℕ → Type 0) (letter : ℕ) (b : Binding)
@@ -113,7 +115,7 @@ module _ (m : Meaning) {S : Type 0} (Stands : S → List ℕ → Type 0) (HasNum
     (filled : (pair : Pair) → Contains old.index.list pair → IsFilled old pair)
     (ended : (k : ℕ) (s : Stored S) → monitor_at old.monitors k ≡ Some s → is_below b s.instance ≡ true → (e : ℕ)
     → ends_all old.ending e (mask_of s.instance) ≡ true → bit_at ends e ≡ 1) where
-  slots : List ℕ
+  abbrev slots : List ℕ
   slots = slots_listed lists place
 
   both : (moves : List (Move S)) × IsMadeBy m Stands HasNumber letter dead b ends lists old.monitors slots shifts given new.monitors moved old.marks moves
@@ -123,6 +125,7 @@ module _ (m : Meaning) {S : Type 0} (Stands : S → List ℕ → Type 0) (HasNum
   moves = both.0
 
   made : IsMadeBy m Stands HasNumber letter dead b ends lists old.monitors slots shifts given new.monitors moved old.marks moves
+  unfolding moves both
   made = both.1
 
   asks : ℕ → Bool
@@ -131,7 +134,7 @@ module _ (m : Meaning) {S : Type 0} (Stands : S → List ℕ → Type 0) (HasNum
   read : AreMovesRead m Stands letter b dead old.marks (asks_by true old.ending letter b) old.monitors moves
   read = listed_all b old.monitors m Stands letter dead old.marks old.ending slots moves
       (listed_apart m Stands dead None old.monitors lists place letter b of listed)
-      (listed_above m Stands dead None old.monitors lists place letter b of listed) made.given
+      (listed_above m Stands dead None old.monitors lists place letter b of listed) made.read
       (listed_rest m Stands dead None old.monitors lists place letter b of listed)
 
   apart : AreApart moves
@@ -165,10 +168,7 @@ module _ (m : Meaning) {S : Type 0} (Stands : S → List ℕ → Type 0) (HasNum
       let (j, base, at, below, slot, instance) = made.from move there in
       let same : s.instance ≡ base.instance = sym (ap (λ (x : Stored S). x.instance) is) ∙ instance in
       let bit = ended j base at below e (subst (λ (t : Binding). ends_all old.ending e (mask_of t) ≡ true) same ends_here) in
-      subst (λ (x : Stored S). IsOver e x) is (made.over move there e bit)
-    where
-      abbrev IsOver : ℕ → Stored S → Type 0
-      IsOver e x = IsOverAfter m Stands e x.state 0
+      subst (λ (x : Stored S). IsOverAfter m Stands e x.state 0) is (made.over move there e bit)
 
   report : IsReport m Stands (reached_by moves) []
   report = record {
@@ -184,7 +184,7 @@ module _ (m : Meaning) {S : Type 0} (Stands : S → List ℕ → Type 0) (HasNum
   shifts_done index marks ending trace holds =
       done_at_once m Stands letter b dead true old old new moves moves [] (λ yes. known) read placed paired (λ k. refl) refl refl
       (λ o is. is) can.fits.index.reached whole (ap (λ i. i.dropped) index) added (rw ending (fewer-refl old.ending))
-      (rw ending ending_moves) report trace can.event holds
+      (subst (λ (l : List ℕ). AreEnding m Stands l (reached_by moves)) (sym ending) ending_moves) report trace can.event holds
     where
       added : AreMarksAfter b old.marks new.marks
       added t = (
@@ -194,3 +194,50 @@ module _ (m : Meaning) {S : Type 0} (Stands : S → List ℕ → Type 0) (HasNum
           | inr is ↦ subst (λ (x : Binding). Contains old.marks x) (sym is) known
         ]),
       )
+
+-- ---- letters that end all monitors of some set of parameters
+either_bit : (a c e : ℕ) → (bit_at a e ≡ 1) ⊎ (bit_at c e ≡ 1) → bit_at (bit_or a c) e ≡ 1
+either_bit a c e h =
+    let same = bit_at_or a c e in
+    let one = bit_at-lt a e in
+    let two = bit_at-lt c e in
+    elim h [
+      | inl x ↦ same ∙ ap (λ (n : ℕ). max n (bit_at c e)) x ∙ max_one (bit_at c e) two
+      | inr y ↦ same ∙ ap (λ (n : ℕ). max (bit_at a e) n) y ∙ max_comm (bit_at a e) 1 ∙ max_one (bit_at a e) one
+    ]
+  where
+    max_one : (n : ℕ) → n < 2 → max 1 n ≡ 1
+    max_one zero low = refl
+    max_one (suc zero) low = refl
+    max_one (suc (suc n)) low = absurd (omega (arith, low))
+
+module _ (b : Binding) (ending domains : List ℕ) where
+  -- the letters are all that end the monitors of one of these sets
+  abbrev pub AreEndsOf : ℕ → List ℕ → Type 0
+  AreEndsOf letters ds = (d : ℕ) → Contains ds d → has_all b d ≡ true → (e : ℕ) → ends_all ending e d ≡ true → bit_at letters e ≡ 1
+
+  pub ends_none : (letters : ℕ) → AreEndsOf letters []
+  ends_none letters d none = absurd (Contains-none d none)
+
+  pub ends_next : (letters i : ℕ) → i < length domains → AreEndsOf letters (take i domains)
+      → AreEndsOf (bit_or letters (get_or ending (get_or domains i 0) 0)) (take (i + 1) domains)
+  ends_next letters i low before d has all e ends =
+      elim (Contains-append_cases (take i domains) (get_or domains i 0 ∷ []) d
+      (subst (λ (l : List ℕ). Contains l d) (take_more domains i 0 low) has)) [
+        | inl old ↦ either_bit letters (get_or ending (get_or domains i 0) 0) e (inl (before d old all e ends))
+        | inr new ↦
+            let same = one_of (get_or domains i 0) d new in
+            either_bit letters (get_or ending (get_or domains i 0) 0) e
+            (inr (subst (λ (x : ℕ). bit_at (get_or ending x 0) e ≡ 1) (sym same) (eqb-true (bit_at (get_or ending d 0) e) 1 ends)))
+      ]
+
+  pub ends_passed : (letters i : ℕ) → i < length domains → has_all b (get_or domains i 0) ≡ false
+      → AreEndsOf letters (take i domains) → AreEndsOf letters (take (i + 1) domains)
+  ends_passed letters i low lacks before d has all e ends =
+      elim (Contains-append_cases (take i domains) (get_or domains i 0 ∷ []) d
+      (subst (λ (l : List ℕ). Contains l d) (take_more domains i 0 low) has)) [
+        | inl old ↦ before d old all e ends
+        | inr new ↦
+            let same = one_of (get_or domains i 0) d new in
+            absurd (false≢true (sym lacks ∙ ap (has_all b) same ∙ all))
+      ]

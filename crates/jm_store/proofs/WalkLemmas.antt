@@ -1,13 +1,15 @@
 -- Monitors of a list that are read by their numbers, and get other numbers.
-use Rattle.std.proofs.Common.{◌≡◌, ◌≢◌, ℕ, zero, suc, ◌+◌, ◌*◌, ◌/◌, ◌%◌, ◌^◌, ◌<◌, ◌≤◌, ◌⊎◌, inl, inr, Bool, true, false, cond, List, [], ◌∷◌, ◌++◌, length, take, map, get_or, refl, sym, ap, ◌∙◌, subst, arith}
+use Rattle.std.proofs.Common.{◌≡◌, ◌≢◌, ℕ, zero, suc, ◌+◌, ◌*◌, ◌/◌, ◌%◌, ◌^◌, ◌<◌, ◌≤◌, ◌⊎◌, inl, inr, Bool, true, false, cond, List, [], ◌∷◌, ◌++◌, length, take, drop, map, get_or, refl, sym, ap, ◌∙◌, subst, append-nil, arith}
 use Rattle.std.specs.Prelude.{Option, Some, None, Contains, AllPairs, slice_get, slice_index, slice_set, ◌==◌}
 use Rattle.std.specs.Int.{w32, bit_at, trailing_zeros}
 use Rattle.std.proofs.lemmas.Bool.{cases_eq, cases_lt, false≢true, eqb-true}
-use Rattle.std.proofs.lemmas.List.{get_or_default, get_or-take, get_or_past, length-take-le, take_more}
+use Rattle.std.proofs.lemmas.List.{get_or_default, get_or-take, get_or_past, drop_all, length-map, length-take-le, set-get_or, take_all, take_more}
 use Rattle.std.proofs.lemmas.List.Elements.{Contains-push_cases, Contains-append_left, Contains-push}
 use Rattle.std.proofs.lemmas.Option.{same_Some, none-some, get_or_from_slice_get}
 use Rattle.std.proofs.lemmas.Nat.Bits.{bit_at_above}
 use Rattle.jm_model.specs.Bindings.{is_below, object_at, mask_of, mask_where}
+use Rattle.jm_model.specs.Meanings.{Meaning, IsCutWord}
+use Rattle.jm_model.specs.Numbers.{IsAtRest as RestsBy, AreEnds}
 use Rattle.jm_model.specs.declared.binding.Binding.{Binding}
 use Rattle.jm_semantics.proofs.BindingLemmas.{below-object}
 use Rattle.jm_index.specs.Index.{AreLive, flag_of}
@@ -16,12 +18,15 @@ use Rattle.jm_awake.proofs.CardLemmas.{first_left}
 use Rattle.jm_awake.proofs.PathLemmas.{bound_one, unbound_zero}
 use Rattle.jm_marks.specs.Marks.{dead_mask_of, is_dead_object}
 use Rattle.jm_monitors.specs.declared.stored.Stored.{Stored}
+use Rattle.jm_monitors.specs.Steps.{IsOverAfter}
 use Rattle.jm_store.specs.declared.walk.Shift.{Shift}
 use Rattle.jm_store.specs.declared.monitors.Slot.{Slot}
 use Rattle.jm_store.specs.declared.monitors.Slot.TheVariants.{Free, Planned, Taken}
 use Rattle.jm_store.specs.Slots.{count_in, monitor_in, monitor_at, monitors_of, slot_at, stored_in}
+use Rattle.jm_store.specs.Moves.{IsAtRest}
 use Rattle.jm_store.specs.Walks.{IsShifted, AreShifted, IsAlike, AreAlike}
-use Rattle.jm_store.proofs.SlotLemmas.{monitor_at-slot, slot_at-set_same, slot_at-set_other, used_within, monitor_used}
+use Rattle.jm_store.proofs.ReportLemmas.{set_from_bit}
+use Rattle.jm_store.proofs.SlotLemmas.{monitor_at-slot, slot_at-set_same, slot_at-set_other, used_within, monitor_used, not_taken}
 
 -- ---- what is dead of an instance
 -- where no object that is bound is of a kind, the set of those that are is empty
@@ -60,6 +65,20 @@ dead_by_word flags words o each off = elim (cases_lt o (length flags)) [
   | inr high ↦ get_or_past flags o false high
 ]
 
+-- ---- what the numbers tell of a monitor
+module _ (m : Meaning) {S : Type 0} (Stands : S → List ℕ → Type 0) where
+  -- one of which nothing is dead, whose state the letter leaves as it is
+  pub rests_by : (letter : ℕ) (dead : List Bool) (b : Binding) (base : Stored S) → is_below b base.instance ≡ true → dead_mask_of dead base.instance ≡ 0 → RestsBy S m Stands letter base.state
+      → IsAtRest m Stands letter b dead base
+  rests_by letter dead b base below whole rests =
+      (below, record { stays = rests.stays; quiet = rests.quiet }, λ w stands cut. rests.goes_on w stands (subst (IsCutWord m w) whole cut))
+
+  -- letters among those that end a state
+  pub over_by : (mask ends : ℕ) (state : S) → ((e : ℕ) → bit_at ends e ≡ 1 → bit_at mask e ≡ 1) → AreEnds S m Stands mask state → (e : ℕ) → bit_at ends e ≡ 1 → IsOverAfter m Stands e state 0
+  over_by mask ends state within are e bit w stands =
+      let set' = set_from_bit mask e (within e bit) in
+      (λ k hit. are.quiet w stands e k set' hit, are.cut w stands e set')
+
 -- ---- slots that have as much as they had
 module _ {S : Type 0} where
   alike_slot : (x : Slot S) → IsAlike x x
@@ -94,6 +113,9 @@ module _ {S : Type 0} where
     ];
   }
 
+  pub alike_size : (xs ys : List (Slot S)) → AreAlike xs ys → length (monitors_of ys) ≡ length (monitors_of xs)
+  alike_size xs ys alike = length-map ys monitor_in ∙ alike.size ∙ sym (length-map xs monitor_in)
+
   count_one : (x y : Slot S) → IsAlike x y → (xs ys : List (Slot S)) → length (stored_in (monitors_of xs)) ≡ length (stored_in (monitors_of ys))
       → length (stored_in (monitors_of (x ∷ xs))) ≡ length (stored_in (monitors_of (y ∷ ys)))
   count_one (Free next) y is xs ys same = rw is same
@@ -110,7 +132,22 @@ module _ {S : Type 0} where
   pub alike_counted : (xs ys : List (Slot S)) → AreAlike xs ys → length (stored_in (monitors_of xs)) ≡ length (stored_in (monitors_of ys))
   alike_counted xs ys alike = count_alike xs ys alike.size alike.each
 
+-- what was lent of a list whole, written back
+pub written_back : {X : Type 0} (len : ℕ) (items new : List X) → length items ≡ len → length new ≡ length items → take len (new ++ drop (length new) items) ≡ new
+written_back len items new whole size =
+    ap (λ l. take len (new ++ l)) (drop_all (length new) items (omega (arith, size))) ∙ ap (take len) (append-nil new) ∙ take_all len new (omega (arith, whole, size))
+
 -- ---- a monitor in a slot that gets another
+pub slot_read : {S : Type 0} (slots : List (Slot S)) (k : ℕ) (d : Slot S) → k < length slots → slot_at slots k ≡ get_or slots k d
+slot_read slots k d low = get_or_default slots k (Free 0) d low
+
+pub read_none : {S : Type 0} (slots : List (Slot S)) (k : ℕ) (d : Slot S) → k < length slots → ((s : Stored S) → get_or slots k d ≡ Taken s → ⊥) → monitor_at (monitors_of slots) k ≡ None
+read_none slots k d low other = monitor_at-slot slots k ∙ ap monitor_in (slot_read slots k d low) ∙ not_taken (get_or slots k d) other
+
+-- a slot that is written as it was
+pub same_written : {S : Type 0} (slots : List (Slot S)) (k : ℕ) (x : Slot S) → slice_set slots k (get_or slots k x) ≡ slots
+same_written slots k x = set-get_or slots k x
+
 pub renumbered : {S : Type 0} (slots : List (Slot S)) (k : ℕ) (old s next : Stored S) → slot_at slots k ≡ Taken old → monitor_at (monitors_of slots) k ≡ Some s
     → (old ≡ s) × (monitor_at (monitors_of (slice_set slots k (Taken next))) k ≡ Some next)
 renumbered {S} slots k old s next taken at =

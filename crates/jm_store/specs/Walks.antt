@@ -1,6 +1,6 @@
 -- How the monitors of a list are read, where their numbers tell all of them what the event makes of them, and how those
 -- that it changes get other numbers.
-use Rattle.std.specs.Prelude.{ℕ, ◌≡◌, ◌≢◌, Bool, List, Option, Some, None, Contains, length, slice_get}
+use Rattle.std.specs.Prelude.{ℕ, ◌≡◌, ◌≢◌, Bool, true, List, Option, Some, None, Contains, length, slice_get}
 use Rattle.std.specs.Int.{bit_at}
 use Rattle.jm_model.specs.Words.{Mask, Word}
 use Rattle.jm_model.specs.Bindings.{is_below}

@@ -1,6 +1,6 @@
 //! How the monitors of a list are read and moved where their numbers tell what the event makes of them: some get
 //! another state, and the others rest.
-ghost use Rattle.std.specs.Prelude.{◌≡◌, ◌≢◌, ℕ, ◌+◌, ◌<◌, ◌≤◌, ◌^◌, [], List, AllPairs, Contains, Some, true, false, length, slice_get};
+ghost use Rattle.std.specs.Prelude.{◌≡◌, ◌≢◌, ℕ, ◌+◌, ◌<◌, ◌≤◌, ◌^◌, [], ◌∷◌, ◌++◌, List, AllPairs, Contains, Some, true, false, length, slice_get};
 ghost use Rattle.std.specs.Int.{bit_at};
 ghost use Rattle.jm_model.specs.Bindings.{is_below, object_at};
 ghost use Rattle.jm_model.specs.Numbers.{no_number, at_rest};
@@ -12,7 +12,7 @@ ghost use Rattle.jm_monitors.specs.Steps.{IsOverAfter};
 ghost use Rattle.jm_store.specs.Slots.{monitors_of, monitor_at};
 ghost use Rattle.jm_store.specs.Moves.{AreGiven, IsPushed, IsAtRest};
 ghost use Rattle.jm_store.specs.Listed.{slots_listed, AreListed};
-ghost use Rattle.jm_store.specs.Walks.{AreRows, IsShifting, IsShiftAt, IsShifted, AreShifted, IsAlike, AreAlike};
+ghost use Rattle.jm_store.specs.Walks.{AreRows, IsShifting, IsShiftAt, IsShifted, AreShifted, AreAlike};
 
 use crate::monitors::{Monitors, Slot};
 use jm_awake::{Awake, Listed};
@@ -81,12 +81,7 @@ impl<M: Monitor> Walk<'_, M> {
 
     /// Reads the monitor of an entry, and adds what becomes of it. Answers whether its number tells that.
     #[inline(always)]
-    fn read<L: Ledger>(
-        &self,
-        entry: &Listed,
-        shifts: &mut Vec<Shift>,
-        steps: &mut Steps<L>,
-    ) -> bool
+    fn read<L: Ledger>(&self, entry: &Listed, shifts: &mut Vec<Shift>, steps: &mut Steps<L>) -> bool
         requires rows { AreRows (M.meaning (M.definition self.now.rules.now)) (M.StandsFor self.now.rules.now)
             (M.HasNumber self.now.rules.now) self.now.letter.0 self.now.plain.now self.now.endings.now }
         requires live { AreLive self.now.objects.now self.now.binding.now }
@@ -111,7 +106,7 @@ impl<M: Monitor> Walk<'_, M> {
             return true;
         }
         let slot = entry.slot_number();
-        shifts.push(Shift { slot, number }).is_ok()
+        add(shifts, Shift { slot, number })
     }
 
     /// The number of the state that the event gives to a slot's monitor, where that is all that changes; `AT_REST` where
@@ -169,6 +164,14 @@ impl<M: Monitor> Walk<'_, M> {
     {
         !self.awake.wants(slot, 0) && is_within(self.ends, endings_at(self.endings, number))
     }
+}
+
+/// Adds a shift at the end, and answers whether memory isn't wanting.
+#[inline(always)]
+fn add(shifts: &mut Vec<Shift>, shift: Shift) -> bool
+    ensures { result ≡ true → shifts.new.items ≡ shifts.old.items ++ shift ∷ [] }
+{
+    shifts.push(shift).is_ok()
 }
 
 /// What a row has at a number.

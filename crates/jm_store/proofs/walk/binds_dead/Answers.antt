@@ -1,6 +1,6 @@
 use Rattle.std.proofs.Common.{◌≡◌, ℕ, ◌<◌, ◌^◌, inl, inr, Option, sym, ap, ◌∙◌, subst, arith}
 use Rattle.std.specs.Prelude.{Some}
-use Rattle.std.specs.Int.{bit_at}
+use Rattle.std.specs.Int.{w32, bit_at, trailing_zeros}
 use Rattle.std.proofs.lemmas.Bool.{cases_eq}
 use Rattle.jm_model.specs.Bindings.{object_at}
 use Rattle.jm_awake.proofs.CardLemmas.{first_left, none_left}
@@ -27,7 +27,7 @@ loop-left-preserved c =
     let fewer = c.without-left.ensures.fewer (first_left c.loop-left.left c.loop-left-test.true fits).1 in
     record {
       small = omega (arith, fewer, c.loop-left.invariant.small);
-      done = λ q o one off at. elim (cases_eq q c.trailing_zeros-p.result) [
+      done = λ q o one off at. elim (cases_eq q (trailing_zeros w32 c.loop-left.left)) [
         | inl same ↦ c.is_dead_at.ensures c.if-is_dead_at.false o (sym (ap (object_at c.args.binding.now) same) ∙ at)
         | inr other ↦ c.loop-left.invariant.done q o one (λ was. off (c.without-left.ensures.kept q other was)) at
       ];

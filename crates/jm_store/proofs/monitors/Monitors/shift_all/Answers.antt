@@ -1,0 +1,14 @@
+use Rattle.std.proofs.Common.{◌≡◌, List, length, sym, ap, ◌∙◌, subst}
+use Rattle.jm_store.specs.declared.monitors.Slot.{Slot}
+use Rattle.jm_store.specs.Walks.{AreAlike}
+use Rattle.jm_store.proofs.WalkLemmas.{alike_counted, written_back}
+use Rattle.jm_store.proofs.monitors.Monitors.shift_all.Goals as goal
+
+pub invariant_of-self : goal.invariant_of-self
+invariant_of-self g c =
+    let slots : List (Slot g.row.S.Denot) = c.self.inside.slots.items in
+    let new : List (Slot g.row.S.Denot) = c.shift_all.new.slots in
+    let value = c.as_mut_slice.ensures.value in
+    let whole : length slots ≡ c.self.inside.slots.len = sym (ap length value) ∙ c.as_mut_slice.ensures.len in
+    let alike : AreAlike slots new = subst (λ (l : List (Slot g.row.S.Denot)). AreAlike l new) value c.shift_all.ensures.alike in
+    rw (written_back c.self.inside.slots.len slots new whole alike.size) (c.self.invariant ∙ alike_counted slots new alike)

@@ -1,0 +1,31 @@
+use Rattle.std.proofs.Common.{get_or}
+use Rattle.std.proofs.lemmas.List.{take_all, get_or_default}
+use Rattle.jm_store.specs.declared.walk.Shift.{Shift}
+use Rattle.jm_store.specs.Slots.{monitors_of}
+use Rattle.jm_store.proofs.WalkLemmas.{alike_same, alike_next, alike_size, shifted_none, shifted_more}
+use Rattle.jm_store.proofs.walk.shift_all.Goals as goal
+
+pub loop-shift-init : goal.loop-shift-init
+loop-shift-init g c = record {
+  moved = shifted_none (g.M.Monitor.HasNumber c.args.rules.now) (monitors_of c.args.slots.now);
+  alike = alike_same c.args.slots.now;
+}
+
+pub loop-shift-preserved : goal.loop-shift-preserved
+loop-shift-preserved g c =
+    let inv = c.loop-shift.invariant in
+    let at = c.renumber.ensures in
+    let i = c.loop-shift.shift-index in
+    let none : Shift = record { slot = 0; number = 0 } in
+    let x = get_or c.args.shifts.now i none in
+    record {
+      moved = shifted_more (g.M.Monitor.HasNumber c.args.rules.now) c.args.shifts.now i x (monitors_of c.args.slots.now) (monitors_of c.loop-shift.slots) (monitors_of c.renumber.new.slots)
+          c.loop-shift-test.true (get_or_default c.args.shifts.now i none x c.loop-shift-test.true) c.requires inv.moved at.here at.others (alike_size c.loop-shift.slots c.renumber.new.slots at.alike);
+      alike = alike_next c.args.slots.now c.loop-shift.slots c.renumber.new.slots inv.alike at.alike;
+    }
+
+pub returns-clause-moved : goal.returns-clause-moved
+returns-clause-moved g c = rw (take_all c.loop-shift.shift-index c.args.shifts.now c.loop-shift-test.false) at c.loop-shift.invariant.moved
+
+pub returns-clause-alike : goal.returns-clause-alike
+returns-clause-alike g c = c.loop-shift.invariant.alike
