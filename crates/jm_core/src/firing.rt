@@ -1,11 +1,11 @@
 //! What an event comes to in a store.
-ghost use Rattle.std.specs.Prelude.{◌≡◌, ◌<◌, ◌↔◌, false, None, Contains, IsTrue, length};
+ghost use Rattle.std.specs.Prelude.{◌≡◌, ◌<◌, ◌↔◌, true, false, None, Contains, IsTrue, length};
 ghost use Rattle.jm_index.specs.Index.{AreBelow, AreLive, IsFitting};
 ghost use Rattle.jm_monitors.specs.Steps.{IsLiveEvent};
 ghost use Rattle.jm_store.specs.Contents.{IsFit};
 ghost use Rattle.jm_awake.specs.Awake.{list_at, IsListOf};
 ghost use Rattle.jm_store.specs.Listed.{AreListed, KeepListed};
-ghost use Rattle.jm_store.specs.Plans.{Advances, CanPlan, Plans, PlansUnlessRests};
+ghost use Rattle.jm_store.specs.Plans.{Advances, CanPlan, IsShiftDone, Plans, PlansUnlessRests};
 ghost use Rattle.jm_core.specs.Inside.{first_dead_by, Performs};
 
 use jm_awake::Awake;
@@ -67,7 +67,7 @@ fn answer<M: Monitor>(
     if known {
         let _letters = rules.letters();
         if let Some(place) = awake.find(letter, binding) {
-            return answer_listed(alloc, rules, objects, store, awake, place, letter, binding);
+            return answer_by_list(alloc, rules, objects, store, awake, place, letter, binding);
         }
     }
     if let Some(done) = counted_advance::<M, Brand>(
@@ -85,7 +85,69 @@ fn answer<M: Monitor>(
     fire(rules, objects, store, awake, letter, binding, known)
 }
 
-/// The same, where its list was found.
+/// What an event comes to whose list was found: at once, where it only gives monitors other states, or by a plan.
+#[inline(always)]
+fn answer_by_list<M: Monitor>(
+    alloc: Global,
+    rules: &M,
+    objects: &Objects,
+    store: &mut Store<M>,
+    awake: &mut Awake,
+    place: usize,
+    letter: Letter,
+    binding: &Binding,
+) -> (Outcome, Outcome)
+    requires can { CanPlan (M.meaning (M.definition rules.now)) objects.now letter.0 binding.now store.old }
+    requires known { Contains store.old.marks binding.now }
+    requires within { place < length awake.old.lists }
+    requires of { IsListOf (list_at awake.old place) letter.0 binding.now }
+    requires live { first_dead_by objects.now binding.now ≡ None }
+    requires listed { AreListed (M.meaning (M.definition rules.now)) (M.StandsFor rules.now) objects.now
+        store.old.monitors awake.old }
+    ensures { Performs (M.meaning (M.definition rules.now)) (M.StandsFor rules.now) objects.now
+        (record { letter = letter.0; binding = binding.now }) store.old store.new awake.old awake.new result }
+{
+    if counted_shift::<M, Brand>(rules, objects, store, awake, place, letter, binding, Blank::new(1)) {
+        return (
+            Outcome::Fired(Firings::new(alloc)),
+            Outcome::Fired(Firings::new(alloc)),
+        );
+    }
+    answer_listed(alloc, rules, objects, store, awake, place, letter, binding)
+}
+
+/// Does an event whose list was found at once, if it only gives monitors other states, with a counter made of a ledger
+/// of one part.
+fn counted_shift<M: Monitor, L: Ledger>(
+    rules: &M,
+    objects: &Objects,
+    store: &mut Store<M>,
+    awake: &Awake,
+    place: usize,
+    letter: Letter,
+    binding: &Binding,
+    blank: Blank,
+) -> bool
+    requires name { blank.name ≡ L.name }
+    requires parts { blank.parts ≡ L.parts }
+    requires one { blank.parts ≡ 1 }
+    requires can { CanPlan (M.meaning (M.definition rules.now)) objects.now letter.0 binding.now store.old }
+    requires known { Contains store.old.marks binding.now }
+    requires within { place < length awake.now.lists }
+    requires of { IsListOf (list_at awake.now place) letter.0 binding.now }
+    requires listed { AreListed (M.meaning (M.definition rules.now)) (M.StandsFor rules.now) objects.now
+        store.old.monitors awake.now }
+    ensures same { result ≡ false → store.new ≡ store.old }
+    ensures done { result ≡ true → IsShiftDone (M.meaning (M.definition rules.now)) (M.StandsFor rules.now)
+        objects.now letter.0 binding.now store.old store.new }
+    ensures listed { AreListed (M.meaning (M.definition rules.now)) (M.StandsFor rules.now) objects.now
+        store.new.monitors awake.now }
+{
+    let mut steps = Steps::<L>::new(blank);
+    store.shift_listed(rules, objects, awake, place, letter, binding, &mut steps)
+}
+
+/// What an event comes to whose list was found, by a plan.
 #[inline(always)]
 fn answer_listed<M: Monitor>(
     alloc: Global,

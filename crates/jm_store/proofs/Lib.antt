@@ -27,3 +27,4 @@ pub mod ListedLemmas
 pub mod SettledLemmas
 pub mod WalkLemmas
 pub mod ShiftLemmas
+mod ShiftedLemmas

@@ -209,6 +209,7 @@ module _ (m : Meaning) {S : Type 0} (Stands : S → List ℕ → Type 0) (HasNum
       pub stays : (move : Move S) → Contains moves move → move.stays ≡ true
       pub quiet : (move : Move S) → Contains moves move → (w : List ℕ) → Stands move.monitor.state w → (h : ℕ) → IsHit m w h → ⊥
       pub over : (move : Move S) → Contains moves move → (e : ℕ) → bit_at ends e ≡ 1 → IsOverAfter m Stands e move.monitor.state 0
+      pub from : (move : Move S) → Contains moves move → (k : ℕ) × (s : Stored S) × (monitor_at monitors k ≡ Some s) × (is_below b s.instance ≡ true) × (move.slot ≡ Some k) × (move.monitor.instance ≡ s.instance)
 
     pub shifts_as_moves : (marks : List Binding) → (moves : List (Move S)) × IsMadeBy marks moves
     shifts_as_moves marks =
@@ -229,5 +230,6 @@ module _ (m : Meaning) {S : Type 0} (Stands : S → List ℕ → Type 0) (HasNum
             quiet = λ move has. let (k, x, is) = are.each move has in subst (λ (z : Move S). (w : List ℕ) → Stands z.monitor.state w → (h : ℕ) → IsHit m w h → ⊥) (sym is) (shift_quiet k x);
             over = λ move has. let (k, x, is) = are.each move has in
                 subst (λ (z : Move S). (e : ℕ) → bit_at ends e ≡ 1 → IsOverAfter m Stands e z.monitor.state 0) (sym is) (x.is.over x.next.state x.has);
+            from = λ move has. let (k, x, is) = are.each move has in (k, x.base, x.here, x.is.below, ap (λ (z : Move S). z.slot) is, ap (λ (z : Move S). z.monitor.instance) is ∙ x.instance);
           },
         )

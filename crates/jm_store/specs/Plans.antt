@@ -1,5 +1,5 @@
 -- What working out an event needs of a store, what it leaves of it, and what it answers.
-use Rattle.std.specs.Prelude.{ℕ, ◌≡◌, Bool, true, false, List, Option, Some, None, Result, Ok, Err, IfNone, IfSome, IfOk, OnOk, OnErr, length}
+use Rattle.std.specs.Prelude.{ℕ, ◌≡◌, Bool, true, false, List, [], Option, Some, None, Result, Ok, Err, IfNone, IfSome, IfOk, OnOk, OnErr, length}
 use Rattle.jm_model.specs.Words.{Word}
 use Rattle.jm_model.specs.Meanings.{Meaning}
 use Rattle.jm_model.specs.declared.binding.Binding.{Binding}
@@ -60,3 +60,11 @@ module _ (m : Meaning) {S : Type 0} (Stands : S → Word → Type 0) (dead : Lis
     pub twice : IfSome result (λ done. done.copy ≡ done.answer)
     pub works : IfSome result (λ done. (trace : List ParametricEvent) → IsStoreAfter m Stands trace dead old
         → IsEventDone m Stands trace dead letter b new done.answer)
+
+  -- The event was done at once, and hits nothing. Its binding was a mark before.
+  pub record IsShiftDone : Type 0 where
+    pub fits : IsFit new dead
+    pub closed : new.is_open ≡ false
+    pub marks : new.marks ≡ old.marks
+    pub works : (trace : List ParametricEvent) → IsStoreAfter m Stands trace dead old
+        → IsEventDone m Stands trace dead letter b new []

@@ -12,9 +12,11 @@ mod dispose;
 mod listed;
 mod place;
 mod reach;
+mod shift;
 
 use crate::monitors::Monitors;
 use crate::moves::Move;
+use crate::walk::Shift;
 pub use advance::Done;
 use jm_index::Index;
 use jm_marks::Marks;
@@ -40,6 +42,8 @@ pub struct Store<M: Monitor> {
     slots: Vec<usize>,
     moves: Vec<Move<M::State>>,
     placed: Vec<Move<M::State>>,
+    /// Room for what becomes of the monitors of a list.
+    shifts: Vec<Shift>,
 }
 
 // Written out, so that a drop is one call wherever a store is let go.
@@ -55,6 +59,7 @@ impl<M: Monitor> Drop for Store<M> {
             slots: _,
             moves: _,
             placed: _,
+            shifts: _,
         } = self;
     }
 }
@@ -116,6 +121,7 @@ impl<M: Monitor> Store<M> {
             slots: Vec::new(alloc),
             moves: Vec::new(alloc),
             placed: Vec::new(alloc),
+            shifts: Vec::new(alloc),
         }
     }
 
@@ -149,6 +155,7 @@ impl<M: Monitor> Store<M> {
             slots: Vec::new(alloc),
             moves: Vec::new(alloc),
             placed: Vec::new(alloc),
+            shifts: Vec::new(alloc),
         })
     }
 

@@ -1,0 +1,16 @@
+use Rattle.std.proofs.Common.{refl}
+use Rattle.jm_core.proofs.firing.answer_by_list.Goals as goal
+
+pub returns-then-counted_shift : goal.returns-then-counted_shift
+returns-then-counted_shift g c =
+    let shifted = c.counted_shift.ensures in
+    let done = shifted.done c.if-counted_shift.true in
+    record {
+      twice = rw (c.new.ensures, c.new-2.ensures) refl;
+      closed = done.closed;
+      fits = done.fits;
+      listed = shifted.listed;
+      works = λ trace holds.
+          let event = done.works trace holds in
+          (c.requires.live, rw c.new.ensures event.answer, record { holds = event.store; none_cut = event.none_cut });
+    }
