@@ -1,12 +1,12 @@
 -- Monitors of a list that are read by their numbers, and get other numbers.
-use Rattle.std.proofs.Common.{◌≡◌, ◌≢◌, ℕ, zero, suc, ◌+◌, ◌*◌, ◌/◌, ◌%◌, ◌^◌, ◌<◌, ◌≤◌, ◌⊎◌, inl, inr, Bool, true, false, cond, List, [], ◌∷◌, ◌++◌, length, take, drop, map, get_or, refl, sym, ap, ◌∙◌, subst, append-nil, arith}
-use Rattle.std.specs.Prelude.{Option, Some, None, Contains, AllPairs, slice_get, slice_index, slice_set, ◌==◌}
-use Rattle.std.specs.Int.{w32, bit_at, trailing_zeros}
+use Rattle.std.proofs.Common.{◌≡◌, ◌≢◌, ℕ, zero, suc, ◌+◌, ◌-◌, ◌*◌, ◌/◌, ◌%◌, ◌^◌, ◌<◌, ◌≤◌, ◌⊎◌, inl, inr, Bool, true, false, cond, List, [], ◌∷◌, ◌++◌, length, take, drop, map, get_or, refl, sym, ap, ◌∙◌, subst, append-nil, arith}
+use Rattle.std.specs.Prelude.{Option, Some, None, Contains, AllPairs, slice_get, slice_index, slice_set, bit_and, ◌==◌}
+use Rattle.std.specs.Int.{w8, w32, bit_at, trailing_zeros}
 use Rattle.std.proofs.lemmas.Bool.{cases_eq, cases_lt, false≢true, eqb-true}
 use Rattle.std.proofs.lemmas.List.{get_or_default, get_or-take, get_or_past, drop_all, length-map, length-take-le, set-get_or, take_all, take_more}
 use Rattle.std.proofs.lemmas.List.Elements.{Contains-push_cases, Contains-append_left, Contains-push}
 use Rattle.std.proofs.lemmas.Option.{same_Some, none-some, get_or_from_slice_get}
-use Rattle.std.proofs.lemmas.Nat.Bits.{bit_at_above}
+use Rattle.std.proofs.lemmas.Nat.Bits.{bit_at_above, bit_at_and, bit_at_not, bit_at-lt, bit_at-zero}
 use Rattle.jm_model.specs.Bindings.{is_below, object_at, mask_of, mask_where}
 use Rattle.jm_model.specs.Meanings.{Meaning, IsCutWord}
 use Rattle.jm_model.specs.Numbers.{IsAtRest as RestsBy, AreEnds}
@@ -24,7 +24,7 @@ use Rattle.jm_store.specs.declared.monitors.Slot.{Slot}
 use Rattle.jm_store.specs.declared.monitors.Slot.TheVariants.{Free, Planned, Taken}
 use Rattle.jm_store.specs.Slots.{count_in, monitor_in, monitor_at, monitors_of, slot_at, stored_in}
 use Rattle.jm_store.specs.Moves.{IsAtRest}
-use Rattle.jm_store.specs.Walks.{IsShifted, AreShifted, IsAlike, AreAlike}
+use Rattle.jm_store.specs.Walks.{AreAliveBut, IsShifted, AreShifted, IsAlike, AreAlike}
 use Rattle.jm_store.proofs.ReportLemmas.{set_from_bit}
 use Rattle.jm_store.proofs.SlotLemmas.{monitor_at-slot, slot_at-set_same, slot_at-set_other, used_within, monitor_used, not_taken}
 
@@ -35,15 +35,34 @@ none_where kind [] none = refl
 none_where kind (None ∷ t) none = let rest = none_where kind t (λ p. none (suc p)) in omega (arith, rest)
 none_where kind (Some o ∷ t) none = let rest = none_where kind t (λ p. none (suc p)) in rw (none zero o refl) (omega (arith, rest))
 
--- An event's objects are alive. Where those are that an instance above it has besides, nothing of the instance is dead.
-pub whole_above : (dead : List Bool) (b t : Binding) (others : ℕ) → is_below b t ≡ true → AreLive dead b
-    → ((p : ℕ) → bit_at (mask_of t) p ≡ 1 → (bit_at (mask_of b) p ≡ 1 → ⊥) → bit_at others p ≡ 1)
-    → ((p o : ℕ) → bit_at others p ≡ 1 → object_at t p ≡ Some o → is_dead_object dead o ≡ false) → dead_mask_of dead t ≡ 0
-whole_above dead b t others below live left alive = none_where (is_dead_object dead) t (λ p o at. by p o at (object_at b p) refl)
+-- where nothing is dead that parameters of a set have, nothing of an instance above the binding is, if no other has any
+pub whole_above : (dead : List Bool) (b t : Binding) (free : ℕ) → mask_of t < 2 ^ 8 → is_below b t ≡ true → AreAliveBut dead b free
+    → ((p o : ℕ) → bit_at (bit_and (mask_of t) free) p ≡ 1 → object_at t p ≡ Some o → is_dead_object dead o ≡ false) → dead_mask_of dead t ≡ 0
+whole_above dead b t free fits below others alive = none_where (is_dead_object dead) t (λ p o at.
+    let bound = bound_one t p o at in
+    let low : p < 8 = elim (cases_lt p 8) [
+      | inl less ↦ less
+      | inr high ↦ let none = bit_at_above (mask_of t) 8 p fits high in absurd (omega (arith, bound, none))
+    ] in
+    elim (cases_eq (bit_at free p) 1) [
+      | inl one ↦ let both = bit_at_and (mask_of t) free p in alive p o (omega (arith, both, bound, one)) at
+      | inr off ↦ others t p o low below at off
+    ])
+
+-- an event's objects are alive
+pub others_free : (dead : List Bool) (b : Binding) → mask_of b < 2 ^ 8 → AreLive dead b → AreAliveBut dead b (2 ^ 8 - 1 - mask_of b)
+others_free dead b fits live t p o low below at off = by (object_at b p) refl
   where
-    by : (p o : ℕ) → object_at t p ≡ Some o → (x : Option ℕ) → object_at b p ≡ x → is_dead_object dead o ≡ false
-    by p o at None none = alive p o (left p (bound_one t p o at) (unbound_zero b p none)) at
-    by p o at (Some q) some = subst (λ (n : ℕ). flag_of dead n ≡ false) (same_Some q o (sym (below-object b t p q below some) ∙ at)) (live q (p, some))
+    by : (x : Option ℕ) → object_at b p ≡ x → is_dead_object dead o ≡ false
+    by None none =
+        let unbound = unbound_zero b p none in
+        let few = bit_at-lt (mask_of b) p in
+        let other = bit_at_not w8 (mask_of b) p fits low in
+        elim (cases_eq (bit_at (mask_of b) p) 1) [
+          | inl one ↦ absurd (unbound one)
+          | inr zero' ↦ absurd (off (omega (arith, few, other, zero')))
+        ]
+    by (Some q) some = subst (λ (n : ℕ). flag_of dead n ≡ false) (same_Some q o (sym (below-object b t p q below some) ∙ at)) (live q (p, some))
 
 -- the first parameter of a set is one of the eight
 pub first_small : (left : ℕ) → 0 < left → left < 2 ^ 8 → trailing_zeros w32 left < 8
@@ -65,6 +84,12 @@ dead_by_word flags words o each off = elim (cases_lt o (length flags)) [
   | inr high ↦ get_or_past flags o false high
 ]
 
+-- where all words are 0, no object is dead
+pub alive_by_words : (flags : List Bool) (words : List ℕ) → ((k : ℕ) → k < length flags → slice_get flags k ≡ Some (bit_at (slice_index words (k / 64)) (k % 64) == 1))
+    → ((k : ℕ) → slice_index words k ≡ 0) → (o : ℕ) → is_dead_object flags o ≡ false
+alive_by_words flags words each none o =
+    dead_by_word flags words o each (ap (λ (n : ℕ). bit_at n (o % 64) == 1) (none (o / 64)) ∙ ap (λ (n : ℕ). n == 1) (bit_at-zero (o % 64)))
+
 -- ---- what the numbers tell of a monitor
 module _ (m : Meaning) {S : Type 0} (Stands : S → List ℕ → Type 0) where
   -- one of which nothing is dead, whose state the letter leaves as it is
@@ -73,10 +98,10 @@ module _ (m : Meaning) {S : Type 0} (Stands : S → List ℕ → Type 0) where
   rests_by letter dead b base below whole rests =
       (below, record { stays = rests.stays; quiet = rests.quiet }, λ w stands cut. rests.goes_on w stands (subst (IsCutWord m w) whole cut))
 
-  -- letters among those that end a state
-  pub over_by : (mask ends : ℕ) (state : S) → ((e : ℕ) → bit_at ends e ≡ 1 → bit_at mask e ≡ 1) → AreEnds S m Stands mask state → (e : ℕ) → bit_at ends e ≡ 1 → IsOverAfter m Stands e state 0
-  over_by mask ends state within are e bit w stands =
-      let set' = set_from_bit mask e (within e bit) in
+  -- a letter among those that end a state
+  pub over_by : (mask e : ℕ) (state : S) → bit_at mask e ≡ 1 → AreEnds S m Stands mask state → IsOverAfter m Stands e state 0
+  over_by mask e state bit are w stands =
+      let set' = set_from_bit mask e bit in
       (λ k hit. are.quiet w stands e k set' hit, are.cut w stands e set')
 
 -- ---- slots that have as much as they had

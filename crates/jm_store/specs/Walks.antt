@@ -1,15 +1,15 @@
 -- How the monitors of a list are read, where their numbers tell all of them what the event makes of them, and how those
 -- that it changes get other numbers.
-use Rattle.std.specs.Prelude.{ℕ, ◌≡◌, ◌≢◌, Bool, true, List, Option, Some, None, Contains, length, slice_get}
+use Rattle.std.specs.Prelude.{ℕ, ◌≡◌, ◌≢◌, ◌<◌, Bool, true, false, List, Option, Some, None, Contains, length, slice_get}
 use Rattle.std.specs.Int.{bit_at}
 use Rattle.jm_model.specs.Words.{Mask, Word}
-use Rattle.jm_model.specs.Bindings.{is_below}
+use Rattle.jm_model.specs.Bindings.{is_below, object_at}
 use Rattle.jm_model.specs.Meanings.{Meaning}
 use Rattle.jm_model.specs.Numbers.{no_number, at_rest, IsPlainMove, IsAtRest as RestsBy, AreEnds}
 use Rattle.jm_model.specs.declared.binding.Binding.{Binding}
 use Rattle.jm_awake.specs.declared.card.Card.{Card}
 use Rattle.jm_awake.specs.Awake.{Lists, card_at, IsOn}
-use Rattle.jm_marks.specs.Marks.{dead_mask_of}
+use Rattle.jm_marks.specs.Marks.{dead_mask_of, is_dead_object}
 use Rattle.jm_monitors.specs.declared.stored.Stored.{Stored}
 use Rattle.jm_monitors.specs.Steps.{IsOverAfter}
 use Rattle.jm_store.specs.declared.walk.Shift.{Shift}
@@ -17,6 +17,17 @@ use Rattle.jm_store.specs.declared.monitors.Slot.{Slot}
 use Rattle.jm_store.specs.declared.monitors.Slot.TheVariants.{Free, Planned, Taken}
 use Rattle.jm_store.specs.Slots.{slot_at, monitor_at}
 use Rattle.jm_store.specs.Moves.{IsAtRest}
+
+-- an instance above b binds dead objects to parameters of this set alone
+abbrev pub AreAliveBut : List Bool → Binding → Mask → Type 0
+AreAliveBut dead b params =
+    (t : Binding) (p o : ℕ) → p < 8 → is_below b t ≡ true → object_at t p ≡ Some o → (bit_at params p ≡ 1 → ⊥)
+    → is_dead_object dead o ≡ false
+
+-- each of the letters is among those that a row has at a number
+abbrev pub EndsAll : Mask → List Mask → ℕ → Type 0
+EndsAll letters row number =
+    (e : ℕ) → bit_at letters e ≡ 1 → (mask : Mask) × (slice_get row number ≡ Some mask) × (bit_at mask e ≡ 1)
 
 module _ (m : Meaning) {S : Type 0} (Stands : S → Word → Type 0) (HasNumber : S → ℕ → Type 0) (letter : ℕ) where
   -- The rows tell by the number of a state what the letter makes of it, and which letters end an instance of it.

@@ -1,6 +1,6 @@
 //! How the monitors of a list are read and moved where their numbers tell what the event makes of them: some get
 //! another state, and the others rest.
-ghost use Rattle.std.specs.Prelude.{◌≡◌, ◌≢◌, ℕ, ◌+◌, ◌<◌, ◌≤◌, ◌^◌, [], ◌∷◌, ◌++◌, List, AllPairs, Contains, Some, true, false, length, slice_get};
+ghost use Rattle.std.specs.Prelude.{◌≡◌, ◌≢◌, ℕ, ◌+◌, ◌<◌, ◌≤◌, [], ◌∷◌, ◌++◌, List, AllPairs, Contains, Some, true, false, length, slice_get, slice_index};
 ghost use Rattle.std.specs.Int.{bit_at};
 ghost use Rattle.jm_model.specs.Bindings.{is_below, object_at};
 ghost use Rattle.jm_model.specs.Numbers.{no_number, at_rest};
@@ -12,7 +12,7 @@ ghost use Rattle.jm_monitors.specs.Steps.{IsOverAfter};
 ghost use Rattle.jm_store.specs.Slots.{monitors_of, monitor_at};
 ghost use Rattle.jm_store.specs.Moves.{AreGiven, IsPushed, IsAtRest};
 ghost use Rattle.jm_store.specs.Listed.{slots_listed, AreListed};
-ghost use Rattle.jm_store.specs.Walks.{AreRows, IsShifting, IsShiftAt, IsShifted, AreShifted, AreAlike};
+ghost use Rattle.jm_store.specs.Walks.{AreRows, AreAliveBut, EndsAll, IsShifting, IsShiftAt, IsShifted, AreShifted, AreAlike};
 
 use crate::monitors::{Monitors, Slot};
 use jm_awake::{Awake, Listed};
@@ -71,20 +71,41 @@ impl<M: Monitor> Walk<'_, M> {
         ensures steps { steps.new ≤ steps.old + length (slots_listed self.now.awake.now place) }
     {
         let entries = self.awake.entries(place);
+        let free = self.free_params(entries.len());
         for entry in entries {
-            if self.awake.is_there(entry) && !self.read(entry, shifts, steps) {
+            if self.awake.is_there(entry) && !self.read(entry, free, shifts, steps) {
                 return false;
             }
         }
         shifts.len() > entries.len() / 2
     }
 
-    /// Reads the monitor of an entry, and adds what becomes of it. Answers whether its number tells that.
+    /// The parameters to which an instance above the event's binding may give a dead object: none where no object is dead
+    /// at all, which is looked at if that costs no more than so many entries, and else those that the event doesn't bind.
+    fn free_params(&self, count: usize) -> u8
+        requires { AreLive self.now.objects.now self.now.binding.now }
+        ensures { AreAliveBut self.now.objects.now self.now.binding.now result }
+    {
+        if are_alive(self.objects, count) {
+            0
+        } else {
+            !self.binding.mask()
+        }
+    }
+
+    /// Reads the monitor of an entry, and adds what becomes of it. Answers whether its number tells that. The parameters
+    /// are those to which its instance may give a dead object.
     #[inline(always)]
-    fn read<L: Ledger>(&self, entry: &Listed, shifts: &mut Vec<Shift>, steps: &mut Steps<L>) -> bool
+    fn read<L: Ledger>(
+        &self,
+        entry: &Listed,
+        free: u8,
+        shifts: &mut Vec<Shift>,
+        steps: &mut Steps<L>,
+    ) -> bool
         requires rows { AreRows (M.meaning (M.definition self.now.rules.now)) (M.StandsFor self.now.rules.now)
             (M.HasNumber self.now.rules.now) self.now.letter.0 self.now.plain.now self.now.endings.now }
-        requires live { AreLive self.now.objects.now self.now.binding.now }
+        requires free { AreAliveBut self.now.objects.now self.now.binding.now free }
         requires above { (s : Kept M.State) → monitor_at (monitors_of self.now.monitors.now.slots) entry.now.slot ≡ Some s
             → is_below self.now.binding.now s.instance ≡ true }
         ensures given { result ≡ true → IsPushed (IsShiftAt (M.meaning (M.definition self.now.rules.now))
@@ -98,7 +119,7 @@ impl<M: Monitor> Walk<'_, M> {
         let Some(base) = self.monitors.lend(slot, steps) else {
             return false;
         };
-        let number = self.next_number(slot, base);
+        let number = self.next_number(slot, base, free);
         if number == NO_NUMBER {
             return false;
         }
@@ -112,10 +133,10 @@ impl<M: Monitor> Walk<'_, M> {
     /// The number of the state that the event gives to a slot's monitor, where that is all that changes; `AT_REST` where
     /// nothing does.
     #[inline(always)]
-    fn next_number(&self, slot: usize, base: &Stored<M::State>) -> u16
+    fn next_number(&self, slot: usize, base: &Stored<M::State>, free: u8) -> u16
         requires rows { AreRows (M.meaning (M.definition self.now.rules.now)) (M.StandsFor self.now.rules.now)
             (M.HasNumber self.now.rules.now) self.now.letter.0 self.now.plain.now self.now.endings.now }
-        requires live { AreLive self.now.objects.now self.now.binding.now }
+        requires free { AreAliveBut self.now.objects.now self.now.binding.now free }
         requires below { is_below self.now.binding.now base.now.instance ≡ true }
         ensures rests { result ≡ at_rest → IsAtRest (M.meaning (M.definition self.now.rules.now))
             (M.StandsFor self.now.rules.now) self.now.letter.0 self.now.binding.now self.now.objects.now base.now }
@@ -129,7 +150,7 @@ impl<M: Monitor> Walk<'_, M> {
             return NO_NUMBER;
         };
         let next = number_at(self.plain, number);
-        if next == NO_NUMBER || !self.is_whole(&base.instance) {
+        if next == NO_NUMBER || !self.is_whole(&base.instance, free) {
             return NO_NUMBER;
         }
         if next == AT_REST || self.is_all(slot, next) {
@@ -141,13 +162,12 @@ impl<M: Monitor> Walk<'_, M> {
 
     /// Whether nothing is dead of an instance above the event's binding.
     #[inline(always)]
-    fn is_whole(&self, instance: &Binding) -> bool
-        requires live { AreLive self.now.objects.now self.now.binding.now }
+    fn is_whole(&self, instance: &Binding, free: u8) -> bool
+        requires free { AreAliveBut self.now.objects.now self.now.binding.now free }
         requires below { is_below self.now.binding.now instance.now ≡ true }
         ensures { result ≡ true → dead_mask_of self.now.objects.now instance.now ≡ 0 }
     {
-        let others = without_all(instance.mask(), self.binding.mask());
-        !binds_dead(self.objects, instance, others)
+        !binds_dead(self.objects, instance, instance.mask() & free)
     }
 
     /// Whether another state is all that a slot's monitor gets: the slot is in the lists of all letters that have some,
@@ -162,7 +182,7 @@ impl<M: Monitor> Walk<'_, M> {
             → bit_at self.now.ends e ≡ 1
             → IsOverAfter (M.meaning (M.definition self.now.rules.now)) (M.StandsFor self.now.rules.now) e state 0 }
     {
-        !self.awake.wants(slot, 0) && is_within(self.ends, endings_at(self.endings, number))
+        !self.awake.wants(slot, 0) && end_all(self.ends, self.endings, number)
     }
 }
 
@@ -185,14 +205,17 @@ fn number_at(row: &[u16], number: u16) -> u16
     }
 }
 
-/// What a row of letters has at a number; no letter where it has nothing.
+/// Whether all letters of a set end the states with a number, by a row.
 #[inline(always)]
-fn endings_at(row: &[u32], number: u16) -> u32
-    ensures { (e : ℕ) → bit_at result e ≡ 1 → slice_get row.now number ≡ Some result }
+fn end_all(letters: u32, row: &[u32], number: u16) -> bool
+    ensures { result ≡ true → EndsAll letters row.now number }
 {
+    if letters == 0 {
+        return true;
+    }
     match row.get(number as usize) {
-        Some(letters) => *letters,
-        None => 0,
+        Some(own) => is_within(letters, *own),
+        None => false,
     }
 }
 
@@ -206,12 +229,11 @@ fn is_within(letters: u32, others: u32) -> bool
 
 /// Whether a binding has a dead object at a parameter of a set.
 #[inline(always)]
-fn binds_dead(objects: &Objects, binding: &Binding, params: u32) -> bool
-    requires { params < 2 ^ 8 }
+fn binds_dead(objects: &Objects, binding: &Binding, params: u8) -> bool
     ensures { result ≡ false → (p o : ℕ) → bit_at params p ≡ 1 → object_at binding.now p ≡ Some o
         → is_dead_object objects.now o ≡ false }
 {
-    let mut left = params;
+    let mut left = params as u32;
     while left > 0 {
         let p = left.trailing_zeros();
         if is_dead_at(objects, binding, p as u8) {
@@ -245,13 +267,24 @@ fn is_dead_in(objects: &Objects, object: u32) -> bool
     }
 }
 
-/// Of some parameters those that aren't among others.
-#[inline(always)]
-fn without_all(params: u8, others: u8) -> u32
-    ensures small { result < 2 ^ 8 }
-    ensures left { (p : ℕ) → bit_at params p ≡ 1 → (bit_at others p ≡ 1 → ⊥) → bit_at result p ≡ 1 }
+/// Whether no object is dead. Where there are too many to look at all of them, it answers that one may be.
+fn are_alive(objects: &Objects, most: usize) -> bool
+    ensures { result ≡ true → (o : ℕ) → is_dead_object objects.now o ≡ false }
 {
-    params as u32 & !(others as u32)
+    let words = objects.words();
+    words.len() <= most && are_zero(words)
+}
+
+/// Whether all words are 0.
+fn are_zero(words: &[u64]) -> bool
+    ensures { result ≡ true → (k : ℕ) → slice_index words.now k ≡ 0 }
+{
+    for word in words {
+        if *word != 0 {
+            return false;
+        }
+    }
+    true
 }
 
 /// A set of parameters without one.

@@ -8,7 +8,7 @@ use Rattle.jm_store.proofs.WalkLemmas.{first_small}
 use Rattle.jm_store.proofs.walk.binds_dead.Goals as goal
 
 pub loop-left-init : goal.loop-left-init
-loop-left-init c = record { small = c.requires; done = λ p o one off at. absurd (off one) }
+loop-left-init c = record { small = c.ranges.params.fits; done = λ p o one off at. absurd (off one) }
 
 pub is_dead_at-requires : goal.is_dead_at-requires
 is_dead_at-requires c = first_small c.loop-left.left c.loop-left-test.true c.loop-left.invariant.small
