@@ -84,11 +84,12 @@ dead_by_word flags words o each off = elim (cases_lt o (length flags)) [
   | inr high ↦ get_or_past flags o false high
 ]
 
--- where all words are 0, no object is dead
-pub alive_by_words : (flags : List Bool) (words : List ℕ) → ((k : ℕ) → k < length flags → slice_get flags k ≡ Some (bit_at (slice_index words (k / 64)) (k % 64) == 1))
-    → ((k : ℕ) → slice_index words k ≡ 0) → (o : ℕ) → is_dead_object flags o ≡ false
-alive_by_words flags words each none o =
-    dead_by_word flags words o each (ap (λ (n : ℕ). bit_at n (o % 64) == 1) (none (o / 64)) ∙ ap (λ (n : ℕ). n == 1) (bit_at-zero (o % 64)))
+-- an object of which it isn't said that it is dead is alive
+pub alive_of : (flags : List Bool) (o : ℕ) → (slice_get flags o ≡ Some true → ⊥) → is_dead_object flags o ≡ false
+alive_of [] o h = refl
+alive_of (true ∷ flags) zero h = absurd (h refl)
+alive_of (false ∷ flags) zero h = refl
+alive_of (x ∷ flags) (suc o) h = alive_of flags o h
 
 -- ---- what the numbers tell of a monitor
 module _ (m : Meaning) {S : Type 0} (Stands : S → List ℕ → Type 0) where

@@ -1,6 +1,6 @@
 //! How the monitors of a list are read and moved where their numbers tell what the event makes of them: some get
 //! another state, and the others rest.
-ghost use Rattle.std.specs.Prelude.{◌≡◌, ◌≢◌, ℕ, ◌+◌, ◌<◌, ◌≤◌, [], ◌∷◌, ◌++◌, List, AllPairs, Contains, Some, true, false, length, slice_get, slice_index};
+ghost use Rattle.std.specs.Prelude.{◌≡◌, ◌≢◌, ℕ, ◌+◌, ◌<◌, ◌≤◌, [], ◌∷◌, ◌++◌, List, AllPairs, Contains, Some, true, false, length, slice_get};
 ghost use Rattle.std.specs.Int.{bit_at};
 ghost use Rattle.jm_model.specs.Bindings.{is_below, object_at};
 ghost use Rattle.jm_model.specs.Numbers.{no_number, at_rest};
@@ -71,7 +71,7 @@ impl<M: Monitor> Walk<'_, M> {
         ensures steps { steps.new ≤ steps.old + length (slots_listed self.now.awake.now place) }
     {
         let entries = self.awake.entries(place);
-        let free = self.free_params(entries.len());
+        let free = self.free_params();
         for entry in entries {
             if self.awake.is_there(entry) && !self.read(entry, free, shifts, steps) {
                 return false;
@@ -81,15 +81,15 @@ impl<M: Monitor> Walk<'_, M> {
     }
 
     /// The parameters to which an instance above the event's binding may give a dead object: none where no object is dead
-    /// at all, which is looked at if that costs no more than so many entries, and else those that the event doesn't bind.
-    fn free_params(&self, count: usize) -> u8
+    /// at all, and else those that the event doesn't bind.
+    fn free_params(&self) -> u8
         requires { AreLive self.now.objects.now self.now.binding.now }
         ensures { AreAliveBut self.now.objects.now self.now.binding.now result }
     {
-        if are_alive(self.objects, count) {
-            0
-        } else {
+        if self.objects.any_dead() {
             !self.binding.mask()
+        } else {
+            0
         }
     }
 
@@ -265,26 +265,6 @@ fn is_dead_in(objects: &Objects, object: u32) -> bool
         Some(word) => (*word >> (object % 64)) % 2 == 1,
         None => false,
     }
-}
-
-/// Whether no object is dead. Where there are too many to look at all of them, it answers that one may be.
-fn are_alive(objects: &Objects, most: usize) -> bool
-    ensures { result ≡ true → (o : ℕ) → is_dead_object objects.now o ≡ false }
-{
-    let words = objects.words();
-    words.len() <= most && are_zero(words)
-}
-
-/// Whether all words are 0.
-fn are_zero(words: &[u64]) -> bool
-    ensures { result ≡ true → (k : ℕ) → slice_index words.now k ≡ 0 }
-{
-    for word in words {
-        if *word != 0 {
-            return false;
-        }
-    }
-    true
 }
 
 /// A set of parameters without one.
