@@ -10,11 +10,12 @@ use Rattle.jm_model.specs.Bindings.{mask_of}
 use Rattle.jm_model.specs.Layout.{binding_eq}
 use Rattle.jm_model.proofs.EqLemmas.{binding_eq-Decides}
 use Rattle.jm_index.specs.declared.entry.Entry.{Entry}
-use Rattle.jm_index.specs.Index.{Pair, PairList, Binds, is_same, without, flag_of, IsKey, AreBelow, IsFitting}
+use Rattle.jm_index.specs.Index.{Pair, PairList, Binds, is_same, without, flag_of, IsKey, IsKeyed, AreBelow, IsFitting}
 use Rattle.jm_index.specs.Postings.{Paths}
-use Rattle.jm_index.specs.Layout.{pair_of, live_pairs, pair_at, posting_at, IsPath, AreFiled, AreThinned, IsIndexed}
+use Rattle.jm_index.specs.Layout.{pair_of, live_pairs, pair_at, posting_at, keys_of, IsPath, IsUnset, AreFiled, AreThinned, IsIndexed}
 use Rattle.jm_index.proofs.ReadLemmas.{Contains-none, Contains-of_filter}
 use Rattle.jm_index.proofs.BindingLemmas.{is_same-same}
+use Rattle.jm_index.proofs.KeyListLemmas.{key_leads, leads_key}
 use Rattle.jm_index.proofs.EntryLemmas.{pair_of_live, pair_of_dead, pair_at_within, is_live-pair_at, pair_at-hole, pair_at-set_other, pair_at-set_same, position_of, Contains-live, without-none, live_pairs-removed, live_pairs-push, pair_at_past, pair_at-take, pair_at-entry, distinct_pairs}
 
 abbrev Bound : Type 0
@@ -22,10 +23,6 @@ Bound = List (Option ℕ)
 
 abbrev Trees : Type 0
 Trees = List Paths
-
-nothing : {X : Type 0} (xs : List X) → ((x : X) → Contains xs x → ⊥) → xs ≡ []
-nothing [] none = refl
-nothing (x ∷ xs) none = absurd (none x (0, (omega arith), refl))
 
 -- more flags, all unset
 pub IsIndexed-covered : (entries : List Entry) (position : Bound → Option ℕ) (trees : Trees) (d e : List Bool) → IsIndexed entries position trees d → ((o : ℕ) → flag_of e o ≡ flag_of d o)
@@ -37,7 +34,7 @@ IsIndexed-covered entries position trees d e i same longer =
       reached = λ k pair at path is. i.reached k pair at path (path_same pair.binding path is);
       inside = i.inside;
       flagged = λ k pair at o binds. let h = i.flagged k pair at o binds in omega (arith, h, longer);
-      empty = λ m o gone. i.empty m o (sym (same o) ∙ gone);
+      led = λ m o x there. let unset = i.led m o x there in ((omega (arith, unset.0, longer)), same o ∙ unset.1);
     }
   where
     path_same : (b : Bound) (path : ℕ) → IsPath e b path → IsPath d b path
@@ -54,7 +51,7 @@ IsIndexed-hole entries position trees d e i dead =
       reached = λ k pair at path is. i.reached k pair (back k pair at) path is;
       inside = λ m q x there. let h = i.inside m q x there in rw (length_push entries e) (omega (arith, h));
       flagged = λ k pair at. i.flagged k pair (back k pair at);
-      empty = i.empty;
+      led = i.led;
     }
   where
     back : (k : ℕ) (pair : Pair) → pair_at (entries ++ e ∷ []) k ≡ Some pair → pair_at entries k ≡ Some pair
@@ -70,7 +67,7 @@ IsIndexed-filed entries position a b d k i filed within =
       reached = λ j pair at path is. filed.kept _ path j (i.reached j pair at path is);
       inside = λ m q x there. elim (filed.only m q x there) [ inl h ↦ i.inside m q x h | inr e ↦ omega (arith, e, within) ];
       flagged = i.flagged;
-      empty = λ m o gone. filed.gone m o gone ∙ i.empty m o gone;
+      led = λ m o x there. elim (filed.led m o x there) [ inl h ↦ i.led m o x h | inr unset ↦ unset ];
     }
 
 -- what stands at a place after an entry is set
@@ -94,7 +91,7 @@ IsIndexed-live entries position after trees d k e i within hole live updated abs
       reached = λ j pair at path is. reached j pair path is (set_cases entries k e j pair within at);
       inside = λ m q x there. rw (length-set entries k e) (i.inside m q x there);
       flagged = λ j pair at. flagged j pair (set_cases entries k e j pair within at);
-      empty = i.empty;
+      led = i.led;
     }
   where
     new_pair : Pair
@@ -156,7 +153,7 @@ IsIndexed-removed entries position after a c d b k e i there dead updated thinne
       reached = λ j pair at path is. thinned.live _ path j (is_live-pair_at (slice_set entries k e) j pair at) (i.reached j pair (still j pair at).1 path is);
       inside = λ m q x h. rw (length-set entries k e) (i.inside m q x (thinned.within m q x h));
       flagged = λ j pair at. i.flagged j pair (still j pair at).1;
-      empty = λ m o gone. nothing (posting_at c m (o + 1)) (λ x h. Contains-none x (subst (λ (v : List ℕ). Contains v x) (i.empty m o gone) (thinned.within m (o + 1) x h)));
+      led = λ m o x there. i.led m o x (thinned.within m (o + 1) x there);
     }
   where
     within : k < length entries
@@ -199,7 +196,7 @@ IsIndexed-dropped entries position a c d o i within cleared =
       reached = λ k pair at path is. reached k pair path at is;
       inside = λ m q x there. i.inside m q x (inside m q x (cases_eq q (o + 1)) there);
       flagged = λ k pair at. rw (length-set d o true) (i.flagged k pair at);
-      empty = λ m x gone. empty m x (cases_eq x o) gone;
+      led = λ m x k there. led m x k (cases_eq x o) there;
     }
   where
     other : (m q : ℕ) → (q ≡ o + 1 → ⊥) → posting_at c m q ≡ posting_at a m q
@@ -228,20 +225,22 @@ IsIndexed-dropped entries position a c d o i within cleared =
     inside m q x (inl is) there = absurd (Contains-none x (subst (λ (v : List ℕ). Contains v x) (here m q is) there))
     inside m q x (inr apart) there = subst (λ (v : List ℕ). Contains v x) (other m q apart) there
 
-    empty : (m x : ℕ) → (x ≡ o) ⊎ (x ≡ o → ⊥) → flag_of (slice_set d o true) x ≡ true → posting_at c m (x + 1) ≡ []
-    empty m x (inl is) gone = here m (x + 1) (omega (arith, is))
-    empty m x (inr differs) gone =
+    led : (m x k : ℕ) → (x ≡ o) ⊎ (x ≡ o → ⊥) → Contains (posting_at c m (x + 1)) k → IsUnset (slice_set d o true) x
+    led m x k (inl is) there = absurd (Contains-none k (subst (λ (v : List ℕ). Contains v k) (here m (x + 1) (omega (arith, is))) there))
+    led m x k (inr differs) there =
         let apart : x + 1 ≡ o + 1 → ⊥ = λ same. let equal : x ≡ o = omega (arith, same) in differs equal in
-        other m (x + 1) apart ∙ i.empty m x (sym (flag_other x differs) ∙ gone)
+        let unset = i.led m x k (subst (λ (v : List ℕ). Contains v k) (other m (x + 1) apart) there) in
+        (rw (length-set d o true) unset.0, flag_other x differs ∙ unset.1)
 
 -- an index that has no other pairs than one that fits, but for such whose objects stand in the table, and has dropped
 -- no other objects, fits
 pub IsFitting-by : (old new : PairList) (dead : List Bool) → IsFitting old dead → ((pair : Pair) → Contains new.list pair → Contains old.list pair ⊎ AreBelow (length dead) pair.binding)
-    → ((o : ℕ) → flag_of new.dropped o ≡ flag_of old.dropped o) → IsFitting new dead
-IsFitting-by old new dead fits pairs flags =
+    → ((o : ℕ) → flag_of new.dropped o ≡ flag_of old.dropped o) → IsKeyed new → IsFitting new dead
+IsFitting-by old new dead fits pairs flags keyed =
     record {
       within = λ pair there. elim (pairs pair there) [ inl h ↦ fits.within pair h | inr h ↦ h ];
       reached = λ o gone. fits.reached o (sym (flags o) ∙ gone);
+      keyed = keyed;
     }
 
 -- the pairs of an index that has let go of the entry of a binding, or never had one
@@ -257,18 +256,49 @@ pub list_absent : (entries : List Entry) (position : Bound → Option ℕ) (tree
 list_absent entries position trees d b i there =
     without-none b entries (λ k pair at same. none-some k (sym there ∙ ap position (sym same) ∙ i.placed k pair at))
 
-pub IsFitting-without : (b : Bound) (old new : PairList) (dead : List Bool) → new.list ≡ without b old.list → new.dropped ≡ old.dropped → IsFitting old dead → IsFitting new dead
-IsFitting-without b old new dead list dropped fits =
+pub IsFitting-without : (b : Bound) (old new : PairList) (dead : List Bool) → new.list ≡ without b old.list → new.dropped ≡ old.dropped → IsKeyed new → IsFitting old dead
+    → IsFitting new dead
+IsFitting-without b old new dead list dropped keyed fits =
     IsFitting-by old new dead fits
     (λ pair there. inl (Contains-of_filter (λ p. not (is_same b p.binding)) old.list pair (subst (λ (v : List Pair). Contains v pair) list there)))
-    (λ o. ap (λ (v : List Bool). flag_of v o) dropped)
+    (λ o. ap (λ (v : List Bool). flag_of v o) dropped) keyed
 
--- a key has a flag
-pub key_flagged : (entries : List Entry) (position : Bound → Option ℕ) (trees : Trees) (d : List Bool) (o : ℕ) → IsIndexed entries position trees d
-    → IsKey (record { list = live_pairs entries; dropped = d }) o → o < length d
-key_flagged entries position trees d o i (pair, there, binds, flag) =
+-- what contracts see of what lies in memory
+abbrev pub seen : List Entry → Trees → List Bool → PairList
+seen entries trees d = record { list = live_pairs entries; dropped = d; keys = keys_of trees }
+
+-- a key has a flag, which isn't set
+pub key_unset : (entries : List Entry) (position : Bound → Option ℕ) (trees : Trees) (d : List Bool) (o : ℕ) → IsIndexed entries position trees d → IsKey (seen entries trees d) o → IsUnset d o
+key_unset entries position trees d o i key = let (m, k, there) = key_leads trees o key in i.led m o k there
+
+-- an object of a pair has a flag
+pub pair_flagged : (entries : List Entry) (position : Bound → Option ℕ) (trees : Trees) (d : List Bool) (o : ℕ) (pair : Pair) → IsIndexed entries position trees d
+    → Contains (live_pairs entries) pair → Binds pair.binding o → o < length d
+pair_flagged entries position trees d o pair i there binds =
     let (k, at) = position_of entries pair there in
     i.flagged k pair at o binds
+
+-- an object whose paths were cleared is no key, and there are no more keys
+pub cleared_gone : (a c : Trees) (o : ℕ) → ((m q : ℕ) → posting_at c m q ≡ cond (q == o + 1) [] (posting_at a m q)) → Contains (keys_of c) o → ⊥
+cleared_gone a c o cleared key =
+    let (m, k, there) = key_leads c o key in
+    let none : posting_at c m (o + 1) ≡ [] = cleared m (o + 1) ∙ rw (eq-eqb (o + 1) (o + 1) refl) in
+    Contains-none k (subst (λ (v : List ℕ). Contains v k) none there)
+
+pub cleared_fewer : (a c : Trees) (o x : ℕ) → ((m q : ℕ) → posting_at c m q ≡ cond (q == o + 1) [] (posting_at a m q)) → Contains (keys_of c) x → Contains (keys_of a) x
+cleared_fewer a c o x cleared key =
+    let (m, k, there) = key_leads c x key in
+    leads_key a m x k (kept (posting_at a m (x + 1)) k (x + 1 == o + 1) (subst (λ (v : List ℕ). Contains v k) (cleared m (x + 1)) there))
+  where
+    kept : (xs : List ℕ) (k : ℕ) (b : Bool) → Contains (cond b [] xs) k → Contains xs k
+    kept xs k true there = absurd (Contains-none k there)
+    kept xs k false there = there
+
+-- each object of a pair that wasn't dropped is a key
+pub all_keyed : (entries : List Entry) (position : Bound → Option ℕ) (trees : Trees) (d : List Bool) → IsIndexed entries position trees d → IsKeyed (seen entries trees d)
+all_keyed entries position trees d i pair o there binds unset =
+    let (k, at) = position_of entries pair there in
+    leads_key trees (mask_of pair.binding) o k (i.reached k pair at (o + 1) (inr (o, binds, unset, refl)))
 
 pub IsIndexed-position : (entries : List Entry) (position after : Bound → Option ℕ) (trees : Trees) (d : List Bool) → IsIndexed entries position trees d → ((q : Bound) → after q ≡ position q)
     → IsIndexed entries after trees d
@@ -279,7 +309,7 @@ IsIndexed-position entries position after trees d i same =
       reached = i.reached;
       inside = i.inside;
       flagged = i.flagged;
-      empty = i.empty;
+      led = i.led;
     }
 
 -- a binding without a position still has none
@@ -344,16 +374,16 @@ taken_apart entries items position trees d i e fits is h at live pair there same
 pub IsFitting-added : {E : Type 0} (r : Result (Unit {0}) E) (old before new : PairList) (dead : List Bool) (b : Bound) (slot : ℕ) → before.list ≡ old.list
     → ((o : ℕ) → flag_of before.dropped o ≡ flag_of old.dropped o)
     → OnOk r (new.list ≡ before.list ++ record { binding = b; slot = slot } ∷ []) → OnErr r (new.list ≡ before.list) → ((o : ℕ) → flag_of new.dropped o ≡ flag_of before.dropped o)
-    → IsFitting old dead → AreBelow (length dead) b → IsFitting new dead
-IsFitting-added (Ok u) old before new dead b slot list flags ok err same fits below =
+    → IsKeyed new → IsFitting old dead → AreBelow (length dead) b → IsFitting new dead
+IsFitting-added (Ok u) old before new dead b slot list flags ok err same keyed fits below =
     IsFitting-by old new dead fits
     (λ pair there. elim (Contains-push_cases before.list (record { binding = b; slot = slot }) pair (subst (λ (v : List Pair). Contains v pair) ok there)) [
       | inl h ↦ inl (subst (λ (v : List Pair). Contains v pair) list h)
       | inr is ↦ inr (subst (λ (p : Pair). AreBelow (length dead) p.binding) is below)
     ])
-    (λ o. same o ∙ flags o)
-IsFitting-added (Err u) old before new dead b slot list flags ok err same fits below =
-    IsFitting-by old new dead fits (λ pair there. inl (subst (λ (v : List Pair). Contains v pair) (err ∙ list) there)) (λ o. same o ∙ flags o)
+    (λ o. same o ∙ flags o) keyed
+IsFitting-added (Err u) old before new dead b slot list flags ok err same keyed fits below =
+    IsFitting-by old new dead fits (λ pair there. inl (subst (λ (v : List Pair). Contains v pair) (err ∙ list) there)) (λ o. same o ∙ flags o) keyed
 
 -- no two pairs have one binding
 pub list_distinct : (entries : List Entry) (position : Bound → Option ℕ) (trees : Trees) (d : List Bool) → IsIndexed entries position trees d
@@ -382,6 +412,7 @@ IsFitting-death index dead o fits =
     record {
       within = λ pair there. rw (length-set dead o true) (fits.within pair there);
       reached = λ x gone. dies x (cases_eq x o) (cases_lt o (length dead)) (fits.reached x gone);
+      keyed = fits.keyed;
     }
   where
     dies : (x : ℕ) → (x ≡ o) ⊎ (x ≡ o → ⊥) → (o < length dead) ⊎ (length dead ≤ o) → flag_of dead x ≡ true → flag_of (slice_set dead o true) x ≡ true
@@ -416,7 +447,7 @@ list_missing entries position trees d b i there pair within same =
 -- a live object of a pair is a key
 pub live_key : (index : PairList) (dead : List Bool) (pair : Pair) (o : ℕ) → IsFitting index dead → Contains index.list pair → Binds pair.binding o → flag_of dead o ≡ false → IsKey index o
 live_key index dead pair o fits there binds lives =
-    (pair, there, binds, false_from_ne_true (flag_of index.dropped o) (λ gone. both_ways (flag_of dead o) lives (fits.reached o gone)))
+    fits.keyed pair o there binds (false_from_ne_true (flag_of index.dropped o) (λ gone. both_ways (flag_of dead o) lives (fits.reached o gone)))
 
 -- no dead object below a number of words is a key
 abbrev pub NoneDead : (ℕ → Type 0) → List Bool → PairList → Type 0
@@ -426,8 +457,5 @@ pub none_more : (part : ℕ → ℕ) (n : ℕ) (dead : List Bool) (index : PairL
 none_more part n dead index before here o low gone key = elim (cases_lt (part o) n) [ inl h ↦ before o h gone key | inr h ↦ here o (omega (arith, h, low)) gone key ]
 
 -- fewer keys
-pub none_fewer : (IsSuch : ℕ → Type 0) (dead : List Bool) (old new : PairList) → new.list ≡ old.list → ((o : ℕ) → flag_of old.dropped o ≡ true → flag_of new.dropped o ≡ true)
-    → NoneDead IsSuch dead old → NoneDead IsSuch dead new
-none_fewer IsSuch dead old new same kept none o such gone key =
-    none o such gone
-    (key.0, subst (λ (v : List Pair). Contains v key.0) same key.1, key.2, false_from_ne_true (flag_of old.dropped o) (λ was. both_ways (flag_of new.dropped o) key.3 (kept o was)))
+pub none_fewer : (IsSuch : ℕ → Type 0) (dead : List Bool) (old new : PairList) → ((o : ℕ) → IsKey new o → IsKey old o) → NoneDead IsSuch dead old → NoneDead IsSuch dead new
+none_fewer IsSuch dead old new fewer none o such gone key = none o such gone (fewer o key)

@@ -8,7 +8,7 @@ pub mod FlagLemmas
 pub mod PostingLemmas
 pub mod TreeLemmas
 pub mod PathLemmas
+pub mod KeyListLemmas
 pub mod IndexLemmas
 pub mod AskLemmas
 pub mod ListedLemmas
-pub mod KeyKeptLemmas

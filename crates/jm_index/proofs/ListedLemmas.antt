@@ -11,6 +11,7 @@ use Rattle.jm_index.specs.Postings.{Paths, no_paths}
 use Rattle.jm_index.specs.Layout.{pair_at, live_pairs, posting_of, posting_at, IsIndexed}
 use Rattle.jm_index.proofs.ReadLemmas.{Contains-none}
 use Rattle.jm_index.proofs.EntryLemmas.{position_of}
+use Rattle.jm_index.proofs.IndexLemmas.{seen}
 
 -- ---- positions of a list, up to one
 pub taken_cases : (xs : List ℕ) (i k : ℕ) → i < length xs → Contains (take (i + 1) xs) k → Contains (take i xs) k ⊎ (get_or xs i 0 ≡ k)
@@ -32,7 +33,7 @@ flag_within (x ∷ flags) (suc o) h = let rest = flag_within flags o h in omega 
 pub listed_all : (entries items : List Entry) (position : List (Option ℕ) → Option ℕ) (trees : List Paths) (d : List Bool) (n o : ℕ) (slots : List ℕ) → IsIndexed entries position trees d
     → length trees ≤ n → items ≡ entries
     → ((m k : ℕ) (pair : Pair) → m < n → Contains (posting_at trees m (o + 1)) k → pair_at items k ≡ Some pair → Contains slots pair.slot)
-    → AreListed (record { list = live_pairs entries; dropped = d }) (λ q. (q ≡ o) × (flag_of d q ≡ false)) slots
+    → AreListed (seen entries trees d) (λ q. (q ≡ o) × (flag_of d q ≡ false)) slots
 listed_all entries items position trees d n o slots i end same all pair q there binds (is, kept) =
     let (k, at) = position_of entries pair there in
     let filed : Contains (posting_at trees (mask_of pair.binding) (o + 1)) k = i.reached k pair at (o + 1) (inr (o, subst (Binds pair.binding) is binds, subst (λ (v : ℕ). flag_of d v ≡ false) is kept, refl)) in

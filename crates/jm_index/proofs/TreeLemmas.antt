@@ -8,7 +8,7 @@ use Rattle.jm_model.specs.Bindings.{object_at}
 use Rattle.jm_index.specs.declared.entry.Entry.{Entry}
 use Rattle.jm_index.specs.Index.{flag_of}
 use Rattle.jm_index.specs.Postings.{Paths, no_paths}
-use Rattle.jm_index.specs.Layout.{posting_of, posting_at, is_live_at, IsFiled, IsPath, AllFiled, AreFiled, AreThinned}
+use Rattle.jm_index.specs.Layout.{posting_of, posting_at, is_live_at, IsFiled, IsPath, IsUnset, AllFiled, AreFiled, AreThinned}
 
 -- one more of what stands past the end
 pub get_or-more : {X : Type 0} (xs : List X) (d : X) (q : ℕ) → get_or (xs ++ d ∷ []) q d ≡ get_or xs q d
@@ -61,17 +61,17 @@ AreFiled-trans dropped k a b c h i =
     record {
       kept = λ m q x t. i.kept m q x (h.kept m q x t);
       only = λ m q x t. elim (i.only m q x t) [ inl u ↦ h.only m q x u | inr e ↦ inr e ];
-      gone = λ m o d. i.gone m o d ∙ h.gone m o d;
+      led = λ m o x t. elim (i.led m o x t) [ inl u ↦ h.led m o x u | inr unset ↦ inr unset ];
     }
 
 pub AllFiled-filed : (dropped : List Bool) (k : ℕ) (a b : List Paths) → AllFiled (λ x. x ≤ k) a → AreFiled dropped k a b → AllFiled (λ x. x ≤ k) b
 AllFiled-filed dropped k a b top h m q x there = elim (h.only m q x there) [ inl u ↦ top m q x u | inr e ↦ omega (arith, e) ]
 
--- one posting is filed in, and it isn't that of an object that was dropped
+-- one posting is filed in, and an object whose it is wasn't dropped
 pub AreFiled-one : (dropped : List Bool) (k mask path : ℕ) (a b : List Paths) → IsFiled k (posting_at a mask path) (posting_at b mask path)
     → ((q : ℕ) → (q ≡ path → ⊥) → posting_at b mask q ≡ posting_at a mask q) → ((m q : ℕ) → (m ≡ mask → ⊥) → posting_at b m q ≡ posting_at a m q)
-    → ((o : ℕ) → flag_of dropped o ≡ true → o + 1 ≡ path → ⊥) → AreFiled dropped k a b
-AreFiled-one dropped k mask path a b filed others trees apart = record { kept = kept; only = only; gone = gone }
+    → ((o : ℕ) → o + 1 ≡ path → IsUnset dropped o) → AreFiled dropped k a b
+AreFiled-one dropped k mask path a b filed others trees unset = record { kept = kept; only = only; led = led }
   where
     same_kept : (m q x : ℕ) → posting_at b m q ≡ posting_at a m q → Contains (posting_at a m q) x → Contains (posting_at b m q) x
     same_kept m q x is there = subst (λ (v : List ℕ). Contains v x) (sym is) there
@@ -95,12 +95,13 @@ AreFiled-one dropped k mask path a b filed others trees apart = record { kept = 
     only : (m q x : ℕ) → Contains (posting_at b m q) x → Contains (posting_at a m q) x ⊎ (x ≡ k)
     only m q x there = only_at m q x (cases_eq m mask) (cases_eq q path) there
 
-    gone_at : (m o : ℕ) → flag_of dropped o ≡ true → (m ≡ mask) ⊎ (m ≡ mask → ⊥) → posting_at b m (o + 1) ≡ posting_at a m (o + 1)
-    gone_at m o d (inl is) = rw is (others (o + 1) (apart o d))
-    gone_at m o d (inr other) = trees m (o + 1) other
+    led_at : (m o x : ℕ) → (m ≡ mask) ⊎ (m ≡ mask → ⊥) → (o + 1 ≡ path) ⊎ (o + 1 ≡ path → ⊥) → Contains (posting_at b m (o + 1)) x → Contains (posting_at a m (o + 1)) x ⊎ IsUnset dropped o
+    led_at m o x (inr other) _ there = inl (subst (λ (v : List ℕ). Contains v x) (trees m (o + 1) other) there)
+    led_at m o x (inl is) (inl same) there = inr (unset o same)
+    led_at m o x (inl is) (inr apart) there = inl (subst (λ (v : List ℕ). Contains v x) (rw is (others (o + 1) apart)) there)
 
-    gone : (m o : ℕ) → flag_of dropped o ≡ true → posting_at b m (o + 1) ≡ posting_at a m (o + 1)
-    gone m o d = gone_at m o d (cases_eq m mask)
+    led : (m o x : ℕ) → Contains (posting_at b m (o + 1)) x → Contains (posting_at a m (o + 1)) x ⊎ IsUnset dropped o
+    led m o x there = led_at m o x (cases_eq m mask) (cases_eq (o + 1) path) there
 
 -- each path of b is filed under, once each of its objects is
 pub all_paths : (dropped : List Bool) (b : List (Option ℕ)) (tree : Paths) (k : ℕ) → Contains (posting_of tree 0) k

@@ -11,11 +11,12 @@ pub record Pair : Type 0 where
   pub binding : Binding
   pub slot : ℕ
 
--- what contracts see of an index: its pairs, in the order in which they were added, and the objects that were dropped,
--- by their flags
+-- what contracts see of an index: its pairs, in the order in which they were added, the objects that were dropped, by
+-- their flags, and the objects by which its trees lead to an entry
 pub record PairList : Type 0 where
   pub list : List Pair
   pub dropped : List Bool
+  pub keys : List ℕ
 
 -- a flag of an object; one that has none is unset
 abbrev pub flag_of : List Bool → ℕ → Bool
@@ -25,9 +26,15 @@ flag_of flags o = slice_index_or flags o false
 abbrev pub Binds : Binding → ℕ → Type 0
 Binds b o = (p : ℕ) × (object_at b p ≡ Some o)
 
--- object o is a key: the index reaches by it each pair that binds it
+-- object o is a key: a tree of the index leads by it to an entry
 abbrev pub IsKey : PairList → ℕ → Type 0
-IsKey index o = (pair : Pair) × Contains index.list pair × Binds pair.binding o × (flag_of index.dropped o ≡ false)
+IsKey index o = Contains index.keys o
+
+-- each object of a pair that wasn't dropped is a key
+abbrev pub IsKeyed : PairList → Type 0
+IsKeyed index =
+    (pair : Pair) (o : ℕ) → Contains index.list pair → Binds pair.binding o → flag_of index.dropped o ≡ false
+    → IsKey index o
 
 -- b's objects are below n
 abbrev pub AreBelow : ℕ → Binding → Type 0
@@ -38,6 +45,7 @@ AreBelow n b = (o : ℕ) → Binds b o → o < n
 pub record IsFitting (index : PairList) (dead : List Bool) : Type 0 where
   pub within : (pair : Pair) → Contains index.list pair → AreBelow (length dead) pair.binding
   pub reached : (o : ℕ) → flag_of index.dropped o ≡ true → flag_of dead o ≡ true
+  pub keyed : IsKeyed index
 
 -- no object that b binds is dead
 abbrev pub AreLive : List Bool → Binding → Type 0

@@ -2,7 +2,7 @@
 -- the position of its entry; and trees, by the set of bound parameters, whose paths lead to positions. Path 0
 -- of a tree leads to all its entries, and path o + 1 to those that bind object o.
 use Rattle.std.specs.Prelude.{◌≡◌, ℕ, ◌+◌, ◌<◌, ◌≤◌, ◌==◌, Bool, true, false, cond, ◌&&◌, ◌⊎◌, List, [], ◌∷◌, Option, Some, None, Contains, length, slice_get, slice_index_or, option_and_then}
-use Rattle.std.specs.List.{filter_map}
+use Rattle.std.specs.List.{filter, filter_map, flat_map, range_with_len}
 use Rattle.std.proofs.Common.{suc}
 use Rattle.jm_model.specs.Words.{Mask}
 use Rattle.jm_model.specs.declared.binding.Binding.{Binding}
@@ -60,6 +60,19 @@ tree_at trees mask = slice_index_or trees mask no_paths
 abbrev pub posting_at : List Paths → Mask → ℕ → List ℕ
 posting_at trees mask path = posting_of (tree_at trees mask) path
 
+-- the list has an element
+abbrev pub has_some : List ℕ → Bool
+has_some [] = false
+has_some (x ∷ xs) = true
+
+-- the objects by which a tree leads to a position
+abbrev pub keys_in : Paths → List ℕ
+keys_in tree = filter (λ o. has_some (posting_of tree (o + 1))) (range_with_len 0 (length tree.leaves))
+
+-- those by which one of the trees does
+abbrev pub keys_of : List Paths → List ℕ
+keys_of trees = flat_map keys_in trees
+
 -- a path of the tree that leads to b, where only objects that weren't dropped have paths
 abbrev pub IsPath : List Bool → Binding → ℕ → Type 0
 IsPath dropped b path = (path ≡ 0) ⊎ ((o : ℕ) × Binds b o × (flag_of dropped o ≡ false) × (path ≡ o + 1))
@@ -72,11 +85,17 @@ IsPathBelow b path = (path ≡ 0) ⊎ ((o : ℕ) × (p : ℕ) × (object_at b p 
 abbrev pub AllFiled : (ℕ → Type 0) → List Paths → Type 0
 AllFiled P trees = (mask path k : ℕ) → Contains (posting_at trees mask path) k → P k
 
--- nothing is filed but under what was filed before, beside the position k; nothing is lost
+-- the object has a flag, which isn't set
+abbrev pub IsUnset : List Bool → ℕ → Type 0
+IsUnset dropped o = (o < length dropped) × (flag_of dropped o ≡ false)
+
+-- nothing is filed but under what was filed before, beside the position k, and under objects that weren't dropped;
+-- nothing is lost
 pub record AreFiled (dropped : List Bool) (k : ℕ) (old new : List Paths) : Type 0 where
   pub kept : (mask path x : ℕ) → Contains (posting_at old mask path) x → Contains (posting_at new mask path) x
   pub only : (mask path x : ℕ) → Contains (posting_at new mask path) x → Contains (posting_at old mask path) x ⊎ (x ≡ k)
-  pub gone : (mask o : ℕ) → flag_of dropped o ≡ true → posting_at new mask (o + 1) ≡ posting_at old mask (o + 1)
+  pub led : (mask o x : ℕ) → Contains (posting_at new mask (o + 1)) x
+      → Contains (posting_at old mask (o + 1)) x ⊎ IsUnset dropped o
 
 -- nothing is added, and no position of a live entry is lost
 pub record AreThinned (entries : List Entry) (old new : List Paths) : Type 0 where
@@ -95,6 +114,6 @@ pub record IsIndexed (entries : List Entry) (position : Binding → Option ℕ) 
   pub reached : (k : ℕ) (pair : Pair) → pair_at entries k ≡ Some pair → (path : ℕ) → IsPath dropped pair.binding path
       → Contains (posting_at trees (mask_of pair.binding) path) k
   pub inside : AllFiled (λ k. k < length entries) trees
-  -- each pair's objects have flags, and nothing is reached by an object that was dropped
+  -- each pair's objects have flags, and so has each by which something is reached, and its flag isn't set
   pub flagged : (k : ℕ) (pair : Pair) → pair_at entries k ≡ Some pair → AreBelow (length dropped) pair.binding
-  pub empty : (mask o : ℕ) → flag_of dropped o ≡ true → posting_at trees mask (o + 1) ≡ []
+  pub led : (mask o x : ℕ) → Contains (posting_at trees mask (o + 1)) x → IsUnset dropped o

@@ -1,7 +1,7 @@
 ghost use Rattle.std.specs.Prelude.{◌≡◌, ◌≢◌, ℕ, ◌<◌, ◌*◌, ◌/◌, Bool, List, [], ◌∷◌, ◌++◌, ◌⊎◌, true, false, length, AllPairs, Contains, IsTrue, IfOk, OnOk, OnErr};
 ghost use Rattle.std.specs.Vec.{vec_capacity};
 ghost use Rattle.jm_model.specs.Bindings.{mask_of, restriction};
-ghost use Rattle.jm_index.specs.Index.{Pair, flag_of, IsKey, AreBelow, IsFitting, AreLive, HasDied, AreListed, without, asked_slots};
+ghost use Rattle.jm_index.specs.Index.{Pair, flag_of, Binds, IsKey, IsKeyed, AreBelow, IsFitting, AreLive, HasDied, AreListed, without, asked_slots};
 
 use crate::entry::{Entry, NoRoom};
 use crate::flags::Flags;
@@ -13,7 +13,7 @@ use std::alloc::Global;
 use std::marker::Model;
 
 /// Pairs of a binding and a slot, each binding once, in the order in which they were added. Contracts see them as a
-/// list, and beside it the objects that were dropped.
+/// list, and beside it the objects that were dropped, and those by which the trees lead to entries.
 pub struct Index {
     entries: Vec<Entry>,
     positions: Positions,
@@ -41,10 +41,14 @@ impl Model for Index {
 
     ghost Value = { PairList };
 
-    ghost use Rattle.jm_index.specs.Layout.{live_pairs, IsIndexed};
+    ghost use Rattle.jm_index.specs.Layout.{live_pairs, keys_of, IsIndexed};
     ghost use Rattle.jm_index.specs.Positions.{position_of};
 
-    ghost view = { λ i. record { list = live_pairs i.entries.items; dropped = i.dropped } };
+    ghost view = { λ i. record {
+      list = live_pairs i.entries.items;
+      dropped = i.dropped;
+      keys = keys_of i.trees;
+    } };
 
     ghost invariant = { λ i. IsIndexed i.entries.items (position_of i.positions) i.trees i.dropped };
 }
@@ -85,6 +89,7 @@ impl Index {
     fn make_room(&mut self) -> Result<(), NoMemory>
         ensures list { self.new.list ≡ self.old.list }
         ensures dropped { (o : ℕ) → flag_of self.new.dropped o ≡ flag_of self.old.dropped o }
+        ensures same { OnErr result (self.new ≡ self.old) }
     {
         if self.is_sparse() {
             *self = self.rebuilt()?;
@@ -136,6 +141,7 @@ impl Index {
         ensures added { OnOk result (self.new.list ≡ self.old.list ++ record { binding = binding; slot = slot } ∷ []) }
         ensures same { OnErr result (self.new.list ≡ self.old.list) }
         ensures dropped { (o : ℕ) → flag_of self.new.dropped o ≡ flag_of self.old.dropped o }
+        ensures keyed { IsKeyed self.new }
     {
         let entry = Entry::new(*self.entries.allocator(), &binding, slot)?;
         self.dropped.cover(&binding)?;
@@ -328,9 +334,11 @@ impl Index {
 
     /// Drops an object, where it has a flag.
     fn let_go(&mut self, object: u32)
+        requires { IsKeyed self.old }
         ensures list { self.new.list ≡ self.old.list }
         ensures gone { IsKey self.new object → ⊥ }
-        ensures kept { (o : ℕ) → flag_of self.old.dropped o ≡ true → flag_of self.new.dropped o ≡ true }
+        ensures fewer { (o : ℕ) → IsKey self.new o → IsKey self.old o }
+        ensures keyed { IsKeyed self.new }
         ensures only { (o : ℕ) → flag_of self.new.dropped o ≡ true
             → (flag_of self.old.dropped o ≡ true) ⊎ (o ≡ object) }
     {
@@ -342,9 +350,11 @@ impl Index {
 
     /// Drops an object, where it is dead and has a flag.
     fn let_go_dead(&mut self, objects: &Objects, object: u32)
+        requires { IsKeyed self.old }
         ensures list { self.new.list ≡ self.old.list }
         ensures gone { flag_of objects.now object ≡ true → IsKey self.new object → ⊥ }
-        ensures kept { (o : ℕ) → flag_of self.old.dropped o ≡ true → flag_of self.new.dropped o ≡ true }
+        ensures fewer { (o : ℕ) → IsKey self.new o → IsKey self.old o }
+        ensures keyed { IsKeyed self.new }
         ensures only { (o : ℕ) → flag_of self.new.dropped o ≡ true
             → (flag_of self.old.dropped o ≡ true) ⊎ (flag_of objects.now o ≡ true) }
     {
@@ -369,10 +379,12 @@ impl Index {
 
     /// Drops the dead among the objects of a block of 64 words.
     fn drop_dead_in(&mut self, objects: &Objects, block: u32)
-        requires { 4096 * block < length objects.now }
+        requires block { 4096 * block < length objects.now }
+        requires keyed { IsKeyed self.old }
         ensures list { self.new.list ≡ self.old.list }
         ensures gone { (o : ℕ) → o / 4096 ≡ block → flag_of objects.now o ≡ true → IsKey self.new o → ⊥ }
-        ensures kept { (o : ℕ) → flag_of self.old.dropped o ≡ true → flag_of self.new.dropped o ≡ true }
+        ensures fewer { (o : ℕ) → IsKey self.new o → IsKey self.old o }
+        ensures keyed { IsKeyed self.new }
         ensures only { (o : ℕ) → flag_of self.new.dropped o ≡ true
             → (flag_of self.old.dropped o ≡ true) ⊎ (flag_of objects.now o ≡ true) }
     {
@@ -385,28 +397,35 @@ impl Index {
         }
     }
 
-    /// Whether of 64 objects, those of a word of the table, no dead one is a key.
+    /// Whether of 64 objects, those of a word of the table, no dead one is a key, and each one in a pair was dropped.
     fn has_dropped(&self, objects: &Objects, index: u32) -> bool
         requires { 64 * index < length objects.now }
-        ensures { IsTrue result → (o : ℕ) → o / 64 ≡ index → flag_of objects.now o ≡ true → IsKey self.now o → ⊥ }
+        ensures keys { IsTrue result → (o : ℕ) → o / 64 ≡ index → flag_of objects.now o ≡ true → IsKey self.now o → ⊥ }
+        ensures pairs { IsTrue result → (pair : Pair) (o : ℕ) → Contains self.now.list pair → Binds pair.binding o
+            → o / 64 ≡ index → flag_of objects.now o ≡ true → flag_of self.now.dropped o ≡ true }
     {
         self.dropped.has_dead(objects, index)
     }
 
-    /// Whether of the objects of a block of 64 words no dead one is a key.
+    /// Whether of the objects of a block of 64 words no dead one is a key, and each one in a pair was dropped.
     fn has_dropped_block(&self, objects: &Objects, block: u32) -> bool
         requires { 4096 * block < length objects.now }
-        ensures { IsTrue result → (o : ℕ) → o / 4096 ≡ block → flag_of objects.now o ≡ true → IsKey self.now o → ⊥ }
+        ensures keys { IsTrue result → (o : ℕ) → o / 4096 ≡ block → flag_of objects.now o ≡ true
+            → IsKey self.now o → ⊥ }
+        ensures pairs { IsTrue result → (pair : Pair) (o : ℕ) → Contains self.now.list pair → Binds pair.binding o
+            → o / 4096 ≡ block → flag_of objects.now o ≡ true → flag_of self.now.dropped o ≡ true }
     {
         self.dropped.has_dead_of_block(objects, block)
     }
 
     /// Drops the dead among the 64 objects of a word of the table.
     fn drop_dead_at(&mut self, objects: &Objects, index: u32)
-        requires { 64 * index < length objects.now }
+        requires index { 64 * index < length objects.now }
+        requires keyed { IsKeyed self.old }
         ensures list { self.new.list ≡ self.old.list }
         ensures gone { (o : ℕ) → o / 64 ≡ index → flag_of objects.now o ≡ true → IsKey self.new o → ⊥ }
-        ensures kept { (o : ℕ) → flag_of self.old.dropped o ≡ true → flag_of self.new.dropped o ≡ true }
+        ensures fewer { (o : ℕ) → IsKey self.new o → IsKey self.old o }
+        ensures keyed { IsKeyed self.new }
         ensures only { (o : ℕ) → flag_of self.new.dropped o ≡ true
             → (flag_of self.old.dropped o ≡ true) ⊎ (flag_of objects.now o ≡ true) }
     {

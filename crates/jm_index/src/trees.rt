@@ -3,7 +3,7 @@ ghost use Rattle.std.specs.Prelude.{◌≡◌, ℕ, ◌≤◌, ◌<◌, ◌+◌,
 ghost use Rattle.jm_model.specs.Bindings.{mask_of};
 ghost use Rattle.std.specs.List.{filter_map};
 ghost use Rattle.std.specs.Vec.{vec_capacity};
-ghost use Rattle.jm_index.specs.Index.{Pair, flag_of};
+ghost use Rattle.jm_index.specs.Index.{Pair, flag_of, AreBelow};
 ghost use Rattle.jm_index.specs.Layout.{Rises, IsFiled, pair_at, slot_at, posting_at, IsPath, IsPathBelow, AllFiled, AreFiled, AreThinned};
 
 use crate::entry::{Entry, NoRoom, add_live_slots, add_slots_at};
@@ -74,7 +74,8 @@ impl Trees {
         object: u32,
         position: usize,
     ) -> Result<(), NoMemory>
-        requires { AllFiled (λ x. x ≤ position) self.old }
+        requires last { AllFiled (λ x. x ≤ position) self.old }
+        requires flagged { object < length dropped.now }
         ensures filed { AreFiled dropped.now position self.old self.new }
         ensures there { OnOk result (flag_of dropped.now object ≡ false
             → Contains (posting_at self.new mask (object + 1)) position) }
@@ -92,7 +93,8 @@ impl Trees {
         binding: &Binding,
         position: usize,
     ) -> Result<(), NoMemory>
-        requires { AllFiled (λ x. x ≤ position) self.old }
+        requires last { AllFiled (λ x. x ≤ position) self.old }
+        requires flagged { AreBelow (length dropped.now) binding.now }
         ensures filed { AreFiled dropped.now position self.old self.new }
         ensures there { OnOk result ((path : ℕ) → IsPath dropped.now binding.now path
             → Contains (posting_at self.new (mask_of binding.now) path) position) }

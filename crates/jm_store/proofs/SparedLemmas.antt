@@ -45,6 +45,7 @@ padded_fits : (index : PairList) (dead : List Bool) → IsFitting index dead →
 padded_fits index dead fits = record {
   within = λ pair there o binds. let low = fits.within pair there o binds in omega (arith, low, length-append index.dropped (replicate (length dead) false), length-replicate {A = Bool} (length dead) false);
   reached = λ o gone. flag_padded index.dropped (length dead) o ∙ gone;
+  keyed = fits.keyed;
 }
 
 padded_length : (index : PairList) (dead : List Bool) → length dead ≤ length (index.dropped ++ replicate (length dead) false)

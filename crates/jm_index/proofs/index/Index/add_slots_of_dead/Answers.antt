@@ -1,4 +1,5 @@
 use Rattle.std.proofs.Common.{◌≡◌, ℕ, ◌/◌, ◌<◌, ◌∙◌, inl, inr, arith}
+use Rattle.std.proofs.lemmas.Bool.{both_ways}
 use Rattle.jm_index.specs.Index.{HasDied}
 use Rattle.jm_index.proofs.ListedLemmas.{listed_either, below_or_last, flag_within}
 use Rattle.jm_index.proofs.index.Index.add_slots_of_dead.Goals.{then-not-has_dropped_block+in_ok-add_slots_of_dead_in, else-not-has_dropped_block}
@@ -22,7 +23,7 @@ loop-block-preserved c =
           (record {
             all = λ pair o there binds (low, died). elim (below_or_last _ _ low) [
               | inl below ↦ c.loop-block.invariant.all pair o there binds (below, died)
-              | inr last ↦ absurd (c.has_dropped_block.ensures w.if-not-has_dropped_block.false o last died.0 (pair, there, binds, died.1))
+              | inr last ↦ absurd (both_ways _ died.1 (c.has_dropped_block.ensures.pairs w.if-not-has_dropped_block.false pair o there binds last died.0))
             ];
             room = c.loop-block.invariant.room;
           })

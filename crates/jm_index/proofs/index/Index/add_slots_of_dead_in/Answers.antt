@@ -1,4 +1,5 @@
 use Rattle.std.proofs.Common.{◌≡◌, ℕ, ◌*◌, ◌/◌, ◌<◌, ◌≤◌, ◌∙◌, inl, inr, arith}
+use Rattle.std.proofs.lemmas.Bool.{both_ways}
 use Rattle.jm_index.specs.Index.{HasDied}
 use Rattle.jm_index.proofs.ListedLemmas.{listed_either, below_or_last, flag_within}
 use Rattle.jm_index.proofs.index.Index.add_slots_of_dead_in.Goals.{then-not-has_dropped+in_ok-add_slots_of_dead_at, else-not-has_dropped}
@@ -25,7 +26,7 @@ loop-index-preserved c =
             kept = inv.kept;
             all = λ pair o there binds (low, high, died). elim (below_or_last _ _ high) [
               | inl below ↦ inv.all pair o there binds (low, below, died)
-              | inr last ↦ absurd (c.has_dropped.ensures w.if-not-has_dropped.false o last died.0 (pair, there, binds, died.1))
+              | inr last ↦ absurd (both_ways _ died.1 (c.has_dropped.ensures.pairs w.if-not-has_dropped.false pair o there binds last died.0))
             ];
             room = inv.room;
           })

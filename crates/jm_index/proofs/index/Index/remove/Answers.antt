@@ -3,7 +3,7 @@ use Rattle.std.specs.Prelude.{Contains}
 use Rattle.std.proofs.lemmas.Grind.{common_steps}
 use Rattle.jm_index.specs.Index.{Pair}
 use Rattle.jm_index.proofs.EntryLemmas.{pair_at_within}
-use Rattle.jm_index.proofs.IndexLemmas.{IsIndexed-removed, IsIndexed-absent, list_removed, list_absent, IsFitting-without, without_absent}
+use Rattle.jm_index.proofs.IndexLemmas.{IsIndexed-removed, IsIndexed-absent, list_removed, list_absent, IsFitting-without, without_absent, all_keyed}
 use Rattle.jm_index.proofs.index.Index.remove.Goals as goal
 
 pub index_mut-requires : goal.index_mut-requires
@@ -26,7 +26,8 @@ returns-in-Some-clause-list c =
 pub returns-in-Some-clause-fits : goal.returns-in-Some-clause-fits
 returns-in-Some-clause-fits c =
     rw (← c.self.view_is)
-    (λ dead fits. IsFitting-without c.args.binding.now _ _ dead (list_removed _ _ _ _ _ _ _ c.self.invariant (sym c.in-Some.ensures.value) c.gone.ensures) refl fits)
+    (λ dead fits. IsFitting-without c.args.binding.now _ _ dead (list_removed _ _ _ _ _ _ _ c.self.invariant (sym c.in-Some.ensures.value) c.gone.ensures) refl (all_keyed _ _ _ _
+    (IsIndexed-removed _ _ _ _ _ _ _ _ _ c.self.invariant (sym c.in-Some.ensures.value) c.gone.ensures c.in-Some.ensures.updated (rw c.as_slice.ensures.value at c.thin_all.ensures))) fits)
 
 pub returns-in_default-clause-list : goal.returns-in_default-clause-list
 returns-in_default-clause-list c =

@@ -6,19 +6,20 @@ use Rattle.jm_index.proofs.trees.Trees.file_all.Goals as goal
 
 pub returns-in_err-file-clause-filed : goal.returns-in_err-file-clause-filed
 returns-in_err-file-clause-filed c =
-    AreFiled-one _ _ _ _ _ _ c.in_err-file.ensures.filed c.in_err-file.ensures.others c.in_err-file.ensures.other_trees (λ o gone same. omega (arith, same))
+    AreFiled-one _ _ _ _ _ _ c.in_err-file.ensures.filed c.in_err-file.ensures.others c.in_err-file.ensures.other_trees (λ o same. absurd (omega (arith, same)))
 
 pub loop-bound-init : goal.loop-bound-init
 loop-bound-init c =
     record {
       within = omega arith;
-      filed = AreFiled-one _ _ _ _ _ _ c.in_ok-file.ensures.filed c.in_ok-file.ensures.others c.in_ok-file.ensures.other_trees (λ o gone same. omega (arith, same));
+      filed = AreFiled-one _ _ _ _ _ _ c.in_ok-file.ensures.filed c.in_ok-file.ensures.others c.in_ok-file.ensures.other_trees (λ o same. absurd (omega (arith, same)));
       whole = c.in_ok-file.ensures.there;
       each = λ p o h. absurd (omega (arith, h));
     }
 
 pub file_object-requires : goal.file_object-requires
-file_object-requires c = AllFiled-filed _ _ _ _ c.requires c.loop-bound.invariant.filed
+file_object-requires c =
+    record { last = AllFiled-filed _ _ _ _ c.requires.last c.loop-bound.invariant.filed; flagged = c.requires.flagged _ (_, c.in-Some.ensures.object) }
 
 pub returns-in_err-file_object-clause-filed : goal.returns-in_err-file_object-clause-filed
 returns-in_err-file_object-clause-filed c = AreFiled-trans _ _ _ _ _ c.loop-bound.invariant.filed c.in_err-file_object.ensures.filed
@@ -39,3 +40,6 @@ returns-clause-there c =
     let none = c.in_default.ensures.none in
     rw (← c.mask-mask.ensures.value) (all_paths _ _ _ _ c.loop-bound.invariant.whole
     (λ p o at live. elim (cases_lt p c.loop-bound.from) [ inl below ↦ c.loop-bound.invariant.each p o below at live | inr past ↦ absurd (none-some o (sym (none p past) ∙ at)) ]))
+
+pub file-requires-clause-last : goal.file-requires-clause-last
+file-requires-clause-last c = λ x there. c.requires.last c.mask-mask.result 0 x there

@@ -1,11 +1,13 @@
-use Rattle.std.proofs.Common.{◌≡◌, ℕ, false, arith, sym, ◌∙◌, subst}
-use Rattle.std.proofs.lemmas.Bool.{both_ways}
-use Rattle.jm_index.specs.Index.{flag_of}
+use Rattle.std.proofs.Common.{◌≡◌, ◌+◌, arith, sym, ◌∙◌, subst}
+use Rattle.jm_index.specs.Layout.{IsUnset}
 use Rattle.jm_index.proofs.TreeLemmas.{AreFiled-one}
 use Rattle.jm_index.proofs.trees.Trees.file_object.Goals as goal
 
 pub returns-clause-filed : goal.returns-clause-filed
 returns-clause-filed c =
     AreFiled-one _ _ _ _ _ _ c.file.ensures.filed c.file.ensures.others c.file.ensures.other_trees
-    (λ o gone same. let equal : o ≡ c.args.object = omega (arith, same) in
-    both_ways (flag_of c.args.dropped.now o) (subst (λ (n : ℕ). flag_of c.args.dropped.now n ≡ false) (sym equal) (sym c.is_set.ensures ∙ c.if-is_set.false)) gone)
+    (λ o same. let equal : c.args.object ≡ o = omega (arith, same) in
+    subst (IsUnset c.args.dropped.now) equal (c.requires.flagged, sym c.is_set.ensures ∙ c.if-is_set.false))
+
+pub file-requires-clause-last : goal.file-requires-clause-last
+file-requires-clause-last c = λ x there. c.requires.last c.args.mask (c.args.object + 1) x there
