@@ -1,1 +1,4 @@
-pub mod ReverseLemmas
+pub mod ObjectLemmas
+pub mod PlacedLemmas
+pub mod PlacingLemmas
+pub mod RowLemmas

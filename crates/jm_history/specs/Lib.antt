@@ -1,2 +1,4 @@
 pub mod Chains
 pub mod Nodes
+pub mod Pieces
+pub mod Rows

@@ -1,8 +1,11 @@
 //! The links of a history, the newest entry first.
-ghost use Rattle.std.specs.Prelude.{◌≡◌, [], ◌∷◌, MatchOption};
-ghost use Rattle.jm_history.specs.Chains.{rows_of, newest_first};
+ghost use Rattle.std.specs.Prelude.{◌≡◌, ◌∷◌, MatchOption};
+ghost use Rattle.jm_history.specs.Chains.{newest_first};
+ghost use Rattle.jm_history.specs.Nodes.{answered};
 
-use jm_model::Entry;
+use crate::node::Node;
+use crate::row::Row;
+use jm_model::{Entry, Outcome};
 use std::alloc::Global;
 use std::mem;
 
@@ -14,8 +17,8 @@ const ROW: usize = 256;
 
 pub(crate) enum Chain {
     End,
-    /// The oldest entries, the oldest first: rows that are full, and the one that is being filled. No row is moved.
-    Rows(Vec<Vec<Entry>>, Vec<Entry>),
+    /// Neighbours in a row, and what is older. A row isn't moved once another entry stands before it.
+    Block(Row, Box<Chain>),
     Link(Entry, Box<Chain>),
 }
 
@@ -25,7 +28,7 @@ impl Drop for Chain {
         loop {
             match self {
                 Chain::End => return,
-                Chain::Rows(_, _) => return,
+                Chain::Block(_, older) => self = Box::into_inner(older),
                 Chain::Link(_, older) => self = Box::into_inner(older),
             }
         }
@@ -33,56 +36,47 @@ impl Drop for Chain {
 }
 
 impl Chain {
-    /// Makes room for an entry in the rows, if there are rows or no entry, and if there is memory.
+    /// Makes room for an entry in a row, if there is memory.
     pub(crate) fn make_room(&mut self, alloc: Global)
         ensures { newest_first self.new ≡ newest_first self.old }
     {
-        match self {
-            Chain::End => *self = row_or_end(alloc),
-            Chain::Rows(full, last) => {
-                if last.len() >= last.capacity() {
-                    begin_row(alloc, full, last);
+        let entries = match self {
+            Chain::End => FIRST_ROW,
+            Chain::Block(row, _) => {
+                if row.has_room() || row.make_room() {
+                    return;
                 }
+                ROW
             }
-            Chain::Link(_, _) => {}
-        }
-    }
-
-    /// Puts an entry at the end of the last row, if there is room in it. Else the entry comes back.
-    pub(crate) fn add(&mut self, entry: Entry) -> Option<Entry>
-        ensures { MatchOption result (newest_first self.new ≡ entry ∷ newest_first self.old)
-            (λ back. (back ≡ entry) × (newest_first self.new ≡ newest_first self.old)) }
-    {
-        let Chain::Rows(_, last) = self else {
-            return Some(entry);
+            Chain::Link(_, _) => ROW,
         };
-        if last.len() >= last.capacity() {
-            return Some(entry);
+        self.begin_row(alloc, entries);
+    }
+
+    /// Begins a row with room for so many entries, if there is memory.
+    fn begin_row(&mut self, alloc: Global, entries: usize)
+        ensures { newest_first self.new ≡ newest_first self.old }
+    {
+        let Ok(mut older) = Box::new(alloc, Chain::End) else {
+            return;
+        };
+        let Ok(row) = Row::new(alloc, entries) else {
+            return;
+        };
+        *older = mem::replace(self, Chain::End);
+        *self = Chain::Block(row, older);
+    }
+
+    /// Puts an entry at the end of the newest row, if there is room in it. Else its outcome comes back.
+    #[inline(always)]
+    pub(crate) fn add(&mut self, node: &Node, outcome: Outcome) -> Option<Outcome>
+        ensures { MatchOption result
+            (newest_first self.new ≡ answered node.now outcome ∷ newest_first self.old)
+            (λ back. (back ≡ outcome) × (newest_first self.new ≡ newest_first self.old)) }
+    {
+        match self {
+            Chain::Block(row, _) => row.push(node.caller(), node.line(), node.step(), outcome),
+            _ => Some(outcome),
         }
-        last.push_reserved(entry);
-        None
     }
-}
-
-/// An empty row, or the end where memory is wanting.
-fn row_or_end(alloc: Global) -> Chain
-    ensures { newest_first result ≡ [] }
-{
-    match Vec::with_capacity(alloc, FIRST_ROW) {
-        Ok(row) => Chain::Rows(Vec::new(alloc), row),
-        Err(_) => Chain::End,
-    }
-}
-
-/// Puts the last row to the full ones, and begins another, if there is memory.
-fn begin_row(alloc: Global, full: &mut Vec<Vec<Entry>>, last: &mut Vec<Entry>)
-    ensures { rows_of full.new.items last.new.items ≡ rows_of full.old.items last.old.items }
-{
-    if full.reserve(1).is_err() {
-        return;
-    }
-    let Ok(row) = Vec::with_capacity(alloc, ROW) else {
-        return;
-    };
-    full.push_reserved(mem::replace(last, row));
 }

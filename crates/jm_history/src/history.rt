@@ -1,14 +1,14 @@
-ghost use Rattle.std.specs.Prelude.{◌≡◌, ◌%◌, ◌^◌, [], ◌∷◌, ◌++◌, length, map, reverse, IfOk, OnOk};
+ghost use Rattle.std.specs.Prelude.{◌≡◌, ◌%◌, ◌^◌, [], ◌∷◌, ◌++◌, length, reverse, IfOk, OnOk};
 ghost use Rattle.std.specs.List.{flat_map};
-ghost use Rattle.jm_history.specs.Chains.{rows_of};
 ghost use Rattle.jm_history.specs.Nodes.{answered};
 
 use crate::chain::Chain;
+use crate::lent::Piece;
 use crate::node::{Node, Spare};
 use jm_model::{Entry, NoMemory, Outcome, Step};
 use std::alloc::Global;
 use std::marker::Model;
-use std::{mem, slice};
+use std::mem;
 
 /// A list of entries, the oldest first.
 #[derive(Drop)]
@@ -60,8 +60,15 @@ impl History {
         ensures same { self.new ≡ self.old }
         ensures node { IfOk result (λ node. node ≡ record { caller = caller; line = line; step = step }) }
     {
-        self.newest.make_room(alloc);
+        self.make_room(alloc);
         spare.node(alloc, caller, line, step)
+    }
+
+    /// Makes room for an entry in a row of entries, which takes less memory than a link, if there is memory.
+    pub fn make_room(&mut self, alloc: Global)
+        ensures { self.new ≡ self.old }
+    {
+        self.newest.make_room(alloc);
     }
 
     /// Adds an entry at the end. It takes no memory: the node brings its own.
@@ -77,118 +84,61 @@ impl History {
     pub fn push_sparing(&mut self, node: Node, outcome: Outcome, spare: &mut Spare)
         ensures { self.new ≡ self.old ++ answered node outcome ∷ [] }
     {
-        let (entry, mut link) = node.into_entry(outcome);
-        match self.newest.add(entry) {
-            Some(entry) => {
+        match self.newest.add(&node, outcome) {
+            None => spare.keep(node.into_link()),
+            Some(outcome) => {
+                let (entry, mut link) = node.into_entry(outcome);
                 *link = mem::replace(&mut self.newest, Chain::End);
                 self.newest = Chain::Link(entry, link);
             }
-            None => spare.keep(link),
         }
         self.count = self.count.wrapping_add(1);
     }
 
-    /// The entries, the oldest first, lent and not copied.
-    pub fn entries(&self, alloc: Global) -> Result<Vec<&Entry>, NoMemory>
-        ensures { IfOk result (λ entries. map (λ entry. entry.now) entries.items ≡ self.now) }
+    /// The entries in pieces, the oldest first, lent and not copied: a piece for each row, and for each entry that
+    /// doesn't stand in one.
+    pub fn pieces(&self, alloc: Global) -> Result<Vec<Piece<'_>>, NoMemory>
+        ensures { IfOk result (λ pieces. flat_map (λ piece. piece) pieces.items ≡ self.now) }
     {
-        let mut entries = Vec::with_capacity(alloc, self.count as usize)?;
+        let mut pieces = Vec::new(alloc);
         let mut rest = &self.newest;
-        while let Chain::Link(entry, older) = rest {
-            entries.push(entry)?;
-            rest = older;
-        }
-        match rest {
-            Chain::End => {}
-            Chain::Rows(full, last) => add_rows(full.as_slice(), last.as_slice(), &mut entries)?,
-            Chain::Link(_, _) => unreachable!(),
-        }
-        entries.reverse();
-        Ok(entries)
-    }
-
-    /// The entries in pieces, the oldest first, lent and not copied: a piece for each row, or for each entry where they
-    /// don't stand in rows.
-    pub fn pieces(&self, alloc: Global) -> Result<Vec<&[Entry]>, NoMemory>
-        ensures { IfOk result (λ pieces. flat_map (λ piece. piece.now) pieces.items ≡ self.now) }
-    {
-        match &self.newest {
-            Chain::Rows(full, last) => row_pieces(alloc, full.as_slice(), last.as_slice()),
-            _ => {
-                let entries = self.entries(alloc)?;
-                entry_pieces(alloc, entries.as_slice())
+        loop {
+            match rest {
+                Chain::End => break,
+                Chain::Block(row, older) => {
+                    pieces.push(Piece::row(row))?;
+                    rest = older;
+                }
+                Chain::Link(entry, older) => {
+                    pieces.push(Piece::one(entry))?;
+                    rest = older;
+                }
             }
         }
+        pieces.reverse();
+        Ok(pieces)
     }
 
     /// A copy of the entries, the oldest first.
     pub fn to_list(&self, alloc: Global) -> Result<Vec<Entry>, NoMemory>
         ensures { IfOk result (λ entries. entries.items ≡ self.now) }
     {
-        let lent = self.entries(alloc)?;
+        let pieces = self.pieces(alloc)?;
         let mut entries = Vec::new(alloc);
-        for entry in &lent {
-            entries.push(entry.copy()?)?;
+        for piece in &pieces {
+            add_copies(piece, &mut entries)?;
         }
         Ok(entries)
     }
 }
 
-/// The rows that are full, and the last one, as pieces.
-fn row_pieces<'a>(
-    alloc: Global,
-    full: &'a [Vec<Entry>],
-    last: &'a [Entry],
-) -> Result<Vec<&'a [Entry]>, NoMemory>
-    ensures { IfOk result (λ pieces. flat_map (λ piece. piece.now) pieces.items ≡ rows_of full.now last.now) }
+/// Adds copies of the entries of a piece.
+fn add_copies(piece: &Piece, entries: &mut Vec<Entry>) -> Result<(), NoMemory>
+    ensures { OnOk result (entries.new.items ≡ entries.old.items ++ piece.now) }
 {
-    let mut pieces = Vec::new(alloc);
-    for row in full {
-        pieces.push(row.as_slice())?;
-    }
-    pieces.push(last)?;
-    Ok(pieces)
-}
-
-/// A piece for each entry.
-fn entry_pieces<'a>(alloc: Global, entries: &[&'a Entry]) -> Result<Vec<&'a [Entry]>, NoMemory>
-    ensures { IfOk result (λ pieces. flat_map (λ piece. piece.now) pieces.items
-        ≡ map (λ entry. entry.now) entries.now) }
-{
-    let mut pieces = Vec::new(alloc);
-    for entry in entries {
-        pieces.push(slice::from_ref(*entry))?;
-    }
-    Ok(pieces)
-}
-
-/// Adds the entries of rows that are full and of the last one, the newest first.
-fn add_rows<'a>(
-    full: &'a [Vec<Entry>],
-    last: &'a [Entry],
-    entries: &mut Vec<&'a Entry>,
-) -> Result<(), NoMemory>
-    ensures { OnOk result (map (λ entry. entry.now) entries.new.items
-        ≡ map (λ entry. entry.now) entries.old.items ++ reverse (rows_of full.now last.now)) }
-{
-    add_backwards(last, entries)?;
-    let mut i = full.len();
-    while i > 0 {
-        i -= 1;
-        add_backwards(full[i].as_slice(), entries)?;
-    }
-    Ok(())
-}
-
-/// Adds the entries of a row, the newest first.
-fn add_backwards<'a>(row: &'a [Entry], entries: &mut Vec<&'a Entry>) -> Result<(), NoMemory>
-    ensures { OnOk result (map (λ entry. entry.now) entries.new.items
-        ≡ map (λ entry. entry.now) entries.old.items ++ reverse row.now) }
-{
-    let mut i = row.len();
-    while i > 0 {
-        i -= 1;
-        entries.push(&row[i])?;
+    let count = piece.len();
+    for i in 0..count {
+        entries.push(piece.get(i).copy()?)?;
     }
     Ok(())
 }

@@ -3,8 +3,11 @@
 
 mod chain;
 mod history;
+mod lent;
 mod node;
+mod row;
 
 pub use history::History;
 pub use jm_model::Entry;
+pub use lent::{Lent, Piece};
 pub use node::{Node, Spare};

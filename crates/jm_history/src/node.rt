@@ -94,6 +94,12 @@ impl Node {
         &self.step
     }
 
+    /// The memory of its link.
+    pub(crate) fn into_link(self) -> Box<Chain> {
+        let Node { link, .. } = self;
+        link
+    }
+
     /// The entry with this outcome, and the memory of its link.
     pub(crate) fn into_entry(self, outcome: Outcome) -> (Entry, Box<Chain>)
         ensures { result.0 ≡ answered self outcome }

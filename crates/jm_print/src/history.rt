@@ -1,4 +1,4 @@
-ghost use Rattle.std.specs.Prelude.{◌≡◌, ◌<◌, ◌++◌, [], codes, length, map, All, IfOk, OnOk, if◌then◌else◌};
+ghost use Rattle.std.specs.Prelude.{◌≡◌, ◌<◌, ◌≤◌, ◌++◌, [], codes, length, map, take, All, IfOk, OnOk, if◌then◌else◌};
 ghost use Rattle.std.specs.List.{flat_map};
 ghost use Rattle.jm_print.specs.Lexicons.{name_of, lexicon_of};
 ghost use Rattle.jm_handler.specs.Renderings.{occasion, handler_text};
@@ -10,11 +10,10 @@ ghost use Rattle.jm_print.specs.Texts.{HasNamesFrom, IsPrintableFiring, IsPrinta
 use crate::page::Page;
 use jm_events::{EventTable, Names};
 use jm_handler::Handler;
-use jm_history::{Entry, History};
+use jm_history::{Entry, History, Lent, Piece};
 use jm_model::{Binding, Firing, Firings, Letter, NoMemory, Outcome, Step};
 use std::alloc::Global;
 use std::marker::Model;
-use std::slice;
 
 /// So many pieces tell about how long the text of all of them is, by so many of their first entries.
 const SAMPLES: usize = 64;
@@ -99,15 +98,15 @@ pub fn render_entry(
         objects,
     };
     let mut page = Page::new(alloc);
-    printer.entries(&mut page, slice::from_ref(entry))?;
+    printer.entries(&mut page, &Piece::one(entry), 1)?;
     Ok(page.into_bytes())
 }
 
 impl Printer<'_> {
     /// About how many bytes the text of these pieces has, and seldom fewer: the first entries of some of them tell,
     /// which lie evenly among all.
-    fn estimate(&self, alloc: Global, pieces: &[&[Entry]]) -> Result<usize, NoMemory>
-        requires { All (λ piece. All (IsPrintable self.now) piece.now) pieces.now }
+    fn estimate(&self, alloc: Global, pieces: &[Piece]) -> Result<usize, NoMemory>
+        requires { All (λ piece. All (IsPrintable self.now) piece) pieces.now }
     {
         let stride = pieces.len() / SAMPLES + 1;
         let mut page = Page::new(alloc);
@@ -116,9 +115,9 @@ impl Printer<'_> {
         for (place, piece) in pieces.iter().enumerate() {
             entries = entries.saturating_add(piece.len());
             if place % stride == 0 {
-                let first = &piece[..piece.len().min(FIRST)];
-                self.entries(&mut page, first)?;
-                told = told.saturating_add(first.len());
+                let first = piece.len().min(FIRST);
+                self.entries(&mut page, piece, first)?;
+                told = told.saturating_add(first);
             }
         }
         let bytes = page
@@ -128,15 +127,15 @@ impl Printer<'_> {
     }
 
     /// The entries of pieces. It answers how many there are.
-    fn pieces(&self, page: &mut Page, pieces: &[&[Entry]]) -> Result<u64, NoMemory>
-        requires { All (λ piece. All (IsPrintable self.now) piece.now) pieces.now }
+    fn pieces(&self, page: &mut Page, pieces: &[Piece]) -> Result<u64, NoMemory>
+        requires { All (λ piece. All (IsPrintable self.now) piece) pieces.now }
         ensures text { OnOk result (page.new ≡ page.old
-            ++ flat_map (full_entry_text self.now) (flat_map (λ piece. piece.now) pieces.now)) }
-        ensures count { IfOk result (λ count. count ≡ length (flat_map (λ piece. piece.now) pieces.now)) }
+            ++ flat_map (full_entry_text self.now) (flat_map (λ piece. piece) pieces.now)) }
+        ensures count { IfOk result (λ count. count ≡ length (flat_map (λ piece. piece) pieces.now)) }
     {
         let mut count = 0u64;
         for piece in pieces {
-            self.entries(page, piece)?;
+            self.whole(page, piece)?;
             // An entry takes a byte and more, so there are no more of them than bytes.
             let _bytes = page.len();
             count += piece.len() as u64;
@@ -144,33 +143,45 @@ impl Printer<'_> {
         Ok(count)
     }
 
-    fn entries(&self, page: &mut Page, entries: &[Entry]) -> Result<(), NoMemory>
-        requires { All (IsPrintable self.now) entries.now }
-        ensures { OnOk result (page.new ≡ page.old ++ flat_map (full_entry_text self.now) entries.now) }
+    /// The entries of a piece.
+    fn whole(&self, page: &mut Page, piece: &Piece) -> Result<(), NoMemory>
+        requires { All (IsPrintable self.now) piece.now }
+        ensures { OnOk result (page.new ≡ page.old ++ flat_map (full_entry_text self.now) piece.now) }
     {
-        for entry in entries {
-            self.entry(page, entry)?;
+        self.entries(page, piece, piece.len())
+    }
+
+    /// The first entries of a piece, so many.
+    fn entries(&self, page: &mut Page, piece: &Piece, count: usize) -> Result<(), NoMemory>
+        requires printable { All (IsPrintable self.now) piece.now }
+        requires there { count ≤ length piece.now }
+        ensures { OnOk result (page.new
+            ≡ page.old ++ flat_map (full_entry_text self.now) (take count piece.now)) }
+    {
+        for i in 0..count {
+            self.entry(page, &piece.get(i))?;
         }
         Ok(())
     }
 
     /// An entry, with the lines that follow.
-    fn entry(&self, page: &mut Page, entry: &Entry) -> Result<(), NoMemory>
+    #[inline(always)]
+    fn entry(&self, page: &mut Page, entry: &Lent) -> Result<(), NoMemory>
         requires { IsPrintable self.now entry.now }
         ensures { OnOk result (page.new ≡ page.old ++ full_entry_text self.now entry.now) }
     {
-        page.number(u64::from(entry.caller))?;
+        page.number(u64::from(entry.caller()))?;
         page.byte(b':')?;
-        page.number(u64::from(entry.line))?;
+        page.number(u64::from(entry.line()))?;
         page.byte(b' ')?;
-        self.step(page, entry, &entry.step, &entry.outcome)
+        self.step(page, entry, entry.step(), entry.outcome())
     }
 
     /// What is said of a step of an entry and its outcome.
     fn step(
         &self,
         page: &mut Page,
-        entry: &Entry,
+        entry: &Lent,
         step: &Step,
         outcome: &Outcome,
     ) -> Result<(), NoMemory>
@@ -213,7 +224,7 @@ impl Printer<'_> {
     fn fired(
         &self,
         page: &mut Page,
-        entry: &Entry,
+        entry: &Lent,
         letter: Letter,
         binding: &Binding,
         firings: &Firings,
@@ -235,7 +246,7 @@ impl Printer<'_> {
     }
 
     /// The lines of each handler that ran at an entry.
-    fn firings(&self, page: &mut Page, entry: &Entry, firings: &Firings) -> Result<(), NoMemory>
+    fn firings(&self, page: &mut Page, entry: &Lent, firings: &Firings) -> Result<(), NoMemory>
         requires { All (IsPrintableFiring self.now) firings.now }
         ensures { OnOk result (page.new ≡ page.old ++ flat_map (run_text self.now entry.now) firings.now) }
     {
@@ -247,7 +258,7 @@ impl Printer<'_> {
     }
 
     /// The line of a handler that ran at an entry, and what it prints.
-    fn run(&self, page: &mut Page, entry: &Entry, firing: &Firing) -> Result<(), NoMemory>
+    fn run(&self, page: &mut Page, entry: &Lent, firing: &Firing) -> Result<(), NoMemory>
         requires { IsPrintableFiring self.now firing.now }
         ensures { OnOk result (page.new ≡ page.old ++ run_text self.now entry.now firing.now) }
     {
@@ -262,7 +273,7 @@ impl Printer<'_> {
     fn handler(
         &self,
         page: &mut Page,
-        entry: &Entry,
+        entry: &Lent,
         handler: &Handler,
         firing: &Firing,
     ) -> Result<(), NoMemory>
@@ -275,8 +286,8 @@ impl Printer<'_> {
             handler,
             &firing.instance,
             self.objects,
-            entry.caller,
-            entry.line,
+            entry.caller(),
+            entry.line(),
         )
     }
 

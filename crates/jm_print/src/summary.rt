@@ -1,8 +1,9 @@
-ghost use Rattle.std.specs.Prelude.{◌≡◌, map, IfOk};
+ghost use Rattle.std.specs.Prelude.{◌≡◌, IfOk};
+ghost use Rattle.std.specs.List.{flat_map};
 ghost use Rattle.jm_print.specs.Summaries.{weight_of, count_of, summary_text};
 
 use crate::page::Page;
-use jm_history::{Entry, History};
+use jm_history::{History, Piece};
 use jm_model::{NoMemory, Outcome, Step};
 use std::alloc::Global;
 
@@ -21,30 +22,42 @@ pub(crate) enum Measure {
 pub fn render_summary(alloc: Global, name: &str, history: &History) -> Result<Vec<u8>, NoMemory>
     ensures { IfOk result (λ text. text.items ≡ summary_text name.now history.now) }
 {
-    let entries = history.entries(alloc)?;
+    let pieces = history.pieces(alloc)?;
     let mut page = Page::new(alloc);
     page.text("spec ")?;
     page.text(name)?;
     page.text(" events ")?;
-    page.number(count(&entries, Measure::Events))?;
+    page.number(count(&pieces, Measure::Events))?;
     page.text(" fired ")?;
-    page.number(count(&entries, Measure::Firings))?;
+    page.number(count(&pieces, Measure::Firings))?;
     page.text(" refused ")?;
-    page.number(count(&entries, Measure::Refusals))?;
+    page.number(count(&pieces, Measure::Refusals))?;
     page.text(" deaths ")?;
-    page.number(count(&entries, Measure::Deaths))?;
+    page.number(count(&pieces, Measure::Deaths))?;
     page.text(" passes ")?;
-    page.number(count(&entries, Measure::Passes))?;
+    page.number(count(&pieces, Measure::Passes))?;
     page.text("\n")?;
     Ok(page.into_bytes())
 }
 
-fn count(entries: &[&Entry], what: Measure) -> u64
-    ensures { result ≡ count_of what (map (λ entry. entry.now) entries.now) }
+fn count(pieces: &[Piece], what: Measure) -> u64
+    ensures { result ≡ count_of what (flat_map (λ piece. piece) pieces.now) }
 {
     let mut count = 0u64;
-    for entry in entries {
-        count = count.wrapping_add(weight(what, &entry.step, &entry.outcome));
+    for piece in pieces {
+        count = count.wrapping_add(count_in(piece, what));
+    }
+    count
+}
+
+fn count_in(piece: &Piece, what: Measure) -> u64
+    ensures { result ≡ count_of what piece.now }
+{
+    let mut count = 0u64;
+    let entries = piece.len();
+    for i in 0..entries {
+        let entry = piece.get(i);
+        count = count.wrapping_add(weight(what, entry.step(), entry.outcome()));
     }
     count
 }

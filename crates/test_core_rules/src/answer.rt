@@ -61,7 +61,7 @@ fn run<M: Monitor>(alloc: Global, words: &str, mut rig: Rig<M>) -> Result<String
 fn replay<M: Monitor>(alloc: Global, words: &str, mut rig: Rig<M>) -> Result<String, NoMemory> {
     rig.replay(words)?;
     let mut out = String::new(alloc);
-    for entry in &rig.history().entries(alloc)? {
+    for entry in &rig.history().to_list(alloc)? {
         let answer = outcome_shown(alloc, &entry.outcome)?;
         put(&mut out, ' ', answer.as_str())?;
     }

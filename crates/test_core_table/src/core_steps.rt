@@ -44,7 +44,7 @@ fn stored(alloc: Global, prop: &Prop<Table>) -> Result<String, NoMemory> {
 
 fn entries(alloc: Global, history: &History) -> Result<String, NoMemory> {
     let mut out = String::new(alloc);
-    for entry in &history.entries(alloc)? {
+    for entry in &history.to_list(alloc)? {
         put_line(&mut out, entry_shown(alloc, entry)?.as_str())?;
     }
     Ok(out)

@@ -1,5 +1,5 @@
 //! Copies of outcomes and entries, and histories.
-use jm_history::{History, Node};
+use jm_history::{History, Node, Piece};
 use jm_model::{Entry, NoMemory, Outcome, Step};
 use std::alloc::{AllocError, Global};
 use testkit::{Case, number_of, put_line, text_of};
@@ -38,21 +38,37 @@ fn entry_of(alloc: Global, line: &str) -> Result<Entry, NoMemory> {
 }
 
 /// What each node tells of the entries of the text's lines, then how many entries their history has, the entries that
-/// it lends, and those that it copies.
+/// it lends, and those that it copies. The entries behind a line `rows` stand in a row, those before it in links.
 pub(crate) fn history(alloc: Global, case: &Case) -> Result<String, NoMemory> {
     let mut history = History::new();
     let mut out = String::new(alloc);
+    let mut rows = false;
     for line in text_of(&case.text).lines() {
+        if line == "rows" {
+            rows = true;
+            continue;
+        }
+        if rows {
+            history.make_room(alloc);
+        }
         let told = add(alloc, &mut history, entry_of(alloc, line)?)?;
         put_line(&mut out, told.as_str())?;
     }
     let count = format!(in alloc; "{}", history.len())?;
     put_line(&mut out, count.as_str())?;
-    for entry in &history.entries(alloc)? {
-        put_line(&mut out, entry_shown(alloc, entry)?.as_str())?;
+    for piece in &history.pieces(alloc)? {
+        put_piece(alloc, &mut out, piece)?;
     }
     put_copies(alloc, &mut out, &history)?;
     Ok(out)
+}
+
+fn put_piece(alloc: Global, out: &mut String, piece: &Piece) -> Result<(), NoMemory> {
+    for i in 0..piece.len() {
+        let entry = piece.get(i).copy()?;
+        put_line(out, entry_shown(alloc, &entry)?.as_str())?;
+    }
+    Ok(())
 }
 
 fn add(alloc: Global, history: &mut History, entry: Entry) -> Result<String, NoMemory> {

@@ -86,7 +86,7 @@ fn alone<M: Monitor>(
 /// The entries of a history, or `-` where it has none.
 fn history_shown(alloc: Global, history: &History) -> Result<String, NoMemory> {
     let mut out = String::new(alloc);
-    for entry in &history.entries(alloc)? {
+    for entry in &history.to_list(alloc)? {
         let one = entry_shown(alloc, entry)?;
         put(&mut out, ',', one.as_str())?;
     }

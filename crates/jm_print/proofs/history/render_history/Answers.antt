@@ -1,4 +1,4 @@
-use Rattle.std.proofs.Common.{List, All, Bor, sym, subst}
+use Rattle.std.proofs.Common.{List, All, sym, subst}
 use Rattle.std.specs.List.{flat_map}
 use Rattle.std.proofs.lemmas.List.Elements.{All-same}
 use Rattle.jm_model.specs.declared.step.Entry.{Entry}
@@ -11,14 +11,14 @@ pub estimate-requires : goal.estimate-requires
 estimate-requires c =
     let l : Lexicon = lexicon_of c.args.name.now c.args.table.now c.args.categories.now c.args.objects.now c.args.handlers.now in
     let pieces = c.in_ok-pieces.pieces.items in
-    subst (λ (v : List (Bor (List Entry))). All (λ piece. All (IsPrintable l) piece.now) v) (sym c.deref.ensures.value)
-    (All-flat_map (IsPrintable l) (λ (piece : Bor (List Entry)). piece.now) pieces
-    (All-same (IsPrintable l) (flat_map (λ (piece : Bor (List Entry)). piece.now) pieces) c.args.history.now c.in_ok-pieces.ensures c.requires))
+    subst (λ (v : List (List Entry)). All (λ piece. All (IsPrintable l) piece) v) (sym c.deref.ensures.value)
+    (All-flat_map (IsPrintable l) (λ (piece : List Entry). piece) pieces
+    (All-same (IsPrintable l) (flat_map (λ (piece : List Entry). piece) pieces) c.args.history.now c.in_ok-pieces.ensures c.requires))
 
 pub pieces-requires-2 : goal.pieces-requires-2
 pieces-requires-2 c =
     let l : Lexicon = lexicon_of c.args.name.now c.args.table.now c.args.categories.now c.args.objects.now c.args.handlers.now in
     let pieces = c.in_ok-pieces.pieces.items in
-    subst (λ (v : List (Bor (List Entry))). All (λ piece. All (IsPrintable l) piece.now) v) (sym c.deref-2.ensures.value)
-    (All-flat_map (IsPrintable l) (λ (piece : Bor (List Entry)). piece.now) pieces
-    (All-same (IsPrintable l) (flat_map (λ (piece : Bor (List Entry)). piece.now) pieces) c.args.history.now c.in_ok-pieces.ensures c.requires))
+    subst (λ (v : List (List Entry)). All (λ piece. All (IsPrintable l) piece) v) (sym c.deref-2.ensures.value)
+    (All-flat_map (IsPrintable l) (λ (piece : List Entry). piece) pieces
+    (All-same (IsPrintable l) (flat_map (λ (piece : List Entry). piece) pieces) c.args.history.now c.in_ok-pieces.ensures c.requires))

@@ -1,17 +1,18 @@
-use Rattle.std.proofs.Common.{ℕ, ◌+◌, ◌%◌, ◌^◌, map, take, refl, sym, ◌∙◌, ap}
+use Rattle.std.proofs.Common.{ℕ, ◌+◌, ◌%◌, ◌^◌, take, refl, sym, ◌∙◌, ap}
 use Rattle.std.specs.Prelude.{sum_by}
+use Rattle.std.specs.List.{flat_map}
 use Rattle.jm_model.specs.declared.step.Entry.{Entry}
 use Rattle.jm_print.specs.Summaries.{weight_of}
-use Rattle.jm_print.proofs.CountLemmas.{sum_by-more, modulo_more}
+use Rattle.jm_print.proofs.CountLemmas.{sum_by-joined, modulo_sum}
 use Rattle.jm_print.proofs.summary.count.Goals as goal
 
-pub loop-entry-preserved : goal.loop-entry-preserved
-loop-entry-preserved c =
-    let lent = c.args.entries.now in
-    let i = c.loop-entry.entry-index in
+pub loop-piece-preserved : goal.loop-piece-preserved
+loop-piece-preserved c =
+    let pieces = c.args.pieces.now in
+    let i = c.loop-piece.piece-index in
+    let piece = c.piece-item.result.now in
     let f = λ (x : Entry). weight_of c.args.what x.step x.outcome in
-    let so_far = sum_by f (map (λ entry. entry.now) (take i lent)) in
-    let more = sum_by-more f (λ entry. entry.now) lent i c.entry-item.result c.loop-entry-test.true c.entry-item.is in
-    modulo_more c.loop-entry.count so_far c.weight-count.result ((c.loop-entry.count + c.weight-count.result) % 2 ^ 64) c.loop-entry.invariant refl
-    ∙ ap (λ (n : ℕ). (so_far + n) % 2 ^ 64) c.weight-count.ensures
+    let so_far = sum_by f (flat_map (λ piece. piece) (take i pieces)) in
+    let more = sum_by-joined f pieces i piece c.loop-piece-test.true (sym c.piece-item.is) in
+    modulo_sum c.loop-piece.count so_far c.count_in-count.result (sum_by f piece) ((c.loop-piece.count + c.count_in-count.result) % 2 ^ 64) c.loop-piece.invariant c.count_in-count.ensures refl
     ∙ ap (λ (n : ℕ). n % 2 ^ 64) (sym more)
