@@ -10,7 +10,7 @@ pub loop-piece-preserved : goal.loop-piece-preserved
 loop-piece-preserved c =
     let pieces = c.args.pieces.now in
     let i = c.loop-piece.piece-index in
-    let piece = c.piece-item.result.now in
+    let piece = c.piece-item.result in
     let f = λ (x : Entry). weight_of c.args.what x.step x.outcome in
     let so_far = sum_by f (flat_map (λ piece. piece) (take i pieces)) in
     let more = sum_by-joined f pieces i piece c.loop-piece-test.true (sym c.piece-item.is) in

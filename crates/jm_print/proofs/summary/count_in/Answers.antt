@@ -19,7 +19,7 @@ loop-i-preserved c =
     record {
       counted = before.counted;
       so_far =
-        modulo_more c.loop-i.count so_far c.weight-count.result ((c.loop-i.count + c.weight-count.result) % 2 ^ 64) before.so_far refl
-        ∙ ap (λ (n : ℕ). (so_far + n) % 2 ^ 64) (c.weight-count.ensures ∙ (λ j. weight_of c.args.what (c.step.ensures j) (c.outcome.ensures j)))
-        ∙ ap (λ (n : ℕ). n % 2 ^ 64) (sym more);
+          modulo_more c.loop-i.count so_far c.weight-count.result ((c.loop-i.count + c.weight-count.result) % 2 ^ 64) before.so_far refl
+          ∙ ap (λ (n : ℕ). (so_far + n) % 2 ^ 64) (c.weight-count.ensures ∙ (λ j. weight_of c.args.what (c.step.ensures j) (c.outcome.ensures j)))
+          ∙ ap (λ (n : ℕ). n % 2 ^ 64) (sym more);
     }
