@@ -1,5 +1,5 @@
 //! The objects of a line.
-ghost use Rattle.std.specs.Prelude.{◌≡◌, ◌<◌, ◌≤◌, nat_le, ◌++◌, ◌+◌, ◌-◌, ◌^◌, length, map, take, IfOk, IfSome, OnOk, OnErr, IsSome, IsTrue};
+ghost use Rattle.std.specs.Prelude.{◌≡◌, ◌<◌, ◌≤◌, nat_le, ◌++◌, ◌+◌, ◌-◌, ◌^◌, length, map, take, IfOk, OnOk, OnErr, IsSome, IsTrue};
 ghost use Rattle.std.specs.List.{list_all};
 ghost use Rattle.jm_events.specs.Names.{with_name};
 ghost use Rattle.jm_lines.specs.Objects.{is_object};
@@ -24,19 +24,18 @@ pub fn are_objects(words: &[&[u8]]) -> bool
     true
 }
 
-/// The numbers of the objects, at most eight, if all of them are known.
-pub fn known_numbers(objects: &[&[u8]], names: &Names) -> Option<[u32; 8]>
+/// Writes the numbers of the objects, at most eight, if all of them are known.
+pub fn known_numbers(objects: &[&[u8]], names: &Names, numbers: &mut [u32; 8]) -> Option<()>
     requires objects { IsTrue (list_all is_object (map (λ w. w.now) objects.now)) }
     requires few { length objects.now ≤ 8 }
     ensures names { IsSome result → mentioned names.now (map (λ w. w.now) objects.now) ≡ names.now }
-    ensures numbers { IfSome result
-        (λ numbers. take (length objects.now) numbers ≡ numbers_of names.now (map (λ w. w.now) objects.now)) }
+    ensures numbers { IsSome result → take (length objects.now) numbers.new
+        ≡ numbers_of names.now (map (λ w. w.now) objects.now) }
 {
-    let mut numbers = [0; 8];
     for (i, object) in objects.iter().enumerate() {
         numbers[i] = names.find(text(object))?;
     }
-    Some(numbers)
+    Some(())
 }
 
 /// Whether there are not too many objects even if all of these are new.
@@ -78,21 +77,20 @@ fn new_names(alloc: Global, objects: &[&[u8]], names: &Names) -> Result<Names, N
     Ok(new)
 }
 
-/// Mentions the objects in order, and gives their numbers, at most eight.
-pub fn mention(objects: &[&[u8]], names: &mut Names) -> Result<[u32; 8], NoMemory>
+/// Mentions the objects in order, and writes their numbers, at most eight.
+pub fn mention(objects: &[&[u8]], names: &mut Names, numbers: &mut [u32; 8]) -> Result<(), NoMemory>
     requires objects { IsTrue (list_all is_object (map (λ w. w.now) objects.now)) }
     requires few { length objects.now ≤ 8 }
     requires room { length names.old ≤ 65536 }
     ensures ok { OnOk result (names.new ≡ mentioned names.old (map (λ w. w.now) objects.now)) }
-    ensures numbers { IfOk result (λ numbers. take (length objects.now) numbers
+    ensures numbers { OnOk result (take (length objects.now) numbers.new
         ≡ numbers_of names.old (map (λ w. w.now) objects.now)) }
     ensures err { OnErr result (IsExtension names.old names.new) }
 {
-    let mut numbers = [0; 8];
     for (i, object) in objects.iter().enumerate() {
         numbers[i] = mention_one(object, names)?;
     }
-    Ok(numbers)
+    Ok(())
 }
 
 /// Mentions an object, and gives its number.

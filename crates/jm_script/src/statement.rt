@@ -72,7 +72,8 @@ pub fn event_line<'a>(
         (event_statement word.now (map (λ w. w.now) objects.now))) names.old result names.new }
 {
     let event = event_of(catalog, position, word, objects, known)?;
-    let numbers = numbers(alloc, position, objects, names)?;
+    let mut numbers = [0; 8];
+    number_all(alloc, position, objects, names, &mut numbers)?;
     let binding = Binding::of(event.mask, &numbers[..objects.len()]);
     Ok(Some(Target::Event {
         spec: event.spec,
@@ -151,28 +152,29 @@ fn is_event_line(spec: &[u8], event: &[u8], objects: &[&[u8]]) -> bool
     is_name_text(spec) && is_name_text(event) && are_objects(objects)
 }
 
-/// The numbers of the objects that a line mentions.
+/// Writes the numbers of the objects that a line mentions.
 #[inline(always)]
-fn numbers(
+fn number_all(
     alloc: Global,
     position: Position,
     objects: &[&[u8]],
     names: &mut Names,
-) -> Result<[u32; 8], ScriptError>
+    numbers: &mut [u32; 8],
+) -> Result<(), ScriptError>
     requires objects { IsTrue (list_all is_object (map (λ w. w.now) objects.now)) }
     requires few { length objects.now ≤ 8 }
     requires room { length names.old ≤ 65536 }
     ensures room { OnOk result (length (mentioned names.old (map (λ w. w.now) objects.now)) ≤ 65536) }
     ensures ok { OnOk result (names.new ≡ mentioned names.old (map (λ w. w.now) objects.now)) }
-    ensures numbers { IfOk result (λ numbers. take (length objects.now) numbers
+    ensures numbers { OnOk result (take (length objects.now) numbers.new
         ≡ numbers_of names.old (map (λ w. w.now) objects.now)) }
     ensures err { (target_of : List ℕ → Target)
         → IfErr result (λ error. IsStoppedBy
         (mentioning position.line names.old (map (λ w. w.now) objects.now) target_of) names.old error names.new) }
 {
     if !are_few(objects, names) {
-        if let Some(numbers) = known_numbers(objects, names) {
-            return Ok(numbers);
+        if known_numbers(objects, names, numbers).is_some() {
+            return Ok(());
         }
     }
     let room = have_room(alloc, objects, names)?;
@@ -180,8 +182,8 @@ fn numbers(
         let line = position.line;
         return Err(ScriptError::Bad(ScriptFault::TooManyObjects { line }));
     }
-    let numbers = mention(objects, names)?;
-    Ok(numbers)
+    mention(objects, names, numbers)?;
+    Ok(())
 }
 
 /// A line `death OBJECT`, by the words behind the first.
@@ -204,7 +206,8 @@ pub fn death_line(
     if position.is_full() {
         return Err(position.too_many_lines());
     }
-    let numbers = numbers(alloc, position, words, names)?;
+    let mut numbers = [0; 8];
+    number_all(alloc, position, words, names, &mut numbers)?;
     Ok(Some(Target::Death { object: numbers[0] }))
 }
 

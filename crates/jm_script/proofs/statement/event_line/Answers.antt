@@ -9,24 +9,24 @@ use Rattle.jm_script.proofs.KnownLemmas.{known_steps}
 use Rattle.jm_script.proofs.MeaningLemmas.{mentions, stopped}
 use Rattle.jm_script.proofs.statement.event_line.Goals as goal
 
-pub returns-in_err-numbers-clause-read : goal.returns-in_err-numbers-clause-read
-returns-in_err-numbers-clause-read c =
-    let p = err_from_is_err_and c.from_residual-in_err-numbers.result c.from_residual-in_err-numbers.ensures.1 in
+pub returns-in_err-number_all-clause-read : goal.returns-in_err-number_all-clause-read
+returns-in_err-number_all-clause-read c =
+    let p = err_from_is_err_and c.from_residual-in_err-number_all.result c.from_residual-in_err-number_all.ensures.1 in
     rw (p.1, p.2) (stopped _ _ _ _ _
     (known_steps c.args.catalog.now c.args.position.count c.args.position.line c.args.names.now c.args.word.now (texts c.args.objects.now) (length c.args.objects.now) c.in_ok-event.event (sym (length-texts c.args.objects.now)) c.in_ok-event.ensures.finds.event c.in_ok-event.ensures.finds.named c.in_ok-event.ensures.finds.room)
-    (c.in_err-numbers.ensures.err (λ numbers. target.Event c.in_ok-event.event.spec c.in_ok-event.event.letter (spread 8 c.in_ok-event.event.mask numbers))))
+    (c.in_err-number_all.ensures.err (λ numbers. target.Event c.in_ok-event.event.spec c.in_ok-event.event.letter (spread 8 c.in_ok-event.event.mask numbers))))
 
 pub returns-clause-fits : goal.returns-clause-fits
 returns-clause-fits c = record {
   event = rw c.of-binding.ensures.mask c.in_ok-event.ensures.finds.event.there;
   eight = c.of-binding.ensures.eight;
-  named = rw (c.of-binding.ensures.objects, c.in_ok-numbers.ensures.numbers, c.in_ok-numbers.ensures.ok) (numbers_of-below c.args.names.now (texts c.args.objects.now));
+  named = rw (c.of-binding.ensures.objects, c.in_ok-number_all.ensures.numbers, c.in_ok-number_all.ensures.ok) (numbers_of-below c.args.names.now (texts c.args.objects.now));
 }
 
 pub returns-clause-read : goal.returns-clause-read
 returns-clause-read c =
     mentions _ c.args.position.line c.args.names.now (texts c.args.objects.now) _ (λ numbers. target.Event c.in_ok-event.event.spec c.in_ok-event.event.letter (spread 8 c.in_ok-event.event.mask numbers)) _
     (known_steps c.args.catalog.now c.args.position.count c.args.position.line c.args.names.now c.args.word.now (texts c.args.objects.now) (length c.args.objects.now) c.in_ok-event.event (sym (length-texts c.args.objects.now)) c.in_ok-event.ensures.finds.event c.in_ok-event.ensures.finds.named c.in_ok-event.ensures.finds.room)
-    c.in_ok-numbers.ensures.room
-    c.in_ok-numbers.ensures.ok
-    (ap (target.Event c.in_ok-event.event.spec c.in_ok-event.event.letter) (spread_is _ _ _ c.of-binding.ensures.eight c.of-binding.ensures.mask (c.of-binding.ensures.objects ∙ c.in_ok-numbers.ensures.numbers)))
+    c.in_ok-number_all.ensures.room
+    c.in_ok-number_all.ensures.ok
+    (ap (target.Event c.in_ok-event.event.spec c.in_ok-event.event.letter) (spread_is _ _ _ c.of-binding.ensures.eight c.of-binding.ensures.mask (c.of-binding.ensures.objects ∙ c.in_ok-number_all.ensures.numbers)))
