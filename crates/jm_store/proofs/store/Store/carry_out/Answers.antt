@@ -28,3 +28,6 @@ returns-else-step-clause-within g c = rw (← c.self.view_is) (housed_within _ _
 
 pub returns-in_default-clause-within : goal.returns-in_default-clause-within
 returns-in_default-clause-within g c = rw (← c.self.view_is) (housed_within _ _ c.self.invariant.housed)
+
+pub returns-else-step-clause-fits : goal.returns-else-step-clause-fits
+returns-else-step-clause-fits g c = rw (← c.self.view_is) c.remove.ensures.fits

@@ -62,3 +62,8 @@ returns-clause-slots g c =
     let Stands = g.M.Monitor.StandsFor c.args.rules.now in
     let down = rw (← c.self.view_is) at c.drop_all_cut.ensures.down in
     left_down m Stands c.args.objects.now c.args.self.now _ down
+
+pub drop_dead-requires : goal.drop_dead-requires
+drop_dead-requires g c =
+    let down = rw (← c.self.view_is) at c.drop_all_cut.ensures.down in
+    down.index c.args.objects.now c.requires.fits.index

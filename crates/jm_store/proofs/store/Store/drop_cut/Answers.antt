@@ -14,3 +14,6 @@ returns-in-Some-clause-here g c =
     let cut = c.in-Some.ensures.cut in
     let gone = freed_here c.self.inside.monitors.slots c.args.slot c.self.inside.monitors.free cut.0 cut.1 in
     rw (← c.self.view_is, c.release.ensures, cut.1, gone, cut.2) cut.3
+
+pub returns-in-Some-clause-fits : goal.returns-in-Some-clause-fits
+returns-in-Some-clause-fits g c = rw (← c.self.view_is) c.remove.ensures.fits

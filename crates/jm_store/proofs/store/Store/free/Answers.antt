@@ -37,3 +37,6 @@ returns-then-is_planned-clause-gone g c =
 pub returns-else-is_planned-clause-gone : goal.returns-else-is_planned-clause-gone
 returns-else-is_planned-clause-gone g c =
     rw (← c.self.view_is) (λ pair within same. filled_unplanned _ _ c.args.slot c.self.invariant.housed pair within same (λ planned. both_ways c.is_planned.result c.if-is_planned.false (c.is_planned.ensures.1 planned)))
+
+pub returns-then-is_planned-clause-fits : goal.returns-then-is_planned-clause-fits
+returns-then-is_planned-clause-fits g c = rw (← c.self.view_is) c.remove.ensures.fits

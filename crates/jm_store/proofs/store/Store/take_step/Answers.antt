@@ -113,3 +113,8 @@ returns-clause-listed g c = λ dead listed.
     let is = for_slots mid.monitors mid.index.list step carried.slots p.paired.within p.paired.paired (λ k slot. p.placed.leads step k (Contains-head step []) slot) in
     let moved = c.follow.ensures c.args.rules.now dead mid.monitors is first in
     subst (λ (l : List (Option (Stored g.row.M-State.Denot))). AreListed m Stands dead l c.follow.new.awake) (sym (c.close.ensures.monitors ∙ carried.monitors)) moved
+
+pub returns-in_err-place_one-clause-index : goal.returns-in_err-place_one-clause-index
+returns-in_err-place_one-clause-index g c =
+    let p = rw c.in_ok-open_for.ensures.opened at c.in_err-place_one.ensures in
+    λ dead fit mine. p.fits dead fit mine
