@@ -6,11 +6,11 @@ returns-then-counted_shift g c =
     let shifted = c.counted_shift.ensures in
     let done = shifted.done c.if-counted_shift.true in
     record {
-      twice = rw (c.new.ensures, c.new-2.ensures) refl;
+      twice = rw (c.new-then-counted_shift.ensures, c.new-then-counted_shift-2.ensures) refl;
       closed = done.closed;
       fits = done.fits;
       listed = shifted.listed;
       works = λ trace holds.
           let event = done.works trace holds in
-          (c.requires.live, rw c.new.ensures event.answer, record { holds = event.store; none_cut = event.none_cut });
+          (c.requires.live, rw c.new-then-counted_shift.ensures event.answer, record { holds = event.store; none_cut = event.none_cut });
     }
