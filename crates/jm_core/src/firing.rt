@@ -107,7 +107,16 @@ fn answer_by_list<M: Monitor>(
     ensures { Performs (M.meaning (M.definition rules.now)) (M.StandsFor rules.now) objects.now
         (record { letter = letter.0; binding = binding.now }) store.old store.new awake.old awake.new result }
 {
-    if counted_shift::<M, Brand>(rules, objects, store, awake, place, letter, binding, Blank::new(1)) {
+    if counted_shift::<M, Brand>(
+        rules,
+        objects,
+        store,
+        awake,
+        place,
+        letter,
+        binding,
+        Blank::new(1),
+    ) {
         return (
             Outcome::Fired(Firings::new(alloc)),
             Outcome::Fired(Firings::new(alloc)),
