@@ -1,17 +1,28 @@
 //! An index and a table of objects that it fits.
 ghost use Rattle.std.specs.Prelude.{◌≡◌, true, false, length};
-ghost use Rattle.jm_index.specs.Index.{flag_of, IsFitting, AreBelow, AreLive};
+ghost use Rattle.jm_index.specs.Index.{flag_of, AreBelow, AreLive};
 
 use jm_index::{Index, fits_after_death};
 use jm_model::{Binding, NoMemory};
 use jm_objects::Objects;
 use std::alloc::Global;
+use std::marker::Model;
 
 #[derive(Drop)]
 pub(crate) struct Table {
     index: Index,
     objects: Objects,
-    ghost fits: { IsFitting index objects },
+}
+
+impl Model for Table {
+    ghost use Rattle.std.specs.Prelude.{List, Bool};
+    ghost use Rattle.jm_index.specs.Index.{PairList, IsFitting};
+
+    ghost Value = { PairList × List Bool };
+
+    ghost view = { λ t. (t.index, t.objects) };
+
+    ghost invariant = { λ t. IsFitting t.index t.objects };
 }
 
 impl Table {

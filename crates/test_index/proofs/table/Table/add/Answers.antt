@@ -1,4 +1,7 @@
 use Rattle.test_index.proofs.table.Table.add.Goals as goal
 
 pub invariant_of-self : goal.invariant_of-self
-invariant_of-self c = record { fits = c.add.ensures.fits _ (c.remove.ensures.fits _ c.args.self.now.fits) (c.within.ensures c.if-within.true) }
+invariant_of-self c = c.add.ensures.fits _ (c.remove.ensures.fits _ c.self.invariant) (c.within.ensures c.if-within.true)
+
+pub invariant_of-self-in_err-add : goal.invariant_of-self-in_err-add
+invariant_of-self-in_err-add c = c.add.ensures.fits _ (c.remove.ensures.fits _ c.self.invariant) (c.within.ensures c.if-within.true)
