@@ -160,7 +160,7 @@ fn pair<M: Monitor>(alloc: Global, a: Seat<M>, b: Seat<M>) -> Result<Vec<Seat<M>
 /// The entries of a core, a line each.
 fn entries<M: Monitor>(alloc: Global, prop: &Prop<M>) -> Result<String, NoMemory> {
     let mut out = String::new(alloc);
-    for entry in &prop.history().entries(alloc)? {
+    for entry in &prop.history().to_list(alloc)? {
         put_line(&mut out, entry_shown(alloc, entry)?.as_str())?;
     }
     Ok(out)

@@ -9,7 +9,7 @@ use testkit_steps::{binding_shown, outcome_shown};
 
 /// How many entries there are, how many of them fired, and how many each seat has.
 pub(crate) fn counted(alloc: Global, prop: &Prop<Rules>, seats: u32) -> Result<String, NoMemory> {
-    let entries = prop.history().entries(alloc)?;
+    let entries = prop.history().to_list(alloc)?;
     let fired = entries.iter().filter(|entry| has_fired(entry)).count();
     let mut out = format!(in alloc; "{} entries, {fired} fired, of", entries.len())?;
     for seat in 0..seats {

@@ -34,7 +34,7 @@ pub(crate) fn answer<R: Threads + Wait + Sync>(
 /// aren't what the definitions say.
 fn told<R: Threads + Wait + Sync>(rt: &R, alloc: Global, plan: Plan) -> Result<String, NoMemory> {
     let prop = storm(rt, alloc, Table::doors(), plan)?;
-    let entries = prop.history().entries(alloc)?;
+    let entries = prop.history().to_list(alloc)?;
     let died = entries
         .iter()
         .filter(|entry| matches!(entry.outcome, Outcome::Done))

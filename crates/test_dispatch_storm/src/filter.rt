@@ -12,7 +12,7 @@ const PASS: u8 = 2;
 
 /// How many entries don't have the outcome that the definitions give their step after the entries before them. An event
 /// that may be answered may also be out of memory, and then leaves no trace.
-pub(crate) fn wrong(alloc: Global, entries: &[&Entry]) -> Result<usize, NoMemory> {
+pub(crate) fn wrong(alloc: Global, entries: &[Entry]) -> Result<usize, NoMemory> {
     let mut past = Past::new(alloc);
     let mut wrong = 0usize;
     for entry in entries {

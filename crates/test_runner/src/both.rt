@@ -45,7 +45,7 @@ pub(crate) fn shown(
     props: &[Prop<Meet>],
 ) -> Result<String, NoMemory> {
     for prop in props {
-        for entry in &prop.history().entries(alloc)? {
+        for entry in &prop.history().to_list(alloc)? {
             put_line(&mut text, entry_shown(alloc, entry)?.as_str())?;
         }
     }
