@@ -62,7 +62,7 @@ pub(crate) fn choose(pending: &[Pending], rest: Option<&[u8]>) -> usize
     }
 }
 
-/// The same where this is the rest of the text.
+/// Chooses so among several where this is the rest of the text.
 fn choose_marked(pending: &[Pending], rest: &[u8]) -> usize
     requires { 0 < length pending.now }
     ensures there { result < length pending.now }

@@ -155,7 +155,7 @@ fn put_bindings_in_order(list: &mut Vec<Binding>)
     list.dedup_by(|b, t| b.cmp(t).is_eq());
 }
 
-/// The same, instance by instance.
+/// Those bindings as they come, instance by instance.
 fn list_alive<M: Monitor>(
     alloc: Global,
     rules: &M,

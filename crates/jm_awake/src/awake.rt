@@ -350,7 +350,7 @@ impl Awake {
         }
     }
 
-    /// The same, where memory may be wanting in the middle.
+    /// Adds such a list, and may run out of memory in the middle.
     fn add_list(&mut self, letter: u32, binding: &Binding, slots: &[usize]) -> Result<(), NoMemory>
         requires low { letter < 32 }
         requires mask { bit_at self.old.letters letter ≡ 1 → slice_index self.old.masks letter ≡ mask_of binding.now }

@@ -272,7 +272,7 @@ fn first_dead(objects: &Objects, binding: &Binding) -> Option<u32>
     None
 }
 
-/// The same, worked out.
+/// What the event comes to, worked out.
 fn fire<M: Monitor>(
     rules: &M,
     objects: &Objects,

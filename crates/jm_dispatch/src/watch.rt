@@ -80,7 +80,7 @@ impl<M: Monitor> Watch<M> {
     }
 
     /// Waits for its turn and does an event of the letter, with one object for each of its parameters, in their order.
-    /// The answer has the outcome of `Prop::event`: a want of memory in the turn is an entry with NoMemory.
+    /// The answer has the outcome of `Prop::event`: out of memory in the turn is an entry with NoMemory.
     ///
     /// Err means that no step was made.
     pub fn emit(

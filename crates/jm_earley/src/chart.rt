@@ -74,7 +74,7 @@ impl Charts {
         Charts::of(alloc, &grammar, table)
     }
 
-    /// The same of a grammar that is lent.
+    /// Charts of a grammar that is lent, otherwise as `new` makes them.
     pub fn of(alloc: Global, grammar: &Grammar, table: &EventTable) -> Result<Charts, NoMemory>
         requires { AreBelow grammar.now.productions (length table.now.events) }
         ensures words { IfOk result (λ c. (word : List ℕ) → IsWord c.grammar word ↔ IsWord grammar.now word) }
@@ -113,7 +113,7 @@ impl Charts {
     }
 
     /// The chart of a word that has one letter more. It shares the earlier places with this one, and leaves out those
-    /// that no item reaches any more. A word of 2^32 - 1 letters counts as want of memory.
+    /// that no item reaches any more. A word of 2^32 - 1 letters counts as out of memory.
     pub fn next(&self, chart: &Chart, letter: Letter) -> Result<Chart, NoMemory>
         requires { letter.0 < length self.now.params }
         ensures { (word : List ℕ) → IsChartOf self.now word chart.now

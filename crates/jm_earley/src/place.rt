@@ -131,7 +131,7 @@ impl Places {
         None
     }
 
-    /// The same places.
+    /// A copy of the places.
     pub(crate) fn copy(&self) -> Result<Places, NoMemory>
         ensures { IfOk result (λ copy. copy ≡ self.now) }
     {

@@ -67,7 +67,7 @@ impl<T: Drop> Shared<T> {
         Ok(Shared { items: first })
     }
 
-    /// The same items.
+    /// A copy of the items.
     pub(crate) fn copy(&self) -> Result<Shared<T>, NoMemory>
         ensures { IfOk result (λ copy. copy ≡ self.now) }
     {

@@ -17,7 +17,7 @@ pub(crate) fn boxed(alloc: Global, tree: Tree) -> Result<Box<Tree>, SpecError>
     Ok(Box::new(alloc, tree)?)
 }
 
-/// The same expression.
+/// A copy of an expression.
 pub(crate) fn copy(alloc: Global, tree: &Tree) -> Result<Tree, SpecError>
     ensures ok { IfOk result (λ t. expression_of t ≡ expression_of tree.now) }
     ensures err { IfErr result (λ e. e ≡ SpecError.NoMemory) }

@@ -11,8 +11,8 @@ use jm_model::NoMemory;
 use std::alloc::Global;
 
 impl Grammar {
-    /// The same words and start, and no nonterminal that spells no word, save the start. The productions are some of
-    /// these, in their order.
+    /// A grammar of the same words and start, in which no nonterminal but the start spells no word. Its productions are
+    /// some of these, in their order.
     pub fn reduce(&self) -> Result<Grammar, NoMemory>
         ensures words { IfOk result (λ g. (word : List ℕ) → IsWord g word ↔ IsWord self.now word) }
         ensures spell { IfOk result (λ g. (n : ℕ) → IsIn g.productions n → DerivesSome g.productions n) }

@@ -29,7 +29,7 @@ pub(crate) fn text(page: &mut Vec<u8>, text: &[u8]) -> Result<(), NoMemory>
     Ok(page.extend_from_slice(text)?)
 }
 
-/// The same byte by byte.
+/// Writes a text byte by byte, with line breaks as they are shown.
 fn bytes(page: &mut Vec<u8>, text: &[u8]) -> Result<(), NoMemory>
     ensures { OnOk result (page.new.items ≡ page.old.items ++ broken text.now) }
 {

@@ -68,7 +68,7 @@ impl Index {
         }
     }
 
-    /// Adds a pair at the end. Where memory is wanting, the pairs are as before. The index fits what it fitted, if the
+    /// Adds a pair at the end. Out of memory, the pairs are as before. The index fits what it fitted, if the
     /// objects of the binding stand in the table.
     ///
     /// Where there is no room for an entry and more than half of many entries aren't live, the index is made anew of

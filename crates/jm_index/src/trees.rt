@@ -86,7 +86,7 @@ impl Trees {
         self.file(mask, object as usize + 1, position)
     }
 
-    /// Files a position under all paths of a binding. Where memory is wanting, it may stand under some of them.
+    /// Files a position under all paths of a binding. Out of memory, it may stand under some of them.
     pub(crate) fn file_all(
         &mut self,
         dropped: &Flags,

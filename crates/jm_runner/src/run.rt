@@ -55,11 +55,11 @@ where
     run_with_notes(rt, alloc, watches, scripts, &cuts, gate)
 }
 
-/// The same, where scripts ask for order: each has its cut, and no fault is in these. Each history has its entries in
-/// that order. A line that posts a name lets the lines that wait for it go on, and tells them what was done above it. A
-/// worker that runs out of memory gives up the names that it hasn't posted; so does one that waits for such a name, and
-/// the answer is NoMemory. Where some script asks for order each worker needs a thread of its own, and where one can't
-/// be had the answer is NoMemory too. That a wait ends is in no clause.
+/// Runs scripts as `run_scripts` does, where they ask for order: each has its cut, and no fault is in these. Each
+/// history has its entries in that order. A line that posts a name lets the lines that wait for it go on, and tells
+/// them what was done above it. A worker that runs out of memory gives up the names that it hasn't posted; so does one
+/// that waits for such a name, and the answer is NoMemory. Where some script asks for order each worker needs a thread
+/// of its own, and where one can't be had the answer is NoMemory too. That a wait ends is in no clause.
 pub fn run_with_notes<M: Monitor + Send, G: Gate, R: Threads + Wait + Sync>(
     rt: &R,
     alloc: Global,
@@ -87,7 +87,7 @@ where
     run_as::<M, Brand, G, R>(rt, alloc, watches, scripts, cuts, gate)
 }
 
-/// The same, where the naming is this run's.
+/// Runs scripts so, with a naming of this run's own.
 fn run_as<
     M: Monitor + Send,
     J: Naming<M::Definition> + Send + Sync,

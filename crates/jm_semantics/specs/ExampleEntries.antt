@@ -29,7 +29,7 @@ abbrev pub event_of : ℕ → Binding → Step
 event_of e b = Event (record { 0 = e }) b
 
 -- entries of caller 0, at a line: an event and its answer, a death, a pass and its number, a step that was refused,
--- one that met want of memory
+-- one that ran out of memory
 abbrev pub event : ℕ → ℕ → Binding → List Firing → Entry
 event line e b firings = record { caller = 0; line = line; step = event_of e b; outcome = Fired firings }
 

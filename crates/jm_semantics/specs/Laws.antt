@@ -57,7 +57,7 @@ abbrev pub CutIsFinal : Meaning → Type 0
 CutIsFinal m = (h g : List Entry) (t : Binding) → IsLegal m (h ++ g) → IsCut m h t →
     (((pre post : List Entry) → g ≡ pre ++ post → IsCut m (h ++ pre) t) × All (λ x. Names x.outcome t → ⊥) g)
 
--- a step has one reply, want of memory aside
+-- a step has one reply, out of memory aside
 abbrev pub ReplyIsDetermined : Meaning → Type 0
 ReplyIsDetermined m = (h : List Entry) (s : Step) (outcome other : Outcome) →
     IsReply m h s outcome → IsReply m h s other → outcome ≢ NoMemory → other ≢ NoMemory → outcome ≡ other

@@ -86,7 +86,7 @@ cut_by_death kept = before_cut ++ pass 4 kept ∷ []
 abbrev pub refusals : List Entry
 refusals = death 1 0 ∷ refused 2 (Death 0) 0 ∷ refused 3 (event_of 1 (binding (Some 0) None None)) 0 ∷ []
 
--- an event that met want of memory is in no slice: the iterator is not known to stem from the collection
+-- an event that ran out of memory is in no slice: the iterator is not known to stem from the collection
 abbrev pub forgotten : List Entry
 forgotten = out_of_memory 1 (event_of 0 (both 0 1)) ∷ update 2 0 [] ∷ next 3 1 [] ∷ []
 

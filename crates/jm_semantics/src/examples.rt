@@ -44,7 +44,7 @@ pub fn refusals()
     ensures { IsLegal unsafe_iter refusals }
 {}
 
-/// An event that met want of memory leaves no trace.
+/// An event that ran out of memory leaves no trace.
 pub fn forgotten()
     ensures { IsLegal unsafe_iter forgotten }
 {}

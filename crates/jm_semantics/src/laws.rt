@@ -37,12 +37,12 @@ pub fn cut_is_final<M: Monitor>()
     ensures { (d : M.Definition) → CutIsFinal (M.meaning d) }
 {}
 
-/// A step has at most one reply, want of memory aside.
+/// A step has at most one reply, out of memory aside.
 pub fn reply_is_determined<M: Monitor>()
     ensures { (d : M.Definition) → ReplyIsDetermined (M.meaning d) }
 {}
 
-/// Two legal histories that agree up to a step give it one outcome, want of memory aside.
+/// Two legal histories that agree up to a step give it one outcome, out of memory aside.
 pub fn outcome_is_pinned<M: Monitor>()
     ensures { (d : M.Definition) → OutcomeIsPinned (M.meaning d) }
 {}

@@ -29,7 +29,7 @@ pub fn read_spec(alloc: Global, bytes: &[u8], tokens: &[Token]) -> Result<SpecTr
     tree_of(alloc, bytes, frame)
 }
 
-/// The same before anything but the grammar is asked: what `tree_of` makes the tree of. The one fault is `Syntax`.
+/// Reads the frame, of which `tree_of` makes the tree: nothing but the grammar is asked yet. The one fault is `Syntax`.
 pub fn read_frame(alloc: Global, bytes: &[u8], tokens: &[Token]) -> Result<Frame, SpecError>
     requires within { LieWithin bytes.now tokens.now }
     requires few { length tokens.now < 2 ^ 32 }

@@ -11,7 +11,7 @@ use std::alloc::Global;
 
 impl Table {
     /// The table that is in the same groups after every word, the empty one included, and of which no two states agree
-    /// in groups after all words. After want of memory the table is gone.
+    /// in groups after all words. Out of memory, the table is gone.
     ///
     /// Its states are the classes that Moore's refinement finds (Moore 1956), in at most a round for each state.
     pub fn minimise(self) -> Result<Table, NoMemory>

@@ -73,7 +73,7 @@ fn put_words(
     Ok(())
 }
 
-/// The same of the empty word, of which nothing says yet how it may go on.
+/// What is needed after the empty word, of which nothing says yet how it may go on.
 fn put_start(out: &mut String, sets: &str, needs: &Needs) -> Result<(), AllocError> {
     out.push_str("start ")?;
     for set in sets.split_whitespace() {

@@ -29,7 +29,7 @@ fn stingy(rt: &impl Wait, alloc: Global, case: &Case) -> Result<String, NoMemory
     by_two(rt, alloc, case.first.as_str(), Table::unsafe_iter(left), 8)
 }
 
-/// The same over the rules of the specification in the case's text; or turns of many seats.
+/// The answer over the rules of the specification in the case's text; or turns of many seats.
 fn ruled<R: Threads + Wait + Sync>(rt: &R, alloc: Global, case: &Case) -> Result<String, NoMemory> {
     match rules_of(alloc, &case.text) {
         Ok(rules) => told(rt, alloc, case, rules),

@@ -30,7 +30,7 @@ pub(crate) fn script(alloc: Global, case: &Case) -> Result<String, SpecError> {
     Ok(out)
 }
 
-/// The same without the steps and the names.
+/// What is printed without the steps and the names.
 pub(crate) fn ending(alloc: Global, case: &Case) -> Result<String, SpecError> {
     let mut names = Names::new(alloc);
     read_all(alloc, case, &mut names, false)

@@ -128,8 +128,8 @@ fn shown(alloc: Global, status: &Status, out: &[u8], err: &[u8]) -> Result<Strin
     Ok(answer)
 }
 
-/// The same where nothing fails and the files are long: how many bytes are written, their last line, and that of what
-/// the error sink was given. In the files a `;` stands for a line feed.
+/// A command line where nothing fails and the files are long: how many bytes are written, their last line, and that of
+/// what the error sink was given. In the files a `;` stands for a line feed.
 pub(crate) fn long<R: Threads + Wait + Sync>(
     rt: &R,
     alloc: Global,

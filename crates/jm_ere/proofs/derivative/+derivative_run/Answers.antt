@@ -9,7 +9,7 @@ use Rattle.jm_ere.specs.Expressions.{Expression}
 use Rattle.jm_ere.specs.NormalForms.{Formed}
 use Rattle.jm_ere.proofs.derivative.+derivative_run.Goals as goal
 
--- a call that fails for want of memory alone answers the expression
+-- a call that fails out of memory alone answers the expression
 made : (e : Expression) (r : Result Tree SpecError) → IfOk r (λ t. expression_of t ≡ e) → IfErr r (λ error. error ≡ NoMemory) → Answers expression_of (Ok e) r
 made e (Ok t) is only = ap Ok (sym is)
 made e (Err NoMemory) is only = tt
