@@ -89,11 +89,28 @@ fn next_low(text: &[u8], at: usize, low: u64) -> Low
     ensures fits { result.place ≤ length text.now }
     ensures behind { result.place < length text.now → TellsLow text.now (result.place + 1) result.behind }
 {
-    let low = known_low(text, at, low);
-    if low == 0 {
-        let place = at + high_len(&text[at..]);
-        return Low { place, behind: 0 };
+    if low != 0 {
+        return told_low(text, at, low);
     }
+    let more = more_low(text, at);
+    if more != 0 {
+        return told_low(text, at, more);
+    }
+    Low {
+        place: high_end(text, at),
+        behind: 0,
+    }
+}
+
+/// The first byte below `$` from a place on, where one is known.
+#[inline(always)]
+fn told_low(text: &[u8], at: usize, low: u64) -> Low
+    requires told { TellsLow text.now at low }
+    requires some { 0 < low }
+    ensures place { result.place ≡ at + position_or_len is_low (drop at text.now) }
+    ensures fits { result.place ≤ length text.now }
+    ensures behind { result.place < length text.now → TellsLow text.now (result.place + 1) result.behind }
+{
     let run = low.trailing_zeros() as usize;
     Low {
         place: at + run,
@@ -101,14 +118,14 @@ fn next_low(text: &[u8], at: usize, low: u64) -> Low
     }
 }
 
-/// Which bytes from a place on are below `$`, as far as is known, or by a look at more of them where none is.
+/// Which bytes from a place on are below `$`, of those that are looked at together, where there are so many.
 #[inline(always)]
-fn known_low(text: &[u8], at: usize, low: u64) -> u64
-    requires { TellsLow text.now at low }
+fn more_low(text: &[u8], at: usize) -> u64
+    requires { at ≤ length text.now }
     ensures { TellsLow text.now at result }
 {
-    if low != 0 || text.len() - at < TOGETHER {
-        return low;
+    if text.len() - at < TOGETHER {
+        return 0;
     }
     low_bytes(text, at)
 }
@@ -124,6 +141,16 @@ fn low_bytes(text: &[u8], at: usize) -> u64
     u8x32::from_slice(&text[at..])
         .simd_lt(u8x32::splat(b'$'))
         .to_bitmask()
+}
+
+/// The first byte below `$` from a place on, or the end of the text, byte by byte.
+#[inline(never)]
+fn high_end(text: &[u8], at: usize) -> usize
+    requires { at ≤ length text.now }
+    ensures value { result ≡ at + position_or_len is_low (drop at text.now) }
+    ensures fits { result ≤ length text.now }
+{
+    at + high_len(&text[at..])
 }
 
 /// How many bytes stand in front of the first that is below `$`.
