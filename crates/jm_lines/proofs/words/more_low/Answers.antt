@@ -1,4 +1,4 @@
-use Rattle.std.proofs.Common.{refl, arith}
+use Rattle.std.proofs.Common.{arith}
 use Rattle.jm_lines.proofs.LowLemmas.{nothing_known}
 use Rattle.jm_lines.proofs.words.more_low.Goals as goal
 

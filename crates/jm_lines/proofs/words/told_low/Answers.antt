@@ -1,4 +1,4 @@
-use Rattle.std.proofs.Common.{◌+◌, ap, arith}
+use Rattle.std.proofs.Common.{◌+◌, ap}
 use Rattle.jm_lines.proofs.LowLemmas.{low_within, low_place, low_behind}
 use Rattle.jm_lines.proofs.words.told_low.Goals as goal
 
