@@ -110,6 +110,7 @@ impl Names {
     }
 
     /// The number of a name with this hash, if it is there.
+    #[inline(always)]
     fn find_hashed(&self, name: &str, hash: u32) -> Option<u32>
         requires { hash ≡ hash_of name.now }
         ensures value { result ≡ number_of self.now name.now }

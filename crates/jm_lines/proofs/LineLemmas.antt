@@ -1,17 +1,16 @@
 -- The words of a text's first line, found one after another, and the lines behind it.
 use Rattle.std.proofs.Common.{◌≡◌, ℕ, suc, ◌+◌, ◌-◌, ◌<◌, ◌≤◌, Bool, true, false, ◌==◌, cond, not, List, [], ◌∷◌, ◌++◌, filter, length, get_or, take, drop, refl, sym, ap, ◌∙◌, append_assoc, arith, length-append, length-drop, drop-drop}
-use Rattle.std.specs.Prelude.{All, nat_lt, slice_index}
+use Rattle.std.specs.Prelude.{All, slice_index}
 use Rattle.std.specs.List.{slice_split, position_or_len, before_first}
 use Rattle.std.specs.Str.Lines.{strip_carriage_return}
 use Rattle.std.proofs.lemmas.Bool.Decides.{nat_tests}
 use Rattle.std.proofs.lemmas.List.{take_all, get_or-drop}
 use Rattle.std.proofs.lemmas.Grind.{common_steps}
 use Rattle.std.proofs.lemmas.List.Elements.{All-head, All-tail, All-weaker}
-use Rattle.std.proofs.lemmas.List.Sums.{prefix_len-le-length, fails_before_first, split_at_first, position_or_len_is}
-use Rattle.std.specs.Simd.Lanes.{chunk}
-use Rattle.std.proofs.lemmas.Simd.{run_in_chunk_fails}
+use Rattle.std.proofs.lemmas.List.Sums.{prefix_len-le-length, fails_before_first, split_at_first}
 use Rattle.std.proofs.lemmas.List.Splits.{slice_split_none, slice_split_at, slice_split_first}
-use Rattle.jm_lines.specs.Lines.{is_line_feed, is_hash, is_blank, is_end, is_some_word, first_line, content_of, words_of, lines_of}
+use Rattle.jm_lines.specs.Low.{is_low}
+use Rattle.jm_lines.specs.Lines.{is_line_feed, is_hash, is_blank, is_some_word, first_line, content_of, words_of, lines_of}
 
 -- none of these bytes passes
 abbrev pub NonePass : (ℕ → Bool) → List ℕ → Type 0
@@ -72,23 +71,23 @@ strip-front [] b (y ∷ rest) h = strip-cons b y rest
 strip-front (x ∷ []) b rest h = strip-cons x b rest ∙ ap (λ l. x ∷ l) (strip-front [] b rest h)
 strip-front (x ∷ y ∷ front) b rest h = strip-cons x y (front ++ b ∷ rest) ∙ ap (λ l. x ∷ l) (strip-front (y ∷ front) b rest h)
 
-no_return : (b : ℕ) → is_end b ≡ false → (b == 13) ≡ false
+no_return : (b : ℕ) → is_low b ≡ false → (b == 13) ≡ false
 no_return b h = grind (arith, nat_tests)
 
-strip-none : (part : List ℕ) → NonePass is_end part → strip_carriage_return part ≡ part
+strip-none : (part : List ℕ) → NonePass is_low part → strip_carriage_return part ≡ part
 strip-none [] h = refl
-strip-none (b ∷ []) h = rw (no_return b (All-head (λ b. is_end b ≡ false) b [] h)) refl
-strip-none (b ∷ y ∷ part) h = strip-cons b y part ∙ ap (λ l. b ∷ l) (strip-none (y ∷ part) (All-tail (λ b. is_end b ≡ false) b (y ∷ part) h))
+strip-none (b ∷ []) h = rw (no_return b (All-head (λ b. is_low b ≡ false) b [] h)) refl
+strip-none (b ∷ y ∷ part) h = strip-cons b y part ∙ ap (λ l. b ∷ l) (strip-none (y ∷ part) (All-tail (λ b. is_low b ≡ false) b (y ∷ part) h))
 
 -- ---- a word, and what ends it
 
-no_feed : (b : ℕ) → is_end b ≡ false → is_line_feed b ≡ false
+no_feed : (b : ℕ) → is_low b ≡ false → is_line_feed b ≡ false
 no_feed b h = grind (arith, nat_tests)
 
-no_hash : (b : ℕ) → is_end b ≡ false → is_hash b ≡ false
+no_hash : (b : ℕ) → is_low b ≡ false → is_hash b ≡ false
 no_hash b h = grind (arith, nat_tests)
 
-no_blank : (b : ℕ) → is_end b ≡ false → is_blank b ≡ false
+no_blank : (b : ℕ) → is_low b ≡ false → is_blank b ≡ false
 no_blank b h = grind (arith, nat_tests)
 
 blank_no_feed : (b : ℕ) → is_blank b ≡ true → is_line_feed b ≡ false
@@ -100,15 +99,15 @@ blank_no_hash b h = grind (arith, nat_tests)
 blank_no_return : (b : ℕ) → is_blank b ≡ true → (b == 13) ≡ false
 blank_no_return b h = grind (arith, nat_tests)
 
-module _ (part : List ℕ) (plain : NonePass is_end part) where
+module _ (part : List ℕ) (plain : NonePass is_low part) where
   feeds : NonePass is_line_feed part
-  feeds = All-weaker (λ b. is_end b ≡ false) (λ b. is_line_feed b ≡ false) no_feed part plain
+  feeds = All-weaker (λ b. is_low b ≡ false) (λ b. is_line_feed b ≡ false) no_feed part plain
 
   hashes : NonePass is_hash part
-  hashes = All-weaker (λ b. is_end b ≡ false) (λ b. is_hash b ≡ false) no_hash part plain
+  hashes = All-weaker (λ b. is_low b ≡ false) (λ b. is_hash b ≡ false) no_hash part plain
 
   blanks : NonePass is_blank part
-  blanks = All-weaker (λ b. is_end b ≡ false) (λ b. is_blank b ≡ false) no_blank part plain
+  blanks = All-weaker (λ b. is_low b ≡ false) (λ b. is_blank b ≡ false) no_blank part plain
 
   -- the part is all that is left of the line
   alone : content_of part ≡ part
@@ -145,20 +144,6 @@ module _ (part : List ℕ) (plain : NonePass is_end part) where
     place_on : position_or_len is_line_feed (part ++ b ∷ rest) ≡ length part + 1 + position_or_len is_line_feed rest
     place_on = place_front is_line_feed part (b ∷ rest) feeds ∙ omega (arith, place_skip is_line_feed b rest (blank_no_feed b blank))
 
--- ---- bytes that are looked at together
-
-high_no_end : (b : ℕ) → nat_lt b 36 ≡ false → is_end b ≡ false
-high_no_end b h = grind (arith, nat_tests)
-
--- a word ends at the first that is low, if that is one at which a word ends
-pub run_to_end : (text : List ℕ) (at run : ℕ) → at + 32 ≤ length text → run ≡ position_or_len (λ b. nat_lt b 36) (chunk at 32 text) → run < 32 → is_end (get_or text (at + run) 0) ≡ true → run ≡ position_or_len is_end (drop at text)
-run_to_end text at run room counted short ends =
-    let inside : run ≤ length (drop at text) = omega (arith, length-drop at text) in
-    sym (position_or_len_is is_end (drop at text) run 0 inside (λ k lt. high k lt) (λ _. ap is_end (get_or-drop at text run 0) ∙ ends))
-  where
-    high : (k : ℕ) → k < run → is_end (get_or (drop at text) k 0) ≡ false
-    high k lt = ap is_end (get_or-drop at text k 0) ∙ high_no_end (get_or text (at + k) 0) (run_in_chunk_fails (λ b. nat_lt b 36) text at 32 run 0 room counted (at + k) (omega arith) (omega arith))
-
 -- ---- the words so far
 
 -- these are the words of a text's first line that stand before a place of the line, and what follows is like a text
@@ -170,14 +155,14 @@ pub record HasFound (text : List ℕ) (words : List (List ℕ)) (at : ℕ) : Typ
 plain_before : (p : ℕ → Bool) (bytes : List ℕ) → NonePass p (before_first p bytes)
 plain_before p bytes = λ k d lt. let fails = fails_before_first p bytes k d (grind (arith, common_steps)) in grind (arith, common_steps)
 
-module _ (text : List ℕ) (words : List (List ℕ)) (at end : ℕ) (part : List ℕ) (before : HasFound text words at) (found : end ≡ at + position_or_len is_end (drop at text)) (here : part ≡ take (end - at) (drop at text)) where
-  is_front : part ≡ before_first is_end (drop at text)
+module _ (text : List ℕ) (words : List (List ℕ)) (at end : ℕ) (part : List ℕ) (before : HasFound text words at) (found : end ≡ at + position_or_len is_low (drop at text)) (here : part ≡ take (end - at) (drop at text)) where
+  is_front : part ≡ before_first is_low (drop at text)
   is_front =
-      let n : end - at ≡ position_or_len is_end (drop at text) = omega arith in
+      let n : end - at ≡ position_or_len is_low (drop at text) = omega arith in
       here ∙ ap (λ k. take k (drop at text)) n
 
-  plain : NonePass is_end part
-  plain = rw is_front (plain_before is_end (drop at text))
+  plain : NonePass is_low part
+  plain = rw is_front (plain_before is_low (drop at text))
 
   -- the text ends behind the word
   module _ (all : end ≡ length text) where
@@ -201,12 +186,12 @@ module _ (text : List ℕ) (words : List (List ℕ)) (at end : ℕ) (part : List
     split : drop at text ≡ part ++ b ∷ drop (end + 1) text
     split =
         let r = drop at text in
-        let n = position_or_len is_end r in
+        let n = position_or_len is_low r in
         let inside : n < length r = omega (arith, length-drop at text) in
         let next : get_or r n 0 ≡ b = get_or-drop at text n 0 ∙ ap (λ k. get_or text k 0) (sym found) ∙ sym byte in
         let further : at + (n + 1) ≡ end + 1 = omega arith in
         let after : drop (n + 1) r ≡ drop (end + 1) text = drop-drop (n + 1) at text ∙ ap (λ k. drop k text) further in
-        split_at_first is_end r 0 inside ∙ ap (λ l. l ++ get_or r n 0 ∷ drop (n + 1) r) (sym is_front) ∙ ap (λ c. part ++ c ∷ drop (n + 1) r) next ∙ ap (λ l. part ++ b ∷ l) after
+        split_at_first is_low r 0 inside ∙ ap (λ l. l ++ get_or r n 0 ∷ drop (n + 1) r) (sym is_front) ∙ ap (λ c. part ++ c ∷ drop (n + 1) r) next ∙ ap (λ l. part ++ b ∷ l) after
 
     part_length : length part ≡ end - at
     part_length = omega (arith, ap length split, length-append part (b ∷ drop (end + 1) text), length-drop at text, length-drop (end + 1) text, before.bounded)

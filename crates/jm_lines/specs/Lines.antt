@@ -17,10 +17,6 @@ is_hash b = b == 35
 abbrev pub is_blank : ℕ → Bool
 is_blank b = b == 32 || b == 9
 
--- a byte at which a word may end: a blank, `#`, and what may end a line
-abbrev pub is_end : ℕ → Bool
-is_end b = is_blank b || is_hash b || is_line_feed b || b == 13
-
 -- the lines of a script; what stands behind the last line feed is a line too
 abbrev pub lines_of : Text → List Text
 lines_of bytes = slice_split is_line_feed bytes

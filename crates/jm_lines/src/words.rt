@@ -1,10 +1,11 @@
 //! The words of a line.
-ghost use Rattle.std.specs.Prelude.{◌≡◌, ◌==◌, ◌<◌, ◌≤◌, ◌+◌, [], ◌∷◌, ◌++◌, map, filter, length, drop, nat_lt, OnOk, IfOk, IfSome, IsUtf8};
-ghost use Rattle.std.specs.Simd.Lanes.{chunk};
+ghost use Rattle.std.specs.Prelude.{◌≡◌, ◌==◌, ◌<◌, ◌≤◌, ◌+◌, [], ◌∷◌, ◌++◌, map, filter, length, drop, OnOk, IfOk, IfSome, IsUtf8};
+ghost use Rattle.std.specs.Simd.Lanes.{chunk, mask_l};
 ghost use Rattle.std.specs.List.{list_all, position_or_len};
 ghost use Rattle.std.specs.Str.{bytes_eq};
 ghost use Rattle.std.specs.Str.Lines.{strip_carriage_return};
-ghost use Rattle.jm_lines.specs.Lines.{is_line_feed, is_blank, is_end, is_some_word, first_line, lines_of, lines_left, bytes_left, content_of, words_of};
+ghost use Rattle.jm_lines.specs.Lines.{is_line_feed, is_blank, is_some_word, first_line, lines_of, lines_left, bytes_left, content_of, words_of};
+ghost use Rattle.jm_lines.specs.Low.{is_low, TellsLow};
 ghost use Rattle.jm_lines.specs.Objects.{is_object_byte, is_object};
 
 use jm_model::NoMemory;
@@ -23,7 +24,7 @@ pub fn first_words<'a>(text: &'a [u8], words: &mut Vec<&'a [u8]>) -> Result<usiz
     }
 }
 
-/// First words read in one walk over the line; none if a comment or a carriage return may stand in it.
+/// First words read in one walk over the line; none if a byte below `$` that is no blank may stand in it.
 fn plain_words<'a>(text: &'a [u8], words: &mut Vec<&'a [u8]>) -> Result<Option<usize>, NoMemory>
     ensures words { IfOk result (λ end. IfSome end (λ _.
         map (λ w. w.now) words.new.items ≡ words_of (first_line text.now))) }
@@ -31,20 +32,22 @@ fn plain_words<'a>(text: &'a [u8], words: &mut Vec<&'a [u8]>) -> Result<Option<u
 {
     words.clear();
     let mut at = 0;
+    let mut low = 0;
     loop {
-        let end = word_end(text, at);
-        add_word(&text[at..end], words)?;
-        if end == text.len() {
-            return Ok(Some(end));
+        let next = next_low(text, at, low);
+        add_word(&text[at..next.place], words)?;
+        if next.place == text.len() {
+            return Ok(Some(next.place));
         }
-        let b = text[end];
+        let b = text[next.place];
         if b == b'\n' {
-            return Ok(Some(end));
+            return Ok(Some(next.place));
         }
         if !is_blank(b) {
             return Ok(None);
         }
-        at = end + 1;
+        at = next.place + 1;
+        low = next.behind;
     }
 }
 
@@ -70,48 +73,93 @@ pub fn behind_line(text: &[u8], end: usize) -> Option<&[u8]>
     Some(&text[end + 1..])
 }
 
-/// Where the bytes of a word end that may begin at a place. Most words end among the bytes that are looked at together.
-fn word_end(text: &[u8], at: usize) -> usize
-    requires { at ≤ length text.now }
-    ensures value { result ≡ at + position_or_len is_end (drop at text.now) }
-    ensures fits { result ≤ length text.now }
+/// Where a byte below `$` stands, and what is known of those behind it.
+#[derive(Clone, Copy)]
+struct Low {
+    place: usize,
+    behind: u64,
+}
+
+/// The first byte below `$` from a place on, or the end of the text. Each byte at which a word ends is below `$`, and
+/// most others are not.
+#[inline(always)]
+fn next_low(text: &[u8], at: usize, low: u64) -> Low
+    requires { TellsLow text.now at low }
+    ensures place { result.place ≡ at + position_or_len is_low (drop at text.now) }
+    ensures fits { result.place ≤ length text.now }
+    ensures behind { result.place < length text.now → TellsLow text.now (result.place + 1) result.behind }
 {
-    if text.len() - at >= TOGETHER {
-        let run = high_run(text, at);
-        if run < TOGETHER {
-            if is_end(text[at + run]) {
-                return at + run;
-            }
-        }
+    if low != 0 {
+        return told_low(text, at, low);
     }
-    at + word_len(&text[at..])
+    let more = more_low(text, at);
+    if more != 0 {
+        return told_low(text, at, more);
+    }
+    Low {
+        place: high_end(text, at),
+        behind: 0,
+    }
+}
+
+/// The first byte below `$` from a place on, where one is known.
+#[inline(always)]
+fn told_low(text: &[u8], at: usize, low: u64) -> Low
+    requires told { TellsLow text.now at low }
+    requires some { 0 < low }
+    ensures place { result.place ≡ at + position_or_len is_low (drop at text.now) }
+    ensures fits { result.place ≤ length text.now }
+    ensures behind { result.place < length text.now → TellsLow text.now (result.place + 1) result.behind }
+{
+    let run = low.trailing_zeros() as usize;
+    Low {
+        place: at + run,
+        behind: low >> run >> 1,
+    }
+}
+
+/// Which bytes from a place on are below `$`, of those that are looked at together, where there are so many.
+#[inline(always)]
+fn more_low(text: &[u8], at: usize) -> u64
+    requires { at ≤ length text.now }
+    ensures { TellsLow text.now at result }
+{
+    if text.len() - at < TOGETHER {
+        return 0;
+    }
+    low_bytes(text, at)
 }
 
 const TOGETHER: usize = 32;
 
-/// How many bytes stand in front of the first that is below `$`, of those that are looked at together. Each byte at
-/// which a word ends is below `$`, and most others are not.
-fn high_run(text: &[u8], at: usize) -> usize
+/// Which bytes from a place on are below `$`, of those that are looked at together.
+#[inline(always)]
+fn low_bytes(text: &[u8], at: usize) -> u64
     requires { at + TOGETHER ≤ length text.now }
-    ensures { result ≡ position_or_len (λ b. nat_lt b 36) (chunk at 32 text.now) }
+    ensures { result ≡ mask_l (map is_low (chunk at 32 text.now)) }
 {
-    let low = u8x32::from_slice(&text[at..])
+    u8x32::from_slice(&text[at..])
         .simd_lt(u8x32::splat(b'$'))
-        .to_bitmask();
-    if low == 0 {
-        TOGETHER
-    } else {
-        low.trailing_zeros() as usize
-    }
+        .to_bitmask()
 }
 
-/// How many bytes of a word a text begins with.
-fn word_len(text: &[u8]) -> usize
-    ensures value { result ≡ position_or_len is_end text.now }
+/// The first byte below `$` from a place on, or the end of the text, byte by byte.
+#[inline(never)]
+fn high_end(text: &[u8], at: usize) -> usize
+    requires { at ≤ length text.now }
+    ensures value { result ≡ at + position_or_len is_low (drop at text.now) }
+    ensures fits { result ≤ length text.now }
+{
+    at + high_len(&text[at..])
+}
+
+/// How many bytes stand in front of the first that is below `$`.
+fn high_len(text: &[u8]) -> usize
+    ensures value { result ≡ position_or_len is_low text.now }
     ensures fits { result ≤ length text.now }
 {
     for (i, b) in text.iter().enumerate() {
-        if is_end(*b) {
+        if *b < b'$' {
             return i;
         }
     }
@@ -171,13 +219,6 @@ pub fn position_of(text: &[u8], byte: u8) -> usize
         Some(place) => place,
         None => text.len(),
     }
-}
-
-/// Whether a word may end at this byte.
-fn is_end(b: u8) -> bool
-    ensures { result ≡ is_end b }
-{
-    is_blank(b) || b == b'#' || b == b'\n' || b == b'\r'
 }
 
 fn is_blank(b: u8) -> bool

@@ -47,6 +47,7 @@ pub fn are_few(objects: &[&[u8]], names: &Names) -> bool
 }
 
 /// Whether there are not too many objects once these are mentioned.
+#[inline(always)]
 pub fn have_room(alloc: Global, objects: &[&[u8]], names: &Names) -> Result<bool, NoMemory>
     requires objects { IsTrue (list_all is_object (map (λ w. w.now) objects.now)) }
     requires few { length objects.now ≤ 8 }
@@ -56,6 +57,17 @@ pub fn have_room(alloc: Global, objects: &[&[u8]], names: &Names) -> Result<bool
     if are_few(objects, names) {
         return Ok(true);
     }
+    have_room_for_new(alloc, objects, names)
+}
+
+/// The same, by counting those that are new.
+#[inline(never)]
+fn have_room_for_new(alloc: Global, objects: &[&[u8]], names: &Names) -> Result<bool, NoMemory>
+    requires objects { IsTrue (list_all is_object (map (λ w. w.now) objects.now)) }
+    requires few { length objects.now ≤ 8 }
+    requires room { length names.now ≤ 65536 }
+    ensures { IfOk result (λ b. b ≡ nat_le (length (mentioned names.now (map (λ w. w.now) objects.now))) 65536) }
+{
     let new = new_names(alloc, objects, names)?;
     Ok(names.len() as usize + new.len() as usize <= MOST_OBJECTS)
 }

@@ -1,4 +1,4 @@
-use Rattle.std.proofs.Common.{◌≡◌, drop, length}
+use Rattle.std.proofs.Common.{◌≡◌, length}
 use Rattle.jm_events.specs.Hash.{hash_from}
 use Rattle.jm_events.proofs.hash.hash_of.Given as goal
 
@@ -7,6 +7,3 @@ invariant-loop-rest l = hash_from l.hash l.rest ≡ hash_from 0 l.fn.text
 
 abbrev pub decreases-loop-rest : goal.decreases-loop-rest
 decreases-loop-rest l = length l.rest
-
-abbrev pub invariant-loop-b : goal.invariant-loop-b
-invariant-loop-b l = hash_from l.hash (drop l.b-index l.b-items) ≡ hash_from 0 l.fn.text
