@@ -1,7 +1,7 @@
 //! How the monitors of a list are read and moved where their numbers tell what the event makes of them: some get
 //! another state, and the others rest.
-ghost use Rattle.std.specs.Prelude.{◌≡◌, ◌≢◌, ℕ, ◌+◌, ◌<◌, ◌≤◌, [], ◌∷◌, ◌++◌, List, AllPairs, Contains, Some, true, false};
-ghost use Rattle.std.specs.Prelude.{IfSome, length, slice_get, slice_index_or, take};
+ghost use Rattle.std.specs.Prelude.{◌≡◌, ◌≢◌, ℕ, ◌+◌, ◌<◌, ◌≤◌, [], ◌∷◌, ◌++◌, List, AllPairs, Contains, Some, true};
+ghost use Rattle.std.specs.Prelude.{false, IfSome, length, slice_get, slice_index_or, take};
 ghost use Rattle.std.specs.Int.{bit_at};
 ghost use Rattle.jm_model.specs.Bindings.{is_below, mask_of, object_at};
 ghost use Rattle.jm_model.specs.Numbers.{no_number, at_rest};
@@ -68,9 +68,9 @@ impl Turn {
 }
 
 impl<M: Monitor> Walk<'_, M> {
-    /// Reads the monitors of a list, and writes a shift for each that moves at the front of the shifts. Answers how many
-    /// there are, if the event makes that of the monitors and no more, and the shifts are worth their while: where there
-    /// are many monitors and most rest, they had better leave the list.
+    /// Reads the monitors of a list, and writes a shift for each that moves at the front of the shifts. Answers how
+    /// many there are, if the event makes that of the monitors and no more, and the shifts are worth their while: where
+    /// there are many monitors and most rest, they had better leave the list.
     #[inline(always)]
     pub(crate) fn read_list<L: Ledger>(
         &self,
@@ -142,7 +142,9 @@ impl<M: Monitor> Walk<'_, M> {
         for entry in entries {
             let card = card_of(cards, entry.slot());
             if card.is_there(entry)
-                && !self.read(entry, &card, letters, free, &mut last, shifts, &mut count, steps)
+                && !self.read(
+                    entry, &card, letters, free, &mut last, shifts, &mut count, steps,
+                )
             {
                 return None;
             }
@@ -153,8 +155,8 @@ impl<M: Monitor> Walk<'_, M> {
         Some(count)
     }
 
-    /// The parameters to which an instance above the event's binding may give a dead object: none where no object is dead
-    /// at all, and else those that the event doesn't bind.
+    /// The parameters to which an instance above the event's binding may give a dead object: none where no object is
+    /// dead at all, and else those that the event doesn't bind.
     fn free_params(&self) -> u8
         requires { AreLive self.now.objects.now self.now.binding.now }
         ensures { AreAliveBut self.now.objects.now self.now.binding.now result }
@@ -166,8 +168,8 @@ impl<M: Monitor> Walk<'_, M> {
         }
     }
 
-    /// Reads the monitor of an entry, and adds what becomes of it. Answers whether its number tells that. The parameters
-    /// are those to which its instance may give a dead object.
+    /// Reads the monitor of an entry, and adds what becomes of it. Answers whether its number tells that. The
+    /// parameters are those to which its instance may give a dead object.
     #[inline(always)]
     fn read<L: Ledger>(
         &self,
@@ -221,8 +223,8 @@ impl<M: Monitor> Walk<'_, M> {
         add(entry, card, letters, next, shifts, count)
     }
 
-    /// What the row has at the number of a state, if the letters that end all monitors with the parameters of an instance
-    /// end the states with that number.
+    /// What the row has at the number of a state, if the letters that end all monitors with the parameters of an
+    /// instance end the states with that number.
     #[inline(never)]
     fn look_up(&self, number: u16, instance: &Binding, last: &mut Turn) -> u16
         requires turn { IsTurn self.now.plain.now self.now.ends self.now.endings.now last.old }

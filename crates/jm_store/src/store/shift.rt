@@ -19,9 +19,9 @@ use std::mem;
 use std::sync::ledger::Ledger;
 
 impl<M: Monitor> Store<M> {
-    /// Does an event at once whose binding is a mark, and of which there is a list, if it gives the monitors of the list
-    /// other states or leaves them as they are, and does nothing else. Answers whether it did; if it didn't, all is as it
-    /// was. It takes no memory but for room; where that is wanting, it does nothing.
+    /// Does an event at once whose binding is a mark, and of which there is a list, if it gives the monitors of the
+    /// list other states or leaves them as they are, and does nothing else. Answers whether it did; if it didn't, all
+    /// is as it was. It takes no memory but for room; where it is out of memory, it does nothing.
     #[inline(never)]
     pub fn shift_listed<L: Ledger>(
         &mut self,
@@ -72,8 +72,7 @@ impl<M: Monitor> Store<M> {
             self.give_shifts(shifts);
             return false;
         };
-        self.monitors
-            .shift_all(rules, &shifts.as_slice()[..count]);
+        self.monitors.shift_all(rules, &shifts.as_slice()[..count]);
         self.give_shifts(shifts);
         true
     }
@@ -111,7 +110,7 @@ impl<M: Monitor> Store<M> {
     }
 }
 
-/// Makes a room as long as for so many shifts, and answers whether it isn't out of memory.
+/// Makes a room as long as for so many shifts, and answers whether it could; out of memory, it can't.
 fn has_room(shifts: &mut Vec<Shift>, count: usize) -> bool
     ensures { result ≡ true → count ≤ length shifts.new.items }
 {

@@ -42,9 +42,6 @@ returns-in_default-clause-steps g c =
     (listed_above m Stands dead None monitors lists c.args.place e b c.requires.of c.requires.listed) in
     omega (arith, count, c.read_list.ensures.steps)
 
-pub slice_bounds-shift_all-end : goal.slice_bounds-shift_all-end
-slice_bounds-shift_all-end g c = omega (arith, ap length c.as_slice.ensures.value, c.in-Some.ensures.within)
-
 pub shift_all-requires-clause-apart : goal.shift_all-requires-clause-apart
 shift_all-requires-clause-apart g c =
     let m = g.M.Monitor.meaning (g.M.Monitor.definition c.args.rules.now) in

@@ -12,9 +12,9 @@ returns-then-free-eq0 g c = λ yes.
     let fits : mask_of t < 2 ^ 8 = omega (arith, c.mask-mask.ensures.value, c.mask-mask.type_inv) in
     whole_above c.args.self.now.objects.now c.args.self.now.binding.now t c.args.free fits c.requires.below c.requires.free
     (λ p o one at.
-        let both = bit_at_and (mask_of t) c.args.free p in
-        let none = ap (λ (n : ℕ). bit_at n p) c.if-free-eq0.true ∙ bit_at-zero p in
-        absurd (omega (arith, both, none, one)))
+    let both = bit_at_and (mask_of t) c.args.free p in
+    let none = ap (λ (n : ℕ). bit_at n p) c.if-free-eq0.true ∙ bit_at-zero p in
+    absurd (omega (arith, both, none, one)))
 
 pub returns : goal.returns
 returns g c = λ yes.

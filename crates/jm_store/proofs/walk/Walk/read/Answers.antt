@@ -39,7 +39,7 @@ returns-then-is_from-clause-given g c = λ yes.
     let low : last.from < 65536 = omega (arith, from, c.is_from.ensures.low) in
     let (found, less, all) = c.requires.turn low in
     let on : (e : ℕ) → bit_at lists.letters e ≡ 1 → IsOn (card_at lists slot) e = λ e bit.
-        subst (λ (x : Card). IsOn x e) c.requires.card (c.add.ensures.on yes e (subst (λ (n : ℕ). bit_at n e ≡ 1) (sym c.requires.letters) bit)) in
+    subst (λ (x : Card). IsOn x e) c.requires.card (c.add.ensures.on yes e (subst (λ (n : ℕ). bit_at n e ≡ 1) (sym c.requires.letters) bit)) in
     shift_pushed m Stands HasNumber walk.letter.0 walk.objects.now walk.binding.now walk.plain.now walk.ending.now walk.endings.now lists monitors slot base number last.to (take c.args.count.now c.args.shifts.now)
     (take c.add.new.count c.add.new.shifts) c.requires.rows here c.in-Some.ensures own (c.is_whole.ensures c.if-not-is_whole.false)
     (subst (λ (n : ℕ). slice_get walk.plain.now n ≡ Some last.to) from found) less (like_by walk.ending.now (mask_of base.instance) walk.ends walk.endings.now last.to its all) on (c.add.ensures.added yes)
@@ -81,7 +81,7 @@ returns-clause-given g c = λ yes.
     let own : is_below walk.binding.now base.instance ≡ true = subst (λ (t : Stored g.row.M-State.Denot). is_below walk.binding.now t.instance ≡ true) same below in
     let less : next < at_rest = omega (arith, c.if-next.false, c.if-next-2.false, c.look_up-next.type_inv) in
     let on : (e : ℕ) → bit_at lists.letters e ≡ 1 → IsOn (card_at lists slot) e = λ e bit.
-        subst (λ (x : Card). IsOn x e) c.requires.card (c.add-2.ensures.on yes e (subst (λ (n : ℕ). bit_at n e ≡ 1) (sym c.requires.letters) bit)) in
+    subst (λ (x : Card). IsOn x e) c.requires.card (c.add-2.ensures.on yes e (subst (λ (n : ℕ). bit_at n e ≡ 1) (sym c.requires.letters) bit)) in
     shift_pushed m Stands HasNumber walk.letter.0 walk.objects.now walk.binding.now walk.plain.now walk.ending.now walk.endings.now lists monitors slot base number next (take c.args.count.now c.args.shifts.now)
     (take c.add-2.new.count c.add-2.new.shifts) c.requires.rows here c.in-Some.ensures own (c.is_whole.ensures c.if-not-is_whole.false) (c.look_up-next.ensures.at c.if-next.false) less
     (c.look_up-next.ensures.over c.if-next.false c.if-next-2.false) on (c.add-2.ensures.added yes)
