@@ -98,6 +98,7 @@ impl Row {
     }
 
     /// Makes room for entries more, unless the row is full, and if there is memory. It answers whether there is room.
+    #[inline(never)]
     pub(crate) fn make_room(&mut self) -> bool
         ensures { self.new ≡ self.old }
     {
