@@ -1,6 +1,6 @@
 -- The pairs of a binding that is told by a mask and objects, printed parameter by parameter.
 use Rattle.std.proofs.Common.{◌≡◌, ◌≢◌, ℕ, zero, suc, ◌+◌, ◌-◌, ◌/◌, ◌%◌, ◌<◌, ◌≤◌, Bool, true, false, List, [], ◌++◌, length, get_or, drop, refl, sym, ◌∙◌, ap, subst, arith, append-nil}
-use Rattle.std.specs.Prelude.{Option, Some, None, codes, count_ones, replicate, if◌then◌else◌}
+use Rattle.std.specs.Prelude.{None, codes, count_ones, replicate, if◌then◌else◌}
 use mathlib.Core.Bool.{true≢false}
 use Rattle.jm_model.specs.declared.binding.Binding.{Binding}
 use Rattle.jm_history.specs.Rows.{placed}

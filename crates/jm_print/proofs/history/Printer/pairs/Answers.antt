@@ -1,9 +1,9 @@
-use Rattle.std.proofs.Common.{◌≡◌, List, ℕ, Bool, false, ◌+◌, ◌/◌, ◌++◌, get_or, sym, ◌∙◌, ap, subst, arith}
+use Rattle.std.proofs.Common.{◌≡◌, List, ℕ, false, ◌+◌, ◌/◌, ◌++◌, sym, subst, arith}
 use Rattle.std.specs.Prelude.{OnOk}
 use Rattle.jm_history.specs.Rows.{placed}
 use Rattle.jm_history.proofs.PlacingLemmas.{placing_there}
 use Rattle.jm_print.specs.Texts.{binding_text}
-use Rattle.jm_print.proofs.PlacedLemmas.{IsPrinting, printing_start, printing_here, printing_pair, printing_skip, printing_same, printing_end, placed_dash}
+use Rattle.jm_print.proofs.PlacedLemmas.{printing_start, printing_here, printing_pair, printing_skip, printing_same, printing_end, placed_dash}
 use Rattle.jm_print.proofs.history.Printer.pairs.Goals as goal
 use Rattle.jm_print.proofs.history.Printer.pairs.Goals.{then-rest-eq1+in_ok-pair, else-rest-eq1}
 

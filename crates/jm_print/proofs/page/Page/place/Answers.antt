@@ -1,4 +1,4 @@
-use Rattle.std.proofs.Common.{◌≡◌, ℕ, ◌+◌, ◌-◌, ◌≤◌, List, ◌++◌, length, ◌∙◌, subst, arith}
+use Rattle.std.proofs.Common.{◌≡◌, ℕ, ◌-◌, List, ◌++◌, ◌∙◌, subst, arith}
 use Rattle.std.specs.Prelude.{codes, decimal, OnOk}
 use Rattle.std.proofs.lemmas.List.{length-set}
 use Rattle.jm_print.proofs.PlaceLemmas.{ten_digits, place_text}
