@@ -42,7 +42,7 @@ drop_next [] rest x (suc p) e = absurd (cc)
 drop_next (y ∷ w) rest x (suc p) e = drop_next w rest x p e
 
 -- ---- nothing is to come
-placed_none : (n : ℕ) (os : List ℕ) → placed_in n 0 os ≡ replicate n None
+pub placed_none : (n : ℕ) (os : List ℕ) → placed_in n 0 os ≡ replicate n None
 unfolding placed_in
 placed_none zero os = refl
 placed_none (suc n) os = ap (λ l. None ∷ l) (placed_none n os)
@@ -102,6 +102,39 @@ half rest n m e few =
     let below : rest / 2 < 2 ^ n = omega arith in
     subst (λ (k : ℕ). rest / 2 < 2 ^ k) e below
 
+-- what lies ahead, by the lowest bit
+ahead_odd : (os : List ℕ) (w b : List (Option ℕ)) (rest next p : ℕ) → IsPlacing os w b rest next p → p < 8 → rest % 2 ≡ 1
+    → drop p w ≡ Some (get_or os next 0) ∷ placed_in (7 - p) (rest / 2) (drop (next + 1) os)
+ahead_odd os w b rest next p h inside odd =
+    let n = 7 - p in
+    let more : 8 - p ≡ suc n = omega arith in
+    let there = placing_there os w b rest next p h odd in
+    h.ahead ∙ (λ i. placed_in (more i) rest (drop_more os next 0 there i)) ∙ placed_odd n rest (get_or os next 0) (drop (next + 1) os) odd
+
+ahead_even : (os : List ℕ) (w b : List (Option ℕ)) (rest next p : ℕ) → IsPlacing os w b rest next p → p < 8 → rest % 2 ≢ 1
+    → drop p w ≡ None ∷ placed_in (7 - p) (rest / 2) (drop next os)
+ahead_even os w b rest next p h inside even =
+    let n = 7 - p in
+    let more : 8 - p ≡ suc n = omega arith in
+    h.ahead ∙ ap (λ m. placed_in m rest (drop next os)) more ∙ placed_even n rest (drop next os) even
+
+-- what the whole binding gives to the next parameter
+here_at : (w rest : List (Option ℕ)) (x : Option ℕ) (p : ℕ) → drop p w ≡ x ∷ rest → object_at w p ≡ x
+here_at [] rest x zero e = absurd (cc)
+here_at (y ∷ w) rest x zero e = cc
+here_at [] rest x (suc p) e = absurd (cc)
+here_at (y ∷ w) rest x (suc p) e = here_at w rest x p e
+
+pub placing_some : (os : List ℕ) (w b : List (Option ℕ)) (rest next p : ℕ) → IsPlacing os w b rest next p → p < 8 → rest % 2 ≡ 1 → object_at w p ≡ Some (get_or os next 0)
+placing_some os w b rest next p h inside odd = here_at w _ _ p (ahead_odd os w b rest next p h inside odd)
+
+pub placing_none : (os : List ℕ) (w b : List (Option ℕ)) (rest next p : ℕ) → IsPlacing os w b rest next p → p < 8 → rest % 2 ≢ 1 → object_at w p ≡ None
+placing_none os w b rest next p h inside even = here_at w _ _ p (ahead_even os w b rest next p h inside even)
+
+-- where no bit is left, no parameter to come is bound
+pub placing_rest : (os : List ℕ) (w b : List (Option ℕ)) (rest next p : ℕ) → IsPlacing os w b rest next p → rest ≡ 0 → drop p w ≡ replicate (8 - p) None
+placing_rest os w b rest next p h none = h.ahead ∙ ap (λ m. placed_in (8 - p) m (drop next os)) none ∙ placed_none (8 - p) (drop next os)
+
 pub placing_set : (os : List ℕ) (w b : List (Option ℕ)) (rest next p : ℕ) → IsPlacing os w b rest next p → p < 8 → rest % 2 ≡ 1
     → IsPlacing os w (bound b p (get_or os next 0)) (rest / 2) (next + 1) (p + 1)
 placing_set os w b rest next p h inside odd =
@@ -111,8 +144,7 @@ placing_set os w b rest next p h inside odd =
     let after : suc p ≡ p + 1 = omega arith in
     let o = get_or os next 0 in
     let there = placing_there os w b rest next p h odd in
-    let whole : drop p w ≡ Some o ∷ placed_in n (rest / 2) (drop (next + 1) os) =
-    h.ahead ∙ (λ i. placed_in (more i) rest (drop_more os next 0 there i)) ∙ placed_odd n rest o (drop (next + 1) os) odd in
+    let whole = ahead_odd os w b rest next p h inside odd in
     record {
       ahead = ap (λ m. drop m w) (sym after) ∙ drop_next w (placed_in n (rest / 2) (drop (next + 1) os)) (Some o) p whole ∙ ap (λ m. placed_in m (rest / 2) (drop (next + 1) os)) fewer;
       behind = ap (λ l. set l p (Some o)) (h.behind ∙ ap (λ m. front p m w) more) ∙ front_set w (placed_in n (rest / 2) (drop (next + 1) os)) p n o whole ∙ (λ i. front (after i) (fewer i) w);
@@ -129,8 +161,7 @@ placing_skip os w b rest next p h inside even =
     let more : 8 - p ≡ suc n = omega arith in
     let fewer : n ≡ 8 - (p + 1) = omega arith in
     let after : suc p ≡ p + 1 = omega arith in
-    let whole : drop p w ≡ None ∷ placed_in n (rest / 2) (drop next os) =
-    h.ahead ∙ ap (λ m. placed_in m rest (drop next os)) more ∙ placed_even n rest (drop next os) even in
+    let whole = ahead_even os w b rest next p h inside even in
     record {
       ahead = ap (λ m. drop m w) (sym after) ∙ drop_next w (placed_in n (rest / 2) (drop next os)) None p whole ∙ ap (λ m. placed_in m (rest / 2) (drop next os)) fewer;
       behind = h.behind ∙ ap (λ m. front p m w) more ∙ front_skip w (placed_in n (rest / 2) (drop next os)) p n whole ∙ (λ i. front (after i) (fewer i) w);
@@ -144,7 +175,7 @@ placing_skip os w b rest next p h inside even =
 pub placing_end : (os : List ℕ) (w b : List (Option ℕ)) (rest next p : ℕ) → IsPlacing os w b rest next p → rest ≡ 0 → b ≡ w
 placing_end os w b rest next p h none =
     h.behind
-    ∙ ap (λ l. take p w ++ l) (sym (h.ahead ∙ ap (λ m. placed_in (8 - p) m (drop next os)) none ∙ placed_none (8 - p) (drop next os)))
+    ∙ ap (λ l. take p w ++ l) (sym (placing_rest os w b rest next p h none))
     ∙ take-append-drop p w
 
 pub placing_same : (os : List ℕ) (w b c : List (Option ℕ)) (rest next then p : ℕ) → c ≡ b → then ≡ next → IsPlacing os w b rest next p → IsPlacing os w c rest then p

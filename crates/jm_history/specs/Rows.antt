@@ -10,6 +10,7 @@ use Rattle.jm_model.specs.declared.step.Step.TheVariants.{Event, Death, Pass}
 use Rattle.jm_model.specs.declared.step.Outcome.{Outcome}
 use Rattle.jm_model.specs.declared.step.Outcome.TheVariants.{Fired, Done, NoMemory}
 use Rattle.jm_model.specs.declared.step.Entry.{Entry}
+use Rattle.jm_history.specs.declared.lent.LentEvent.{LentEvent}
 use Rattle.jm_history.specs.declared.row.Short.{Short}
 use Rattle.jm_history.specs.declared.row.ShortStep.{ShortStep}
 use Rattle.jm_history.specs.declared.row.ShortStep.TheVariants.{Event as ShortEvent, Death as ShortDeath, Pass as ShortPass}
@@ -42,6 +43,15 @@ entry_in os xs s =
 
 abbrev pub entries_in : List ℕ → List Outcome → List Short → List Entry
 entries_in os xs shorts = map (entry_in os xs) shorts
+
+-- the entry that an event is, where its parameters have the first of the objects that are lent
+abbrev pub event_entry : LentEvent → Entry
+event_entry e = record {
+  caller = e.caller;
+  line = e.line;
+  step = Event e.letter (placed e.mask e.objects.now);
+  outcome = e.outcome.now;
+}
 
 -- ---- the short form
 -- a step whose first object lies at this place

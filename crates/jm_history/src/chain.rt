@@ -37,6 +37,7 @@ impl Drop for Chain {
 
 impl Chain {
     /// Makes room for an entry in a row, if there is memory.
+    #[inline(always)]
     pub(crate) fn make_room(&mut self, alloc: Global)
         ensures { newest_first self.new ≡ newest_first self.old }
     {
@@ -54,6 +55,7 @@ impl Chain {
     }
 
     /// Begins a row with room for so many entries, if there is memory.
+    #[inline(never)]
     fn begin_row(&mut self, alloc: Global, entries: usize)
         ensures { newest_first self.new ≡ newest_first self.old }
     {

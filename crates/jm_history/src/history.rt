@@ -49,6 +49,7 @@ impl History {
 
     /// A step of a caller, at a line of its script, as `Node::new` makes it. Where it can, it makes room for the entry
     /// in a row of entries, which takes less memory than a link. The node has the link that is spare, if one is.
+    #[inline(always)]
     pub fn node(
         &mut self,
         alloc: Global,
@@ -65,6 +66,7 @@ impl History {
     }
 
     /// Makes room for an entry in a row of entries, which takes less memory than a link, if there is memory.
+    #[inline(always)]
     pub fn make_room(&mut self, alloc: Global)
         ensures { self.new ≡ self.old }
     {

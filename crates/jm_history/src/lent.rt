@@ -1,9 +1,23 @@
 //! Entries that are lent.
-ghost use Rattle.std.specs.Prelude.{◌≡◌, ◌<◌, [], ◌∷◌, length, slice_get, IfOk};
+ghost use Rattle.std.specs.Prelude.{◌≡◌, ◌<◌, ◌≤◌, [], ◌∷◌, length, slice_get, Some, IfOk, IfSome, count_ones};
+ghost use Rattle.jm_history.specs.Rows.{event_entry};
 
 use crate::row::Row;
-use jm_model::{Entry, NoMemory, Outcome, Step};
+use jm_model::{Entry, Letter, NoMemory, Outcome, Step};
 use std::marker::Model;
+
+/// An event of a row, of which the objects and the outcome are lent and not copied: who made it, at which line of its
+/// script, and its letter, with the set of its parameters and their objects, one behind the other. Objects of later
+/// events may follow.
+#[derive(Clone, Copy)]
+pub struct LentEvent<'a> {
+    pub caller: u32,
+    pub line: u32,
+    pub letter: Letter,
+    pub mask: u8,
+    pub objects: &'a [u32],
+    pub outcome: &'a Outcome,
+}
 
 /// An entry of a history, of which the outcome is lent and not copied.
 #[derive(Drop)]
@@ -149,6 +163,19 @@ impl<'a> Piece<'a> {
         match &self.part {
             Part::Row(row) => row.get(i),
             Part::One(entry) => Lent::of(entry),
+        }
+    }
+
+    /// The entry at a place, if it is an event of a row. It is cheaper than `get`.
+    #[inline(always)]
+    pub fn event(&self, i: usize) -> Option<LentEvent<'a>>
+        requires { i < length self.now }
+        ensures entry { IfSome result (λ event. slice_get self.now i ≡ Some (event_entry event)) }
+        ensures objects { IfSome result (λ event. count_ones event.mask ≤ length event.objects.now) }
+    {
+        match &self.part {
+            Part::Row(row) => row.event(i),
+            Part::One(_) => None,
         }
     }
 }

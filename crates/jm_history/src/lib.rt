@@ -9,5 +9,5 @@ mod row;
 
 pub use history::History;
 pub use jm_model::Entry;
-pub use lent::{Lent, Piece};
+pub use lent::{Lent, LentEvent, Piece};
 pub use node::{Node, Spare};

@@ -43,6 +43,7 @@ impl Spare {
     }
 
     /// A step of a caller, at a line of its script, with the link that is kept, or with a new one.
+    #[inline(always)]
     pub(crate) fn node(
         &mut self,
         alloc: Global,

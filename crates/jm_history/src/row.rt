@@ -1,10 +1,10 @@
 //! A row of entries that take little memory.
-ghost use Rattle.std.specs.Prelude.{ℕ, ◌≡◌, ◌+◌, ◌*◌, ◌<◌, ◌≤◌, [], ◌∷◌, ◌++◌, length, drop, slice_get, slice_index_or, Some, IfOk, MatchOption, count_ones, vec_len, vec_capacity};
+ghost use Rattle.std.specs.Prelude.{ℕ, ◌≡◌, ◌+◌, ◌*◌, ◌<◌, ◌≤◌, [], ◌∷◌, ◌++◌, length, drop, slice_get, slice_index_or, Some, IfOk, IfSome, MatchOption, count_ones, vec_len, vec_capacity};
 ghost use Rattle.jm_model.specs.Bindings.{objects_of, mask_of};
 ghost use Rattle.jm_history.specs.Nodes.{answered};
-ghost use Rattle.jm_history.specs.Rows.{placed, short_of, objects_in, IsOfEight, IsShared, outcome_at, Grown, FitsStep, step_of};
+ghost use Rattle.jm_history.specs.Rows.{placed, short_of, objects_in, IsOfEight, IsShared, outcome_at, Grown, FitsStep, step_of, event_entry};
 
-use crate::lent::Lent;
+use crate::lent::{Lent, LentEvent};
 use jm_model::{Binding, Firings, Letter, NoMemory, Outcome, Step};
 use std::alloc::Global;
 use std::marker::Model;
@@ -98,6 +98,7 @@ impl Row {
     }
 
     /// Makes room for entries more, unless the row is full, and if there is memory. It answers whether there is room.
+    #[inline(never)]
     pub(crate) fn make_room(&mut self) -> bool
         ensures { self.new ≡ self.old }
     {
@@ -149,6 +150,32 @@ impl Row {
         let step = whole(&self.objects, short.step);
         let outcome = &self.outcomes[usize::from(short.outcome)];
         Lent::new(short.caller, short.line, step, outcome)
+    }
+
+    /// The entry at a place, if it is an event.
+    #[inline(always)]
+    pub(crate) fn event(&self, i: usize) -> Option<LentEvent<'_>>
+        requires { i < length self.now }
+        ensures entry { IfSome result (λ event. slice_get self.now i ≡ Some (event_entry event)) }
+        ensures objects { IfSome result (λ event. count_ones event.mask ≤ length event.objects.now) }
+    {
+        let short = self.shorts[i];
+        let outcome = &self.outcomes[usize::from(short.outcome)];
+        match short.step {
+            ShortStep::Event {
+                letter,
+                mask,
+                start,
+            } => Some(LentEvent {
+                caller: short.caller,
+                line: short.line,
+                letter,
+                mask,
+                objects: &self.objects[usize::from(start)..],
+                outcome,
+            }),
+            _ => None,
+        }
     }
 }
 

@@ -9,3 +9,5 @@ pub mod RunLemmas
 pub mod ListLemmas
 pub mod PieceLemmas
 pub mod PrintLemmas
+pub mod PlacedLemmas
+pub mod PlaceLemmas

@@ -65,11 +65,15 @@ bare_text l h =
     ++ codes "end " ++ decimal (length h) ++ codes "\n"
 
 -- ---- with the handlers' own lines
--- a handler that ran at an entry: its line, and what it prints
-abbrev pub run_text : Lexicon → Entry → Firing → Text
-run_text l x f =
+-- a handler that ran at an event on a line of a caller: its line, and what it prints
+abbrev pub run_text_at : Lexicon → ℕ → ℕ → Firing → Text
+run_text_at l caller line f =
     firing_text l f
-    ++ handler_text (occasion f.instance l.objects x.caller x.line) (statements_of l.statements f.handler)
+    ++ handler_text (occasion f.instance l.objects caller line) (statements_of l.statements f.handler)
+
+-- a handler that ran at an entry
+abbrev pub run_text : Lexicon → Entry → Firing → Text
+run_text l x f = run_text_at l x.caller x.line f
 
 -- an entry
 abbrev pub full_entry_text : Lexicon → Entry → Text

@@ -1,16 +1,18 @@
-ghost use Rattle.std.specs.Prelude.{◌≡◌, ◌<◌, ◌≤◌, ◌++◌, [], codes, length, map, take, All, IfOk, OnOk, if◌then◌else◌};
+ghost use Rattle.std.specs.Prelude.{◌≡◌, ◌<◌, ◌≤◌, ◌++◌, [], codes, decimal, length, map, take, All, Some, IfOk, OnOk, slice_get, count_ones, if◌then◌else◌};
 ghost use Rattle.std.specs.List.{flat_map};
 ghost use Rattle.jm_print.specs.Lexicons.{name_of, lexicon_of};
 ghost use Rattle.jm_handler.specs.Renderings.{occasion, handler_text};
+ghost use Rattle.jm_history.specs.Rows.{placed, event_entry};
+ghost use Rattle.jm_model.specs.declared.step.Entry.{Entry};
 ghost use Rattle.jm_print.specs.Lexicons.{statements_of};
-ghost use Rattle.jm_print.specs.Texts.{pair_text, binding_text, firing_text, run_text, outcome_text};
+ghost use Rattle.jm_print.specs.Texts.{pair_text, binding_text, firing_text, run_text_at, run_text, outcome_text};
 ghost use Rattle.jm_print.specs.Texts.{full_entry_text, history_text};
 ghost use Rattle.jm_print.specs.Texts.{HasNamesFrom, IsPrintableFiring, IsPrintableStep, IsPrintable};
 
 use crate::page::Page;
 use jm_events::{EventTable, Names};
 use jm_handler::Handler;
-use jm_history::{Entry, History, Lent, Piece};
+use jm_history::{Entry, History, Lent, LentEvent, Piece};
 use jm_model::{Binding, Firing, Firings, Letter, NoMemory, Outcome, Step};
 use std::alloc::Global;
 use std::marker::Model;
@@ -159,21 +161,75 @@ impl Printer<'_> {
             ≡ page.old ++ flat_map (full_entry_text self.now) (take count piece.now)) }
     {
         for i in 0..count {
-            self.entry(page, &piece.get(i))?;
+            self.entry_at(page, piece, i)?;
+        }
+        Ok(())
+    }
+
+    /// The entry at a place of a piece.
+    #[inline(always)]
+    fn entry_at(&self, page: &mut Page, piece: &Piece, i: usize) -> Result<(), NoMemory>
+        requires printable { All (IsPrintable self.now) piece.now }
+        requires there { i < length piece.now }
+        ensures { OnOk result ((x : Entry) → slice_get piece.now i ≡ Some x
+            → page.new ≡ page.old ++ full_entry_text self.now x) }
+    {
+        match piece.event(i) {
+            Some(event) => self.lent_event(page, &event),
+            None => self.entry(page, &piece.get(i)),
+        }
+    }
+
+    /// An event of a row, with the lines that follow.
+    #[inline(always)]
+    fn lent_event(&self, page: &mut Page, event: &LentEvent) -> Result<(), NoMemory>
+        requires printable { IsPrintable self.now (event_entry event.now) }
+        requires objects { count_ones event.now.mask ≤ length event.now.objects.now }
+        ensures { OnOk result (page.new ≡ page.old ++ full_entry_text self.now (event_entry event.now)) }
+    {
+        page.place(event.caller, event.line)?;
+        page.text(self.table.event_name(event.letter))?;
+        page.byte(b' ')?;
+        self.pairs(page, event.mask, event.objects)?;
+        match event.outcome {
+            Outcome::Fired(firings) => self.fired(page, event.caller, event.line, firings),
+            Outcome::Refused(object) => self.refused(page, *object),
+            _ => unreachable!(),
+        }
+    }
+
+    /// The pairs of the parameters of a mask with the first of these objects, with commas between, or a dash.
+    #[inline(always)]
+    fn pairs(&self, page: &mut Page, mask: u8, objects: &[u32]) -> Result<(), NoMemory>
+        requires names { HasNamesFrom self.now 0 (placed mask objects.now) }
+        requires objects { count_ones mask ≤ length objects.now }
+        ensures { OnOk result (page.new ≡ page.old ++ binding_text self.now (placed mask objects.now)) }
+    {
+        if mask == 0 {
+            return page.byte(b'-');
+        }
+        let mut first = true;
+        let mut rest = mask;
+        let mut next = 0;
+        let mut p = 0;
+        while rest != 0 {
+            if rest % 2 == 1 {
+                self.pair(page, first, p, objects[next])?;
+                first = false;
+                next += 1;
+            }
+            rest /= 2;
+            p += 1;
         }
         Ok(())
     }
 
     /// An entry, with the lines that follow.
-    #[inline(always)]
     fn entry(&self, page: &mut Page, entry: &Lent) -> Result<(), NoMemory>
         requires { IsPrintable self.now entry.now }
         ensures { OnOk result (page.new ≡ page.old ++ full_entry_text self.now entry.now) }
     {
-        page.number(u64::from(entry.caller()))?;
-        page.byte(b':')?;
-        page.number(u64::from(entry.line()))?;
-        page.byte(b' ')?;
+        page.place(entry.caller(), entry.line())?;
         self.step(page, entry, entry.step(), entry.outcome())
     }
 
@@ -191,13 +247,12 @@ impl Printer<'_> {
     {
         match (step, outcome) {
             (Step::Event { letter, binding }, Outcome::Fired(firings)) => {
-                self.fired(page, entry, *letter, binding, firings)
+                self.event(page, *letter, binding)?;
+                self.fired(page, entry.caller(), entry.line(), firings)
             }
             (Step::Event { letter, binding }, Outcome::Refused(object)) => {
                 self.event(page, *letter, binding)?;
-                page.text(" refused ")?;
-                page.text(self.objects.name(*object))?;
-                page.byte(b'\n')
+                self.refused(page, *object)
             }
             (Step::Death { object }, Outcome::Done) => {
                 page.text("death ")?;
@@ -207,9 +262,7 @@ impl Printer<'_> {
             (Step::Death { object }, Outcome::Refused(dead)) => {
                 page.text("death ")?;
                 page.text(self.objects.name(*object))?;
-                page.text(" refused ")?;
-                page.text(self.objects.name(*dead))?;
-                page.byte(b'\n')
+                self.refused(page, *dead)
             }
             (Step::Pass, Outcome::Kept(kept)) => {
                 page.text("pass kept ")?;
@@ -220,75 +273,84 @@ impl Printer<'_> {
         }
     }
 
-    /// An event that was answered, and a line for each handler that ran.
+    /// That a step was refused, since an object is dead.
+    fn refused(&self, page: &mut Page, object: u32) -> Result<(), NoMemory>
+        requires { object < length self.now.objects }
+        ensures { OnOk result (page.new
+            ≡ page.old ++ (codes " refused " ++ name_of self.now.objects object ++ codes "\n")) }
+    {
+        page.text(" refused ")?;
+        page.text(self.objects.name(object))?;
+        page.byte(b'\n')
+    }
+
+    /// How many handlers ran at an event on this line of this caller, and a line for each.
+    #[inline(always)]
     fn fired(
         &self,
         page: &mut Page,
-        entry: &Lent,
-        letter: Letter,
-        binding: &Binding,
+        caller: u32,
+        line: u32,
         firings: &Firings,
     ) -> Result<(), NoMemory>
-        requires event { (letter.0 < length self.now.events) × HasNamesFrom self.now 0 binding.now }
-        requires firings { All (IsPrintableFiring self.now) firings.now }
-        ensures { OnOk result (page.new ≡ page.old
-            ++ outcome_text (run_text self.now entry.now) self.now (Step.Event letter binding.now)
-            (Outcome.Fired firings.now)) }
+        requires { All (IsPrintableFiring self.now) firings.now }
+        ensures { OnOk result (page.new ≡ page.old ++ (codes " fired " ++ decimal (length firings.now) ++ codes "\n"
+            ++ flat_map (run_text_at self.now caller line) firings.now)) }
     {
-        self.event(page, letter, binding)?;
         if firings.len() == 0 {
             return page.text(" fired 0\n");
         }
         page.text(" fired ")?;
         page.number(firings.len() as u64)?;
         page.byte(b'\n')?;
-        self.firings(page, entry, firings)
+        self.firings(page, caller, line, firings)
     }
 
-    /// The lines of each handler that ran at an entry.
-    fn firings(&self, page: &mut Page, entry: &Lent, firings: &Firings) -> Result<(), NoMemory>
+    /// The lines of each handler that ran at an event on this line of this caller.
+    fn firings(
+        &self,
+        page: &mut Page,
+        caller: u32,
+        line: u32,
+        firings: &Firings,
+    ) -> Result<(), NoMemory>
         requires { All (IsPrintableFiring self.now) firings.now }
-        ensures { OnOk result (page.new ≡ page.old ++ flat_map (run_text self.now entry.now) firings.now) }
+        ensures { OnOk result (page.new
+            ≡ page.old ++ flat_map (run_text_at self.now caller line) firings.now) }
     {
         for i in 0..firings.len() {
             let firing = firings.get(i);
-            self.run(page, entry, &firing)?;
+            self.run(page, caller, line, &firing)?;
         }
         Ok(())
     }
 
-    /// The line of a handler that ran at an entry, and what it prints.
-    fn run(&self, page: &mut Page, entry: &Lent, firing: &Firing) -> Result<(), NoMemory>
+    /// The line of a handler that ran, and what it prints.
+    fn run(&self, page: &mut Page, caller: u32, line: u32, firing: &Firing) -> Result<(), NoMemory>
         requires { IsPrintableFiring self.now firing.now }
-        ensures { OnOk result (page.new ≡ page.old ++ run_text self.now entry.now firing.now) }
+        ensures { OnOk result (page.new ≡ page.old ++ run_text_at self.now caller line firing.now) }
     {
         self.firing(page, firing)?;
         match self.handlers.get(usize::from(firing.handler)) {
-            Some(handler) => self.handler(page, entry, handler, firing),
+            Some(handler) => self.handler(page, caller, line, handler, firing),
             None => Ok(()),
         }
     }
 
-    /// What a handler that ran at an entry prints.
+    /// What a handler that ran prints.
     fn handler(
         &self,
         page: &mut Page,
-        entry: &Lent,
+        caller: u32,
+        line: u32,
         handler: &Handler,
         firing: &Firing,
     ) -> Result<(), NoMemory>
         requires { IsPrintableFiring self.now firing.now }
         ensures { OnOk result (page.new ≡ page.old
-            ++ handler_text (occasion firing.now.instance self.now.objects entry.now.caller entry.now.line)
-            handler.now) }
+            ++ handler_text (occasion firing.now.instance self.now.objects caller line) handler.now) }
     {
-        page.handler(
-            handler,
-            &firing.instance,
-            self.objects,
-            entry.caller(),
-            entry.line(),
-        )
+        page.handler(handler, &firing.instance, self.objects, caller, line)
     }
 
     /// The line of a handler that ran.
@@ -333,16 +395,12 @@ impl Printer<'_> {
     }
 
     /// A parameter with its object, behind a comma where it isn't the first.
+    #[inline(always)]
     fn pair(&self, page: &mut Page, first: bool, p: u8, object: u32) -> Result<(), NoMemory>
         requires { (p < length self.now.parameters) × (object < length self.now.objects) }
         ensures { OnOk result (page.new
             ≡ page.old ++ (if first then [] else codes ",") ++ pair_text self.now p object) }
     {
-        if !first {
-            page.byte(b',')?;
-        }
-        page.word(self.table.param_name(p))?;
-        page.byte(b'=')?;
-        page.word(self.objects.name(object))
+        page.pair(first, self.table.param_name(p), self.objects.name(object))
     }
 }

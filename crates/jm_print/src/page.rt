@@ -1,8 +1,8 @@
 //! A text that grows.
-ghost use Rattle.std.specs.Prelude.{◌≡◌, ◌++◌, [], ◌∷◌, decimal, length, OnOk};
+ghost use Rattle.std.specs.Prelude.{◌≡◌, ◌++◌, [], ◌∷◌, codes, decimal, length, vec_len, vec_capacity, OnOk, ◌+◌, ◌≤◌, if◌then◌else◌};
 ghost use Rattle.jm_handler.specs.Renderings.{AreNamed, occasion, handler_text};
 
-use itoa::Buffer;
+use itoa::{Buffer, write_digits};
 use jm_events::Names;
 use jm_handler::Handler;
 use jm_model::{Binding, NoMemory};
@@ -47,6 +47,7 @@ impl Page {
     }
 
     /// Writes a text.
+    #[inline(always)]
     pub(crate) fn text(&mut self, text: &str) -> Result<(), NoMemory>
         ensures { OnOk result (self.new ≡ self.old ++ text.now) }
     {
@@ -54,6 +55,7 @@ impl Page {
     }
 
     /// Writes bytes.
+    #[inline(always)]
     pub(crate) fn bytes(&mut self, bytes: &[u8]) -> Result<(), NoMemory>
         ensures { OnOk result (self.new ≡ self.old ++ bytes.now) }
     {
@@ -61,23 +63,33 @@ impl Page {
     }
 
     /// Writes a byte.
+    #[inline(always)]
     pub(crate) fn byte(&mut self, byte: u8) -> Result<(), NoMemory>
         ensures { OnOk result (self.new ≡ self.old ++ byte ∷ []) }
     {
         Ok(self.bytes.push(byte)?)
     }
 
-    /// Writes a text that is often very short.
+    /// Writes a parameter with its object, behind a comma where it isn't the first.
     #[inline(always)]
-    pub(crate) fn word(&mut self, word: &str) -> Result<(), NoMemory>
-        ensures { OnOk result (self.new ≡ self.old ++ word.now) }
+    pub(crate) fn pair(
+        &mut self,
+        first: bool,
+        parameter: &str,
+        object: &str,
+    ) -> Result<(), NoMemory>
+        ensures { OnOk result (self.new ≡ self.old
+            ++ (if first then [] else codes ",") ++ (parameter.now ++ codes "=" ++ object.now)) }
     {
-        match word.as_bytes() {
-            [a] => self.byte(*a),
-            [a, b] => self.bytes(&[*a, *b]),
-            [a, b, c] => self.bytes(&[*a, *b, *c]),
-            all => self.bytes(all),
+        let more = (parameter.len() + 2).saturating_add(object.len());
+        self.bytes.reserve(more)?;
+        if !first {
+            self.bytes.push_reserved(b',');
         }
+        put_word(&mut self.bytes, parameter.as_bytes());
+        self.bytes.push_reserved(b'=');
+        put_word(&mut self.bytes, object.as_bytes());
+        Ok(())
     }
 
     /// Writes a number, without leading zeros.
@@ -97,6 +109,19 @@ impl Page {
     {
         let mut buffer = Buffer::new();
         self.text(buffer.format(number))
+    }
+
+    /// Writes a caller and a line of its script, with what stands behind each.
+    #[inline(always)]
+    pub(crate) fn place(&mut self, caller: u32, line: u32) -> Result<(), NoMemory>
+        ensures { OnOk result (self.new
+            ≡ self.old ++ (decimal caller ++ codes ":" ++ decimal line ++ codes " ")) }
+    {
+        let mut buffer = [b' '; 32];
+        let behind = write_digits(u64::from(line), &mut buffer, 31) - 1;
+        buffer[behind] = b':';
+        let start = write_digits(u64::from(caller), &mut buffer, behind);
+        self.bytes(&buffer[start..])
     }
 
     /// Writes what a handler prints for an instance, at an event on this line of this caller.
@@ -120,5 +145,30 @@ impl Page {
     {
         let Page { bytes } = self;
         bytes
+    }
+}
+
+/// Puts a text that is often very short behind bytes that have room for it.
+#[inline(always)]
+fn put_word(bytes: &mut Vec<u8>, word: &[u8])
+    requires { vec_len bytes.old + length word.now ≤ vec_capacity bytes.old }
+    ensures items { bytes.new.items ≡ bytes.old.items ++ word.now }
+    ensures len { vec_len bytes.new ≡ vec_len bytes.old + length word.now }
+    ensures capacity { vec_capacity bytes.old ≤ vec_capacity bytes.new }
+{
+    match word {
+        [a] => bytes.push_reserved(*a),
+        [a, b] => {
+            bytes.push_reserved(*a);
+            bytes.push_reserved(*b);
+        }
+        [a, b, c] => {
+            bytes.push_reserved(*a);
+            bytes.push_reserved(*b);
+            bytes.push_reserved(*c);
+        }
+        all => {
+            let _ = bytes.extend_from_slice(all);
+        }
     }
 }
