@@ -1,12 +1,11 @@
 -- What shifts make of the monitors: what the moves of an event make of them.
 use Rattle.std.proofs.Common.{◌≡◌, ◌≢◌, ℕ, zero, suc, ◌<◌, ◌⊎◌, inl, inr, Bool, true, cond, List, [], ◌∷◌, length, refl, sym, ap, ◌∙◌, subst, arith}
 use Rattle.std.specs.Prelude.{Option, Some, None, Contains, AllPairs, slice_set}
-use Rattle.std.specs.Int.{bit_at}
 use Rattle.std.specs.List.{cons_option}
 use Rattle.std.proofs.lemmas.Bool.{cases_eq}
 use Rattle.std.proofs.lemmas.List.{get_or-set_same}
 use Rattle.std.proofs.lemmas.Option.{same_Some}
-use Rattle.jm_model.specs.Bindings.{is_below}
+use Rattle.jm_model.specs.Bindings.{is_below, mask_of}
 use Rattle.jm_model.specs.Meanings.{Meaning, IsHit}
 use Rattle.jm_model.specs.Numbers.{IsPlainMove}
 use Rattle.jm_model.specs.declared.binding.Binding.{Binding}
@@ -20,9 +19,9 @@ use Rattle.jm_monitors.specs.Steps.{IsAliveState, IsOverAfter}
 use Rattle.jm_store.specs.declared.moves.Move.{Move}
 use Rattle.jm_store.specs.declared.walk.Shift.{Shift}
 use Rattle.jm_store.specs.Slots.{monitor_at}
-use Rattle.jm_store.specs.Moves.{AreGiven, IsMoved, IsReadIn, IsReadAt, after_move, after_moves}
+use Rattle.jm_store.specs.Moves.{AreGiven, ends_all, IsMoved, IsReadIn, IsReadAt, after_move, after_moves}
 use Rattle.jm_store.specs.Listed.{occupant_of, occupant_for, occupants_of, RestsAt, AreListed}
-use Rattle.jm_store.specs.Walks.{IsShifting, IsShiftAt, AreShifted}
+use Rattle.jm_store.specs.Walks.{HaveMonitors, IsShifting, IsShiftAt, AreShifted}
 use Rattle.jm_store.proofs.AfterLemmas.{moved_other, length-after}
 use Rattle.jm_store.proofs.GivenLemmas.{given_each, given_pairs}
 use Rattle.jm_store.proofs.ListedLemmas.{within, after_others}
@@ -42,13 +41,19 @@ shift_or_none (y ∷ shifts) k = elim (cases_eq y.slot k) [
   ]
 ]
 
-module _ (m : Meaning) {S : Type 0} (Stands : S → List ℕ → Type 0) (HasNumber : S → ℕ → Type 0) (letter : ℕ) (dead : List Bool) (b : Binding) (ends : ℕ) (lists : Lists) (monitors : List (Option (Stored S)))
-    (slots : List ℕ) (shifts : List Shift) (given : AreGiven (IsShiftAt m Stands HasNumber letter dead b ends lists monitors) slots shifts) where
+module _ (m : Meaning) {S : Type 0} (Stands : S → List ℕ → Type 0) (HasNumber : S → ℕ → Type 0) (letter : ℕ) (dead : List Bool) (b : Binding) (ending : List ℕ) (lists : Lists) (monitors : List (Option (Stored S)))
+    (slots : List ℕ) (shifts : List Shift) (given : AreGiven (IsShiftAt m Stands HasNumber letter dead b ending lists monitors) slots shifts) where
   -- no slot is shifted twice
   pub shifts_apart : AllPairs (λ j k. j ≢ k) slots → AllPairs (λ x y. x.slot ≢ y.slot) shifts
   shifts_apart apart =
-      given_pairs (IsShiftAt m Stands HasNumber letter dead b ends lists monitors) (λ j k. j ≢ k) (λ x y. x.slot ≢ y.slot) slots shifts given apart
+      given_pairs (IsShiftAt m Stands HasNumber letter dead b ending lists monitors) (λ j k. j ≢ k) (λ x y. x.slot ≢ y.slot) slots shifts given apart
       (λ j k x y other mine its same. other (sym mine.2 ∙ same ∙ its.2))
+
+  -- and each is of a slot that has a monitor
+  pub shifts_there : HaveMonitors shifts monitors
+  shifts_there shift has =
+      let (k, among, (s, at, slot, is)) = given_each (IsShiftAt m Stands HasNumber letter dead b ending lists monitors) slots shifts shift given has in
+      (s, ap (monitor_at monitors) slot ∙ at)
 
   module _ (after : List (Option (Stored S))) (moved : AreShifted HasNumber shifts monitors after) where
     -- the monitor of a slot got another number
@@ -56,13 +61,13 @@ module _ (m : Meaning) {S : Type 0} (Stands : S → List ℕ → Type 0) (HasNum
       pub base : Stored S
       pub here : monitor_at monitors k ≡ Some base
       pub number : ℕ
-      pub is : IsShifting m Stands HasNumber letter dead b ends lists.letters (card_at lists k) base number
+      pub is : IsShifting m Stands HasNumber letter dead b ending lists.letters (card_at lists k) base number
       pub next : Stored S
       pub now : monitor_at after k ≡ Some next
       pub instance : next.instance ≡ base.instance
       pub has : HasNumber next.state number
 
-    shifted_of : (k : ℕ) (shift : Shift) → Contains shifts shift → IsShiftAt m Stands HasNumber letter dead b ends lists monitors k (Some shift) → IsShiftedAt k
+    shifted_of : (k : ℕ) (shift : Shift) → Contains shifts shift → IsShiftAt m Stands HasNumber letter dead b ending lists monitors k (Some shift) → IsShiftedAt k
     shifted_of k shift has (s, at, slot, is) =
         let (t, now, instance, number) = moved.each shift has s is.before (ap (monitor_at monitors) slot ∙ at) is.has in
         record {
@@ -80,7 +85,7 @@ module _ (m : Meaning) {S : Type 0} (Stands : S → List ℕ → Type 0) (HasNum
     pub shift_at : (k : ℕ) → IsShiftedAt k ⊎ (monitor_at after k ≡ monitor_at monitors k)
     shift_at k = elim (shift_or_none shifts k) [
       | inl (shift, has, same) ↦
-          let (j, among, is) = given_each (IsShiftAt m Stands HasNumber letter dead b ends lists monitors) slots shifts shift given has in
+          let (j, among, is) = given_each (IsShiftAt m Stands HasNumber letter dead b ending lists monitors) slots shifts shift given has in
           inl (subst IsShiftedAt (sym is.2 ∙ same) (shifted_of j shift has is))
       | inr none ↦ inr (moved.others k none)
     ]
@@ -139,13 +144,13 @@ module _ (m : Meaning) {S : Type 0} (Stands : S → List ℕ → Type 0) (HasNum
       each : (move : Move S) → Contains moves move → IsMove move
       all : (shift : Shift) → Contains ys shift → (move : Move S) × Contains moves move × (move.slot ≡ Some shift.slot)
 
-    moves_for : (marks : List Binding) (xs : List ℕ) (ys : List Shift) → AreGiven (IsShiftAt m Stands HasNumber letter dead b ends lists monitors) xs ys → ((y : Shift) → Contains ys y → Contains shifts y)
+    moves_for : (marks : List Binding) (xs : List ℕ) (ys : List Shift) → AreGiven (IsShiftAt m Stands HasNumber letter dead b ending lists monitors) xs ys → ((y : Shift) → Contains ys y → Contains shifts y)
         → (moves : List (Move S)) × AreMoves marks xs ys moves
     moves_for marks [] ys none within =
         ([], record { read = refl; each = λ move has. absurd (Contains-none move has); all = λ shift has. absurd (Contains-none shift (subst (λ (l : List Shift). Contains l shift) none has)) })
     moves_for marks (k ∷ xs) ys (o, gives, (rest, given, is)) within = by o gives is (λ inside. moves_for marks xs rest given inside)
       where
-        by : (p : Option Shift) → IsShiftAt m Stands HasNumber letter dead b ends lists monitors k p → ys ≡ cons_option p rest → (((y : Shift) → Contains rest y → Contains shifts y) → (moves : List (Move S)) × AreMoves marks xs rest moves)
+        by : (p : Option Shift) → IsShiftAt m Stands HasNumber letter dead b ending lists monitors k p → ys ≡ cons_option p rest → (((y : Shift) → Contains rest y → Contains shifts y) → (moves : List (Move S)) × AreMoves marks xs rest moves)
             → (moves : List (Move S)) × AreMoves marks (k ∷ xs) ys moves
         by None (s, at, resting) same more =
             let (moves, are) = more (λ y has. within y (subst (λ (l : List Shift). Contains l y) (sym same) has)) in (
@@ -202,13 +207,13 @@ module _ (m : Meaning) {S : Type 0} (Stands : S → List ℕ → Type 0) (HasNum
         ]
 
     -- The shifts make of the monitors what these moves make of them. Each move's monitor stays, hits nothing, and the letters
-    -- of `ends` end it.
+    -- that end all with its parameters end it.
     pub record IsMadeBy (marks : List Binding) (moves : List (Move S)) : Type 0 where
       pub read : AreGiven (IsReadAt m Stands letter b dead marks monitors) slots moves
       pub same : (k : ℕ) → monitor_at (after_moves moves monitors) k ≡ monitor_at after k
       pub stays : (move : Move S) → Contains moves move → move.stays ≡ true
       pub quiet : (move : Move S) → Contains moves move → (w : List ℕ) → Stands move.monitor.state w → (h : ℕ) → IsHit m w h → ⊥
-      pub over : (move : Move S) → Contains moves move → (e : ℕ) → bit_at ends e ≡ 1 → IsOverAfter m Stands e move.monitor.state 0
+      pub over : (move : Move S) → Contains moves move → (e : ℕ) → ends_all ending e (mask_of move.monitor.instance) ≡ true → IsOverAfter m Stands e move.monitor.state 0
       pub from : (move : Move S) → Contains moves move → (k : ℕ) × (s : Stored S) × (monitor_at monitors k ≡ Some s) × (is_below b s.instance ≡ true) × (move.slot ≡ Some k) × (move.monitor.instance ≡ s.instance)
 
     pub shifts_as_moves : (marks : List Binding) → (moves : List (Move S)) × IsMadeBy marks moves
@@ -229,7 +234,8 @@ module _ (m : Meaning) {S : Type 0} (Stands : S → List ℕ → Type 0) (HasNum
             stays = λ move has. let (k, x, is) = are.each move has in ap (λ (z : Move S). z.stays) is;
             quiet = λ move has. let (k, x, is) = are.each move has in subst (λ (z : Move S). (w : List ℕ) → Stands z.monitor.state w → (h : ℕ) → IsHit m w h → ⊥) (sym is) (shift_quiet k x);
             over = λ move has. let (k, x, is) = are.each move has in
-                subst (λ (z : Move S). (e : ℕ) → bit_at ends e ≡ 1 → IsOverAfter m Stands e z.monitor.state 0) (sym is) (x.is.over x.next.state x.has);
+                subst (λ (z : Move S). (e : ℕ) → ends_all ending e (mask_of z.monitor.instance) ≡ true → IsOverAfter m Stands e z.monitor.state 0) (sym is)
+                (λ e ends. x.is.over x.next.state x.has e (subst (λ (t : Binding). ends_all ending e (mask_of t) ≡ true) x.instance ends));
             from = λ move has. let (k, x, is) = are.each move has in (k, x.base, x.here, x.is.below, ap (λ (z : Move S). z.slot) is, ap (λ (z : Move S). z.monitor.instance) is ∙ x.instance);
           },
         )

@@ -60,7 +60,7 @@ module _ {S : Type 0} (old new : List (Slot S)) (alike : AreAlike old new) where
           (s, monitor_at-slot old k ∙ ap monitor_in is, sym instance ∙ ap (λ (x : Stored S). x.instance) one)
 
   -- a slot that had a monitor has one
-  has_still : (k : ℕ) (s : Stored S) → monitor_at (monitors_of old) k ≡ Some s
+  pub has_still : (k : ℕ) (s : Stored S) → monitor_at (monitors_of old) k ≡ Some s
       → (t : Stored S) × (monitor_at (monitors_of new) k ≡ Some t)
   has_still k s at = by (slot_at old k) refl (alike.each k)
     where
@@ -107,24 +107,22 @@ same_all {X} xs ys size each = same_lists xs ys size by
 
 -- ---- what the event comes to
 module _ (m : Meaning) {S : Type 0} (Stands : S → List ℕ → Type 0) (HasNumber : S → ℕ → Type 0) (letter : ℕ) (b : Binding)
-    (dead : List Bool) (old new : Contents S) (lists : Lists) (place ends : ℕ) (shifts : List Shift)
+    (dead : List Bool) (old new : Contents S) (lists : Lists) (place : ℕ) (shifts : List Shift)
     (can : CanPlan m dead letter b old) (known : Contains old.marks b) (of : IsListOf (list_at lists place) letter b)
     (listed : AreListed m Stands dead old.monitors lists)
-    (given : AreGiven (IsShiftAt m Stands HasNumber letter dead b ends lists old.monitors) (slots_listed lists place) shifts)
+    (given : AreGiven (IsShiftAt m Stands HasNumber letter dead b old.ending lists old.monitors) (slots_listed lists place) shifts)
     (moved : AreShifted HasNumber shifts old.monitors new.monitors) (paired : ArePaired old)
-    (filled : (pair : Pair) → Contains old.index.list pair → IsFilled old pair)
-    (ended : (k : ℕ) (s : Stored S) → monitor_at old.monitors k ≡ Some s → is_below b s.instance ≡ true → (e : ℕ)
-    → ends_all old.ending e (mask_of s.instance) ≡ true → bit_at ends e ≡ 1) where
+    (filled : (pair : Pair) → Contains old.index.list pair → IsFilled old pair) where
   abbrev slots : List ℕ
   slots = slots_listed lists place
 
-  both : (moves : List (Move S)) × IsMadeBy m Stands HasNumber letter dead b ends lists old.monitors slots shifts given new.monitors moved old.marks moves
-  both = shifts_as_moves m Stands HasNumber letter dead b ends lists old.monitors slots shifts given new.monitors moved old.marks
+  both : (moves : List (Move S)) × IsMadeBy m Stands HasNumber letter dead b old.ending lists old.monitors slots shifts given new.monitors moved old.marks moves
+  both = shifts_as_moves m Stands HasNumber letter dead b old.ending lists old.monitors slots shifts given new.monitors moved old.marks
 
   moves : List (Move S)
   moves = both.0
 
-  made : IsMadeBy m Stands HasNumber letter dead b ends lists old.monitors slots shifts given new.monitors moved old.marks moves
+  made : IsMadeBy m Stands HasNumber letter dead b old.ending lists old.monitors slots shifts given new.monitors moved old.marks moves
   unfolding moves both
   made = both.1
 
@@ -165,10 +163,8 @@ module _ (m : Meaning) {S : Type 0} (Stands : S → List ℕ → Type 0) (HasNum
   ending_moves : AreEnding m Stands old.ending (reached_by moves)
   ending_moves s among e ends_here =
       let (move, there, is) = Contains-from_map (λ (x : Move S). x.monitor) moves s among in
-      let (j, base, at, below, slot, instance) = made.from move there in
-      let same : s.instance ≡ base.instance = sym (ap (λ (x : Stored S). x.instance) is) ∙ instance in
-      let bit = ended j base at below e (subst (λ (t : Binding). ends_all old.ending e (mask_of t) ≡ true) same ends_here) in
-      subst (λ (x : Stored S). IsOverAfter m Stands e x.state 0) is (made.over move there e bit)
+      let own = subst (λ (x : Stored S). ends_all old.ending e (mask_of x.instance) ≡ true) (sym is) ends_here in
+      subst (λ (x : Stored S). IsOverAfter m Stands e x.state 0) is (made.over move there e own)
 
   report : IsReport m Stands (reached_by moves) []
   report = record {

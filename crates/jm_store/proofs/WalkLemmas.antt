@@ -1,19 +1,22 @@
 -- Monitors of a list that are read by their numbers, and get other numbers.
 use Rattle.std.proofs.Common.{◌≡◌, ◌≢◌, ℕ, zero, suc, ◌+◌, ◌-◌, ◌*◌, ◌/◌, ◌%◌, ◌^◌, ◌<◌, ◌≤◌, ◌⊎◌, inl, inr, Bool, true, false, cond, List, [], ◌∷◌, ◌++◌, length, take, drop, map, get_or, refl, sym, ap, ◌∙◌, subst, append-nil, arith}
-use Rattle.std.specs.Prelude.{Option, Some, None, Contains, AllPairs, slice_get, slice_index, slice_set, bit_and, ◌==◌}
+use Rattle.std.specs.Prelude.{Option, Some, None, Contains, AllPairs, slice_get, slice_index, slice_index_or, slice_set, bit_and, ◌==◌, ◌&&◌}
 use Rattle.std.specs.Int.{w8, w32, bit_at, trailing_zeros}
-use Rattle.std.proofs.lemmas.Bool.{cases_eq, cases_lt, false≢true, eqb-true}
+use Rattle.std.proofs.lemmas.Bool.{cases_eq, cases_lt, false≢true, eqb-true, lt-ltb}
 use Rattle.std.proofs.lemmas.List.{get_or_default, get_or-take, get_or_past, drop_all, length-map, length-take-le, set-get_or, take_all, take_more}
 use Rattle.std.proofs.lemmas.List.Elements.{Contains-push_cases, Contains-append_left, Contains-push}
 use Rattle.std.proofs.lemmas.Option.{same_Some, none-some, get_or_from_slice_get}
 use Rattle.std.proofs.lemmas.Nat.Bits.{bit_at_above, bit_at_and, bit_at_not, bit_at-lt, bit_at-zero}
 use Rattle.jm_model.specs.Bindings.{is_below, object_at, mask_of, mask_where}
 use Rattle.jm_model.specs.Meanings.{Meaning, IsCutWord}
-use Rattle.jm_model.specs.Numbers.{IsAtRest as RestsBy, AreEnds}
+use Rattle.jm_model.specs.Numbers.{at_rest, IsAtRest as RestsBy, AreEnds}
 use Rattle.jm_model.specs.declared.binding.Binding.{Binding}
 use Rattle.jm_semantics.proofs.BindingLemmas.{below-object}
 use Rattle.jm_index.specs.Index.{AreLive, flag_of}
 use Rattle.jm_index.proofs.ReadLemmas.{Contains-none}
+use Rattle.jm_awake.specs.declared.card.Card.{Card}
+use Rattle.jm_awake.specs.declared.card.Listed.{Listed}
+use Rattle.jm_awake.specs.Awake.{Lists, fresh, card_at, is_there, IsOn}
 use Rattle.jm_awake.proofs.CardLemmas.{first_left}
 use Rattle.jm_awake.proofs.PathLemmas.{bound_one, unbound_zero}
 use Rattle.jm_marks.specs.Marks.{dead_mask_of, is_dead_object}
@@ -23,8 +26,8 @@ use Rattle.jm_store.specs.declared.walk.Shift.{Shift}
 use Rattle.jm_store.specs.declared.monitors.Slot.{Slot}
 use Rattle.jm_store.specs.declared.monitors.Slot.TheVariants.{Free, Planned, Taken}
 use Rattle.jm_store.specs.Slots.{count_in, monitor_in, monitor_at, monitors_of, slot_at, stored_in}
-use Rattle.jm_store.specs.Moves.{IsAtRest}
-use Rattle.jm_store.specs.Walks.{AreAliveBut, IsShifted, AreShifted, IsAlike, AreAlike}
+use Rattle.jm_store.specs.Moves.{IsPushed, IsAtRest}
+use Rattle.jm_store.specs.Walks.{AreAliveBut, AreAmong, AreRows, EndsAll, EndsLike, IsShifting, IsShiftAt, IsShifted, AreShifted, IsAlike, AreAlike}
 use Rattle.jm_store.proofs.ReportLemmas.{set_from_bit}
 use Rattle.jm_store.proofs.SlotLemmas.{monitor_at-slot, slot_at-set_same, slot_at-set_other, used_within, monitor_used, not_taken}
 
@@ -104,6 +107,41 @@ module _ (m : Meaning) {S : Type 0} (Stands : S → List ℕ → Type 0) where
   over_by mask e state bit are w stands =
       let set' = set_from_bit mask e bit in
       (λ k hit. are.quiet w stands e k set' hit, are.cut w stands e set')
+
+  -- one that gets another number
+  pub shifts_by : (HasNumber : S → ℕ → Type 0) (letter : ℕ) (dead : List Bool) (b : Binding) (plain ending endings : List ℕ) (letters : ℕ) (card : Card) (base : Stored S) (before next : ℕ)
+      → AreRows m Stands HasNumber letter plain endings → HasNumber base.state before → is_below b base.instance ≡ true → dead_mask_of dead base.instance ≡ 0 → slice_get plain before ≡ Some next → next < at_rest
+      → EndsLike ending (mask_of base.instance) endings next → ((e : ℕ) → bit_at letters e ≡ 1 → IsOn card e) → IsShifting m Stands HasNumber letter dead b ending letters card base next
+  shifts_by HasNumber letter dead b plain ending endings letters card base before next rows has below whole at low like on = record {
+    before = before;
+    has = has;
+    below = below;
+    whole = whole;
+    moves = λ after has'. rows.moves before next at (λ is. absurd (omega (arith, is, low))) (λ is. absurd (omega (arith, is, low))) base.state after has has';
+    on = on;
+    over = λ after has' e ends.
+        let (mask, found, one) = like e ends in
+        over_by mask e after one (rows.ends next mask found after has');
+  }
+
+  -- and is put behind the others
+  pub shift_pushed : (HasNumber : S → ℕ → Type 0) (letter : ℕ) (dead : List Bool) (b : Binding) (plain ending endings : List ℕ) (lists : Lists) (monitors : List (Option (Stored S))) (k : ℕ) (base : Stored S) (before next : ℕ)
+      (old new : List Shift) → AreRows m Stands HasNumber letter plain endings → monitor_at monitors k ≡ Some base → HasNumber base.state before → is_below b base.instance ≡ true → dead_mask_of dead base.instance ≡ 0
+      → slice_get plain before ≡ Some next → next < at_rest → EndsLike ending (mask_of base.instance) endings next → ((e : ℕ) → bit_at lists.letters e ≡ 1 → IsOn (card_at lists k) e)
+      → new ≡ old ++ record { slot = k; number = next } ∷ [] → IsPushed (IsShiftAt m Stands HasNumber letter dead b ending lists monitors) k old new
+  shift_pushed HasNumber letter dead b plain ending endings lists monitors k base before next old new rows here has below whole at low like on added = (
+    Some (record { slot = k; number = next }),
+    (base, here, refl, shifts_by HasNumber letter dead b plain ending endings lists.letters (card_at lists k) base before next rows has below whole at low like on),
+    added,
+  )
+
+-- letters among some that a row has at a number
+pub like_by : (ending : List ℕ) (domain letters : ℕ) (row : List ℕ) (number : ℕ) → AreAmong ending domain letters → EndsAll letters row number → EndsLike ending domain row number
+like_by ending domain letters row number among all e ends = all e (among e ends)
+
+-- an entry still counts if its card has its age
+pub there_by : (cards : List Card) (x : Listed) → x.slot < length cards → is_there cards x ≡ ((slice_index_or cards x.slot fresh).age / 2 == x.age / 2)
+there_by cards x low = ap (λ (v : Bool). v && ((slice_index_or cards x.slot fresh).age / 2 == x.age / 2)) (lt-ltb x.slot (length cards) low)
 
 -- ---- slots that have as much as they had
 module _ {S : Type 0} where

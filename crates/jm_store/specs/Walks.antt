@@ -3,7 +3,7 @@
 use Rattle.std.specs.Prelude.{ℕ, ◌≡◌, ◌≢◌, ◌<◌, Bool, true, false, List, Option, Some, None, Contains, length, slice_get}
 use Rattle.std.specs.Int.{bit_at}
 use Rattle.jm_model.specs.Words.{Mask, Word}
-use Rattle.jm_model.specs.Bindings.{is_below, object_at}
+use Rattle.jm_model.specs.Bindings.{is_below, mask_of, object_at}
 use Rattle.jm_model.specs.Meanings.{Meaning}
 use Rattle.jm_model.specs.Numbers.{no_number, at_rest, IsPlainMove, IsAtRest as RestsBy, AreEnds}
 use Rattle.jm_model.specs.declared.binding.Binding.{Binding}
@@ -13,10 +13,11 @@ use Rattle.jm_marks.specs.Marks.{dead_mask_of, is_dead_object}
 use Rattle.jm_monitors.specs.declared.stored.Stored.{Stored}
 use Rattle.jm_monitors.specs.Steps.{IsOverAfter}
 use Rattle.jm_store.specs.declared.walk.Shift.{Shift}
+use Rattle.jm_store.specs.declared.walk.Turn.{Turn}
 use Rattle.jm_store.specs.declared.monitors.Slot.{Slot}
 use Rattle.jm_store.specs.declared.monitors.Slot.TheVariants.{Free, Planned, Taken}
 use Rattle.jm_store.specs.Slots.{slot_at, monitor_at}
-use Rattle.jm_store.specs.Moves.{IsAtRest}
+use Rattle.jm_store.specs.Moves.{IsAtRest, ends_all}
 
 -- an instance above b binds dead objects to parameters of this set alone
 abbrev pub AreAliveBut : List Bool → Binding → Mask → Type 0
@@ -29,6 +30,21 @@ abbrev pub EndsAll : Mask → List Mask → ℕ → Type 0
 EndsAll letters row number =
     (e : ℕ) → bit_at letters e ≡ 1 → (mask : Mask) × (slice_get row number ≡ Some mask) × (bit_at mask e ≡ 1)
 
+-- letters that end all monitors of a set of parameters are among these
+abbrev pub AreAmong : List Mask → Mask → Mask → Type 0
+AreAmong ending domain letters = (e : ℕ) → ends_all ending e domain ≡ true → bit_at letters e ≡ 1
+
+-- each of them is among those that a row has at a number
+abbrev pub EndsLike : List Mask → Mask → List Mask → ℕ → Type 0
+EndsLike ending domain row number =
+    (e : ℕ) → ends_all ending e domain ≡ true → (mask : Mask) × (slice_get row number ≡ Some mask) × (bit_at mask e ≡ 1)
+
+-- The letter leads from the one number to the other by a row, and each of the letters that end others ends the states with
+-- that one, unless no number was noted.
+abbrev pub IsTurn : List ℕ → Mask → List Mask → Turn → Type 0
+IsTurn plain ends endings turn =
+    turn.from < 65536 → (slice_get plain turn.from ≡ Some turn.to) × (turn.to < at_rest) × EndsAll ends endings turn.to
+
 module _ (m : Meaning) {S : Type 0} (Stands : S → Word → Type 0) (HasNumber : S → ℕ → Type 0) (letter : ℕ) where
   -- The rows tell by the number of a state what the letter makes of it, and which letters end an instance of it.
   pub record AreRows (plain : List ℕ) (endings : List Mask) : Type 0 where
@@ -39,10 +55,10 @@ module _ (m : Meaning) {S : Type 0} (Stands : S → Word → Type 0) (HasNumber 
     pub ends : (k mask : ℕ) → slice_get endings k ≡ Some mask → (state : S) → HasNumber state k
         → AreEnds S m Stands mask state
 
-  module _ (dead : List Bool) (b : Binding) (ends : Mask) where
+  module _ (dead : List Bool) (b : Binding) (ending : List Mask) where
     -- The event moves the monitor of a slot with this card, above b, whose state has a number, to each state with the
     -- other number, and that is all: nothing of the monitor is dead, its slot is in the lists of all letters that have
-    -- some, and the letters of `ends` end each such state.
+    -- some, and the letters that end all monitors with its parameters end each such state.
     pub record IsShifting (letters : Mask) (card : Card) (base : Stored S) (number : ℕ) : Type 0 where
       pub before : ℕ
       pub has : HasNumber base.state before
@@ -50,7 +66,7 @@ module _ (m : Meaning) {S : Type 0} (Stands : S → Word → Type 0) (HasNumber 
       pub whole : dead_mask_of dead base.instance ≡ 0
       pub moves : (after : S) → HasNumber after number → IsPlainMove S m Stands letter base.state after
       pub on : (e : ℕ) → bit_at letters e ≡ 1 → IsOn card e
-      pub over : (after : S) → HasNumber after number → (e : ℕ) → bit_at ends e ≡ 1
+      pub over : (after : S) → HasNumber after number → (e : ℕ) → ends_all ending e (mask_of base.instance) ≡ true
           → IsOverAfter m Stands e after 0
 
     -- what the event makes of the monitor of a slot: another number, or nothing, since the monitor rests
@@ -62,6 +78,11 @@ module _ (m : Meaning) {S : Type 0} (Stands : S → Word → Type 0) (HasNumber 
 
     abbrev pub IsShiftAt : Lists → List (Option (Stored S)) → ℕ → Option Shift → Type 0
     IsShiftAt lists monitors k shift = IsShiftIn lists k (monitor_at monitors k) shift
+
+-- each of the shifts is of a slot that has a monitor
+abbrev pub HaveMonitors : {S : Type 0} → List Shift → List (Option (Stored S)) → Type 0
+HaveMonitors {S} shifts monitors =
+    (shift : Shift) → Contains shifts shift → (s : Stored S) × (monitor_at monitors shift.slot ≡ Some s)
 
 -- a monitor whose state had a number got one that has this number
 abbrev pub IsShifted : {S : Type 0} → (S → ℕ → Type 0) → Option (Stored S) → Option (Stored S) → ℕ → Type 0

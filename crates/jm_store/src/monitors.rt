@@ -4,7 +4,7 @@ ghost use Rattle.jm_monitors.specs.declared.stored.Stored.{Stored as Kept};
 ghost use Rattle.jm_monitors.specs.Steps.{IsCutState, IsAliveState};
 ghost use Rattle.jm_marks.specs.Marks.{dead_mask_of};
 ghost use Rattle.jm_store.specs.Slots.{monitors_of, monitor_at, stored_in, slot_at, count_in, IsReserved};
-ghost use Rattle.jm_store.specs.Walks.{AreShifted, AreAlike};
+ghost use Rattle.jm_store.specs.Walks.{HaveMonitors, AreShifted, AreAlike};
 ghost use Rattle.jm_store.specs.declared.monitors.Slot.TheVariants.{Free, Planned, Taken};
 
 use crate::walk::{Shift, shift_all};
@@ -89,6 +89,19 @@ impl<S: Drop> Monitors<S> {
         let lent = self.peek(slot)?;
         steps.tick();
         Some(lent)
+    }
+
+    /// The monitor of a slot that has one, which is one step.
+    #[inline(always)]
+    pub(crate) fn lend_taken<L: Ledger>(&self, slot: usize, steps: &mut Steps<L>) -> &Stored<S>
+        requires { (s : Kept S) × (monitor_at (monitors_of self.now.slots) slot ≡ Some s) }
+        ensures value { monitor_at (monitors_of self.now.slots) slot ≡ Some result.now }
+        ensures steps { steps.new ≡ steps.old + 1 }
+    {
+        match self.lend(slot, steps) {
+            Some(monitor) => monitor,
+            None => unreachable!(),
+        }
     }
 
     fn peek(&self, slot: usize) -> Option<&Stored<S>>
@@ -194,7 +207,8 @@ impl<S: Drop> Monitors<S> {
     /// Gives each shift's monitor the state with its number.
     #[inline(always)]
     pub(crate) fn shift_all<M: Monitor<State = S>>(&mut self, rules: &M, shifts: &[Shift])
-        requires { AllPairs (λ x y. x.slot ≢ y.slot) shifts.now }
+        requires apart { AllPairs (λ x y. x.slot ≢ y.slot) shifts.now }
+        requires there { HaveMonitors shifts.now (monitors_of self.old.slots) }
         ensures moved { AreShifted (M.HasNumber rules.now) shifts.now (monitors_of self.old.slots)
             (monitors_of self.new.slots) }
         ensures alike { AreAlike self.old.slots self.new.slots }

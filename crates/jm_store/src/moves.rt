@@ -6,8 +6,9 @@ ghost use Rattle.jm_store.specs.declared.moves.Move.{Move as Change};
 use jm_model::{Binding, Firings, Letter, Monitor};
 use jm_monitors::Stored;
 
-/// From so many monitors on it is worth keeping a list of those that an event may change.
-const MANY: usize = 8;
+/// So many monitors are many. From so many on a list of those that an event may change is worth keeping, and worth
+/// being rid of those at rest; an event that meets more of one set of parameters is worked out by a plan.
+pub(crate) const MANY: usize = 8;
 
 /// What a monitor that an event reaches becomes.
 #[derive(Drop)]

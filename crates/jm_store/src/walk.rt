@@ -1,10 +1,11 @@
 //! How the monitors of a list are read and moved where their numbers tell what the event makes of them: some get
 //! another state, and the others rest.
-ghost use Rattle.std.specs.Prelude.{◌≡◌, ◌≢◌, ℕ, ◌+◌, ◌<◌, ◌≤◌, [], ◌∷◌, ◌++◌, List, AllPairs, Contains, Some, true, false, length, slice_get};
+ghost use Rattle.std.specs.Prelude.{◌≡◌, ◌≢◌, ℕ, ◌+◌, ◌<◌, ◌≤◌, [], ◌∷◌, ◌++◌, List, AllPairs, Contains, Some, true};
+ghost use Rattle.std.specs.Prelude.{false, IfSome, length, slice_get, slice_index_or, take};
 ghost use Rattle.std.specs.Int.{bit_at};
-ghost use Rattle.jm_model.specs.Bindings.{is_below, object_at};
+ghost use Rattle.jm_model.specs.Bindings.{is_below, mask_of, object_at};
 ghost use Rattle.jm_model.specs.Numbers.{no_number, at_rest};
-ghost use Rattle.jm_awake.specs.Awake.{list_at, card_at, IsOn, IsListOf};
+ghost use Rattle.jm_awake.specs.Awake.{fresh, list_at, card_at, slots_there, IsOn, IsListOf};
 ghost use Rattle.jm_index.specs.Index.{AreLive};
 ghost use Rattle.jm_marks.specs.Marks.{dead_mask_of, is_dead_object};
 ghost use Rattle.jm_monitors.specs.declared.stored.Stored.{Stored as Kept};
@@ -12,10 +13,12 @@ ghost use Rattle.jm_monitors.specs.Steps.{IsOverAfter};
 ghost use Rattle.jm_store.specs.Slots.{monitors_of, monitor_at};
 ghost use Rattle.jm_store.specs.Moves.{AreGiven, IsPushed, IsAtRest};
 ghost use Rattle.jm_store.specs.Listed.{slots_listed, AreListed};
-ghost use Rattle.jm_store.specs.Walks.{AreRows, AreAliveBut, EndsAll, IsShifting, IsShiftAt, IsShifted, AreShifted, AreAlike};
+ghost use Rattle.jm_store.specs.Walks.{AreRows, AreAliveBut, EndsAll, IsShifting, IsShiftAt, IsTurn, EndsLike};
+ghost use Rattle.jm_store.specs.Walks.{AreAmong, HaveMonitors, IsShifted, AreShifted, AreAlike};
 
 use crate::monitors::{Monitors, Slot};
-use jm_awake::{Awake, Listed};
+use crate::moves::MANY;
+use jm_awake::{Awake, Card, Listed};
 use jm_model::{AT_REST, Binding, Letter, Monitor, NO_NUMBER, Steps};
 use jm_monitors::Stored;
 use jm_objects::Objects;
@@ -26,6 +29,13 @@ use std::sync::ledger::Ledger;
 pub(crate) struct Shift {
     pub(crate) slot: u32,
     pub(crate) number: u16,
+}
+
+/// The number of a state that the event moved, and the number that it gave; above all numbers where it moved none yet.
+#[derive(Clone, Copy)]
+pub(crate) struct Turn {
+    pub(crate) from: u32,
+    pub(crate) to: u16,
 }
 
 /// An event that reads the monitors of its list, and what it looks up.
@@ -40,21 +50,34 @@ pub(crate) struct Walk<'a, M: Monitor> {
     /// By the number of a state what the letter makes of it, and which letters end an instance of it.
     pub(crate) plain: &'a [u16],
     pub(crate) endings: &'a [u32],
-    /// Letters that end all monitors of some set of parameters, and have to end those that the event moves.
+    /// For each set of parameters letters that end all monitors with it, which have to end those that the event moves.
+    pub(crate) ending: &'a [u32; 256],
+    /// Those of all sets that have the parameters of the binding.
     pub(crate) ends: u32,
 }
 
+impl Turn {
+    /// Whether the state with a number was moved.
+    #[inline(always)]
+    fn is_from(&self, number: u16) -> bool
+        ensures from { result ≡ true → self.now.from ≡ number }
+        ensures low { number < 65536 }
+    {
+        self.from == number as u32
+    }
+}
+
 impl<M: Monitor> Walk<'_, M> {
-    /// Reads the monitors of a list, and puts a shift for each that moves at the end of the shifts. Answers whether the
-    /// event makes that of them and no more, and the shifts are worth their while: where most monitors rest, they had
-    /// better leave the list.
+    /// Reads the monitors of a list, and writes a shift for each that moves at the front of the shifts. Answers how
+    /// many there are, if the event makes that of the monitors and no more, and the shifts are worth their while: where
+    /// there are many monitors and most rest, they had better leave the list.
     #[inline(always)]
     pub(crate) fn read_list<L: Ledger>(
         &self,
         place: usize,
         shifts: &mut Vec<Shift>,
         steps: &mut Steps<L>,
-    ) -> bool
+    ) -> Option<usize>
         requires rows { AreRows (M.meaning (M.definition self.now.rules.now)) (M.StandsFor self.now.rules.now)
             (M.HasNumber self.now.rules.now) self.now.letter.0 self.now.plain.now self.now.endings.now }
         requires live { AreLive self.now.objects.now self.now.binding.now }
@@ -62,26 +85,78 @@ impl<M: Monitor> Walk<'_, M> {
         requires of { IsListOf (list_at self.now.awake.now place) self.now.letter.0 self.now.binding.now }
         requires listed { AreListed (M.meaning (M.definition self.now.rules.now)) (M.StandsFor self.now.rules.now)
             self.now.objects.now (monitors_of self.now.monitors.now.slots) self.now.awake.now }
-        requires none { shifts.old.items ≡ [] }
-        ensures given { result ≡ true → AreGiven (IsShiftAt (M.meaning (M.definition self.now.rules.now))
+        requires ends { (k : ℕ) (s : Kept M.State) → monitor_at (monitors_of self.now.monitors.now.slots) k ≡ Some s
+            → is_below self.now.binding.now s.instance ≡ true
+            → AreAmong self.now.ending.now (mask_of s.instance) self.now.ends }
+        requires room { length (list_at self.now.awake.now place).entries ≤ length shifts.old.items }
+        ensures given { IfSome result (λ count. AreGiven (IsShiftAt (M.meaning (M.definition self.now.rules.now))
             (M.StandsFor self.now.rules.now) (M.HasNumber self.now.rules.now) self.now.letter.0
-            self.now.objects.now self.now.binding.now self.now.ends self.now.awake.now
+            self.now.objects.now self.now.binding.now self.now.ending.now self.now.awake.now
             (monitors_of self.now.monitors.now.slots))
-            (slots_listed self.now.awake.now place) shifts.new.items }
+            (slots_listed self.now.awake.now place) (take count shifts.new.items)) }
+        ensures within { IfSome result (λ count. count ≤ length shifts.new.items) }
         ensures steps { steps.new ≤ steps.old + length (slots_listed self.now.awake.now place) }
     {
         let entries = self.awake.entries(place);
-        let free = self.free_params();
-        for entry in entries {
-            if self.awake.is_there(entry) && !self.read(entry, free, shifts, steps) {
-                return false;
-            }
-        }
-        shifts.len() > entries.len() / 2
+        self.read_entries(place, entries, shifts.as_mut_slice(), steps)
     }
 
-    /// The parameters to which an instance above the event's binding may give a dead object: none where no object is dead
-    /// at all, and else those that the event doesn't bind.
+    /// The same of the entries of the list.
+    #[inline(always)]
+    fn read_entries<L: Ledger>(
+        &self,
+        place: usize,
+        entries: &[Listed],
+        shifts: &mut [Shift],
+        steps: &mut Steps<L>,
+    ) -> Option<usize>
+        requires rows { AreRows (M.meaning (M.definition self.now.rules.now)) (M.StandsFor self.now.rules.now)
+            (M.HasNumber self.now.rules.now) self.now.letter.0 self.now.plain.now self.now.endings.now }
+        requires live { AreLive self.now.objects.now self.now.binding.now }
+        requires of { IsListOf (list_at self.now.awake.now place) self.now.letter.0 self.now.binding.now }
+        requires listed { AreListed (M.meaning (M.definition self.now.rules.now)) (M.StandsFor self.now.rules.now)
+            self.now.objects.now (monitors_of self.now.monitors.now.slots) self.now.awake.now }
+        requires ends { (k : ℕ) (s : Kept M.State) → monitor_at (monitors_of self.now.monitors.now.slots) k ≡ Some s
+            → is_below self.now.binding.now s.instance ≡ true
+            → AreAmong self.now.ending.now (mask_of s.instance) self.now.ends }
+        requires entries { entries.now ≡ (list_at self.now.awake.now place).entries }
+        requires room { length entries.now ≤ length shifts.old }
+        ensures given { IfSome result (λ count. AreGiven (IsShiftAt (M.meaning (M.definition self.now.rules.now))
+            (M.StandsFor self.now.rules.now) (M.HasNumber self.now.rules.now) self.now.letter.0
+            self.now.objects.now self.now.binding.now self.now.ending.now self.now.awake.now
+            (monitors_of self.now.monitors.now.slots))
+            (slots_there self.now.awake.now.cards entries.now) (take count shifts.new)) }
+        ensures within { IfSome result (λ count. count ≤ length shifts.new) }
+        ensures length { length shifts.new ≡ length shifts.old }
+        ensures steps { steps.new ≤ steps.old + length (slots_there self.now.awake.now.cards entries.now) }
+    {
+        let _place = place;
+        let cards = self.awake.cards();
+        let letters = self.awake.letters();
+        let free = self.free_params();
+        let mut last = Turn {
+            from: u32::MAX,
+            to: NO_NUMBER,
+        };
+        let mut count = 0;
+        for entry in entries {
+            let card = card_of(cards, entry.slot());
+            if card.is_there(entry)
+                && !self.read(
+                    entry, &card, letters, free, &mut last, shifts, &mut count, steps,
+                )
+            {
+                return None;
+            }
+        }
+        if !are_worth(entries.len(), count) {
+            return None;
+        }
+        Some(count)
+    }
+
+    /// The parameters to which an instance above the event's binding may give a dead object: none where no object is
+    /// dead at all, and else those that the event doesn't bind.
     fn free_params(&self) -> u8
         requires { AreLive self.now.objects.now self.now.binding.now }
         ensures { AreAliveBut self.now.objects.now self.now.binding.now result }
@@ -93,67 +168,84 @@ impl<M: Monitor> Walk<'_, M> {
         }
     }
 
-    /// Reads the monitor of an entry, and adds what becomes of it. Answers whether its number tells that. The parameters
-    /// are those to which its instance may give a dead object.
+    /// Reads the monitor of an entry, and adds what becomes of it. Answers whether its number tells that. The
+    /// parameters are those to which its instance may give a dead object.
     #[inline(always)]
     fn read<L: Ledger>(
         &self,
         entry: &Listed,
+        card: &Card,
+        letters: u32,
         free: u8,
-        shifts: &mut Vec<Shift>,
+        last: &mut Turn,
+        shifts: &mut [Shift],
+        count: &mut usize,
         steps: &mut Steps<L>,
     ) -> bool
         requires rows { AreRows (M.meaning (M.definition self.now.rules.now)) (M.StandsFor self.now.rules.now)
             (M.HasNumber self.now.rules.now) self.now.letter.0 self.now.plain.now self.now.endings.now }
         requires free { AreAliveBut self.now.objects.now self.now.binding.now free }
-        requires above { (s : Kept M.State) → monitor_at (monitors_of self.now.monitors.now.slots) entry.now.slot ≡ Some s
-            → is_below self.now.binding.now s.instance ≡ true }
+        requires there { (s : Kept M.State)
+            × (monitor_at (monitors_of self.now.monitors.now.slots) entry.now.slot ≡ Some s)
+            × (is_below self.now.binding.now s.instance ≡ true)
+            × AreAmong self.now.ending.now (mask_of s.instance) self.now.ends }
+        requires card { card.now ≡ card_at self.now.awake.now entry.now.slot }
+        requires letters { letters ≡ self.now.awake.now.letters }
+        requires turn { IsTurn self.now.plain.now self.now.ends self.now.endings.now last.old }
+        requires room { count.old < length shifts.old }
+        ensures turn { IsTurn self.now.plain.now self.now.ends self.now.endings.now last.new }
         ensures given { result ≡ true → IsPushed (IsShiftAt (M.meaning (M.definition self.now.rules.now))
             (M.StandsFor self.now.rules.now) (M.HasNumber self.now.rules.now) self.now.letter.0
-            self.now.objects.now self.now.binding.now self.now.ends self.now.awake.now
+            self.now.objects.now self.now.binding.now self.now.ending.now self.now.awake.now
             (monitors_of self.now.monitors.now.slots))
-            entry.now.slot shifts.old.items shifts.new.items }
+            entry.now.slot (take count.old shifts.old) (take count.new shifts.new) }
+        ensures count { count.new ≤ count.old + 1 }
+        ensures length { length shifts.new ≡ length shifts.old }
         ensures steps { steps.new ≤ steps.old + 1 }
     {
-        let slot = entry.slot();
-        let Some(base) = self.monitors.lend(slot, steps) else {
+        let base = self.monitors.lend_taken(entry.slot(), steps);
+        let Some(number) = self.rules.number(&base.state) else {
             return false;
         };
-        let number = self.next_number(slot, base, free);
-        if number == NO_NUMBER {
+        if !self.is_whole(&base.instance, free) {
             return false;
         }
-        if number == AT_REST {
+        if last.is_from(number) {
+            return add(entry, card, letters, last.to, shifts, count);
+        }
+        let next = self.look_up(number, &base.instance, last);
+        if next == NO_NUMBER {
+            return false;
+        }
+        if next == AT_REST {
             return true;
         }
-        let slot = entry.slot_number();
-        add(shifts, Shift { slot, number })
+        add(entry, card, letters, next, shifts, count)
     }
 
-    /// The number of the state that the event gives to a slot's monitor, where that is all that changes; `AT_REST` where
-    /// nothing does.
-    #[inline(always)]
-    fn next_number(&self, slot: usize, base: &Stored<M::State>, free: u8) -> u16
-        requires rows { AreRows (M.meaning (M.definition self.now.rules.now)) (M.StandsFor self.now.rules.now)
-            (M.HasNumber self.now.rules.now) self.now.letter.0 self.now.plain.now self.now.endings.now }
-        requires free { AreAliveBut self.now.objects.now self.now.binding.now free }
-        requires below { is_below self.now.binding.now base.now.instance ≡ true }
-        ensures rests { result ≡ at_rest → IsAtRest (M.meaning (M.definition self.now.rules.now))
-            (M.StandsFor self.now.rules.now) self.now.letter.0 self.now.binding.now self.now.objects.now base.now }
-        ensures moves { result ≢ no_number → result ≢ at_rest
-            → IsShifting (M.meaning (M.definition self.now.rules.now))
-            (M.StandsFor self.now.rules.now) (M.HasNumber self.now.rules.now) self.now.letter.0
-            self.now.objects.now self.now.binding.now self.now.ends
-            self.now.awake.now.letters (card_at self.now.awake.now slot) base.now result }
+    /// What the row has at the number of a state, if the letters that end all monitors with the parameters of an
+    /// instance end the states with that number.
+    #[inline(never)]
+    fn look_up(&self, number: u16, instance: &Binding, last: &mut Turn) -> u16
+        requires turn { IsTurn self.now.plain.now self.now.ends self.now.endings.now last.old }
+        requires among { AreAmong self.now.ending.now (mask_of instance.now) self.now.ends }
+        ensures turn { IsTurn self.now.plain.now self.now.ends self.now.endings.now last.new }
+        ensures at { result ≢ no_number → slice_get self.now.plain.now number ≡ Some result }
+        ensures over { result ≢ no_number → result ≢ at_rest
+            → EndsLike self.now.ending.now (mask_of instance.now) self.now.endings.now result }
     {
-        let Some(number) = self.rules.number(&base.state) else {
-            return NO_NUMBER;
-        };
         let next = number_at(self.plain, number);
-        if next == NO_NUMBER || !self.is_whole(&base.instance, free) {
-            return NO_NUMBER;
+        if next >= AT_REST {
+            return next;
         }
-        if next == AT_REST || self.is_all(slot, next) {
+        if end_all(self.ends, self.endings, next) {
+            *last = Turn {
+                from: number as u32,
+                to: next,
+            };
+            return next;
+        }
+        if end_all(self.ending[instance.mask() as usize], self.endings, next) {
             next
         } else {
             NO_NUMBER
@@ -167,31 +259,54 @@ impl<M: Monitor> Walk<'_, M> {
         requires below { is_below self.now.binding.now instance.now ≡ true }
         ensures { result ≡ true → dead_mask_of self.now.objects.now instance.now ≡ 0 }
     {
-        !binds_dead(self.objects, instance, instance.mask() & free)
-    }
-
-    /// Whether another state is all that a slot's monitor gets: the slot is in the lists of all letters that have some,
-    /// and all letters that end others end those with this number.
-    #[inline(always)]
-    fn is_all(&self, slot: usize, number: u16) -> bool
-        requires rows { AreRows (M.meaning (M.definition self.now.rules.now)) (M.StandsFor self.now.rules.now)
-            (M.HasNumber self.now.rules.now) self.now.letter.0 self.now.plain.now self.now.endings.now }
-        ensures on { result ≡ true → (e : ℕ) → bit_at self.now.awake.now.letters e ≡ 1
-            → IsOn (card_at self.now.awake.now slot) e }
-        ensures over { result ≡ true → (state : M.State) → M.HasNumber self.now.rules.now state number → (e : ℕ)
-            → bit_at self.now.ends e ≡ 1
-            → IsOverAfter (M.meaning (M.definition self.now.rules.now)) (M.StandsFor self.now.rules.now) e state 0 }
-    {
-        !self.awake.wants(slot, 0) && end_all(self.ends, self.endings, number)
+        let mask = instance.mask();
+        if free == 0 {
+            return true;
+        }
+        !binds_dead(self.objects, instance, mask & free)
     }
 }
 
-/// Adds a shift at the end, and answers whether memory isn't wanting.
+/// The card of a slot.
 #[inline(always)]
-fn add(shifts: &mut Vec<Shift>, shift: Shift) -> bool
-    ensures { result ≡ true → shifts.new.items ≡ shifts.old.items ++ shift ∷ [] }
+fn card_of(cards: &[Card], slot: usize) -> Card
+    requires { slot < length cards.now }
+    ensures { result ≡ slice_index_or cards.now slot fresh }
 {
-    shifts.push(shift).is_ok()
+    cards[slot]
+}
+
+/// Whether the shifts of a list with so many entries are worth their while.
+#[inline(always)]
+fn are_worth(entries: usize, count: usize) -> bool {
+    entries < MANY || count > entries / 2
+}
+
+/// Writes that the monitor of an entry gets another state behind the shifts that there are, if its slot is in the lists
+/// of all these letters; answers whether it is.
+#[inline(always)]
+fn add(
+    entry: &Listed,
+    card: &Card,
+    letters: u32,
+    number: u16,
+    shifts: &mut [Shift],
+    count: &mut usize,
+) -> bool
+    requires { count.old < length shifts.old }
+    ensures on { result ≡ true → (e : ℕ) → bit_at letters e ≡ 1 → IsOn card.now e }
+    ensures added { result ≡ true → take count.new shifts.new
+        ≡ take count.old shifts.old ++ record { slot = entry.now.slot; number = number } ∷ [] }
+    ensures count { count.new ≤ count.old + 1 }
+    ensures length { length shifts.new ≡ length shifts.old }
+{
+    if card.missing(letters) != 0 {
+        return false;
+    }
+    let slot = entry.slot_number();
+    shifts[*count] = Shift { slot, number };
+    *count += 1;
+    true
 }
 
 /// What a row has at a number.
@@ -281,7 +396,8 @@ fn without(params: u32, p: u32) -> u32
 /// Gives each shift's monitor the state with its number.
 #[inline(never)]
 pub(crate) fn shift_all<M: Monitor>(rules: &M, slots: &mut [Slot<M::State>], shifts: &[Shift])
-    requires { AllPairs (λ x y. x.slot ≢ y.slot) shifts.now }
+    requires apart { AllPairs (λ x y. x.slot ≢ y.slot) shifts.now }
+    requires there { HaveMonitors shifts.now (monitors_of slots.old) }
     ensures moved { AreShifted (M.HasNumber rules.now) shifts.now (monitors_of slots.old) (monitors_of slots.new) }
     ensures alike { AreAlike slots.old slots.new }
 {
@@ -293,17 +409,15 @@ pub(crate) fn shift_all<M: Monitor>(rules: &M, slots: &mut [Slot<M::State>], shi
 /// Carries a shift out.
 #[inline(always)]
 fn renumber<M: Monitor>(rules: &M, slots: &mut [Slot<M::State>], shift: &Shift)
+    requires { (s : Kept M.State) × (monitor_at (monitors_of slots.old) shift.now.slot ≡ Some s) }
     ensures here { IsShifted (M.HasNumber rules.now) (monitor_at (monitors_of slots.old) shift.now.slot)
         (monitor_at (monitors_of slots.new) shift.now.slot) shift.now.number }
     ensures others { (k : ℕ) → (k ≡ shift.now.slot → ⊥)
         → monitor_at (monitors_of slots.new) k ≡ monitor_at (monitors_of slots.old) k }
     ensures alike { AreAlike slots.old slots.new }
 {
-    let slot = shift.slot as usize;
-    if slot >= slots.len() {
-        return;
-    }
-    if let Slot::Taken(monitor) = &mut slots[slot] {
-        rules.renumber(&mut monitor.state, shift.number);
+    match &mut slots[shift.slot as usize] {
+        Slot::Taken(monitor) => rules.renumber(&mut monitor.state, shift.number),
+        _ => unreachable!(),
     }
 }

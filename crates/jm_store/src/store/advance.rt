@@ -15,7 +15,7 @@ use super::Store;
 use super::reach::make_room;
 use crate::ending::end_fewer;
 use crate::event::Event;
-use crate::moves::Move;
+use crate::moves::{MANY, Move};
 use crate::report::report_one;
 use crate::waking::{follow, wake};
 use jm_awake::Awake;
@@ -25,9 +25,6 @@ use jm_monitors::Stored;
 use jm_objects::Objects;
 use std::alloc::Global;
 use std::sync::ledger::Ledger;
-
-/// An event that meets more monitors of one set of parameters is worked out by a plan.
-const MANY: usize = 8;
 
 /// An event that was done: its answer, twice.
 #[derive(Drop)]

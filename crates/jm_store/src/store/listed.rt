@@ -23,8 +23,8 @@ use jm_objects::Objects;
 use std::sync::ledger::Ledger;
 
 impl<M: Monitor> Store<M> {
-    /// Works out an event whose binding is a mark, and of which there is a list: only the monitors of the list are read,
-    /// each once, and those at rest leave it. Where no monitor changes, there is no plan.
+    /// Works out an event whose binding is a mark, and of which there is a list: only the monitors of the list are
+    /// read, each once, and those at rest leave it. Where no monitor changes, there is no plan.
     #[inline(never)]
     pub fn plan_listed<L: Ledger>(
         &mut self,
@@ -42,8 +42,8 @@ impl<M: Monitor> Store<M> {
         requires of { IsListOf (list_at awake.old place) letter.0 binding.now }
         requires listed { AreListed (M.meaning (M.definition rules.now)) (M.StandsFor rules.now) objects.now
             self.old.monitors awake.old }
-        ensures plans { PlansUnlessRests (M.meaning (M.definition rules.now)) (M.StandsFor rules.now) objects.now letter.0
-            binding.now self.old self.new result }
+        ensures plans { PlansUnlessRests (M.meaning (M.definition rules.now)) (M.StandsFor rules.now) objects.now
+            letter.0 binding.now self.old self.new result }
         ensures listed { AreListed (M.meaning (M.definition rules.now)) (M.StandsFor rules.now) objects.now
             self.old.monitors awake.new }
         ensures steps { steps.new ≤ steps.old + count_by (λ s. is_compatible s.instance binding.now)
@@ -138,7 +138,8 @@ impl<M: Monitor> Store<M> {
         Ok(())
     }
 
-    /// What it makes of the monitor of a slot. If it leaves the monitor as it is, the slot leaves the lists of the letter.
+    /// What it makes of the monitor of a slot. If it leaves the monitor as it is, the slot leaves the lists of the
+    /// letter.
     #[inline(always)]
     fn read_entry<L: Ledger>(
         &self,
@@ -179,8 +180,8 @@ impl<M: Monitor> Store<M> {
         Ok(())
     }
 
-    /// Takes in what a plan makes of the monitors, before it is carried out. It takes memory for lists alone; where some
-    /// is wanting, lists are let go.
+    /// Takes in what a plan makes of the monitors, before it is carried out. It takes memory for lists alone; where it
+    /// is out of memory, lists are let go.
     pub fn follow(&self, awake: &mut Awake, plan: &Plan<M::State>)
         requires { IsPlanFor self.now plan.now }
         ensures { (rules : M) (dead : List Bool) → KeepListed (M.meaning (M.definition rules)) (M.StandsFor rules) dead
@@ -190,8 +191,8 @@ impl<M: Monitor> Store<M> {
         follow_all::<M>(awake, plan.moves.as_slice());
     }
 
-    /// Makes a list of the monitors above an event's binding, which the event reads from now on, if memory isn't wanting;
-    /// where some is, lists are let go.
+    /// Makes a list of the monitors above an event's binding, which the event reads from now on. Where it is out of
+    /// memory, it makes none, or lists are let go.
     #[inline(never)]
     pub fn list(
         &self,
@@ -244,8 +245,8 @@ impl<M: Monitor> Store<M> {
         Ok(())
     }
 
-    /// Takes in the death of an object, of which there is no event any more: its lists are let go, and its monitors come
-    /// into all others, since it may have cut them. It takes no memory; where there is no room, lists are let go.
+    /// Takes in the death of an object, of which there is no event any more: its lists are let go, and its monitors
+    /// come into all others, since it may have cut them. It takes no memory; where there is no room, lists are let go.
     #[inline(never)]
     pub fn mourn(&mut self, awake: &mut Awake, object: u32)
         requires { flag_of self.old.index.dropped object ≡ false }

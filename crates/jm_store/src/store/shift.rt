@@ -18,13 +18,10 @@ use jm_objects::Objects;
 use std::mem;
 use std::sync::ledger::Ledger;
 
-/// From so many entries on a list is read by numbers first.
-const MANY: usize = 8;
-
 impl<M: Monitor> Store<M> {
-    /// Does an event at once whose binding is a mark, and of which there is a list, if it gives the monitors of the list
-    /// other states or leaves them as they are, and does nothing else. Answers whether it did; if it didn't, all is as it
-    /// was. It takes no memory but for room; where that is wanting, it does nothing.
+    /// Does an event at once whose binding is a mark, and of which there is a list, if it gives the monitors of the
+    /// list other states or leaves them as they are, and does nothing else. Answers whether it did; if it didn't, all
+    /// is as it was. It takes no memory but for room; where it is out of memory, it does nothing.
     #[inline(never)]
     pub fn shift_listed<L: Ledger>(
         &mut self,
@@ -50,10 +47,15 @@ impl<M: Monitor> Store<M> {
         ensures steps { steps.new ≤ steps.old + count_by (λ s. is_compatible s.instance binding.now)
             (stored_of self.old) }
     {
-        if awake.entries(place).len() < MANY {
+        let met = awake.entries(place).len();
+        if met == 0 {
             return false;
         }
         let mut shifts = self.take_shifts();
+        if !has_room(&mut shifts, met) {
+            self.give_shifts(shifts);
+            return false;
+        }
         let walk = Walk {
             rules,
             objects,
@@ -63,26 +65,24 @@ impl<M: Monitor> Store<M> {
             binding,
             plain: rules.plain(letter),
             endings: rules.endings(),
+            ending: &self.ending,
             ends: self.ends_above(binding),
         };
-        if !walk.read_list(place, &mut shifts, steps) {
+        let Some(count) = walk.read_list(place, &mut shifts, steps) else {
             self.give_shifts(shifts);
             return false;
-        }
-        self.monitors.shift_all(rules, shifts.as_slice());
+        };
+        self.monitors.shift_all(rules, &shifts.as_slice()[..count]);
         self.give_shifts(shifts);
         true
     }
 
     /// Takes the room for shifts.
     fn take_shifts(&mut self) -> Vec<Shift>
-        ensures same { self.new ≡ self.old }
-        ensures none { result.items ≡ [] }
+        ensures { self.new ≡ self.old }
     {
         let alloc = *self.domains.allocator();
-        let mut shifts = mem::replace(&mut self.shifts, Vec::new(alloc));
-        shifts.clear();
-        shifts
+        mem::replace(&mut self.shifts, Vec::new(alloc))
     }
 
     /// Gives the room for shifts back.
@@ -108,4 +108,16 @@ impl<M: Monitor> Store<M> {
         }
         letters
     }
+}
+
+/// Makes a room as long as for so many shifts, and answers whether it could; out of memory, it can't.
+fn has_room(shifts: &mut Vec<Shift>, count: usize) -> bool
+    ensures { result ≡ true → count ≤ length shifts.new.items }
+{
+    while shifts.len() < count {
+        if shifts.push(Shift { slot: 0, number: 0 }).is_err() {
+            return false;
+        }
+    }
+    true
 }

@@ -1,7 +1,10 @@
 use Rattle.std.proofs.Common.{get_or}
+use Rattle.std.specs.Prelude.{Contains}
 use Rattle.std.proofs.lemmas.List.{take_all, get_or_default}
+use Rattle.std.proofs.lemmas.List.Elements.{Contains-get_or}
 use Rattle.jm_store.specs.declared.walk.Shift.{Shift}
 use Rattle.jm_store.specs.Slots.{monitors_of}
+use Rattle.jm_store.proofs.ShiftedLemmas.{has_still}
 use Rattle.jm_store.proofs.WalkLemmas.{alike_same, alike_next, alike_size, shifted_none, shifted_more}
 use Rattle.jm_store.proofs.walk.shift_all.Goals as goal
 
@@ -10,6 +13,13 @@ loop-shift-init g c = record {
   moved = shifted_none (g.M.Monitor.HasNumber c.args.rules.now) (monitors_of c.args.slots.now);
   alike = alike_same c.args.slots.now;
 }
+
+pub renumber-requires : goal.renumber-requires
+renumber-requires g c =
+    let none : Shift = record { slot = 0; number = 0 } in
+    let x = get_or c.args.shifts.now c.loop-shift.shift-index none in
+    let (s, at) = c.requires.there x (Contains-get_or c.args.shifts.now c.loop-shift.shift-index none c.loop-shift-test.true) in
+    has_still c.args.slots.now c.loop-shift.slots c.loop-shift.invariant.alike x.slot s at
 
 pub loop-shift-preserved : goal.loop-shift-preserved
 loop-shift-preserved g c =
@@ -20,7 +30,7 @@ loop-shift-preserved g c =
     let x = get_or c.args.shifts.now i none in
     record {
       moved = shifted_more (g.M.Monitor.HasNumber c.args.rules.now) c.args.shifts.now i x (monitors_of c.args.slots.now) (monitors_of c.loop-shift.slots) (monitors_of c.renumber.new.slots)
-          c.loop-shift-test.true (get_or_default c.args.shifts.now i none x c.loop-shift-test.true) c.requires inv.moved at.here at.others (alike_size c.loop-shift.slots c.renumber.new.slots at.alike);
+          c.loop-shift-test.true (get_or_default c.args.shifts.now i none x c.loop-shift-test.true) c.requires.apart inv.moved at.here at.others (alike_size c.loop-shift.slots c.renumber.new.slots at.alike);
       alike = alike_next c.args.slots.now c.loop-shift.slots c.renumber.new.slots inv.alike at.alike;
     }
 

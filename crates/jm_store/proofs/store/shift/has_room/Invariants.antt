@@ -1,0 +1,5 @@
+use Rattle.std.proofs.Common.{◌-◌, length}
+use Rattle.jm_store.proofs.store.shift.has_room.Given as goal
+
+abbrev pub decreases-loop-shifts : goal.decreases-loop-shifts
+decreases-loop-shifts l = l.count - length l.shifts.items
