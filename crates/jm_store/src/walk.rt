@@ -98,21 +98,27 @@ impl<M: Monitor> Walk<'_, M> {
         ensures steps { steps.new ≤ steps.old + length (slots_listed self.now.awake.now place) }
     {
         let entries = self.awake.entries(place);
-        self.read_entries(place, entries, shifts.as_mut_slice(), steps)
+        let free = self.free_params();
+        if free == 0 {
+            return self.read_entries(place, entries, 0, shifts.as_mut_slice(), steps);
+        }
+        self.read_entries(place, entries, free, shifts.as_mut_slice(), steps)
     }
 
-    /// The same of the entries of the list.
+    /// The same of the entries of the list. The parameters are those to which an instance above the event's binding may
+    /// give a dead object; where there are none, the code for it is made apart.
     #[inline(always)]
     fn read_entries<L: Ledger>(
         &self,
         place: usize,
         entries: &[Listed],
+        free: u8,
         shifts: &mut [Shift],
         steps: &mut Steps<L>,
     ) -> Option<usize>
         requires rows { AreRows (M.meaning (M.definition self.now.rules.now)) (M.StandsFor self.now.rules.now)
             (M.HasNumber self.now.rules.now) self.now.letter.0 self.now.plain.now self.now.endings.now }
-        requires live { AreLive self.now.objects.now self.now.binding.now }
+        requires free { AreAliveBut self.now.objects.now self.now.binding.now free }
         requires of { IsListOf (list_at self.now.awake.now place) self.now.letter.0 self.now.binding.now }
         requires listed { AreListed (M.meaning (M.definition self.now.rules.now)) (M.StandsFor self.now.rules.now)
             self.now.objects.now (monitors_of self.now.monitors.now.slots) self.now.awake.now }
@@ -133,7 +139,6 @@ impl<M: Monitor> Walk<'_, M> {
         let _place = place;
         let cards = self.awake.cards();
         let letters = self.awake.letters();
-        let free = self.free_params();
         let mut last = Turn {
             from: u32::MAX,
             to: NO_NUMBER,
