@@ -1,5 +1,5 @@
 -- What shifts make of the monitors: what the moves of an event make of them.
-use Rattle.std.proofs.Common.{◌≡◌, ◌≢◌, ℕ, zero, suc, ◌<◌, ◌⊎◌, inl, inr, Bool, true, cond, List, [], ◌∷◌, length, refl, sym, ap, ◌∙◌, subst, arith}
+use Rattle.std.proofs.Common.{◌≡◌, ◌≢◌, ℕ, ◌⊎◌, inl, inr, Bool, true, cond, List, [], ◌∷◌, length, refl, sym, ap, ◌∙◌, subst, arith}
 use Rattle.std.specs.Prelude.{Option, Some, None, Contains, AllPairs, slice_set}
 use Rattle.std.specs.List.{cons_option}
 use Rattle.std.proofs.lemmas.Bool.{cases_eq}
@@ -11,7 +11,7 @@ use Rattle.jm_model.specs.Numbers.{IsPlainMove}
 use Rattle.jm_model.specs.declared.binding.Binding.{Binding}
 use Rattle.jm_semantics.proofs.ListLemmas.{Contains-cons_cases, Contains-head}
 use Rattle.jm_index.proofs.ReadLemmas.{Contains-none, Contains-cons}
-use Rattle.jm_awake.specs.Awake.{Lists, list_at, card_at, IsOn}
+use Rattle.jm_awake.specs.Awake.{Lists, list_at, card_at}
 use Rattle.jm_awake.proofs.RestLemmas.{sound_along}
 use Rattle.jm_marks.specs.Marks.{dead_mask_of}
 use Rattle.jm_monitors.specs.declared.stored.Stored.{Stored}

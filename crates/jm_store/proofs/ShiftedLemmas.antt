@@ -8,11 +8,10 @@ use Rattle.std.proofs.lemmas.List.Elements.{Contains-append_cases}
 use Rattle.std.proofs.lemmas.Nat.Bits.{bit_at-lt, bit_at_or}
 use Rattle.std.proofs.lemmas.Option.{none-some, same_Some}
 use Rattle.std.proofs.Math.Nat.{max_comm}
-use Rattle.jm_model.specs.Bindings.{is_below, mask_of}
-use Rattle.jm_model.specs.Meanings.{Meaning, IsHit}
+use Rattle.jm_model.specs.Bindings.{mask_of}
+use Rattle.jm_model.specs.Meanings.{Meaning}
 use Rattle.jm_model.specs.declared.binding.Binding.{Binding}
 use Rattle.jm_semantics.specs.Traces.{ParametricEvent}
-use Rattle.jm_semantics.proofs.ListLemmas.{Contains-map}
 use Rattle.jm_awake.specs.Awake.{Lists, list_at, IsListOf}
 use Rattle.jm_index.specs.Index.{Pair}
 use Rattle.jm_index.proofs.ReadLemmas.{Contains-none}
@@ -22,10 +21,10 @@ use Rattle.jm_store.specs.declared.monitors.Slot.{Slot}
 use Rattle.jm_store.specs.declared.monitors.Slot.TheVariants.{Free, Planned, Taken}
 use Rattle.jm_store.specs.declared.moves.Move.{Move}
 use Rattle.jm_store.specs.declared.walk.Shift.{Shift}
-use Rattle.jm_store.specs.Slots.{IsUsed, monitor_in, monitors_of, monitor_at, slot_at, stored_in}
+use Rattle.jm_store.specs.Slots.{IsUsed, monitor_in, monitors_of, monitor_at, slot_at}
 use Rattle.jm_store.specs.Moves.{AreGiven, AreMovesRead, AreEnding, AreApart, after_moves, asks_by, ends_all, has_all, reached_by}
-use Rattle.jm_store.specs.Contents.{Contents, stored_of, ArePlaced, ArePlacedOf, ArePaired, IsFilled, IsStoreAfter, IsEventDone}
-use Rattle.jm_store.specs.Housing.{IsHoused, IsSettled, IsKept}
+use Rattle.jm_store.specs.Contents.{Contents, ArePlaced, ArePlacedOf, ArePaired, IsFilled, IsStoreAfter, IsEventDone}
+use Rattle.jm_store.specs.Housing.{IsKept}
 use Rattle.jm_store.specs.Listed.{AreListed, slots_listed}
 use Rattle.jm_store.specs.Plans.{CanPlan}
 use Rattle.jm_store.specs.Walks.{IsShiftAt, AreShifted, IsAlike, AreAlike}

@@ -1,12 +1,12 @@
 -- Monitors of a list that are read by their numbers, and get other numbers.
-use Rattle.std.proofs.Common.{◌≡◌, ◌≢◌, ℕ, zero, suc, ◌+◌, ◌-◌, ◌*◌, ◌/◌, ◌%◌, ◌^◌, ◌<◌, ◌≤◌, ◌⊎◌, inl, inr, Bool, true, false, cond, List, [], ◌∷◌, ◌++◌, length, take, drop, map, get_or, refl, sym, ap, ◌∙◌, subst, append-nil, arith}
+use Rattle.std.proofs.Common.{◌≡◌, ◌≢◌, ℕ, zero, suc, ◌+◌, ◌-◌, ◌/◌, ◌%◌, ◌^◌, ◌<◌, inl, inr, Bool, true, false, List, [], ◌∷◌, ◌++◌, length, take, drop, get_or, refl, sym, ap, ◌∙◌, subst, append-nil, arith}
 use Rattle.std.specs.Prelude.{Option, Some, None, Contains, AllPairs, slice_get, slice_index, slice_index_or, slice_set, bit_and, ◌==◌, ◌&&◌}
 use Rattle.std.specs.Int.{w8, w32, bit_at, trailing_zeros}
-use Rattle.std.proofs.lemmas.Bool.{cases_eq, cases_lt, false≢true, eqb-true, lt-ltb}
+use Rattle.std.proofs.lemmas.Bool.{cases_eq, cases_lt, lt-ltb}
 use Rattle.std.proofs.lemmas.List.{get_or_default, get_or-take, get_or_past, drop_all, length-map, length-take-le, set-get_or, take_all, take_more}
 use Rattle.std.proofs.lemmas.List.Elements.{Contains-push_cases, Contains-append_left, Contains-push}
-use Rattle.std.proofs.lemmas.Option.{same_Some, none-some, get_or_from_slice_get}
-use Rattle.std.proofs.lemmas.Nat.Bits.{bit_at_above, bit_at_and, bit_at_not, bit_at-lt, bit_at-zero}
+use Rattle.std.proofs.lemmas.Option.{same_Some, get_or_from_slice_get}
+use Rattle.std.proofs.lemmas.Nat.Bits.{bit_at_above, bit_at_and, bit_at_not, bit_at-lt}
 use Rattle.jm_model.specs.Bindings.{is_below, object_at, mask_of, mask_where}
 use Rattle.jm_model.specs.Meanings.{Meaning, IsCutWord}
 use Rattle.jm_model.specs.Numbers.{at_rest, IsAtRest as RestsBy, AreEnds}
@@ -25,7 +25,7 @@ use Rattle.jm_monitors.specs.Steps.{IsOverAfter}
 use Rattle.jm_store.specs.declared.walk.Shift.{Shift}
 use Rattle.jm_store.specs.declared.monitors.Slot.{Slot}
 use Rattle.jm_store.specs.declared.monitors.Slot.TheVariants.{Free, Planned, Taken}
-use Rattle.jm_store.specs.Slots.{count_in, monitor_in, monitor_at, monitors_of, slot_at, stored_in}
+use Rattle.jm_store.specs.Slots.{monitor_in, monitor_at, monitors_of, slot_at, stored_in}
 use Rattle.jm_store.specs.Moves.{IsPushed, IsAtRest}
 use Rattle.jm_store.specs.Walks.{AreAliveBut, AreAmong, AreRows, EndsAll, EndsLike, IsShifting, IsShiftAt, IsShifted, AreShifted, IsAlike, AreAlike}
 use Rattle.jm_store.proofs.ReportLemmas.{set_from_bit}

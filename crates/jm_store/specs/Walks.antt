@@ -39,8 +39,8 @@ abbrev pub EndsLike : List Mask → Mask → List Mask → ℕ → Type 0
 EndsLike ending domain row number =
     (e : ℕ) → ends_all ending e domain ≡ true → (mask : Mask) × (slice_get row number ≡ Some mask) × (bit_at mask e ≡ 1)
 
--- The letter leads from the one number to the other by a row, and each of the letters that end others ends the states with
--- that one, unless no number was noted.
+-- The letter leads from the one number to the other by a row, and each of the letters that end others ends the states
+-- with that one, unless no number was noted.
 abbrev pub IsTurn : List ℕ → Mask → List Mask → Turn → Type 0
 IsTurn plain ends endings turn =
     turn.from < 65536 → (slice_get plain turn.from ≡ Some turn.to) × (turn.to < at_rest) × EndsAll ends endings turn.to

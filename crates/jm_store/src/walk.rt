@@ -106,7 +106,7 @@ impl<M: Monitor> Walk<'_, M> {
     }
 
     /// The same of the entries of the list. The parameters are those to which an instance above the event's binding may
-    /// give a dead object; where there are none, the code for it is made apart.
+    /// give a dead object. It is inlined, so that a 0 which stands at the call makes a loop that asks nothing of objects.
     #[inline(always)]
     fn read_entries<L: Ledger>(
         &self,

@@ -1,12 +1,10 @@
-use Rattle.std.proofs.Common.{◌≡◌, ℕ, ◌<◌, Option, refl, sym, ap, ◌∙◌, subst, arith, length}
-use Rattle.std.specs.Prelude.{None, Some, slice_set}
-use Rattle.std.proofs.lemmas.Option.{none-some}
+use Rattle.std.proofs.Common.{◌≡◌, ◌<◌, refl, sym, ap, ◌∙◌, subst, length}
 use Rattle.std.proofs.Math.ListN.{length-set}
 use Rattle.jm_monitors.specs.declared.stored.Stored.{Stored}
 use Rattle.jm_store.specs.declared.monitors.Slot.TheVariants.{Taken}
-use Rattle.jm_store.specs.Slots.{monitor_at, monitors_of, slot_at}
+use Rattle.jm_store.specs.Slots.{slot_at}
 use Rattle.jm_store.proofs.SlotLemmas.{used_within, monitor_used}
-use Rattle.jm_store.proofs.WalkLemmas.{alike_set, renumbered, renumbered_others, slot_read, read_none}
+use Rattle.jm_store.proofs.WalkLemmas.{alike_set, renumbered, renumbered_others, slot_read}
 use Rattle.jm_store.proofs.walk.renumber.Goals as goal
 
 pub returns-clause-here : goal.returns-clause-here

@@ -1,7 +1,6 @@
-use Rattle.std.proofs.Common.{◌≡◌, ◌≤◌, ℕ, List, Bool, true, None, Option, length, take, refl, sym, ap, ◌∙◌, subst, arith}
-use Rattle.std.specs.Prelude.{Contains, Some, AllPairs, ◌≢◌}
+use Rattle.std.proofs.Common.{◌≡◌, ℕ, List, true, None, Option, length, take, sym, ap, ◌∙◌, subst, arith}
+use Rattle.std.specs.Prelude.{Contains, Some}
 use Rattle.jm_model.specs.Bindings.{is_below, mask_of}
-use Rattle.jm_model.specs.declared.binding.Binding.{Binding}
 use Rattle.jm_index.specs.Index.{Pair}
 use Rattle.jm_monitors.proofs.BaseLemmas.{object-among}
 use Rattle.jm_monitors.specs.declared.stored.Stored.{Stored}
@@ -10,7 +9,7 @@ use Rattle.jm_store.specs.Slots.{monitors_of, monitor_at}
 use Rattle.jm_store.specs.Moves.{AreGiven}
 use Rattle.jm_store.specs.Contents.{Contents, ArePaired, IsFilled}
 use Rattle.jm_store.specs.Listed.{AreListed, slots_listed}
-use Rattle.jm_store.specs.Walks.{AreAmong, HaveMonitors, IsShiftAt, AreShifted}
+use Rattle.jm_store.specs.Walks.{AreAmong, IsShiftAt, AreShifted}
 use Rattle.jm_store.proofs.FitLemmas.{are_paired, housed_fits}
 use Rattle.jm_store.proofs.ListedLemmas.{listed_above, listed_apart, above_counted}
 use Rattle.jm_store.proofs.ShiftLemmas.{shifts_apart, shifts_there, shifts_listed}
