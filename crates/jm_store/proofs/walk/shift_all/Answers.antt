@@ -1,5 +1,4 @@
 use Rattle.std.proofs.Common.{get_or}
-use Rattle.std.specs.Prelude.{Contains}
 use Rattle.std.proofs.lemmas.List.{take_all, get_or_default}
 use Rattle.std.proofs.lemmas.List.Elements.{Contains-get_or}
 use Rattle.jm_store.specs.declared.walk.Shift.{Shift}
