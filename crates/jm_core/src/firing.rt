@@ -247,8 +247,8 @@ fn counted_advance<M: Monitor, L: Ledger>(
     requires one { blank.parts ≡ 1 }
     requires can { CanPlan (M.meaning (M.definition rules.now)) objects.now letter.0 binding.now store.old }
     requires known { IsTrue known ↔ Contains store.old.marks binding.now }
-    ensures advances { Advances (M.meaning (M.definition rules.now)) (M.StandsFor rules.now) objects.now letter.0 binding.now
-        store.old store.new result }
+    ensures advances { Advances (M.meaning (M.definition rules.now)) (M.StandsFor rules.now) objects.now letter.0
+        binding.now store.old store.new result }
     ensures listed { KeepListed (M.meaning (M.definition rules.now)) (M.StandsFor rules.now) objects.now
         store.old.monitors store.new.monitors awake.old awake.new }
 {
@@ -272,7 +272,7 @@ fn first_dead(objects: &Objects, binding: &Binding) -> Option<u32>
     None
 }
 
-/// What the event comes to, worked out.
+/// What an event comes to of which there is no list, by a plan.
 fn fire<M: Monitor>(
     rules: &M,
     objects: &Objects,

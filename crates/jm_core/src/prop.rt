@@ -84,8 +84,8 @@ impl<M: Monitor> Prop<M> {
     }
 
     /// Does an event, and records it with the outcome that it answers: it is refused exactly where it binds a dead
-    /// object, with the first one. Out of memory, the entry stands with NoMemory. Monitors and marks stay as
-    /// they are unless the event is answered.
+    /// object, with the first one. Out of memory, the entry stands with NoMemory. Monitors and marks stay as they are
+    /// unless the event is answered.
     pub fn event(&mut self, node: Node) -> Outcome
         requires { IsEventOf (M.meaning self.old.definition) self.old.objects node.step }
         ensures added { IsExtended self.old self.new (answered node result ∷ []) }

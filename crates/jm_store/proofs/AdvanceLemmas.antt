@@ -19,16 +19,15 @@ use Rattle.jm_monitors.specs.Steps.{IsBase, IsOverAfter, IsLiveEvent, AreMarksAf
 use Rattle.jm_store.specs.declared.moves.Move.{Move}
 use Rattle.jm_store.specs.Slots.{monitor_at}
 use Rattle.jm_store.specs.Moves.{AreMovesOf, IsOutcomeAt, AreEnding, reached_by, after_moves, has_all, ends_all}
-use Rattle.jm_store.specs.Contents.{Contents, stored_of, IsStoreAfter, ArePlacedOf, IsEventDone, IsSlotAdvanced, IsOnlyAbove, IsNoneAbove}
+use Rattle.jm_store.specs.Contents.{Contents, stored_of, IsSpared, IsStoreAfter, ArePlacedOf, IsEventDone, IsSlotAdvanced, IsOnlyAbove, IsNoneAbove}
 use Rattle.jm_store.proofs.SlotLemmas.{stored_at, place_of}
 use Rattle.jm_store.proofs.EventLemmas.{advanced_next, moved_above}
 use Rattle.jm_store.proofs.MoveLemmas.{join_above, compatible_above}
 use Rattle.jm_store.proofs.AfterLemmas.{moved_other, moved_here}
 use Rattle.jm_store.proofs.VisitLemmas.{mask_within, slots_counted}
-use Rattle.jm_store.proofs.SparedLemmas.{spared_after}
 use Rattle.jm_store.proofs.PlacingLemmas.{placed_already}
 use Rattle.jm_store.proofs.ReportLemmas.{report_none}
-use Rattle.jm_store.proofs.PlanningLemmas.{apart_moves, leads_moves, carried_out, ended_after, answer_sorted, stay_alive}
+use Rattle.jm_store.proofs.PlanningLemmas.{apart_moves, leads_moves, carried_out, ended_after, answer_sorted, spared_placed}
 
 pub option_map : {X : Type 0} (o : Option X) (U : Type 0) (P Q : X → Type 0) → ((x : X) → P x → Q x) → MatchOption o U P → MatchOption o U Q
 option_map None U P Q f h = h
@@ -86,6 +85,10 @@ module _ (m : Meaning) {S : Type 0} (Stands : S → List ℕ → Type 0) (letter
       ends_at : Stored S → ℕ → Type 0
       ends_at x e = ends_all new.ending e (mask_of x.instance) ≡ true
 
+  pub one_spared : ((o : ℕ) → flag_of old.index.dropped o ≡ true → flag_of dead o ≡ true) → IsSpared m Stands old → IsSpared m Stands new
+  one_spared within spared =
+      rw (done.monitors, done.dropped) (spared_placed m Stands letter b dead (has_all b) old old (move ∷ []) (move ∷ []) (move ∷ []) all (IsPermutation-refl (move ∷ [])) placed spared within)
+
   -- what the event comes to
   pub one_done : (trace : List ParametricEvent) → IsLiveEvent m dead letter b → ((o : ℕ) → flag_of old.index.dropped o ≡ true → flag_of dead o ≡ true) → IsStoreAfter m Stands trace dead old
       → IsEventDone m Stands trace dead letter b new firings
@@ -93,13 +96,12 @@ module _ (m : Meaning) {S : Type 0} (Stands : S → List ℕ → Type 0) (letter
       let order : IsPermutation (move ∷ []) (move ∷ []) = IsPermutation-refl (move ∷ []) in
       let after = carried_out m Stands letter b dead (has_all b) old old (move ∷ []) (move ∷ []) (move ∷ []) all may order placed only.paired (λ j. refl) refl refl trace holds.monitors live old.marks (still_known b old.marks known) in
       let end = ended_after m Stands letter b dead (has_all b) old old (move ∷ []) (move ∷ []) (move ∷ []) all may order placed only.paired (λ j. refl) refl refl trace holds.monitors live new.ending done.fewer holds.ended ended in
-      let spared = spared_after m Stands old.index.dropped dead (move ∷ []) old.monitors within holds.spared (stay_alive m Stands letter b dead old.marks (has_all b) old.monitors old old (move ∷ []) (move ∷ []) (move ∷ []) all order placed) in
       record {
         answer = answer_sorted m Stands letter b dead (has_all b) old old (move ∷ []) (move ∷ []) (move ∷ []) all may order placed only.paired (λ j. refl) refl refl trace holds.monitors live firings done.report;
         store = record {
           monitors = rw (done.monitors, done.marks) after.0;
           ended = rw done.monitors end;
-          spared = rw (done.monitors, done.dropped) spared;
+          spared = one_spared within holds.spared;
         };
         none_cut = rw done.monitors after.1;
       }
@@ -141,9 +143,8 @@ module _ (m : Meaning) {S : Type 0} (Stands : S → List ℕ → Type 0) (letter
       let order : IsPermutation {X = Move S} [] [] = IsPermutation-refl [] in
       let after = carried_out m Stands letter b dead (has_all b) store store [] [] [] no_moves may_none order none_placed none.paired (λ j. refl) refl refl trace holds.monitors live store.marks (still_known b store.marks known) in
       let end = ended_after m Stands letter b dead (has_all b) store store [] [] [] no_moves may_none order none_placed none.paired (λ j. refl) refl refl trace holds.monitors live store.ending (λ e d ends. ends) holds.ended none_ended in
-      let spared = spared_after m Stands store.index.dropped dead [] store.monitors within holds.spared (stay_alive m Stands letter b dead store.marks (has_all b) store.monitors store store [] [] [] no_moves order none_placed) in
       record {
         answer = answer_sorted m Stands letter b dead (has_all b) store store [] [] [] no_moves may_none order none_placed none.paired (λ j. refl) refl refl trace holds.monitors live [] (report_none m Stands []);
-        store = record { monitors = after.0; ended = end; spared = spared };
+        store = record { monitors = after.0; ended = end; spared = holds.spared };
         none_cut = after.1;
       }

@@ -16,21 +16,21 @@ use Rattle.jm_semantics.proofs.ListLemmas.{Contains-cons_cases, Contains-head}
 use Rattle.jm_index.specs.Index.{Pair, AreBelow, IsFitting, flag_of}
 use Rattle.jm_index.proofs.ReadLemmas.{Contains-none}
 use Rattle.jm_monitors.specs.declared.stored.Stored.{Stored}
-use Rattle.jm_monitors.specs.Steps.{IsOverAfter, IsLiveEvent, AreMarksAfter, IsReport, AreSpared}
+use Rattle.jm_monitors.specs.Steps.{IsOverAfter, IsLiveEvent, AreMarksAfter, IsReport}
 use Rattle.jm_store.specs.declared.moves.Move.{Move}
 use Rattle.jm_store.specs.Slots.{monitor_at}
 use Rattle.jm_store.specs.Moves.{AreMovesRead, AreEnding, EndsFewer, LieWithin, reached_by, after_moves, asks_by, ends_all, moved_at}
-use Rattle.jm_store.specs.Contents.{Contents, stored_of, IsFit, IsStoreAfter, ArePlaced, ArePlacedOf, ArePaired, IsFilled, IsEventDone, IsStepTaken}
+use Rattle.jm_store.specs.Contents.{Contents, stored_of, IsFit, IsSpared, IsStoreAfter, ArePlaced, ArePlacedOf, ArePaired, IsFilled, IsEventDone, IsStepTaken}
 use Rattle.jm_store.proofs.SlotLemmas.{stored_at, place_of}
 use Rattle.jm_store.proofs.AfterLemmas.{slot_is, moved_other, moved_here}
 use Rattle.jm_store.proofs.EndingLemmas.{fewer-refl}
-use Rattle.jm_store.proofs.StoreLemmas.{store_same}
+use Rattle.jm_store.proofs.StoreLemmas.{store_same, spared_same}
 use Rattle.jm_store.proofs.MoveLemmas.{move_base}
-use Rattle.jm_store.proofs.SparedLemmas.{spared_after, spared_fewer, opened_fewer}
+use Rattle.jm_store.proofs.SparedLemmas.{opened_fewer}
 use Rattle.jm_store.proofs.PlacingLemmas.{placed_already}
 use Rattle.jm_store.proofs.ReportLemmas.{report_none}
 use Rattle.jm_store.proofs.RestingLemmas.{completed, report_still, ending_still, after_resting, placed_resting}
-use Rattle.jm_store.proofs.PlanningLemmas.{apart_moves, leads_moves, moves_within, carried_out, ended_after, answer_sorted, stay_alive, may_reach}
+use Rattle.jm_store.proofs.PlanningLemmas.{apart_moves, leads_moves, moves_within, carried_out, ended_after, answer_sorted, spared_placed, may_reach}
 
 -- the moves were placed and carried out: what the event comes to
 module _ (m : Meaning) {S : Type 0} (Stands : S → List ℕ → Type 0) (letter : ℕ) (b : Binding) (dead : List Bool) (known : Bool) (old mid new : Contents S) (moves placed : List (Move S)) (firings : List Firing)
@@ -41,6 +41,20 @@ module _ (m : Meaning) {S : Type 0} (Stands : S → List ℕ → Type 0) (letter
 
   resting : List (Move S)
   resting = (completed m Stands letter b dead old.monitors old.marks asks moves read).resting
+
+  -- none that is left is cut by what the index dropped
+  pub spared_at_once : ((o : ℕ) → flag_of mid.index.dropped o ≡ true → flag_of old.index.dropped o ≡ true) → ((o : ℕ) → flag_of old.index.dropped o ≡ true → flag_of dead o ≡ true)
+      → new.monitors ≡ after_moves placed mid.monitors → new.index.dropped ≡ mid.index.dropped → IsSpared m Stands old → IsSpared m Stands new
+  spared_at_once kept within monitors dropped spared =
+      let full = completed m Stands letter b dead old.monitors old.marks asks moves read in
+      let more = moves ++ full.resting in
+      let all = placed ++ full.resting in
+      let order : IsPermutation more more = IsPermutation-refl more in
+      let apart = apart_moves m Stands letter b dead old.marks asks old.monitors more full.all in
+      let q = placed_resting m Stands letter b dead old mid moves placed full.resting full.each same p apart paired in
+      let at : new.monitors ≡ after_moves all mid.monitors = monitors ∙ after_resting m Stands letter b dead old mid moves placed full.resting full.each same in
+      let left = spared_placed m Stands letter b dead asks old mid more more all full.all order q (spared_same m Stands old mid stored kept spared) (λ o is. within o (kept o is)) in
+      rw (at, dropped) left
 
   pub done_at_once : (kept : (o : ℕ) → flag_of mid.index.dropped o ≡ true → flag_of old.index.dropped o ≡ true) → (within : (o : ℕ) → flag_of old.index.dropped o ≡ true → flag_of dead o ≡ true)
       → new.monitors ≡ after_moves placed mid.monitors → new.index.dropped ≡ mid.index.dropped → AreMarksAfter b old.marks new.marks → EndsFewer old.ending new.ending
@@ -58,12 +72,10 @@ module _ (m : Meaning) {S : Type 0} (Stands : S → List ℕ → Type 0) (letter
       let after = carried_out m Stands letter b dead asks old mid more more all full.all may order q paired same stored marks trace holds.monitors live new.marks added in
       let end = ended_after m Stands letter b dead asks old mid more more all full.all may order q paired same stored marks trace holds.monitors live new.ending fewer holds.ended
       (ending_still m Stands letter b dead old.monitors placed full.resting old.ending new.ending full.each fewer holds.ended ended) in
-      let still : AreSpared m Stands mid.index.dropped (stored_of mid) = rw stored (spared_fewer m Stands old.index.dropped mid.index.dropped (stored_of old) kept holds.spared) in
-      let spared = spared_after m Stands mid.index.dropped dead all mid.monitors (λ o is. within o (kept o is)) still (stay_alive m Stands letter b dead old.marks asks old.monitors old mid more more all full.all order q) in
       record {
         answer = answer_sorted m Stands letter b dead asks old mid more more all full.all may order q paired same stored marks trace holds.monitors live firings
             (report_still m Stands letter b dead old.monitors moves full.resting firings full.each report);
-        store = record { monitors = rw at after.0; ended = rw at end; spared = rw (at, dropped) spared };
+        store = record { monitors = rw at after.0; ended = rw at end; spared = spared_at_once kept within monitors dropped holds.spared };
         none_cut = rw at after.1;
       }
 
@@ -82,6 +94,10 @@ if_some (Some x) P Q R f p q = f x p q
 pub in_some : {X : Type 0} (o : Option X) (P : X → Type 0) → ((x : X) → P x) → IfSome o P
 in_some None P f = tt
 in_some (Some x) P f = f x
+
+pub either_way : {X : Type 0} (o : Option X) (A : Type 0) → IfNone o A → IfSome o (λ x. A) → A
+either_way None A none some = none
+either_way (Some x) A none some = some
 
 -- ---- one move
 module _ (m : Meaning) {S : Type 0} (Stands : S → List ℕ → Type 0) (letter : ℕ) (b : Binding) (dead : List Bool) (known : Bool) (old new : Contents S) (step : Move S) (firings : List Firing)
@@ -114,13 +130,24 @@ module _ (m : Meaning) {S : Type 0} (Stands : S → List ℕ → Type 0) (letter
   within_one : LieWithin (length dead) (step ∷ [])
   within_one move among = subst (λ (x : Move S). AreBelow (length dead) x.monitor.instance) (one_of step move among) step_within
 
-  -- where memory was wanting the store is still one of the trace
+  -- out of memory the store is still one of the trace
   pub step_kept : stored_of new ≡ stored_of old → new.marks ≡ old.marks → new.ending ≡ old.ending
       → ((flags : List Bool) → IsFitting old.index flags → AreBelow (length flags) step.monitor.instance → IsFitting new.index flags)
       → (trace : List ParametricEvent) → IsStoreAfter m Stands trace dead old → IsStoreAfter m Stands trace dead new
   step_kept stored marks ending index trace =
       store_same m Stands trace dead old new stored marks (rw ending (fewer-refl old.ending))
       (opened_fewer old.index new.index dead (step ∷ []) fits.index within_one (λ flags fit lie. index flags fit (lie step (Contains-head step []))))
+
+  pub step_still : stored_of new ≡ stored_of old → ((flags : List Bool) → IsFitting old.index flags → AreBelow (length flags) step.monitor.instance → IsFitting new.index flags)
+      → IsSpared m Stands old → IsSpared m Stands new
+  step_still stored index =
+      spared_same m Stands old new stored (opened_fewer old.index new.index dead (step ∷ []) fits.index within_one (λ flags fit lie. index flags fit (lie step (Contains-head step []))))
+
+  pub step_spared : IsStepTaken m Stands step old new firings → IsSpared m Stands old → IsSpared m Stands new
+  step_spared t =
+      spared_at_once m Stands letter b dead known old t.between new (step ∷ []) (t.slotted ∷ []) firings marked read t.placed t.paired t.same t.stored t.marks
+      (opened_fewer old.index t.between.index dead (step ∷ []) fits.index within_one (λ flags fit lie. t.fits flags fit (lie step (Contains-head step []))))
+      fits.index.reached t.monitors t.dropped
 
   pub step_done : IsStepTaken m Stands step old new firings → AreMarksAfter b old.marks new.marks → (trace : List ParametricEvent) → IsLiveEvent m dead letter b → IsStoreAfter m Stands trace dead old
       → IsEventDone m Stands trace dead letter b new firings

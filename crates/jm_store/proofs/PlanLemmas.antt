@@ -37,7 +37,7 @@ module _ {S : Type 0} where
   pub filled_same : (old new : Contents S) (pair : Pair) → ((k : ℕ) → monitor_at old.monitors k ≡ monitor_at new.monitors k) → IsFilled old pair → IsFilled new pair
   filled_same old new pair same (s, at, is) = (s, sym (same pair.slot) ∙ at, is)
 
--- memory was wanting before anything of the store changed
+-- out of memory before anything of the store changed
 pub plans_untouched : (m : Meaning) {S : Type 0} (Stands : S → Word → Type 0) (dead : List Bool) (letter : ℕ) (b : Binding) (store : Contents S) (e : NoMemory) → CanPlan m dead letter b store
     → Plans m Stands dead letter b store store (Err e)
 plans_untouched m Stands dead letter b store e can = record {
@@ -51,5 +51,7 @@ plans_untouched m Stands dead letter b store e can = record {
   binding = tt;
   plan = tt;
   keeps = λ trace holds. holds;
+  spares = λ spared. spared;
+  leaves = tt;
   works = tt;
 }

@@ -26,7 +26,7 @@ use Rattle.jm_store.specs.declared.moves.Move.{Move}
 use Rattle.jm_store.specs.declared.moves.Plan.{Plan}
 use Rattle.jm_store.specs.Slots.{monitor_at, stored_in}
 use Rattle.jm_store.specs.Moves.{IsOutcomeAt, IsAtRest, AreMovesOf, AreApart, reached_by, after_moves, AreEnding, EndsFewer, asks_by}
-use Rattle.jm_store.specs.Contents.{Contents, stored_of, IsFit, IsStoreAfter, IsPlacedFrom, AreDistinct, ArePlacedOf, ArePaired, IsPlanFor, IsPlanOf, with_ending}
+use Rattle.jm_store.specs.Contents.{Contents, stored_of, IsFit, IsSpared, IsStoreAfter, IsPlacedFrom, AreDistinct, ArePlacedOf, ArePaired, IsPlanFor, IsPlanOf, IsCarriedOut, with_ending}
 use Rattle.jm_store.proofs.SlotLemmas.{stored_at, place_of}
 use Rattle.jm_store.proofs.GivenLemmas.{given_pairs, pairs_map, pairs_weaker, Contains-from_map}
 use Rattle.jm_store.proofs.HousingLemmas.{same_one}
@@ -108,6 +108,20 @@ stay_alive m {S} Stands letter b dead marks asks monitors old new moves sorted p
     let (k, visited, base) = move_base m Stands letter b dead marks monitors asks moves all first (Contains-permutation sorted moves first (IsPermutation-sym moves sorted order) within) in
     subst (λ (x : Stored S). IsAliveState m Stands x.state (dead_mask_of dead x.instance)) (sym from.monitor)
     (subst (λ (t : Binding). IsAliveState m Stands first.monitor.state (dead_mask_of dead t)) (sym base.moved.advanced.instance) (base.moved.advanced.alive (sym from.stays ∙ stays)))
+
+-- so what is left once they were carried out isn't cut by what the index dropped
+pub spared_placed : (m : Meaning) {S : Type 0} (Stands : S → List ℕ → Type 0) (letter : ℕ) (b : Binding) (dead : List Bool) (asks : ℕ → Bool) (old new : Contents S) (moves sorted placed : List (Move S))
+    → AreMovesOf m Stands letter b dead old.marks asks old.monitors moves → IsPermutation moves sorted → ArePlacedOf old new sorted sorted placed → IsSpared m Stands new
+    → ((o : ℕ) → flag_of new.index.dropped o ≡ true → flag_of dead o ≡ true) → AreSpared m Stands new.index.dropped (stored_in (after_moves placed new.monitors))
+spared_placed m Stands letter b dead asks old new moves sorted placed all order p spared dropped =
+    spared_after m Stands new.index.dropped dead placed new.monitors dropped spared (stay_alive m Stands letter b dead old.marks asks old.monitors old new moves sorted placed all order p)
+
+pub plan_leaves : (m : Meaning) {S : Type 0} (Stands : S → List ℕ → Type 0) (new after : Contents S) (ending : List ℕ) (placed : List (Move S)) (plan : Plan S)
+    → AreSpared m Stands new.index.dropped (stored_in (after_moves placed new.monitors)) → after_moves plan.moves.items new.monitors ≡ after_moves placed new.monitors
+    → IsCarriedOut (with_ending new ending) after plan → IsSpared m Stands after
+plan_leaves m {S} Stands new after ending placed plan spared moves done =
+    subst (λ (l : List (Option (Stored S))). AreSpared m Stands after.index.dropped (stored_in l)) (sym (done.monitors ∙ moves))
+    (subst (λ (d : List Bool). AreSpared m Stands d (stored_in (after_moves placed new.monitors))) (sym done.dropped) spared)
 
 -- in another order
 pub apart_permuted : {S : Type 0} (xs ys : List (Move S)) → IsPermutation xs ys → AreApart xs → AreApart ys
@@ -346,7 +360,7 @@ module _ (m : Meaning) {S : Type 0} (Stands : S → List ℕ → Type 0) (letter
               (subst (λ (e : List ℕ). AreEnding m Stands e (stored_in (after_moves placed new.monitors))) (sym done.ending) (ended_after ending fewer before moved));
           spared = subst (λ (l : List (Option (Stored S))). AreSpared m Stands after.index.dropped (stored_in l)) (sym monitors)
               (subst (λ (d : List Bool). AreSpared m Stands d (stored_in (after_moves placed new.monitors))) (sym done.dropped)
-              (spared_after m Stands new.index.dropped dead placed new.monitors dropped spared (stay_alive m Stands letter b dead old.marks asks old.monitors old new moves sorted placed all order p)));
+              (spared_placed m Stands letter b dead asks old new moves sorted placed all order p spared dropped));
         });
     none_cut = rw (is, moves') (carried_out (old.marks ++ b ∷ []) (marks_push old.marks b)).1;
     each = rw (is, moves') (λ s there. elim (each_after s there) [

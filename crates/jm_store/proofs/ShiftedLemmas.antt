@@ -23,13 +23,13 @@ use Rattle.jm_store.specs.declared.moves.Move.{Move}
 use Rattle.jm_store.specs.declared.walk.Shift.{Shift}
 use Rattle.jm_store.specs.Slots.{IsUsed, monitor_in, monitors_of, monitor_at, slot_at}
 use Rattle.jm_store.specs.Moves.{AreGiven, AreMovesRead, AreEnding, AreApart, after_moves, asks_by, ends_all, has_all, reached_by}
-use Rattle.jm_store.specs.Contents.{Contents, ArePlaced, ArePlacedOf, ArePaired, IsFilled, IsStoreAfter, IsEventDone}
+use Rattle.jm_store.specs.Contents.{Contents, stored_of, IsSpared, ArePlaced, ArePlacedOf, ArePaired, IsFilled, IsStoreAfter, IsEventDone}
 use Rattle.jm_store.specs.Housing.{IsKept}
 use Rattle.jm_store.specs.Listed.{AreListed, slots_listed}
 use Rattle.jm_store.specs.Plans.{CanPlan}
 use Rattle.jm_store.specs.Walks.{IsShiftAt, AreShifted, IsAlike, AreAlike}
 use Rattle.jm_store.proofs.AfterLemmas.{length-after}
-use Rattle.jm_store.proofs.DirectLemmas.{done_at_once, one_of}
+use Rattle.jm_store.proofs.DirectLemmas.{spared_at_once, done_at_once, one_of}
 use Rattle.jm_store.proofs.EndingLemmas.{fewer-refl}
 use Rattle.jm_store.proofs.GivenLemmas.{Contains-from_map}
 use Rattle.jm_store.proofs.ListedLemmas.{listed_above, listed_apart, listed_rest, listed_all}
@@ -173,6 +173,11 @@ module _ (m : Meaning) {S : Type 0} (Stands : S → List ℕ → Type 0) (HasNum
         let (move, there, is) = Contains-from_map (λ (x : Move S). x.monitor) moves s among in
         absurd (made.quiet move there w (subst (λ (x : Stored S). Stands x.state w) (sym is) stands) k hit);
   }
+
+  pub shifts_spared : new.index ≡ old.index → IsSpared m Stands old → IsSpared m Stands new
+  shifts_spared index =
+      spared_at_once m Stands letter b dead true old old new moves moves [] (λ yes. known) read placed paired (λ k. refl) refl refl
+      (λ o is. is) can.fits.index.reached whole (ap (λ i. i.dropped) index)
 
   pub shifts_done : new.index ≡ old.index → new.marks ≡ old.marks → new.ending ≡ old.ending
       → (trace : List ParametricEvent) → IsStoreAfter m Stands trace dead old → IsEventDone m Stands trace dead letter b new []

@@ -15,7 +15,7 @@ use Rattle.jm_monitors.proofs.PassLemmas.{death_keeps_store-lem, pass_keeps_stor
 use Rattle.jm_store.specs.declared.moves.Plan.{Plan}
 use Rattle.jm_store.specs.Slots.{stored_in}
 use Rattle.jm_store.specs.Moves.{AreEnding, EndsFewer}
-use Rattle.jm_store.specs.Contents.{Contents, stored_of, monitors_after, IsFit, IsStoreAfter, IsPlanOf}
+use Rattle.jm_store.specs.Contents.{Contents, stored_of, monitors_after, IsFit, IsSpared, IsFitFor, IsStoreAfter, IsPlanOf}
 use Rattle.jm_store.proofs.EndingLemmas.{ending_fewer}
 use Rattle.jm_store.proofs.SparedLemmas.{spared_fewer, alive_fewer}
 
@@ -29,6 +29,12 @@ module _ (m : Meaning) {S : Type 0} (Stands : S → List ℕ → Type 0) where
     spared = spared;
   }
 
+  -- the same monitors, and no object dropped that wasn't
+  pub spared_same : (old new : Contents S) → stored_of new ≡ stored_of old → ((o : ℕ) → flag_of new.index.dropped o ≡ true → flag_of old.index.dropped o ≡ true) → IsSpared m Stands old
+      → IsSpared m Stands new
+  spared_same old new stored dropped spared =
+      subst (λ (l : List (Stored S)). AreSpared m Stands new.index.dropped l) (sym stored) (spared_fewer m Stands old.index.dropped new.index.dropped (stored_of old) dropped spared)
+
   -- the same monitors and marks, no letter that wasn't kept, and no object dropped that wasn't
   pub store_same : (trace : List ParametricEvent) (dead : List Bool) (old new : Contents S) → stored_of new ≡ stored_of old → new.marks ≡ old.marks → EndsFewer old.ending new.ending
       → ((o : ℕ) → flag_of new.index.dropped o ≡ true → flag_of old.index.dropped o ≡ true) → IsStoreAfter m Stands trace dead old → IsStoreAfter m Stands trace dead new
@@ -36,8 +42,7 @@ module _ (m : Meaning) {S : Type 0} (Stands : S → List ℕ → Type 0) where
     monitors = subst (λ (l : List (Stored S)). IsStoreOf m Stands trace dead l new.marks) (sym stored)
         (subst (λ (l : List Binding). IsStoreOf m Stands trace dead (stored_of old) l) (sym marks) holds.monitors);
     ended = subst (λ (l : List (Stored S)). AreEnding m Stands new.ending l) (sym stored) (ending_fewer m Stands old.ending new.ending (stored_of old) fewer holds.ended);
-    spared = subst (λ (l : List (Stored S)). AreSpared m Stands new.index.dropped l) (sym stored)
-        (spared_fewer m Stands old.index.dropped new.index.dropped (stored_of old) dropped holds.spared);
+    spared = spared_same old new stored dropped holds.spared;
   }
 
   -- after a plan was carried out
@@ -77,3 +82,8 @@ fit_after_death store dead o fit =
       marks = λ b h q at. subst (λ n. q < n) (sym size) (fit.marks b h q at);
       index = IsFitting-death store.index dead o fit.index;
     }
+
+-- and so one that fits rules too
+pub fit_for_after_death : (m : Meaning) {S : Type 0} (Stands : S → List ℕ → Type 0) (store : Contents S) (dead : List Bool) (o : ℕ) → IsFitFor m Stands store dead
+    → IsFitFor m Stands store (after_death dead o)
+fit_for_after_death m Stands store dead o fit = record { fits = fit_after_death store dead o fit.fits; spared = fit.spared }

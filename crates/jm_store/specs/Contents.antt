@@ -45,6 +45,17 @@ pub record IsFit {S : Type 0} (store : Contents S) (dead : List Bool) : Type 0 w
   pub marks : (b : Binding) → Contains store.marks b → AreBelow (length dead) b
   pub index : IsFitting store.index dead
 
+-- no monitor is cut by the objects that the index dropped
+abbrev pub IsSpared : (m : Meaning) {S : Type 0} → (S → Word → Type 0) → Contents S → Type 0
+IsSpared m Stands store = AreSpared m Stands store.index.dropped (stored_of store)
+
+-- The store fits rules and a table of objects: it fits the table, and what the last pass left isn't cut by the objects
+-- that died until then.
+pub record IsFitFor (m : Meaning) {S : Type 0} (Stands : S → Word → Type 0) (store : Contents S)
+    (dead : List Bool) : Type 0 where
+  pub fits : IsFit store dead
+  pub spared : IsSpared m Stands store
+
 -- The contents are a store of this trace of events, with these dead objects. Stored are distinct instances whose states
 -- stand for their slices, each other instance is cut, and the marks are seen bindings, among them each one with a live
 -- object. What is kept beside them fits them: the letters end the monitors, and the objects that the index dropped cut

@@ -37,8 +37,8 @@ module _ (m : Meaning) {S : Type 0} (Stands : S → Word → Type 0) (dead : Lis
   abbrev pub RestsIn : List (Option (Stored S)) → ℕ → ℕ → Type 0
   RestsIn monitors = λ k e. RestsAt e (monitor_at monitors k)
 
-  -- The lists are sound for the monitors. Each monitor above the binding of a list is in the lists of its letter, or rests
-  -- at it.
+  -- The lists are sound for the monitors. Each monitor above the binding of a list is in the lists of its letter, or
+  -- rests at it.
   pub record AreListedBut (loose : Option ℕ) (monitors : List (Option (Stored S))) (lists : Lists) : Type 0 where
     pub sound : AreSoundBut loose (occupants_of monitors) lists
     pub rested : AreRested (RestsIn monitors) (occupants_of monitors) lists

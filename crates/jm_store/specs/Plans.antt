@@ -11,7 +11,7 @@ use Rattle.jm_store.specs.declared.moves.Plan.{Plan}
 use Rattle.jm_store.specs.declared.store.advance.Done.{Done}
 use Rattle.jm_store.specs.Slots.{monitor_at}
 use Rattle.jm_store.specs.Moves.{EndsFewer}
-use Rattle.jm_store.specs.Contents.{Contents, stored_of, IsFit, IsStoreAfter, IsPlanFor, IsPlanOf, IsEventDone}
+use Rattle.jm_store.specs.Contents.{Contents, stored_of, IsFit, IsSpared, IsStoreAfter, IsPlanFor, IsPlanOf, IsCarriedOut, IsEventDone}
 
 -- No plan is open in the store, it fits the objects, and the event is one of the specification's, of live objects that
 -- stand in their table.
@@ -24,8 +24,9 @@ pub record CanPlan (m : Meaning) {S : Type 0} (dead : List Bool) (letter : ℕ) 
 
 module _ (m : Meaning) {S : Type 0} (Stands : S → Word → Type 0) (dead : List Bool) (letter : ℕ) (b : Binding)
     (old new : Contents S) where
-  -- Monitors and marks are as before, and of whatever trace the store was one, it still is. Where memory isn't wanting
-  -- there is a plan, open in the store, that fits it, and is that of the event after each such trace.
+  -- Monitors and marks are as before, and of whatever trace the store was one, it still is. Unless out of memory there
+  -- is a plan, open in the store, that fits it, and is that of the event after each such trace. A store that fits rules
+  -- and objects still does, and does once the plan was carried out.
   pub record Plans (result : Result (Plan S) NoMemory) : Type 0 where
     pub stored : stored_of new ≡ stored_of old
     pub monitors : (k : ℕ) → monitor_at new.monitors k ≡ monitor_at old.monitors k
@@ -38,6 +39,9 @@ module _ (m : Meaning) {S : Type 0} (Stands : S → Word → Type 0) (dead : Lis
     pub plan : IfOk result (λ plan. IsPlanFor new plan)
     pub keeps : (trace : List ParametricEvent) → IsStoreAfter m Stands trace dead old
         → IsStoreAfter m Stands trace dead new
+    pub spares : IsSpared m Stands old → IsSpared m Stands new
+    pub leaves : IfOk result (λ plan. IsSpared m Stands old → (after : Contents S) → IsCarriedOut new after plan
+        → IsSpared m Stands after)
     pub works : IfOk result (λ plan. (trace : List ParametricEvent) → IsStoreAfter m Stands trace dead old
         → IsPlanOf m Stands trace dead letter new plan)
 
@@ -47,23 +51,26 @@ module _ (m : Meaning) {S : Type 0} (Stands : S → Word → Type 0) (dead : Lis
   PlansUnlessRests (Ok (Some plan)) = Plans (Ok plan)
   PlansUnlessRests (Err e) = Plans (Err e)
 
-  -- The event was done at once, and is answered twice; its binding is a mark. Or monitors and marks are as before, and of
-  -- whatever trace the store was one, it still is.
+  -- The event was done at once, and is answered twice; its binding is a mark. Or monitors and marks are as before, and
+  -- of whatever trace the store was one, it still is. A store that fits rules and objects still does.
   pub record Advances (result : Option Done) : Type 0 where
     pub stored : IfNone result (stored_of new ≡ stored_of old)
     pub unmarked : IfNone result (new.marks ≡ old.marks)
     pub keeps : IfNone result ((trace : List ParametricEvent) → IsStoreAfter m Stands trace dead old
         → IsStoreAfter m Stands trace dead new)
     pub fits : IsFit new dead
+    pub spares : IsSpared m Stands old → IsSpared m Stands new
     pub closed : new.is_open ≡ false
     pub marks : IfSome result (λ done. AreMarksAfter b old.marks new.marks)
     pub twice : IfSome result (λ done. done.copy ≡ done.answer)
     pub works : IfSome result (λ done. (trace : List ParametricEvent) → IsStoreAfter m Stands trace dead old
         → IsEventDone m Stands trace dead letter b new done.answer)
 
-  -- The event was done at once, and hits nothing. Its binding was a mark before.
+  -- The event was done at once, and hits nothing. Its binding was a mark before. A store that fits rules and objects
+  -- still does.
   pub record IsShiftDone : Type 0 where
     pub fits : IsFit new dead
+    pub spares : IsSpared m Stands old → IsSpared m Stands new
     pub closed : new.is_open ≡ false
     pub marks : new.marks ≡ old.marks
     pub works : (trace : List ParametricEvent) → IsStoreAfter m Stands trace dead old

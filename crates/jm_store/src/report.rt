@@ -11,8 +11,8 @@ use crate::moves::Move;
 use jm_model::{Binding, Firing, Firings, Monitor, NoMemory};
 use std::alloc::Global;
 
-/// The handlers that the monitors' states hit, in the order of firings. A monitor is left out where its instance doesn't
-/// bind what a reported instance has to bind.
+/// The handlers that the monitors' states hit, in the order of firings. A monitor is left out where its instance
+/// doesn't bind what a reported instance has to bind.
 pub(crate) fn report<M: Monitor>(
     alloc: Global,
     rules: &M,
@@ -29,7 +29,8 @@ pub(crate) fn report<M: Monitor>(
     Ok(firings)
 }
 
-/// The same, monitor by monitor.
+/// The handlers that the monitors' states hit, monitor by monitor, in the order of the moves. A monitor is left out
+/// where its instance doesn't bind what a reported instance has to bind.
 fn list_hits<M: Monitor>(
     alloc: Global,
     rules: &M,

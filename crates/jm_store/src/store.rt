@@ -4,7 +4,7 @@ ghost use Rattle.std.specs.Ordering.{is_lt};
 ghost use Rattle.jm_model.specs.Bindings.{empty, binding_cmp};
 ghost use Rattle.jm_monitors.specs.Steps.{IsAtStart};
 ghost use Rattle.jm_store.specs.Moves.{ends_all};
-ghost use Rattle.jm_store.specs.Contents.{Contents, stored_of, IsFit, IsStoreAfter};
+ghost use Rattle.jm_store.specs.Contents.{Contents, stored_of, IsFit, IsFitFor, IsStoreAfter};
 
 mod advance;
 mod commit;
@@ -89,7 +89,8 @@ impl<M: Monitor> Store<M> {
             (stored_of store)) }
         ensures marks { IfOk result (λ store. store.marks ≡ []) }
         ensures closed { IfOk result (λ store. store.is_open ≡ false) }
-        ensures fits { IfOk result (λ store. (dead : List Bool) → IsFit store dead) }
+        ensures fits { IfOk result (λ store. (dead : List Bool)
+            → IsFitFor (M.meaning (M.definition rules.now)) (M.StandsFor rules.now) store dead) }
         ensures holds { IfOk result (λ store. (dead : List Bool)
             → IsStoreAfter (M.meaning (M.definition rules.now)) (M.StandsFor rules.now) [] dead store) }
     {

@@ -22,7 +22,8 @@ pub(crate) fn wake(awake: &mut Awake, slot: usize, instance: &Binding)
     }
 }
 
-/// The same, where there are lists.
+/// Puts a slot into all lists whose bindings lie below the instance of its monitor, where there are lists, unless it is
+/// in the lists of each letter.
 #[inline(never)]
 fn wake_listed(awake: &mut Awake, slot: usize, instance: &Binding)
     ensures sound { (o : Occupants) → Comes o awake.old awake.new slot instance.now }

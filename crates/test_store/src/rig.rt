@@ -1,4 +1,4 @@
-//! A store of some rules, and a table of objects that it fits.
+//! A store of some rules, and a table of objects; it fits both.
 ghost use Rattle.std.specs.Prelude.{◌≡◌, ◌<◌, ℕ, true, false, Some, length};
 ghost use Rattle.jm_model.specs.Bindings.{object_at};
 ghost use Rattle.jm_index.specs.Index.{AreBelow};
@@ -12,67 +12,48 @@ use std::alloc::Global;
 use std::marker::{Brand, Model};
 use std::sync::ledger::{Blank, Ledger};
 
+/// A store of some rules, and a table of objects. Contracts see what the rules say, and both.
 #[derive(Drop)]
 pub(crate) struct Rig<'a, M: Monitor> {
     pub(crate) rules: &'a M,
-    held: Held<M>,
-}
-
-/// The store and the table. Contracts see both.
-#[derive(Drop)]
-struct Held<M: Monitor> {
     objects: Objects,
     store: Store<M>,
 }
 
-impl<M: Monitor> Model for Held<M> {
+impl<'a, M: Monitor> Model for Rig<'a, M> {
     ghost use Rattle.std.specs.Prelude.{List, Bool};
     ghost use Rattle.jm_store.specs.Contents.{Contents};
-    ghost use Rattle.test_store.specs.Rigs.{FitsTable};
+    ghost use Rattle.test_store.specs.Rigs.{FitsRules};
 
-    ghost Value = { List Bool × Contents M.State };
+    ghost Value = { M.Definition × List Bool × Contents M.State };
 
-    ghost view = { λ h. (h.objects, h.store) };
+    ghost view = { λ r. (M.definition r.rules.now, r.objects, r.store) };
 
-    ghost invariant = { λ h. FitsTable h.store h.objects };
+    ghost invariant = { λ r. FitsRules (M.meaning (M.definition r.rules.now)) (M.StandsFor r.rules.now) r.store
+        r.objects };
 }
 
 impl<'a, M: Monitor> Rig<'a, M> {
     pub(crate) fn new(alloc: Global, rules: &'a M, objects: u32) -> Result<Rig<'a, M>, NoMemory> {
-        let held = Held::new(alloc, rules, objects)?;
-        Ok(Rig { rules, held })
+        let objects = Objects::new(alloc, objects)?;
+        let store = Store::new(alloc, rules)?;
+        Ok(Rig {
+            rules,
+            objects,
+            store,
+        })
     }
 
     /// Does a step. Nothing is done at an event that the rules don't have, or that binds an object which is dead or
     /// isn't there.
     pub(crate) fn step(&mut self, step: &Step) -> Result<Option<Outcome>, NoMemory> {
-        self.held.step(self.rules, step)
-    }
-
-    pub(crate) fn stored(&self) -> Result<Vec<Binding>, NoMemory> {
-        self.held.store.stored()
-    }
-
-    pub(crate) fn marks(&self) -> Result<Vec<Binding>, NoMemory> {
-        self.held.store.marks()
-    }
-}
-
-impl<M: Monitor> Held<M> {
-    fn new(alloc: Global, rules: &M, objects: u32) -> Result<Held<M>, NoMemory> {
-        let objects = Objects::new(alloc, objects)?;
-        let store = Store::new(alloc, rules)?;
-        Ok(Held { objects, store })
-    }
-
-    fn step(&mut self, rules: &M, step: &Step) -> Result<Option<Outcome>, NoMemory> {
         match step {
-            Step::Event { letter, binding } => self.event(rules, *letter, binding),
+            Step::Event { letter, binding } => self.event(*letter, binding),
             Step::Death { object } => {
                 self.kill(*object);
                 Ok(Some(Outcome::Done))
             }
-            Step::Pass => Ok(Some(Outcome::Kept(self.pass(rules)))),
+            Step::Pass => Ok(Some(Outcome::Kept(self.pass()))),
         }
     }
 
@@ -82,29 +63,23 @@ impl<M: Monitor> Held<M> {
         }
     }
 
-    fn pass(&mut self, rules: &M) -> u64 {
-        self.store.dispose(rules, &self.objects)
+    fn pass(&mut self) -> u64 {
+        self.store.dispose(self.rules, &self.objects)
     }
 
-    fn event(
-        &mut self,
-        rules: &M,
-        letter: Letter,
-        binding: &Binding,
-    ) -> Result<Option<Outcome>, NoMemory> {
-        if letter.0 >= rules.letters()
-            || rules.params(letter) != binding.mask()
+    fn event(&mut self, letter: Letter, binding: &Binding) -> Result<Option<Outcome>, NoMemory> {
+        if letter.0 >= self.rules.letters()
+            || self.rules.params(letter) != binding.mask()
             || !all_live(&self.objects, binding)
         {
             return Ok(None);
         }
-        let firings = self.fire::<Brand>(rules, letter, binding, Blank::new(1))?;
+        let firings = self.fire::<Brand>(letter, binding, Blank::new(1))?;
         Ok(Some(Outcome::Fired(firings)))
     }
 
     fn fire<L: Ledger>(
         &mut self,
-        rules: &M,
         letter: Letter,
         binding: &Binding,
         blank: Blank,
@@ -112,15 +87,23 @@ impl<M: Monitor> Held<M> {
         requires name { blank.name ≡ L.name }
         requires parts { blank.parts ≡ L.parts }
         requires one { blank.parts ≡ 1 }
-        requires event { IsLiveEvent (M.meaning (M.definition rules.now)) self.old.0 letter.0 binding.now }
-        requires there { AreBelow (length self.old.0) binding.now }
+        requires event { IsLiveEvent (M.meaning self.old.0) self.old.1 letter.0 binding.now }
+        requires there { AreBelow (length self.old.1) binding.now }
     {
         let mut steps = Steps::<L>::new(blank);
         let plan = self
             .store
-            .plan(rules, &self.objects, letter, binding, &mut steps)?;
+            .plan(self.rules, &self.objects, letter, binding, &mut steps)?;
         let (answer, _) = self.store.commit(plan);
         Ok(answer)
+    }
+
+    pub(crate) fn stored(&self) -> Result<Vec<Binding>, NoMemory> {
+        self.store.stored()
+    }
+
+    pub(crate) fn marks(&self) -> Result<Vec<Binding>, NoMemory> {
+        self.store.marks()
     }
 }
 

@@ -1,4 +1,5 @@
-//! Events that move one monitor at most and make none, or make one and move none: they are done at once, without a plan.
+//! Events that move one monitor at most and make none, or make one and move none: they are done at once, without a
+//! plan.
 ghost use Rattle.std.specs.Prelude.{◌≡◌, ℕ, ◌+◌, ◌<◌, ◌≤◌, ◌↔◌, ◌++◌, List, Bool, false, not, Contains, IsTrue, IfNone, IfSome, Some, None, [], ◌∷◌, length, count_by};
 ghost use Rattle.std.specs.Option.{option_to_list};
 ghost use Rattle.jm_model.specs.Bindings.{is_compatible};
@@ -58,8 +59,8 @@ impl<M: Monitor> Store<M> {
         self.marks.contains(binding)
     }
 
-    /// Does an event, if it moves one monitor at most and makes none, or makes one and moves none, and memory isn't
-    /// wanting. Where it doesn't do it, monitors and marks are as before. Only monitors that are compatible with the
+    /// Does an event, if it moves one monitor at most and makes none, or makes one and moves none, unless out of
+    /// memory. Where it doesn't do it, monitors and marks are as before. Only monitors that are compatible with the
     /// binding are read, each once.
     pub fn advance_one<L: Ledger>(
         &mut self,
@@ -88,7 +89,7 @@ impl<M: Monitor> Store<M> {
         done
     }
 
-    /// The same, in this room.
+    /// Does an event as `advance_one` does, in room that is lent for slots.
     fn advance_in<L: Ledger>(
         &mut self,
         rules: &M,
@@ -123,7 +124,7 @@ impl<M: Monitor> Store<M> {
         self.advance_only(rules, objects, awake, letter, binding, known, slots, steps)
     }
 
-    /// The slot of the only monitor above a binding, or that there is none. Where several are, or memory is wanting, it
+    /// The slot of the only monitor above a binding, or that there is none. Where several are, or out of memory, it
     /// can't be told.
     fn only_slot_above(
         &self,
@@ -157,7 +158,7 @@ impl<M: Monitor> Store<M> {
         Some(only)
     }
 
-    /// Moves the monitor of a slot, if there is one and memory isn't wanting.
+    /// Moves the monitor of a slot, if there is one, unless out of memory.
     fn advance_slot<L: Ledger>(
         &mut self,
         rules: &M,
@@ -250,7 +251,7 @@ impl<M: Monitor> Store<M> {
     }
 
     /// What the event makes of the only monitor of which it makes something, or that there is none. Where there are
-    /// several, or memory is wanting, it can't be told.
+    /// several, or out of memory, it can't be told.
     #[inline(always)]
     fn find_only<L: Ledger>(
         &self,
@@ -289,7 +290,8 @@ impl<M: Monitor> Store<M> {
         Some(only)
     }
 
-    /// The same of those in some slots, where it is known what was found before.
+    /// Looks among the monitors of some slots for the only one of which the event makes something: `only` is what was
+    /// found before, and then what is found. Where there is a second, or out of memory, it can't be told.
     #[inline(always)]
     fn find_among<L: Ledger>(
         &self,
@@ -318,7 +320,8 @@ impl<M: Monitor> Store<M> {
         Some(())
     }
 
-    /// The same of the one in a slot.
+    /// Looks whether the event makes something of the monitor of a slot, and puts it into `only`. Where something was
+    /// found before, or out of memory, it can't be told.
     #[inline(always)]
     fn find_at<L: Ledger>(
         &self,
@@ -352,7 +355,7 @@ impl<M: Monitor> Store<M> {
         Some(())
     }
 
-    /// Does an event that makes nothing of any monitor, if memory isn't wanting.
+    /// Does an event that makes nothing of any monitor, unless out of memory.
     fn take_none(&mut self, binding: &Binding, known: bool) -> Option<Done>
         requires closed { self.old.is_open ≡ false }
         requires known { IsTrue known → Contains self.old.marks binding.now }
@@ -374,7 +377,7 @@ impl<M: Monitor> Store<M> {
         Some(Done::nothing(alloc))
     }
 
-    /// Does an event that makes this of one monitor and nothing of others, if memory isn't wanting.
+    /// Does an event that makes this of one monitor and nothing of others, unless out of memory.
     #[inline(always)]
     fn take_step(
         &mut self,
@@ -401,8 +404,8 @@ impl<M: Monitor> Store<M> {
         ensures stays { IfSome result (λ done. done.stays ≡ step.stays) }
         ensures taken { IfSome result (λ done. IsStepTaken (M.meaning (M.definition rules.now))
             (M.StandsFor rules.now) step self.old self.new done.answer) }
-        ensures listed { (dead : List Bool) → KeepListed (M.meaning (M.definition rules.now)) (M.StandsFor rules.now) dead
-            self.old.monitors self.new.monitors awake.old awake.new }
+        ensures listed { (dead : List Bool) → KeepListed (M.meaning (M.definition rules.now)) (M.StandsFor rules.now)
+            dead self.old.monitors self.new.monitors awake.old awake.new }
     {
         let Ok(answer) = report_one(
             *self.domains.allocator(),
@@ -429,7 +432,7 @@ impl<M: Monitor> Store<M> {
         })
     }
 
-    /// Makes room for a mark, where the binding isn't known to be one, if memory isn't wanting.
+    /// Makes room for a mark, where the binding isn't known to be one, unless out of memory.
     #[inline(always)]
     fn open_for(&mut self, known: bool) -> Option<()>
         requires { self.old.is_open ≡ false }
@@ -446,7 +449,7 @@ impl<M: Monitor> Store<M> {
         Some(())
     }
 
-    /// Makes the room that a pass has for slots, where a new instance is made, if memory isn't wanting.
+    /// Makes the room that a pass has for slots, where a new instance is made, unless out of memory.
     #[inline(always)]
     fn room_for(&self, step: &Move<M::State>, slots: &mut Vec<usize>) -> Option<()> {
         if step.slot.is_some() {
@@ -458,7 +461,7 @@ impl<M: Monitor> Store<M> {
         }
     }
 
-    /// Gives a move a slot, if it has none and memory isn't wanting.
+    /// Gives a move a slot, if it has none, unless out of memory.
     #[inline(always)]
     fn place_one(&mut self, step: &mut Move<M::State>) -> Option<()>
         requires slotted { self.old.is_open ≡ false → step.old.slot ≡ None → ⊥ }

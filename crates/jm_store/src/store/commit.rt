@@ -19,6 +19,7 @@ impl<M: Monitor> Store<M> {
         ensures monitors { self.new.monitors ≡ monitors_after self.old plan }
         ensures marks { AreMarksAfter plan.binding self.old.marks self.new.marks }
         ensures ending { self.new.ending ≡ self.old.ending }
+        ensures dropped { self.new.index.dropped ≡ self.old.index.dropped }
         ensures closed { self.new.is_open ≡ false }
         ensures fits { (dead : List Bool) → IsFit self.old dead → AreBelow (length dead) plan.binding
             → IsFit self.new dead }

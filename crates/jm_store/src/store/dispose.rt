@@ -5,7 +5,7 @@ ghost use Rattle.jm_index.specs.Index.{IsKey, flag_of, IsFitting, without};
 ghost use Rattle.jm_monitors.specs.Steps.{IsThinned, AreSpared, AreLiveMarks};
 ghost use Rattle.jm_store.specs.Slots.{monitor_at};
 ghost use Rattle.jm_store.specs.Moves.{IsSwept};
-ghost use Rattle.jm_store.specs.Contents.{stored_of, IsFit, IsStoreAfter, IsCutDown};
+ghost use Rattle.jm_store.specs.Contents.{stored_of, IsSpared, IsFitFor, IsStoreAfter, IsCutDown};
 ghost use Rattle.jm_store.specs.Listed.{AreLeftOf};
 
 use super::Store;
@@ -18,12 +18,11 @@ impl<M: Monitor> Store<M> {
     /// takes no memory.
     pub fn dispose(&mut self, rules: &M, objects: &Objects) -> u64
         requires closed { self.old.is_open ≡ false }
-        requires fits { IsFit self.old objects.now }
+        requires fits { IsFitFor (M.meaning (M.definition rules.now)) (M.StandsFor rules.now) self.old objects.now }
         ensures thinned { IsThinned (M.meaning (M.definition rules.now)) (M.StandsFor rules.now) objects.now
             (stored_of self.old) (stored_of self.new) }
-        ensures alive { AreSpared (M.meaning (M.definition rules.now)) (M.StandsFor rules.now) self.old.index.dropped
-            (stored_of self.old)
-            → AreSpared (M.meaning (M.definition rules.now)) (M.StandsFor rules.now) objects.now (stored_of self.new) }
+        ensures alive { AreSpared (M.meaning (M.definition rules.now)) (M.StandsFor rules.now) objects.now
+            (stored_of self.new) }
         ensures slots { AreLeftOf self.old.monitors self.new.monitors }
         ensures marks { AreLiveMarks objects.now self.old.marks self.new.marks }
         ensures ending { self.new.ending ≡ self.old.ending }
@@ -32,7 +31,7 @@ impl<M: Monitor> Store<M> {
             → IsStoreAfter (M.meaning (M.definition rules.now)) (M.StandsFor rules.now) trace objects.now self.new }
         ensures left { result ≡ length (stored_of self.new) }
         ensures closed { self.new.is_open ≡ false }
-        ensures fits { IsFit self.new objects.now }
+        ensures fits { IsFitFor (M.meaning (M.definition rules.now)) (M.StandsFor rules.now) self.new objects.now }
         ensures keys { (o : ℕ) → IsKey self.new.index o → flag_of objects.now o ≡ false }
     {
         self.drop_all_cut(rules, objects);
@@ -45,11 +44,10 @@ impl<M: Monitor> Store<M> {
     /// at, unless there is no room for a list of them.
     fn drop_all_cut(&mut self, rules: &M, objects: &Objects)
         requires closed { self.old.is_open ≡ false }
+        requires spared { IsSpared (M.meaning (M.definition rules.now)) (M.StandsFor rules.now) self.old }
         ensures down { IsCutDown (M.meaning (M.definition rules.now))
             (M.StandsFor rules.now) objects.now self.old self.new }
-        ensures all { AreSpared (M.meaning (M.definition rules.now)) (M.StandsFor rules.now) self.old.index.dropped
-            (stored_of self.old)
-            → (k : ℕ) → IsSwept (M.meaning (M.definition rules.now)) (M.StandsFor rules.now) objects.now
+        ensures all { (k : ℕ) → IsSwept (M.meaning (M.definition rules.now)) (M.StandsFor rules.now) objects.now
             (monitor_at self.old.monitors k) (monitor_at self.new.monitors k) }
     {
         let mut slots = self.take_slots();

@@ -11,8 +11,8 @@ use jm_model::{Binding, Monitor, NoMemory};
 use std::mem;
 
 impl<M: Monitor> Store<M> {
-    /// Opens a plan with these moves: new instances get slots. Where memory is wanting they are taken out again, and no
-    /// plan is open.
+    /// Opens a plan with these moves: new instances get slots. Out of memory they are taken out again, and no plan is
+    /// open.
     pub(super) fn open_plan(
         &mut self,
         moves: Vec<Move<M::State>>,

@@ -55,7 +55,7 @@ impl<M: Monitor> Store<M> {
         self.plan_as(rules, objects, letter, binding, known, steps)
     }
 
-    /// The same, where it is known whether the binding is a mark.
+    /// Works out an event as `plan` does, where it is known whether the binding is a mark.
     pub fn plan_as<L: Ledger>(
         &mut self,
         rules: &M,
@@ -81,7 +81,7 @@ impl<M: Monitor> Store<M> {
         plan
     }
 
-    /// The same, in this room.
+    /// Works out an event as `plan` does, in room that is lent for slots and moves.
     #[tactic(auto, using(crate::proofs::PlanLemmas::plans_untouched))]
     fn plan_in<L: Ledger>(
         &mut self,

@@ -13,7 +13,7 @@ invariant_of-self g c =
     let done = c.dispose-kept.ensures in
     let small : c.dispose-kept.result < 2 ^ 64 = c.dispose-kept.type_inv in
     let core = subst (λ (l : List Entry). IsCore m Stands l c.self.inside.objects c.dispose-kept.new.self) (sym c.push_sparing.ensures)
-    (core_after_pass m Stands c.self.inside.history c.self.inside.objects c.self.inside.store c.dispose-kept.new.self c.args.node c.dispose-kept.result c.self.invariant.0 c.requires (record { thinned = done.thinned; alive = done.alive c.self.invariant.0.holds.spared; left_marks = done.marks }) small done.left done.closed done.fits (done.keeps (trace_of c.self.inside.history) c.self.invariant.0.holds)) in
+    (core_after_pass m Stands c.self.inside.history c.self.inside.objects c.self.inside.store c.dispose-kept.new.self c.args.node c.dispose-kept.result c.self.invariant.0 c.requires (record { thinned = done.thinned; alive = done.alive; left_marks = done.marks }) small done.left done.closed done.fits.fits (done.keeps (trace_of c.self.inside.history) c.self.invariant.0.holds)) in
     (core, c.settle.ensures c.self.inside.rules c.self.inside.objects c.self.inside.store.monitors done.slots c.self.invariant.1)
 
 pub returns-clause-legal : goal.returns-clause-legal
@@ -22,3 +22,6 @@ returns-clause-legal g c = (invariant_of-self g c).0.legal
 pub returns-clause-fits : goal.returns-clause-fits
 returns-clause-fits g c =
     fits_history (g.M.Monitor.meaning (g.M.Monitor.definition c.self.inside.rules)) (g.M.Monitor.StandsFor c.self.inside.rules) c.push_sparing.new.self c.self.inside.objects c.dispose-kept.new.self (invariant_of-self g c).0
+
+pub dispose-requires-clause-fits : goal.dispose-requires-clause-fits
+dispose-requires-clause-fits g c = record { fits = c.self.invariant.0.fits; spared = c.self.invariant.0.holds.spared }

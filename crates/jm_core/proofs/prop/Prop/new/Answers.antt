@@ -11,7 +11,7 @@ invariant_of-result g c =
     let m = g.M.Monitor.meaning (g.M.Monitor.definition c.args.rules) in
     let Stands = g.M.Monitor.StandsFor c.args.rules in
     let store = c.in_ok-store.store in
-    let start = core_at_start m Stands c.args.objects store c.in_ok-store.ensures.closed c.in_ok-store.ensures.fits c.in_ok-store.ensures.holds in
+    let start = core_at_start m Stands c.args.objects store c.in_ok-store.ensures.closed (λ dead. (c.in_ok-store.ensures.fits dead).fits) c.in_ok-store.ensures.holds in
     let core = subst (λ (h : List Entry). IsCore m Stands h c.in_ok-objects.objects store) (sym c.new-4.ensures)
     (subst (λ (dead : List Bool). IsCore m Stands [] dead store) (sym c.in_ok-objects.ensures) start) in
     (core, none_listed m Stands c.in_ok-objects.objects store.monitors c.new-3.result c.new-3.ensures)

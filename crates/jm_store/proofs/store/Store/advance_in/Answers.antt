@@ -6,9 +6,9 @@ use Rattle.jm_monitors.specs.declared.stored.Stored.{Stored}
 use Rattle.jm_monitors.specs.Steps.{AreMarksAfter}
 use Rattle.jm_store.specs.declared.store.advance.Done.{Done}
 use Rattle.jm_store.specs.Slots.{monitor_at}
-use Rattle.jm_store.specs.Contents.{Contents, stored_of, IsStoreAfter, IsEventDone, IsSlotAdvanced, IsOnlyAbove, IsNoneAbove, IsAbove}
-use Rattle.jm_store.proofs.AdvanceLemmas.{option_map, reached_one, one_counted, one_done, none_done, still_known}
-use Rattle.jm_store.proofs.DirectLemmas.{if_none, in_some}
+use Rattle.jm_store.specs.Contents.{Contents, stored_of, IsSpared, IsStoreAfter, IsEventDone, IsSlotAdvanced, IsOnlyAbove, IsNoneAbove, IsAbove}
+use Rattle.jm_store.proofs.AdvanceLemmas.{option_map, reached_one, one_counted, one_spared, one_done, none_done, still_known}
+use Rattle.jm_store.proofs.DirectLemmas.{if_none, in_some, either_way}
 use Rattle.jm_store.proofs.store.Store.advance_in.Goals as goal
 
 pub only_slot_above-requires-clause-live : goal.only_slot_above-requires-clause-live
@@ -34,6 +34,10 @@ returns-in-Some-above-clause-advances g c =
       keeps = if_none result (new ≡ old) (new ≡ old) (new ≡ old) ((trace : List ParametricEvent) → IsStoreAfter m Stands trace c.args.objects.now old → IsStoreAfter m Stands trace c.args.objects.now new)
           (λ same x y trace holds. subst (λ (s : Contents g.row.M-State.Denot). IsStoreAfter m Stands trace c.args.objects.now s) (sym same) holds) did.same did.same did.same;
       fits = did.fits c.args.objects.now c.requires.can.fits;
+      spares = either_way result (IsSpared m Stands old → IsSpared m Stands new)
+          (if_none result (new ≡ old) (new ≡ old) (new ≡ old) (IsSpared m Stands old → IsSpared m Stands new) (λ same x y spared. subst (λ (s : Contents g.row.M-State.Denot). IsSpared m Stands s) (sym same) spared) did.same did.same did.same)
+          (option_map result (Unit {0}) Moved (λ (done : Done). IsSpared m Stands old → IsSpared m Stands new)
+          (λ done h. one_spared m Stands c.args.letter.0 b c.args.objects.now old new slot base done.stays done.answer only at known (h base at) c.requires.can.fits.index.reached) did.done);
       closed = did.closed;
       marks = in_some result (λ (done : Done). AreMarksAfter b old.marks new.marks) (λ done. rw did.marks (still_known b old.marks known));
       twice = did.twice;
@@ -63,6 +67,7 @@ returns-in-None-clause-advances g c =
       unmarked = tt;
       keeps = tt;
       fits = c.requires.can.fits;
+      spares = λ spared. spared;
       closed = c.requires.can.closed;
       marks = still_known b old.marks known;
       twice = c.nothing.ensures.copy ∙ sym c.nothing.ensures.answer;

@@ -10,10 +10,10 @@ use Rattle.jm_store.specs.declared.store.advance.Done.{Done}
 use Rattle.jm_store.specs.Slots.{monitor_at}
 use Rattle.jm_store.specs.Listed.{AreListed}
 use Rattle.jm_store.specs.Moves.{AreMovesRead, asks_by}
-use Rattle.jm_store.specs.Contents.{Contents, stored_of, IsStoreAfter, IsEventDone, IsStepTaken, IsFilled, ArePaired}
+use Rattle.jm_store.specs.Contents.{Contents, stored_of, IsSpared, IsStoreAfter, IsEventDone, IsStepTaken, IsFilled, ArePaired}
 use Rattle.jm_store.proofs.VisitLemmas.{settled_monitor}
 use Rattle.jm_store.proofs.FitLemmas.{are_paired}
-use Rattle.jm_store.proofs.DirectLemmas.{if_none, if_some, step_within, step_slotted, step_leads, step_kept, step_done, none_done}
+use Rattle.jm_store.proofs.DirectLemmas.{if_none, if_some, either_way, step_within, step_slotted, step_leads, step_kept, step_still, step_spared, step_done, none_done}
 use Rattle.jm_store.proofs.store.Store.advance_only.Goals as goal
 
 pub find_only-requires-clause-known : goal.find_only-requires-clause-known
@@ -70,6 +70,11 @@ returns-in_ok-room_for-in-Some-clause-advances g c =
           ((trace : List ParametricEvent) → IsStoreAfter m Stands trace dead old → IsStoreAfter m Stands trace dead new)
           (λ stored unmarked ending. step_kept m Stands letter b dead c.args.known old new step [] c.requires.known.0 read c.requires.can.fits c.requires.can.there stored unmarked ending t.index) t.stored t.unmarked t.ending;
       fits = t.fits dead c.requires.can.fits c.requires.can.there mine;
+      spares = either_way result (IsSpared m Stands old → IsSpared m Stands new)
+          (if_none result (stored_of new ≡ stored_of old) (stored_of new ≡ stored_of old) (stored_of new ≡ stored_of old) (IsSpared m Stands old → IsSpared m Stands new)
+          (λ stored x y. step_still m Stands letter b dead c.args.known old new step [] c.requires.known.0 read c.requires.can.fits c.requires.can.there stored t.index) t.stored t.stored t.stored)
+          (if_some result Taken Taken (λ (done : Done). IsSpared m Stands old → IsSpared m Stands new)
+          (λ done taken again. step_spared m Stands letter b dead c.args.known old new step done.answer c.requires.known.0 read c.requires.can.fits c.requires.can.there taken) t.taken t.taken);
       closed = t.closed;
       marks = t.marks;
       twice = t.twice;
@@ -102,6 +107,7 @@ returns-in-None-clause-advances g c =
       keeps = if_none result (new ≡ old) (new ≡ old) (new ≡ old) ((trace : List ParametricEvent) → IsStoreAfter m Stands trace dead old → IsStoreAfter m Stands trace dead new)
           (λ same x y trace holds. subst (λ (s : Contents g.row.M-State.Denot). IsStoreAfter m Stands trace dead s) (sym same) holds) t.same t.same t.same;
       fits = t.fits dead c.requires.can.fits c.requires.can.there;
+      spares = λ spared. rw (t.monitors, t.index) spared;
       closed = t.closed;
       marks = t.marks;
       twice = if_some result (λ (done : Done). done.copy ≡ []) (λ (done : Done). done.answer ≡ []) (λ (done : Done). done.copy ≡ done.answer) (λ done copy answer. copy ∙ sym answer) t.copy t.answer;

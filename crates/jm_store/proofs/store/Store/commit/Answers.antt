@@ -44,6 +44,9 @@ returns-clause-marks g c =
 pub returns-clause-ending : goal.returns-clause-ending
 returns-clause-ending g c = rw (← c.self.view_is) at c.loop-step.invariant.ending
 
+pub returns-clause-dropped : goal.returns-clause-dropped
+returns-clause-dropped g c = rw (← c.self.view_is) at c.loop-step.invariant.dropped
+
 pub returns-clause-fits : goal.returns-clause-fits
 returns-clause-fits g c =
     let fits = rw (← c.self.view_is) at c.loop-step.invariant.fits in

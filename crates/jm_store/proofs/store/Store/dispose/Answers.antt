@@ -9,6 +9,7 @@ use Rattle.jm_store.specs.Slots.{monitors_of}
 use Rattle.jm_store.proofs.PassLemmas.{kept_swept, single_housed, thinned, alive, live_marks}
 use Rattle.jm_store.proofs.FitLemmas.{housed_fits}
 use Rattle.jm_store.proofs.SettledLemmas.{left_down}
+use Rattle.jm_store.proofs.SparedLemmas.{spared_fewer}
 use Rattle.jm_store.proofs.StoreLemmas.{store_after_pass}
 use Rattle.jm_store.proofs.store.Store.dispose.Goals as goal
 
@@ -27,7 +28,7 @@ returns-clause-alive g c =
     let m = g.M.Monitor.meaning (g.M.Monitor.definition c.args.rules.now) in
     let Stands = g.M.Monitor.StandsFor c.args.rules.now in
     let all = rw (← c.self.view_is) at c.drop_all_cut.ensures.all in
-    λ spared. alive m Stands c.args.objects.now c.args.self.now.monitors (monitors_of c.self.inside.monitors.slots) (all spared)
+    alive m Stands c.args.objects.now c.args.self.now.monitors (monitors_of c.self.inside.monitors.slots) all
 
 pub returns-clause-marks : goal.returns-clause-marks
 returns-clause-marks g c =
@@ -42,19 +43,24 @@ returns-clause-ending g c = (rw (← c.self.view_is) at c.drop_all_cut.ensures.d
 
 pub returns-clause-fits : goal.returns-clause-fits
 returns-clause-fits g c =
+    let m = g.M.Monitor.meaning (g.M.Monitor.definition c.args.rules.now) in
+    let Stands = g.M.Monitor.StandsFor c.args.rules.now in
     let dead = c.args.objects.now in
     let down = rw (← c.self.view_is) at c.drop_all_cut.ensures.down in
-    housed_fits _ _ _ c.drop_dead.new.self _ dead (rw c.drop_dead.ensures.list c.self.invariant.housed) c.drop_dead.ensures.fits
-    (λ b there.
-    let kept = Contains-from_filter (has_live dead) c.self.inside.marks.list b (Contains-permutation _ _ b (IsPermutation-sym _ _ c.sweep.ensures.list) there) in
-    c.requires.fits.marks b (subst (λ (l : List Binding). Contains l b) down.marks kept.0))
+    record {
+      fits = housed_fits _ _ _ c.drop_dead.new.self _ dead (rw c.drop_dead.ensures.list c.self.invariant.housed) c.drop_dead.ensures.fits
+          (λ b there.
+          let kept = Contains-from_filter (has_live dead) c.self.inside.marks.list b (Contains-permutation _ _ b (IsPermutation-sym _ _ c.sweep.ensures.list) there) in
+          c.requires.fits.fits.marks b (subst (λ (l : List Binding). Contains l b) down.marks kept.0));
+      spared = spared_fewer m Stands dead _ _ c.drop_dead.ensures.fits.reached (returns-clause-alive g c);
+    }
 
 pub returns-clause-keeps : goal.returns-clause-keeps
 returns-clause-keeps g c =
     let m = g.M.Monitor.meaning (g.M.Monitor.definition c.args.rules.now) in
     let Stands = g.M.Monitor.StandsFor c.args.rules.now in
     λ trace holds.
-    store_after_pass m Stands trace c.args.objects.now c.args.self.now _ (returns-clause-thinned g c) (returns-clause-alive g c) (returns-clause-marks g c) (returns-clause-ending g c) c.drop_dead.ensures.fits.reached holds
+    store_after_pass m Stands trace c.args.objects.now c.args.self.now _ (returns-clause-thinned g c) (λ spared. returns-clause-alive g c) (returns-clause-marks g c) (returns-clause-ending g c) c.drop_dead.ensures.fits.reached holds
 
 pub returns-clause-slots : goal.returns-clause-slots
 returns-clause-slots g c =
@@ -63,7 +69,10 @@ returns-clause-slots g c =
     let down = rw (← c.self.view_is) at c.drop_all_cut.ensures.down in
     left_down m Stands c.args.objects.now c.args.self.now _ down
 
+pub drop_all_cut-requires-clause-spared : goal.drop_all_cut-requires-clause-spared
+drop_all_cut-requires-clause-spared g c = c.requires.fits.spared
+
 pub drop_dead-requires : goal.drop_dead-requires
 drop_dead-requires g c =
     let down = rw (← c.self.view_is) at c.drop_all_cut.ensures.down in
-    down.index c.args.objects.now c.requires.fits.index
+    down.index c.args.objects.now c.requires.fits.fits.index

@@ -23,6 +23,6 @@ returns-clause-all g c =
           whole c.self.invariant.housed.paired in
           let down = rw c.take_slots-slots.ensures at w.drop_cut_in.ensures.down in
           let there = rw (w.as_slice.ensures.value, c.take_slots-slots.ensures) at w.drop_cut_in.ensures.there in
-          λ spared. rw (c.give_slots.ensures, w.self-is) (all_swept m Stands dead c.args.self.now w.drop_cut_in.new.self slots down spared paired listed there)
-      | in-Err w ↦ λ spared. rw (c.give_slots.ensures, w.self-is) (rw c.take_slots-slots.ensures at w.drop_cut_everywhere.ensures.all)
+          rw (c.give_slots.ensures, w.self-is) (all_swept m Stands dead c.args.self.now w.drop_cut_in.new.self slots down c.requires.spared paired listed there)
+      | in-Err w ↦ rw (c.give_slots.ensures, w.self-is) (rw c.take_slots-slots.ensures at w.drop_cut_everywhere.ensures.all)
     ]

@@ -23,3 +23,11 @@ returns-clause-holds g c =
     λ dead.
     store_at_start m Stands dead c.in_ok-store.store (inl (c.in_ok-state.state, c.in_ok-state.ensures, rw c.empty-instance.ensures at first.stored)) first.marks (first_ended m Stands _ c.ending-letters.result _ _ first.stored instance first.ending c.ending-letters.ensures.quiet c.ending-letters.ensures.cut)
     (spared_first m Stands _ _ _ first.stored instance (λ w stands gone. both_ways c.cut.result c.if-cut.false ((c.cut.ensures w stands).1 gone)))
+
+pub returns-then-cut-clause-fits : goal.returns-then-cut-clause-fits
+returns-then-cut-clause-fits g c =
+    λ dead. record { fits = c.vacant.ensures.fits dead; spared = (returns-then-cut-clause-holds g c dead).spared }
+
+pub returns-clause-fits : goal.returns-clause-fits
+returns-clause-fits g c =
+    λ dead. record { fits = c.in_ok-store.ensures.fits dead; spared = (returns-clause-holds g c dead).spared }

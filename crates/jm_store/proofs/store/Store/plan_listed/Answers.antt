@@ -1,10 +1,13 @@
 use Rattle.std.proofs.Common.{◌≡◌, List, true, length, refl, sym, ap, ◌∙◌, subst}
+use Rattle.std.specs.Prelude.{Err}
 use Rattle.std.proofs.lemmas.Bool.{eqb-true}
 use Rattle.std.proofs.lemmas.Result.{err_from_is_err_and}
 use Rattle.jm_model.specs.declared.binding.Binding.{Binding}
 use Rattle.jm_store.specs.Moves.{AreMovesRead, asks_by}
 use Rattle.jm_store.specs.Contents.{Contents}
+use Rattle.jm_store.specs.Plans.{Plans}
 use Rattle.jm_store.proofs.ListedLemmas.{none_rests, empty_rests, empty_list}
+use Rattle.jm_store.proofs.PlanLemmas.{plans_untouched}
 use Rattle.jm_store.proofs.store.Store.plan_listed.Goals as goal
 
 pub returns-then-is_empty-clause-plans : goal.returns-then-is_empty-clause-plans
@@ -54,5 +57,19 @@ returns-in_err-plan-clause-plans g c =
       binding = tt;
       plan = tt;
       keeps = planned.keeps;
+      spares = planned.spares;
+      leaves = tt;
       works = tt;
     })
+
+pub returns-in_err-moves-clause-plans : goal.returns-in_err-moves-clause-plans
+returns-in_err-moves-clause-plans g c =
+    let m = g.M.Monitor.meaning (g.M.Monitor.definition c.args.rules.now) in
+    let Stands = g.M.Monitor.StandsFor c.args.rules.now in
+    let old = c.args.self.now in
+    let dead = c.args.objects.now in
+    let e = c.args.letter.0 in
+    let b = c.args.binding.now in
+    let failed = err_from_is_err_and c.from_residual.result c.from_residual.ensures.1 in
+    rw failed.1
+    (subst (λ (s : Contents g.row.M-State.Denot). Plans m Stands dead e b old s (Err failed.0)) (sym c.take_moves-moves.ensures.same) (plans_untouched m Stands dead e b old failed.0 c.requires.can))

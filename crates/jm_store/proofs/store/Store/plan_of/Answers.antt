@@ -10,10 +10,10 @@ use Rattle.jm_store.specs.Moves.{EndsFewer, asks_by}
 use Rattle.jm_store.specs.Contents.{stored_of, with_ending, IsFit, IsStoreAfter}
 use Rattle.jm_store.proofs.FitLemmas.{fit_ending}
 use Rattle.jm_store.proofs.EndingLemmas.{fewer-refl}
-use Rattle.jm_store.proofs.PlanningLemmas.{apart_moves, leads_moves, moves_within, fit_same, sorted_distinct, plan_works, plan_for_ending, may_reach}
+use Rattle.jm_store.proofs.PlanningLemmas.{apart_moves, leads_moves, moves_within, fit_same, sorted_distinct, plan_works, plan_for_ending, may_reach, spared_placed, plan_leaves}
 use Rattle.jm_store.proofs.RestingLemmas.{completed, apart_left, distinct_left, report_still, ending_still, after_resting, placed_or_resting, placed_resting}
 use Rattle.jm_store.proofs.SparedLemmas.{opened_fewer}
-use Rattle.jm_store.proofs.StoreLemmas.{store_same}
+use Rattle.jm_store.proofs.StoreLemmas.{store_same, spared_same}
 use Rattle.jm_store.proofs.GivenLemmas.{pairs_map}
 use Rattle.jm_store.proofs.store.Store.plan_of.Goals as goal
 
@@ -59,6 +59,9 @@ returns-in_err-moves g c =
       keeps = λ trace.
           store_same m Stands trace c.args.objects.now c.args.self.now c.open_plan.new.self opened.stored opened.marks fewer
           (opened_fewer c.args.self.now.index c.open_plan.new.self.index c.args.objects.now c.args.moves.items c.requires.can.fits.index within opened.fits);
+      spares = spared_same m Stands c.args.self.now c.open_plan.new.self opened.stored
+          (opened_fewer c.args.self.now.index c.open_plan.new.self.index c.args.objects.now c.args.moves.items c.requires.can.fits.index within opened.fits);
+      leaves = tt;
       works = tt;
     })
 
@@ -84,6 +87,7 @@ returns g c =
     rw c.end_fewer.ensures.same
     (store_same m Stands trace c.args.objects.now old (with_ending new c.end_fewer.new.self.ending) opened.stored opened.marks fewer
     (opened_fewer old.index new.index c.args.objects.now c.args.moves.items c.requires.can.fits.index within opened.fits)) in
+    let spares = spared_same m Stands old new opened.stored (opened_fewer old.index new.index c.args.objects.now c.args.moves.items c.requires.can.fits.index within opened.fits) in
     let asks = asks_by c.args.known old.ending c.args.letter.0 c.args.binding.now in
     let letter = c.args.letter.0 in
     let b = c.args.binding.now in
@@ -108,6 +112,13 @@ returns g c =
       plan = rw c.end_fewer.ensures.same
           (plan_for_ending new _ _ (record { twice = c.in_ok-copy.ensures; known = known; apart = placed.apart; placed = placed.leads; filled = placed.filled }));
       keeps = keeps;
+      spares = rw c.end_fewer.ensures.same spares;
+      leaves = rw c.end_fewer.ensures.same
+          (λ spared after done.
+          plan_leaves m Stands new after _ (slotted ++ resting) _
+          (spared_placed m Stands letter b dead asks old new (moves ++ resting) (moves ++ resting) (slotted ++ resting) full.all (IsPermutation-refl _) all_placed (spares spared)
+          (rw c.end_fewer.ensures.same at fits.index.reached))
+          (after_resting m Stands letter b dead old new moves slotted resting full.each opened.monitors) done);
       works = λ trace holds.
           let may = may_reach m Stands c.args.letter.0 c.args.binding.now c.args.objects.now old.marks c.args.known old.ending (stored_of old) c.requires.known.0 holds.ended in
           let distinct = sorted_distinct m Stands letter b dead asks old new (moves ++ resting) (moves ++ resting) (slotted ++ resting)

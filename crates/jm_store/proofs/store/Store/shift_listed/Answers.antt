@@ -13,7 +13,7 @@ use Rattle.jm_store.specs.Walks.{AreAmong, IsShiftAt, AreShifted}
 use Rattle.jm_store.proofs.FitLemmas.{are_paired, housed_fits}
 use Rattle.jm_store.proofs.ListedLemmas.{listed_above, listed_apart, above_counted}
 use Rattle.jm_store.proofs.ShiftLemmas.{shifts_apart, shifts_there, shifts_listed}
-use Rattle.jm_store.proofs.ShiftedLemmas.{kept_alike, shifts_done}
+use Rattle.jm_store.proofs.ShiftedLemmas.{kept_alike, shifts_spared, shifts_done}
 use Rattle.jm_store.proofs.VisitLemmas.{settled_monitor}
 use Rattle.jm_store.proofs.store.Store.shift_listed.Goals as goal
 
@@ -105,6 +105,7 @@ returns-clause-done g c = λ yes.
           (housed_fits c.shift_all.new.self.slots c.self.inside.marks.list c.self.inside.is_open c.self.inside.index c.self.inside.ending dead kept.housed
           (rw (ap (λ (s : Contents S). s.index) whole) c.requires.can.fits.index)
           (rw (ap (λ (s : Contents S). s.marks) whole) c.requires.can.fits.marks));
+      spares = shifts_spared m Stands HasNumber e b dead old new lists c.args.place shifts c.requires.can c.requires.known c.requires.of c.requires.listed given moved paired filled index;
       closed = ap (λ (s : Contents S). s.is_open) c.give_shifts-2.ensures ∙ closed;
       marks = marks;
       works = shifts_done m Stands HasNumber e b dead old new lists c.args.place shifts c.requires.can c.requires.known c.requires.of c.requires.listed given moved paired filled index marks ending;

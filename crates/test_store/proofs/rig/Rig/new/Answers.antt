@@ -1,4 +1,4 @@
-use Rattle.test_store.proofs.rig.Held.new.Goals as goal
+use Rattle.test_store.proofs.rig.Rig.new.Goals as goal
 
 pub invariant_of-result : goal.invariant_of-result
 invariant_of-result g c = record {
