@@ -105,8 +105,8 @@ impl<M: Monitor> Walk<'_, M> {
         self.read_entries(place, entries, free, shifts.as_mut_slice(), steps)
     }
 
-    /// The same of the entries of the list. The parameters are those to which an instance above the event's binding may
-    /// give a dead object. It is inlined, so that a 0 which stands at the call makes a loop that asks nothing of objects.
+    /// Reads the entries of the list so. The parameters are those to which an instance above the event's binding may
+    /// give a dead object. It is inlined, so that a 0 which stands at the call makes a loop that asks for no object.
     #[inline(always)]
     fn read_entries<L: Ledger>(
         &self,

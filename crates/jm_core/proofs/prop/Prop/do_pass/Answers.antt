@@ -23,5 +23,5 @@ pub returns-clause-fits : goal.returns-clause-fits
 returns-clause-fits g c =
     fits_history (g.M.Monitor.meaning (g.M.Monitor.definition c.self.inside.rules)) (g.M.Monitor.StandsFor c.self.inside.rules) c.push_sparing.new.self c.self.inside.objects c.dispose-kept.new.self (invariant_of-self g c).0
 
-pub dispose-requires-clause-fits : goal.dispose-requires-clause-fits
-dispose-requires-clause-fits g c = record { fits = c.self.invariant.0.fits; spared = c.self.invariant.0.holds.spared }
+pub dispose-kept-requires-clause-fits : goal.dispose-kept-requires-clause-fits
+dispose-kept-requires-clause-fits g c = record { fits = c.self.invariant.0.fits; spared = c.self.invariant.0.holds.spared }
