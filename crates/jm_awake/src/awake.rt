@@ -189,7 +189,7 @@ impl Awake {
         }
     }
 
-    /// Makes cards for so many slots and one more, if it may and memory isn't wanting, and answers whether they are
+    /// Makes cards for so many slots and one more, if it may, unless out of memory, and answers whether they are
     /// there.
     pub fn cover(&mut self, slot: usize, grows: bool) -> bool
         ensures covered { IsCovered self.old self.new }
@@ -202,8 +202,8 @@ impl Awake {
     }
 
     /// Lists a slot wherever its monitor, of this instance, may be changed: at all letters but those at which it rests.
-    /// `mourns` says that an object of the instance is dead. It takes memory only if it may; where some is wanting, lists
-    /// are let go.
+    /// `mourns` says that an object of the instance is dead. It takes memory only if it may; out of memory, lists are
+    /// let go.
     #[inline(never)]
     pub fn wake(&mut self, slot: usize, instance: &Binding, resting: u32, mourns: bool, grows: bool)
         ensures sound { (q : Option ℕ) (o : Occupants) → IsWakable q o self.old slot instance.now resting
@@ -259,8 +259,8 @@ impl Awake {
         requires { letter < 32 }
         ensures within { IfSome result (λ place. place < length self.now.lists) }
         ensures takes { IfSome result (λ place. Takes self.now letter instance.now place) }
-        ensures only { AreFound self.now → (place : ℕ) → IsKept self.now place → Takes self.now letter instance.now place
-            → result ≡ Some place }
+        ensures only { AreFound self.now → (place : ℕ) → IsKept self.now place
+            → Takes self.now letter instance.now place → result ≡ Some place }
     {
         let place = self.place(letter, path_within(instance, self.masks[letter as usize]))?;
         if self.lists[place].takes(letter, instance) {
@@ -327,7 +327,7 @@ impl Awake {
         self.cards[slot].leave()
     }
 
-    /// Makes a list of a letter and a binding, of these slots, if memory isn't wanting; where some is, lists are let go.
+    /// Makes a list of a letter and a binding, of these slots; out of memory, lists are let go.
     pub fn list_all(&mut self, letter: Letter, binding: &Binding, slots: &[usize])
         requires { letter.0 < 32 }
         ensures sound { (o : Occupants) → AreAllAbove o self.old binding.now slots.now → AreSound o self.old
@@ -386,7 +386,7 @@ impl Awake {
         Ok(entries)
     }
 
-    /// Puts a slot into the lists of a letter, and makes what a list has of it, if memory isn't wanting.
+    /// Puts a slot into the lists of a letter, and makes what a list has of it, unless out of memory.
     fn list_slot(&mut self, letter: u32, slot: usize) -> Option<Listed>
         requires { letter < 32 }
         ensures { IfSome result (λ entry. IsListedAt letter slot entry self.old self.new) }
@@ -464,7 +464,7 @@ impl Awake {
     }
 }
 
-/// Makes cards up to that of a slot, and answers whether memory wasn't wanting.
+/// Makes cards up to that of a slot, unless out of memory, and answers whether they are there.
 fn add_cards(cards: &mut Vec<Card>, slot: usize) -> bool
     ensures same { (k : ℕ) → slice_index_or cards.new.items k fresh ≡ slice_index_or cards.old.items k fresh }
     ensures size { length cards.old.items ≤ length cards.new.items }

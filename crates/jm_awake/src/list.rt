@@ -123,7 +123,7 @@ impl AwakeList {
         }
     }
 
-    /// Drops what counts for nothing, and makes room for more, if it may, much is left and memory isn't wanting.
+    /// Drops what counts for nothing, and makes room for more, if it may and much is left, unless out of memory.
     fn make_room(&mut self, cards: &[Card], grows: bool)
         ensures { self.new ≡ record self.old { entries = filter (is_there cards.now) self.old.entries } }
     {

@@ -97,7 +97,7 @@ HasNamesFrom l p (Some o ∷ b) = (p < length l.parameters) × (o < length l.obj
 abbrev pub IsPrintableFiring : Lexicon → Firing → Type 0
 IsPrintableFiring l f = (f.handler < length l.handlers) × HasNamesFrom l 0 f.instance
 
--- a step and its outcome have names, and aren't want of memory
+-- a step and its outcome have names, and aren't out of memory
 abbrev pub IsPrintableStep : Lexicon → Step → Outcome → Type 0
 IsPrintableStep l (Event e b) (Fired firings) =
     (e.0 < length l.events) × HasNamesFrom l 0 b × All (IsPrintableFiring l) firings

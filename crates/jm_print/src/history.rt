@@ -41,7 +41,7 @@ impl<'a> Model for Printer<'a> {
 }
 
 /// The text of a history: its specification, a line for each entry and for each handler that ran, with the lines that
-/// the handler prints behind it, and how many entries there are. No entry may have met want of memory, and each letter,
+/// the handler prints behind it, and how many entries there are. No entry may be out of memory, and each letter,
 /// parameter, handler and object has its name. The handlers stand in the order of their categories; one that isn't
 /// there prints nothing.
 pub fn render_history(

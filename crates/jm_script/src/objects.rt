@@ -60,7 +60,7 @@ pub fn have_room(alloc: Global, objects: &[&[u8]], names: &Names) -> Result<bool
     have_room_for_new(alloc, objects, names)
 }
 
-/// The same, by counting those that are new.
+/// Whether there is room for the names of these objects, by counting those that are new.
 #[inline(never)]
 fn have_room_for_new(alloc: Global, objects: &[&[u8]], names: &Names) -> Result<bool, NoMemory>
     requires objects { IsTrue (list_all is_object (map (λ w. w.now) objects.now)) }

@@ -100,7 +100,8 @@ pub fn project(alloc: Global, script: &Script, spec: u8) -> Result<Vec<(u32, Ste
     project_lines(alloc, script.lines(), spec)
 }
 
-/// The same in blocks of not many steps, which can be let go one by one.
+/// The steps of a script that are for a specification, as `project` gives them, in blocks of not many steps, which can
+/// be let go one by one.
 pub fn project_in_blocks(
     alloc: Global,
     script: &Script,

@@ -109,7 +109,7 @@ fn event_of<'a>(
     Ok(event)
 }
 
-/// The same by a look-up.
+/// The event that words name, by looking it up in the catalog.
 fn new_event(
     catalog: &Catalog,
     position: Position,

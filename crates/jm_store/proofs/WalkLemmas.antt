@@ -1,5 +1,5 @@
 -- Monitors of a list that are read by their numbers, and get other numbers.
-use Rattle.std.proofs.Common.{◌≡◌, ◌≢◌, ℕ, zero, suc, ◌+◌, ◌-◌, ◌/◌, ◌%◌, ◌^◌, ◌<◌, inl, inr, Bool, true, false, List, [], ◌∷◌, ◌++◌, length, take, drop, get_or, refl, sym, ap, ◌∙◌, subst, append-nil, arith}
+use Rattle.std.proofs.Common.{◌≡◌, ◌≢◌, ℕ, zero, suc, ◌+◌, ◌-◌, ◌/◌, ◌%◌, ◌^◌, ◌<◌, inl, inr, Bool, true, false, List, [], ◌∷◌, ◌++◌, length, take, drop, get_or, replicate, refl, sym, ap, ◌∙◌, subst, append-nil, arith}
 use Rattle.std.specs.Prelude.{Option, Some, None, Contains, AllPairs, slice_get, slice_index, slice_index_or, slice_set, bit_and, ◌==◌, ◌&&◌}
 use Rattle.std.specs.Int.{w8, w32, bit_at, trailing_zeros}
 use Rattle.std.proofs.lemmas.Bool.{cases_eq, cases_lt, lt-ltb}
@@ -23,11 +23,12 @@ use Rattle.jm_marks.specs.Marks.{dead_mask_of, is_dead_object}
 use Rattle.jm_monitors.specs.declared.stored.Stored.{Stored}
 use Rattle.jm_monitors.specs.Steps.{IsOverAfter}
 use Rattle.jm_store.specs.declared.walk.Shift.{Shift}
+use Rattle.jm_store.specs.declared.walk.Turn.{Turn}
 use Rattle.jm_store.specs.declared.monitors.Slot.{Slot}
 use Rattle.jm_store.specs.declared.monitors.Slot.TheVariants.{Free, Planned, Taken}
 use Rattle.jm_store.specs.Slots.{monitor_in, monitor_at, monitors_of, slot_at, stored_in}
 use Rattle.jm_store.specs.Moves.{IsPushed, IsAtRest}
-use Rattle.jm_store.specs.Walks.{AreAliveBut, AreAmong, AreRows, EndsAll, EndsLike, IsShifting, IsShiftAt, IsShifted, AreShifted, IsAlike, AreAlike}
+use Rattle.jm_store.specs.Walks.{AreAliveBut, AreAmong, AreRows, EndsAll, EndsLike, IsTurn, no_turn, AreTurns, IsShifting, IsShiftAt, IsShifted, AreShifted, IsAlike, AreAlike}
 use Rattle.jm_store.proofs.ReportLemmas.{set_from_bit}
 use Rattle.jm_store.proofs.SlotLemmas.{monitor_at-slot, slot_at-set_same, slot_at-set_other, used_within, monitor_used, not_taken}
 
@@ -138,6 +139,20 @@ module _ (m : Meaning) {S : Type 0} (Stands : S → List ℕ → Type 0) where
 -- letters among some that a row has at a number
 pub like_by : (ending : List ℕ) (domain letters : ℕ) (row : List ℕ) (number : ℕ) → AreAmong ending domain letters → EndsAll letters row number → EndsLike ending domain row number
 like_by ending domain letters row number among all e ends = all e (among e ends)
+
+-- ---- moves that were noted
+pub no_turns : (plain : List ℕ) (ends : ℕ) (endings : List ℕ) (n k : ℕ) → IsTurn plain ends endings (slice_index_or (replicate n no_turn) k no_turn)
+no_turns plain ends endings zero k low = absurd (omega (arith, low))
+no_turns plain ends endings (suc n) zero low = absurd (omega (arith, low))
+no_turns plain ends endings (suc n) (suc k) low = no_turns plain ends endings n k low
+
+-- one more
+pub noted : (plain : List ℕ) (ends : ℕ) (endings : List ℕ) (old new : List Turn) (i : ℕ) (turn : Turn) → AreTurns plain ends endings old → slice_index_or new i no_turn ≡ turn
+    → ((k : ℕ) → (k ≡ i → ⊥) → slice_index_or new k no_turn ≡ slice_index_or old k no_turn) → IsTurn plain ends endings turn → AreTurns plain ends endings new
+noted plain ends endings old new i turn before here others is k = elim (cases_eq k i) [
+  | inl same ↦ subst (IsTurn plain ends endings) (sym (ap (λ (n : ℕ). slice_index_or new n no_turn) same ∙ here)) is
+  | inr other ↦ subst (IsTurn plain ends endings) (sym (others k other)) (before k)
+]
 
 -- an entry still counts if its card has its age
 pub there_by : (cards : List Card) (x : Listed) → x.slot < length cards → is_there cards x ≡ ((slice_index_or cards x.slot fresh).age / 2 == x.age / 2)

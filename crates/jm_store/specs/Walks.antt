@@ -1,6 +1,6 @@
 -- How the monitors of a list are read, where their numbers tell all of them what the event makes of them, and how those
 -- that it changes get other numbers.
-use Rattle.std.specs.Prelude.{ℕ, ◌≡◌, ◌≢◌, ◌<◌, Bool, true, false, List, Option, Some, None, Contains, length, slice_get}
+use Rattle.std.specs.Prelude.{ℕ, ◌≡◌, ◌≢◌, ◌<◌, Bool, true, false, List, Option, Some, None, Contains, length, slice_get, slice_index_or}
 use Rattle.std.specs.Int.{bit_at}
 use Rattle.jm_model.specs.Words.{Mask, Word}
 use Rattle.jm_model.specs.Bindings.{is_below, mask_of, object_at}
@@ -44,6 +44,14 @@ EndsLike ending domain row number =
 abbrev pub IsTurn : List ℕ → Mask → List Mask → Turn → Type 0
 IsTurn plain ends endings turn =
     turn.from < 65536 → (slice_get plain turn.from ≡ Some turn.to) × (turn.to < at_rest) × EndsAll ends endings turn.to
+
+-- no number was noted
+abbrev pub no_turn : Turn
+no_turn = record { from = 4294967295; to = no_number }
+
+-- and so do all of these
+abbrev pub AreTurns : List ℕ → Mask → List Mask → List Turn → Type 0
+AreTurns plain ends endings turns = (k : ℕ) → IsTurn plain ends endings (slice_index_or turns k no_turn)
 
 module _ (m : Meaning) {S : Type 0} (Stands : S → Word → Type 0) (HasNumber : S → ℕ → Type 0) (letter : ℕ) where
   -- The rows tell by the number of a state what the letter makes of it, and which letters end an instance of it.

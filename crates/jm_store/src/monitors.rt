@@ -91,17 +91,12 @@ impl<S: Drop> Monitors<S> {
         Some(lent)
     }
 
-    /// The monitor of a slot that has one, which is one step.
+    /// The slots.
     #[inline(always)]
-    pub(crate) fn lend_taken<L: Ledger>(&self, slot: usize, steps: &mut Steps<L>) -> &Stored<S>
-        requires { (s : Kept S) × (monitor_at (monitors_of self.now.slots) slot ≡ Some s) }
-        ensures value { monitor_at (monitors_of self.now.slots) slot ≡ Some result.now }
-        ensures steps { steps.new ≡ steps.old + 1 }
+    pub(crate) fn slots(&self) -> &[Slot<S>]
+        ensures { result.now ≡ self.now.slots }
     {
-        match self.lend(slot, steps) {
-            Some(monitor) => monitor,
-            None => unreachable!(),
-        }
+        self.slots.as_slice()
     }
 
     fn peek(&self, slot: usize) -> Option<&Stored<S>>

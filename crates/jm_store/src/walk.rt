@@ -1,6 +1,6 @@
 //! How the monitors of a list are read and moved where their numbers tell what the event makes of them: some get
 //! another state, and the others rest.
-ghost use Rattle.std.specs.Prelude.{◌≡◌, ◌≢◌, ℕ, ◌+◌, ◌<◌, ◌≤◌, [], ◌∷◌, ◌++◌, List, AllPairs, Contains, Some, true};
+ghost use Rattle.std.specs.Prelude.{◌≡◌, ◌≢◌, ℕ, ◌+◌, ◌/◌, ◌%◌, ◌==◌, ◌<◌, ◌≤◌, [], ◌∷◌, ◌++◌, List, AllPairs, Contains, Some, true};
 ghost use Rattle.std.specs.Prelude.{false, IfSome, length, slice_get, slice_index_or, take};
 ghost use Rattle.std.specs.Int.{bit_at};
 ghost use Rattle.jm_model.specs.Bindings.{is_below, mask_of, object_at};
@@ -13,10 +13,10 @@ ghost use Rattle.jm_monitors.specs.Steps.{IsOverAfter};
 ghost use Rattle.jm_store.specs.Slots.{monitors_of, monitor_at};
 ghost use Rattle.jm_store.specs.Moves.{AreGiven, IsPushed, IsAtRest};
 ghost use Rattle.jm_store.specs.Listed.{slots_listed, AreListed};
-ghost use Rattle.jm_store.specs.Walks.{AreRows, AreAliveBut, EndsAll, IsShifting, IsShiftAt, IsTurn, EndsLike};
+ghost use Rattle.jm_store.specs.Walks.{AreRows, AreAliveBut, EndsAll, IsShifting, IsShiftAt, no_turn, AreTurns, EndsLike};
 ghost use Rattle.jm_store.specs.Walks.{AreAmong, HaveMonitors, IsShifted, AreShifted, AreAlike};
 
-use crate::monitors::{Monitors, Slot};
+use crate::monitors::Slot;
 use crate::moves::MANY;
 use jm_awake::{Awake, Card, Listed};
 use jm_model::{AT_REST, Binding, Letter, Monitor, NO_NUMBER, Steps};
@@ -31,7 +31,8 @@ pub(crate) struct Shift {
     pub(crate) number: u16,
 }
 
-/// The number of a state that the event moved, and the number that it gave; above all numbers where it moved none yet.
+/// The number of a state that the event moves, and that of the state to which it leads; above all numbers where none is
+/// known yet.
 #[derive(Clone, Copy)]
 pub(crate) struct Turn {
     pub(crate) from: u32,
@@ -43,7 +44,7 @@ pub(crate) struct Turn {
 pub(crate) struct Walk<'a, M: Monitor> {
     pub(crate) rules: &'a M,
     pub(crate) objects: &'a Objects,
-    pub(crate) monitors: &'a Monitors<M::State>,
+    pub(crate) slots: &'a [Slot<M::State>],
     pub(crate) awake: &'a Awake,
     pub(crate) letter: Letter,
     pub(crate) binding: &'a Binding,
@@ -84,15 +85,15 @@ impl<M: Monitor> Walk<'_, M> {
         requires within { place < length self.now.awake.now.lists }
         requires of { IsListOf (list_at self.now.awake.now place) self.now.letter.0 self.now.binding.now }
         requires listed { AreListed (M.meaning (M.definition self.now.rules.now)) (M.StandsFor self.now.rules.now)
-            self.now.objects.now (monitors_of self.now.monitors.now.slots) self.now.awake.now }
-        requires ends { (k : ℕ) (s : Kept M.State) → monitor_at (monitors_of self.now.monitors.now.slots) k ≡ Some s
+            self.now.objects.now (monitors_of self.now.slots.now) self.now.awake.now }
+        requires ends { (k : ℕ) (s : Kept M.State) → monitor_at (monitors_of self.now.slots.now) k ≡ Some s
             → is_below self.now.binding.now s.instance ≡ true
             → AreAmong self.now.ending.now (mask_of s.instance) self.now.ends }
         requires room { length (list_at self.now.awake.now place).entries ≤ length shifts.old.items }
         ensures given { IfSome result (λ count. AreGiven (IsShiftAt (M.meaning (M.definition self.now.rules.now))
             (M.StandsFor self.now.rules.now) (M.HasNumber self.now.rules.now) self.now.letter.0
             self.now.objects.now self.now.binding.now self.now.ending.now self.now.awake.now
-            (monitors_of self.now.monitors.now.slots))
+            (monitors_of self.now.slots.now))
             (slots_listed self.now.awake.now place) (take count shifts.new.items)) }
         ensures within { IfSome result (λ count. count ≤ length shifts.new.items) }
         ensures steps { steps.new ≤ steps.old + length (slots_listed self.now.awake.now place) }
@@ -121,8 +122,8 @@ impl<M: Monitor> Walk<'_, M> {
         requires free { AreAliveBut self.now.objects.now self.now.binding.now free }
         requires of { IsListOf (list_at self.now.awake.now place) self.now.letter.0 self.now.binding.now }
         requires listed { AreListed (M.meaning (M.definition self.now.rules.now)) (M.StandsFor self.now.rules.now)
-            self.now.objects.now (monitors_of self.now.monitors.now.slots) self.now.awake.now }
-        requires ends { (k : ℕ) (s : Kept M.State) → monitor_at (monitors_of self.now.monitors.now.slots) k ≡ Some s
+            self.now.objects.now (monitors_of self.now.slots.now) self.now.awake.now }
+        requires ends { (k : ℕ) (s : Kept M.State) → monitor_at (monitors_of self.now.slots.now) k ≡ Some s
             → is_below self.now.binding.now s.instance ≡ true
             → AreAmong self.now.ending.now (mask_of s.instance) self.now.ends }
         requires entries { entries.now ≡ (list_at self.now.awake.now place).entries }
@@ -130,7 +131,7 @@ impl<M: Monitor> Walk<'_, M> {
         ensures given { IfSome result (λ count. AreGiven (IsShiftAt (M.meaning (M.definition self.now.rules.now))
             (M.StandsFor self.now.rules.now) (M.HasNumber self.now.rules.now) self.now.letter.0
             self.now.objects.now self.now.binding.now self.now.ending.now self.now.awake.now
-            (monitors_of self.now.monitors.now.slots))
+            (monitors_of self.now.slots.now))
             (slots_there self.now.awake.now.cards entries.now) (take count shifts.new)) }
         ensures within { IfSome result (λ count. count ≤ length shifts.new) }
         ensures length { length shifts.new ≡ length shifts.old }
@@ -139,16 +140,16 @@ impl<M: Monitor> Walk<'_, M> {
         let _place = place;
         let cards = self.awake.cards();
         let letters = self.awake.letters();
-        let mut last = Turn {
+        let mut turns = [Turn {
             from: u32::MAX,
             to: NO_NUMBER,
-        };
+        }; 16];
         let mut count = 0;
         for entry in entries {
             let card = card_of(cards, entry.slot());
-            if card.is_there(entry)
+            if is_there(card, entry)
                 && !self.read(
-                    entry, &card, letters, free, &mut last, shifts, &mut count, steps,
+                    entry, card, letters, free, &mut turns, shifts, &mut count, steps,
                 )
             {
                 return None;
@@ -174,7 +175,8 @@ impl<M: Monitor> Walk<'_, M> {
     }
 
     /// Reads the monitor of an entry, and adds what becomes of it. Answers whether its number tells that. The
-    /// parameters are those to which its instance may give a dead object.
+    /// parameters are those to which its instance may give a dead object. A state's move is looked up once, and again
+    /// where a state whose number ends alike came between.
     #[inline(always)]
     fn read<L: Ledger>(
         &self,
@@ -182,7 +184,7 @@ impl<M: Monitor> Walk<'_, M> {
         card: &Card,
         letters: u32,
         free: u8,
-        last: &mut Turn,
+        turns: &mut [Turn; 16],
         shifts: &mut [Shift],
         count: &mut usize,
         steps: &mut Steps<L>,
@@ -191,34 +193,35 @@ impl<M: Monitor> Walk<'_, M> {
             (M.HasNumber self.now.rules.now) self.now.letter.0 self.now.plain.now self.now.endings.now }
         requires free { AreAliveBut self.now.objects.now self.now.binding.now free }
         requires there { (s : Kept M.State)
-            × (monitor_at (monitors_of self.now.monitors.now.slots) entry.now.slot ≡ Some s)
+            × (monitor_at (monitors_of self.now.slots.now) entry.now.slot ≡ Some s)
             × (is_below self.now.binding.now s.instance ≡ true)
             × AreAmong self.now.ending.now (mask_of s.instance) self.now.ends }
         requires card { card.now ≡ card_at self.now.awake.now entry.now.slot }
         requires letters { letters ≡ self.now.awake.now.letters }
-        requires turn { IsTurn self.now.plain.now self.now.ends self.now.endings.now last.old }
+        requires turns { AreTurns self.now.plain.now self.now.ends self.now.endings.now turns.old }
         requires room { count.old < length shifts.old }
-        ensures turn { IsTurn self.now.plain.now self.now.ends self.now.endings.now last.new }
+        ensures turns { AreTurns self.now.plain.now self.now.ends self.now.endings.now turns.new }
         ensures given { result ≡ true → IsPushed (IsShiftAt (M.meaning (M.definition self.now.rules.now))
             (M.StandsFor self.now.rules.now) (M.HasNumber self.now.rules.now) self.now.letter.0
             self.now.objects.now self.now.binding.now self.now.ending.now self.now.awake.now
-            (monitors_of self.now.monitors.now.slots))
+            (monitors_of self.now.slots.now))
             entry.now.slot (take count.old shifts.old) (take count.new shifts.new) }
         ensures count { count.new ≤ count.old + 1 }
         ensures length { length shifts.new ≡ length shifts.old }
         ensures steps { steps.new ≤ steps.old + 1 }
     {
-        let base = self.monitors.lend_taken(entry.slot(), steps);
+        let base = monitor_in(self.slots, entry.slot(), steps);
         let Some(number) = self.rules.number(&base.state) else {
             return false;
         };
         if !self.is_whole(&base.instance, free) {
             return false;
         }
-        if last.is_from(number) {
-            return add(entry, card, letters, last.to, shifts, count);
+        let turn = turn_of(turns, number);
+        if turn.is_from(number) {
+            return add(entry, card, letters, turn.to, shifts, count);
         }
-        let next = self.look_up(number, &base.instance, last);
+        let next = self.look_up(number, &base.instance, turns);
         if next == NO_NUMBER {
             return false;
         }
@@ -231,10 +234,10 @@ impl<M: Monitor> Walk<'_, M> {
     /// What the row has at the number of a state, if the letters that end all monitors with the parameters of an
     /// instance end the states with that number.
     #[inline(never)]
-    fn look_up(&self, number: u16, instance: &Binding, last: &mut Turn) -> u16
-        requires turn { IsTurn self.now.plain.now self.now.ends self.now.endings.now last.old }
+    fn look_up(&self, number: u16, instance: &Binding, turns: &mut [Turn; 16]) -> u16
+        requires turns { AreTurns self.now.plain.now self.now.ends self.now.endings.now turns.old }
         requires among { AreAmong self.now.ending.now (mask_of instance.now) self.now.ends }
-        ensures turn { IsTurn self.now.plain.now self.now.ends self.now.endings.now last.new }
+        ensures turns { AreTurns self.now.plain.now self.now.ends self.now.endings.now turns.new }
         ensures at { result ≢ no_number → slice_get self.now.plain.now number ≡ Some result }
         ensures over { result ≢ no_number → result ≢ at_rest
             → EndsLike self.now.ending.now (mask_of instance.now) self.now.endings.now result }
@@ -244,10 +247,7 @@ impl<M: Monitor> Walk<'_, M> {
             return next;
         }
         if end_all(self.ends, self.endings, next) {
-            *last = Turn {
-                from: number as u32,
-                to: next,
-            };
+            note_turn(turns, number, next);
             return next;
         }
         if end_all(self.ending[instance.mask() as usize], self.endings, next) {
@@ -274,11 +274,66 @@ impl<M: Monitor> Walk<'_, M> {
 
 /// The card of a slot.
 #[inline(always)]
-fn card_of(cards: &[Card], slot: usize) -> Card
+fn card_of(cards: &[Card], slot: usize) -> &Card
     requires { slot < length cards.now }
-    ensures { result ≡ slice_index_or cards.now slot fresh }
+    ensures { result.now ≡ slice_index_or cards.now slot fresh }
 {
-    cards[slot]
+    &cards[slot]
+}
+
+/// Whether an entry still counts, by the card of its slot.
+#[inline(always)]
+fn is_there(card: &Card, entry: &Listed) -> bool
+    ensures { result ≡ (card.now.age / 2 == entry.now.age / 2) }
+{
+    card.is_whole(entry) || still_counts(card, entry)
+}
+
+/// Whether an entry still counts though its age isn't that of the card.
+#[inline(never)]
+fn still_counts(card: &Card, entry: &Listed) -> bool
+    ensures { result ≡ (card.now.age / 2 == entry.now.age / 2) }
+{
+    card.is_there(entry)
+}
+
+/// The move that was noted last of those whose numbers leave what this one leaves when divided by 16.
+#[inline(always)]
+fn turn_of(turns: &[Turn; 16], number: u16) -> Turn
+    ensures { result ≡ slice_index_or turns.now (number % 16) no_turn }
+{
+    turns[number as usize % 16]
+}
+
+/// Notes a move.
+#[inline(always)]
+fn note_turn(turns: &mut [Turn; 16], from: u16, to: u16)
+    ensures here { slice_index_or turns.new (from % 16) no_turn ≡ record { from = from; to = to } }
+    ensures others { (k : ℕ) → (k ≡ from % 16 → ⊥) → slice_index_or turns.new k no_turn
+        ≡ slice_index_or turns.old k no_turn }
+{
+    turns[from as usize % 16] = Turn {
+        from: from as u32,
+        to,
+    };
+}
+
+/// The monitor of a slot that has one, which is one step.
+#[inline(always)]
+fn monitor_in<'a, S, L: Ledger>(
+    slots: &'a [Slot<S>],
+    slot: usize,
+    steps: &mut Steps<L>,
+) -> &'a Stored<S>
+    requires { (s : Kept S) × (monitor_at (monitors_of slots.now) slot ≡ Some s) }
+    ensures value { monitor_at (monitors_of slots.now) slot ≡ Some result.now }
+    ensures steps { steps.new ≡ steps.old + 1 }
+{
+    let Slot::Taken(monitor) = &slots[slot] else {
+        unreachable!();
+    };
+    steps.tick();
+    monitor
 }
 
 /// Whether the shifts of a list with so many entries are worth their while.

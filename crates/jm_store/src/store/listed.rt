@@ -104,7 +104,8 @@ impl<M: Monitor> Store<M> {
         Ok(moves)
     }
 
-    /// The same, with the list as it is but for those that are off it by now.
+    /// What the event makes of the monitors of its list. Those that it leaves as they are leave the lists of the
+    /// letter, and are still among the entries of this one.
     fn read_listed<L: Ledger>(
         &self,
         event: &Event<'_, M>,

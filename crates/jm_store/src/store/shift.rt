@@ -59,7 +59,7 @@ impl<M: Monitor> Store<M> {
         let walk = Walk {
             rules,
             objects,
-            monitors: &self.monitors,
+            slots: self.monitors.slots(),
             awake,
             letter,
             binding,

@@ -10,14 +10,14 @@ use Rattle.jm_store.specs.Walks.{IsShiftAt}
 use Rattle.jm_store.specs.Slots.{monitors_of}
 use Rattle.jm_store.proofs.GivenLemmas.{pushed}
 use Rattle.jm_store.proofs.ListedLemmas.{listed_each, slots_at, slots_fewer}
-use Rattle.jm_store.proofs.WalkLemmas.{there_by}
+use Rattle.jm_store.proofs.WalkLemmas.{there_by, no_turns}
 use Rattle.jm_store.proofs.walk.Walk.read_entries.Goals as goal
 use Rattle.jm_store.proofs.walk.Walk.read_entries.Goals.{else-is_there-via-then-is_there+else-not-read, else-is_there-via-else-is_there}
 
 pub loop-entry-init : goal.loop-entry-init
 loop-entry-init g c = record {
   given = refl;
-  turn = λ low. absurd (omega (arith, low));
+  turns = no_turns c.args.self.now.plain.now c.args.self.now.ends c.args.self.now.endings.now 16;
   few = omega arith;
   room = omega arith;
   size = refl;
@@ -39,7 +39,7 @@ pub read-requires-clause-there : goal.read-requires-clause-there
 read-requires-clause-there g c =
     let m = g.M.Monitor.meaning (g.M.Monitor.definition c.args.self.now.rules.now) in
     let Stands = g.M.Monitor.StandsFor c.args.self.now.rules.now in
-    let monitors = monitors_of c.args.self.now.monitors.now.slots in
+    let monitors = monitors_of c.args.self.now.slots.now in
     let lists = c.args.self.now.awake.now in
     let place = c.args.place in
     let entries = c.args.entries.now in
@@ -48,7 +48,7 @@ read-requires-clause-there g c =
     let has : Contains (list_at lists place).entries x =
     subst (λ (l : List Listed). Contains l x) c.requires.entries (Contains-get_or entries c.loop-entry.entry-index none c.loop-entry-test.true) in
     let low : x.slot < length lists.cards = (c.requires.listed.sound.each place x c.requires.of.kept has).within in
-    let card : c.card_of-card.result ≡ card_at lists x.slot = c.card_of-card.ensures ∙ ap (λ (n : ℕ). slice_index_or c.cards-cards.result.now n fresh) c.slot.ensures ∙ ap (λ (l : List Card). slice_index_or l x.slot fresh) c.cards-cards.ensures in
+    let card : c.card_of-card.result.now ≡ card_at lists x.slot = c.card_of-card.ensures ∙ ap (λ (n : ℕ). slice_index_or c.cards-cards.result.now n fresh) c.slot.ensures ∙ ap (λ (l : List Card). slice_index_or l x.slot fresh) c.cards-cards.ensures in
     let age = c.is_there.ensures ∙ ap (λ (y : Card). (y.age / 2 == x.age / 2)) card in
     let is : is_there lists.cards x ≡ true = there_by lists.cards x low ∙ sym age ∙ c.if-is_there.true in
     let (s, at, below) = listed_each m Stands c.args.self.now.objects.now None monitors lists place c.args.self.now.letter.0 c.args.self.now.binding.now c.requires.of c.requires.listed x has is in
@@ -74,7 +74,7 @@ returns-then-not-read-clause-steps g c =
     let x = get_or entries i none in
     let has : Contains (list_at lists place).entries x = subst (λ (l : List Listed). Contains l x) c.requires.entries (Contains-get_or entries i none c.loop-entry-test.true) in
     let low : x.slot < length cards = (c.requires.listed.sound.each place x c.requires.of.kept has).within in
-    let card : c.card_of-card.result ≡ card_at lists x.slot = c.card_of-card.ensures ∙ ap (λ (n : ℕ). slice_index_or c.cards-cards.result.now n fresh) c.slot.ensures ∙ ap (λ (l : List Card). slice_index_or l x.slot fresh) c.cards-cards.ensures in
+    let card : c.card_of-card.result.now ≡ card_at lists x.slot = c.card_of-card.ensures ∙ ap (λ (n : ℕ). slice_index_or c.cards-cards.result.now n fresh) c.slot.ensures ∙ ap (λ (l : List Card). slice_index_or l x.slot fresh) c.cards-cards.ensures in
     let age = c.is_there.ensures ∙ ap (λ (y : Card). (y.age / 2 == x.age / 2)) card in
     let is : is_there cards x ≡ true = there_by cards x low ∙ sym age ∙ c.if-is_there.true in
     let more = slots_at cards entries entries i none true refl c.loop-entry-test.true is in
@@ -93,7 +93,7 @@ loop-entry-preserved g c =
     let x = get_or entries i none in
     let has : Contains (list_at lists place).entries x = subst (λ (l : List Listed). Contains l x) c.requires.entries (Contains-get_or entries i none c.loop-entry-test.true) in
     let low : x.slot < length cards = (c.requires.listed.sound.each place x c.requires.of.kept has).within in
-    let card : c.card_of-card.result ≡ card_at lists x.slot = c.card_of-card.ensures ∙ ap (λ (n : ℕ). slice_index_or c.cards-cards.result.now n fresh) c.slot.ensures ∙ ap (λ (l : List Card). slice_index_or l x.slot fresh) c.cards-cards.ensures in
+    let card : c.card_of-card.result.now ≡ card_at lists x.slot = c.card_of-card.ensures ∙ ap (λ (n : ℕ). slice_index_or c.cards-cards.result.now n fresh) c.slot.ensures ∙ ap (λ (l : List Card). slice_index_or l x.slot fresh) c.cards-cards.ensures in
     let age = c.is_there.ensures ∙ ap (λ (y : Card). (y.age / 2 == x.age / 2)) card in
     let same = there_by cards x low ∙ sym age in
     let slots = slots_there cards (take i entries) in
@@ -101,9 +101,9 @@ loop-entry-preserved g c =
       | else-is_there-via-then-is_there+else-not-read w ↦
           let more = slots_at cards entries entries i none true refl c.loop-entry-test.true (same ∙ w.if-is_there.true) in
           let at = w.read.ensures in
-          rw (w.last-is, w.shifts-is, w.count-is, w.steps-is, more) (record {
+          rw (w.turns-is, w.shifts-is, w.count-is, w.steps-is, more) (record {
             given = pushed _ slots x.slot (take c.loop-entry.count c.loop-entry.shifts) (take w.read.new.count w.read.new.shifts) inv.given (at.given w.if-not-read.false);
-            turn = at.turn;
+            turns = at.turns;
             few = omega (arith, inv.few, at.count);
             room = omega (arith, inv.few, at.count, at.length, inv.size, c.requires.room, c.loop-entry-test.true);
             size = at.length ∙ inv.size;
@@ -111,9 +111,9 @@ loop-entry-preserved g c =
           })
       | else-is_there-via-else-is_there w ↦
           let more = slots_at cards entries entries i none false refl c.loop-entry-test.true (same ∙ w.if-is_there.false) in
-          rw (w.last-is, w.shifts-is, w.count-is, w.steps-is, more, append-nil slots) (record {
+          rw (w.turns-is, w.shifts-is, w.count-is, w.steps-is, more, append-nil slots) (record {
             given = inv.given;
-            turn = inv.turn;
+            turns = inv.turns;
             few = omega (arith, inv.few);
             room = inv.room;
             size = inv.size;
@@ -127,5 +127,5 @@ returns-clause-given g c =
     let entries = c.args.entries.now in
     let i = c.loop-entry.entry-index in
     let R = IsShiftAt (g.M.Monitor.meaning (g.M.Monitor.definition c.args.self.now.rules.now)) (g.M.Monitor.StandsFor c.args.self.now.rules.now) (g.M.Monitor.HasNumber c.args.self.now.rules.now)
-    c.args.self.now.letter.0 c.args.self.now.objects.now c.args.self.now.binding.now c.args.self.now.ending.now lists (monitors_of c.args.self.now.monitors.now.slots) in
+    c.args.self.now.letter.0 c.args.self.now.objects.now c.args.self.now.binding.now c.args.self.now.ending.now lists (monitors_of c.args.self.now.slots.now) in
     subst (λ (l : List Listed). AreGiven R (slots_there lists.cards l) (take c.loop-entry.count c.loop-entry.shifts)) (take_all i entries c.loop-entry-test.false) c.loop-entry.invariant.given

@@ -28,7 +28,7 @@ returns-then-free-eq0-clause-given g c =
     let whole : length items ≡ c.args.shifts.now.len = sym (ap length value) ∙ c.as_mut_slice.ensures.len in
     let size : length new ≡ length items = c.read_entries.ensures.length ∙ ap length value in
     let R = IsShiftAt (g.M.Monitor.meaning (g.M.Monitor.definition walk.rules.now)) (g.M.Monitor.StandsFor walk.rules.now) (g.M.Monitor.HasNumber walk.rules.now) walk.letter.0 walk.objects.now walk.binding.now walk.ending.now lists
-    (monitors_of walk.monitors.now.slots) in
+    (monitors_of walk.slots.now) in
     rw (written_back c.args.shifts.now.len items new whole size)
     (subst (λ (l : List Listed). IfSome c.read_entries.result (λ (count : ℕ). AreGiven R (slots_there lists.cards l) (take count new))) c.entries-entries.ensures c.read_entries.ensures.given)
 
@@ -56,7 +56,7 @@ returns-clause-given g c =
     let whole : length items ≡ c.args.shifts.now.len = sym (ap length value) ∙ c.as_mut_slice-2.ensures.len in
     let size : length new ≡ length items = c.read_entries-2.ensures.length ∙ ap length value in
     let R = IsShiftAt (g.M.Monitor.meaning (g.M.Monitor.definition walk.rules.now)) (g.M.Monitor.StandsFor walk.rules.now) (g.M.Monitor.HasNumber walk.rules.now) walk.letter.0 walk.objects.now walk.binding.now walk.ending.now lists
-    (monitors_of walk.monitors.now.slots) in
+    (monitors_of walk.slots.now) in
     rw (written_back c.args.shifts.now.len items new whole size)
     (subst (λ (l : List Listed). IfSome c.read_entries-2.result (λ (count : ℕ). AreGiven R (slots_there lists.cards l) (take count new))) c.entries-entries.ensures c.read_entries-2.ensures.given)
 
