@@ -5,6 +5,7 @@ use Rattle.jm_index.specs.Index.{Pair}
 use Rattle.jm_monitors.proofs.BaseLemmas.{object-among}
 use Rattle.jm_monitors.specs.declared.stored.Stored.{Stored}
 use Rattle.jm_store.specs.declared.walk.Shift.{Shift}
+use Rattle.jm_store.specs.declared.monitors.Slot.{Slot}
 use Rattle.jm_store.specs.Slots.{monitors_of, monitor_at}
 use Rattle.jm_store.specs.Moves.{AreGiven}
 use Rattle.jm_store.specs.Contents.{Contents, ArePaired, IsFilled}
@@ -22,8 +23,10 @@ read_list-requires-clause-live g c = λ o binds. c.requires.can.event.live o (ob
 
 pub read_list-requires-clause-ends : goal.read_list-requires-clause-ends
 read_list-requires-clause-ends g c =
-    subst (λ (s : Contents g.row.M-State.Denot). (k : ℕ) (t : Stored g.row.M-State.Denot) → monitor_at s.monitors k ≡ Some t → is_below c.args.binding.now t.instance ≡ true → AreAmong s.ending (mask_of t.instance) c.ends_above.result)
-    (sym c.self.view_is) c.ends_above.ensures
+    let ends = subst (λ (s : Contents g.row.M-State.Denot). (k : ℕ) (t : Stored g.row.M-State.Denot) → monitor_at s.monitors k ≡ Some t → is_below c.args.binding.now t.instance ≡ true → AreAmong s.ending (mask_of t.instance) c.ends_above.result)
+    (sym c.self.view_is) c.ends_above.ensures in
+    subst (λ (l : List (Slot g.row.M-State.Denot)). (k : ℕ) (t : Stored g.row.M-State.Denot) → monitor_at (monitors_of l) k ≡ Some t → is_below c.args.binding.now t.instance ≡ true → AreAmong c.self.inside.ending (mask_of t.instance) c.ends_above.result)
+    (sym c.slots.ensures) ends
 
 pub read_list-requires-clause-room : goal.read_list-requires-clause-room
 read_list-requires-clause-room g c = omega (arith, ap length c.entries-met.ensures, c.has_room.ensures c.if-not-has_room.false)
@@ -49,9 +52,12 @@ shift_all-requires-clause-apart g c =
     let b = c.args.binding.now in
     let e = c.args.letter.0 in
     let dead = c.args.objects.now in
+    let read : AreGiven (IsShiftAt m Stands (g.M.Monitor.HasNumber c.args.rules.now) e dead b c.self.inside.ending lists (monitors_of c.self.inside.monitors.slots)) (slots_listed lists c.args.place) (take c.in-Some.count c.read_list.new.shifts.items) =
+    subst (λ (l : List (Slot g.row.M-State.Denot)). AreGiven (IsShiftAt m Stands (g.M.Monitor.HasNumber c.args.rules.now) e dead b c.self.inside.ending lists (monitors_of l)) (slots_listed lists c.args.place) (take c.in-Some.count c.read_list.new.shifts.items))
+    c.slots.ensures c.in-Some.ensures.given in
     rw c.as_slice.ensures.value
     (shifts_apart m Stands (g.M.Monitor.HasNumber c.args.rules.now) e dead b c.self.inside.ending lists (monitors_of c.self.inside.monitors.slots) (slots_listed lists c.args.place) (take c.in-Some.count c.read_list.new.shifts.items)
-    c.in-Some.ensures.given
+    read
     (listed_apart m Stands dead None c.args.self.now.monitors lists c.args.place e b c.requires.of c.requires.listed))
 
 pub shift_all-requires-clause-there : goal.shift_all-requires-clause-there
@@ -59,9 +65,15 @@ shift_all-requires-clause-there g c =
     let m = g.M.Monitor.meaning (g.M.Monitor.definition c.args.rules.now) in
     let Stands = g.M.Monitor.StandsFor c.args.rules.now in
     let lists = c.args.awake.now in
+    let b = c.args.binding.now in
+    let e = c.args.letter.0 in
+    let dead = c.args.objects.now in
+    let read : AreGiven (IsShiftAt m Stands (g.M.Monitor.HasNumber c.args.rules.now) e dead b c.self.inside.ending lists (monitors_of c.self.inside.monitors.slots)) (slots_listed lists c.args.place) (take c.in-Some.count c.read_list.new.shifts.items) =
+    subst (λ (l : List (Slot g.row.M-State.Denot)). AreGiven (IsShiftAt m Stands (g.M.Monitor.HasNumber c.args.rules.now) e dead b c.self.inside.ending lists (monitors_of l)) (slots_listed lists c.args.place) (take c.in-Some.count c.read_list.new.shifts.items))
+    c.slots.ensures c.in-Some.ensures.given in
     rw c.as_slice.ensures.value
-    (shifts_there m Stands (g.M.Monitor.HasNumber c.args.rules.now) c.args.letter.0 c.args.objects.now c.args.binding.now c.self.inside.ending lists (monitors_of c.self.inside.monitors.slots) (slots_listed lists c.args.place)
-    (take c.in-Some.count c.read_list.new.shifts.items) c.in-Some.ensures.given)
+    (shifts_there m Stands (g.M.Monitor.HasNumber c.args.rules.now) e dead b c.self.inside.ending lists (monitors_of c.self.inside.monitors.slots) (slots_listed lists c.args.place)
+    (take c.in-Some.count c.read_list.new.shifts.items) read)
 
 pub invariant_of-self : goal.invariant_of-self
 invariant_of-self g c =
@@ -84,8 +96,11 @@ returns-clause-done g c = λ yes.
     let taken = c.take_shifts-shifts.ensures in
     let whole = c.self.view_is ∙ taken in
     let monitors : monitors_of slots ≡ old.monitors = ap (λ (s : Contents S). s.monitors) whole in
+    let read : AreGiven (IsShiftAt m Stands (g.M.Monitor.HasNumber c.args.rules.now) e dead b c.self.inside.ending lists (monitors_of c.self.inside.monitors.slots)) (slots_listed lists c.args.place) (take c.in-Some.count c.read_list.new.shifts.items) =
+    subst (λ (l : List (Slot g.row.M-State.Denot)). AreGiven (IsShiftAt m Stands (g.M.Monitor.HasNumber c.args.rules.now) e dead b c.self.inside.ending lists (monitors_of l)) (slots_listed lists c.args.place) (take c.in-Some.count c.read_list.new.shifts.items))
+    c.slots.ensures c.in-Some.ensures.given in
     let given : AreGiven (IsShiftAt m Stands HasNumber e dead b old.ending lists old.monitors) (slots_listed lists c.args.place) shifts =
-    subst (λ (s : Contents S). AreGiven (IsShiftAt m Stands HasNumber e dead b s.ending lists s.monitors) (slots_listed lists c.args.place) shifts) whole c.in-Some.ensures.given in
+    subst (λ (s : Contents S). AreGiven (IsShiftAt m Stands HasNumber e dead b s.ending lists s.monitors) (slots_listed lists c.args.place) shifts) whole read in
     let after : new.monitors ≡ monitors_of c.shift_all.new.self.slots = ap (λ (s : Contents S). s.monitors) c.give_shifts-2.ensures in
     let moved : AreShifted HasNumber shifts old.monitors new.monitors =
     subst (λ (l : List (Option (Stored S))). AreShifted HasNumber shifts l new.monitors) monitors
@@ -125,10 +140,13 @@ returns-clause-listed g c =
     let shifts = take c.in-Some.count c.read_list.new.shifts.items in
     let whole = c.self.view_is ∙ c.take_shifts-shifts.ensures in
     let monitors : monitors_of slots ≡ c.args.self.now.monitors = ap (λ (s : Contents S). s.monitors) whole in
+    let read : AreGiven (IsShiftAt m Stands (g.M.Monitor.HasNumber c.args.rules.now) e dead b c.self.inside.ending lists (monitors_of c.self.inside.monitors.slots)) (slots_listed lists c.args.place) (take c.in-Some.count c.read_list.new.shifts.items) =
+    subst (λ (l : List (Slot g.row.M-State.Denot)). AreGiven (IsShiftAt m Stands (g.M.Monitor.HasNumber c.args.rules.now) e dead b c.self.inside.ending lists (monitors_of l)) (slots_listed lists c.args.place) (take c.in-Some.count c.read_list.new.shifts.items))
+    c.slots.ensures c.in-Some.ensures.given in
     let before : AreListed m Stands dead (monitors_of slots) lists = subst (λ (l : List (Option (Stored S))). AreListed m Stands dead l lists) (sym monitors) c.requires.listed in
     let moved = subst (λ (l : List Shift). AreShifted HasNumber (take c.in-Some.count l) (monitors_of slots) (monitors_of c.shift_all.new.self.slots)) c.as_slice.ensures.value c.shift_all.ensures.moved in
     rw c.give_shifts-2.ensures
-    (shifts_listed m Stands HasNumber e dead b c.self.inside.ending lists (monitors_of slots) (slots_listed lists c.args.place) shifts c.in-Some.ensures.given (monitors_of c.shift_all.new.self.slots) moved before)
+    (shifts_listed m Stands HasNumber e dead b c.self.inside.ending lists (monitors_of slots) (slots_listed lists c.args.place) shifts read (monitors_of c.shift_all.new.self.slots) moved before)
 
 pub returns-clause-steps : goal.returns-clause-steps
 returns-clause-steps g c =
