@@ -22,8 +22,7 @@ pub record Replayed {D : Type 0} (caller : ℕ) (steps : List (ℕ × Step)) (be
   pub each : AreEntriesOf caller steps added
   pub done : All (λ x. x.outcome ≢ NoMemory) added
 
--- a core to whose history entries were added for the first of the steps, of which only the last may have met want
--- of memory
+-- a core to whose history entries were added for the first of the steps, of which only the last may be out of memory
 pub record ReplayedInPart {D : Type 0} (caller : ℕ) (steps : List (ℕ × Step)) (before after : Core D) : Type 0 where
   pub first : List (ℕ × Step)
   pub is_prefix : IsPrefix first steps

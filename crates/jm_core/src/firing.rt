@@ -1,11 +1,11 @@
 //! What an event comes to in a store.
-ghost use Rattle.std.specs.Prelude.{◌≡◌, ◌<◌, ◌↔◌, true, false, None, Contains, IsTrue, length};
+ghost use Rattle.std.specs.Prelude.{◌≡◌, ◌<◌, ◌↔◌, false, None, Contains, IfNone, IsTrue, length};
 ghost use Rattle.jm_index.specs.Index.{AreBelow, AreLive, IsFitting};
 ghost use Rattle.jm_monitors.specs.Steps.{IsLiveEvent};
 ghost use Rattle.jm_store.specs.Contents.{IsFit};
 ghost use Rattle.jm_awake.specs.Awake.{list_at, IsListOf};
 ghost use Rattle.jm_store.specs.Listed.{AreListed, KeepListed};
-ghost use Rattle.jm_store.specs.Plans.{Advances, CanPlan, IsShiftDone, Plans, PlansUnlessRests};
+ghost use Rattle.jm_store.specs.Plans.{Advances, CanPlan, Plans, PlansUnlessRests};
 ghost use Rattle.jm_core.specs.Inside.{first_dead_by, Performs};
 
 use jm_awake::Awake;
@@ -85,7 +85,7 @@ fn answer<M: Monitor>(
     fire(rules, objects, store, awake, letter, binding, known)
 }
 
-/// What an event comes to whose list was found: at once, where it only gives monitors other states, or by a plan.
+/// What an event comes to whose list was found: at once, or by a plan.
 #[inline(always)]
 fn answer_by_list<M: Monitor>(
     alloc: Global,
@@ -107,7 +107,7 @@ fn answer_by_list<M: Monitor>(
     ensures { Performs (M.meaning (M.definition rules.now)) (M.StandsFor rules.now) objects.now
         (record { letter = letter.0; binding = binding.now }) store.old store.new awake.old awake.new result }
 {
-    if counted_shift::<M, Brand>(
+    if let Some(done) = counted_advance_listed::<M, Brand>(
         rules,
         objects,
         store,
@@ -117,43 +117,41 @@ fn answer_by_list<M: Monitor>(
         binding,
         Blank::new(1),
     ) {
-        return (
-            Outcome::Fired(Firings::new(alloc)),
-            Outcome::Fired(Firings::new(alloc)),
-        );
+        return (Outcome::Fired(done.answer), Outcome::Fired(done.copy));
     }
     answer_listed(alloc, rules, objects, store, awake, place, letter, binding)
 }
 
-/// Does an event whose list was found at once, if it only gives monitors other states, with a counter made of a ledger
+/// Does an event whose list was found at once, unless most monitors of the list rest, with a counter made of a ledger
 /// of one part.
-fn counted_shift<M: Monitor, L: Ledger>(
+fn counted_advance_listed<M: Monitor, L: Ledger>(
     rules: &M,
     objects: &Objects,
     store: &mut Store<M>,
-    awake: &Awake,
+    awake: &mut Awake,
     place: usize,
     letter: Letter,
     binding: &Binding,
     blank: Blank,
-) -> bool
+) -> Option<Done>
     requires name { blank.name ≡ L.name }
     requires parts { blank.parts ≡ L.parts }
     requires one { blank.parts ≡ 1 }
     requires can { CanPlan (M.meaning (M.definition rules.now)) objects.now letter.0 binding.now store.old }
     requires known { Contains store.old.marks binding.now }
-    requires within { place < length awake.now.lists }
-    requires of { IsListOf (list_at awake.now place) letter.0 binding.now }
+    requires within { place < length awake.old.lists }
+    requires of { IsListOf (list_at awake.old place) letter.0 binding.now }
     requires listed { AreListed (M.meaning (M.definition rules.now)) (M.StandsFor rules.now) objects.now
-        store.old.monitors awake.now }
-    ensures same { result ≡ false → store.new ≡ store.old }
-    ensures done { result ≡ true → IsShiftDone (M.meaning (M.definition rules.now)) (M.StandsFor rules.now)
-        objects.now letter.0 binding.now store.old store.new }
+        store.old.monitors awake.old }
+    ensures same { IfNone result (store.new ≡ store.old) }
+    ensures lists { IfNone result (awake.new ≡ awake.old) }
+    ensures advances { Advances (M.meaning (M.definition rules.now)) (M.StandsFor rules.now) objects.now letter.0
+        binding.now store.old store.new result }
     ensures listed { AreListed (M.meaning (M.definition rules.now)) (M.StandsFor rules.now) objects.now
-        store.new.monitors awake.now }
+        store.new.monitors awake.new }
 {
     let mut steps = Steps::<L>::new(blank);
-    store.shift_listed(rules, objects, awake, place, letter, binding, &mut steps)
+    store.advance_listed(rules, objects, awake, place, letter, binding, &mut steps)
 }
 
 /// What an event comes to whose list was found, by a plan.
@@ -178,7 +176,7 @@ fn answer_listed<M: Monitor>(
     ensures { Performs (M.meaning (M.definition rules.now)) (M.StandsFor rules.now) objects.now
         (record { letter = letter.0; binding = binding.now }) store.old store.new awake.old awake.new result }
 {
-    let planned = counted_listed::<M, Brand>(
+    let planned = counted_plan_listed::<M, Brand>(
         rules,
         objects,
         store,
@@ -203,7 +201,7 @@ fn answer_listed<M: Monitor>(
 }
 
 /// Plans an event of which there is a list, with a counter made of a ledger of one part.
-fn counted_listed<M: Monitor, L: Ledger>(
+fn counted_plan_listed<M: Monitor, L: Ledger>(
     rules: &M,
     objects: &Objects,
     store: &mut Store<M>,
@@ -292,25 +290,26 @@ fn fire<M: Monitor>(
 {
     match counted_plan::<M, Brand>(rules, objects, store, letter, binding, known, Blank::new(1)) {
         Ok(plan) => {
-            let many = known && plan.met_many();
+            let listed = known && plan.is_worth_listing();
             store.follow(awake, &plan);
             let (answer, copy) = store.commit(plan);
-            list_many(rules, objects, store, awake, letter, binding, many);
+            list_if(rules, objects, store, awake, letter, binding, listed);
             (Outcome::Fired(answer), Outcome::Fired(copy))
         }
         Err(NoMemory) => (Outcome::NoMemory, Outcome::NoMemory),
     }
 }
 
-/// Lists the monitors above the binding of an event, if it met many.
-fn list_many<M: Monitor>(
+/// Lists the monitors above the binding of an event, if that is worth its while: when the event comes again, it reads
+/// only those that it may change.
+fn list_if<M: Monitor>(
     rules: &M,
     objects: &Objects,
     store: &Store<M>,
     awake: &mut Awake,
     letter: Letter,
     binding: &Binding,
-    many: bool,
+    listed: bool,
 )
     requires closed { store.now.is_open ≡ false }
     requires letter { letter.0 < (M.meaning (M.definition rules.now)).letters }
@@ -319,7 +318,7 @@ fn list_many<M: Monitor>(
     ensures { KeepListed (M.meaning (M.definition rules.now)) (M.StandsFor rules.now) objects.now
         store.now.monitors store.now.monitors awake.old awake.new }
 {
-    if many {
+    if listed {
         store.list(rules, objects, awake, letter, binding);
     }
 }

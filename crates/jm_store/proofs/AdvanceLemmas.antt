@@ -1,8 +1,8 @@
 -- An event that reaches one monitor alone and makes none.
-use Rattle.std.proofs.Common.{◌≡◌, ℕ, ◌+◌, ◌≤◌, ◌⊎◌, inl, inr, Bool, true, false, cond, List, [], ◌∷◌, refl, sym, ap, ◌∙◌, subst, arith}
+use Rattle.std.proofs.Common.{◌≡◌, ℕ, ◌+◌, ◌≤◌, ◌⊎◌, inl, inr, Bool, true, false, List, [], ◌∷◌, refl, sym, ap, ◌∙◌, subst, arith}
 use Rattle.std.specs.Prelude.{Option, Some, None, Contains, MatchOption, count_by}
 use Rattle.std.specs.List.Sorted.{IsPermutation}
-use Rattle.std.proofs.lemmas.Bool.{eq-eqb, cases_eq}
+use Rattle.std.proofs.lemmas.Bool.{eq-eqb}
 use Rattle.std.proofs.lemmas.Option.{none-some}
 use Rattle.std.proofs.lemmas.List.Sorted.{IsPermutation-refl}
 use Rattle.jm_model.specs.Bindings.{is_below, is_compatible, join, mask_of}
@@ -18,12 +18,10 @@ use Rattle.jm_monitors.specs.declared.stored.Stored.{Stored}
 use Rattle.jm_monitors.specs.Steps.{IsBase, IsOverAfter, IsLiveEvent, AreMarksAfter}
 use Rattle.jm_store.specs.declared.moves.Move.{Move}
 use Rattle.jm_store.specs.Slots.{monitor_at}
-use Rattle.jm_store.specs.Moves.{AreMovesOf, IsOutcomeAt, AreEnding, reached_by, after_moves, has_all, ends_all}
+use Rattle.jm_store.specs.Moves.{AreMovesOf, IsOutcomeAt, AreEnding, reached_by, has_all, ends_all}
 use Rattle.jm_store.specs.Contents.{Contents, stored_of, IsSpared, IsStoreAfter, ArePlacedOf, IsEventDone, IsSlotAdvanced, IsOnlyAbove, IsNoneAbove}
-use Rattle.jm_store.proofs.SlotLemmas.{stored_at, place_of}
 use Rattle.jm_store.proofs.EventLemmas.{advanced_next, moved_above}
 use Rattle.jm_store.proofs.MoveLemmas.{join_above, compatible_above}
-use Rattle.jm_store.proofs.AfterLemmas.{moved_other, moved_here}
 use Rattle.jm_store.proofs.VisitLemmas.{mask_within, slots_counted}
 use Rattle.jm_store.proofs.PlacingLemmas.{placed_already}
 use Rattle.jm_store.proofs.ReportLemmas.{report_none}
@@ -46,10 +44,10 @@ module _ {S : Type 0} (b : Binding) (old : Contents S) (k : ℕ) (only : IsOnlyA
   pub one_counted : (steps after : ℕ) → after ≤ steps + 1 → after ≤ steps + count_by (λ s. is_compatible s.instance b) (stored_of old)
   one_counted steps after few = omega (arith, few, slots_counted old.monitors (λ s. is_compatible s.instance b) (k ∷ []) only.visit.apart only.visit.each)
 
-module _ (m : Meaning) {S : Type 0} (Stands : S → List ℕ → Type 0) (letter : ℕ) (b : Binding) (dead : List Bool) (old new : Contents S) (k : ℕ) (base : Stored S) (stays : Bool) (firings : List Firing)
-    (only : IsOnlyAbove b old k) (at : monitor_at old.monitors k ≡ Some base) (known : Contains old.marks b) (done : IsSlotAdvanced m Stands letter dead k base old new stays firings) where
+module _ (m : Meaning) {S : Type 0} (Stands : S → List ℕ → Type 0) (letter : ℕ) (b : Binding) (dead : List Bool) (old new : Contents S) (k : ℕ) (base : Stored S) (firings : List Firing)
+    (only : IsOnlyAbove b old k) (at : monitor_at old.monitors k ≡ Some base) (known : Contains old.marks b) (done : IsSlotAdvanced m Stands letter dead k base old new firings) where
   abbrev move : Move S
-  move = record { slot = Some k; monitor = record { instance = base.instance; state = done.state }; stays = stays }
+  move = record { slot = Some k; monitor = record { instance = base.instance; state = done.state }; stays = done.stays }
 
   below : is_below b base.instance ≡ true
   below = only.above base at
@@ -60,7 +58,7 @@ module _ (m : Meaning) {S : Type 0} (Stands : S → List ℕ → Type 0) (letter
   -- the plan's one move
   outcome : IsOutcomeAt m Stands letter b dead old.marks old.monitors k (Some move)
   outcome = rw at (moved_above m Stands letter b dead old.marks k base base.instance move (sym (join_above b base.instance compatible below)) compatible below
-      (advanced_next m Stands letter dead (Some k) base.instance base.state done.state stays done.next))
+      (advanced_next m Stands letter dead (Some k) base.instance base.state done.state done.stays done.next))
 
   all : AreMovesOf m Stands letter b dead old.marks (has_all b) old.monitors (move ∷ [])
   all = record { slots = k ∷ []; visit = only.visit; given = (Some move, outcome, ([], refl, refl)) }
@@ -105,21 +103,6 @@ module _ (m : Meaning) {S : Type 0} (Stands : S → List ℕ → Type 0) (letter
         };
         none_cut = rw done.monitors after.1;
       }
-
-  -- where the monitor goes, nothing else is stored than before
-  pub one_dropped : stays ≡ false → (s : Stored S) → Contains (stored_of new) s → Contains (stored_of old) s
-  one_dropped goes s there =
-      let (j, is) = place_of new.monitors s there in
-      let is' : monitor_at (after_moves (move ∷ []) old.monitors) j ≡ Some s = ap (λ (l : List (Option (Stored S))). monitor_at l j) (sym done.monitors) ∙ is in
-      let low = only.paired.within (record { binding = base.instance; slot = k }) (only.paired.paired k base at) in
-      elim (cases_eq j k) [
-        | inl same ↦ absurd (none-some s (ap (λ (t : Bool). cond t (Some move.monitor) None) (sym goes) ∙ sym (moved_here (Some k) (cond stays (Some move.monitor) None) old.monitors k refl low)
-            ∙ ap (monitor_at (after_moves (move ∷ []) old.monitors)) (sym same) ∙ is'))
-        | inr other ↦ stored_at old.monitors j s (sym (moved_other (Some k) (cond stays (Some move.monitor) None) old.monitors j (λ e. other (sym (same_slot e)))) ∙ is')
-      ]
-    where
-      same_slot : {j : ℕ} → Some k ≡ Some j → k ≡ j
-      same_slot e = cc
 
 -- An event that reaches no monitor and makes none: all is as before.
 module _ (m : Meaning) {S : Type 0} (Stands : S → List ℕ → Type 0) (letter : ℕ) (b : Binding) (dead : List Bool) (store : Contents S) (none : IsNoneAbove b store) (known : Contains store.marks b) where

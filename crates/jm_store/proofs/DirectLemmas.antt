@@ -1,5 +1,5 @@
 -- An event that makes something of one monitor at most.
-use Rattle.std.proofs.Common.{◌≡◌, ℕ, ◌⊎◌, inl, inr, Bool, true, false, cond, List, [], ◌∷◌, ◌++◌, length, refl, sym, ap, ◌∙◌, subst, arith}
+use Rattle.std.proofs.Common.{◌≡◌, ℕ, inl, inr, Bool, true, cond, List, [], ◌∷◌, ◌++◌, length, refl, sym, ap, ◌∙◌, subst, arith}
 use Rattle.std.specs.Prelude.{Option, Some, None, Contains, IsTrue, IfNone, IfSome}
 use Rattle.std.specs.Option.{is_some}
 use Rattle.std.proofs.lemmas.Bool.{false≢true}
@@ -19,10 +19,8 @@ use Rattle.jm_monitors.specs.declared.stored.Stored.{Stored}
 use Rattle.jm_monitors.specs.Steps.{IsOverAfter, IsLiveEvent, AreMarksAfter, IsReport}
 use Rattle.jm_store.specs.declared.moves.Move.{Move}
 use Rattle.jm_store.specs.Slots.{monitor_at}
-use Rattle.jm_store.specs.Moves.{AreMovesRead, AreEnding, EndsFewer, LieWithin, reached_by, after_moves, asks_by, ends_all, moved_at}
+use Rattle.jm_store.specs.Moves.{AreMovesRead, AreEnding, EndsFewer, LieWithin, reached_by, after_moves, asks_by, ends_all}
 use Rattle.jm_store.specs.Contents.{Contents, stored_of, IsFit, IsSpared, IsStoreAfter, ArePlaced, ArePlacedOf, ArePaired, IsFilled, IsEventDone, IsStepTaken}
-use Rattle.jm_store.proofs.SlotLemmas.{stored_at, place_of}
-use Rattle.jm_store.proofs.AfterLemmas.{slot_is, moved_other, moved_here}
 use Rattle.jm_store.proofs.EndingLemmas.{fewer-refl}
 use Rattle.jm_store.proofs.StoreLemmas.{store_same, spared_same}
 use Rattle.jm_store.proofs.MoveLemmas.{move_base}
@@ -159,22 +157,6 @@ module _ (m : Meaning) {S : Type 0} (Stands : S → List ℕ → Type 0) (letter
       ended s among e ends =
           let same = one_of t.slotted.monitor s among in
           subst (λ (x : Stored S). IsOverAfter m Stands e x.state 0) same (t.ended e (subst (λ (x : Stored S). ends_all new.ending e (mask_of x.instance) ≡ true) (sym same) ends))
-
--- where the move's monitor goes, nothing else is stored than before
-pub step_dropped : (m : Meaning) {S : Type 0} (Stands : S → List ℕ → Type 0) (step : Move S) (old new : Contents S) (firings : List Firing) → IsStepTaken m Stands step old new firings → step.stays ≡ false
-    → (s : Stored S) → Contains (stored_of new) s → Contains (stored_of old) s
-step_dropped m {S} Stands step old new firings t goes s there =
-    let (j, is) = place_of new.monitors s there in
-    let (first, among, from, missed) = t.placed.each t.slotted (Contains-head t.slotted []) in
-    let gone : t.slotted.stays ≡ false = from.stays ∙ ap (λ (x : Move S). x.stays) (sym (one_of step first among)) ∙ goes in
-    by j (ap (λ (l : List (Option (Stored S))). monitor_at l j) (sym t.monitors) ∙ is) gone (slot_is t.slotted.slot j)
-  where
-    by : (j : ℕ) → monitor_at (moved_at t.slotted.slot (cond t.slotted.stays (Some t.slotted.monitor) None) t.between.monitors) j ≡ Some s → t.slotted.stays ≡ false → (t.slotted.slot ≡ Some j) ⊎ (t.slotted.slot ≡ Some j → ⊥) → Contains (stored_of old) s
-    by j at gone (inl here) =
-        let low = t.paired.within (record { binding = t.slotted.monitor.instance; slot = j }) (t.placed.leads t.slotted j (Contains-head t.slotted []) here) in
-        absurd (none-some s (ap (λ (x : Bool). cond x (Some t.slotted.monitor) None) (sym gone) ∙ sym (moved_here t.slotted.slot (cond t.slotted.stays (Some t.slotted.monitor) None) t.between.monitors j here low) ∙ at))
-    by j at gone (inr other) =
-        subst (λ (l : List (Stored S)). Contains l s) t.stored (stored_at t.between.monitors j s (sym (moved_other t.slotted.slot (cond t.slotted.stays (Some t.slotted.monitor) None) t.between.monitors j other) ∙ at))
 
 -- ---- no move
 module _ (m : Meaning) {S : Type 0} (Stands : S → List ℕ → Type 0) (letter : ℕ) (b : Binding) (dead : List Bool) (known : Bool) (old new : Contents S) where

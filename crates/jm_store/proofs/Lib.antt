@@ -3,6 +3,7 @@ pub mod HousingLemmas
 pub mod KeptLemmas
 pub mod PlanLemmas
 pub mod GivenLemmas
+pub mod PartedLemmas
 pub mod VisitLemmas
 pub mod MoveLemmas
 pub mod AfterLemmas

@@ -103,6 +103,12 @@ module _ (m : Meaning) {S : Type 0} (Stands : S → List ℕ → Type 0) (dead :
       let (s, at, instance) = occupant_at (monitor_at monitors x.slot) entry.occupant entry.here in
       (s, at, subst (λ (t : Binding). is_below t s.instance ≡ true) of.binding (ap (is_below (list_at lists place).binding) instance ∙ entry.below))
 
+  -- and is in the lists of the letter
+  pub listed_on : q ≡ None → (x : Listed) → Contains (list_at lists place).entries x → is_there lists.cards x ≡ true → IsOn (card_at lists x.slot) e
+  listed_on none x has is =
+      let entry = read_each q (occupants_of monitors) lists place listed.sound of.kept x has is in
+      subst (λ (n : ℕ). IsOn (card_at lists x.slot) n) of.letter (entry.on (λ loose. none-some place (sym none ∙ loose)))
+
   -- no slot twice
   pub listed_apart : AllPairs (λ j k. j ≢ k) (slots_listed lists place)
   listed_apart = read_apart q (occupants_of monitors) lists place listed.sound of.kept

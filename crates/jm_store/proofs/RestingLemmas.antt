@@ -6,7 +6,7 @@ use Rattle.std.proofs.lemmas.Bool.{false≢true}
 use Rattle.std.proofs.lemmas.Option.{same_Some, none-some}
 use Rattle.std.proofs.lemmas.List.Elements.{Contains-append_left, Contains-append_right, Contains-append_cases}
 use Rattle.jm_model.specs.Bindings.{mask_of}
-use Rattle.jm_model.specs.Meanings.{Meaning}
+use Rattle.jm_model.specs.Meanings.{Meaning, IsHit}
 use Rattle.jm_model.specs.declared.binding.Binding.{Binding}
 use Rattle.jm_model.specs.declared.firings.Firing.{Firing}
 use Rattle.jm_index.proofs.ReadLemmas.{Contains-none, Contains-cons}
@@ -30,7 +30,7 @@ module _ {X : Type 0} (Q : X → X → Type 0) where
   pairs_left (x ∷ xs) ys h =
       pairs_cons Q x xs (λ y c. pairs_head Q x (xs ++ ys) h y (Contains-append_left xs ys y c)) (pairs_left xs ys (pairs_tail Q x (xs ++ ys) h))
 
-  pairs_right : (xs ys : List X) → AllPairs Q (xs ++ ys) → AllPairs Q ys
+  pub pairs_right : (xs ys : List X) → AllPairs Q (xs ++ ys) → AllPairs Q ys
   pairs_right [] ys h = h
   pairs_right (x ∷ xs) ys h = pairs_right xs ys (pairs_tail Q x (xs ++ ys) h)
 
@@ -52,6 +52,30 @@ pub given_append : {X Y : Type 0} (R : X → Option Y → Type 0) (xs us : List 
 given_append {X} {Y} R [] us ys vs is more = subst (λ (l : List Y). AreGiven R us (l ++ vs)) (sym is) more
 given_append {X} {Y} R (x ∷ xs) us ys vs (o, gives, (rest, given, is)) more =
     (o, gives, (rest ++ vs, given_append R xs us rest vs given more, ap (λ (l : List Y). l ++ vs) is ∙ cons-append R o rest vs))
+
+-- monitors beside those of a report that hit nothing
+pub report_beside : (m : Meaning) {S : Type 0} (Stands : S → List ℕ → Type 0) (moves quiet : List (Move S)) (firings : List Firing)
+    → ((move : Move S) → Contains quiet move → (w : List ℕ) → Stands move.monitor.state w → (h : ℕ) → IsHit m w h → ⊥)
+    → IsReport m Stands (reached_by moves) firings → IsReport m Stands (reached_by (moves ++ quiet)) firings
+report_beside m {S} Stands moves quiet firings none h = record {
+  increasing = h.increasing;
+  each = λ f c.
+      let r = h.each f c in
+      let (move, among, is) = Contains-from_map (λ (x : Move S). x.monitor) moves r.monitor r.among in
+      record {
+        monitor = r.monitor;
+        among = subst (λ (x : Stored S). Contains (reached_by (moves ++ quiet)) x) is (Contains-map (λ (x : Move S). x.monitor) (moves ++ quiet) move (Contains-append_left moves quiet move among));
+        instance = r.instance;
+        full = r.full;
+        hit = r.hit;
+      };
+  all = λ s w k c full stands hit.
+      let (move, among, is) = Contains-from_map (λ (x : Move S). x.monitor) (moves ++ quiet) s c in
+      elim (Contains-append_cases moves quiet move among) [
+        | inl one ↦ h.all s w k (subst (λ (x : Stored S). Contains (reached_by moves) x) is (Contains-map (λ (x : Move S). x.monitor) moves move one)) full stands hit
+        | inr other ↦ absurd (none move other w (subst (λ (x : Stored S). Stands x.state w) (sym is) stands) k hit)
+      ];
+}
 
 set_same : {S : Type 0} (monitors : List (Option (Stored S))) (k : ℕ) (s : Stored S) → monitor_at monitors k ≡ Some s → slice_set monitors k (Some s) ≡ monitors
 set_same [] k s at = refl
@@ -223,25 +247,7 @@ module _ (m : Meaning) {S : Type 0} (Stands : S → List ℕ → Type 0) (letter
 
   -- ---- the answer
   pub report_still : (moves resting : List (Move S)) (firings : List Firing) → AreStill resting → IsReport m Stands (reached_by moves) firings → IsReport m Stands (reached_by (moves ++ resting)) firings
-  report_still moves resting firings each h = record {
-    increasing = h.increasing;
-    each = λ f c.
-        let r = h.each f c in
-        let (move, among, is) = Contains-from_map (λ (x : Move S). x.monitor) moves r.monitor r.among in
-        record {
-          monitor = r.monitor;
-          among = subst (λ (x : Stored S). Contains (reached_by (moves ++ resting)) x) is (Contains-map (λ (x : Move S). x.monitor) (moves ++ resting) move (Contains-append_left moves resting move among));
-          instance = r.instance;
-          full = r.full;
-          hit = r.hit;
-        };
-    all = λ s w k c full stands hit.
-        let (move, among, is) = Contains-from_map (λ (x : Move S). x.monitor) (moves ++ resting) s c in
-        elim (Contains-append_cases moves resting move among) [
-          | inl one ↦ h.all s w k (subst (λ (x : Stored S). Contains (reached_by moves) x) is (Contains-map (λ (x : Move S). x.monitor) moves move one)) full stands hit
-          | inr other ↦ absurd ((each move other).rest.1.quiet w (subst (λ (x : Stored S). Stands x.state w) (sym is) stands) k hit)
-        ];
-  }
+  report_still moves resting firings each h = report_beside m Stands moves resting firings (λ move among w stands k hit. (each move among).rest.1.quiet w stands k hit) h
 
   -- ---- the letters that end the monitors
   pub ending_still : (placed resting : List (Move S)) (old new : List ℕ) → AreStill resting → EndsFewer old new → AreEnding m Stands old (stored_in monitors) → AreEnding m Stands new (reached_by placed)

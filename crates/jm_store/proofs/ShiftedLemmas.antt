@@ -1,17 +1,21 @@
--- An event that gives monitors other states and does nothing else: what it comes to.
-use Rattle.std.proofs.Common.{◌≡◌, ℕ, zero, suc, ◌⊎◌, inl, inr, Bool, true, false, ◌+◌, ◌<◌, max, take, get_or, List, [], ◌∷◌, ◌++◌, length, refl, sym, ap, ◌∙◌, subst, arith}
-use Rattle.std.specs.Prelude.{Option, Some, None, Contains, bit_or, slice_index_or}
+-- An event of which there is a list, done at once: what it comes to.
+use Rattle.std.proofs.Common.{◌≡◌, ◌≢◌, ℕ, zero, suc, ◌⊎◌, inl, inr, Bool, true, false, cond, ◌+◌, ◌<◌, max, take, get_or, List, [], ◌∷◌, ◌++◌, length, refl, sym, ap, ◌∙◌, subst, arith}
+use Rattle.std.specs.Prelude.{Option, Some, None, Contains, AllPairs, bit_or, slice_index_or}
 use Rattle.std.specs.Int.{bit_at}
+use Rattle.std.specs.List.Sorted.{IsPermutation}
 use Rattle.std.proofs.lemmas.Bool.{false≢true, eqb-true}
 use Rattle.std.proofs.lemmas.List.{take_more, same_lists, get_or_default}
-use Rattle.std.proofs.lemmas.List.Elements.{Contains-append_cases}
+use Rattle.std.proofs.lemmas.List.Elements.{Contains-append_cases, Contains-append_left}
+use Rattle.std.proofs.lemmas.List.Sorted.{IsPermutation-refl, IsPermutation-sym, Contains-permutation}
 use Rattle.std.proofs.lemmas.Nat.Bits.{bit_at-lt, bit_at_or}
 use Rattle.std.proofs.lemmas.Option.{none-some, same_Some}
 use Rattle.std.proofs.Math.Nat.{max_comm}
 use Rattle.jm_model.specs.Bindings.{mask_of}
 use Rattle.jm_model.specs.Meanings.{Meaning}
 use Rattle.jm_model.specs.declared.binding.Binding.{Binding}
+use Rattle.jm_model.specs.declared.firings.Firing.{Firing}
 use Rattle.jm_semantics.specs.Traces.{ParametricEvent}
+use Rattle.jm_semantics.proofs.ListLemmas.{Contains-map}
 use Rattle.jm_awake.specs.Awake.{Lists, list_at, IsListOf}
 use Rattle.jm_index.specs.Index.{Pair}
 use Rattle.jm_index.proofs.ReadLemmas.{Contains-none}
@@ -22,22 +26,22 @@ use Rattle.jm_store.specs.declared.monitors.Slot.TheVariants.{Free, Planned, Tak
 use Rattle.jm_store.specs.declared.moves.Move.{Move}
 use Rattle.jm_store.specs.declared.walk.Shift.{Shift}
 use Rattle.jm_store.specs.Slots.{IsUsed, monitor_in, monitors_of, monitor_at, slot_at}
-use Rattle.jm_store.specs.Moves.{AreGiven, AreMovesRead, AreEnding, AreApart, after_moves, asks_by, ends_all, has_all, reached_by}
+use Rattle.jm_store.specs.Moves.{AreMovesRead, AreEnding, AreApart, AreParted, EndsFewer, IsReadAt, after_move, after_moves, asks_by, ends_all, has_all, reached_by}
 use Rattle.jm_store.specs.Contents.{Contents, stored_of, IsSpared, ArePlaced, ArePlacedOf, ArePaired, IsFilled, IsStoreAfter, IsEventDone}
 use Rattle.jm_store.specs.Housing.{IsKept}
-use Rattle.jm_store.specs.Listed.{AreListed, slots_listed}
-use Rattle.jm_store.specs.Plans.{CanPlan}
-use Rattle.jm_store.specs.Walks.{IsShiftAt, AreShifted, IsAlike, AreAlike}
+use Rattle.jm_store.specs.Listed.{AreListed, AreOthersAtRest, slots_listed}
+use Rattle.jm_store.specs.Plans.{CanPlan, IsApplied}
+use Rattle.jm_store.specs.Walks.{HaveMonitors, IsShiftAt, AreShifted, IsAlike, AreAlike}
 use Rattle.jm_store.proofs.AfterLemmas.{length-after}
 use Rattle.jm_store.proofs.DirectLemmas.{spared_at_once, done_at_once, one_of}
-use Rattle.jm_store.proofs.EndingLemmas.{fewer-refl}
-use Rattle.jm_store.proofs.GivenLemmas.{Contains-from_map}
-use Rattle.jm_store.proofs.ListedLemmas.{listed_above, listed_apart, listed_rest, listed_all}
+use Rattle.jm_store.proofs.GivenLemmas.{Contains-from_map, pairs_map}
+use Rattle.jm_store.proofs.ListedLemmas.{AreAbove, listed_above, listed_apart, listed_rest, listed_all}
+use Rattle.jm_store.proofs.MoveLemmas.{move_base}
+use Rattle.jm_store.proofs.PermuteLemmas.{pairs_permuted}
 use Rattle.jm_store.proofs.PlacingLemmas.{placed_already}
-use Rattle.jm_store.proofs.PlanningLemmas.{apart_moves}
-use Rattle.jm_store.proofs.ReportLemmas.{report_none}
-use Rattle.jm_store.proofs.RestingLemmas.{completed, apart_left}
-use Rattle.jm_store.proofs.ShiftLemmas.{IsMadeBy, shifts_as_moves}
+use Rattle.jm_store.proofs.PlanningLemmas.{apart_moves, leads_moves, may_reach, sorted_distinct}
+use Rattle.jm_store.proofs.RestingLemmas.{AreCompleted, completed, apart_left, distinct_left, pairs_right, given_append, placed_resting, report_beside}
+use Rattle.jm_store.proofs.ShiftLemmas.{IsMadeBy, shifts_as_moves, shifts_apart, shifts_there, shifts_listed}
 use Rattle.jm_store.proofs.SlotLemmas.{monitor_at-slot}
 
 -- ---- how the store lies in memory, where slots have as much as they had
@@ -104,96 +108,147 @@ same_all {X} xs ys size each = same_lists xs ys size by
     by : (k : ℕ) (d : Option X) → k < length xs → get_or xs k d ≡ get_or ys k d
     by k d low = get_or_default xs k d None low ∙ each k ∙ sym (get_or_default ys k d None (omega (arith, size, low)))
 
+after_append : {S : Type 0} (xs ys : List (Move S)) (monitors : List (Option (Stored S))) → after_moves (xs ++ ys) monitors ≡ after_moves xs (after_moves ys monitors)
+after_append [] ys monitors = refl
+after_append (x ∷ xs) ys monitors = ap (after_move x) (after_append xs ys monitors)
+
 -- ---- what the event comes to
 module _ (m : Meaning) {S : Type 0} (Stands : S → List ℕ → Type 0) (HasNumber : S → ℕ → Type 0) (letter : ℕ) (b : Binding)
-    (dead : List Bool) (old new : Contents S) (lists : Lists) (place : ℕ) (shifts : List Shift)
-    (can : CanPlan m dead letter b old) (known : Contains old.marks b) (of : IsListOf (list_at lists place) letter b)
-    (listed : AreListed m Stands dead old.monitors lists)
-    (given : AreGiven (IsShiftAt m Stands HasNumber letter dead b old.ending lists old.monitors) (slots_listed lists place) shifts)
-    (moved : AreShifted HasNumber shifts old.monitors new.monitors) (paired : ArePaired old)
-    (filled : (pair : Pair) → Contains old.index.list pair → IsFilled old pair) where
+    (dead : List Bool) (old : Contents S) (lists : Lists) (place : ℕ) (shifts : List Shift) (few : List (Move S))
+    (of : IsListOf (list_at lists place) letter b) (listed : AreListed m Stands dead old.monitors lists)
+    (parted : AreParted (IsShiftAt m Stands HasNumber letter dead b old.ending lists old.monitors)
+    (IsReadAt m Stands letter b dead old.marks old.monitors) (slots_listed lists place) shifts few) where
   abbrev slots : List ℕ
-  slots = slots_listed lists place
+  slots = parted.others ++ parted.told
 
-  both : (moves : List (Move S)) × IsMadeBy m Stands HasNumber letter dead b old.ending lists old.monitors slots shifts given new.monitors moved old.marks moves
-  both = shifts_as_moves m Stands HasNumber letter dead b old.ending lists old.monitors slots shifts given new.monitors moved old.marks
-
-  moves : List (Move S)
-  moves = both.0
-
-  made : IsMadeBy m Stands HasNumber letter dead b old.ending lists old.monitors slots shifts given new.monitors moved old.marks moves
-  unfolding moves both
-  made = both.1
-
-  asks : ℕ → Bool
-  asks = asks_by true old.ending letter b
-
-  read : AreMovesRead m Stands letter b dead old.marks (asks_by true old.ending letter b) old.monitors moves
-  read = listed_all b old.monitors m Stands letter dead old.marks old.ending slots moves
+  slots_apart : AllPairs (λ j k. j ≢ k) (parted.others ++ parted.told)
+  slots_apart = pairs_permuted (λ j k. j ≢ k) (λ j k other same. other (sym same)) (slots_listed lists place) slots parted.all
       (listed_apart m Stands dead None old.monitors lists place letter b of listed)
-      (listed_above m Stands dead None old.monitors lists place letter b of listed) made.read
-      (listed_rest m Stands dead None old.monitors lists place letter b of listed)
 
-  apart : AreApart moves
-  apart =
-      let full = completed m Stands letter b dead old.monitors old.marks (asks_by true old.ending letter b) moves read in
-      apart_left moves full.resting
-      (apart_moves m Stands letter b dead old.marks (asks_by true old.ending letter b) old.monitors (moves ++ full.resting) full.all)
+  slots_above : AreAbove b old.monitors (parted.others ++ parted.told)
+  slots_above k has = listed_above m Stands dead None old.monitors lists place letter b of listed k
+      (Contains-permutation slots (slots_listed lists place) k (IsPermutation-sym (slots_listed lists place) slots parted.all) has)
 
-  leads : ArePlaced old moves
-  leads move k there slot =
-      let (j, s, at, below, is, instance) = made.from move there in
-      let same : j ≡ k = same_Some j k (sym is ∙ slot) in
-      subst (λ (t : Binding). Contains {X = Pair} old.index.list (record { binding = t; slot = k })) (sym instance)
-      (subst (λ (n : ℕ). Contains {X = Pair} old.index.list (record { binding = s.instance; slot = n })) same (paired.paired j s at))
+  slots_rest : AreOthersAtRest m Stands dead letter b (parted.others ++ parted.told) old.monitors
+  slots_rest k s at below = elim (listed_rest m Stands dead None old.monitors lists place letter b of listed k s at below) [
+    | inl has ↦ inl (Contains-permutation (slots_listed lists place) slots k parted.all has)
+    | inr rests ↦ inr rests
+  ]
 
-  slotted : (move : Move S) → Contains moves move → move.slot ≡ None → ⊥
-  slotted move there none =
-      let (j, s, at, below, is, instance) = made.from move there in
-      none-some j (sym none ∙ is)
+  pub parted_apart : AllPairs (λ x y. x.slot ≢ y.slot) shifts
+  parted_apart = shifts_apart m Stands HasNumber letter dead b old.ending lists old.monitors parted.told shifts parted.given
+      (pairs_right (λ j k. j ≢ k) parted.others parted.told slots_apart)
 
-  placed : ArePlacedOf old old moves moves moves
-  placed = placed_already old moves apart leads filled slotted
+  pub parted_there : HaveMonitors shifts old.monitors
+  parted_there = shifts_there m Stands HasNumber letter dead b old.ending lists old.monitors parted.told shifts parted.given
 
-  whole : new.monitors ≡ after_moves moves old.monitors
-  whole = same_all new.monitors (after_moves moves old.monitors)
-      (moved.size ∙ sym (length-after moves old.monitors)) (λ k. sym (made.same k))
+  module _ (mid : Contents S) (moved : AreShifted HasNumber shifts old.monitors mid.monitors) where
+    pub parted_listed : AreListed m Stands dead mid.monitors lists
+    parted_listed = shifts_listed m Stands HasNumber letter dead b old.ending lists old.monitors parted.told shifts parted.given mid.monitors moved listed
 
-  ending_moves : AreEnding m Stands old.ending (reached_by moves)
-  ending_moves s among e ends_here =
-      let (move, there, is) = Contains-from_map (λ (x : Move S). x.monitor) moves s among in
-      let own = subst (λ (x : Stored S). ends_all old.ending e (mask_of x.instance) ≡ true) (sym is) ends_here in
-      subst (λ (x : Stored S). IsOverAfter m Stands e x.state 0) is (made.over move there e own)
+    module _ (can : CanPlan m dead letter b old) (known : Contains old.marks b) (paired : ArePaired old)
+        (filled : (pair : Pair) → Contains old.index.list pair → IsFilled old pair) where
+      both : (moves : List (Move S)) × IsMadeBy m Stands HasNumber letter dead b old.ending lists old.monitors parted.told shifts parted.given mid.monitors moved old.marks moves
+      both = shifts_as_moves m Stands HasNumber letter dead b old.ending lists old.monitors parted.told shifts parted.given mid.monitors moved old.marks
 
-  report : IsReport m Stands (reached_by moves) []
-  report = record {
-    increasing = (report_none m Stands []).increasing;
-    each = λ f none. absurd (Contains-none f none);
-    all = λ s w k among full stands hit.
-        let (move, there, is) = Contains-from_map (λ (x : Move S). x.monitor) moves s among in
-        absurd (made.quiet move there w (subst (λ (x : Stored S). Stands x.state w) (sym is) stands) k hit);
-  }
+      quiet : List (Move S)
+      quiet = both.0
 
-  pub shifts_spared : new.index ≡ old.index → IsSpared m Stands old → IsSpared m Stands new
-  shifts_spared index =
-      spared_at_once m Stands letter b dead true old old new moves moves [] (λ yes. known) read placed paired (λ k. refl) refl refl
-      (λ o is. is) can.fits.index.reached whole (ap (λ i. i.dropped) index)
+      made : IsMadeBy m Stands HasNumber letter dead b old.ending lists old.monitors parted.told shifts parted.given mid.monitors moved old.marks quiet
+      unfolding quiet both
+      made = both.1
 
-  pub shifts_done : new.index ≡ old.index → new.marks ≡ old.marks → new.ending ≡ old.ending
-      → (trace : List ParametricEvent) → IsStoreAfter m Stands trace dead old → IsEventDone m Stands trace dead letter b new []
-  shifts_done index marks ending trace holds =
-      done_at_once m Stands letter b dead true old old new moves moves [] (λ yes. known) read placed paired (λ k. refl) refl refl
-      (λ o is. is) can.fits.index.reached whole (ap (λ i. i.dropped) index) added (rw ending (fewer-refl old.ending))
-      (subst (λ (l : List ℕ). AreEnding m Stands l (reached_by moves)) (sym ending) ending_moves) report trace can.event holds
-    where
-      added : AreMarksAfter b old.marks new.marks
-      added t = (
-        λ has. inl (subst (λ (l : List Binding). Contains l t) marks has),
-        λ either. subst (λ (l : List Binding). Contains l t) (sym marks) (elim either [
-          | inl before ↦ before
-          | inr is ↦ subst (λ (x : Binding). Contains old.marks x) (sym is) known
-        ]),
-      )
+      abbrev moves : List (Move S)
+      moves = few ++ quiet
+
+      abbrev asks : ℕ → Bool
+      asks = asks_by true old.ending letter b
+
+      read : AreMovesRead m Stands letter b dead old.marks (asks_by true old.ending letter b) old.monitors (few ++ quiet)
+      read = listed_all b old.monitors m Stands letter dead old.marks old.ending slots moves slots_apart slots_above
+          (given_append (IsReadAt m Stands letter b dead old.marks old.monitors) parted.others parted.told few quiet parted.read made.read) slots_rest
+
+      full : AreCompleted m Stands letter b dead old.monitors old.marks (asks_by true old.ending letter b) (few ++ quiet)
+      full = completed m Stands letter b dead old.monitors old.marks asks moves read
+
+      apart : AreApart (few ++ quiet)
+      apart = apart_left moves full.resting (apart_moves m Stands letter b dead old.marks asks old.monitors (moves ++ full.resting) full.all)
+
+      leads : ArePlaced old (few ++ quiet)
+      leads move k there slot = leads_moves m Stands letter b dead old.marks asks old.monitors (moves ++ full.resting) full.all old.index.list paired.paired move k
+          (Contains-append_left moves full.resting move there) slot
+
+      slotted : (move : Move S) → Contains (few ++ quiet) move → move.slot ≡ None → ⊥
+      slotted move there none =
+          let (k, visited, base) = move_base m Stands letter b dead old.marks old.monitors asks (moves ++ full.resting) full.all move (Contains-append_left moves full.resting move there) in
+          elim base.moved.is_base.1 [
+            | inl below ↦ none-some k (sym none ∙ base.moved.advanced.slot ∙ ap (λ (t : Bool). cond t (Some k) None) below)
+            | inr fresh ↦ fresh.0 known
+          ]
+
+      placed : ArePlacedOf old old (few ++ quiet) (few ++ quiet) (few ++ quiet)
+      placed = placed_already old moves apart leads filled slotted
+
+      pub few_apart : AreApart few
+      few_apart = apart_left few quiet apart
+
+      pub few_lead : ArePlaced old few
+      few_lead move k there slot = leads move k (Contains-append_left few quiet move there) slot
+
+      module _ (new : Contents S) (applied : IsApplied m Stands few mid new) (index : mid.index ≡ old.index) (marks : mid.marks ≡ old.marks) (ending : mid.ending ≡ old.ending) where
+        whole : new.monitors ≡ after_moves (few ++ quiet) old.monitors
+        whole =
+            let shifted : mid.monitors ≡ after_moves quiet old.monitors = same_all mid.monitors (after_moves quiet old.monitors)
+            (moved.size ∙ sym (length-after quiet old.monitors)) (λ k. sym (made.same k)) in
+            applied.monitors ∙ ap (after_moves few) shifted ∙ sym (after_append few quiet old.monitors)
+
+        dropped : new.index.dropped ≡ old.index.dropped
+        dropped = applied.dropped ∙ ap (λ i. i.dropped) index
+
+        fewer : EndsFewer old.ending new.ending
+        fewer = subst (λ (l : List ℕ). EndsFewer l new.ending) ending applied.fewer
+
+        ending_moves : AreEnding m Stands new.ending (reached_by (few ++ quiet))
+        ending_moves s among e ends_here =
+            let (move, there, is) = Contains-from_map (λ (x : Move S). x.monitor) moves s among in
+            elim (Contains-append_cases few quiet move there) [
+              | inl one ↦ applied.ended s (subst (λ (x : Stored S). Contains (reached_by few) x) is (Contains-map (λ (x : Move S). x.monitor) few move one)) e ends_here
+              | inr other ↦
+                  let own = subst (λ (x : Stored S). ends_all old.ending e (mask_of x.instance) ≡ true) (sym is) (fewer e (mask_of s.instance) ends_here) in
+                  subst (λ (x : Stored S). IsOverAfter m Stands e x.state 0) is (made.over move other e own)
+            ]
+
+        distinct : (trace : List ParametricEvent) → IsStoreAfter m Stands trace dead old → AllPairs (λ r s. r.instance ≢ s.instance) (reached_by few)
+        distinct trace holds =
+            let more = moves ++ full.resting in
+            let order : IsPermutation more more = IsPermutation-refl more in
+            let all_apart = apart_moves m Stands letter b dead old.marks asks old.monitors more full.all in
+            let q = placed_resting m Stands letter b dead old old moves moves full.resting full.each (λ k. refl) placed all_apart paired in
+            let may = may_reach m Stands letter b dead old.marks true old.ending (stored_of old) (λ yes. known) holds.ended in
+            let all = sorted_distinct m Stands letter b dead asks old old more more more full.all may order q paired (λ k. refl) refl refl trace holds.monitors can.event in
+            pairs_map (λ r s. r.instance ≢ s.instance) (λ (x : Move S). x.monitor) few (distinct_left few quiet (distinct_left moves full.resting all))
+
+        pub parted_spared : IsSpared m Stands old → IsSpared m Stands new
+        parted_spared =
+            spared_at_once m Stands letter b dead true old old new moves moves [] (λ yes. known) read placed paired (λ k. refl) refl refl
+            (λ o is. is) can.fits.index.reached whole dropped
+
+        pub parted_marks : AreMarksAfter b old.marks new.marks
+        parted_marks t =
+            let same = applied.marks ∙ marks in (
+              λ has. inl (subst (λ (l : List Binding). Contains l t) same has),
+              λ either. subst (λ (l : List Binding). Contains l t) (sym same) (elim either [
+                | inl before ↦ before
+                | inr is ↦ subst (λ (x : Binding). Contains old.marks x) (sym is) known
+              ]),
+            )
+
+        pub parted_done : (answer : List Firing) → (AllPairs (λ r s. r.instance ≢ s.instance) (reached_by few) → IsReport m Stands (reached_by few) answer)
+            → (trace : List ParametricEvent) → IsStoreAfter m Stands trace dead old → IsEventDone m Stands trace dead letter b new answer
+        parted_done answer report trace holds =
+            done_at_once m Stands letter b dead true old old new moves moves answer (λ yes. known) read placed paired (λ k. refl) refl refl
+            (λ o is. is) can.fits.index.reached whole dropped parted_marks fewer ending_moves
+            (report_beside m Stands few quiet answer made.quiet (report (distinct trace holds))) trace can.event holds
 
 -- ---- letters that end all monitors of some set of parameters
 either_bit : (a c e : ℕ) → (bit_at a e ≡ 1) ⊎ (bit_at c e ≡ 1) → bit_at (bit_or a c) e ≡ 1

@@ -1,5 +1,5 @@
 -- Monitors of a list that are read by their numbers, and get other numbers.
-use Rattle.std.proofs.Common.{◌≡◌, ◌≢◌, ℕ, zero, suc, ◌+◌, ◌-◌, ◌/◌, ◌%◌, ◌^◌, ◌<◌, inl, inr, Bool, true, false, List, [], ◌∷◌, ◌++◌, length, take, drop, get_or, replicate, refl, sym, ap, ◌∙◌, subst, append-nil, arith}
+use Rattle.std.proofs.Common.{◌≡◌, ◌≢◌, ℕ, zero, suc, ◌+◌, ◌-◌, ◌/◌, ◌%◌, ◌^◌, ◌<◌, ◌⊎◌, inl, inr, Bool, true, false, List, [], ◌∷◌, ◌++◌, length, take, drop, get_or, replicate, refl, sym, ap, ◌∙◌, subst, append-nil, arith}
 use Rattle.std.specs.Prelude.{Option, Some, None, Contains, AllPairs, slice_get, slice_index, slice_index_or, slice_set, bit_and, ◌==◌, ◌&&◌}
 use Rattle.std.specs.Int.{w8, w32, bit_at, trailing_zeros}
 use Rattle.std.proofs.lemmas.Bool.{cases_eq, cases_lt, lt-ltb}
@@ -16,7 +16,7 @@ use Rattle.jm_index.specs.Index.{AreLive, flag_of}
 use Rattle.jm_index.proofs.ReadLemmas.{Contains-none}
 use Rattle.jm_awake.specs.declared.card.Card.{Card}
 use Rattle.jm_awake.specs.declared.card.Listed.{Listed}
-use Rattle.jm_awake.specs.Awake.{Lists, fresh, card_at, is_there, IsOn}
+use Rattle.jm_awake.specs.Awake.{fresh, is_there, IsOn}
 use Rattle.jm_awake.proofs.CardLemmas.{first_left}
 use Rattle.jm_awake.proofs.PathLemmas.{bound_one, unbound_zero}
 use Rattle.jm_marks.specs.Marks.{dead_mask_of, is_dead_object}
@@ -27,8 +27,10 @@ use Rattle.jm_store.specs.declared.walk.Turn.{Turn}
 use Rattle.jm_store.specs.declared.monitors.Slot.{Slot}
 use Rattle.jm_store.specs.declared.monitors.Slot.TheVariants.{Free, Planned, Taken}
 use Rattle.jm_store.specs.Slots.{monitor_in, monitor_at, monitors_of, slot_at, stored_in}
-use Rattle.jm_store.specs.Moves.{IsPushed, IsAtRest}
-use Rattle.jm_store.specs.Walks.{AreAliveBut, AreAmong, AreRows, EndsAll, EndsLike, IsTurn, no_turn, AreTurns, IsShifting, IsShiftAt, IsShifted, AreShifted, IsAlike, AreAlike}
+use Rattle.jm_store.specs.Moves.{IsAtRest}
+use Rattle.jm_store.specs.declared.walk.Told.{Told}
+use Rattle.jm_store.specs.declared.walk.Told.TheVariants.{Shifts, Rests, Nothing}
+use Rattle.jm_store.specs.Walks.{AreAliveBut, AreAmong, AreRows, EndsAll, EndsLike, IsTold, IsTurn, no_turn, AreTurns, IsShifting, IsShifted, AreShifted, IsAlike, AreAlike}
 use Rattle.jm_store.proofs.ReportLemmas.{set_from_bit}
 use Rattle.jm_store.proofs.SlotLemmas.{monitor_at-slot, slot_at-set_same, slot_at-set_other, used_within, monitor_used, not_taken}
 
@@ -96,6 +98,14 @@ alive_of (false ∷ flags) zero h = refl
 alive_of (x ∷ flags) (suc o) h = alive_of flags o h
 
 -- ---- what the numbers tell of a monitor
+shifts-nothing : (n : ℕ) → Shifts n ≡ Nothing → ⊥
+shifts-nothing n is = subst is_shift is tt
+  where
+    is_shift : Told → Type 0
+    is_shift (Shifts k) = Unit {0}
+    is_shift Rests = Unit {0}
+    is_shift Nothing = ⊥
+
 module _ (m : Meaning) {S : Type 0} (Stands : S → List ℕ → Type 0) where
   -- one of which nothing is dead, whose state the letter leaves as it is
   pub rests_by : (letter : ℕ) (dead : List Bool) (b : Binding) (base : Stored S) → is_below b base.instance ≡ true → dead_mask_of dead base.instance ≡ 0 → RestsBy S m Stands letter base.state
@@ -125,16 +135,29 @@ module _ (m : Meaning) {S : Type 0} (Stands : S → List ℕ → Type 0) where
         over_by mask e after one (rows.ends next mask found after has');
   }
 
-  -- and is put behind the others
-  pub shift_pushed : (HasNumber : S → ℕ → Type 0) (letter : ℕ) (dead : List Bool) (b : Binding) (plain ending endings : List ℕ) (lists : Lists) (monitors : List (Option (Stored S))) (k : ℕ) (base : Stored S) (before next : ℕ)
-      (old new : List Shift) → AreRows m Stands HasNumber letter plain endings → monitor_at monitors k ≡ Some base → HasNumber base.state before → is_below b base.instance ≡ true → dead_mask_of dead base.instance ≡ 0
-      → slice_get plain before ≡ Some next → next < at_rest → EndsLike ending (mask_of base.instance) endings next → ((e : ℕ) → bit_at lists.letters e ≡ 1 → IsOn (card_at lists k) e)
-      → new ≡ old ++ record { slot = k; number = next } ∷ [] → IsPushed (IsShiftAt m Stands HasNumber letter dead b ending lists monitors) k old new
-  shift_pushed HasNumber letter dead b plain ending endings lists monitors k base before next old new rows here has below whole at low like on added = (
-    Some (record { slot = k; number = next }),
-    (base, here, refl, shifts_by HasNumber letter dead b plain ending endings lists.letters (card_at lists k) base before next rows has below whole at low like on),
-    added,
-  )
+  -- what is told where its slot is in the lists of the letters
+  pub told_by : (HasNumber : S → ℕ → Type 0) (letter : ℕ) (dead : List Bool) (b : Binding) (ending : List ℕ) (letters : ℕ) (card : Card) (base : Stored S) (next : ℕ) (told : Told) → (told ≡ Nothing) ⊎ (told ≡ Shifts next)
+      → (told ≢ Nothing → IsShifting m Stands HasNumber letter dead b ending letters card base next) → IsTold m Stands HasNumber letter dead b ending letters card base told
+  told_by HasNumber letter dead b ending letters card base next told (inl none) is = subst (IsTold m Stands HasNumber letter dead b ending letters card base) (sym none) tt
+  told_by HasNumber letter dead b ending letters card base next told (inr some) is =
+      subst (IsTold m Stands HasNumber letter dead b ending letters card base) (sym some) (is (λ none. shifts-nothing next (sym some ∙ none)))
+
+  -- that the slot is in the lists of one letter needn't be asked
+  pub shifts_all : (HasNumber : S → ℕ → Type 0) (letter : ℕ) (dead : List Bool) (b : Binding) (ending : List ℕ) (letters others : ℕ) (card : Card) (base : Stored S) (next : ℕ)
+      → ((e : ℕ) → bit_at letters e ≡ 1 → (e ≡ letter → ⊥) → bit_at others e ≡ 1) → IsOn card letter → IsShifting m Stands HasNumber letter dead b ending others card base next
+      → IsShifting m Stands HasNumber letter dead b ending letters card base next
+  shifts_all HasNumber letter dead b ending letters others card base next but own is = record {
+    before = is.before;
+    has = is.has;
+    below = is.below;
+    whole = is.whole;
+    moves = is.moves;
+    on = λ e bit. elim (cases_eq e letter) [
+      | inl same ↦ subst (IsOn card) (sym same) own
+      | inr other ↦ is.on e (but e bit other)
+    ];
+    over = is.over;
+  }
 
 -- letters among some that a row has at a number
 pub like_by : (ending : List ℕ) (domain letters : ℕ) (row : List ℕ) (number : ℕ) → AreAmong ending domain letters → EndsAll letters row number → EndsLike ending domain row number

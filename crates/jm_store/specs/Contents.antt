@@ -214,8 +214,9 @@ pub record IsStepTaken (m : Meaning) {S : Type 0} (Stands : S → Word → Type 
 -- The monitor of slot k was moved by the letter: it has the next state, or it is gone where that is cut. The answer is
 -- its report, and nothing else changed but letters that were kept.
 pub record IsSlotAdvanced (m : Meaning) {S : Type 0} (Stands : S → Word → Type 0) (letter : ℕ) (dead : List Bool)
-    (k : ℕ) (base : Stored S) (before after : Contents S) (stays : Bool) (firings : List Firing) : Type 0 where
+    (k : ℕ) (base : Stored S) (before after : Contents S) (firings : List Firing) : Type 0 where
   pub state : S
+  pub stays : Bool
   pub next : IsNext m Stands letter dead base.instance base.state state stays
   pub report : IsReport m Stands (record { instance = base.instance; state = state } ∷ []) firings
   pub monitors : after.monitors ≡ slice_set before.monitors k

@@ -3,6 +3,7 @@ use Rattle.std.specs.Prelude.{ℕ, ◌≡◌, Bool, true, false, cond, List, [],
 use Rattle.std.specs.Int.{bit_at}
 use Rattle.std.specs.Option.{option_to_list}
 use Rattle.std.specs.List.{cons_option}
+use Rattle.std.specs.List.Sorted.{IsPermutation}
 use Rattle.jm_model.specs.Words.{Mask, Word}
 use Rattle.jm_model.specs.Bindings.{is_below, is_compatible, join, mask_of}
 use Rattle.jm_model.specs.Meanings.{Meaning}
@@ -81,6 +82,15 @@ abbrev pub AreGiven : {X Y : Type 0} → (X → Option Y → Type 0) → List X 
 AreGiven {X} {Y} R [] ys = ys ≡ []
 AreGiven {X} {Y} R (x ∷ xs) ys = (o : Option Y) × R x o
     × ((rest : List Y) × AreGiven R xs rest × (ys ≡ cons_option o rest))
+
+-- ys and zs have what R and Q give for xs: R for some of them, and Q for the others
+pub record AreParted {X Y Z : Type 0} (R : X → Option Y → Type 0) (Q : X → Option Z → Type 0) (xs : List X)
+    (ys : List Y) (zs : List Z) : Type 0 where
+  pub told : List X
+  pub others : List X
+  pub all : IsPermutation xs (others ++ told)
+  pub given : AreGiven R told ys
+  pub read : AreGiven Q others zs
 
 -- Whether an event reads the monitors with this set of parameters: those that it can lie below; and others where its
 -- binding is no mark, unless it ends all of them.

@@ -1,16 +1,21 @@
 -- What working out an event needs of a store, what it leaves of it, and what it answers.
-use Rattle.std.specs.Prelude.{ℕ, ◌≡◌, Bool, true, false, List, [], Option, Some, None, Result, Ok, Err, IfNone, IfSome, IfOk, OnOk, OnErr, length}
+use Rattle.std.specs.Prelude.{ℕ, ◌≡◌, ◌≢◌, ◌≤◌, AllPairs, take, Bool, true, false, List, Option, Some, None, Result, Ok, Err, IfNone, IfSome, IfOk, OnOk, OnErr, length}
 use Rattle.jm_model.specs.Words.{Word}
 use Rattle.jm_model.specs.Meanings.{Meaning}
 use Rattle.jm_model.specs.declared.binding.Binding.{Binding}
 use Rattle.jm_model.specs.declared.step.NoMemory.{NoMemory}
 use Rattle.jm_semantics.specs.Traces.{ParametricEvent}
 use Rattle.jm_index.specs.Index.{AreBelow}
-use Rattle.jm_monitors.specs.Steps.{IsLiveEvent, AreMarksAfter, AreResting}
+use Rattle.jm_awake.specs.Awake.{Lists}
+use Rattle.jm_monitors.specs.Steps.{IsLiveEvent, IsReport, AreMarksAfter, AreResting}
+use Rattle.jm_store.specs.declared.moves.Move.{Move}
+use Rattle.jm_store.specs.declared.walk.Shift.{Shift}
+use Rattle.jm_store.specs.declared.store.shift.Reading.{Reading}
 use Rattle.jm_store.specs.declared.moves.Plan.{Plan}
 use Rattle.jm_store.specs.declared.store.advance.Done.{Done}
 use Rattle.jm_store.specs.Slots.{monitor_at}
-use Rattle.jm_store.specs.Moves.{EndsFewer}
+use Rattle.jm_store.specs.Moves.{EndsFewer, AreEnding, AreParted, IsReadAt, after_moves, reached_by}
+use Rattle.jm_store.specs.Walks.{IsShiftAt}
 use Rattle.jm_store.specs.Contents.{Contents, stored_of, IsFit, IsSpared, IsStoreAfter, IsPlanFor, IsPlanOf, IsCarriedOut, IsEventDone}
 
 -- No plan is open in the store, it fits the objects, and the event is one of the specification's, of live objects that
@@ -66,12 +71,25 @@ module _ (m : Meaning) {S : Type 0} (Stands : S → Word → Type 0) (dead : Lis
     pub works : IfSome result (λ done. (trace : List ParametricEvent) → IsStoreAfter m Stands trace dead old
         → IsEventDone m Stands trace dead letter b new done.answer)
 
-  -- The event was done at once, and hits nothing. Its binding was a mark before. A store that fits rules and objects
-  -- still does.
-  pub record IsShiftDone : Type 0 where
-    pub fits : IsFit new dead
-    pub spares : IsSpared m Stands old → IsSpared m Stands new
-    pub closed : new.is_open ≡ false
-    pub marks : new.marks ≡ old.marks
-    pub works : (trace : List ParametricEvent) → IsStoreAfter m Stands trace dead old
-        → IsEventDone m Stands trace dead letter b new []
+-- What the event makes of the monitors of some slots, of those that get other numbers by so many of the shifts, and of
+-- the others by moves; and the answer, twice, which is the report of the moves where they are of distinct instances.
+pub record IsReading (m : Meaning) {S : Type 0} (Stands : S → Word → Type 0) (HasNumber : S → ℕ → Type 0) (letter : ℕ)
+    (dead : List Bool) (b : Binding) (marks : List Binding) (store : Contents S) (lists : Lists) (slots : List ℕ)
+    (shifts : List Shift) (moves : List (Move S)) (reading : Reading) : Type 0 where
+  pub within : reading.count ≤ length shifts
+  pub parted : AreParted (IsShiftAt m Stands HasNumber letter dead b store.ending lists store.monitors)
+      (IsReadAt m Stands letter b dead marks store.monitors) slots (take reading.count shifts) moves
+  pub report : AllPairs (λ r s. r.instance ≢ s.instance) (reached_by moves)
+      → IsReport m Stands (reached_by moves) reading.answer
+  pub twice : reading.copy ≡ reading.answer
+
+-- The moves were carried out, and the letters that were kept end their monitors. A store that fits objects still does.
+pub record IsApplied (m : Meaning) {S : Type 0} (Stands : S → Word → Type 0) (moves : List (Move S))
+    (before after : Contents S) : Type 0 where
+  pub closed : after.is_open ≡ false
+  pub monitors : after.monitors ≡ after_moves moves before.monitors
+  pub marks : after.marks ≡ before.marks
+  pub dropped : after.index.dropped ≡ before.index.dropped
+  pub fits : (dead : List Bool) → IsFit before dead → IsFit after dead
+  pub fewer : EndsFewer before.ending after.ending
+  pub ended : AreEnding m Stands after.ending (reached_by moves)

@@ -1,6 +1,6 @@
--- How the monitors of a list are read, where their numbers tell all of them what the event makes of them, and how those
--- that it changes get other numbers.
-use Rattle.std.specs.Prelude.{ℕ, ◌≡◌, ◌≢◌, ◌<◌, Bool, true, false, List, Option, Some, None, Contains, length, slice_get, slice_index_or}
+-- How the monitors of a list are read, where their numbers tell what the event makes of them, and how those that it
+-- changes get other numbers.
+use Rattle.std.specs.Prelude.{ℕ, ◌≡◌, ◌≢◌, ◌<◌, ◌↔◌, IsTrue, Bool, true, false, List, Option, Some, None, Contains, length, slice_get, slice_index_or}
 use Rattle.std.specs.Int.{bit_at}
 use Rattle.jm_model.specs.Words.{Mask, Word}
 use Rattle.jm_model.specs.Bindings.{is_below, mask_of, object_at}
@@ -8,12 +8,15 @@ use Rattle.jm_model.specs.Meanings.{Meaning}
 use Rattle.jm_model.specs.Numbers.{no_number, at_rest, IsPlainMove, IsAtRest as RestsBy, AreEnds}
 use Rattle.jm_model.specs.declared.binding.Binding.{Binding}
 use Rattle.jm_awake.specs.declared.card.Card.{Card}
-use Rattle.jm_awake.specs.Awake.{Lists, card_at, IsOn}
+use Rattle.jm_awake.specs.declared.card.Listed.{Listed}
+use Rattle.jm_awake.specs.Awake.{Lists, card_at, is_there, IsOn}
 use Rattle.jm_marks.specs.Marks.{dead_mask_of, is_dead_object}
 use Rattle.jm_monitors.specs.declared.stored.Stored.{Stored}
 use Rattle.jm_monitors.specs.Steps.{IsOverAfter}
 use Rattle.jm_store.specs.declared.walk.Shift.{Shift}
 use Rattle.jm_store.specs.declared.walk.Turn.{Turn}
+use Rattle.jm_store.specs.declared.walk.Told.{Told}
+use Rattle.jm_store.specs.declared.walk.Told.TheVariants.{Shifts, Rests, Nothing}
 use Rattle.jm_store.specs.declared.monitors.Slot.{Slot}
 use Rattle.jm_store.specs.declared.monitors.Slot.TheVariants.{Free, Planned, Taken}
 use Rattle.jm_store.specs.Slots.{slot_at, monitor_at}
@@ -39,17 +42,17 @@ abbrev pub EndsLike : List Mask → Mask → List Mask → ℕ → Type 0
 EndsLike ending domain row number =
     (e : ℕ) → ends_all ending e domain ≡ true → (mask : Mask) × (slice_get row number ≡ Some mask) × (bit_at mask e ≡ 1)
 
+-- no move was noted
+abbrev pub no_turn : Turn
+no_turn = record { from = 4294967295; to = no_number }
+
 -- The letter leads from the one number to the other by a row, and each of the letters that end others ends the states
--- with that one, unless no number was noted.
+-- with that one, unless no move was noted.
 abbrev pub IsTurn : List ℕ → Mask → List Mask → Turn → Type 0
 IsTurn plain ends endings turn =
     turn.from < 65536 → (slice_get plain turn.from ≡ Some turn.to) × (turn.to < at_rest) × EndsAll ends endings turn.to
 
--- no number was noted
-abbrev pub no_turn : Turn
-no_turn = record { from = 4294967295; to = no_number }
-
--- and so do all of these
+-- and so it is with all of these
 abbrev pub AreTurns : List ℕ → Mask → List Mask → List Turn → Type 0
 AreTurns plain ends endings turns = (k : ℕ) → IsTurn plain ends endings (slice_index_or turns k no_turn)
 
@@ -62,6 +65,14 @@ module _ (m : Meaning) {S : Type 0} (Stands : S → Word → Type 0) (HasNumber 
         → RestsBy S m Stands letter state
     pub ends : (k mask : ℕ) → slice_get endings k ≡ Some mask → (state : S) → HasNumber state k
         → AreEnds S m Stands mask state
+
+  -- What a walk looks up is right: the rows are those of the letter, which is one of the specification's, and it is
+  -- known whether the event's binding is a mark.
+  pub record CanWalk (plain : List ℕ) (endings : List Mask) (known : Bool) (marks : List Binding)
+      (b : Binding) : Type 0 where
+    pub rows : AreRows plain endings
+    pub low : letter < m.letters
+    pub marked : IsTrue known ↔ Contains marks b
 
   module _ (dead : List Bool) (b : Binding) (ending : List Mask) where
     -- The event moves the monitor of a slot with this card, above b, whose state has a number, to each state with the
@@ -77,6 +88,12 @@ module _ (m : Meaning) {S : Type 0} (Stands : S → Word → Type 0) (HasNumber 
       pub over : (after : S) → HasNumber after number → (e : ℕ) → ends_all ending e (mask_of base.instance) ≡ true
           → IsOverAfter m Stands e after 0
 
+    -- what the number of a monitor's state tells, by the card of its slot
+    abbrev pub IsTold : Mask → Card → Stored S → Told → Type 0
+    IsTold letters card base (Shifts number) = IsShifting letters card base number
+    IsTold letters card base Rests = IsAtRest m Stands letter b dead base
+    IsTold letters card base Nothing = Unit {0}
+
     -- what the event makes of the monitor of a slot: another number, or nothing, since the monitor rests
     abbrev pub IsShiftIn : Lists → ℕ → Option (Stored S) → Option Shift → Type 0
     IsShiftIn lists k monitor None = (s : Stored S) × (monitor ≡ Some s) × IsAtRest m Stands letter b dead s
@@ -86,6 +103,15 @@ module _ (m : Meaning) {S : Type 0} (Stands : S → Word → Type 0) (HasNumber 
 
     abbrev pub IsShiftAt : Lists → List (Option (Stored S)) → ℕ → Option Shift → Type 0
     IsShiftAt lists monitors k shift = IsShiftIn lists k (monitor_at monitors k) shift
+
+-- Each of the entries has a card. One that still counts is in the lists of the letter, and of a monitor above b, and
+-- letters that end all monitors with its parameters are among some.
+abbrev pub AreReadable : {S : Type 0} → Binding → ℕ → List Mask → Mask → Lists → List (Option (Stored S)) → List Listed
+    → Type 0
+AreReadable {S} b letter ending ends lists monitors entries =
+    (x : Listed) → Contains entries x → (x.slot < length lists.cards) × (is_there lists.cards x ≡ true
+    → IsOn (card_at lists x.slot) letter × ((s : Stored S) × (monitor_at monitors x.slot ≡ Some s)
+    × (is_below b s.instance ≡ true) × AreAmong ending (mask_of s.instance) ends))
 
 -- each of the shifts is of a slot that has a monitor
 abbrev pub HaveMonitors : {S : Type 0} → List Shift → List (Option (Stored S)) → Type 0

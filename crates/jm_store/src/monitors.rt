@@ -4,10 +4,10 @@ ghost use Rattle.jm_monitors.specs.declared.stored.Stored.{Stored as Kept};
 ghost use Rattle.jm_monitors.specs.Steps.{IsCutState, IsAliveState};
 ghost use Rattle.jm_marks.specs.Marks.{dead_mask_of};
 ghost use Rattle.jm_store.specs.Slots.{monitors_of, monitor_at, stored_in, slot_at, count_in, IsReserved};
-ghost use Rattle.jm_store.specs.Walks.{HaveMonitors, AreShifted, AreAlike};
+ghost use Rattle.jm_store.specs.Walks.{HaveMonitors, IsShifted, AreShifted, AreAlike};
 ghost use Rattle.jm_store.specs.declared.monitors.Slot.TheVariants.{Free, Planned, Taken};
 
-use crate::walk::{Shift, shift_all};
+use crate::walk::Shift;
 use jm_marks::dead_mask;
 use jm_model::{Binding, Monitor, NoMemory, Steps};
 use jm_monitors::Stored;
@@ -46,6 +46,12 @@ impl<S> Model for Monitors<S> {
     ghost view = { λ m. record { slots = m.slots.items; free = m.free } };
 
     ghost invariant = { λ m. m.taken ≡ length (stored_in (monitors_of m.slots.items)) };
+}
+
+/// The slots of a container, lent to a walk. They can't be read but by the call that lends a monitor and counts it.
+#[derive(Drop)]
+pub(crate) struct Lent<'a, S> {
+    items: &'a [Slot<S>],
 }
 
 impl<S: Drop> Monitors<S> {
@@ -91,12 +97,14 @@ impl<S: Drop> Monitors<S> {
         Some(lent)
     }
 
-    /// The slots.
+    /// The slots, for a walk.
     #[inline(always)]
-    pub(crate) fn slots(&self) -> &[Slot<S>]
-        ensures { result.now ≡ self.now.slots }
+    pub(crate) fn lend_all(&self) -> Lent<'_, S>
+        ensures { result.items.now ≡ self.now.slots }
     {
-        self.slots.as_slice()
+        Lent {
+            items: self.slots.as_slice(),
+        }
     }
 
     fn peek(&self, slot: usize) -> Option<&Stored<S>>
@@ -239,6 +247,22 @@ impl<S: Drop> Monitors<S> {
     }
 }
 
+impl<'a, S> Lent<'a, S> {
+    /// The monitor of a slot that has one, which is one step.
+    #[inline(always)]
+    pub(crate) fn monitor<L: Ledger>(&self, slot: usize, steps: &mut Steps<L>) -> &'a Stored<S>
+        requires { (s : Kept S) × (monitor_at (monitors_of self.now.items.now) slot ≡ Some s) }
+        ensures value { monitor_at (monitors_of self.now.items.now) slot ≡ Some result.now }
+        ensures steps { steps.new ≡ steps.old + 1 }
+    {
+        let Slot::Taken(monitor) = &self.items[slot] else {
+            unreachable!();
+        };
+        steps.tick();
+        monitor
+    }
+}
+
 /// How many monitors a slot has, which is none or one.
 fn count_at<S>(slots: &[Slot<S>], slot: usize) -> usize
     requires { slot < length slots.now }
@@ -258,4 +282,33 @@ fn is_cut<M: Monitor>(rules: &M, objects: &Objects, monitor: &Stored<M::State>) 
         (M.StandsFor rules.now) monitor.now.state (dead_mask_of objects.now monitor.now.instance) }
 {
     rules.cut(&monitor.state, dead_mask(objects, &monitor.instance))
+}
+
+/// Gives each shift's monitor the state with its number.
+#[inline(never)]
+fn shift_all<M: Monitor>(rules: &M, slots: &mut [Slot<M::State>], shifts: &[Shift])
+    requires apart { AllPairs (λ x y. x.slot ≢ y.slot) shifts.now }
+    requires there { HaveMonitors shifts.now (monitors_of slots.old) }
+    ensures moved { AreShifted (M.HasNumber rules.now) shifts.now (monitors_of slots.old) (monitors_of slots.new) }
+    ensures alike { AreAlike slots.old slots.new }
+{
+    for shift in shifts {
+        renumber(rules, slots, shift);
+    }
+}
+
+/// Carries a shift out.
+#[inline(always)]
+fn renumber<M: Monitor>(rules: &M, slots: &mut [Slot<M::State>], shift: &Shift)
+    requires { (s : Kept M.State) × (monitor_at (monitors_of slots.old) shift.now.slot ≡ Some s) }
+    ensures here { IsShifted (M.HasNumber rules.now) (monitor_at (monitors_of slots.old) shift.now.slot)
+        (monitor_at (monitors_of slots.new) shift.now.slot) shift.now.number }
+    ensures others { (k : ℕ) → (k ≡ shift.now.slot → ⊥)
+        → monitor_at (monitors_of slots.new) k ≡ monitor_at (monitors_of slots.old) k }
+    ensures alike { AreAlike slots.old slots.new }
+{
+    match &mut slots[shift.slot as usize] {
+        Slot::Taken(monitor) => rules.renumber(&mut monitor.state, shift.number),
+        _ => unreachable!(),
+    }
 }

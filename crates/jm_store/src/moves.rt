@@ -6,8 +6,8 @@ ghost use Rattle.jm_store.specs.declared.moves.Move.{Move as Change};
 use jm_model::{Binding, Firings, Letter, Monitor};
 use jm_monitors::Stored;
 
-/// So many monitors are many. From so many on a list of those that an event may change is worth keeping, and worth
-/// being rid of those at rest; an event that meets more of one set of parameters is worked out by a plan.
+/// So many monitors are many. A list of so many is worth being rid of those at rest, and of so many it is made wherever
+/// there is none; an event that meets more of one set of parameters, and has no list, is worked out by a plan.
 pub(crate) const MANY: usize = 8;
 
 /// What a monitor that an event reaches becomes.
@@ -34,9 +34,11 @@ pub struct Plan<S> {
 }
 
 impl<S> Plan<S> {
-    /// Whether so many monitors were met that a list of those that the event may change is worth its while.
-    pub fn met_many(&self) -> bool {
-        self.met >= MANY
+    /// Whether a list of the monitors that the event may change is worth its while. Lists are found by the first object
+    /// of their binding, so that of one with several takes the place of others; it has to be of many monitors.
+    pub fn is_worth_listing(&self) -> bool {
+        let mask = self.binding.mask();
+        mask & mask.wrapping_sub(1) == 0 || self.met >= MANY
     }
 }
 

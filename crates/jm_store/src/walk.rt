@@ -1,25 +1,26 @@
-//! How the monitors of a list are read and moved where their numbers tell what the event makes of them: some get
-//! another state, and the others rest.
-ghost use Rattle.std.specs.Prelude.{◌≡◌, ◌≢◌, ℕ, ◌+◌, ◌/◌, ◌%◌, ◌==◌, ◌<◌, ◌≤◌, [], ◌∷◌, ◌++◌, List, AllPairs, Contains, Some, true};
+//! How the monitors of a list are read. Where a number tells what the event makes of a monitor, it gets another state,
+//! or rests; what becomes of the others is worked out.
+ghost use Rattle.std.specs.Prelude.{◌≡◌, ◌≢◌, ℕ, ◌+◌, ◌/◌, ◌%◌, ◌==◌, ◌<◌, ◌≤◌, ◌↔◌, ◌⊎◌, ◌∷◌, ◌++◌, [], List, Contains, OnOk, IsTrue, Some, true};
 ghost use Rattle.std.specs.Prelude.{false, IfSome, length, slice_get, slice_index_or, take};
 ghost use Rattle.std.specs.Int.{bit_at};
 ghost use Rattle.jm_model.specs.Bindings.{is_below, mask_of, object_at};
 ghost use Rattle.jm_model.specs.Numbers.{no_number, at_rest};
-ghost use Rattle.jm_awake.specs.Awake.{fresh, list_at, card_at, slots_there, IsOn, IsListOf};
+ghost use Rattle.jm_awake.specs.Awake.{fresh, list_at, slots_there, IsOn, IsListOf};
 ghost use Rattle.jm_index.specs.Index.{AreLive};
 ghost use Rattle.jm_marks.specs.Marks.{dead_mask_of, is_dead_object};
 ghost use Rattle.jm_monitors.specs.declared.stored.Stored.{Stored as Kept};
-ghost use Rattle.jm_monitors.specs.Steps.{IsOverAfter};
 ghost use Rattle.jm_store.specs.Slots.{monitors_of, monitor_at};
-ghost use Rattle.jm_store.specs.Moves.{AreGiven, IsPushed, IsAtRest};
+ghost use Rattle.jm_store.specs.Moves.{AreParted, IsPushed, IsReadAt};
 ghost use Rattle.jm_store.specs.Listed.{slots_listed, AreListed};
-ghost use Rattle.jm_store.specs.Walks.{AreRows, AreAliveBut, EndsAll, IsShifting, IsShiftAt, no_turn, AreTurns, EndsLike};
-ghost use Rattle.jm_store.specs.Walks.{AreAmong, HaveMonitors, IsShifted, AreShifted, AreAlike};
+ghost use Rattle.jm_store.specs.Walks.{AreRows, AreAliveBut, EndsAll, IsShiftAt, no_turn, AreTurns, EndsLike};
+ghost use Rattle.jm_store.specs.Walks.{AreAmong, AreReadable, CanWalk, IsTold};
+ghost use Rattle.jm_store.specs.declared.walk.Told.TheVariants.{Shifts, Nothing};
 
-use crate::monitors::Slot;
-use crate::moves::MANY;
+use crate::event::Event;
+use crate::monitors::Lent;
+use crate::moves::{MANY, Move};
 use jm_awake::{Awake, Card, Listed};
-use jm_model::{AT_REST, Binding, Letter, Monitor, NO_NUMBER, Steps};
+use jm_model::{AT_REST, Binding, Monitor, NO_NUMBER, NoMemory, Steps};
 use jm_monitors::Stored;
 use jm_objects::Objects;
 use std::sync::ledger::Ledger;
@@ -39,15 +40,31 @@ pub(crate) struct Turn {
     pub(crate) to: u16,
 }
 
+/// What the number of a monitor's state tells of what the event makes of the monitor.
+#[derive(Clone, Copy)]
+pub(crate) enum Told {
+    /// The number of another state, and nothing else changes.
+    Shifts(u16),
+    /// It rests.
+    Rests,
+    /// Nothing, or not all of it.
+    Nothing,
+}
+
+/// What is asked of a monitor that gets a shift: of which letters its slot has to be in the lists, beside that of the
+/// event, and at which parameters its objects have to be alive.
+#[derive(Clone, Copy)]
+struct Asked {
+    letters: u32,
+    params: u8,
+}
+
 /// An event that reads the monitors of its list, and what it looks up.
 #[derive(Drop)]
 pub(crate) struct Walk<'a, M: Monitor> {
-    pub(crate) rules: &'a M,
-    pub(crate) objects: &'a Objects,
-    pub(crate) slots: &'a [Slot<M::State>],
+    pub(crate) event: &'a Event<'a, M>,
+    pub(crate) slots: Lent<'a, M::State>,
     pub(crate) awake: &'a Awake,
-    pub(crate) letter: Letter,
-    pub(crate) binding: &'a Binding,
     /// By the number of a state what the letter makes of it, and which letters end an instance of it.
     pub(crate) plain: &'a [u16],
     pub(crate) endings: &'a [u32],
@@ -58,7 +75,7 @@ pub(crate) struct Walk<'a, M: Monitor> {
 }
 
 impl Turn {
-    /// Whether the state with a number was moved.
+    /// Whether it is noted of the state with a number.
     #[inline(always)]
     fn is_from(&self, number: u16) -> bool
         ensures from { result ≡ true → self.now.from ≡ number }
@@ -69,77 +86,92 @@ impl Turn {
 }
 
 impl<M: Monitor> Walk<'_, M> {
-    /// Reads the monitors of a list, and writes a shift for each that moves at the front of the shifts. Answers how
-    /// many there are, if the event makes that of the monitors and no more, and the shifts are worth their while: where
-    /// there are many monitors and most rest, they had better leave the list.
+    /// Reads the monitors of a list. Those of which their numbers tell what becomes of them get shifts, at the front of
+    /// these, and the others moves. Answers how many shifts there are, unless out of memory, and if what the event does
+    /// is worth its while: where there are many monitors and most rest, they had better leave the list.
     #[inline(always)]
     pub(crate) fn read_list<L: Ledger>(
         &self,
         place: usize,
         shifts: &mut Vec<Shift>,
+        moves: &mut Vec<Move<M::State>>,
         steps: &mut Steps<L>,
     ) -> Option<usize>
-        requires rows { AreRows (M.meaning (M.definition self.now.rules.now)) (M.StandsFor self.now.rules.now)
-            (M.HasNumber self.now.rules.now) self.now.letter.0 self.now.plain.now self.now.endings.now }
-        requires live { AreLive self.now.objects.now self.now.binding.now }
+        requires can { CanWalk (M.meaning (M.definition self.now.event.now.rules.now)) (M.StandsFor
+            self.now.event.now.rules.now) (M.HasNumber self.now.event.now.rules.now) self.now.event.now.letter.0
+            self.now.plain.now self.now.endings.now self.now.event.now.known self.now.event.now.marks.now.list
+            self.now.event.now.binding.now }
+        requires live { AreLive self.now.event.now.objects.now self.now.event.now.binding.now }
         requires within { place < length self.now.awake.now.lists }
-        requires of { IsListOf (list_at self.now.awake.now place) self.now.letter.0 self.now.binding.now }
-        requires listed { AreListed (M.meaning (M.definition self.now.rules.now)) (M.StandsFor self.now.rules.now)
-            self.now.objects.now (monitors_of self.now.slots.now) self.now.awake.now }
-        requires ends { (k : ℕ) (s : Kept M.State) → monitor_at (monitors_of self.now.slots.now) k ≡ Some s
-            → is_below self.now.binding.now s.instance ≡ true
+        requires of { IsListOf (list_at self.now.awake.now place) self.now.event.now.letter.0
+            self.now.event.now.binding.now }
+        requires listed { AreListed (M.meaning (M.definition self.now.event.now.rules.now)) (M.StandsFor
+            self.now.event.now.rules.now) self.now.event.now.objects.now (monitors_of self.now.slots.items.now)
+            self.now.awake.now }
+        requires ends { (k : ℕ) (s : Kept M.State) → monitor_at (monitors_of self.now.slots.items.now) k ≡ Some s
+            → is_below self.now.event.now.binding.now s.instance ≡ true
             → AreAmong self.now.ending.now (mask_of s.instance) self.now.ends }
         requires room { length (list_at self.now.awake.now place).entries ≤ length shifts.old.items }
-        ensures given { IfSome result (λ count. AreGiven (IsShiftAt (M.meaning (M.definition self.now.rules.now))
-            (M.StandsFor self.now.rules.now) (M.HasNumber self.now.rules.now) self.now.letter.0
-            self.now.objects.now self.now.binding.now self.now.ending.now self.now.awake.now
-            (monitors_of self.now.slots.now))
-            (slots_listed self.now.awake.now place) (take count shifts.new.items)) }
-        ensures within { IfSome result (λ count. count ≤ length shifts.new.items) }
+        requires none { moves.old.items ≡ [] }
+        ensures parted { IfSome result (λ count. (count ≤ length shifts.new.items) × AreParted (IsShiftAt (M.meaning
+            (M.definition self.now.event.now.rules.now)) (M.StandsFor self.now.event.now.rules.now) (M.HasNumber
+            self.now.event.now.rules.now) self.now.event.now.letter.0 self.now.event.now.objects.now
+            self.now.event.now.binding.now self.now.ending.now self.now.awake.now (monitors_of
+            self.now.slots.items.now)) (IsReadAt (M.meaning (M.definition self.now.event.now.rules.now)) (M.StandsFor
+            self.now.event.now.rules.now) self.now.event.now.letter.0 self.now.event.now.binding.now
+            self.now.event.now.objects.now self.now.event.now.marks.now.list (monitors_of self.now.slots.items.now))
+            (slots_listed self.now.awake.now place) (take count shifts.new.items) moves.new.items) }
         ensures steps { steps.new ≤ steps.old + length (slots_listed self.now.awake.now place) }
     {
         let entries = self.awake.entries(place);
-        let free = self.free_params();
-        if free == 0 {
-            return self.read_entries(place, entries, 0, shifts.as_mut_slice(), steps);
+        let _letters = self.event.rules.letters();
+        let letters = self.awake.letters_but(self.event.letter);
+        let params = self.free_params();
+        if letters == 0 && params == 0 {
+            let asked = Asked {
+                letters: 0,
+                params: 0,
+            };
+            return self.read_entries(entries, asked, shifts.as_mut_slice(), moves, steps);
         }
-        self.read_entries(place, entries, free, shifts.as_mut_slice(), steps)
+        let asked = Asked { letters, params };
+        self.read_entries(entries, asked, shifts.as_mut_slice(), moves, steps)
     }
 
-    /// Reads the entries of the list so. The parameters are those to which an instance above the event's binding may
-    /// give a dead object. It is inlined, so that a 0 which stands at the call makes a loop that asks for no object.
+    /// Reads the entries of the list so. It is inlined, so that zeros which stand at the call make a loop that asks for
+    /// nothing of the kind.
     #[inline(always)]
     fn read_entries<L: Ledger>(
         &self,
-        place: usize,
         entries: &[Listed],
-        free: u8,
+        asked: Asked,
         shifts: &mut [Shift],
+        moves: &mut Vec<Move<M::State>>,
         steps: &mut Steps<L>,
     ) -> Option<usize>
-        requires rows { AreRows (M.meaning (M.definition self.now.rules.now)) (M.StandsFor self.now.rules.now)
-            (M.HasNumber self.now.rules.now) self.now.letter.0 self.now.plain.now self.now.endings.now }
-        requires free { AreAliveBut self.now.objects.now self.now.binding.now free }
-        requires of { IsListOf (list_at self.now.awake.now place) self.now.letter.0 self.now.binding.now }
-        requires listed { AreListed (M.meaning (M.definition self.now.rules.now)) (M.StandsFor self.now.rules.now)
-            self.now.objects.now (monitors_of self.now.slots.now) self.now.awake.now }
-        requires ends { (k : ℕ) (s : Kept M.State) → monitor_at (monitors_of self.now.slots.now) k ≡ Some s
-            → is_below self.now.binding.now s.instance ≡ true
-            → AreAmong self.now.ending.now (mask_of s.instance) self.now.ends }
-        requires entries { entries.now ≡ (list_at self.now.awake.now place).entries }
+        requires can { CanWalk (M.meaning (M.definition self.now.event.now.rules.now)) (M.StandsFor
+            self.now.event.now.rules.now) (M.HasNumber self.now.event.now.rules.now) self.now.event.now.letter.0
+            self.now.plain.now self.now.endings.now self.now.event.now.known self.now.event.now.marks.now.list
+            self.now.event.now.binding.now }
+        requires free { AreAliveBut self.now.event.now.objects.now self.now.event.now.binding.now asked.params }
+        requires others { (e : ℕ) → bit_at self.now.awake.now.letters e ≡ 1 → (e ≡ self.now.event.now.letter.0 → ⊥)
+            → bit_at asked.letters e ≡ 1 }
+        requires each { AreReadable self.now.event.now.binding.now self.now.event.now.letter.0 self.now.ending.now
+            self.now.ends self.now.awake.now (monitors_of self.now.slots.items.now) entries.now }
         requires room { length entries.now ≤ length shifts.old }
-        ensures given { IfSome result (λ count. AreGiven (IsShiftAt (M.meaning (M.definition self.now.rules.now))
-            (M.StandsFor self.now.rules.now) (M.HasNumber self.now.rules.now) self.now.letter.0
-            self.now.objects.now self.now.binding.now self.now.ending.now self.now.awake.now
-            (monitors_of self.now.slots.now))
-            (slots_there self.now.awake.now.cards entries.now) (take count shifts.new)) }
-        ensures within { IfSome result (λ count. count ≤ length shifts.new) }
+        requires none { moves.old.items ≡ [] }
+        ensures parted { IfSome result (λ count. (count ≤ length shifts.new) × AreParted (IsShiftAt (M.meaning
+            (M.definition self.now.event.now.rules.now)) (M.StandsFor self.now.event.now.rules.now) (M.HasNumber
+            self.now.event.now.rules.now) self.now.event.now.letter.0 self.now.event.now.objects.now
+            self.now.event.now.binding.now self.now.ending.now self.now.awake.now (monitors_of
+            self.now.slots.items.now)) (IsReadAt (M.meaning (M.definition self.now.event.now.rules.now)) (M.StandsFor
+            self.now.event.now.rules.now) self.now.event.now.letter.0 self.now.event.now.binding.now
+            self.now.event.now.objects.now self.now.event.now.marks.now.list (monitors_of self.now.slots.items.now))
+            (slots_there self.now.awake.now.cards entries.now) (take count shifts.new) moves.new.items) }
         ensures length { length shifts.new ≡ length shifts.old }
         ensures steps { steps.new ≤ steps.old + length (slots_there self.now.awake.now.cards entries.now) }
     {
-        let _place = place;
         let cards = self.awake.cards();
-        let letters = self.awake.letters();
         let mut turns = [Turn {
             from: u32::MAX,
             to: NO_NUMBER,
@@ -147,15 +179,22 @@ impl<M: Monitor> Walk<'_, M> {
         let mut count = 0;
         for entry in entries {
             let card = card_of(cards, entry.slot());
-            if is_there(card, entry)
-                && !self.read(
-                    entry, card, letters, free, &mut turns, shifts, &mut count, steps,
-                )
-            {
-                return None;
+            if is_there(card, entry) {
+                let base = self.slots.monitor(entry.slot(), steps);
+                match self.tell(base, card, asked, &mut turns) {
+                    Told::Shifts(number) => {
+                        push_shift(shifts, &mut count, entry.slot_number(), number);
+                    }
+                    Told::Rests => {}
+                    Told::Nothing => {
+                        let Ok(()) = self.work_out(entry.slot(), base, moves) else {
+                            return None;
+                        };
+                    }
+                }
             }
         }
-        if !are_worth(entries.len(), count) {
+        if !are_worth(entries.len(), count, moves.len()) {
             return None;
         }
         Some(count)
@@ -164,75 +203,61 @@ impl<M: Monitor> Walk<'_, M> {
     /// The parameters to which an instance above the event's binding may give a dead object: none where no object is
     /// dead at all, and else those that the event doesn't bind.
     fn free_params(&self) -> u8
-        requires { AreLive self.now.objects.now self.now.binding.now }
-        ensures { AreAliveBut self.now.objects.now self.now.binding.now result }
+        requires { AreLive self.now.event.now.objects.now self.now.event.now.binding.now }
+        ensures { AreAliveBut self.now.event.now.objects.now self.now.event.now.binding.now result }
     {
-        if self.objects.any_dead() {
-            !self.binding.mask()
+        if self.event.objects.any_dead() {
+            !self.event.binding.mask()
         } else {
             0
         }
     }
 
-    /// Reads the monitor of an entry, and adds what becomes of it. Answers whether its number tells that. The
-    /// parameters are those to which its instance may give a dead object. A state's move is looked up once, and again
-    /// where a state whose number ends alike came between.
+    /// What the number of a monitor's state tells. A state's move is looked up once, and again where one whose number
+    /// leaves the same remainder by 16 came between.
     #[inline(always)]
-    fn read<L: Ledger>(
+    fn tell(
         &self,
-        entry: &Listed,
+        base: &Stored<M::State>,
         card: &Card,
-        letters: u32,
-        free: u8,
+        asked: Asked,
         turns: &mut [Turn; 16],
-        shifts: &mut [Shift],
-        count: &mut usize,
-        steps: &mut Steps<L>,
-    ) -> bool
-        requires rows { AreRows (M.meaning (M.definition self.now.rules.now)) (M.StandsFor self.now.rules.now)
-            (M.HasNumber self.now.rules.now) self.now.letter.0 self.now.plain.now self.now.endings.now }
-        requires free { AreAliveBut self.now.objects.now self.now.binding.now free }
-        requires there { (s : Kept M.State)
-            × (monitor_at (monitors_of self.now.slots.now) entry.now.slot ≡ Some s)
-            × (is_below self.now.binding.now s.instance ≡ true)
-            × AreAmong self.now.ending.now (mask_of s.instance) self.now.ends }
-        requires card { card.now ≡ card_at self.now.awake.now entry.now.slot }
-        requires letters { letters ≡ self.now.awake.now.letters }
+    ) -> Told
+        requires rows { AreRows (M.meaning (M.definition self.now.event.now.rules.now)) (M.StandsFor
+            self.now.event.now.rules.now) (M.HasNumber self.now.event.now.rules.now) self.now.event.now.letter.0
+            self.now.plain.now self.now.endings.now }
+        requires free { AreAliveBut self.now.event.now.objects.now self.now.event.now.binding.now asked.params }
+        requires below { is_below self.now.event.now.binding.now base.now.instance ≡ true }
+        requires among { AreAmong self.now.ending.now (mask_of base.now.instance) self.now.ends }
         requires turns { AreTurns self.now.plain.now self.now.ends self.now.endings.now turns.old }
-        requires room { count.old < length shifts.old }
         ensures turns { AreTurns self.now.plain.now self.now.ends self.now.endings.now turns.new }
-        ensures given { result ≡ true → IsPushed (IsShiftAt (M.meaning (M.definition self.now.rules.now))
-            (M.StandsFor self.now.rules.now) (M.HasNumber self.now.rules.now) self.now.letter.0
-            self.now.objects.now self.now.binding.now self.now.ending.now self.now.awake.now
-            (monitors_of self.now.slots.now))
-            entry.now.slot (take count.old shifts.old) (take count.new shifts.new) }
-        ensures count { count.new ≤ count.old + 1 }
-        ensures length { length shifts.new ≡ length shifts.old }
-        ensures steps { steps.new ≤ steps.old + 1 }
+        ensures told { IsTold (M.meaning (M.definition self.now.event.now.rules.now)) (M.StandsFor
+            self.now.event.now.rules.now) (M.HasNumber self.now.event.now.rules.now) self.now.event.now.letter.0
+            self.now.event.now.objects.now self.now.event.now.binding.now self.now.ending.now asked.letters card.now
+            base.now result }
     {
-        let base = monitor_in(self.slots, entry.slot(), steps);
-        let Some(number) = self.rules.number(&base.state) else {
-            return false;
+        let Some(number) = self.event.rules.number(&base.state) else {
+            return Told::Nothing;
         };
-        if !self.is_whole(&base.instance, free) {
-            return false;
+        if !self.is_whole(&base.instance, asked.params) {
+            return Told::Nothing;
         }
         let turn = turn_of(turns, number);
         if turn.is_from(number) {
-            return add(entry, card, letters, turn.to, shifts, count);
+            return shifts_on(card, asked.letters, turn.to);
         }
         let next = self.look_up(number, &base.instance, turns);
         if next == NO_NUMBER {
-            return false;
+            return Told::Nothing;
         }
         if next == AT_REST {
-            return true;
+            return Told::Rests;
         }
-        add(entry, card, letters, next, shifts, count)
+        shifts_on(card, asked.letters, next)
     }
 
     /// What the row has at the number of a state, if the letters that end all monitors with the parameters of an
-    /// instance end the states with that number.
+    /// instance end the states with that number. It is noted where the instance doesn't matter.
     #[inline(never)]
     fn look_up(&self, number: u16, instance: &Binding, turns: &mut [Turn; 16]) -> u16
         requires turns { AreTurns self.now.plain.now self.now.ends self.now.endings.now turns.old }
@@ -257,18 +282,40 @@ impl<M: Monitor> Walk<'_, M> {
         }
     }
 
+    /// Works out what the event makes of the monitor of a slot, and adds it to the moves.
+    #[cold]
+    #[inline(never)]
+    fn work_out(
+        &self,
+        slot: usize,
+        base: &Stored<M::State>,
+        moves: &mut Vec<Move<M::State>>,
+    ) -> Result<(), NoMemory>
+        requires low { self.now.event.now.letter.0 < (M.meaning (M.definition self.now.event.now.rules.now)).letters }
+        requires known { IsTrue self.now.event.now.known
+            ↔ Contains self.now.event.now.marks.now.list self.now.event.now.binding.now }
+        requires below { is_below self.now.event.now.binding.now base.now.instance ≡ true }
+        requires here { monitor_at (monitors_of self.now.slots.items.now) slot ≡ Some base.now }
+        ensures { OnOk result (IsPushed (IsReadAt (M.meaning (M.definition self.now.event.now.rules.now)) (M.StandsFor
+            self.now.event.now.rules.now) self.now.event.now.letter.0 self.now.event.now.binding.now
+            self.now.event.now.objects.now self.now.event.now.marks.now.list (monitors_of self.now.slots.items.now))
+            slot moves.old.items moves.new.items) }
+    {
+        self.event.add_outcome(slot, base, moves)
+    }
+
     /// Whether nothing is dead of an instance above the event's binding.
     #[inline(always)]
     fn is_whole(&self, instance: &Binding, free: u8) -> bool
-        requires free { AreAliveBut self.now.objects.now self.now.binding.now free }
-        requires below { is_below self.now.binding.now instance.now ≡ true }
-        ensures { result ≡ true → dead_mask_of self.now.objects.now instance.now ≡ 0 }
+        requires free { AreAliveBut self.now.event.now.objects.now self.now.event.now.binding.now free }
+        requires below { is_below self.now.event.now.binding.now instance.now ≡ true }
+        ensures { result ≡ true → dead_mask_of self.now.event.now.objects.now instance.now ≡ 0 }
     {
         let mask = instance.mask();
         if free == 0 {
             return true;
         }
-        !binds_dead(self.objects, instance, mask & free)
+        !binds_dead(self.event.objects, instance, mask & free)
     }
 }
 
@@ -318,55 +365,35 @@ fn note_turn(turns: &mut [Turn; 16], from: u16, to: u16)
     };
 }
 
-/// The monitor of a slot that has one, which is one step.
+/// That a monitor shifts to the state with a number, if the slot with this card is in the lists of all these letters.
 #[inline(always)]
-fn monitor_in<'a, S, L: Ledger>(
-    slots: &'a [Slot<S>],
-    slot: usize,
-    steps: &mut Steps<L>,
-) -> &'a Stored<S>
-    requires { (s : Kept S) × (monitor_at (monitors_of slots.now) slot ≡ Some s) }
-    ensures value { monitor_at (monitors_of slots.now) slot ≡ Some result.now }
-    ensures steps { steps.new ≡ steps.old + 1 }
-{
-    let Slot::Taken(monitor) = &slots[slot] else {
-        unreachable!();
-    };
-    steps.tick();
-    monitor
-}
-
-/// Whether the shifts of a list with so many entries are worth their while.
-#[inline(always)]
-fn are_worth(entries: usize, count: usize) -> bool {
-    entries < MANY || count > entries / 2
-}
-
-/// Writes that the monitor of an entry gets another state behind the shifts that there are, if its slot is in the lists
-/// of all these letters; answers whether it is.
-#[inline(always)]
-fn add(
-    entry: &Listed,
-    card: &Card,
-    letters: u32,
-    number: u16,
-    shifts: &mut [Shift],
-    count: &mut usize,
-) -> bool
-    requires { count.old < length shifts.old }
-    ensures on { result ≡ true → (e : ℕ) → bit_at letters e ≡ 1 → IsOn card.now e }
-    ensures added { result ≡ true → take count.new shifts.new
-        ≡ take count.old shifts.old ++ record { slot = entry.now.slot; number = number } ∷ [] }
-    ensures count { count.new ≤ count.old + 1 }
-    ensures length { length shifts.new ≡ length shifts.old }
+fn shifts_on(card: &Card, letters: u32, number: u16) -> Told
+    ensures told { (result ≡ Nothing) ⊎ (result ≡ Shifts number) }
+    ensures on { result ≢ Nothing → (e : ℕ) → bit_at letters e ≡ 1 → IsOn card.now e }
 {
     if card.missing(letters) != 0 {
-        return false;
+        return Told::Nothing;
     }
-    let slot = entry.slot_number();
+    Told::Shifts(number)
+}
+
+/// Whether what an event does to a list with so many entries is worth its while.
+#[inline(always)]
+fn are_worth(entries: usize, shifts: usize, moves: usize) -> bool {
+    entries < MANY || shifts > entries / 2 || moves > entries / 2 - shifts
+}
+
+/// Writes a shift behind those that there are.
+#[inline(always)]
+fn push_shift(shifts: &mut [Shift], count: &mut usize, slot: u32, number: u16)
+    requires { count.old < length shifts.old }
+    ensures added { take count.new shifts.new
+        ≡ take count.old shifts.old ++ record { slot = slot; number = number } ∷ [] }
+    ensures count { count.new ≡ count.old + 1 }
+    ensures length { length shifts.new ≡ length shifts.old }
+{
     shifts[*count] = Shift { slot, number };
     *count += 1;
-    true
 }
 
 /// What a row has at a number.
@@ -451,33 +478,4 @@ fn without(params: u32, p: u32) -> u32
     ensures fewer { bit_at params p ≡ 1 → result < params }
 {
     params & !(1 << p)
-}
-
-/// Gives each shift's monitor the state with its number.
-#[inline(never)]
-pub(crate) fn shift_all<M: Monitor>(rules: &M, slots: &mut [Slot<M::State>], shifts: &[Shift])
-    requires apart { AllPairs (λ x y. x.slot ≢ y.slot) shifts.now }
-    requires there { HaveMonitors shifts.now (monitors_of slots.old) }
-    ensures moved { AreShifted (M.HasNumber rules.now) shifts.now (monitors_of slots.old) (monitors_of slots.new) }
-    ensures alike { AreAlike slots.old slots.new }
-{
-    for shift in shifts {
-        renumber(rules, slots, shift);
-    }
-}
-
-/// Carries a shift out.
-#[inline(always)]
-fn renumber<M: Monitor>(rules: &M, slots: &mut [Slot<M::State>], shift: &Shift)
-    requires { (s : Kept M.State) × (monitor_at (monitors_of slots.old) shift.now.slot ≡ Some s) }
-    ensures here { IsShifted (M.HasNumber rules.now) (monitor_at (monitors_of slots.old) shift.now.slot)
-        (monitor_at (monitors_of slots.new) shift.now.slot) shift.now.number }
-    ensures others { (k : ℕ) → (k ≡ shift.now.slot → ⊥)
-        → monitor_at (monitors_of slots.new) k ≡ monitor_at (monitors_of slots.old) k }
-    ensures alike { AreAlike slots.old slots.new }
-{
-    match &mut slots[shift.slot as usize] {
-        Slot::Taken(monitor) => rules.renumber(&mut monitor.state, shift.number),
-        _ => unreachable!(),
-    }
 }

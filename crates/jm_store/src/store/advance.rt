@@ -30,8 +30,6 @@ use std::sync::ledger::Ledger;
 /// An event that was done: its answer, twice.
 #[derive(Drop)]
 pub struct Done {
-    /// Whether a monitor that it moved or made is stored afterwards.
-    pub stays: bool,
     pub answer: Firings,
     pub copy: Firings,
 }
@@ -39,12 +37,10 @@ pub struct Done {
 impl Done {
     /// What an event comes to that neither moves a monitor nor makes one: no handler runs.
     fn nothing(alloc: Global) -> Done
-        ensures stays { result.stays ≡ false }
         ensures answer { result.answer ≡ [] }
         ensures copy { result.copy ≡ [] }
     {
         Done {
-            stays: false,
             answer: Firings::new(alloc),
             copy: Firings::new(alloc),
         }
@@ -178,7 +174,7 @@ impl<M: Monitor> Store<M> {
         ensures done { IfSome result (λ done. (base : Kept M.State)
             → monitor_at self.old.monitors slot ≡ Some base
             → IsSlotAdvanced (M.meaning (M.definition rules.now)) (M.StandsFor rules.now) letter.0 objects.now slot base
-            self.old self.new done.stays done.answer) }
+            self.old self.new done.answer) }
         ensures listed { KeepListed (M.meaning (M.definition rules.now)) (M.StandsFor rules.now) objects.now
             self.old.monitors self.new.monitors awake.old awake.new }
         ensures steps { steps.new ≤ steps.old + 1 }
@@ -204,11 +200,7 @@ impl<M: Monitor> Store<M> {
             self.index.remove(&instance);
             self.monitors.release(slot);
         }
-        Some(Done {
-            stays,
-            answer,
-            copy,
-        })
+        Some(Done { answer, copy })
     }
 
     /// Does an event with a binding above which several monitors may be, or one that may make a new instance.
@@ -367,7 +359,6 @@ impl<M: Monitor> Store<M> {
         ensures fits { (dead : List Bool) → IsFit self.old dead → AreBelow (length dead) binding.now
             → IsFit self.new dead }
         ensures marks { IfSome result (λ done. AreMarksAfter binding.now self.old.marks self.new.marks) }
-        ensures stays { IfSome result (λ done. done.stays ≡ false) }
         ensures answer { IfSome result (λ done. done.answer ≡ []) }
         ensures copy { IfSome result (λ done. done.copy ≡ []) }
     {
@@ -401,7 +392,6 @@ impl<M: Monitor> Store<M> {
             → AreBelow (length dead) step.monitor.instance → IsFitting self.new.index dead }
         ensures marks { IfSome result (λ done. AreMarksAfter binding.now self.old.marks self.new.marks) }
         ensures twice { IfSome result (λ done. done.copy ≡ done.answer) }
-        ensures stays { IfSome result (λ done. done.stays ≡ step.stays) }
         ensures taken { IfSome result (λ done. IsStepTaken (M.meaning (M.definition rules.now))
             (M.StandsFor rules.now) step self.old self.new done.answer) }
         ensures listed { (dead : List Bool) → KeepListed (M.meaning (M.definition rules.now)) (M.StandsFor rules.now)
@@ -421,15 +411,10 @@ impl<M: Monitor> Store<M> {
         self.open_for(known)?;
         self.place_one(&mut step)?;
         self.end_one(rules, &step.monitor);
-        let stays = step.stays;
         follow::<M>(awake, &step);
         self.carry_out(step);
         self.close(binding, known);
-        Some(Done {
-            stays,
-            answer,
-            copy,
-        })
+        Some(Done { answer, copy })
     }
 
     /// Makes room for a mark, where the binding isn't known to be one, unless out of memory.

@@ -7,8 +7,8 @@ ghost use Rattle.jm_index.specs.Index.{AreLive, IsFitting, flag_of};
 ghost use Rattle.jm_monitors.specs.declared.stored.Stored.{Stored as Kept};
 ghost use Rattle.jm_monitors.specs.Steps.{after_death};
 ghost use Rattle.jm_store.specs.Slots.{monitor_at};
-ghost use Rattle.jm_store.specs.Moves.{AreGiven, IsReadAt, IsPushed, AreMovesRead, AreVisited, asks_by, has_all};
-ghost use Rattle.jm_store.specs.Contents.{stored_of, monitors_after, IsPlanFor};
+ghost use Rattle.jm_store.specs.Moves.{after_moves, AreApart, AreGiven, IsReadAt, IsPushed, AreMovesRead, AreVisited, asks_by, has_all};
+ghost use Rattle.jm_store.specs.Contents.{stored_of, monitors_after, ArePlaced, IsPlanFor};
 ghost use Rattle.jm_store.specs.Listed.{occupants_of, slots_listed, AreListed, AreListedBut, AreLeftOf, KeepListed, IsInAll};
 ghost use Rattle.jm_store.specs.Plans.{CanPlan, PlansUnlessRests};
 
@@ -188,12 +188,23 @@ impl<M: Monitor> Store<M> {
         ensures { (rules : M) (dead : List Bool) → KeepListed (M.meaning (M.definition rules)) (M.StandsFor rules) dead
             self.now.monitors (monitors_after self.now plan.now) awake.old awake.new }
     {
-        let _monitors = &self.monitors;
-        follow_all::<M>(awake, plan.moves.as_slice());
+        self.follow_moves(awake, plan.moves.as_slice());
     }
 
-    /// Makes a list of the monitors above an event's binding, which the event reads from now on. Where it is out of
-    /// memory, it makes none, or lists are let go.
+    /// Takes in what moves make of the monitors of their slots, before they are carried out.
+    #[inline(always)]
+    pub(super) fn follow_moves(&self, awake: &mut Awake, moves: &[Move<M::State>])
+        requires apart { AreApart moves.now }
+        requires leads { ArePlaced self.now moves.now }
+        ensures { (rules : M) (dead : List Bool) → KeepListed (M.meaning (M.definition rules)) (M.StandsFor rules) dead
+            self.now.monitors (after_moves moves.now self.now.monitors) awake.old awake.new }
+    {
+        let _monitors = &self.monitors;
+        follow_all::<M>(awake, moves);
+    }
+
+    /// Makes a list of the monitors above an event's binding, which the event reads from now on. It takes the place of
+    /// the list of another binding with the same first object. Out of memory, none is made, or lists are let go.
     #[inline(never)]
     pub fn list(
         &self,

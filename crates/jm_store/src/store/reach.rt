@@ -256,7 +256,7 @@ impl<M: Monitor> Store<M> {
     }
 
     /// Keeps of the letters that end monitors those that end the moved ones too.
-    fn end_fewer(&mut self, rules: &M, moves: &[Move<M::State>])
+    pub(super) fn end_fewer(&mut self, rules: &M, moves: &[Move<M::State>])
         ensures same { self.new ≡ with_ending self.old self.new.ending }
         ensures fewer { EndsFewer self.old.ending self.new.ending }
         ensures ended { AreEnding (M.meaning (M.definition rules.now)) (M.StandsFor rules.now) self.new.ending

@@ -1,80 +1,167 @@
-//! Events that give the monitors of their list other states, and do nothing else.
-ghost use Rattle.std.specs.Prelude.{◌≡◌, ℕ, ◌+◌, ◌<◌, ◌≤◌, [], Contains, Some, true, false, length, count_by};
+//! Events of which there is a list, done at once: monitors of the list get other states by their numbers, and what
+//! becomes of the others is worked out.
+ghost use Rattle.std.specs.Prelude.{◌≡◌, ℕ, ◌+◌, ◌<◌, ◌≤◌, ◌↔◌, [], List, Bool, Contains, IfNone, IfSome, IsTrue, Some, true, false, length, count_by};
 ghost use Rattle.std.specs.Int.{bit_at};
 ghost use Rattle.jm_model.specs.Bindings.{is_below, is_compatible, mask_of};
 ghost use Rattle.jm_awake.specs.Awake.{list_at, IsListOf};
+ghost use Rattle.jm_index.specs.Index.{AreLive};
 ghost use Rattle.jm_monitors.specs.declared.stored.Stored.{Stored as Kept};
 ghost use Rattle.jm_store.specs.Slots.{monitor_at};
-ghost use Rattle.jm_store.specs.Moves.{ends_all};
-ghost use Rattle.jm_store.specs.Contents.{stored_of};
-ghost use Rattle.jm_store.specs.Listed.{AreListed};
-ghost use Rattle.jm_store.specs.Plans.{CanPlan, IsShiftDone};
+ghost use Rattle.jm_store.specs.Moves.{ends_all, AreApart};
+ghost use Rattle.jm_store.specs.Contents.{stored_of, ArePlaced};
+ghost use Rattle.jm_store.specs.Listed.{slots_listed, AreListed, KeepListed};
+ghost use Rattle.jm_store.specs.Plans.{CanPlan, Advances, IsApplied, IsReading};
 
 use super::Store;
+use super::advance::Done;
+use crate::event::Event;
+use crate::moves::Move;
+use crate::report::report;
 use crate::walk::{Shift, Walk};
 use jm_awake::Awake;
-use jm_model::{Binding, Letter, Monitor, Steps};
+use jm_model::{Binding, Firings, Letter, Monitor, Steps};
 use jm_objects::Objects;
 use std::mem;
 use std::sync::ledger::Ledger;
 
+/// What an event comes to that is done at once: how many shifts there are, and the answer, twice.
+#[derive(Drop)]
+struct Reading {
+    count: usize,
+    answer: Firings,
+    copy: Firings,
+}
+
 impl<M: Monitor> Store<M> {
-    /// Does an event at once whose binding is a mark, and of which there is a list, if it gives the monitors of the
-    /// list other states or leaves them as they are, and does nothing else. Answers whether it did; if it didn't, all
-    /// is as it was. It takes no memory but for room; where it is out of memory, it does nothing.
+    /// Does an event at once whose binding is a mark, and of which there is a list, unless most of the list's monitors
+    /// rest, or out of memory. Where it doesn't do it, all is as it was. Only monitors of the list are read, each once.
     #[inline(never)]
-    pub fn shift_listed<L: Ledger>(
+    pub fn advance_listed<L: Ledger>(
         &mut self,
         rules: &M,
         objects: &Objects,
-        awake: &Awake,
+        awake: &mut Awake,
         place: usize,
         letter: Letter,
         binding: &Binding,
         steps: &mut Steps<L>,
-    ) -> bool
+    ) -> Option<Done>
         requires can { CanPlan (M.meaning (M.definition rules.now)) objects.now letter.0 binding.now self.old }
         requires known { Contains self.old.marks binding.now }
-        requires within { place < length awake.now.lists }
-        requires of { IsListOf (list_at awake.now place) letter.0 binding.now }
+        requires within { place < length awake.old.lists }
+        requires of { IsListOf (list_at awake.old place) letter.0 binding.now }
         requires listed { AreListed (M.meaning (M.definition rules.now)) (M.StandsFor rules.now) objects.now
-            self.old.monitors awake.now }
-        ensures same { result ≡ false → self.new ≡ self.old }
-        ensures done { result ≡ true → IsShiftDone (M.meaning (M.definition rules.now)) (M.StandsFor rules.now)
-            objects.now letter.0 binding.now self.old self.new }
+            self.old.monitors awake.old }
+        ensures same { IfNone result (self.new ≡ self.old) }
+        ensures lists { IfNone result (awake.new ≡ awake.old) }
+        ensures advances { Advances (M.meaning (M.definition rules.now)) (M.StandsFor rules.now) objects.now letter.0
+            binding.now self.old self.new result }
         ensures listed { AreListed (M.meaning (M.definition rules.now)) (M.StandsFor rules.now) objects.now
-            self.new.monitors awake.now }
+            self.new.monitors awake.new }
         ensures steps { steps.new ≤ steps.old + count_by (λ s. is_compatible s.instance binding.now)
             (stored_of self.old) }
     {
-        let met = awake.entries(place).len();
-        if met == 0 {
-            return false;
+        if awake.entries(place).is_empty() {
+            return None;
         }
         let mut shifts = self.take_shifts();
-        if !has_room(&mut shifts, met) {
-            self.give_shifts(shifts);
-            return false;
-        }
-        let walk = Walk {
+        let mut moves = self.take_moves();
+        let event = Event {
             rules,
             objects,
-            slots: self.monitors.slots(),
-            awake,
+            marks: &self.marks,
             letter,
             binding,
-            plain: rules.plain(letter),
-            endings: rules.endings(),
-            ending: &self.ending,
-            ends: self.ends_above(binding),
+            known: true,
         };
-        let Some(count) = walk.read_list(place, &mut shifts, steps) else {
+        let Some(reading) = self.tell_listed(&event, awake, place, &mut shifts, &mut moves, steps)
+        else {
             self.give_shifts(shifts);
-            return false;
+            self.give_moves(moves);
+            return None;
         };
+        let Reading {
+            count,
+            answer,
+            copy,
+        } = reading;
         self.monitors.shift_all(rules, &shifts.as_slice()[..count]);
         self.give_shifts(shifts);
-        true
+        self.apply(rules, awake, moves);
+        Some(Done { answer, copy })
+    }
+
+    /// What the event makes of the monitors of its list.
+    #[inline(always)]
+    fn tell_listed<L: Ledger>(
+        &self,
+        event: &Event<'_, M>,
+        awake: &Awake,
+        place: usize,
+        shifts: &mut Vec<Shift>,
+        moves: &mut Vec<Move<M::State>>,
+        steps: &mut Steps<L>,
+    ) -> Option<Reading>
+        requires closed { self.now.is_open ≡ false }
+        requires letter { event.now.letter.0 < (M.meaning (M.definition event.now.rules.now)).letters }
+        requires known { IsTrue event.now.known ↔ Contains event.now.marks.now.list event.now.binding.now }
+        requires live { AreLive event.now.objects.now event.now.binding.now }
+        requires within { place < length awake.now.lists }
+        requires of { IsListOf (list_at awake.now place) event.now.letter.0 event.now.binding.now }
+        requires listed { AreListed (M.meaning (M.definition event.now.rules.now)) (M.StandsFor event.now.rules.now)
+            event.now.objects.now self.now.monitors awake.now }
+        requires none { moves.old.items ≡ [] }
+        ensures reading { IfSome result (λ reading. IsReading (M.meaning (M.definition event.now.rules.now))
+            (M.StandsFor event.now.rules.now) (M.HasNumber event.now.rules.now) event.now.letter.0 event.now.objects.now
+            event.now.binding.now event.now.marks.now.list self.now awake.now (slots_listed awake.now place)
+            shifts.new.items moves.new.items reading) }
+        ensures steps { steps.new ≤ steps.old + length (slots_listed awake.now place) }
+    {
+        if !has_room(shifts, awake.entries(place).len()) {
+            return None;
+        }
+        let rules = event.rules;
+        let walk = Walk {
+            slots: self.monitors.lend_all(),
+            awake,
+            plain: rules.plain(event.letter),
+            endings: rules.endings(),
+            ending: &self.ending,
+            ends: self.ends_above(event.binding),
+            event,
+        };
+        let count = walk.read_list(place, shifts, moves, steps)?;
+        let Ok(answer) = report(*self.domains.allocator(), rules, moves.as_slice()) else {
+            return None;
+        };
+        let Ok(copy) = answer.copy() else {
+            return None;
+        };
+        Some(Reading {
+            count,
+            answer,
+            copy,
+        })
+    }
+
+    /// Carries out what becomes of monitors of a list.
+    #[inline(always)]
+    fn apply(&mut self, rules: &M, awake: &mut Awake, mut moves: Vec<Move<M::State>>)
+        requires closed { self.old.is_open ≡ false }
+        requires apart { AreApart moves.items }
+        requires leads { ArePlaced self.old moves.items }
+        ensures applied { IsApplied (M.meaning (M.definition rules.now)) (M.StandsFor rules.now) moves.items self.old
+            self.new }
+        ensures listed { (dead : List Bool) → KeepListed (M.meaning (M.definition rules.now)) (M.StandsFor rules.now)
+            dead self.old.monitors self.new.monitors awake.old awake.new }
+    {
+        self.end_fewer(rules, moves.as_slice());
+        self.follow_moves(awake, moves.as_slice());
+        while let Some(step) = moves.pop() {
+            self.carry_out(step);
+        }
+        let _monitors = &self.monitors;
+        self.give_moves(moves);
     }
 
     /// Takes the room for shifts.

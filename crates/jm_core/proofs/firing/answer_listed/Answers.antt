@@ -19,11 +19,11 @@ returns-in-Ok-Some g c =
     let Stands = g.M.Monitor.StandsFor c.args.rules.now in
     let dead = c.args.objects.now in
     let done = c.commit-answer.ensures in
-    let before = c.counted_listed-planned.new.store in
+    let before = c.counted_plan_listed-planned.new.store in
     let planned : Plans m Stands dead c.args.letter.0 c.args.binding.now c.args.store.now before (Ok c.in-Ok-Some.plan) =
     subst (λ (o : Option (Plan g.row.M-State.Denot)). PlansUnlessRests m Stands dead c.args.letter.0 c.args.binding.now c.args.store.now before (Ok o)) c.in-Ok-Some.field-0-is c.in-Ok-Some.ensures.plans in
     let after = c.commit-answer.new.self in
-    let first = listed_same m Stands dead None c.args.store.now.monitors before.monitors c.counted_listed-planned.new.awake planned.monitors c.in-Ok-Some.ensures.listed in
+    let first = listed_same m Stands dead None c.args.store.now.monitors before.monitors c.counted_plan_listed-planned.new.awake planned.monitors c.in-Ok-Some.ensures.listed in
     let followed = c.follow.ensures c.args.rules.now dead first in
     record {
       twice = ap Fired (done.copy ∙ sym done.answer);
@@ -42,7 +42,7 @@ returns-in-Ok-None g c =
     let m = g.M.Monitor.meaning (g.M.Monitor.definition c.args.rules.now) in
     let Stands = g.M.Monitor.StandsFor c.args.rules.now in
     let before = c.args.store.now in
-    let after = c.counted_listed-planned.new.store in
+    let after = c.counted_plan_listed-planned.new.store in
     let rests : (after ≡ before) × AreResting m Stands c.args.objects.now c.args.letter.0 c.args.binding.now (stored_of before) before.marks =
     subst (λ (o : Option (Plan g.row.M-State.Denot)). PlansUnlessRests m Stands c.args.objects.now c.args.letter.0 c.args.binding.now before after (Ok o)) c.in-Ok-None.field-0-is c.in-Ok-None.ensures.plans in
     let (same, resting) = rests in
@@ -66,6 +66,6 @@ returns-in-Err g c =
       twice = refl;
       closed = same.closed;
       fits = same.fits;
-      listed = listed_same m Stands c.args.objects.now None c.args.store.now.monitors c.counted_listed-planned.new.store.monitors c.counted_listed-planned.new.awake same.monitors c.in-Err.ensures.listed;
+      listed = listed_same m Stands c.args.objects.now None c.args.store.now.monitors c.counted_plan_listed-planned.new.store.monitors c.counted_plan_listed-planned.new.awake same.monitors c.in-Err.ensures.listed;
       works = λ trace holds. (c.requires.live, record { stored = same.stored; marks = same.marks; holds = same.keeps trace holds });
     }

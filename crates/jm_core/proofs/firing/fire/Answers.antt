@@ -10,14 +10,14 @@ use Rattle.jm_store.proofs.ListedLemmas.{listed_same}
 use Rattle.jm_core.proofs.FireLemmas.{carried_out}
 use Rattle.jm_core.proofs.firing.fire.Goals as goal
 
-pub list_many-requires-clause-fits : goal.list_many-requires-clause-fits
-list_many-requires-clause-fits g c =
+pub list_if-requires-clause-fits : goal.list_if-requires-clause-fits
+list_if-requires-clause-fits g c =
     let dead = c.args.objects.now in
     let planned = c.in-Ok.ensures in
     (c.commit-answer.ensures.fits dead planned.fits (subst (λ (b : Binding). AreBelow (length dead) b) (sym planned.binding) c.requires.can.there)).index
 
-pub list_many-requires-clause-live : goal.list_many-requires-clause-live
-list_many-requires-clause-live g c = λ o binds. c.requires.can.event.live o (object-among _ binds.0 o binds.1)
+pub list_if-requires-clause-live : goal.list_if-requires-clause-live
+list_if-requires-clause-live g c = λ o binds. c.requires.can.event.live o (object-among _ binds.0 o binds.1)
 
 pub returns-after-known : goal.returns-after-known
 returns-after-known g c =
@@ -35,7 +35,7 @@ returns-after-known g c =
       twice = ap Fired (done.copy ∙ sym done.answer);
       closed = done.closed;
       fits = done.fits dead planned.fits (subst (λ (b : Binding). AreBelow (length dead) b) (sym planned.binding) c.requires.can.there);
-      listed = c.list_many.ensures committed;
+      listed = c.list_if.ensures committed;
       works = λ trace holds.
           let works = planned.works trace holds in
           let out = carried_out m Stands trace dead c.args.letter.0 c.args.binding.now before after c.in-Ok.plan c.commit-answer.result.0

@@ -1,4 +1,4 @@
-use Rattle.std.proofs.Common.{◌≡◌, ℕ, ap, ◌∙◌, arith, bit_and, ◌-◌, ◌^◌}
+use Rattle.std.proofs.Common.{ℕ, ap, ◌∙◌, bit_and, ◌-◌, ◌^◌}
 use Rattle.std.specs.Int.{bit_at}
 use Rattle.std.proofs.lemmas.Bool.{eqb-true}
 use Rattle.std.proofs.lemmas.Nat.Bits.{bit_at-zero}

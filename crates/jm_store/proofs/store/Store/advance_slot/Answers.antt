@@ -55,10 +55,11 @@ returns-clause-done g c = λ base at.
       cut = λ goes w stands.
           subst (λ (d : ℕ). IsCutWord m w d) c.dead_mask.ensures ((c.cut-stays.ensures w stands).0 (not-false c.cut-stays.result goes));
     } in
-    subst (λ (x : Stored g.row.M-State.Denot). IsSlotAdvanced m Stands c.args.letter.0 c.args.objects.now c.args.slot x c.args.self.now c.if-stays.self (not c.cut-stays.result) c.in-Ok-report_one.answer) same
+    subst (λ (x : Stored g.row.M-State.Denot). IsSlotAdvanced m Stands c.args.letter.0 c.args.objects.now c.args.slot x c.args.self.now c.if-stays.self c.in-Ok-report_one.answer) same
     (elim c.if-stays.branch [
       | then-stays w ↦ record {
         state = c.in-Ok.state;
+        stays = not c.cut-stays.result;
         next = next;
         report = c.in-Ok-report_one.ensures;
         monitors = rw (w.self-is, ← c.self.view_is, w.if-stays.true, w.put.ensures) (map-set monitor_in _ _ _);
@@ -69,6 +70,7 @@ returns-clause-done g c = λ base at.
       }
       | else-stays w ↦ record {
         state = c.in-Ok.state;
+        stays = not c.cut-stays.result;
         next = next;
         report = c.in-Ok-report_one.ensures;
         monitors = rw (w.self-is, ← c.self.view_is, w.if-stays.false, w.release.ensures) (map-set monitor_in _ _ _);

@@ -1,10 +1,10 @@
-use Rattle.std.proofs.Common.{◌≡◌, ℕ, List, true, false, sym, ap, ◌∙◌, subst}
-use Rattle.std.specs.Prelude.{Some, Contains}
+use Rattle.std.proofs.Common.{◌≡◌, ℕ, List, sym, ap, subst}
+use Rattle.std.specs.Prelude.{Contains}
 use Rattle.std.proofs.lemmas.Bool.{eq-eqb}
 use Rattle.std.proofs.lemmas.List.{take_all}
 use Rattle.jm_model.specs.Bindings.{mask_of}
 use Rattle.jm_store.proofs.VisitLemmas.{not_all, mask_within}
-use Rattle.jm_store.proofs.ShiftedLemmas.{AreEndsOf, ends_none, ends_next, ends_passed}
+use Rattle.jm_store.proofs.ShiftedLemmas.{AreEndsOf, ends_next, ends_passed}
 use Rattle.jm_store.proofs.store.Store.ends_above.Goals as goal
 use Rattle.jm_store.proofs.store.Store.ends_above.Goals.{then-mask-domain, else-mask-domain}
 

@@ -1,9 +1,10 @@
-use Rattle.jm_store.proofs.ListedLemmas.{for_plan}
 use Rattle.jm_store.proofs.store.Store.follow.Goals as goal
 
+pub follow_moves-requires-clause-apart : goal.follow_moves-requires-clause-apart
+follow_moves-requires-clause-apart g c = rw c.as_slice.ensures.value c.requires.apart
+
+pub follow_moves-requires-clause-leads : goal.follow_moves-requires-clause-leads
+follow_moves-requires-clause-leads g c = rw c.as_slice.ensures.value c.requires.placed
+
 pub returns : goal.returns
-returns g c = λ rules dead.
-    let moves = rw c.as_slice.ensures.value at c.follow_all.ensures in
-    let placed = rw (← c.self.view_is) at c.requires.placed in
-    moves rules dead c.args.self.now.monitors c.requires.apart
-    (λ move has. rw (← c.self.view_is) (for_plan _ _ move c.self.invariant.housed (λ k slot. placed move k has slot)))
+returns g c = rw c.as_slice.ensures.value at c.follow_moves.ensures

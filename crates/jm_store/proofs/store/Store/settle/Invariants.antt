@@ -1,4 +1,4 @@
-use Rattle.std.proofs.Common.{ℕ, Bool, List, Option}
+use Rattle.std.proofs.Common.{Bool, List, Option}
 use Rattle.jm_monitors.specs.declared.stored.Stored.{Stored}
 use Rattle.jm_store.specs.Listed.{AreListed, AreLeftOf}
 use Rattle.jm_store.proofs.SettledLemmas.{blend}

@@ -6,14 +6,12 @@ use Rattle.jm_store.proofs.ListedLemmas.{listed_same, for_slots}
 use Rattle.jm_model.specs.declared.binding.Binding.{Binding}
 use Rattle.jm_semantics.proofs.ListLemmas.{Contains-head}
 use Rattle.jm_monitors.specs.Steps.{AreMarksAfter}
-use Rattle.jm_store.specs.declared.moves.Move.{Move}
 use Rattle.jm_store.specs.Contents.{with_ending}
 use Rattle.jm_store.proofs.VisitLemmas.{settled_monitor}
 use Rattle.jm_store.proofs.GivenLemmas.{one_pair}
 use Rattle.jm_store.proofs.CommitLemmas.{filled_on, unplanned}
 use Rattle.jm_store.proofs.PlanningLemmas.{fit_same}
 use Rattle.jm_store.proofs.PlacingLemmas.{placed_same}
-use Rattle.jm_store.proofs.DirectLemmas.{one_of}
 use Rattle.jm_store.proofs.store.Store.take_step.Goals as goal
 
 pub place_one-requires-clause-settled : goal.place_one-requires-clause-settled
@@ -64,12 +62,6 @@ returns-clause-marks g c =
     let p = rw c.in_ok-open_for.ensures.opened at c.in_ok-place_one.ensures in
     let carried = rw c.end_one.ensures.same at c.carry_out.ensures in
     subst (λ (l : List Binding). AreMarksAfter c.args.binding.now l c.close.new.self.marks) (carried.marks ∙ p.marks) c.close.ensures.marks
-
-pub returns-clause-stays : goal.returns-clause-stays
-returns-clause-stays g c =
-    let step = c.place_one.new.step in
-    let (first, among, from, missed) = c.in_ok-place_one.ensures.placed.each step (Contains-head step []) in
-    from.stays ∙ ap (λ (x : Move g.row.M-State.Denot). x.stays) (sym (one_of c.args.step first among))
 
 pub returns-clause-taken : goal.returns-clause-taken
 returns-clause-taken g c =

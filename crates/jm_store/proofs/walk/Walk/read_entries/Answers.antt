@@ -1,22 +1,26 @@
-use Rattle.std.proofs.Common.{◌≡◌, ℕ, ◌+◌, ◌/◌, ◌<◌, List, [], ◌∷◌, true, false, take, length, get_or, refl, sym, ap, ◌∙◌, subst, arith, append-nil}
-use Rattle.std.specs.Prelude.{None, Contains, slice_index_or, ◌==◌}
+use Rattle.std.proofs.Common.{◌≡◌, ℕ, ◌+◌, ◌/◌, List, [], ◌∷◌, true, false, take, length, get_or, refl, sym, ap, ◌∙◌, subst, arith, append-nil}
+use Rattle.std.specs.Prelude.{None, Some, slice_index_or, ◌==◌}
 use Rattle.std.proofs.lemmas.List.{take_all, length-append}
 use Rattle.std.proofs.lemmas.List.Elements.{Contains-get_or}
+use Rattle.std.proofs.lemmas.Option.{same_Some}
+use Rattle.jm_model.specs.Bindings.{is_below, mask_of}
 use Rattle.jm_awake.specs.declared.card.Card.{Card}
 use Rattle.jm_awake.specs.declared.card.Listed.{Listed}
-use Rattle.jm_awake.specs.Awake.{fresh, list_at, card_at, slots_there, is_there}
-use Rattle.jm_store.specs.Moves.{AreGiven}
-use Rattle.jm_store.specs.Walks.{IsShiftAt}
-use Rattle.jm_store.specs.Slots.{monitors_of}
-use Rattle.jm_store.proofs.GivenLemmas.{pushed}
-use Rattle.jm_store.proofs.ListedLemmas.{listed_each, slots_at, slots_fewer}
-use Rattle.jm_store.proofs.WalkLemmas.{there_by, no_turns}
+use Rattle.jm_awake.specs.Awake.{fresh, card_at, slots_there, is_there}
+use Rattle.jm_monitors.specs.declared.stored.Stored.{Stored}
+use Rattle.jm_store.specs.declared.walk.Shift.{Shift}
+use Rattle.jm_store.specs.Moves.{AreParted, IsReadAt}
+use Rattle.jm_store.specs.Walks.{AreAmong, IsShifting, IsShiftAt}
+use Rattle.jm_store.specs.Slots.{monitors_of, monitor_at}
+use Rattle.jm_store.proofs.ListedLemmas.{slots_at, slots_fewer}
+use Rattle.jm_store.proofs.PartedLemmas.{parted_none, parted_told, parted_read}
+use Rattle.jm_store.proofs.WalkLemmas.{there_by, no_turns, shifts_all}
 use Rattle.jm_store.proofs.walk.Walk.read_entries.Goals as goal
-use Rattle.jm_store.proofs.walk.Walk.read_entries.Goals.{else-is_there-via-then-is_there+else-not-read, else-is_there-via-else-is_there}
+use Rattle.jm_store.proofs.walk.Walk.read_entries.Goals.{then-is_there+in-Shifts, then-is_there+in-Rests, then-is_there+in-Nothing+in-Ok, else-is_there}
 
 pub loop-entry-init : goal.loop-entry-init
 loop-entry-init g c = record {
-  given = refl;
+  parted = rw c.requires.none (parted_none _ _);
   turns = no_turns c.args.self.now.plain.now c.args.self.now.ends c.args.self.now.endings.now 16;
   few = omega arith;
   room = omega arith;
@@ -26,93 +30,135 @@ loop-entry-init g c = record {
 
 pub card_of-card-requires : goal.card_of-card-requires
 card_of-card-requires g c =
-    let lists = c.args.self.now.awake.now in
-    let entries = c.args.entries.now in
-    let none : Listed = record { slot = 0; age = 0 } in
-    let x = get_or entries c.loop-entry.entry-index none in
-    let has : Contains (list_at lists c.args.place).entries x =
-    subst (λ (l : List Listed). Contains l x) c.requires.entries (Contains-get_or entries c.loop-entry.entry-index none c.loop-entry-test.true) in
-    let low : x.slot < length lists.cards = (c.requires.listed.sound.each c.args.place x c.requires.of.kept has).within in
-    omega (arith, low, c.slot.ensures, ap length c.cards-cards.ensures)
-
-pub read-requires-clause-there : goal.read-requires-clause-there
-read-requires-clause-there g c =
-    let m = g.M.Monitor.meaning (g.M.Monitor.definition c.args.self.now.rules.now) in
-    let Stands = g.M.Monitor.StandsFor c.args.self.now.rules.now in
-    let monitors = monitors_of c.args.self.now.slots.now in
-    let lists = c.args.self.now.awake.now in
-    let place = c.args.place in
-    let entries = c.args.entries.now in
-    let none : Listed = record { slot = 0; age = 0 } in
-    let x = get_or entries c.loop-entry.entry-index none in
-    let has : Contains (list_at lists place).entries x =
-    subst (λ (l : List Listed). Contains l x) c.requires.entries (Contains-get_or entries c.loop-entry.entry-index none c.loop-entry-test.true) in
-    let low : x.slot < length lists.cards = (c.requires.listed.sound.each place x c.requires.of.kept has).within in
-    let card : c.card_of-card.result.now ≡ card_at lists x.slot = c.card_of-card.ensures ∙ ap (λ (n : ℕ). slice_index_or c.cards-cards.result.now n fresh) c.slot.ensures ∙ ap (λ (l : List Card). slice_index_or l x.slot fresh) c.cards-cards.ensures in
-    let age = c.is_there.ensures ∙ ap (λ (y : Card). (y.age / 2 == x.age / 2)) card in
-    let is : is_there lists.cards x ≡ true = there_by lists.cards x low ∙ sym age ∙ c.if-is_there.true in
-    let (s, at, below) = listed_each m Stands c.args.self.now.objects.now None monitors lists place c.args.self.now.letter.0 c.args.self.now.binding.now c.requires.of c.requires.listed x has is in
-    (s, at, below, c.requires.ends x.slot s at below)
-
-pub read-requires-clause-card : goal.read-requires-clause-card
-read-requires-clause-card g c =
     let none : Listed = record { slot = 0; age = 0 } in
     let x = get_or c.args.entries.now c.loop-entry.entry-index none in
-    c.card_of-card.ensures ∙ ap (λ (n : ℕ). slice_index_or c.cards-cards.result.now n fresh) c.slot.ensures ∙ ap (λ (l : List Card). slice_index_or l x.slot fresh) c.cards-cards.ensures
+    let low = (c.requires.each x (Contains-get_or c.args.entries.now c.loop-entry.entry-index none c.loop-entry-test.true)).0 in
+    omega (arith, low, c.slot.ensures, ap length c.cards-cards.ensures)
 
-pub read-requires-clause-room : goal.read-requires-clause-room
-read-requires-clause-room g c = let inv = c.loop-entry.invariant in omega (arith, inv.few, inv.size, c.requires.room, c.loop-entry-test.true)
+pub monitor-base-requires : goal.monitor-base-requires
+monitor-base-requires g c =
+    let lists = c.args.self.now.awake.now in
+    let none : Listed = record { slot = 0; age = 0 } in
+    let x = get_or c.args.entries.now c.loop-entry.entry-index none in
+    let (low, read) = c.requires.each x (Contains-get_or c.args.entries.now c.loop-entry.entry-index none c.loop-entry-test.true) in
+    let card : c.card_of-card.result.now ≡ card_at lists x.slot = c.card_of-card.ensures ∙ ap (λ (n : ℕ). slice_index_or c.cards-cards.result.now n fresh) c.slot.ensures ∙ ap (λ (l : List Card). slice_index_or l x.slot fresh) c.cards-cards.ensures in
+    let age = c.is_there.ensures ∙ ap (λ (y : Card). (y.age / 2 == x.age / 2)) card in
+    let (on, (s, at, below, among)) = read (there_by lists.cards x low ∙ sym age ∙ c.if-is_there.true) in
+    (s, ap (monitor_at (monitors_of c.args.self.now.slots.items.now)) c.slot-then-is_there.ensures ∙ at)
 
-pub returns-then-not-read-clause-steps : goal.returns-then-not-read-clause-steps
-returns-then-not-read-clause-steps g c =
+pub tell-requires-clause-below : goal.tell-requires-clause-below
+tell-requires-clause-below g c =
+    let walk = c.args.self.now in
+    let lists = walk.awake.now in
+    let none : Listed = record { slot = 0; age = 0 } in
+    let x = get_or c.args.entries.now c.loop-entry.entry-index none in
+    let (low, read) = c.requires.each x (Contains-get_or c.args.entries.now c.loop-entry.entry-index none c.loop-entry-test.true) in
+    let card : c.card_of-card.result.now ≡ card_at lists x.slot = c.card_of-card.ensures ∙ ap (λ (n : ℕ). slice_index_or c.cards-cards.result.now n fresh) c.slot.ensures ∙ ap (λ (l : List Card). slice_index_or l x.slot fresh) c.cards-cards.ensures in
+    let age = c.is_there.ensures ∙ ap (λ (y : Card). (y.age / 2 == x.age / 2)) card in
+    let (on, (s, at, below, among)) = read (there_by lists.cards x low ∙ sym age ∙ c.if-is_there.true) in
+    let base = c.monitor-base.result.now in
+    let same : s ≡ base = same_Some s base (sym at ∙ sym (ap (monitor_at (monitors_of walk.slots.items.now)) c.slot-then-is_there.ensures) ∙ c.monitor-base.ensures.value) in
+    subst (λ (t : Stored g.row.M-State.Denot). is_below walk.event.now.binding.now t.instance ≡ true) same below
+
+pub tell-requires-clause-among : goal.tell-requires-clause-among
+tell-requires-clause-among g c =
+    let walk = c.args.self.now in
+    let lists = walk.awake.now in
+    let none : Listed = record { slot = 0; age = 0 } in
+    let x = get_or c.args.entries.now c.loop-entry.entry-index none in
+    let (low, read) = c.requires.each x (Contains-get_or c.args.entries.now c.loop-entry.entry-index none c.loop-entry-test.true) in
+    let card : c.card_of-card.result.now ≡ card_at lists x.slot = c.card_of-card.ensures ∙ ap (λ (n : ℕ). slice_index_or c.cards-cards.result.now n fresh) c.slot.ensures ∙ ap (λ (l : List Card). slice_index_or l x.slot fresh) c.cards-cards.ensures in
+    let age = c.is_there.ensures ∙ ap (λ (y : Card). (y.age / 2 == x.age / 2)) card in
+    let (on, (s, at, below, among)) = read (there_by lists.cards x low ∙ sym age ∙ c.if-is_there.true) in
+    let base = c.monitor-base.result.now in
+    let same : s ≡ base = same_Some s base (sym at ∙ sym (ap (monitor_at (monitors_of walk.slots.items.now)) c.slot-then-is_there.ensures) ∙ c.monitor-base.ensures.value) in
+    subst (λ (t : Stored g.row.M-State.Denot). AreAmong walk.ending.now (mask_of t.instance) walk.ends) same among
+
+pub returns-in_default-clause-steps : goal.returns-in_default-clause-steps
+returns-in_default-clause-steps g c =
     let lists = c.args.self.now.awake.now in
     let cards = lists.cards in
-    let place = c.args.place in
     let entries = c.args.entries.now in
     let i = c.loop-entry.entry-index in
     let none : Listed = record { slot = 0; age = 0 } in
     let x = get_or entries i none in
-    let has : Contains (list_at lists place).entries x = subst (λ (l : List Listed). Contains l x) c.requires.entries (Contains-get_or entries i none c.loop-entry-test.true) in
-    let low : x.slot < length cards = (c.requires.listed.sound.each place x c.requires.of.kept has).within in
+    let low = (c.requires.each x (Contains-get_or entries i none c.loop-entry-test.true)).0 in
     let card : c.card_of-card.result.now ≡ card_at lists x.slot = c.card_of-card.ensures ∙ ap (λ (n : ℕ). slice_index_or c.cards-cards.result.now n fresh) c.slot.ensures ∙ ap (λ (l : List Card). slice_index_or l x.slot fresh) c.cards-cards.ensures in
     let age = c.is_there.ensures ∙ ap (λ (y : Card). (y.age / 2 == x.age / 2)) card in
     let is : is_there cards x ≡ true = there_by cards x low ∙ sym age ∙ c.if-is_there.true in
     let more = slots_at cards entries entries i none true refl c.loop-entry-test.true is in
     let size : length (slots_there cards (take (i + 1) entries)) ≡ length (slots_there cards (take i entries)) + 1 = ap length more ∙ length-append (slots_there cards (take i entries)) (x.slot ∷ []) in
-    omega (arith, size, slots_fewer cards entries (i + 1), c.loop-entry.invariant.steps, c.read.ensures.steps)
+    omega (arith, size, slots_fewer cards entries (i + 1), c.loop-entry.invariant.steps, c.monitor-base.ensures.steps)
 
 pub loop-entry-preserved : goal.loop-entry-preserved
 loop-entry-preserved g c =
     let inv = c.loop-entry.invariant in
-    let lists = c.args.self.now.awake.now in
+    let walk = c.args.self.now in
+    let event = walk.event.now in
+    let m = g.M.Monitor.meaning (g.M.Monitor.definition event.rules.now) in
+    let Stands = g.M.Monitor.StandsFor event.rules.now in
+    let HasNumber = g.M.Monitor.HasNumber event.rules.now in
+    let monitors = monitors_of walk.slots.items.now in
+    let lists = walk.awake.now in
     let cards = lists.cards in
-    let place = c.args.place in
     let entries = c.args.entries.now in
     let i = c.loop-entry.entry-index in
     let none : Listed = record { slot = 0; age = 0 } in
     let x = get_or entries i none in
-    let has : Contains (list_at lists place).entries x = subst (λ (l : List Listed). Contains l x) c.requires.entries (Contains-get_or entries i none c.loop-entry-test.true) in
-    let low : x.slot < length cards = (c.requires.listed.sound.each place x c.requires.of.kept has).within in
+    let (low, read) = c.requires.each x (Contains-get_or entries i none c.loop-entry-test.true) in
     let card : c.card_of-card.result.now ≡ card_at lists x.slot = c.card_of-card.ensures ∙ ap (λ (n : ℕ). slice_index_or c.cards-cards.result.now n fresh) c.slot.ensures ∙ ap (λ (l : List Card). slice_index_or l x.slot fresh) c.cards-cards.ensures in
     let age = c.is_there.ensures ∙ ap (λ (y : Card). (y.age / 2 == x.age / 2)) card in
     let same = there_by cards x low ∙ sym age in
     let slots = slots_there cards (take i entries) in
-    elim c.else-is_there.branch [
-      | else-is_there-via-then-is_there+else-not-read w ↦
+    let R = IsShiftAt m Stands HasNumber event.letter.0 event.objects.now event.binding.now walk.ending.now lists monitors in
+    let Q = IsReadAt m Stands event.letter.0 event.binding.now event.objects.now event.marks.now.list monitors in
+    elim c.if-is_there.branch [
+      | then-is_there+in-Shifts w ↦
           let more = slots_at cards entries entries i none true refl c.loop-entry-test.true (same ∙ w.if-is_there.true) in
-          let at = w.read.ensures in
-          rw (w.turns-is, w.shifts-is, w.count-is, w.steps-is, more) (record {
-            given = pushed _ slots x.slot (take c.loop-entry.count c.loop-entry.shifts) (take w.read.new.count w.read.new.shifts) inv.given (at.given w.if-not-read.false);
-            turns = at.turns;
-            few = omega (arith, inv.few, at.count);
-            room = omega (arith, inv.few, at.count, at.length, inv.size, c.requires.room, c.loop-entry-test.true);
-            size = at.length ∙ inv.size;
-            steps = omega (arith, length-append slots (x.slot ∷ []), inv.steps, at.steps);
+          let base = w.monitor-base.result.now in
+          let here : monitor_at monitors x.slot ≡ Some base = sym (ap (monitor_at monitors) w.slot-then-is_there.ensures) ∙ w.monitor-base.ensures.value in
+          let shift : Shift = record { slot = w.slot_number.result; number = w.in-Shifts.number } in
+          let own = (read (same ∙ w.if-is_there.true)).0 in
+          let told : IsShifting m Stands HasNumber event.letter.0 event.objects.now event.binding.now walk.ending.now c.args.asked.letters (card_at lists x.slot) base shift.number =
+          subst (λ (y : Card). IsShifting m Stands HasNumber event.letter.0 event.objects.now event.binding.now walk.ending.now c.args.asked.letters y base shift.number) card w.in-Shifts.ensures.told in
+          let is : IsShifting m Stands HasNumber event.letter.0 event.objects.now event.binding.now walk.ending.now lists.letters (card_at lists x.slot) base shift.number =
+          shifts_all m Stands HasNumber event.letter.0 event.objects.now event.binding.now walk.ending.now lists.letters c.args.asked.letters (card_at lists x.slot) base shift.number c.requires.others own told in
+          rw (w.turns-is, w.shifts-is, w.moves-is, w.count-is, w.steps-is, more) (record {
+            parted = parted_told R Q slots x.slot (take c.loop-entry.count c.loop-entry.shifts) (take w.push_shift.new.count w.push_shift.new.shifts) c.loop-entry.moves.items inv.parted
+                (Some shift, (base, here, w.slot_number.ensures, is), w.push_shift.ensures.added);
+            turns = w.tell.ensures.turns;
+            few = omega (arith, inv.few, w.push_shift.ensures.count);
+            room = omega (arith, inv.few, w.push_shift.ensures.count, w.push_shift.ensures.length, inv.size, c.requires.room, c.loop-entry-test.true);
+            size = w.push_shift.ensures.length ∙ inv.size;
+            steps = omega (arith, length-append slots (x.slot ∷ []), inv.steps, w.monitor-base.ensures.steps);
           })
-      | else-is_there-via-else-is_there w ↦
+      | then-is_there+in-Rests w ↦
+          let more = slots_at cards entries entries i none true refl c.loop-entry-test.true (same ∙ w.if-is_there.true) in
+          let base = w.monitor-base.result.now in
+          let here : monitor_at monitors x.slot ≡ Some base = sym (ap (monitor_at monitors) w.slot-then-is_there.ensures) ∙ w.monitor-base.ensures.value in
+          rw (w.turns-is, w.shifts-is, w.moves-is, w.count-is, w.steps-is, more) (record {
+            parted = parted_told R Q slots x.slot (take c.loop-entry.count c.loop-entry.shifts) (take c.loop-entry.count c.loop-entry.shifts) c.loop-entry.moves.items inv.parted
+                (None, (base, here, w.in-Rests.ensures.told), sym (append-nil (take c.loop-entry.count c.loop-entry.shifts)));
+            turns = w.tell.ensures.turns;
+            few = omega (arith, inv.few);
+            room = inv.room;
+            size = inv.size;
+            steps = omega (arith, length-append slots (x.slot ∷ []), inv.steps, w.monitor-base.ensures.steps);
+          })
+      | then-is_there+in-Nothing+in-Ok w ↦
+          let more = slots_at cards entries entries i none true refl c.loop-entry-test.true (same ∙ w.if-is_there.true) in
+          rw (w.turns-is, w.shifts-is, w.moves-is, w.count-is, w.steps-is, more) (record {
+            parted = parted_read R Q slots x.slot (take c.loop-entry.count c.loop-entry.shifts) c.loop-entry.moves.items w.work_out.new.moves.items inv.parted (rw w.slot-in-Nothing.ensures at w.in-Ok.ensures);
+            turns = w.tell.ensures.turns;
+            few = omega (arith, inv.few);
+            room = inv.room;
+            size = inv.size;
+            steps = omega (arith, length-append slots (x.slot ∷ []), inv.steps, w.monitor-base.ensures.steps);
+          })
+      | else-is_there w ↦
           let more = slots_at cards entries entries i none false refl c.loop-entry-test.true (same ∙ w.if-is_there.false) in
-          rw (w.turns-is, w.shifts-is, w.count-is, w.steps-is, more, append-nil slots) (record {
-            given = inv.given;
+          rw (w.turns-is, w.shifts-is, w.moves-is, w.count-is, w.steps-is, more, append-nil slots) (record {
+            parted = inv.parted;
             turns = inv.turns;
             few = omega (arith, inv.few);
             room = inv.room;
@@ -121,11 +167,18 @@ loop-entry-preserved g c =
           })
     ]
 
-pub returns-clause-given : goal.returns-clause-given
-returns-clause-given g c =
-    let lists = c.args.self.now.awake.now in
-    let entries = c.args.entries.now in
-    let i = c.loop-entry.entry-index in
-    let R = IsShiftAt (g.M.Monitor.meaning (g.M.Monitor.definition c.args.self.now.rules.now)) (g.M.Monitor.StandsFor c.args.self.now.rules.now) (g.M.Monitor.HasNumber c.args.self.now.rules.now)
-    c.args.self.now.letter.0 c.args.self.now.objects.now c.args.self.now.binding.now c.args.self.now.ending.now lists (monitors_of c.args.self.now.slots.now) in
-    subst (λ (l : List Listed). AreGiven R (slots_there lists.cards l) (take c.loop-entry.count c.loop-entry.shifts)) (take_all i entries c.loop-entry-test.false) c.loop-entry.invariant.given
+pub returns-clause-parted : goal.returns-clause-parted
+returns-clause-parted g c =
+    let walk = c.args.self.now in
+    let event = walk.event.now in
+    let m = g.M.Monitor.meaning (g.M.Monitor.definition event.rules.now) in
+    let Stands = g.M.Monitor.StandsFor event.rules.now in
+    let HasNumber = g.M.Monitor.HasNumber event.rules.now in
+    let monitors = monitors_of walk.slots.items.now in
+    let lists = walk.awake.now in
+    let R = IsShiftAt m Stands HasNumber event.letter.0 event.objects.now event.binding.now walk.ending.now lists monitors in
+    let Q = IsReadAt m Stands event.letter.0 event.binding.now event.objects.now event.marks.now.list monitors in (
+      c.loop-entry.invariant.room,
+      subst (λ (l : List Listed). AreParted R Q (slots_there lists.cards l) (take c.loop-entry.count c.loop-entry.shifts) c.loop-entry.moves.items)
+          (take_all c.loop-entry.entry-index c.args.entries.now c.loop-entry-test.false) c.loop-entry.invariant.parted,
+    )

@@ -1,73 +1,108 @@
-use Rattle.std.proofs.Common.{◌≡◌, ℕ, List, length, take, sym, ap, ◌∙◌, subst, arith}
-use Rattle.std.specs.Prelude.{IfSome}
+use Rattle.std.proofs.Common.{◌≡◌, ℕ, ◌≤◌, List, length, take, refl, sym, ap, ◌∙◌, subst, arith}
+use Rattle.std.specs.Prelude.{IfSome, Contains, None}
+use Rattle.std.specs.Int.{bit_at}
 use Rattle.jm_awake.specs.declared.card.Listed.{Listed}
-use Rattle.jm_awake.specs.Awake.{slots_there}
+use Rattle.jm_awake.specs.Awake.{list_at, slots_there}
 use Rattle.jm_store.specs.declared.walk.Shift.{Shift}
-use Rattle.jm_store.specs.Moves.{AreGiven}
+use Rattle.jm_store.specs.Moves.{AreParted, IsReadAt}
 use Rattle.jm_store.specs.Walks.{AreAliveBut, IsShiftAt}
 use Rattle.jm_store.specs.Slots.{monitors_of}
+use Rattle.jm_store.proofs.ListedLemmas.{listed_each, listed_on}
 use Rattle.jm_store.proofs.WalkLemmas.{written_back}
 use Rattle.jm_store.proofs.walk.Walk.read_list.Goals as goal
 
 pub read_entries-requires-clause-free : goal.read_entries-requires-clause-free
-read_entries-requires-clause-free g c = subst (λ (n : ℕ). AreAliveBut c.args.self.now.objects.now c.args.self.now.binding.now n) c.if-free-eq0.true c.free_params-free.ensures
+read_entries-requires-clause-free g c =
+    let event = c.args.self.now.event.now in
+    subst (λ (n : ℕ). AreAliveBut event.objects.now event.binding.now n) c.if-params-eq0.true c.free_params-params.ensures
+
+pub read_entries-requires-clause-others : goal.read_entries-requires-clause-others
+read_entries-requires-clause-others g c = λ e bit other. subst (λ (n : ℕ). bit_at n e ≡ 1) c.if-letters-eq0.true (c.letters_but-letters.ensures e bit other)
+
+pub read_entries-requires-clause-each : goal.read_entries-requires-clause-each
+read_entries-requires-clause-each g c = λ x among.
+    let walk = c.args.self.now in
+    let event = walk.event.now in
+    let lists = walk.awake.now in
+    let m = g.M.Monitor.meaning (g.M.Monitor.definition event.rules.now) in
+    let Stands = g.M.Monitor.StandsFor event.rules.now in
+    let monitors = monitors_of walk.slots.items.now in
+    let place = c.args.place in
+    let has : Contains (list_at lists place).entries x = subst (λ (l : List Listed). Contains l x) c.entries-entries.ensures among in (
+      (c.requires.listed.sound.each place x c.requires.of.kept has).within,
+      λ there.
+          let (s, at, below) = listed_each m Stands event.objects.now None monitors lists place event.letter.0 event.binding.now c.requires.of c.requires.listed x has there in
+          let on = listed_on m Stands event.objects.now None monitors lists place event.letter.0 event.binding.now c.requires.of c.requires.listed refl x has there in
+          (on, (s, at, below, c.requires.ends x.slot s at below)),
+    )
 
 pub read_entries-requires-clause-room : goal.read_entries-requires-clause-room
 read_entries-requires-clause-room g c = omega (arith, c.requires.room, ap length c.as_mut_slice.ensures.value, ap length c.entries-entries.ensures)
 
+pub read_entries-requires-2-clause-each : goal.read_entries-requires-2-clause-each
+read_entries-requires-2-clause-each g c = λ x among.
+    let walk = c.args.self.now in
+    let event = walk.event.now in
+    let lists = walk.awake.now in
+    let m = g.M.Monitor.meaning (g.M.Monitor.definition event.rules.now) in
+    let Stands = g.M.Monitor.StandsFor event.rules.now in
+    let monitors = monitors_of walk.slots.items.now in
+    let place = c.args.place in
+    let has : Contains (list_at lists place).entries x = subst (λ (l : List Listed). Contains l x) c.entries-entries.ensures among in (
+      (c.requires.listed.sound.each place x c.requires.of.kept has).within,
+      λ there.
+          let (s, at, below) = listed_each m Stands event.objects.now None monitors lists place event.letter.0 event.binding.now c.requires.of c.requires.listed x has there in
+          let on = listed_on m Stands event.objects.now None monitors lists place event.letter.0 event.binding.now c.requires.of c.requires.listed refl x has there in
+          (on, (s, at, below, c.requires.ends x.slot s at below)),
+    )
+
 pub read_entries-requires-2-clause-room : goal.read_entries-requires-2-clause-room
 read_entries-requires-2-clause-room g c = omega (arith, c.requires.room, ap length c.as_mut_slice-2.ensures.value, ap length c.entries-entries.ensures)
 
-pub returns-then-free-eq0-clause-given : goal.returns-then-free-eq0-clause-given
-returns-then-free-eq0-clause-given g c =
+pub returns-then-params-eq0-clause-parted : goal.returns-then-params-eq0-clause-parted
+returns-then-params-eq0-clause-parted g c =
     let walk = c.args.self.now in
+    let event = walk.event.now in
     let lists = walk.awake.now in
+    let m = g.M.Monitor.meaning (g.M.Monitor.definition event.rules.now) in
+    let Stands = g.M.Monitor.StandsFor event.rules.now in
+    let HasNumber = g.M.Monitor.HasNumber event.rules.now in
+    let monitors = monitors_of walk.slots.items.now in
     let items : List Shift = c.args.shifts.now.items in
     let new : List Shift = c.read_entries.new.shifts in
     let value = c.as_mut_slice.ensures.value in
     let whole : length items ≡ c.args.shifts.now.len = sym (ap length value) ∙ c.as_mut_slice.ensures.len in
     let size : length new ≡ length items = c.read_entries.ensures.length ∙ ap length value in
-    let R = IsShiftAt (g.M.Monitor.meaning (g.M.Monitor.definition walk.rules.now)) (g.M.Monitor.StandsFor walk.rules.now) (g.M.Monitor.HasNumber walk.rules.now) walk.letter.0 walk.objects.now walk.binding.now walk.ending.now lists
-    (monitors_of walk.slots.now) in
+    let R = IsShiftAt m Stands HasNumber event.letter.0 event.objects.now event.binding.now walk.ending.now lists monitors in
+    let Q = IsReadAt m Stands event.letter.0 event.binding.now event.objects.now event.marks.now.list monitors in
     rw (written_back c.args.shifts.now.len items new whole size)
-    (subst (λ (l : List Listed). IfSome c.read_entries.result (λ (count : ℕ). AreGiven R (slots_there lists.cards l) (take count new))) c.entries-entries.ensures c.read_entries.ensures.given)
+    (subst (λ (l : List Listed). IfSome c.read_entries.result (λ (count : ℕ). (count ≤ length new) × AreParted R Q (slots_there lists.cards l) (take count new) c.read_entries.new.moves.items))
+    c.entries-entries.ensures c.read_entries.ensures.parted)
 
-pub returns-then-free-eq0-clause-within : goal.returns-then-free-eq0-clause-within
-returns-then-free-eq0-clause-within g c =
-    let items : List Shift = c.args.shifts.now.items in
-    let new : List Shift = c.read_entries.new.shifts in
-    let value = c.as_mut_slice.ensures.value in
-    let whole : length items ≡ c.args.shifts.now.len = sym (ap length value) ∙ c.as_mut_slice.ensures.len in
-    let size : length new ≡ length items = c.read_entries.ensures.length ∙ ap length value in
-    rw (written_back c.args.shifts.now.len items new whole size) c.read_entries.ensures.within
-
-pub returns-then-free-eq0-clause-steps : goal.returns-then-free-eq0-clause-steps
-returns-then-free-eq0-clause-steps g c =
+pub returns-then-params-eq0-clause-steps : goal.returns-then-params-eq0-clause-steps
+returns-then-params-eq0-clause-steps g c =
     let lists = c.args.self.now.awake.now in
     omega (arith, c.read_entries.ensures.steps, ap (λ (l : List Listed). length (slots_there lists.cards l)) c.entries-entries.ensures)
 
-pub returns-clause-given : goal.returns-clause-given
-returns-clause-given g c =
+pub returns-clause-parted : goal.returns-clause-parted
+returns-clause-parted g c =
     let walk = c.args.self.now in
+    let event = walk.event.now in
     let lists = walk.awake.now in
+    let m = g.M.Monitor.meaning (g.M.Monitor.definition event.rules.now) in
+    let Stands = g.M.Monitor.StandsFor event.rules.now in
+    let HasNumber = g.M.Monitor.HasNumber event.rules.now in
+    let monitors = monitors_of walk.slots.items.now in
     let items : List Shift = c.args.shifts.now.items in
     let new : List Shift = c.read_entries-2.new.shifts in
     let value = c.as_mut_slice-2.ensures.value in
     let whole : length items ≡ c.args.shifts.now.len = sym (ap length value) ∙ c.as_mut_slice-2.ensures.len in
     let size : length new ≡ length items = c.read_entries-2.ensures.length ∙ ap length value in
-    let R = IsShiftAt (g.M.Monitor.meaning (g.M.Monitor.definition walk.rules.now)) (g.M.Monitor.StandsFor walk.rules.now) (g.M.Monitor.HasNumber walk.rules.now) walk.letter.0 walk.objects.now walk.binding.now walk.ending.now lists
-    (monitors_of walk.slots.now) in
+    let R = IsShiftAt m Stands HasNumber event.letter.0 event.objects.now event.binding.now walk.ending.now lists monitors in
+    let Q = IsReadAt m Stands event.letter.0 event.binding.now event.objects.now event.marks.now.list monitors in
     rw (written_back c.args.shifts.now.len items new whole size)
-    (subst (λ (l : List Listed). IfSome c.read_entries-2.result (λ (count : ℕ). AreGiven R (slots_there lists.cards l) (take count new))) c.entries-entries.ensures c.read_entries-2.ensures.given)
-
-pub returns-clause-within : goal.returns-clause-within
-returns-clause-within g c =
-    let items : List Shift = c.args.shifts.now.items in
-    let new : List Shift = c.read_entries-2.new.shifts in
-    let value = c.as_mut_slice-2.ensures.value in
-    let whole : length items ≡ c.args.shifts.now.len = sym (ap length value) ∙ c.as_mut_slice-2.ensures.len in
-    let size : length new ≡ length items = c.read_entries-2.ensures.length ∙ ap length value in
-    rw (written_back c.args.shifts.now.len items new whole size) c.read_entries-2.ensures.within
+    (subst (λ (l : List Listed). IfSome c.read_entries-2.result (λ (count : ℕ). (count ≤ length new) × AreParted R Q (slots_there lists.cards l) (take count new) c.read_entries-2.new.moves.items))
+    c.entries-entries.ensures c.read_entries-2.ensures.parted)
 
 pub returns-clause-steps : goal.returns-clause-steps
 returns-clause-steps g c =

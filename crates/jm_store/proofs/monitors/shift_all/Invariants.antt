@@ -1,7 +1,7 @@
 use Rattle.std.proofs.Common.{take}
 use Rattle.jm_store.specs.Slots.{monitors_of}
 use Rattle.jm_store.specs.Walks.{AreShifted, AreAlike}
-use Rattle.jm_store.proofs.walk.shift_all.Given as goal
+use Rattle.jm_store.proofs.monitors.shift_all.Given as goal
 
 abbrev pub invariant-loop-shift : goal.invariant-loop-shift
 invariant-loop-shift g l = record {

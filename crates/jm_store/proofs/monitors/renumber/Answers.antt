@@ -5,7 +5,7 @@ use Rattle.jm_store.specs.declared.monitors.Slot.TheVariants.{Taken}
 use Rattle.jm_store.specs.Slots.{slot_at}
 use Rattle.jm_store.proofs.SlotLemmas.{used_within, monitor_used}
 use Rattle.jm_store.proofs.WalkLemmas.{alike_set, renumbered, renumbered_others, slot_read}
-use Rattle.jm_store.proofs.walk.renumber.Goals as goal
+use Rattle.jm_store.proofs.monitors.renumber.Goals as goal
 
 pub returns-clause-here : goal.returns-clause-here
 returns-clause-here g c = λ s k at number.

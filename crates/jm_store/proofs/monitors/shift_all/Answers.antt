@@ -5,7 +5,7 @@ use Rattle.jm_store.specs.declared.walk.Shift.{Shift}
 use Rattle.jm_store.specs.Slots.{monitors_of}
 use Rattle.jm_store.proofs.ShiftedLemmas.{has_still}
 use Rattle.jm_store.proofs.WalkLemmas.{alike_same, alike_next, alike_size, shifted_none, shifted_more}
-use Rattle.jm_store.proofs.walk.shift_all.Goals as goal
+use Rattle.jm_store.proofs.monitors.shift_all.Goals as goal
 
 pub loop-shift-init : goal.loop-shift-init
 loop-shift-init g c = record {
