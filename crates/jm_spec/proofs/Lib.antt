@@ -8,3 +8,5 @@ pub mod SoundLemmas
 pub mod CompleteLemmas
 pub mod RangeLemmas
 pub mod PropertyLemmas
+pub mod TakeLemmas
+pub mod MakeLemmas

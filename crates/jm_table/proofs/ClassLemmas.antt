@@ -1,4 +1,4 @@
-use Rattle.std.proofs.Common.{ℕ, ◌≡◌, ◌<◌, ◌+◌, ◌*◌, ◌/◌, ◌↔◌, inl, inr, List, [], ◌∷◌, ◌++◌, All, Contains, length, get_or, subst, ◌∙◌, arith}
+use Rattle.std.proofs.Common.{ℕ, ◌≡◌, ◌<◌, ◌+◌, ◌*◌, ◌/◌, ◌↔◌, inl, inr, List, [], ◌∷◌, ◌++◌, All, Contains, length, get_or, sym, subst, ◌∙◌, arith}
 use Rattle.std.proofs.lemmas.Bool.{cases_lt}
 use Rattle.std.proofs.lemmas.Nat.{mul-le, div_below}
 use Rattle.std.proofs.Math.Nat.{le_refl}
@@ -45,6 +45,16 @@ values_more xs v i f count each value k within =
     elim (cases_lt k i) [
       | inl old ↦ get_or_append_left xs (v ∷ []) 0 k (omega (arith, count, old)) ∙ each k old
       | inr last ↦ let here : i ≡ k = omega (arith, within, last) in subst (λ j. get_or (xs ++ v ∷ []) j 0 ≡ f j) here (get_or_push xs v 0 i count ∙ value)
+    ]
+
+-- what holds of each place and its value, with one value more
+pub holds_more : (P : ℕ → ℕ → Type 0) (xs : List ℕ) (v i : ℕ) → length xs ≡ i → ((k : ℕ) → k < i → P k (get_or xs k 0)) → P i v → (k : ℕ) → k < i + 1 → P k (get_or (xs ++ v ∷ []) k 0)
+holds_more P xs v i count each holds k within =
+    elim (cases_lt k i) [
+      | inl old ↦ subst (λ x. P k x) (sym (get_or_append_left xs (v ∷ []) 0 k (omega (arith, count, old)))) (each k old)
+      | inr last ↦
+          let here : i ≡ k = omega (arith, within, last) in
+          subst (λ j. P j (get_or (xs ++ v ∷ []) j 0)) here (subst (λ x. P i x) (sym (get_or_push xs v 0 i count)) holds)
     ]
 
 -- a place in rows of this width is in one of the rows

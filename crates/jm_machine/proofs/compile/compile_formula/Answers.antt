@@ -1,6 +1,7 @@
-use Rattle.std.proofs.Common.{List, ℕ, length, ap, ◌∙◌}
+use Rattle.std.proofs.Common.{List, ℕ, length, ap, sym, ◌∙◌}
 use Rattle.std.specs.Prelude.{slice_range}
 use Rattle.std.specs.Option.{is_some}
+use Rattle.std.proofs.lemmas.List.{length-map}
 use Rattle.jm_spec.specs.declared.property.HandlerText.{HandlerText}
 use Rattle.jm_spec.specs.Trees.{facts_of}
 use Rattle.jm_machine.specs.Handlers.{category_fault, binding_fault, handler_names, resetting_handlers}
@@ -12,6 +13,12 @@ use Rattle.jm_machine.proofs.MakingLemmas.{part_told}
 use Rattle.jm_machine.proofs.ResetLemmas.{same_resets, resets_apart}
 use Rattle.jm_machine.proofs.compile.compile_formula.Goals as goal
 
+pub distinct-requires : goal.distinct-requires
+distinct-requires c = rw c.as_slice-texts.ensures.value c.requires.handled.few
+
+pub resets_of-resets-requires-clause-few : goal.resets_of-resets-requires-clause-few
+resets_of-resets-requires-clause-few c = rw c.as_slice-texts.ensures.value c.requires.handled.few
+
 pub compile-requires : goal.compile-requires
 compile-requires c = letters_read c.args.bytes.now (slice_range c.args.tokens.now c.args.property.now.first c.args.property.now.last) c.args.tree.now.table c.args.property.now.logic (is_some c.args.tree.now.suffix) c.args.formula c.requires.read
 
@@ -21,6 +28,17 @@ new-requires-clause-known c =
     let texts = c.as_slice-texts.result.now in
     let known = ap (λ (cs : List (List ℕ)). category_fault bytes cs texts) c.in_ok-categories.ensures.value ∙ ap (λ (hs : List HandlerText). category_fault bytes (category_names c.args.formula) hs) c.as_slice-texts.ensures.value ∙ c.requires.handled.known in
     rw c.in_ok-handlers.ensures.names (all_known bytes c.in_ok-categories.categories texts known)
+
+pub new-requires-clause-few : goal.new-requires-clause-few
+new-requires-clause-few c =
+    rw (c.in_ok-handlers.ensures.names, length-map, c.as_slice-texts.ensures.value) c.requires.handled.few
+
+pub new-requires-clause-there : goal.new-requires-clause-there
+new-requires-clause-there c =
+    rw (c.in_ok-handlers.ensures.names, length-map) c.resets_of-resets.ensures.below
+
+pub new-requires-clause-groups : goal.new-requires-clause-groups
+new-requires-clause-groups c = c.in_ok-engine.ensures.groups ∙ ap length (sym c.in_ok-categories.ensures.value)
 
 pub new-requires-clause-apart : goal.new-requires-clause-apart
 new-requires-clause-apart c =
