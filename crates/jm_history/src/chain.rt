@@ -81,4 +81,15 @@ impl Chain {
             _ => Some(outcome),
         }
     }
+
+    /// Puts an entry before all others, as a link of its own. It is a call of its own, so that an entry of a row passes
+    /// by what it keeps on the stack.
+    #[inline(never)]
+    pub(crate) fn link(&mut self, node: Node, outcome: Outcome)
+        ensures { newest_first self.new ≡ answered node outcome ∷ newest_first self.old }
+    {
+        let (entry, mut link) = node.into_entry(outcome);
+        *link = mem::replace(self, Chain::End);
+        *self = Chain::Link(entry, link);
+    }
 }

@@ -8,7 +8,6 @@ use crate::node::{Node, Spare};
 use jm_model::{Entry, NoMemory, Outcome, Step};
 use std::alloc::Global;
 use std::marker::Model;
-use std::mem;
 
 /// A list of entries, the oldest first.
 #[derive(Drop)]
@@ -88,11 +87,7 @@ impl History {
     {
         match self.newest.add(&node, outcome) {
             None => spare.keep(node.into_link()),
-            Some(outcome) => {
-                let (entry, mut link) = node.into_entry(outcome);
-                *link = mem::replace(&mut self.newest, Chain::End);
-                self.newest = Chain::Link(entry, link);
-            }
+            Some(outcome) => self.newest.link(node, outcome),
         }
         self.count = self.count.wrapping_add(1);
     }

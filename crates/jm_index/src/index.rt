@@ -92,8 +92,19 @@ impl Index {
         ensures same { OnErr result (self.new ≡ self.old) }
     {
         if self.is_sparse() {
-            *self = self.rebuilt()?;
+            return self.rebuild();
         }
+        Ok(())
+    }
+
+    /// Makes the index anew. It is a call of its own, so that what it keeps on the stack is cleared only then.
+    #[inline(never)]
+    fn rebuild(&mut self) -> Result<(), NoMemory>
+        ensures list { self.new.list ≡ self.old.list }
+        ensures dropped { (o : ℕ) → flag_of self.new.dropped o ≡ flag_of self.old.dropped o }
+        ensures same { OnErr result (self.new ≡ self.old) }
+    {
+        *self = self.rebuilt()?;
         Ok(())
     }
 

@@ -125,16 +125,20 @@ impl Positions {
         ensures others { self.new.others ≡ self.old.others }
         ensures put { IsPut key None self.old self.new }
     {
-        let position = self.at(key);
         match key {
-            Key::Empty => self.empty = None,
-            Key::One(mask, object) => self.rows.clear(mask, object),
-            Key::Two(couple) => {
-                self.couples.remove(&couple);
+            Key::Empty => {
+                let position = self.empty;
+                self.empty = None;
+                position
             }
-            Key::More => {}
+            Key::One(mask, object) => {
+                let position = position_in(self.rows.get(mask, object));
+                self.rows.clear(mask, object);
+                position
+            }
+            Key::Two(couple) => self.couples.remove(&couple),
+            Key::More => None,
         }
-        position
     }
 
     /// Takes the position among all others out.

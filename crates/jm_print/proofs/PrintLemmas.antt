@@ -1,6 +1,6 @@
 -- A legal history of named steps can be printed.
 use Rattle.std.proofs.Common.{◌≡◌, ◌≢◌, ℕ, suc, ◌+◌, ◌<◌, ◌≤◌, Bool, true, false, cond, ◌⊎◌, inl, inr, List, [], ◌∷◌, ◌++◌, length, refl, sym, ◌∙◌, ap, subst, arith}
-use Rattle.std.specs.Prelude.{All, Contains, Some, None, find, filter_map}
+use Rattle.std.specs.Prelude.{All, Contains, Some, None, find, filter_map, slice_get}
 use Rattle.std.specs.List.{AllByRecursion}
 use Rattle.std.proofs.lemmas.Option.{none-some, same_Some}
 use Rattle.std.proofs.lemmas.List.Elements.{All-from_recursion, recursion_from_All, All-weaker, All-push, All-contains, All-contains_itself, All-nil}
@@ -20,7 +20,7 @@ use Rattle.jm_semantics.specs.Legality.{IsLegalAfter, IsReply}
 use Rattle.jm_semantics.proofs.HistoryLemmas.{trace_of-accepted, trace_of-other, seen_of-push}
 use Rattle.jm_print.specs.Lexicons.{Lexicon}
 use Rattle.jm_print.specs.Names.{IsNamed, IsNamedStep}
-use Rattle.jm_print.specs.Texts.{HasNamesFrom, IsPrintableFiring, IsPrintableStep, IsPrintable}
+use Rattle.jm_print.specs.Texts.{HasNamesFrom, IsPrintableFiring, IsPrintableStep, IsPrintable, full_entry_text}
 
 named_from : (l : Lexicon) (p : ℕ) (b : Binding) → ((k o : ℕ) → object_at b k ≡ Some o → (p + k < length l.parameters) × (o < length l.objects)) → HasNamesFrom l p b
 named_from l p [] each = tt
@@ -101,9 +101,15 @@ module _ (l : Lexicon) (m : Meaning) (few : m.handlers ≤ length l.handlers) wh
     printable_after (h ++ x ∷ []) g (seen_more h x seen (told x.step x.outcome named.0)) named.1 done.1 legal.2,
   )
 
-  -- such a history can be printed, if it is legal and none of its entries met want of memory
+  -- such a history can be printed, if it is legal and no entry of it is out of memory
   pub printable : (g : List Entry) → All (λ x. IsNamedStep l x.step) g → All (λ x. x.outcome ≢ NoMemory) g → IsLegalAfter m [] g → All (IsPrintable l) g
   printable g named done legal =
       All-from_recursion (IsPrintable l) g
       (printable_after [] g (All-nil (IsNamed l))
       (recursion_from_All (λ (x : Entry). IsNamedStep l x.step) g named) (recursion_from_All (λ (x : Entry). x.outcome ≢ NoMemory) g done) legal)
+
+-- the entry that stands at a place is the one that was written
+pub written_at : (l : Lexicon) (entries : List Entry) (i : ℕ) (own : Entry) (before after : List ℕ) → slice_get entries i ≡ Some own → after ≡ before ++ full_entry_text l own
+    → (x : Entry) → slice_get entries i ≡ Some x → after ≡ before ++ full_entry_text l x
+written_at l entries i own before after at written x other =
+    written ∙ ap (λ (v : Entry). before ++ full_entry_text l v) (same_Some own x (sym at ∙ other))

@@ -176,8 +176,20 @@ impl Printer<'_> {
     {
         match piece.event(i) {
             Some(event) => self.lent_event(page, &event),
-            None => self.entry(page, &piece.get(i)),
+            None => self.other_at(page, piece, i),
         }
+    }
+
+    /// The entry at a place of a piece, whatever it is. It is a call of its own, so that an event of a row passes by
+    /// what it keeps on the stack.
+    #[inline(never)]
+    fn other_at(&self, page: &mut Page, piece: &Piece, i: usize) -> Result<(), NoMemory>
+        requires printable { All (IsPrintable self.now) piece.now }
+        requires there { i < length piece.now }
+        ensures { OnOk result ((x : Entry) → slice_get piece.now i ≡ Some x
+            → page.new ≡ page.old ++ full_entry_text self.now x) }
+    {
+        self.entry(page, &piece.get(i))
     }
 
     /// An event of a row, with the lines that follow.
