@@ -122,8 +122,7 @@ fn answer_by_list<M: Monitor>(
     answer_listed(alloc, rules, objects, store, awake, place, letter, binding)
 }
 
-/// Does an event whose list was found at once, unless most monitors of the list rest, with a counter made of a ledger
-/// of one part.
+/// Does an event whose list was found at once, with a counter made of a ledger of one part.
 fn counted_advance_listed<M: Monitor, L: Ledger>(
     rules: &M,
     objects: &Objects,
@@ -143,8 +142,7 @@ fn counted_advance_listed<M: Monitor, L: Ledger>(
     requires of { IsListOf (list_at awake.old place) letter.0 binding.now }
     requires listed { AreListed (M.meaning (M.definition rules.now)) (M.StandsFor rules.now) objects.now
         store.old.monitors awake.old }
-    ensures same { IfNone result (store.new ≡ store.old) }
-    ensures lists { IfNone result (awake.new ≡ awake.old) }
+    ensures same { IfNone result ((store.new ≡ store.old) × (awake.new ≡ awake.old)) }
     ensures advances { Advances (M.meaning (M.definition rules.now)) (M.StandsFor rules.now) objects.now letter.0
         binding.now store.old store.new result }
     ensures listed { AreListed (M.meaning (M.definition rules.now)) (M.StandsFor rules.now) objects.now

@@ -1,5 +1,5 @@
 -- Loops that list firings.
-use Rattle.std.proofs.Common.{◌≡◌, ◌≢◌, ℕ, zero, suc, ◌+◌, ◌*◌, ◌^◌, ◌<◌, ◌≤◌, inl, inr, length, Bool, true, false, cond, eqb, List, [], ◌∷◌, ◌++◌, take, get_or, pow-suc, refl, sym, ◌∙◌, ap, subst, arith}
+use Rattle.std.proofs.Common.{◌≡◌, ◌≢◌, ℕ, zero, suc, ◌+◌, ◌-◌, ◌*◌, ◌^◌, ◌<◌, ◌≤◌, inl, inr, length, Bool, true, false, cond, eqb, List, [], ◌∷◌, ◌++◌, take, get_or, pow-suc, refl, sym, ◌∙◌, ap, subst, arith}
 use Rattle.std.specs.Prelude.{◌==◌, AllPairs, Contains, IsBitSet, ◌↔◌}
 use Rattle.std.specs.Int.{bit_at}
 use Rattle.std.specs.List.Sorted.{IsStrictlySortedBy, IsSortedBy, IsPermutation}
@@ -98,6 +98,25 @@ pub no_hits : (t : Binding) (n : ℕ) → firings_below t 0 n ≡ []
 unfolding firings_below
 no_hits t zero = refl
 no_hits t (suc n) = rw (no_hits t n, bit_at-zero n) refl
+
+-- above all handlers that are hit there is no firing
+pub hits_within : (t : Binding) (hits n d : ℕ) → hits < 2 ^ n → firings_below t hits (n + d) ≡ firings_below t hits n
+hits_within t hits n zero low = ap (firings_below t hits) none
+  where
+    none : n + 0 ≡ n
+    none = omega arith
+hits_within t hits n (suc d) low =
+    let off = bit_at_above hits n (n + d) low (omega arith) in
+    ap (firings_below t hits) next ∙ hits_skip t hits (n + d) (λ one. absurd (omega (arith, one, off))) ∙ hits_within t hits n d low
+  where
+    next : n + suc d ≡ n + d + 1
+    next = omega arith
+
+pub hits_all : (t : Binding) (hits n : ℕ) → hits < 2 ^ n → n ≤ 16 → firings_below t hits 16 ≡ firings_below t hits n
+hits_all t hits n low few = ap (firings_below t hits) whole ∙ hits_within t hits n (16 - n) low
+  where
+    whole : 16 ≡ n + (16 - n)
+    whole = omega (arith, few)
 
 nat-Less : (x y : ℕ) → x < y → nat_cmp x y ≡ Less
 nat-Less x y h = ap (λ (b : Bool). cond b Less (cond (eqb x y) Equal Greater)) (lt-ltb x y h)

@@ -34,7 +34,7 @@ module _ {X : Type 0} (Q : X → X → Type 0) where
   pairs_right [] ys h = h
   pairs_right (x ∷ xs) ys h = pairs_right xs ys (pairs_tail Q x (xs ++ ys) h)
 
-  pairs_across : (xs ys : List X) → AllPairs Q (xs ++ ys) → (x y : X) → Contains xs x → Contains ys y → Q x y
+  pub pairs_across : (xs ys : List X) → AllPairs Q (xs ++ ys) → (x y : X) → Contains xs x → Contains ys y → Q x y
   pairs_across [] ys h x y cx cy = absurd (Contains-none x cx)
   pairs_across (z ∷ xs) ys h x y cx cy =
       elim (Contains-cons_cases z xs x cx) [

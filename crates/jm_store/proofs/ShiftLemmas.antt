@@ -53,7 +53,7 @@ module _ (m : Meaning) {S : Type 0} (Stands : S → List ℕ → Type 0) (HasNum
   pub shifts_there : HaveMonitors shifts monitors
   shifts_there shift has =
       let (k, among, (s, at, slot, is)) = given_each (IsShiftAt m Stands HasNumber letter dead b ending lists monitors) slots shifts shift given has in
-      (s, ap (monitor_at monitors) slot ∙ at)
+      ((s, ap (monitor_at monitors) slot ∙ at), is.low)
 
   module _ (after : List (Option (Stored S))) (moved : AreShifted HasNumber shifts monitors after) where
     -- the monitor of a slot got another number

@@ -5,12 +5,12 @@ use Rattle.std.specs.Int.{bit_at}
 use Rattle.std.specs.List.Sorted.{IsPermutation}
 use Rattle.std.proofs.lemmas.Bool.{false≢true, eqb-true}
 use Rattle.std.proofs.lemmas.List.{take_more, same_lists, get_or_default}
-use Rattle.std.proofs.lemmas.List.Elements.{Contains-append_cases, Contains-append_left}
+use Rattle.std.proofs.lemmas.List.Elements.{Contains-append_cases, Contains-append_left, Contains-append_right}
 use Rattle.std.proofs.lemmas.List.Sorted.{IsPermutation-refl, IsPermutation-sym, Contains-permutation}
 use Rattle.std.proofs.lemmas.Nat.Bits.{bit_at-lt, bit_at_or}
 use Rattle.std.proofs.lemmas.Option.{none-some, same_Some}
 use Rattle.std.proofs.Math.Nat.{max_comm}
-use Rattle.jm_model.specs.Bindings.{mask_of}
+use Rattle.jm_model.specs.Bindings.{is_below, mask_of}
 use Rattle.jm_model.specs.Meanings.{Meaning}
 use Rattle.jm_model.specs.declared.binding.Binding.{Binding}
 use Rattle.jm_model.specs.declared.firings.Firing.{Firing}
@@ -26,21 +26,21 @@ use Rattle.jm_store.specs.declared.monitors.Slot.TheVariants.{Free, Planned, Tak
 use Rattle.jm_store.specs.declared.moves.Move.{Move}
 use Rattle.jm_store.specs.declared.walk.Shift.{Shift}
 use Rattle.jm_store.specs.Slots.{IsUsed, monitor_in, monitors_of, monitor_at, slot_at}
-use Rattle.jm_store.specs.Moves.{AreMovesRead, AreEnding, AreApart, AreParted, EndsFewer, IsReadAt, after_move, after_moves, asks_by, ends_all, has_all, reached_by}
+use Rattle.jm_store.specs.Moves.{AreMovesRead, AreEnding, AreApart, AreParted, AreSifted, EndsFewer, IsReadAt, IsReadIn, after_move, after_moves, asks_by, ends_all, has_all, reached_by}
 use Rattle.jm_store.specs.Contents.{Contents, stored_of, IsSpared, ArePlaced, ArePlacedOf, ArePaired, IsFilled, IsStoreAfter, IsEventDone}
 use Rattle.jm_store.specs.Housing.{IsKept}
-use Rattle.jm_store.specs.Listed.{AreListed, AreOthersAtRest, slots_listed}
+use Rattle.jm_store.specs.Listed.{AreListed, AreAtRest, AreOthersAtRest, slots_listed}
 use Rattle.jm_store.specs.Plans.{CanPlan, IsApplied}
 use Rattle.jm_store.specs.Walks.{HaveMonitors, IsShiftAt, AreShifted, IsAlike, AreAlike}
 use Rattle.jm_store.proofs.AfterLemmas.{length-after}
 use Rattle.jm_store.proofs.DirectLemmas.{spared_at_once, done_at_once, one_of}
-use Rattle.jm_store.proofs.GivenLemmas.{Contains-from_map, pairs_map}
-use Rattle.jm_store.proofs.ListedLemmas.{AreAbove, listed_above, listed_apart, listed_rest, listed_all}
+use Rattle.jm_store.proofs.GivenLemmas.{Contains-from_map, given_each, pairs_map}
+use Rattle.jm_store.proofs.ListedLemmas.{AreAbove, after_others, listed_above, listed_apart, listed_rest, listed_all}
 use Rattle.jm_store.proofs.MoveLemmas.{move_base}
 use Rattle.jm_store.proofs.PermuteLemmas.{pairs_permuted}
 use Rattle.jm_store.proofs.PlacingLemmas.{placed_already}
 use Rattle.jm_store.proofs.PlanningLemmas.{apart_moves, leads_moves, may_reach, sorted_distinct}
-use Rattle.jm_store.proofs.RestingLemmas.{AreCompleted, completed, apart_left, distinct_left, pairs_right, given_append, placed_resting, report_beside}
+use Rattle.jm_store.proofs.RestingLemmas.{AreCompleted, completed, apart_left, distinct_left, pairs_across, pairs_right, given_append, placed_resting, report_beside}
 use Rattle.jm_store.proofs.ShiftLemmas.{IsMadeBy, shifts_as_moves, shifts_apart, shifts_there, shifts_listed}
 use Rattle.jm_store.proofs.SlotLemmas.{monitor_at-slot}
 
@@ -249,6 +249,51 @@ module _ (m : Meaning) {S : Type 0} (Stands : S → List ℕ → Type 0) (HasNum
             done_at_once m Stands letter b dead true old old new moves moves answer (λ yes. known) read placed paired (λ k. refl) refl refl
             (λ o is. is) can.fits.index.reached whole dropped parted_marks fewer ending_moves
             (report_beside m Stands few quiet answer made.quiet (report (distinct trace holds))) trace can.event holds
+
+-- ---- monitors that rest, beside others that the event changes
+module _ (m : Meaning) {S : Type 0} (Stands : S → List ℕ → Type 0) (HasNumber : S → ℕ → Type 0) (letter : ℕ) (b : Binding)
+    (dead : List Bool) (old : Contents S) (lists : Lists) (place : ℕ) (shifts : List Shift) (few : List (Move S))
+    (rests : List ℕ) (of : IsListOf (list_at lists place) letter b) (listed : AreListed m Stands dead old.monitors lists)
+    (sifted : AreSifted (IsShiftAt m Stands HasNumber letter dead b old.ending lists old.monitors)
+    (IsReadAt m Stands letter b dead old.marks old.monitors) (slots_listed lists place) shifts few rests) where
+  abbrev others : List ℕ
+  others = sifted.others ++ sifted.told
+
+  other_slots : (j k : ℕ) → Contains rests j → Contains (sifted.others ++ sifted.told) k → j ≢ k
+  other_slots j k mine its = pairs_across (λ j k. j ≢ k) rests others
+      (pairs_permuted (λ j k. j ≢ k) (λ j k other same. other (sym same)) (slots_listed lists place) (rests ++ others) sifted.all
+      (listed_apart m Stands dead None old.monitors lists place letter b of listed)) j k mine its
+
+  is_above : (k : ℕ) (s : Stored S) → Contains (sifted.others ++ sifted.told) k → monitor_at old.monitors k ≡ Some s → is_below b s.instance ≡ true
+  is_above k s has at =
+      let (t, there, below) = listed_above m Stands dead None old.monitors lists place letter b of listed k
+      (Contains-permutation (rests ++ others) (slots_listed lists place) k (IsPermutation-sym (slots_listed lists place) (rests ++ others) sifted.all)
+      (Contains-append_right rests others k has)) in
+      subst (λ (x : Stored S). is_below b x.instance ≡ true) (same_Some t s (sym there ∙ at)) below
+
+  not_shifted : (k : ℕ) → Contains rests k → (shift : Shift) → Contains shifts shift → shift.slot ≡ k → ⊥
+  not_shifted k mine shift has same =
+      let (j, among, (s, at, slot, is)) = given_each (IsShiftAt m Stands HasNumber letter dead b old.ending lists old.monitors) sifted.told shifts shift sifted.given has in
+      other_slots k j mine (Contains-append_right sifted.others sifted.told j among) (sym same ∙ slot)
+
+  not_moved : (k : ℕ) → Contains rests k → (move : Move S) → Contains few move → move.slot ≡ Some k → ⊥
+  not_moved k mine move has slot =
+      let (j, among, is) = given_each (IsReadAt m Stands letter b dead old.marks old.monitors) sifted.others few move sifted.read has in
+      by j (Contains-append_left sifted.others sifted.told j among) (monitor_at old.monitors j) refl is
+    where
+      by : (j : ℕ) → Contains (sifted.others ++ sifted.told) j → (o : Option (Stored S)) → monitor_at old.monitors j ≡ o → IsReadIn m Stands letter b dead old.marks j o (Some move) → ⊥
+      by j among None at is = none-some move (sym is)
+      by j among (Some s) at is =
+          let here : Some j ≡ Some k = sym (is.advanced.slot ∙ ap (λ (t : Bool). cond t (Some j) None) (is_above j s among at)) ∙ slot in
+          other_slots k j mine among (sym (same_Some j k here))
+
+  -- they still rest once the others were changed
+  pub still_at_rest : (mid new : Contents S) → AreShifted HasNumber shifts old.monitors mid.monitors → IsApplied m Stands few mid new → AreAtRest m Stands letter b dead rests new.monitors
+  still_at_rest mid new moved applied k mine =
+      let (s, at, rest) = sifted.none k mine in
+      let same : monitor_at new.monitors k ≡ monitor_at old.monitors k =
+      ap (λ (l : List (Option (Stored S))). monitor_at l k) applied.monitors ∙ after_others few mid.monitors k (not_moved k mine) ∙ moved.others k (not_shifted k mine) in
+      (s, same ∙ at, rest)
 
 -- ---- letters that end all monitors of some set of parameters
 either_bit : (a c e : ℕ) → (bit_at a e ≡ 1) ⊎ (bit_at c e ≡ 1) → bit_at (bit_or a c) e ≡ 1

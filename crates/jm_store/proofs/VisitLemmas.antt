@@ -1,6 +1,6 @@
 -- The slots that an event reads.
 use Rattle.std.proofs.Common.{◌≡◌, ◌≢◌, ℕ, zero, suc, ◌+◌, ◌*◌, ◌/◌, ◌<◌, ◌≤◌, ◌==◌, ◌⊎◌, inl, inr, Bool, true, false, cond, ◌&&◌, ◌||◌, not, List, [], ◌∷◌, ◌++◌, length, take, get_or, refl, sym, ap, ◌∙◌, subst, append_assoc, append-nil, arith}
-use Rattle.std.specs.Prelude.{Option, Some, None, Contains, AllPairs, filter, count_by, slice_set, bit_and}
+use Rattle.std.specs.Prelude.{Option, Some, None, Contains, AllPairs, filter, count_by, slice_set, bit_and, IfSome}
 use Rattle.std.specs.Int.{bit_at}
 use Rattle.std.specs.Option.{is_some, option_to_list}
 use Rattle.std.specs.List.{cons_option}
@@ -297,6 +297,11 @@ popped xs ys n o e rest none = e ∙ ap (λ (l : List ℕ). l ++ option_to_list 
 pub was_none : (o : Option ℕ) → is_some o ≡ false → o ≡ None
 was_none None e = refl
 was_none (Some k) e = absurd (false≢true (sym e))
+
+-- what an answer says, where one thing follows from another
+pub if_some : {X : Type 0} (P Q : X → Type 0) (o : Option X) → ((x : X) → P x → Q x) → IfSome o P → IfSome o Q
+if_some P Q None f h = tt
+if_some P Q (Some x) f h = f x h
 
 pub not_all : (b : Binding) (d : ℕ) → (bit_and (mask_of b) d ≡ mask_of b → ⊥) → has_all b d ≡ false
 not_all b d h = elim (cases_Bool (has_all b d)) [ inl yes' ↦ absurd (h (eqb-true (bit_and (mask_of b) d) (mask_of b) yes')) | inr off ↦ off ]

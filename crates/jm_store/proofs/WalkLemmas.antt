@@ -126,6 +126,7 @@ module _ (m : Meaning) {S : Type 0} (Stands : S → List ℕ → Type 0) where
   shifts_by HasNumber letter dead b plain ending endings letters card base before next rows has below whole at low like on = record {
     before = before;
     has = has;
+    low = omega (arith, low);
     below = below;
     whole = whole;
     moves = λ after has'. rows.moves before next at (λ is. absurd (omega (arith, is, low))) (λ is. absurd (omega (arith, is, low))) base.state after has has';
@@ -149,6 +150,7 @@ module _ (m : Meaning) {S : Type 0} (Stands : S → List ℕ → Type 0) where
   shifts_all HasNumber letter dead b ending letters others card base next but own is = record {
     before = is.before;
     has = is.has;
+    low = is.low;
     below = is.below;
     whole = is.whole;
     moves = is.moves;

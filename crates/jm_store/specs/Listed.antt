@@ -56,6 +56,12 @@ module _ (m : Meaning) {S : Type 0} (Stands : S → Word → Type 0) (dead : Lis
       (k : ℕ) (s : Stored S) → monitor_at monitors k ≡ Some s → is_below b s.instance ≡ true
       → Contains slots k ⊎ IsAtRest m Stands e b dead s
 
+-- each of the slots has a monitor above b that the letter leaves as it is, and no dead object cuts it
+abbrev pub AreAtRest : (m : Meaning) {S : Type 0} (Stands : S → Word → Type 0) → ℕ → Binding → List Bool → List ℕ
+    → List (Option (Stored S)) → Type 0
+AreAtRest m {S} Stands e b dead slots monitors =
+    (k : ℕ) → Contains slots k → (s : Stored S) × (monitor_at monitors k ≡ Some s) × IsAtRest m Stands e b dead s
+
 -- Lists that were sound for some monitors, without one in this slot or with this one, are so with this one.
 abbrev pub Comes : Occupants → Lists → Lists → ℕ → Binding → Type 0
 Comes o old new slot t =

@@ -92,6 +92,16 @@ pub record AreParted {X Y Z : Type 0} (R : X → Option Y → Type 0) (Q : X →
   pub given : AreGiven R told ys
   pub read : AreGiven Q others zs
 
+-- Beside these, R gives nothing for each of `rests`, which are some of xs too.
+pub record AreSifted {X Y Z : Type 0} (R : X → Option Y → Type 0) (Q : X → Option Z → Type 0) (xs : List X)
+    (ys : List Y) (zs : List Z) (rests : List X) : Type 0 where
+  pub told : List X
+  pub others : List X
+  pub all : IsPermutation xs (rests ++ (others ++ told))
+  pub given : AreGiven R told ys
+  pub read : AreGiven Q others zs
+  pub none : (x : X) → Contains rests x → R x None
+
 -- Whether an event reads the monitors with this set of parameters: those that it can lie below; and others where its
 -- binding is no mark, unless it ends all of them.
 abbrev pub is_asked : Bool → Bool → Binding → Mask → Bool

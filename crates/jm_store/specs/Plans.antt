@@ -10,11 +10,11 @@ use Rattle.jm_awake.specs.Awake.{Lists}
 use Rattle.jm_monitors.specs.Steps.{IsLiveEvent, IsReport, AreMarksAfter, AreResting}
 use Rattle.jm_store.specs.declared.moves.Move.{Move}
 use Rattle.jm_store.specs.declared.walk.Shift.{Shift}
-use Rattle.jm_store.specs.declared.store.shift.Reading.{Reading}
+use Rattle.jm_store.specs.declared.store.at_once.Reading.{Reading}
 use Rattle.jm_store.specs.declared.moves.Plan.{Plan}
 use Rattle.jm_store.specs.declared.store.advance.Done.{Done}
 use Rattle.jm_store.specs.Slots.{monitor_at}
-use Rattle.jm_store.specs.Moves.{EndsFewer, AreEnding, AreParted, IsReadAt, after_moves, reached_by}
+use Rattle.jm_store.specs.Moves.{EndsFewer, AreEnding, AreSifted, IsReadAt, after_moves, reached_by}
 use Rattle.jm_store.specs.Walks.{IsShiftAt}
 use Rattle.jm_store.specs.Contents.{Contents, stored_of, IsFit, IsSpared, IsStoreAfter, IsPlanFor, IsPlanOf, IsCarriedOut, IsEventDone}
 
@@ -72,13 +72,15 @@ module _ (m : Meaning) {S : Type 0} (Stands : S → Word → Type 0) (dead : Lis
         → IsEventDone m Stands trace dead letter b new done.answer)
 
 -- What the event makes of the monitors of some slots, of those that get other numbers by so many of the shifts, and of
--- the others by moves; and the answer, twice, which is the report of the moves where they are of distinct instances.
+-- others by moves; of those of `rests` it makes nothing. And the answer, twice, which is the report of the moves where
+-- they are of distinct instances.
 pub record IsReading (m : Meaning) {S : Type 0} (Stands : S → Word → Type 0) (HasNumber : S → ℕ → Type 0) (letter : ℕ)
     (dead : List Bool) (b : Binding) (marks : List Binding) (store : Contents S) (lists : Lists) (slots : List ℕ)
-    (shifts : List Shift) (moves : List (Move S)) (reading : Reading) : Type 0 where
+    (shifts : List Shift) (moves : List (Move S)) (rests : List ℕ) (reading : Reading) : Type 0 where
   pub within : reading.count ≤ length shifts
-  pub parted : AreParted (IsShiftAt m Stands HasNumber letter dead b store.ending lists store.monitors)
+  pub sifted : AreSifted (IsShiftAt m Stands HasNumber letter dead b store.ending lists store.monitors)
       (IsReadAt m Stands letter b dead marks store.monitors) slots (take reading.count shifts) moves
+      rests
   pub report : AllPairs (λ r s. r.instance ≢ s.instance) (reached_by moves)
       → IsReport m Stands (reached_by moves) reading.answer
   pub twice : reading.copy ≡ reading.answer

@@ -81,6 +81,7 @@ module _ (m : Meaning) {S : Type 0} (Stands : S → Word → Type 0) (HasNumber 
     pub record IsShifting (letters : Mask) (card : Card) (base : Stored S) (number : ℕ) : Type 0 where
       pub before : ℕ
       pub has : HasNumber base.state before
+      pub low : number < 65536
       pub below : is_below b base.instance ≡ true
       pub whole : dead_mask_of dead base.instance ≡ 0
       pub moves : (after : S) → HasNumber after number → IsPlainMove S m Stands letter base.state after
@@ -113,10 +114,11 @@ AreReadable {S} b letter ending ends lists monitors entries =
     → IsOn (card_at lists x.slot) letter × ((s : Stored S) × (monitor_at monitors x.slot ≡ Some s)
     × (is_below b s.instance ≡ true) × AreAmong ending (mask_of s.instance) ends))
 
--- each of the shifts is of a slot that has a monitor
+-- each of the shifts is of a slot that has a monitor, and to the number of a state
 abbrev pub HaveMonitors : {S : Type 0} → List Shift → List (Option (Stored S)) → Type 0
 HaveMonitors {S} shifts monitors =
-    (shift : Shift) → Contains shifts shift → (s : Stored S) × (monitor_at monitors shift.slot ≡ Some s)
+    (shift : Shift) → Contains shifts shift
+    → ((s : Stored S) × (monitor_at monitors shift.slot ≡ Some s)) × (shift.number < 65536)
 
 -- a monitor whose state had a number got one that has this number
 abbrev pub IsShifted : {S : Type 0} → (S → ℕ → Type 0) → Option (Stored S) → Option (Stored S) → ℕ → Type 0

@@ -300,7 +300,8 @@ fn shift_all<M: Monitor>(rules: &M, slots: &mut [Slot<M::State>], shifts: &[Shif
 /// Carries a shift out.
 #[inline(always)]
 fn renumber<M: Monitor>(rules: &M, slots: &mut [Slot<M::State>], shift: &Shift)
-    requires { (s : Kept M.State) × (monitor_at (monitors_of slots.old) shift.now.slot ≡ Some s) }
+    requires there { (s : Kept M.State) × (monitor_at (monitors_of slots.old) shift.now.slot ≡ Some s) }
+    requires low { shift.now.number < 65536 }
     ensures here { IsShifted (M.HasNumber rules.now) (monitor_at (monitors_of slots.old) shift.now.slot)
         (monitor_at (monitors_of slots.new) shift.now.slot) shift.now.number }
     ensures others { (k : ℕ) → (k ≡ shift.now.slot → ⊥)
@@ -308,7 +309,7 @@ fn renumber<M: Monitor>(rules: &M, slots: &mut [Slot<M::State>], shift: &Shift)
     ensures alike { AreAlike slots.old slots.new }
 {
     match &mut slots[shift.slot as usize] {
-        Slot::Taken(monitor) => rules.renumber(&mut monitor.state, shift.number),
+        Slot::Taken(monitor) => rules.renumber(&mut monitor.state, shift.number as u16),
         _ => unreachable!(),
     }
 }

@@ -1,5 +1,5 @@
 //! The answer of an event.
-ghost use Rattle.std.specs.Prelude.{◌≡◌, ◌≢◌, ◌++◌, ℕ, AllPairs, List, [], ◌∷◌, IfOk, OnOk};
+ghost use Rattle.std.specs.Prelude.{◌≡◌, ◌≢◌, ◌<◌, ◌≤◌, ◌^◌, ◌++◌, ℕ, AllPairs, List, [], ◌∷◌, IfOk, OnOk};
 ghost use Rattle.std.specs.List.Sorted.{IsPermutation, IsSortedBy};
 ghost use Rattle.std.specs.Ordering.{is_lt};
 ghost use Rattle.jm_semantics.specs.Answers.{firing_cmp};
@@ -105,7 +105,7 @@ fn report_hits(firings: &mut Firings, instance: &Binding, hits: u16) -> Result<(
     if hits == 0 {
         return Ok(());
     }
-    for handler in 0..16 {
+    for handler in 0..room_of(hits) {
         if (hits >> handler) % 2 == 1 {
             firings.push(Firing {
                 instance: *instance,
@@ -114,4 +114,19 @@ fn report_hits(firings: &mut Firings, instance: &Binding, hits: u16) -> Result<(
         }
     }
     Ok(())
+}
+
+/// A number of handlers that hits have room in.
+#[inline(always)]
+fn room_of(hits: u16) -> u8
+    ensures room { hits < 2 ^ result }
+    ensures few { result ≤ 16 }
+{
+    if hits < 2 {
+        return 1;
+    }
+    if hits < 16 {
+        return 4;
+    }
+    16
 }

@@ -7,12 +7,12 @@ ghost use Rattle.jm_store.specs.Moves.{ends_all};
 ghost use Rattle.jm_store.specs.Contents.{Contents, stored_of, IsFit, IsFitFor, IsStoreAfter};
 
 mod advance;
+mod at_once;
 mod commit;
 mod dispose;
 mod listed;
 mod place;
 mod reach;
-mod shift;
 
 use crate::monitors::Monitors;
 use crate::moves::Move;

@@ -10,7 +10,7 @@ ghost use Rattle.jm_index.specs.Index.{AreLive};
 ghost use Rattle.jm_marks.specs.Marks.{dead_mask_of, is_dead_object};
 ghost use Rattle.jm_monitors.specs.declared.stored.Stored.{Stored as Kept};
 ghost use Rattle.jm_store.specs.Slots.{monitors_of, monitor_at};
-ghost use Rattle.jm_store.specs.Moves.{AreParted, IsPushed, IsReadAt};
+ghost use Rattle.jm_store.specs.Moves.{AreSifted, IsPushed, IsReadAt};
 ghost use Rattle.jm_store.specs.Listed.{slots_listed, AreListed};
 ghost use Rattle.jm_store.specs.Walks.{AreRows, AreAliveBut, EndsAll, IsShiftAt, no_turn, AreTurns, EndsLike};
 ghost use Rattle.jm_store.specs.Walks.{AreAmong, AreReadable, CanWalk, IsTold};
@@ -29,7 +29,7 @@ use std::sync::ledger::Ledger;
 #[derive(Clone, Copy)]
 pub(crate) struct Shift {
     pub(crate) slot: u32,
-    pub(crate) number: u16,
+    pub(crate) number: u32,
 }
 
 /// The number of a state that the event moves, and that of the state to which it leads; above all numbers where none is
@@ -37,14 +37,14 @@ pub(crate) struct Shift {
 #[derive(Clone, Copy)]
 pub(crate) struct Turn {
     pub(crate) from: u32,
-    pub(crate) to: u16,
+    pub(crate) to: u32,
 }
 
 /// What the number of a monitor's state tells of what the event makes of the monitor.
 #[derive(Clone, Copy)]
 pub(crate) enum Told {
     /// The number of another state, and nothing else changes.
-    Shifts(u16),
+    Shifts(u32),
     /// It rests.
     Rests,
     /// Nothing, or not all of it.
@@ -87,14 +87,15 @@ impl Turn {
 
 impl<M: Monitor> Walk<'_, M> {
     /// Reads the monitors of a list. Those of which their numbers tell what becomes of them get shifts, at the front of
-    /// these, and the others moves. Answers how many shifts there are, unless out of memory, and if what the event does
-    /// is worth its while: where there are many monitors and most rest, they had better leave the list.
+    /// these, or are noted as resting, and the others get moves. Answers how many shifts there are, unless out of
+    /// memory.
     #[inline(always)]
     pub(crate) fn read_list<L: Ledger>(
         &self,
         place: usize,
         shifts: &mut Vec<Shift>,
         moves: &mut Vec<Move<M::State>>,
+        rests: &mut Vec<usize>,
         steps: &mut Steps<L>,
     ) -> Option<usize>
         requires can { CanWalk (M.meaning (M.definition self.now.event.now.rules.now)) (M.StandsFor
@@ -113,14 +114,16 @@ impl<M: Monitor> Walk<'_, M> {
             → AreAmong self.now.ending.now (mask_of s.instance) self.now.ends }
         requires room { length (list_at self.now.awake.now place).entries ≤ length shifts.old.items }
         requires none { moves.old.items ≡ [] }
-        ensures parted { IfSome result (λ count. (count ≤ length shifts.new.items) × AreParted (IsShiftAt (M.meaning
+        requires clear { rests.old.items ≡ [] }
+        ensures sifted { IfSome result (λ count. (count ≤ length shifts.new.items) × AreSifted (IsShiftAt (M.meaning
             (M.definition self.now.event.now.rules.now)) (M.StandsFor self.now.event.now.rules.now) (M.HasNumber
             self.now.event.now.rules.now) self.now.event.now.letter.0 self.now.event.now.objects.now
             self.now.event.now.binding.now self.now.ending.now self.now.awake.now (monitors_of
             self.now.slots.items.now)) (IsReadAt (M.meaning (M.definition self.now.event.now.rules.now)) (M.StandsFor
             self.now.event.now.rules.now) self.now.event.now.letter.0 self.now.event.now.binding.now
             self.now.event.now.objects.now self.now.event.now.marks.now.list (monitors_of self.now.slots.items.now))
-            (slots_listed self.now.awake.now place) (take count shifts.new.items) moves.new.items) }
+            (slots_listed self.now.awake.now place) (take count shifts.new.items) moves.new.items
+            rests.new.items) }
         ensures steps { steps.new ≤ steps.old + length (slots_listed self.now.awake.now place) }
     {
         let entries = self.awake.entries(place);
@@ -132,10 +135,10 @@ impl<M: Monitor> Walk<'_, M> {
                 letters: 0,
                 params: 0,
             };
-            return self.read_entries(entries, asked, shifts.as_mut_slice(), moves, steps);
+            return self.read_entries(entries, asked, shifts.as_mut_slice(), moves, rests, steps);
         }
         let asked = Asked { letters, params };
-        self.read_entries(entries, asked, shifts.as_mut_slice(), moves, steps)
+        self.read_entries(entries, asked, shifts.as_mut_slice(), moves, rests, steps)
     }
 
     /// Reads the entries of the list so. It is inlined, so that zeros which stand at the call make a loop that asks for
@@ -147,6 +150,7 @@ impl<M: Monitor> Walk<'_, M> {
         asked: Asked,
         shifts: &mut [Shift],
         moves: &mut Vec<Move<M::State>>,
+        rests: &mut Vec<usize>,
         steps: &mut Steps<L>,
     ) -> Option<usize>
         requires can { CanWalk (M.meaning (M.definition self.now.event.now.rules.now)) (M.StandsFor
@@ -160,21 +164,23 @@ impl<M: Monitor> Walk<'_, M> {
             self.now.ends self.now.awake.now (monitors_of self.now.slots.items.now) entries.now }
         requires room { length entries.now ≤ length shifts.old }
         requires none { moves.old.items ≡ [] }
-        ensures parted { IfSome result (λ count. (count ≤ length shifts.new) × AreParted (IsShiftAt (M.meaning
+        requires clear { rests.old.items ≡ [] }
+        ensures sifted { IfSome result (λ count. (count ≤ length shifts.new) × AreSifted (IsShiftAt (M.meaning
             (M.definition self.now.event.now.rules.now)) (M.StandsFor self.now.event.now.rules.now) (M.HasNumber
             self.now.event.now.rules.now) self.now.event.now.letter.0 self.now.event.now.objects.now
             self.now.event.now.binding.now self.now.ending.now self.now.awake.now (monitors_of
             self.now.slots.items.now)) (IsReadAt (M.meaning (M.definition self.now.event.now.rules.now)) (M.StandsFor
             self.now.event.now.rules.now) self.now.event.now.letter.0 self.now.event.now.binding.now
             self.now.event.now.objects.now self.now.event.now.marks.now.list (monitors_of self.now.slots.items.now))
-            (slots_there self.now.awake.now.cards entries.now) (take count shifts.new) moves.new.items) }
+            (slots_there self.now.awake.now.cards entries.now) (take count shifts.new) moves.new.items
+            rests.new.items) }
         ensures length { length shifts.new ≡ length shifts.old }
         ensures steps { steps.new ≤ steps.old + length (slots_there self.now.awake.now.cards entries.now) }
     {
         let cards = self.awake.cards();
         let mut turns = [Turn {
             from: u32::MAX,
-            to: NO_NUMBER,
+            to: NO_NUMBER as u32,
         }; 16];
         let mut count = 0;
         for entry in entries {
@@ -185,7 +191,7 @@ impl<M: Monitor> Walk<'_, M> {
                     Told::Shifts(number) => {
                         push_shift(shifts, &mut count, entry.slot_number(), number);
                     }
-                    Told::Rests => {}
+                    Told::Rests => note_rest(rests, entry.slot()),
                     Told::Nothing => {
                         let Ok(()) = self.work_out(entry.slot(), base, moves) else {
                             return None;
@@ -193,9 +199,6 @@ impl<M: Monitor> Walk<'_, M> {
                     }
                 }
             }
-        }
-        if !are_worth(entries.len(), count, moves.len()) {
-            return None;
         }
         Some(count)
     }
@@ -246,14 +249,14 @@ impl<M: Monitor> Walk<'_, M> {
         if turn.is_from(number) {
             return shifts_on(card, asked.letters, turn.to);
         }
-        let next = self.look_up(number, &base.instance, turns);
-        if next == NO_NUMBER {
-            return Told::Nothing;
-        }
-        if next == AT_REST {
+        if number_at(self.plain, number) == AT_REST {
             return Told::Rests;
         }
-        shifts_on(card, asked.letters, next)
+        let next = self.look_up(number, &base.instance, turns);
+        if next >= AT_REST {
+            return Told::Nothing;
+        }
+        shifts_on(card, asked.letters, next as u32)
     }
 
     /// What the row has at the number of a state, if the letters that end all monitors with the parameters of an
@@ -361,13 +364,13 @@ fn note_turn(turns: &mut [Turn; 16], from: u16, to: u16)
 {
     turns[from as usize % 16] = Turn {
         from: from as u32,
-        to,
+        to: to as u32,
     };
 }
 
 /// That a monitor shifts to the state with a number, if the slot with this card is in the lists of all these letters.
 #[inline(always)]
-fn shifts_on(card: &Card, letters: u32, number: u16) -> Told
+fn shifts_on(card: &Card, letters: u32, number: u32) -> Told
     ensures told { (result ≡ Nothing) ⊎ (result ≡ Shifts number) }
     ensures on { result ≢ Nothing → (e : ℕ) → bit_at letters e ≡ 1 → IsOn card.now e }
 {
@@ -377,15 +380,17 @@ fn shifts_on(card: &Card, letters: u32, number: u16) -> Told
     Told::Shifts(number)
 }
 
-/// Whether what an event does to a list with so many entries is worth its while.
+/// Notes the slot of a monitor that rests, if there is memory for it.
 #[inline(always)]
-fn are_worth(entries: usize, shifts: usize, moves: usize) -> bool {
-    entries < MANY || shifts > entries / 2 || moves > entries / 2 - shifts
+fn note_rest(rests: &mut Vec<usize>, slot: usize)
+    ensures { (rests.new.items ≡ rests.old.items) ⊎ (rests.new.items ≡ rests.old.items ++ slot ∷ []) }
+{
+    let _room = rests.push(slot);
 }
 
 /// Writes a shift behind those that there are.
 #[inline(always)]
-fn push_shift(shifts: &mut [Shift], count: &mut usize, slot: u32, number: u16)
+fn push_shift(shifts: &mut [Shift], count: &mut usize, slot: u32, number: u32)
     requires { count.old < length shifts.old }
     ensures added { take count.new shifts.new
         ≡ take count.old shifts.old ++ record { slot = slot; number = number } ∷ [] }

@@ -3,7 +3,7 @@
 ghost use Rattle.std.specs.Prelude.{◌≡◌, ℕ, ◌+◌, ◌<◌, ◌≤◌, ◌↔◌, ◌++◌, List, Bool, false, not, Contains, IsTrue, IfNone, IfSome, Some, None, [], ◌∷◌, length, count_by};
 ghost use Rattle.std.specs.Option.{option_to_list};
 ghost use Rattle.jm_model.specs.Bindings.{is_compatible};
-ghost use Rattle.jm_index.specs.Index.{Pair, AreBelow, AreLive, IsFitting};
+ghost use Rattle.jm_index.specs.Index.{Pair, asked_slots, AreBelow, AreLive, IsFitting};
 ghost use Rattle.jm_monitors.specs.declared.stored.Stored.{Stored as Kept};
 ghost use Rattle.jm_monitors.specs.Steps.{AreMarksAfter};
 ghost use Rattle.jm_store.specs.Slots.{monitor_at};
@@ -120,8 +120,8 @@ impl<M: Monitor> Store<M> {
         self.advance_only(rules, objects, awake, letter, binding, known, slots, steps)
     }
 
-    /// The slot of the only monitor above a binding, or that there is none. Where several are, or out of memory, it
-    /// can't be told.
+    /// The slot of the only monitor above a binding, or that there is none. Where several are or may be, since several
+    /// sets of parameters have the binding's, or out of memory, it can't be told.
     fn only_slot_above(
         &self,
         objects: &Objects,
@@ -133,25 +133,44 @@ impl<M: Monitor> Store<M> {
         requires live { AreLive objects.now binding.now }
         ensures { IfSome result (IsAbove binding.now self.now) }
     {
+        slots.clear();
         let mask = binding.mask();
-        let mut only = None;
+        let mut above = None;
         for domain in &self.domains {
             if mask & *domain == mask {
-                let Ok(()) = self.index.compatible_into(objects, *domain, binding, slots) else {
-                    return None;
-                };
-                if slots.len() > 1 {
+                if above.is_some() {
                     return None;
                 }
-                let found = slots.pop();
-                if only.is_none() {
-                    only = found;
-                } else if found.is_some() {
-                    return None;
-                }
+                above = Some(*domain);
             }
         }
-        Some(only)
+        let Some(domain) = above else {
+            return Some(None);
+        };
+        self.only_slot_in(objects, domain, binding, slots)
+    }
+
+    /// The slot of the only monitor with a set of parameters that is compatible with a binding, or that there is none.
+    /// Where several are, or out of memory, it can't be told.
+    #[inline(always)]
+    fn only_slot_in(
+        &self,
+        objects: &Objects,
+        domain: u8,
+        binding: &Binding,
+        slots: &mut Vec<usize>,
+    ) -> Option<Option<usize>>
+        requires fits { IsFitting self.now.index objects.now }
+        requires live { AreLive objects.now binding.now }
+        ensures { IfSome result (λ only. asked_slots domain binding.now self.now.index.list ≡ option_to_list only) }
+    {
+        let Ok(()) = self.index.compatible_into(objects, domain, binding, slots) else {
+            return None;
+        };
+        if slots.len() > 1 {
+            return None;
+        }
+        Some(slots.pop())
     }
 
     /// Moves the monitor of a slot, if there is one, unless out of memory.

@@ -1,7 +1,7 @@
 use Rattle.std.proofs.Common.{◌≡◌, ℕ, ◌++◌, List, [], ◌∷◌, sym, ◌∙◌, ap, append-nil, append_assoc, arith}
 use Rattle.jm_model.specs.declared.firings.Firing.{Firing}
 use Rattle.jm_store.specs.Reports.{firings_below}
-use Rattle.jm_store.proofs.ReportLemmas.{hits_none, hits_more, hits_skip, no_hits}
+use Rattle.jm_store.proofs.ReportLemmas.{hits_none, hits_more, hits_skip, hits_all, no_hits}
 use Rattle.jm_store.proofs.report.report_hits.Goals as goal
 use Rattle.jm_store.proofs.report.report_hits.Goals.{then-hits-handler-eq1+in_ok-push, else-hits-handler-eq1}
 
@@ -25,8 +25,10 @@ loop-handler-preserved c =
 
 pub returns : goal.returns
 returns c =
-    let last : c.loop-handler.handler ≡ 16 = omega arith in
-    c.loop-handler.invariant ∙ ap (λ (n : ℕ). c.args.firings.now ++ firings_below c.args.instance.now c.args.hits n) last
+    let n = c.room_of-handler-end.result in
+    let last : c.loop-handler.handler ≡ n = omega arith in
+    c.loop-handler.invariant ∙ ap (λ (k : ℕ). c.args.firings.now ++ firings_below c.args.instance.now c.args.hits k) last
+    ∙ ap (λ (l : List Firing). c.args.firings.now ++ l) (sym (hits_all c.args.instance.now c.args.hits n c.room_of-handler-end.ensures.room c.room_of-handler-end.ensures.few))
 
 pub returns-then-hits-eq0 : goal.returns-then-hits-eq0
 returns-then-hits-eq0 c = rw (c.if-hits-eq0.true, no_hits c.args.instance.now 16) (sym (append-nil c.args.firings.now))

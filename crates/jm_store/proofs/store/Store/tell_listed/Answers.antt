@@ -1,7 +1,7 @@
 use Rattle.std.proofs.Common.{List, take, subst}
 use Rattle.jm_store.specs.declared.monitors.Slot.{Slot}
 use Rattle.jm_store.specs.Slots.{monitors_of}
-use Rattle.jm_store.specs.Moves.{AreParted, IsReadAt}
+use Rattle.jm_store.specs.Moves.{AreSifted, IsReadAt}
 use Rattle.jm_store.specs.Contents.{Contents}
 use Rattle.jm_store.specs.Listed.{slots_listed}
 use Rattle.jm_store.specs.Walks.{IsShiftAt}
@@ -18,13 +18,14 @@ returns-clause-reading g c =
     let slots = slots_listed lists c.args.place in
     let shifts = take c.in_ok-count.count c.read_list.new.shifts.items in
     let moves = c.read_list.new.moves.items in
-    let (within, parted) = c.in_ok-count.ensures.parted in
-    let own = subst (λ (l : List (Slot S)). AreParted (IsShiftAt m Stands HasNumber event.letter.0 event.objects.now event.binding.now c.self.inside.ending lists (monitors_of l))
-    (IsReadAt m Stands event.letter.0 event.binding.now event.objects.now event.marks.now.list (monitors_of l)) slots shifts moves) c.lend_all.ensures parted in
+    let rests = c.read_list.new.rests.items in
+    let (within, sifted) = c.in_ok-count.ensures.sifted in
+    let own = subst (λ (l : List (Slot S)). AreSifted (IsShiftAt m Stands HasNumber event.letter.0 event.objects.now event.binding.now c.self.inside.ending lists (monitors_of l))
+    (IsReadAt m Stands event.letter.0 event.binding.now event.objects.now event.marks.now.list (monitors_of l)) slots shifts moves rests) c.lend_all.ensures sifted in
     record {
       within = within;
-      parted = subst (λ (s : Contents S). AreParted (IsShiftAt m Stands HasNumber event.letter.0 event.objects.now event.binding.now s.ending lists s.monitors)
-          (IsReadAt m Stands event.letter.0 event.binding.now event.objects.now event.marks.now.list s.monitors) slots shifts moves) c.self.view_is own;
+      sifted = subst (λ (s : Contents S). AreSifted (IsShiftAt m Stands HasNumber event.letter.0 event.objects.now event.binding.now s.ending lists s.monitors)
+          (IsReadAt m Stands event.letter.0 event.binding.now event.objects.now event.marks.now.list s.monitors) slots shifts moves rests) c.self.view_is own;
       report = rw c.as_slice.ensures.value at c.in-Ok.ensures;
       twice = c.in-Ok-copy.ensures;
     }

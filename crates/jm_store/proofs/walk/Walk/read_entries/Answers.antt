@@ -1,4 +1,4 @@
-use Rattle.std.proofs.Common.{◌≡◌, ℕ, ◌+◌, ◌/◌, List, [], ◌∷◌, true, false, take, length, get_or, refl, sym, ap, ◌∙◌, subst, arith, append-nil}
+use Rattle.std.proofs.Common.{◌≡◌, ℕ, inl, inr, ◌+◌, ◌/◌, List, [], ◌∷◌, ◌++◌, true, false, take, length, get_or, refl, sym, ap, ◌∙◌, subst, arith, append-nil}
 use Rattle.std.specs.Prelude.{None, Some, slice_index_or, ◌==◌}
 use Rattle.std.proofs.lemmas.List.{take_all, length-append}
 use Rattle.std.proofs.lemmas.List.Elements.{Contains-get_or}
@@ -9,18 +9,18 @@ use Rattle.jm_awake.specs.declared.card.Listed.{Listed}
 use Rattle.jm_awake.specs.Awake.{fresh, card_at, slots_there, is_there}
 use Rattle.jm_monitors.specs.declared.stored.Stored.{Stored}
 use Rattle.jm_store.specs.declared.walk.Shift.{Shift}
-use Rattle.jm_store.specs.Moves.{AreParted, IsReadAt}
+use Rattle.jm_store.specs.Moves.{AreSifted, IsReadAt}
 use Rattle.jm_store.specs.Walks.{AreAmong, IsShifting, IsShiftAt}
 use Rattle.jm_store.specs.Slots.{monitors_of, monitor_at}
 use Rattle.jm_store.proofs.ListedLemmas.{slots_at, slots_fewer}
-use Rattle.jm_store.proofs.PartedLemmas.{parted_none, parted_told, parted_read}
+use Rattle.jm_store.proofs.PartedLemmas.{sifted_none, sifted_told, sifted_read, sifted_rest}
 use Rattle.jm_store.proofs.WalkLemmas.{there_by, no_turns, shifts_all}
 use Rattle.jm_store.proofs.walk.Walk.read_entries.Goals as goal
 use Rattle.jm_store.proofs.walk.Walk.read_entries.Goals.{then-is_there+in-Shifts, then-is_there+in-Rests, then-is_there+in-Nothing+in-Ok, else-is_there}
 
 pub loop-entry-init : goal.loop-entry-init
 loop-entry-init g c = record {
-  parted = rw c.requires.none (parted_none _ _);
+  sifted = rw (c.requires.none, c.requires.clear) (sifted_none _ _);
   turns = no_turns c.args.self.now.plain.now c.args.self.now.ends c.args.self.now.endings.now 16;
   few = omega arith;
   room = omega arith;
@@ -123,8 +123,8 @@ loop-entry-preserved g c =
           subst (λ (y : Card). IsShifting m Stands HasNumber event.letter.0 event.objects.now event.binding.now walk.ending.now c.args.asked.letters y base shift.number) card w.in-Shifts.ensures.told in
           let is : IsShifting m Stands HasNumber event.letter.0 event.objects.now event.binding.now walk.ending.now lists.letters (card_at lists x.slot) base shift.number =
           shifts_all m Stands HasNumber event.letter.0 event.objects.now event.binding.now walk.ending.now lists.letters c.args.asked.letters (card_at lists x.slot) base shift.number c.requires.others own told in
-          rw (w.turns-is, w.shifts-is, w.moves-is, w.count-is, w.steps-is, more) (record {
-            parted = parted_told R Q slots x.slot (take c.loop-entry.count c.loop-entry.shifts) (take w.push_shift.new.count w.push_shift.new.shifts) c.loop-entry.moves.items inv.parted
+          rw (w.turns-is, w.shifts-is, w.moves-is, w.rests-is, w.count-is, w.steps-is, more) (record {
+            sifted = sifted_told R Q slots x.slot (take c.loop-entry.count c.loop-entry.shifts) (take w.push_shift.new.count w.push_shift.new.shifts) c.loop-entry.moves.items c.loop-entry.rests.items inv.sifted
                 (Some shift, (base, here, w.slot_number.ensures, is), w.push_shift.ensures.added);
             turns = w.tell.ensures.turns;
             few = omega (arith, inv.few, w.push_shift.ensures.count);
@@ -136,9 +136,18 @@ loop-entry-preserved g c =
           let more = slots_at cards entries entries i none true refl c.loop-entry-test.true (same ∙ w.if-is_there.true) in
           let base = w.monitor-base.result.now in
           let here : monitor_at monitors x.slot ≡ Some base = sym (ap (monitor_at monitors) w.slot-then-is_there.ensures) ∙ w.monitor-base.ensures.value in
-          rw (w.turns-is, w.shifts-is, w.moves-is, w.count-is, w.steps-is, more) (record {
-            parted = parted_told R Q slots x.slot (take c.loop-entry.count c.loop-entry.shifts) (take c.loop-entry.count c.loop-entry.shifts) c.loop-entry.moves.items inv.parted
-                (None, (base, here, w.in-Rests.ensures.told), sym (append-nil (take c.loop-entry.count c.loop-entry.shifts)));
+          let shifts = take c.loop-entry.count c.loop-entry.shifts in
+          let moves = c.loop-entry.moves.items in
+          let rests = c.loop-entry.rests.items in
+          let nothing : R x.slot None = (base, here, w.in-Rests.ensures.told) in
+          let rested : AreSifted R Q (slots ++ x.slot ∷ []) shifts moves w.note_rest.new.rests.items = elim w.note_rest.ensures [
+            | inl same ↦ subst (λ (l : List ℕ). AreSifted R Q (slots ++ x.slot ∷ []) shifts moves l) (sym same)
+                (sifted_told R Q slots x.slot shifts shifts moves rests inv.sifted (None, nothing, sym (append-nil shifts)))
+            | inr more ↦ subst (λ (l : List ℕ). AreSifted R Q (slots ++ x.slot ∷ []) shifts moves l) (sym (more ∙ ap (λ (n : ℕ). rests ++ n ∷ []) w.slot-in-Rests.ensures))
+                (sifted_rest R Q slots x.slot shifts moves rests inv.sifted nothing)
+          ] in
+          rw (w.turns-is, w.shifts-is, w.moves-is, w.rests-is, w.count-is, w.steps-is, more) (record {
+            sifted = rested;
             turns = w.tell.ensures.turns;
             few = omega (arith, inv.few);
             room = inv.room;
@@ -147,8 +156,8 @@ loop-entry-preserved g c =
           })
       | then-is_there+in-Nothing+in-Ok w ↦
           let more = slots_at cards entries entries i none true refl c.loop-entry-test.true (same ∙ w.if-is_there.true) in
-          rw (w.turns-is, w.shifts-is, w.moves-is, w.count-is, w.steps-is, more) (record {
-            parted = parted_read R Q slots x.slot (take c.loop-entry.count c.loop-entry.shifts) c.loop-entry.moves.items w.work_out.new.moves.items inv.parted (rw w.slot-in-Nothing.ensures at w.in-Ok.ensures);
+          rw (w.turns-is, w.shifts-is, w.moves-is, w.rests-is, w.count-is, w.steps-is, more) (record {
+            sifted = sifted_read R Q slots x.slot (take c.loop-entry.count c.loop-entry.shifts) c.loop-entry.moves.items w.work_out.new.moves.items c.loop-entry.rests.items inv.sifted (rw w.slot-in-Nothing.ensures at w.in-Ok.ensures);
             turns = w.tell.ensures.turns;
             few = omega (arith, inv.few);
             room = inv.room;
@@ -157,8 +166,8 @@ loop-entry-preserved g c =
           })
       | else-is_there w ↦
           let more = slots_at cards entries entries i none false refl c.loop-entry-test.true (same ∙ w.if-is_there.false) in
-          rw (w.turns-is, w.shifts-is, w.moves-is, w.count-is, w.steps-is, more, append-nil slots) (record {
-            parted = inv.parted;
+          rw (w.turns-is, w.shifts-is, w.moves-is, w.rests-is, w.count-is, w.steps-is, more, append-nil slots) (record {
+            sifted = inv.sifted;
             turns = inv.turns;
             few = omega (arith, inv.few);
             room = inv.room;
@@ -167,8 +176,8 @@ loop-entry-preserved g c =
           })
     ]
 
-pub returns-clause-parted : goal.returns-clause-parted
-returns-clause-parted g c =
+pub returns-clause-sifted : goal.returns-clause-sifted
+returns-clause-sifted g c =
     let walk = c.args.self.now in
     let event = walk.event.now in
     let m = g.M.Monitor.meaning (g.M.Monitor.definition event.rules.now) in
@@ -179,6 +188,6 @@ returns-clause-parted g c =
     let R = IsShiftAt m Stands HasNumber event.letter.0 event.objects.now event.binding.now walk.ending.now lists monitors in
     let Q = IsReadAt m Stands event.letter.0 event.binding.now event.objects.now event.marks.now.list monitors in (
       c.loop-entry.invariant.room,
-      subst (λ (l : List Listed). AreParted R Q (slots_there lists.cards l) (take c.loop-entry.count c.loop-entry.shifts) c.loop-entry.moves.items)
-          (take_all c.loop-entry.entry-index c.args.entries.now c.loop-entry-test.false) c.loop-entry.invariant.parted,
+      subst (λ (l : List Listed). AreSifted R Q (slots_there lists.cards l) (take c.loop-entry.count c.loop-entry.shifts) c.loop-entry.moves.items c.loop-entry.rests.items)
+          (take_all c.loop-entry.entry-index c.args.entries.now c.loop-entry-test.false) c.loop-entry.invariant.sifted,
     )

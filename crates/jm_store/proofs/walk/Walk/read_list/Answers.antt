@@ -4,7 +4,7 @@ use Rattle.std.specs.Int.{bit_at}
 use Rattle.jm_awake.specs.declared.card.Listed.{Listed}
 use Rattle.jm_awake.specs.Awake.{list_at, slots_there}
 use Rattle.jm_store.specs.declared.walk.Shift.{Shift}
-use Rattle.jm_store.specs.Moves.{AreParted, IsReadAt}
+use Rattle.jm_store.specs.Moves.{AreSifted, IsReadAt}
 use Rattle.jm_store.specs.Walks.{AreAliveBut, IsShiftAt}
 use Rattle.jm_store.specs.Slots.{monitors_of}
 use Rattle.jm_store.proofs.ListedLemmas.{listed_each, listed_on}
@@ -59,8 +59,8 @@ read_entries-requires-2-clause-each g c = λ x among.
 pub read_entries-requires-2-clause-room : goal.read_entries-requires-2-clause-room
 read_entries-requires-2-clause-room g c = omega (arith, c.requires.room, ap length c.as_mut_slice-2.ensures.value, ap length c.entries-entries.ensures)
 
-pub returns-then-params-eq0-clause-parted : goal.returns-then-params-eq0-clause-parted
-returns-then-params-eq0-clause-parted g c =
+pub returns-then-params-eq0-clause-sifted : goal.returns-then-params-eq0-clause-sifted
+returns-then-params-eq0-clause-sifted g c =
     let walk = c.args.self.now in
     let event = walk.event.now in
     let lists = walk.awake.now in
@@ -76,16 +76,16 @@ returns-then-params-eq0-clause-parted g c =
     let R = IsShiftAt m Stands HasNumber event.letter.0 event.objects.now event.binding.now walk.ending.now lists monitors in
     let Q = IsReadAt m Stands event.letter.0 event.binding.now event.objects.now event.marks.now.list monitors in
     rw (written_back c.args.shifts.now.len items new whole size)
-    (subst (λ (l : List Listed). IfSome c.read_entries.result (λ (count : ℕ). (count ≤ length new) × AreParted R Q (slots_there lists.cards l) (take count new) c.read_entries.new.moves.items))
-    c.entries-entries.ensures c.read_entries.ensures.parted)
+    (subst (λ (l : List Listed). IfSome c.read_entries.result (λ (count : ℕ). (count ≤ length new) × AreSifted R Q (slots_there lists.cards l) (take count new) c.read_entries.new.moves.items c.read_entries.new.rests.items))
+    c.entries-entries.ensures c.read_entries.ensures.sifted)
 
 pub returns-then-params-eq0-clause-steps : goal.returns-then-params-eq0-clause-steps
 returns-then-params-eq0-clause-steps g c =
     let lists = c.args.self.now.awake.now in
     omega (arith, c.read_entries.ensures.steps, ap (λ (l : List Listed). length (slots_there lists.cards l)) c.entries-entries.ensures)
 
-pub returns-clause-parted : goal.returns-clause-parted
-returns-clause-parted g c =
+pub returns-clause-sifted : goal.returns-clause-sifted
+returns-clause-sifted g c =
     let walk = c.args.self.now in
     let event = walk.event.now in
     let lists = walk.awake.now in
@@ -101,8 +101,8 @@ returns-clause-parted g c =
     let R = IsShiftAt m Stands HasNumber event.letter.0 event.objects.now event.binding.now walk.ending.now lists monitors in
     let Q = IsReadAt m Stands event.letter.0 event.binding.now event.objects.now event.marks.now.list monitors in
     rw (written_back c.args.shifts.now.len items new whole size)
-    (subst (λ (l : List Listed). IfSome c.read_entries-2.result (λ (count : ℕ). (count ≤ length new) × AreParted R Q (slots_there lists.cards l) (take count new) c.read_entries-2.new.moves.items))
-    c.entries-entries.ensures c.read_entries-2.ensures.parted)
+    (subst (λ (l : List Listed). IfSome c.read_entries-2.result (λ (count : ℕ). (count ≤ length new) × AreSifted R Q (slots_there lists.cards l) (take count new) c.read_entries-2.new.moves.items c.read_entries-2.new.rests.items))
+    c.entries-entries.ensures c.read_entries-2.ensures.sifted)
 
 pub returns-clause-steps : goal.returns-clause-steps
 returns-clause-steps g c =

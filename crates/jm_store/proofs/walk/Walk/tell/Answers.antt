@@ -1,7 +1,7 @@
 use Rattle.std.proofs.Common.{◌≡◌, ℕ, ◌%◌, ◌<◌, sym, subst, arith}
 use Rattle.std.specs.Prelude.{Some, slice_get}
 use Rattle.jm_model.specs.Bindings.{mask_of}
-use Rattle.jm_model.specs.Numbers.{at_rest}
+use Rattle.jm_model.specs.Numbers.{at_rest, no_number}
 use Rattle.jm_store.specs.Walks.{IsTurn}
 use Rattle.jm_store.proofs.WalkLemmas.{like_by, rests_by, shifts_by, told_by}
 use Rattle.jm_store.proofs.walk.Walk.tell.Goals as goal
@@ -24,13 +24,13 @@ returns-then-is_from-clause-told g c =
     c.in-Some.ensures c.requires.below (c.is_whole.ensures c.if-not-is_whole.false) (subst (λ (n : ℕ). slice_get walk.plain.now n ≡ Some turn.to) from found) less
     (like_by walk.ending.now (mask_of base.instance) walk.ends walk.endings.now turn.to c.requires.among all) (c.shifts_on.ensures.on told))
 
-pub returns-then-next-2-clause-told : goal.returns-then-next-2-clause-told
-returns-then-next-2-clause-told g c =
+pub returns-then-number_at-clause-told : goal.returns-then-number_at-clause-told
+returns-then-number_at-clause-told g c =
     let walk = c.args.self.now in
     let m = g.M.Monitor.meaning (g.M.Monitor.definition walk.event.now.rules.now) in
     let Stands = g.M.Monitor.StandsFor walk.event.now.rules.now in
     let number = c.in-Some.number in
-    let rests : slice_get walk.plain.now number ≡ Some at_rest = subst (λ (n : ℕ). slice_get walk.plain.now number ≡ Some n) c.if-next-2.true (c.look_up-next.ensures.at c.if-next.false) in
+    let rests : slice_get walk.plain.now number ≡ Some at_rest = subst (λ (n : ℕ). slice_get walk.plain.now number ≡ Some n) c.if-number_at.true (c.number_at.ensures (λ is. omega (arith, is, c.if-number_at.true))) in
     rests_by m Stands walk.event.now.letter.0 walk.event.now.objects.now walk.event.now.binding.now c.args.base.now c.requires.below (c.is_whole.ensures c.if-not-is_whole.false)
     (c.requires.rows.rests number rests c.args.base.now.state c.in-Some.ensures)
 
@@ -43,8 +43,9 @@ returns-clause-told g c =
     let base = c.args.base.now in
     let number = c.in-Some.number in
     let next = c.look_up-next.result in
-    let less : next < at_rest = omega (arith, c.if-next.false, c.if-next-2.false, c.look_up-next.type_inv) in
+    let less : next < at_rest = omega (arith, c.if-next-ge-AT_REST.false) in
+    let known : next ≡ no_number → ⊥ = λ is. omega (arith, is, less) in
     told_by m Stands HasNumber walk.event.now.letter.0 walk.event.now.objects.now walk.event.now.binding.now walk.ending.now c.args.asked.letters c.args.card.now base next c.shifts_on-2.result c.shifts_on-2.ensures.told
     (λ told.
     shifts_by m Stands HasNumber walk.event.now.letter.0 walk.event.now.objects.now walk.event.now.binding.now walk.plain.now walk.ending.now walk.endings.now c.args.asked.letters c.args.card.now base number next c.requires.rows
-    c.in-Some.ensures c.requires.below (c.is_whole.ensures c.if-not-is_whole.false) (c.look_up-next.ensures.at c.if-next.false) less (c.look_up-next.ensures.over c.if-next.false c.if-next-2.false) (c.shifts_on-2.ensures.on told))
+    c.in-Some.ensures c.requires.below (c.is_whole.ensures c.if-not-is_whole.false) (c.look_up-next.ensures.at known) less (c.look_up-next.ensures.over known (λ is. omega (arith, is, less))) (c.shifts_on-2.ensures.on told))

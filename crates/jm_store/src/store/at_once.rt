@@ -9,7 +9,7 @@ ghost use Rattle.jm_monitors.specs.declared.stored.Stored.{Stored as Kept};
 ghost use Rattle.jm_store.specs.Slots.{monitor_at};
 ghost use Rattle.jm_store.specs.Moves.{ends_all, AreApart};
 ghost use Rattle.jm_store.specs.Contents.{stored_of, ArePlaced};
-ghost use Rattle.jm_store.specs.Listed.{slots_listed, AreListed, KeepListed};
+ghost use Rattle.jm_store.specs.Listed.{slots_listed, AreAtRest, AreListed, KeepListed};
 ghost use Rattle.jm_store.specs.Plans.{CanPlan, Advances, IsApplied, IsReading};
 
 use super::Store;
@@ -33,8 +33,9 @@ struct Reading {
 }
 
 impl<M: Monitor> Store<M> {
-    /// Does an event at once whose binding is a mark, and of which there is a list, unless most of the list's monitors
-    /// rest, or out of memory. Where it doesn't do it, all is as it was. Only monitors of the list are read, each once.
+    /// Does an event at once whose binding is a mark, and of which there is a list, unless out of memory. Where it
+    /// doesn't do it, all is as it was. Only monitors of the list are read, each once. Where less than half of them
+    /// change, those at rest leave the list.
     #[inline(never)]
     pub fn advance_listed<L: Ledger>(
         &mut self,
@@ -52,8 +53,46 @@ impl<M: Monitor> Store<M> {
         requires of { IsListOf (list_at awake.old place) letter.0 binding.now }
         requires listed { AreListed (M.meaning (M.definition rules.now)) (M.StandsFor rules.now) objects.now
             self.old.monitors awake.old }
-        ensures same { IfNone result (self.new ≡ self.old) }
-        ensures lists { IfNone result (awake.new ≡ awake.old) }
+        ensures same { IfNone result ((self.new ≡ self.old) × (awake.new ≡ awake.old)) }
+        ensures marks { self.new.marks ≡ self.old.marks }
+        ensures advances { Advances (M.meaning (M.definition rules.now)) (M.StandsFor rules.now) objects.now letter.0
+            binding.now self.old self.new result }
+        ensures listed { AreListed (M.meaning (M.definition rules.now)) (M.StandsFor rules.now) objects.now
+            self.new.monitors awake.new }
+        ensures steps { steps.new ≤ steps.old + count_by (λ s. is_compatible s.instance binding.now)
+            (stored_of self.old) }
+    {
+        let mut rests = self.take_slots();
+        rests.clear();
+        let done = self.do_listed(
+            rules, objects, awake, place, letter, binding, &mut rests, steps,
+        );
+        self.give_slots(rests);
+        done
+    }
+
+    /// Does an event as `advance_listed` does, in room that is lent for the slots of monitors that rest.
+    #[inline(always)]
+    fn do_listed<L: Ledger>(
+        &mut self,
+        rules: &M,
+        objects: &Objects,
+        awake: &mut Awake,
+        place: usize,
+        letter: Letter,
+        binding: &Binding,
+        rests: &mut Vec<usize>,
+        steps: &mut Steps<L>,
+    ) -> Option<Done>
+        requires can { CanPlan (M.meaning (M.definition rules.now)) objects.now letter.0 binding.now self.old }
+        requires known { Contains self.old.marks binding.now }
+        requires within { place < length awake.old.lists }
+        requires of { IsListOf (list_at awake.old place) letter.0 binding.now }
+        requires listed { AreListed (M.meaning (M.definition rules.now)) (M.StandsFor rules.now) objects.now
+            self.old.monitors awake.old }
+        requires clear { rests.old.items ≡ [] }
+        ensures same { IfNone result ((self.new ≡ self.old) × (awake.new ≡ awake.old)) }
+        ensures marks { self.new.marks ≡ self.old.marks }
         ensures advances { Advances (M.meaning (M.definition rules.now)) (M.StandsFor rules.now) objects.now letter.0
             binding.now self.old self.new result }
         ensures listed { AreListed (M.meaning (M.definition rules.now)) (M.StandsFor rules.now) objects.now
@@ -74,8 +113,15 @@ impl<M: Monitor> Store<M> {
             binding,
             known: true,
         };
-        let Some(reading) = self.tell_listed(&event, awake, place, &mut shifts, &mut moves, steps)
-        else {
+        let Some(reading) = self.tell_listed(
+            &event,
+            awake,
+            place,
+            &mut shifts,
+            &mut moves,
+            rests,
+            steps,
+        ) else {
             self.give_shifts(shifts);
             self.give_moves(moves);
             return None;
@@ -85,9 +131,11 @@ impl<M: Monitor> Store<M> {
             answer,
             copy,
         } = reading;
+        let few = count + moves.len() < awake.entries(place).len() / 2;
         self.monitors.shift_all(rules, &shifts.as_slice()[..count]);
         self.give_shifts(shifts);
         self.apply(rules, awake, moves);
+        self.let_rest(rules, awake, letter, binding, rests.as_slice(), few);
         Some(Done { answer, copy })
     }
 
@@ -100,6 +148,7 @@ impl<M: Monitor> Store<M> {
         place: usize,
         shifts: &mut Vec<Shift>,
         moves: &mut Vec<Move<M::State>>,
+        rests: &mut Vec<usize>,
         steps: &mut Steps<L>,
     ) -> Option<Reading>
         requires closed { self.now.is_open ≡ false }
@@ -111,10 +160,11 @@ impl<M: Monitor> Store<M> {
         requires listed { AreListed (M.meaning (M.definition event.now.rules.now)) (M.StandsFor event.now.rules.now)
             event.now.objects.now self.now.monitors awake.now }
         requires none { moves.old.items ≡ [] }
+        requires clear { rests.old.items ≡ [] }
         ensures reading { IfSome result (λ reading. IsReading (M.meaning (M.definition event.now.rules.now))
             (M.StandsFor event.now.rules.now) (M.HasNumber event.now.rules.now) event.now.letter.0 event.now.objects.now
             event.now.binding.now event.now.marks.now.list self.now awake.now (slots_listed awake.now place)
-            shifts.new.items moves.new.items reading) }
+            shifts.new.items moves.new.items rests.new.items reading) }
         ensures steps { steps.new ≤ steps.old + length (slots_listed awake.now place) }
     {
         if !has_room(shifts, awake.entries(place).len()) {
@@ -130,7 +180,7 @@ impl<M: Monitor> Store<M> {
             ends: self.ends_above(event.binding),
             event,
         };
-        let count = walk.read_list(place, shifts, moves, steps)?;
+        let count = walk.read_list(place, shifts, moves, rests, steps)?;
         let Ok(answer) = report(*self.domains.allocator(), rules, moves.as_slice()) else {
             return None;
         };
@@ -162,6 +212,54 @@ impl<M: Monitor> Store<M> {
         }
         let _monitors = &self.monitors;
         self.give_moves(moves);
+    }
+
+    /// Takes slots whose monitors rest at a letter out of the list of an event, where few of the list's monitors
+    /// change.
+    #[inline(always)]
+    fn let_rest(
+        &self,
+        rules: &M,
+        awake: &mut Awake,
+        letter: Letter,
+        binding: &Binding,
+        rests: &[usize],
+        few: bool,
+    )
+        requires letter { letter.0 < (M.meaning (M.definition rules.now)).letters }
+        ensures { (dead : List Bool) → AreAtRest (M.meaning (M.definition rules.now)) (M.StandsFor rules.now)
+            letter.0 binding.now dead rests.now self.now.monitors
+            → KeepListed (M.meaning (M.definition rules.now)) (M.StandsFor rules.now) dead self.now.monitors
+            self.now.monitors awake.old awake.new }
+    {
+        if few {
+            self.unlist_all(rules, awake, letter, binding, rests);
+        }
+    }
+
+    /// Takes slots whose monitors rest at a letter out of the list of an event, if there is one.
+    #[inline(never)]
+    fn unlist_all(
+        &self,
+        rules: &M,
+        awake: &mut Awake,
+        letter: Letter,
+        binding: &Binding,
+        rests: &[usize],
+    )
+        requires letter { letter.0 < (M.meaning (M.definition rules.now)).letters }
+        ensures { (dead : List Bool) → AreAtRest (M.meaning (M.definition rules.now)) (M.StandsFor rules.now)
+            letter.0 binding.now dead rests.now self.now.monitors
+            → KeepListed (M.meaning (M.definition rules.now)) (M.StandsFor rules.now) dead self.now.monitors
+            self.now.monitors awake.old awake.new }
+    {
+        let _letters = rules.letters();
+        if let Some(place) = awake.find(letter, binding) {
+            for slot in rests {
+                awake.unlist(*slot, letter);
+            }
+            awake.tidy(place);
+        }
     }
 
     /// Takes the room for shifts.

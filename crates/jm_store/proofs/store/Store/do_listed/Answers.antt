@@ -1,4 +1,4 @@
-use Rattle.std.proofs.Common.{◌≡◌, List, Option, None, take, sym, ap, ◌∙◌, subst, arith}
+use Rattle.std.proofs.Common.{◌≡◌, ℕ, List, Option, None, take, sym, ap, ◌∙◌, subst, arith}
 use Rattle.std.specs.Prelude.{Contains}
 use Rattle.jm_model.specs.declared.binding.Binding.{Binding}
 use Rattle.jm_index.specs.Index.{Pair}
@@ -7,14 +7,16 @@ use Rattle.jm_monitors.specs.declared.stored.Stored.{Stored}
 use Rattle.jm_store.specs.declared.walk.Shift.{Shift}
 use Rattle.jm_store.specs.Slots.{monitors_of}
 use Rattle.jm_store.specs.Contents.{Contents, stored_of, IsFit, ArePaired, IsFilled}
-use Rattle.jm_store.specs.Listed.{slots_listed}
+use Rattle.jm_store.specs.Listed.{slots_listed, AreAtRest}
+use Rattle.jm_store.specs.Moves.{IsReadAt}
 use Rattle.jm_store.specs.Plans.{IsReading}
-use Rattle.jm_store.specs.Walks.{AreShifted}
+use Rattle.jm_store.specs.Walks.{AreShifted, IsShiftAt}
 use Rattle.jm_store.proofs.FitLemmas.{are_paired, housed_fits}
 use Rattle.jm_store.proofs.ListedLemmas.{listed_above, listed_apart, above_counted}
-use Rattle.jm_store.proofs.ShiftedLemmas.{kept_alike, parted_apart, parted_there, parted_listed, few_apart, few_lead, parted_spared, parted_marks, parted_done}
+use Rattle.jm_store.proofs.ShiftedLemmas.{kept_alike, parted_apart, parted_there, parted_listed, few_apart, few_lead, parted_spared, parted_marks, parted_done, still_at_rest}
+use Rattle.jm_store.proofs.PartedLemmas.{parted_of}
 use Rattle.jm_store.proofs.VisitLemmas.{settled_monitor}
-use Rattle.jm_store.proofs.store.Store.advance_listed.Goals as goal
+use Rattle.jm_store.proofs.store.Store.do_listed.Goals as goal
 
 pub tell_listed-requires-clause-live : goal.tell_listed-requires-clause-live
 tell_listed-requires-clause-live g c = λ o binds. c.requires.can.event.live o (object-among _ binds.0 o binds.1)
@@ -63,11 +65,13 @@ shift_all-requires-clause-apart g c =
     let whole = c.self.view_is ∙ c.take_moves-moves.ensures.same ∙ c.take_shifts-shifts.ensures in
     let few = c.tell_listed.new.moves.items in
     let shifts = take c.in-Some.reading.count c.tell_listed.new.shifts.items in
+    let rests = c.tell_listed.new.rests.items in
     let reading =
-    subst (λ (l : List Binding). IsReading m Stands HasNumber e dead b l old lists (slots_listed lists place) c.tell_listed.new.shifts.items few c.in-Some.reading) (ap (λ (s : Contents S). s.marks) whole)
-    (subst (λ (s : Contents S). IsReading m Stands HasNumber e dead b c.self.inside.marks.list s lists (slots_listed lists place) c.tell_listed.new.shifts.items few c.in-Some.reading)
+    subst (λ (l : List Binding). IsReading m Stands HasNumber e dead b l old lists (slots_listed lists place) c.tell_listed.new.shifts.items few rests c.in-Some.reading) (ap (λ (s : Contents S). s.marks) whole)
+    (subst (λ (s : Contents S). IsReading m Stands HasNumber e dead b c.self.inside.marks.list s lists (slots_listed lists place) c.tell_listed.new.shifts.items few rests c.in-Some.reading)
     (c.take_moves-moves.ensures.same ∙ c.take_shifts-shifts.ensures) c.in-Some.ensures.reading) in
-    rw c.as_slice.ensures.value (parted_apart m Stands HasNumber e b dead old lists place shifts few c.requires.of c.requires.listed reading.parted)
+    let parted = parted_of (IsShiftAt m Stands HasNumber e dead b old.ending lists old.monitors) (IsReadAt m Stands e b dead old.marks old.monitors) (slots_listed lists place) shifts few rests reading.sifted in
+    rw c.as_slice.ensures.value (parted_apart m Stands HasNumber e b dead old lists place shifts few c.requires.of c.requires.listed parted)
 
 pub shift_all-requires-clause-there : goal.shift_all-requires-clause-there
 shift_all-requires-clause-there g c =
@@ -84,11 +88,13 @@ shift_all-requires-clause-there g c =
     let whole = c.self.view_is ∙ c.take_moves-moves.ensures.same ∙ c.take_shifts-shifts.ensures in
     let few = c.tell_listed.new.moves.items in
     let shifts = take c.in-Some.reading.count c.tell_listed.new.shifts.items in
+    let rests = c.tell_listed.new.rests.items in
     let reading =
-    subst (λ (l : List Binding). IsReading m Stands HasNumber e dead b l old lists (slots_listed lists place) c.tell_listed.new.shifts.items few c.in-Some.reading) (ap (λ (s : Contents S). s.marks) whole)
-    (subst (λ (s : Contents S). IsReading m Stands HasNumber e dead b c.self.inside.marks.list s lists (slots_listed lists place) c.tell_listed.new.shifts.items few c.in-Some.reading)
+    subst (λ (l : List Binding). IsReading m Stands HasNumber e dead b l old lists (slots_listed lists place) c.tell_listed.new.shifts.items few rests c.in-Some.reading) (ap (λ (s : Contents S). s.marks) whole)
+    (subst (λ (s : Contents S). IsReading m Stands HasNumber e dead b c.self.inside.marks.list s lists (slots_listed lists place) c.tell_listed.new.shifts.items few rests c.in-Some.reading)
     (c.take_moves-moves.ensures.same ∙ c.take_shifts-shifts.ensures) c.in-Some.ensures.reading) in
-    rw (c.as_slice.ensures.value, ap (λ (s : Contents S). s.monitors) whole) (parted_there m Stands HasNumber e b dead old lists place shifts few c.requires.of c.requires.listed reading.parted)
+    let parted = parted_of (IsShiftAt m Stands HasNumber e dead b old.ending lists old.monitors) (IsReadAt m Stands e b dead old.marks old.monitors) (slots_listed lists place) shifts few rests reading.sifted in
+    rw (c.as_slice.ensures.value, ap (λ (s : Contents S). s.monitors) whole) (parted_there m Stands HasNumber e b dead old lists place shifts few c.requires.of c.requires.listed parted)
 
 pub invariant_of-self : goal.invariant_of-self
 invariant_of-self g c =
@@ -109,10 +115,12 @@ apply-requires-clause-apart g c =
     let whole = c.self.view_is ∙ c.take_moves-moves.ensures.same ∙ c.take_shifts-shifts.ensures in
     let few = c.tell_listed.new.moves.items in
     let shifts = take c.in-Some.reading.count c.tell_listed.new.shifts.items in
+    let rests = c.tell_listed.new.rests.items in
     let reading =
-    subst (λ (l : List Binding). IsReading m Stands HasNumber e dead b l old lists (slots_listed lists place) c.tell_listed.new.shifts.items few c.in-Some.reading) (ap (λ (s : Contents S). s.marks) whole)
-    (subst (λ (s : Contents S). IsReading m Stands HasNumber e dead b c.self.inside.marks.list s lists (slots_listed lists place) c.tell_listed.new.shifts.items few c.in-Some.reading)
+    subst (λ (l : List Binding). IsReading m Stands HasNumber e dead b l old lists (slots_listed lists place) c.tell_listed.new.shifts.items few rests c.in-Some.reading) (ap (λ (s : Contents S). s.marks) whole)
+    (subst (λ (s : Contents S). IsReading m Stands HasNumber e dead b c.self.inside.marks.list s lists (slots_listed lists place) c.tell_listed.new.shifts.items few rests c.in-Some.reading)
     (c.take_moves-moves.ensures.same ∙ c.take_shifts-shifts.ensures) c.in-Some.ensures.reading) in
+    let parted = parted_of (IsShiftAt m Stands HasNumber e dead b old.ending lists old.monitors) (IsReadAt m Stands e b dead old.marks old.monitors) (slots_listed lists place) shifts few rests reading.sifted in
     let slots = c.self.inside.monitors.slots in
     let new = c.shift_all.new.self.slots in
     let mid = c.give_shifts-2.new.self in
@@ -127,7 +135,7 @@ apply-requires-clause-apart g c =
     let filled : (pair : Pair) → Contains old.index.list pair → IsFilled old pair =
     subst (λ (s : Contents S). (pair : Pair) → Contains s.index.list pair → IsFilled s pair) whole
     (settled_monitor slots c.self.inside.index.list c.self.invariant.housed (c.self.invariant.settled closed)) in
-    few_apart m Stands HasNumber e b dead old lists place shifts few c.requires.of c.requires.listed reading.parted mid moved c.requires.can c.requires.known paired filled
+    few_apart m Stands HasNumber e b dead old lists place shifts few c.requires.of c.requires.listed parted mid moved c.requires.can c.requires.known paired filled
 
 pub apply-requires-clause-leads : goal.apply-requires-clause-leads
 apply-requires-clause-leads g c =
@@ -144,10 +152,12 @@ apply-requires-clause-leads g c =
     let whole = c.self.view_is ∙ c.take_moves-moves.ensures.same ∙ c.take_shifts-shifts.ensures in
     let few = c.tell_listed.new.moves.items in
     let shifts = take c.in-Some.reading.count c.tell_listed.new.shifts.items in
+    let rests = c.tell_listed.new.rests.items in
     let reading =
-    subst (λ (l : List Binding). IsReading m Stands HasNumber e dead b l old lists (slots_listed lists place) c.tell_listed.new.shifts.items few c.in-Some.reading) (ap (λ (s : Contents S). s.marks) whole)
-    (subst (λ (s : Contents S). IsReading m Stands HasNumber e dead b c.self.inside.marks.list s lists (slots_listed lists place) c.tell_listed.new.shifts.items few c.in-Some.reading)
+    subst (λ (l : List Binding). IsReading m Stands HasNumber e dead b l old lists (slots_listed lists place) c.tell_listed.new.shifts.items few rests c.in-Some.reading) (ap (λ (s : Contents S). s.marks) whole)
+    (subst (λ (s : Contents S). IsReading m Stands HasNumber e dead b c.self.inside.marks.list s lists (slots_listed lists place) c.tell_listed.new.shifts.items few rests c.in-Some.reading)
     (c.take_moves-moves.ensures.same ∙ c.take_shifts-shifts.ensures) c.in-Some.ensures.reading) in
+    let parted = parted_of (IsShiftAt m Stands HasNumber e dead b old.ending lists old.monitors) (IsReadAt m Stands e b dead old.marks old.monitors) (slots_listed lists place) shifts few rests reading.sifted in
     let slots = c.self.inside.monitors.slots in
     let new = c.shift_all.new.self.slots in
     let mid = c.give_shifts-2.new.self in
@@ -163,7 +173,7 @@ apply-requires-clause-leads g c =
     subst (λ (s : Contents S). (pair : Pair) → Contains s.index.list pair → IsFilled s pair) whole
     (settled_monitor slots c.self.inside.index.list c.self.invariant.housed (c.self.invariant.settled closed)) in
     let index = ap (λ (s : Contents S). s.index) c.give_shifts-2.ensures ∙ ap (λ (s : Contents S). s.index) whole in
-    rw index (few_lead m Stands HasNumber e b dead old lists place shifts few c.requires.of c.requires.listed reading.parted mid moved c.requires.can c.requires.known paired filled)
+    rw index (few_lead m Stands HasNumber e b dead old lists place shifts few c.requires.of c.requires.listed parted mid moved c.requires.can c.requires.known paired filled)
 
 pub returns-clause-advances : goal.returns-clause-advances
 returns-clause-advances g c =
@@ -180,10 +190,12 @@ returns-clause-advances g c =
     let whole = c.self.view_is ∙ c.take_moves-moves.ensures.same ∙ c.take_shifts-shifts.ensures in
     let few = c.tell_listed.new.moves.items in
     let shifts = take c.in-Some.reading.count c.tell_listed.new.shifts.items in
+    let rests = c.tell_listed.new.rests.items in
     let reading =
-    subst (λ (l : List Binding). IsReading m Stands HasNumber e dead b l old lists (slots_listed lists place) c.tell_listed.new.shifts.items few c.in-Some.reading) (ap (λ (s : Contents S). s.marks) whole)
-    (subst (λ (s : Contents S). IsReading m Stands HasNumber e dead b c.self.inside.marks.list s lists (slots_listed lists place) c.tell_listed.new.shifts.items few c.in-Some.reading)
+    subst (λ (l : List Binding). IsReading m Stands HasNumber e dead b l old lists (slots_listed lists place) c.tell_listed.new.shifts.items few rests c.in-Some.reading) (ap (λ (s : Contents S). s.marks) whole)
+    (subst (λ (s : Contents S). IsReading m Stands HasNumber e dead b c.self.inside.marks.list s lists (slots_listed lists place) c.tell_listed.new.shifts.items few rests c.in-Some.reading)
     (c.take_moves-moves.ensures.same ∙ c.take_shifts-shifts.ensures) c.in-Some.ensures.reading) in
+    let parted = parted_of (IsShiftAt m Stands HasNumber e dead b old.ending lists old.monitors) (IsReadAt m Stands e b dead old.marks old.monitors) (slots_listed lists place) shifts few rests reading.sifted in
     let slots = c.self.inside.monitors.slots in
     let new = c.shift_all.new.self.slots in
     let mid = c.give_shifts-2.new.self in
@@ -213,11 +225,11 @@ returns-clause-advances g c =
       unmarked = tt;
       keeps = tt;
       fits = applied.fits dead fits;
-      spares = parted_spared m Stands HasNumber e b dead old lists place shifts few c.requires.of c.requires.listed reading.parted mid moved c.requires.can c.requires.known paired filled done applied index marks ending;
+      spares = parted_spared m Stands HasNumber e b dead old lists place shifts few c.requires.of c.requires.listed parted mid moved c.requires.can c.requires.known paired filled done applied index marks ending;
       closed = applied.closed;
-      marks = parted_marks m Stands HasNumber e b dead old lists place shifts few c.requires.of c.requires.listed reading.parted mid moved c.requires.can c.requires.known paired filled done applied index marks ending;
+      marks = parted_marks m Stands HasNumber e b dead old lists place shifts few c.requires.of c.requires.listed parted mid moved c.requires.can c.requires.known paired filled done applied index marks ending;
       twice = reading.twice;
-      works = parted_done m Stands HasNumber e b dead old lists place shifts few c.requires.of c.requires.listed reading.parted mid moved c.requires.can c.requires.known paired filled done applied index marks ending c.in-Some.reading.answer reading.report;
+      works = parted_done m Stands HasNumber e b dead old lists place shifts few c.requires.of c.requires.listed parted mid moved c.requires.can c.requires.known paired filled done applied index marks ending c.in-Some.reading.answer reading.report;
     }
 
 pub returns-clause-listed : goal.returns-clause-listed
@@ -235,10 +247,12 @@ returns-clause-listed g c =
     let whole = c.self.view_is ∙ c.take_moves-moves.ensures.same ∙ c.take_shifts-shifts.ensures in
     let few = c.tell_listed.new.moves.items in
     let shifts = take c.in-Some.reading.count c.tell_listed.new.shifts.items in
+    let rests = c.tell_listed.new.rests.items in
     let reading =
-    subst (λ (l : List Binding). IsReading m Stands HasNumber e dead b l old lists (slots_listed lists place) c.tell_listed.new.shifts.items few c.in-Some.reading) (ap (λ (s : Contents S). s.marks) whole)
-    (subst (λ (s : Contents S). IsReading m Stands HasNumber e dead b c.self.inside.marks.list s lists (slots_listed lists place) c.tell_listed.new.shifts.items few c.in-Some.reading)
+    subst (λ (l : List Binding). IsReading m Stands HasNumber e dead b l old lists (slots_listed lists place) c.tell_listed.new.shifts.items few rests c.in-Some.reading) (ap (λ (s : Contents S). s.marks) whole)
+    (subst (λ (s : Contents S). IsReading m Stands HasNumber e dead b c.self.inside.marks.list s lists (slots_listed lists place) c.tell_listed.new.shifts.items few rests c.in-Some.reading)
     (c.take_moves-moves.ensures.same ∙ c.take_shifts-shifts.ensures) c.in-Some.ensures.reading) in
+    let parted = parted_of (IsShiftAt m Stands HasNumber e dead b old.ending lists old.monitors) (IsReadAt m Stands e b dead old.marks old.monitors) (slots_listed lists place) shifts few rests reading.sifted in
     let slots = c.self.inside.monitors.slots in
     let new = c.shift_all.new.self.slots in
     let mid = c.give_shifts-2.new.self in
@@ -248,7 +262,9 @@ returns-clause-listed g c =
     subst (λ (l : List (Option (Stored S))). AreShifted HasNumber shifts l mid.monitors) monitors
     (subst (λ (l : List (Option (Stored S))). AreShifted HasNumber shifts (monitors_of slots) l) (sym after)
     (subst (λ (l : List Shift). AreShifted HasNumber (take c.in-Some.reading.count l) (monitors_of slots) (monitors_of new)) c.as_slice.ensures.value c.shift_all.ensures.moved)) in
-    c.apply.ensures.listed dead (parted_listed m Stands HasNumber e b dead old lists place shifts few c.requires.of c.requires.listed reading.parted mid moved)
+    let resting = still_at_rest m Stands HasNumber e b dead old lists place shifts few rests c.requires.of c.requires.listed reading.sifted mid c.apply.new.self moved c.apply.ensures.applied in
+    c.let_rest.ensures dead (subst (λ (l : List ℕ). AreAtRest m Stands e b dead l c.apply.new.self.monitors) (sym c.as_slice-2.ensures.value) resting)
+    (c.apply.ensures.listed dead (parted_listed m Stands HasNumber e b dead old lists place shifts few c.requires.of c.requires.listed parted mid moved))
 
 pub returns-clause-steps : goal.returns-clause-steps
 returns-clause-steps g c =
