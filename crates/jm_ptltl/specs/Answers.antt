@@ -24,8 +24,8 @@ abbrev pub Gives : Result (List (Node Token)) SpecError → Option (Formula Toke
 Gives (Ok nodes) read = (f : Formula Token) × (read ≡ Some f) × (nodes ≡ postfix f)
 Gives (Err e) read = FailsAt e read
 
--- The same, where `rule` is given a reader for what stands in parentheses: for each limit on their number that these
--- tokens can't reach.
+-- it adds the nodes of what the grammar reads, where `rule` is given a reader for what stands in parentheses: for each
+-- limit on their number that these tokens can't reach
 abbrev pub AddsBy : {X : Type 0} → Text → (Reader → Reader) → Result X SpecError
     → List (Node Token) → List (Node Token) → List Token → List Token → Type 0
 AddsBy bytes rule r before after tokens left =

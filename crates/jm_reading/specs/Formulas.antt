@@ -18,7 +18,7 @@ module _ {X : Type 0} (IsSpelled : X → Type 0) (first : X → Option SpecFault
   IsRefusedBy (Bad (Syntax line)) = (x : X) → IsSpelled x → ⊥
   IsRefusedBy (Bad fault) = (x : X) × IsSpelled x × (first x ≡ Some fault)
 
-  -- The same where the nesting is looked at first: it is not too deep, and a formula is read,
+  -- where the nesting is looked at first, it is not too deep, and a formula is read,
   abbrev pub IsReadWithin : {Y : Type 0} → Bool → (X → Result Y SpecFault) → Y → Type 0
   IsReadWithin deep says y = (deep ≡ false) × IsReadBy says y
 

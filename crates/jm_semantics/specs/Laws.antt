@@ -62,8 +62,8 @@ abbrev pub ReplyIsDetermined : Meaning → Type 0
 ReplyIsDetermined m = (h : List Entry) (s : Step) (outcome other : Outcome) →
     IsReply m h s outcome → IsReply m h s other → outcome ≢ NoMemory → other ≢ NoMemory → outcome ≡ other
 
--- Legality pins each outcome: two legal histories that agree up to a step give it one outcome, want of
--- memory aside.
+-- Legality pins each outcome: two legal histories that agree up to a step give it one outcome, out of memory
+-- aside.
 abbrev pub OutcomeIsPinned : Meaning → Type 0
 OutcomeIsPinned m = (h : List Entry) (x y : Entry) (g k : List Entry) →
     IsLegal m (h ++ x ∷ g) → IsLegal m (h ++ y ∷ k) → x.step ≡ y.step →

@@ -6,8 +6,8 @@ ghost use Rattle.jm_store.specs.declared.moves.Move.{Move as Change};
 use jm_model::{Binding, Firings, Letter, Monitor};
 use jm_monitors::Stored;
 
-/// So many monitors are many. A list of so many is worth being rid of those at rest, and of so many it is made wherever
-/// there is none; an event that meets more of one set of parameters, and has no list, is worked out by a plan.
+/// So many monitors are many. Of so many a list is made whatever the event's binding; an event that meets more of one set
+/// of parameters, and has no list, is worked out by a plan.
 pub(crate) const MANY: usize = 8;
 
 /// What a monitor that an event reaches becomes.

@@ -18,7 +18,7 @@ ghost use Rattle.jm_store.specs.declared.walk.Told.TheVariants.{Shifts, Nothing}
 
 use crate::event::Event;
 use crate::monitors::Lent;
-use crate::moves::{MANY, Move};
+use crate::moves::Move;
 use jm_awake::{Awake, Card, Listed};
 use jm_model::{AT_REST, Binding, Monitor, NO_NUMBER, NoMemory, Steps};
 use jm_monitors::Stored;

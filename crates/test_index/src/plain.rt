@@ -1,4 +1,4 @@
-//! The same pairs as a plain list, which is looked through.
+//! The pairs of an index as a plain list, which is looked through.
 use jm_model::{Binding, NoMemory};
 use std::alloc::Global;
 use testkit_steps::Draw;
