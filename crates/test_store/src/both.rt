@@ -46,23 +46,39 @@ impl<'a, M: Monitor> Both<'a, M> {
             return Ok(String::from_str(self.alloc, "none")?);
         };
         let wanted = self.slow.step(self.rig.rules, step)?;
-        match &wanted {
+        self.count(&wanted);
+        let wanted = outcome_shown(self.alloc, &wanted)?;
+        self.see(outcome_shown(self.alloc, &found)?, wanted.as_str())
+    }
+
+    /// Counts what the slow store fired or kept.
+    fn count(&mut self, outcome: &Outcome) {
+        match outcome {
             Outcome::Fired(firings) => {
                 self.fired = self.fired.wrapping_add(firings.len() as u64);
             }
             Outcome::Kept(kept) => self.kept = self.kept.wrapping_add(*kept),
             _ => {}
         }
-        let wanted = outcome_shown(self.alloc, &wanted)?;
-        self.see(outcome_shown(self.alloc, &found)?, wanted.as_str())
     }
 
     /// The texts of the stored bindings and of the marks. Directly after a pass the slow store has the same.
     pub(crate) fn lists(&mut self) -> Result<String, NoMemory> {
-        let found = lists_shown(self.alloc, &self.rig.stored()?, &self.rig.marks()?)?;
-        let stored = self.slow.stored(self.rig.rules)?;
-        let wanted = lists_shown(self.alloc, &stored, &self.slow.marks()?)?;
+        let found = self.found_lists()?;
+        let wanted = self.wanted_lists()?;
         self.see(found, wanted.as_str())
+    }
+
+    fn found_lists(&self) -> Result<String, NoMemory> {
+        let stored = self.rig.stored()?;
+        let marks = self.rig.marks()?;
+        Ok(lists_shown(self.alloc, &stored, &marks)?)
+    }
+
+    fn wanted_lists(&self) -> Result<String, NoMemory> {
+        let stored = self.slow.stored(self.rig.rules)?;
+        let marks = self.slow.marks()?;
+        Ok(lists_shown(self.alloc, &stored, &marks)?)
     }
 
     fn see(&mut self, found: String, wanted: &str) -> Result<String, NoMemory> {
@@ -87,12 +103,17 @@ impl<'a, M: Monitor> Both<'a, M> {
 /// The bindings of both lists, with a space between two and a `|` between the lists.
 fn lists_shown(alloc: Global, stored: &[Binding], marks: &[Binding]) -> Result<String, AllocError> {
     let mut out = String::new(alloc);
-    for binding in stored {
-        put(&mut out, ' ', binding_shown(alloc, binding)?.as_str())?;
-    }
+    put_bindings(alloc, &mut out, stored)?;
     put(&mut out, ' ', "|")?;
-    for binding in marks {
-        put(&mut out, ' ', binding_shown(alloc, binding)?.as_str())?;
-    }
+    put_bindings(alloc, &mut out, marks)?;
     Ok(out)
+}
+
+/// Puts each of the bindings behind a text, with a space before it where it isn't the first word.
+fn put_bindings(alloc: Global, out: &mut String, bindings: &[Binding]) -> Result<(), AllocError> {
+    for binding in bindings {
+        let shown = binding_shown(alloc, binding)?;
+        put(out, ' ', shown.as_str())?;
+    }
+    Ok(())
 }

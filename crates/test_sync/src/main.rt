@@ -36,29 +36,58 @@ fn main(rt: HostRuntime) -> io::Result<()> {
 
 /// What is cut of some scripts, and what is wrong with others.
 fn print_rows<R: Print>(rt: &R, alloc: Global) -> io::Result<()> {
-    let row = |text| print_row(rt, text);
-    row(cut_text(
-        alloc,
-        b"  post i\t# i is a name\r\nHasNext.next i\r\nwait i\r\n",
-    ))?;
-    row(cut_text(alloc, b"post a b\npost # a\nwait\n\npost a,b\npost a"))?;
-    row(cut_text(alloc, b"wait b\npost a\nwait b\npasses x"))?;
-    row(checked(alloc, &[b"s\ns\npost ready", b"wait ready\ns"]))?;
-    row(checked(alloc, &[b"post x\nc\nwait x\nwait x\nu"]))?;
-    row(checked(alloc, &[b"c\nwait x\npost x"]))?;
-    row(checked(alloc, &[b"n", b"n\nwait nobody"]))?;
-    row(checked(alloc, &[b"post x", b"n\npost x"]))?;
-    row(checked(alloc, &[b"wait a\npost b", b"wait b\npost a"]))?;
-    row(checked(alloc, &[b"post a\npost a"]))?;
-    row(checked(
-        alloc,
-        &[
-            b"post s\nwait a\npost b",
-            b"wait s\nwait b\npost c",
-            b"wait c\npost a",
-        ],
-    ))?;
-    row(checked(alloc, &[b"wait never", b"post x\npost x"]))
+    print_cut(rt, alloc)?;
+    print_checked(rt, alloc)?;
+    print_faults(rt, alloc)
+}
+
+/// What is cut of some scripts.
+fn print_cut<R: Print>(rt: &R, alloc: Global) -> io::Result<()> {
+    print_row(
+        rt,
+        cut_text(
+            alloc,
+            b"  post i\t# i is a name\r\nHasNext.next i\r\nwait i\r\n",
+        ),
+    )?;
+    print_row(
+        rt,
+        cut_text(alloc, b"post a b\npost # a\nwait\n\npost a,b\npost a"),
+    )?;
+    print_row(rt, cut_text(alloc, b"wait b\npost a\nwait b\npasses x"))
+}
+
+/// Scripts that can be done in the order that they ask for, and one that waits for what it posts below.
+fn print_checked<R: Print>(rt: &R, alloc: Global) -> io::Result<()> {
+    print_row(rt, checked(alloc, &[b"s\ns\npost ready", b"wait ready\ns"]))?;
+    print_row(rt, checked(alloc, &[b"post x\nc\nwait x\nwait x\nu"]))?;
+    print_row(rt, checked(alloc, &[b"c\nwait x\npost x"]))
+}
+
+/// What is wrong with several scripts: a name that nobody posts, or that is posted twice, or scripts that wait for each
+/// other.
+fn print_faults<R: Print>(rt: &R, alloc: Global) -> io::Result<()> {
+    print_row(rt, checked(alloc, &[b"n", b"n\nwait nobody"]))?;
+    print_row(rt, checked(alloc, &[b"post x", b"n\npost x"]))?;
+    print_row(rt, checked(alloc, &[b"wait a\npost b", b"wait b\npost a"]))?;
+    print_row(rt, checked(alloc, &[b"post a\npost a"]))?;
+    print_circle(rt, alloc)
+}
+
+/// Three scripts that wait for each other in a circle, and two with a fault each.
+fn print_circle<R: Print>(rt: &R, alloc: Global) -> io::Result<()> {
+    print_row(
+        rt,
+        checked(
+            alloc,
+            &[
+                b"post s\nwait a\npost b",
+                b"wait s\nwait b\npost c",
+                b"wait c\npost a",
+            ],
+        ),
+    )?;
+    print_row(rt, checked(alloc, &[b"wait never", b"post x\npost x"]))
 }
 
 fn print_row<R: Print>(rt: &R, text: Result<String, NoMemory>) -> io::Result<()> {
