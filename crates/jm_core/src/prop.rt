@@ -213,7 +213,8 @@ impl<M: Monitor> Prop<M> {
         self.history.node(alloc, caller, line, step, spare)
     }
 
-    /// Does a step of any kind, as `event`, `death` and `pass` do, and records it with the outcome that it answers.
+    /// Does a step of any kind, as `event`, `death` and `pass` do, and records it with the outcome that it answers: in a
+    /// row of entries, which takes less memory than the node's link, where there is room or memory for it.
     pub fn step(&mut self, node: Node) -> Outcome
         requires { IsFitStep (M.meaning self.old.definition) self.old.objects node.step }
         ensures added { IsExtended self.old self.new (answered node result ∷ []) }
@@ -221,6 +222,7 @@ impl<M: Monitor> Prop<M> {
         ensures legal { IsLegal (M.meaning self.new.definition) self.new.entries }
         ensures fits { FitsHistory (M.meaning self.new.definition) self.new.entries self.new.stored self.new.marks }
     {
+        self.history.make_room(self.alloc);
         self.do_step(node, &mut Spare::none())
     }
 
