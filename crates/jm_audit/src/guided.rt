@@ -13,7 +13,7 @@ use crate::sheet::Sheet;
 use crate::verdict::Verdict;
 use jm_events::Names;
 use jm_model::{Monitor, NoMemory};
-use jm_script::Script;
+use jm_script::CompactScript;
 use std::alloc::Global;
 
 /// Whether a run of these scripts over the specifications may print the text, or else the first of its lines that no
@@ -22,7 +22,7 @@ use std::alloc::Global;
 pub fn audit<M: Monitor>(
     alloc: Global,
     sheets: &[Sheet<M>],
-    scripts: &[Script],
+    scripts: &[CompactScript],
     objects: &Names,
     text: &[u8],
 ) -> Result<Verdict, NoMemory>
@@ -58,7 +58,7 @@ fn write_history<'t, M: Monitor>(
     alloc: Global,
     sheets: &[Sheet<M>],
     number: u8,
-    scripts: &[Script],
+    scripts: &[CompactScript],
     objects: &Names,
     rest: Option<&'t [u8]>,
     written: &mut Vec<u8>,
@@ -86,7 +86,7 @@ fn write_entries<'t, M: Monitor>(
     alloc: Global,
     sheets: &[Sheet<M>],
     number: u8,
-    scripts: &[Script],
+    scripts: &[CompactScript],
     objects: &Names,
     rest: Option<&'t [u8]>,
     written: &mut Vec<u8>,

@@ -7,7 +7,7 @@ ghost use Rattle.jm_audit.specs.Pending.{pending_at, AreUnderway, IsChoice, mark
 use crate::compare::is_at;
 use itoa::Buffer;
 use jm_model::{NoMemory, Step};
-use jm_script::{Script, project};
+use jm_script::CompactScript;
 use std::alloc::Global;
 
 /// A step of a caller that is still to be done, with the number of its line.
@@ -21,7 +21,7 @@ pub(crate) struct Pending {
 /// The steps of the scripts that are for a specification.
 pub(crate) fn pending_steps(
     alloc: Global,
-    scripts: &[Script],
+    scripts: &[CompactScript],
     number: u8,
 ) -> Result<Vec<Pending>, NoMemory>
     requires { length scripts.now ≤ 16 }
@@ -29,7 +29,7 @@ pub(crate) fn pending_steps(
 {
     let mut pending = Vec::new(alloc);
     for (caller, script) in scripts.iter().enumerate() {
-        let steps = project(alloc, script, number)?;
+        let steps = script.steps(alloc, number)?;
         add_steps(&mut pending, caller as u32, steps.as_slice())?;
     }
     Ok(pending)

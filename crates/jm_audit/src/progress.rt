@@ -16,7 +16,7 @@ use crate::sheet::Sheet;
 use jm_events::Names;
 use jm_model::{Entry, Monitor, NoMemory};
 use jm_print::render_entry;
-use jm_script::Script;
+use jm_script::CompactScript;
 use std::alloc::Global;
 
 /// The entries of a history so far, the steps that are still to be done, and the account of the entries.
@@ -33,7 +33,7 @@ impl Progress {
         alloc: Global,
         sheet: &Sheet<M>,
         number: u8,
-        scripts: &[Script],
+        scripts: &[CompactScript],
         objects: &Names,
     ) -> Result<Progress, NoMemory>
         requires scripts { length scripts.now ≤ 16 }

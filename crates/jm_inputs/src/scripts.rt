@@ -11,13 +11,13 @@ ghost use Rattle.jm_inputs.specs.Scripts.{meaning_over, IsScriptFileFault};
 ghost use Rattle.jm_inputs.specs.Reading.{specs_in, IsCatalogued, AreCounted, HasSteps, AreLeft, HasScript, HasScriptFrom, AreScriptsOf};
 ghost use Rattle.jm_inputs.specs.Causes.{CountsFailedReads, IsNoOrder, IsNoScript, IsNoScriptFileIn, StopsScripts};
 
-use crate::files::load;
+use crate::files::{let_go, load};
 use crate::library::Library;
 use crate::status::{MOST_BYTES, Status};
 use jm_events::Names;
 use jm_model::{NoMemory, ScriptError, ScriptFault};
 use jm_port::Folder;
-use jm_script::{Script, read_script};
+use jm_script::{CompactScript, read_compact};
 use jm_sync::{Cut, SyncError, SyncLine, check, cut};
 use memchr::memmem::find;
 use std::alloc::Global;
@@ -40,7 +40,7 @@ pub struct Setting {
 /// ask for order, and the names that these post or wait for.
 #[derive(Drop)]
 pub struct Scripts {
-    pub list: Vec<Script>,
+    pub list: Vec<CompactScript>,
     pub objects: Names,
     pub count: u32,
     pub cuts: Vec<Cut>,
@@ -182,14 +182,16 @@ fn read_next<F: Folder>(
     let number = scripts.list.len() as u32;
     let specs = setting.files + library.specs.len() as u32;
     let bytes = load(name, specs + number, MOST_BYTES, too_long(number), files)?;
-    read_bytes(
+    let read = read_bytes(
         alloc,
         bytes.as_slice(),
         number,
         library,
         setting.ordered,
         scripts,
-    )
+    );
+    let_go(bytes);
+    read
 }
 
 /// The end of a command whose script of this number is too long.
@@ -320,7 +322,7 @@ fn add_steps(
         → (meaning_over (specs_in library.now) scripts.old.count scripts.old.objects bytes.now).fault ≡ Some fault }
     ensures left { (fault : ScriptFault) → result ≡ Err (ScriptError.Bad fault) → AreLeft scripts.old scripts.new }
 {
-    let script = read_script(
+    let script = read_compact(
         alloc,
         bytes,
         &library.catalog,

@@ -1,5 +1,5 @@
 -- Lines whose numbers rise.
-use Rattle.std.proofs.Common.{◌≡◌, ℕ, zero, suc, ◌+◌, ◌<◌, ◌≤◌, List, [], ◌∷◌, ◌++◌, length, get_or, take, drop, Some, slice_get, refl, sym, ap, ◌∙◌, subst, arith}
+use Rattle.std.proofs.Common.{◌≡◌, ℕ, zero, suc, ◌+◌, ◌<◌, ◌≤◌, List, [], ◌∷◌, ◌++◌, length, get_or, take, drop, Option, Some, None, option_map, slice_get, refl, sym, ap, ◌∙◌, subst, arith}
 use Rattle.std.specs.Prelude.{All}
 use Rattle.std.proofs.lemmas.Option.{none-some, same_Some, slice_get_read}
 use Rattle.std.proofs.lemmas.List.{map-append}
@@ -21,6 +21,14 @@ all_from n [] rising = All-nil (λ (x : ScriptLine). n ≤ x.line)
 all_from n (l ∷ lines) rising =
     let first : n ≤ l.line = rising.0 in
     All-cons (λ (x : ScriptLine). n ≤ x.line) l lines first (All-weaker (λ (x : ScriptLine). l.line + 1 ≤ x.line) (λ (x : ScriptLine). n ≤ x.line) (λ x low. omega arith) lines (all_from (l.line + 1) lines rising.1))
+
+-- the line whose number is known
+pub numbered_line : (lines : List ScriptLine) (place n : ℕ) → option_map (λ l. l.line) (slice_get lines place) ≡ Some n → (l : ScriptLine) × (slice_get lines place ≡ Some l) × (l.line ≡ n)
+numbered_line lines place n e = by_case (slice_get lines place) refl e
+  where
+    by_case : (o : Option ScriptLine) → slice_get lines place ≡ o → option_map (λ l. l.line) o ≡ Some n → (l : ScriptLine) × (slice_get lines place ≡ Some l) × (l.line ≡ n)
+    by_case None at e = cc
+    by_case (Some l) at e = (l, at, same_Some l.line n e)
 
 -- a line that isn't above a number, and all lines from it on
 pub from_place : (n number : ℕ) (lines : List ScriptLine) (place : ℕ) (l : ScriptLine) → RisesFrom n lines → slice_get lines place ≡ Some l → number ≤ l.line → All (λ x. number ≤ x.line) (drop place lines)

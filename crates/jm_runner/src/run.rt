@@ -13,7 +13,7 @@ use crate::workers::work_all;
 use jm_core::Prop;
 use jm_dispatch::{Seat, Watch};
 use jm_model::{Monitor, NoMemory};
-use jm_script::Script;
+use jm_script::CompactScript;
 use jm_sync::Cut;
 use std::alloc::Global;
 use std::marker::Brand;
@@ -37,7 +37,7 @@ pub fn run_scripts<M: Monitor + Send, G: Gate, R: Threads + Wait + Sync>(
     rt: &R,
     alloc: Global,
     watches: Vec<Running<M>>,
-    scripts: &[Script],
+    scripts: &[CompactScript],
     gate: &G,
 ) -> Result<Vec<Prop<M>>, NoMemory>
 where
@@ -64,7 +64,7 @@ pub fn run_with_notes<M: Monitor + Send, G: Gate, R: Threads + Wait + Sync>(
     rt: &R,
     alloc: Global,
     watches: Vec<Running<M>>,
-    scripts: &[Script],
+    scripts: &[CompactScript],
     cuts: &[Cut],
     gate: &G,
 ) -> Result<Vec<Prop<M>>, NoMemory>
@@ -97,7 +97,7 @@ fn run_as<
     rt: &R,
     alloc: Global,
     watches: Vec<Running<M>>,
-    scripts: &[Script],
+    scripts: &[CompactScript],
     cuts: &[Cut],
     gate: &G,
 ) -> Result<Vec<Prop<M>>, NoMemory>

@@ -12,7 +12,7 @@ use crate::notices::Notices;
 use crate::parcel::Naming;
 use jm_dispatch::{Seat, Watch};
 use jm_model::{Monitor, NoMemory, Outcome, Step};
-use jm_script::{Script, ScriptLine};
+use jm_script::{CompactScript, ScriptLine};
 use jm_sync::Cut;
 use std::alloc::Global;
 use std::sync::Wait;
@@ -25,7 +25,7 @@ pub(crate) fn work<M: Monitor, J: Naming<M::Definition>, G: Gate>(
     watches: &[Watch<M>],
     caller: u32,
     mut seats: Vec<Seat<M>>,
-    script: &Script,
+    script: &CompactScript,
     cut: &Cut,
     notices: &Notices<M, J>,
     gate: &G,
@@ -45,7 +45,7 @@ pub(crate) fn work<M: Monitor, J: Naming<M::Definition>, G: Gate>(
         watches,
         caller,
         &mut seats,
-        script.lines(),
+        script,
         cut,
         notices,
         gate,
@@ -66,7 +66,7 @@ fn do_script<M: Monitor, J: Naming<M::Definition>, G: Gate>(
     watches: &[Watch<M>],
     caller: u32,
     seats: &mut Vec<Seat<M>>,
-    lines: &[ScriptLine],
+    script: &CompactScript,
     cut: &Cut,
     notices: &Notices<M, J>,
     gate: &G,
@@ -74,42 +74,41 @@ fn do_script<M: Monitor, J: Naming<M::Definition>, G: Gate>(
 ) -> Result<(), NoMemory>
     requires few { length watches.now ≤ 16 }
     requires seats { HaveDone caller [] watches.now seats.old.items }
-    requires fits { All (λ line. FitsWatches M.meaning watches.now line) lines.now }
-    requires part { TakesPart J.scripts J.cuts J.watches caller lines.now cut.now.lines.items watches.now }
-    requires rising { RisesFrom 1 lines.now }
+    requires fits { All (λ line. FitsWatches M.meaning watches.now line) script.now }
+    requires part { TakesPart J.scripts J.cuts J.watches caller script.now cut.now.lines.items watches.now }
     requires names { All (λ l. l.name < notices.now) cut.now.lines.items }
-    requires none { passed.old ≡ 0 }
     ensures passed { passed.new ≤ vec_len cut.now.lines }
-    ensures done { OnOk result (HaveDone caller lines.now watches.now seats.new.items) }
+    ensures done { OnOk result (HaveDone caller script.now watches.now seats.new.items) }
     ensures know { OnOk result (KnowPosts J.scripts J.cuts cut.now.lines.items seats.new.items) }
 {
+    let all = script.len();
     let mut done = 0;
+    *passed = 0;
     for sync in &cut.lines {
-        let above = first_from(lines, done, sync.line);
-        do_lines(rt, alloc, watches, caller, seats, lines, done, above, gate)?;
+        let above = first_from(script, done, sync.line);
+        do_lines(rt, alloc, watches, caller, seats, script, done, above, gate)?;
         notices.pass(rt, alloc, watches, seats, *sync)?;
         done = above;
         *passed += 1;
     }
-    let all = lines.len();
-    do_lines(rt, alloc, watches, caller, seats, lines, done, all, gate)
+    do_lines(rt, alloc, watches, caller, seats, script, done, all, gate)
 }
 
 /// The first place, from `from` on, whose line doesn't stand above this one.
-fn first_from(lines: &[ScriptLine], from: usize, number: u32) -> usize
-    requires within { from ≤ length lines.now }
-    requires rising { RisesFrom 1 lines.now }
-    requires above { All (λ l. l.line < number) (take from lines.now) }
-    ensures within { (from ≤ result) × (result ≤ length lines.now) }
-    ensures above { All (λ l. l.line < number) (take result lines.now) }
-    ensures below { All (λ l. number ≤ l.line) (drop result lines.now) }
+fn first_from(script: &CompactScript, from: usize, number: u32) -> usize
+    requires within { from ≤ length script.now }
+    requires rising { RisesFrom 1 script.now }
+    requires above { All (λ l. l.line < number) (take from script.now) }
+    ensures within { (from ≤ result) × (result ≤ length script.now) }
+    ensures above { All (λ l. l.line < number) (take result script.now) }
+    ensures below { All (λ l. number ≤ l.line) (drop result script.now) }
 {
-    for place in from..lines.len() {
-        if number <= lines[place].line {
+    for place in from..script.len() {
+        if number <= script.number(place) {
             return place;
         }
     }
-    lines.len()
+    script.len()
 }
 
 /// Does the lines from a place up to another. The gate counts them from 1.
@@ -119,22 +118,22 @@ fn do_lines<M: Monitor, G: Gate>(
     watches: &[Watch<M>],
     caller: u32,
     seats: &mut Vec<Seat<M>>,
-    lines: &[ScriptLine],
+    script: &CompactScript,
     from: usize,
     to: usize,
     gate: &G,
 ) -> Result<(), NoMemory>
     requires few { length watches.now ≤ 16 }
-    requires places { (from ≤ to) × (to ≤ length lines.now) }
-    requires seats { HaveDone caller (take from lines.now) watches.now seats.old.items }
-    requires fits { All (λ line. FitsWatches M.meaning watches.now line) lines.now }
-    ensures done { OnOk result (HaveDone caller (take to lines.now) watches.now seats.new.items) }
+    requires places { (from ≤ to) × (to ≤ length script.now) }
+    requires seats { HaveDone caller (take from script.now) watches.now seats.old.items }
+    requires fits { All (λ line. FitsWatches M.meaning watches.now line) script.now }
+    ensures done { OnOk result (HaveDone caller (take to script.now) watches.now seats.new.items) }
     ensures keep { OnOk result (KeepOrder seats.old.items seats.new.items) }
 {
     for place in from..to {
         let n = number_of(place);
         gate.before(caller, n);
-        do_line(rt, alloc, watches, seats, &lines[place])?;
+        do_line(rt, alloc, watches, seats, &script.line(place))?;
         gate.after(caller, n);
     }
     Ok(())

@@ -12,7 +12,7 @@ use crate::parcel::{Naming, Parcel};
 use crate::worker::work;
 use jm_dispatch::{Seat, Watch, Watched};
 use jm_model::{Monitor, NoMemory};
-use jm_script::Script;
+use jm_script::CompactScript;
 use jm_sync::{Board, Cut, GaveUp};
 use jm_turn::Lock;
 use std::alloc::Global;
@@ -51,7 +51,7 @@ pub(crate) fn work_all<
     rt: &R,
     alloc: Global,
     watches: &[Watch<M>],
-    scripts: &[Script],
+    scripts: &[CompactScript],
     cuts: &[Cut],
     notices: &Notices<M, J>,
     hands: Vec<Vec<Seat<M>>>,
@@ -92,7 +92,7 @@ fn work_ordered<
     rt: &R,
     alloc: Global,
     watches: &[Watch<M>],
-    scripts: &[Script],
+    scripts: &[CompactScript],
     cuts: &[Cut],
     notices: &Notices<M, J>,
     hands: Vec<Vec<Seat<M>>>,
@@ -166,7 +166,7 @@ fn work_unordered<
     rt: &R,
     alloc: Global,
     watches: &[Watch<M>],
-    scripts: &[Script],
+    scripts: &[CompactScript],
     cuts: &[Cut],
     notices: &Notices<M, J>,
     hands: Vec<Vec<Seat<M>>>,
@@ -236,7 +236,7 @@ fn work_slot<M: Monitor, J: Naming<M::Definition>, G: Gate>(
     rt: &impl Wait,
     alloc: Global,
     watches: &[Watch<M>],
-    scripts: &[Script],
+    scripts: &[CompactScript],
     cuts: &[Cut],
     notices: &Notices<M, J>,
     slot: &mut Result<Vec<Seat<M>>, NoMemory>,
@@ -257,7 +257,7 @@ fn work_one<M: Monitor, J: Naming<M::Definition>, G: Gate>(
     rt: &impl Wait,
     alloc: Global,
     watches: &[Watch<M>],
-    scripts: &[Script],
+    scripts: &[CompactScript],
     cuts: &[Cut],
     notices: &Notices<M, J>,
     seats: Vec<Seat<M>>,

@@ -1,6 +1,6 @@
 -- Targets fit the specifications and the names that there are.
-use Rattle.std.proofs.Common.{◌≡◌, ℕ, suc, ◌<◌, ◌≤◌, Bool, true, false, cond, List, [], ◌∷◌, ◌++◌, map, filter, take, length, get_or, refl, sym, subst, arith}
-use Rattle.std.specs.Prelude.{All, ◌==◌, Result, Ok, Err, IfOk}
+use Rattle.std.proofs.Common.{◌≡◌, ℕ, suc, ◌<◌, ◌≤◌, Bool, true, false, cond, List, [], ◌∷◌, ◌++◌, map, filter, take, length, get_or, refl, sym, ap, ◌∙◌, subst, arith}
+use Rattle.std.specs.Prelude.{All, ◌==◌, count_ones, Result, Ok, Err, IfOk}
 use Rattle.std.proofs.lemmas.Bool.Decides.{nat_tests}
 use Rattle.std.proofs.lemmas.List.Elements.{All-nil, All-cons, All-head, All-tail, All-weaker}
 use Rattle.jm_model.specs.Bindings.{objects_of}
@@ -10,11 +10,14 @@ use Rattle.jm_semantics.specs.Scripts.{projection_of, is_for}
 use Rattle.jm_script.specs.Projections.{script_of, spec_of, step_of, line_of}
 use Rattle.jm_script.specs.Objects.{mentioned, number_at_mention, numbers_of}
 use Rattle.jm_script.specs.Catalogs.{CatalogEntry}
-use Rattle.jm_script.specs.Fitting.{FitsTarget, FitsCatalog, FitsSpecification}
+use Rattle.jm_script.specs.Events.{spread}
+use Rattle.jm_script.specs.Fitting.{HasEvent, FitsEvent, FitsTarget, FitsCatalog, FitsSpecification}
+use Rattle.jm_script.specs.declared.event.NamedEvent.{NamedEvent}
 use Rattle.jm_script.specs.declared.script.Target.{Target}
 use Rattle.jm_script.specs.declared.script.Target.TheVariants.{Event, Death, Pass}
 use Rattle.jm_script.specs.declared.script.ScriptLine.{ScriptLine}
 use Rattle.jm_script.proofs.NameLemmas.{number_at_mention-below}
+use Rattle.jm_script.proofs.SpreadLemmas.{length-spread, mask_of-spread, objects_of-spread}
 use Rattle.jm_script.proofs.ObjectLemmas.{IsExtension-none, IsExtension-mentioned, length-IsExtension}
 
 -- each number of a mention is one of a name
@@ -25,6 +28,10 @@ numbers_of-below names (word ∷ words) =
     let more = length-IsExtension then (mentioned then words) (IsExtension-mentioned then then words (IsExtension-none then)) in
     let first : number_at_mention names word < length (mentioned then words) = omega (arith, more, number_at_mention-below names word) in
     All-cons (λ n. n < length (mentioned then words)) (number_at_mention names word) (numbers_of then words) first (numbers_of-below then words)
+
+length-numbers_of : (names words : List (List ℕ)) → length (numbers_of names words) ≡ length words
+length-numbers_of names [] = refl
+length-numbers_of names (word ∷ words) = ap suc (length-numbers_of (with_name names word) words)
 
 head_is : (x : ℕ) (numbers : List ℕ) → take 1 numbers ≡ x ∷ [] → get_or numbers 0 0 ≡ x
 head_is x [] e = cc
@@ -44,6 +51,18 @@ first_below names (word ∷ other ∷ words) numbers n e one here = absurd (not_
   where
     not_one : (n k : ℕ) → n ≡ suc (suc k) → (n == 1) ≡ true → ⊥
     not_one n k e one = grind (arith, nat_tests)
+
+-- an event that gives the numbers of a mention to its parameters fits
+pub fits_event : (catalog : List CatalogEntry) (names new words : List (List ℕ)) (count : ℕ) (numbers : List ℕ) (event : NamedEvent) → HasEvent catalog event.spec event.letter.0 event.mask → count ≡ count_ones event.mask → count ≡ length words → take count numbers ≡ numbers_of names words → new ≡ mentioned names words → event.mask < 256
+    → FitsEvent catalog (length new) event.spec event.letter.0 (spread 8 event.mask (take (count_ones event.mask) numbers))
+fits_event catalog names new words count numbers event there counted many written mentions small =
+    let objects : take (count_ones event.mask) numbers ≡ numbers_of names words = ap (λ n. take n numbers) (sym counted) ∙ written in
+    let as_many : count_ones event.mask ≡ length (numbers_of names words) = sym counted ∙ many ∙ sym (length-numbers_of names words) in
+    rw objects (record {
+      event = rw (mask_of-spread 8 event.mask (numbers_of names words) small as_many) there;
+      eight = length-spread 8 event.mask (numbers_of names words);
+      named = rw (objects_of-spread 8 event.mask (numbers_of names words) small as_many, mentions) (numbers_of-below names words);
+    })
 
 -- with more names a target still fits
 pub FitsTarget-more : (catalog : List CatalogEntry) (m n : ℕ) → m ≤ n → (t : Target) → FitsTarget catalog m t → FitsTarget catalog n t

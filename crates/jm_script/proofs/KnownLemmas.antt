@@ -41,7 +41,7 @@ unfolding named_event
 every_line catalog line other spec event count e h = at_line line other count catalog event (number_of (spec_names catalog) spec) e h
 
 -- the event that was looked up
-pub looked_up : (catalog : List CatalogEntry) (line : ℕ) (word spec event : List ℕ) (words : List (List ℕ)) (count : ℕ) (e : NamedEvent) → spec ≡ before_first is_dot word → event ≡ after_first is_dot word → (is_name_text spec && is_name_text event && list_all is_object words) ≡ true → Ok e ≡ named_event catalog line spec event count → HasEvent catalog e.spec e.letter.0 e.mask → count ≤ 8 → count ≡ count_ones e.mask → IsEventOf catalog word count e
+pub looked_up : (catalog : List CatalogEntry) (line : ℕ) (word spec event : List ℕ) (words : List (List ℕ)) (count : ℕ) (e : NamedEvent) → spec ≡ before_first is_dot word → event ≡ after_first is_dot word → (is_name_text spec && is_name_text event && list_all is_object words) ≡ true → Ok e ≡ named_event catalog line spec event count → HasEvent catalog e.spec e.letter.0 e.mask → (count ≤ 8) × (e.mask < 256) → count ≡ count_ones e.mask → IsEventOf catalog word count e
 looked_up catalog line word spec event words count e h1 h2 shape named there few counted = record {
   shape = rw (← h1, ← h2) (both_left _ _ shape);
   named = λ other. rw (← h1, ← h2) (every_line catalog line other spec event count e (sym named));

@@ -9,3 +9,6 @@ pub mod ReadingLemmas
 pub mod SpellingLemmas
 pub mod FittingLemmas
 pub mod KnownLemmas
+pub mod SpreadLemmas
+pub mod BlockLemmas
+pub mod CompactLemmas

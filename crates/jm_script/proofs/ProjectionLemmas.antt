@@ -1,6 +1,7 @@
 -- One line more of a projection.
-use Rattle.std.proofs.Common.{ℕ, ◌≡◌, ◌<◌, ◌+◌, Bool, true, false, cond, List, [], ◌∷◌, ◌++◌, length, get_or, drop, Some, None, refl, sym, ap, ◌∙◌, append_assoc}
+use Rattle.std.proofs.Common.{ℕ, ◌≡◌, ◌<◌, ◌+◌, Bool, true, false, cond, List, [], ◌∷◌, ◌++◌, length, get_or, drop, Some, None, refl, sym, ap, ◌∙◌, append_assoc, slice_get, subst}
 use Rattle.std.proofs.lemmas.List.{drop_more}
+use Rattle.std.proofs.lemmas.Option.{get_or_from_slice_get, slice_get_within}
 use Rattle.jm_model.specs.declared.step.Step.{Step}
 use Rattle.jm_semantics.specs.Scripts.{projection_of, is_for}
 use Rattle.jm_script.specs.declared.script.ScriptLine.{ScriptLine}
@@ -26,3 +27,17 @@ module _ (lines : List ScriptLine) (i s : ℕ) (d : ScriptLine) (steps whole : L
       append_assoc steps (((get_or lines i d).line, step) ∷ []) (projection_of (script_of (drop (i + 1) lines)) s)
       ∙ ap (λ x. steps ++ ((get_or lines i d).line, x) ∷ projection_of (script_of (drop (i + 1) lines)) s) same
       ∙ (rw e at there)
+
+-- with the line at a place
+module _ (lines : List ScriptLine) (i s : ℕ) (l : ScriptLine) (steps whole : List (ℕ × Step)) (at : slice_get lines i ≡ Some l) (before : steps ++ projection_of (script_of (drop i lines)) s ≡ whole) where
+  same : get_or lines i l ≡ l
+  same = get_or_from_slice_get lines i l l at
+
+  pub skip_line : None ≡ cond (is_for s (spec_of l.target)) (Some (step_of l.target)) None → steps ++ projection_of (script_of (drop (i + 1) lines)) s ≡ whole
+  skip_line e = skip_more lines i s l steps whole (slice_get_within lines i l at) before (rw same (skipped (is_for s (spec_of l.target)) (step_of l.target) e))
+
+  pub step_line : (step : Step) → Some step ≡ cond (is_for s (spec_of l.target)) (Some (step_of l.target)) None → (steps ++ (l.line, step) ∷ []) ++ projection_of (script_of (drop (i + 1) lines)) s ≡ whole
+  step_line step e =
+      let is = taken (is_for s (spec_of l.target)) step (step_of l.target) e in
+      subst (λ (k : ScriptLine). (steps ++ (k.line, step) ∷ []) ++ projection_of (script_of (drop (i + 1) lines)) s ≡ whole) same
+      (step_more lines i s l steps whole (slice_get_within lines i l at) before step (rw same is.0) (rw same is.1))

@@ -1,5 +1,5 @@
 -- A script, line after line.
-use Rattle.std.proofs.Common.{◌≡◌, ℕ, ◌+◌, ◌≤◌, List, [], ◌∷◌, ◌++◌, length, Option, Some, None, Result, Ok, Err, refl, sym, ap, ◌∙◌, append_assoc, arith}
+use Rattle.std.proofs.Common.{◌≡◌, ℕ, ◌+◌, ◌≤◌, List, [], ◌∷◌, ◌++◌, length, Option, Some, None, Result, Ok, Err, refl, sym, ap, ◌∙◌, append_assoc, subst, arith}
 use Rattle.std.proofs.lemmas.List.{length_push}
 use Rattle.jm_model.specs.declared.fault.ScriptFault.{ScriptFault}
 use Rattle.jm_lines.specs.Lines.{lines_of}
@@ -113,3 +113,12 @@ lines_rise catalog count line names (bytes ∷ lines) =
 pub script_rises : (catalog : List CatalogEntry) (count : ℕ) (bytes : List ℕ) (names : List (List ℕ)) → RisesFrom 1 (script_meaning catalog count bytes names).lines
 unfolding script_meaning
 script_rises catalog count bytes names = lines_rise catalog count 1 names (lines_of bytes)
+
+-- and so do those that were read
+rises_front : (n : ℕ) (xs ys : List ScriptLine) → RisesFrom n (xs ++ ys) → RisesFrom n xs
+rises_front n [] ys h = tt
+rises_front n (x ∷ xs) ys h = (h.0, rises_front (x.line + 1) xs ys h.1)
+
+pub read_rises : (catalog : List CatalogEntry) (bytes : List ℕ) (count : ℕ) (old : List (List ℕ)) (steps : List ScriptLine) (names : List (List ℕ)) (n : ℕ) (lines : List (List ℕ)) → HasRead catalog (script_meaning catalog count bytes old) count old steps names n lines → RisesFrom 1 steps
+read_rises catalog bytes count old steps names n lines before =
+    rises_front 1 steps (lines_meaning catalog (count + length steps) (n + 1) names lines).lines (subst (λ m. RisesFrom 1 m.lines) (sym before.left) (script_rises catalog count bytes old))

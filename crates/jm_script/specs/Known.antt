@@ -20,7 +20,7 @@ pub record IsEventOf (catalog : List CatalogEntry) (word : Text) (count : ℕ) (
   pub named : (line : ℕ) → named_event catalog line (before_first is_dot word) (after_first is_dot word) count
       ≡ Ok event
   pub there : HasEvent catalog event.spec event.letter.0 event.mask
-  pub few : count ≤ 8
+  pub few : (count ≤ 8) × (event.mask < 256)
   pub counted : count ≡ count_ones event.mask
 
 -- a known word names its event

@@ -8,3 +8,4 @@ pub mod Projections
 pub mod Spelling
 pub mod Fitting
 pub mod Known
+pub mod Blocks

@@ -1,7 +1,5 @@
 -- The projection of a script on a specification.
 use Rattle.std.specs.Prelude.{ℕ, List, map, Option, Some, None}
-use Rattle.std.specs.Global.{Vec}
-use Rattle.std.specs.List.{flat_map}
 use Rattle.jm_model.specs.declared.step.Step.{Step}
 use Rattle.jm_model.specs.declared.step.Step.TheVariants as step
 use Rattle.jm_semantics.specs.Scripts as semantics
@@ -28,7 +26,3 @@ line_of l = record { line = l.line; spec = spec_of l.target; step = step_of l.ta
 -- the lines as the semantics sees them
 abbrev pub script_of : List ScriptLine → List semantics.ScriptLine
 script_of lines = map line_of lines
-
--- the steps in blocks, one behind the other
-abbrev pub steps_in : List (Vec (ℕ × Step)) → List (ℕ × Step)
-steps_in blocks = flat_map (λ block. block.items) blocks

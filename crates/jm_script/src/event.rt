@@ -1,5 +1,5 @@
 //! The event that a line names.
-ghost use Rattle.std.specs.Prelude.{◌≡◌, ◌<◌, ◌≤◌, length, count_ones, IfOk, OnOk, IsUtf8};
+ghost use Rattle.std.specs.Prelude.{◌≡◌, ◌<◌, ◌≤◌, length, count_ones, IfOk, IsUtf8};
 ghost use Rattle.jm_script.specs.Events.{named_event};
 ghost use Rattle.jm_script.specs.Fitting.{HasEvent};
 
@@ -27,7 +27,7 @@ pub fn named_event(
     requires event_text { IsUtf8 event.now }
     ensures value { result ≡ named_event catalog.now line spec.now event.now count }
     ensures there { IfOk result (λ e. HasEvent catalog.now e.spec e.letter.0 e.mask) }
-    ensures few { OnOk result (count ≤ 8) }
+    ensures few { IfOk result (λ e. (count ≤ 8) × (e.mask < 256)) }
     ensures counted { IfOk result (λ e. count ≡ count_ones e.mask) }
 {
     let Some(spec) = catalog.find(text(spec)) else {

@@ -1,10 +1,14 @@
 //! Scripts: the steps that a caller of the runtime makes, one a line.
 //!
 //! `read_script` reads a script over a `Catalog` of specifications, and numbers its objects; `project` gives the steps
-//! that are for one specification.
+//! that are for one specification. `read_compact` reads it with lines that take less memory, as commands do: a
+//! `CompactScript` gives its lines by their places, and its steps at once or block by block.
 #![tactic(auto)]
 
+mod action;
+mod block;
 mod catalog;
+mod compact;
 mod event;
 mod known;
 mod laws;
@@ -14,7 +18,9 @@ mod reader;
 mod script;
 mod statement;
 
+pub use block::Block;
 pub use catalog::Catalog;
+pub use compact::CompactScript;
 pub use laws::one_reading;
-pub use reader::read_script;
-pub use script::{Script, ScriptLine, Target, project, project_in_blocks};
+pub use reader::{read_compact, read_script};
+pub use script::{Script, ScriptLine, Target, project};

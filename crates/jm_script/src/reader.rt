@@ -3,19 +3,18 @@ ghost use Rattle.std.specs.Prelude.{◌≡◌, ◌<◌, ◌≤◌, ◌^◌, ◌-
 ghost use Rattle.jm_script.specs.Meanings.{RisesFrom, script_meaning};
 ghost use Rattle.jm_script.specs.Answers.{IsWhole, IsLeft, count_left};
 ghost use Rattle.jm_script.specs.Fitting.{FitsCatalog};
+ghost use Rattle.jm_script.specs.Objects.{IsExtension};
 
 use crate::catalog::Catalog;
+use crate::compact::CompactScript;
 use crate::known::KnownWords;
 use crate::line::read_line;
-use crate::script::{Script, ScriptLine};
-use crate::statement::{MOST_STEPS, Position};
+use crate::script::Script;
+use crate::statement::Position;
 use jm_events::Names;
 use jm_lines::{behind_line, first_words};
 use jm_model::ScriptError;
 use std::alloc::Global;
-
-/// About how many bytes the shortest lines of steps have. Room that no step takes is never touched.
-const SHORTEST_STEP: usize = 8;
 
 /// Reads a script: adds the names of its new objects, and its number of steps to the count of all scripts.
 ///
@@ -41,38 +40,70 @@ pub fn read_script(
     ensures err { IfErr result (λ error. IsLeft (script_meaning catalog.now count.old bytes.now objects.old)
         count.old objects.old error objects.new count.new) }
 {
-    let room = (bytes.len() / SHORTEST_STEP).min(MOST_STEPS as usize);
-    let mut lines = Vec::with_capacity(alloc, room)?;
+    let before = *count;
+    let compact = read_compact(alloc, bytes, catalog, objects, count)?;
+    let script = Script::whole(alloc, &compact);
+    if script.is_err() {
+        *count = before;
+    }
+    Ok(script?)
+}
+
+/// Reads a script as `read_script` does, with lines that take less memory.
+pub fn read_compact(
+    alloc: Global,
+    bytes: &[u8],
+    catalog: &Catalog,
+    objects: &mut Names,
+    count: &mut u32,
+) -> Result<CompactScript, ScriptError>
+    requires small { length bytes.now < 2 ^ 32 - 1 }
+    requires few { (count.old ≤ 200000) × (length objects.old ≤ 65536) }
+    ensures ok { IfOk result (λ script. IsWhole
+        (script_meaning catalog.now count.old bytes.now objects.old) count.old script objects.new count.new) }
+    ensures fitting { IfOk result (λ script. FitsCatalog catalog.now (length objects.new) script) }
+    ensures bounded { OnOk result ((count.new ≤ 200000) × (length objects.new ≤ 65536)) }
+    ensures extended { OnOk result (IsExtension objects.old objects.new) }
+    ensures rising { IfOk result (λ script. RisesFrom 1 script) }
+    ensures err { IfErr result (λ error. IsLeft (script_meaning catalog.now count.old bytes.now objects.old)
+        count.old objects.old error objects.new count.new) }
+{
+    let mut script = CompactScript::new(alloc)?;
     let mut words = Vec::new(alloc);
     let mut known = KnownWords::new();
-    let mut number = 0;
+    let mut numbers = [0; 8];
+    let mut line = 0;
     let mut rest = Some(bytes);
     while let Some(text) = rest {
-        number += 1;
+        line += 1;
         let position = Position {
-            line: number,
-            count: *count + lines.len() as u32,
+            line,
+            count: *count + script.len() as u32,
         };
         let end = first_words(text, &mut words)?;
         rest = behind_line(text, end);
-        let target = match read_line(alloc, catalog, position, &words, objects, &mut known) {
-            Ok(target) => target,
+        let action = match read_line(
+            alloc,
+            catalog,
+            position,
+            &words,
+            objects,
+            &mut known,
+            &mut numbers,
+        ) {
+            Ok(action) => action,
             Err(error) => {
                 *count = count_left(error, position.count, *count);
                 return Err(error);
             }
         };
-        let Some(target) = target else {
+        let Some(action) = action else {
             continue;
         };
-        let line = ScriptLine {
-            line: number,
-            target,
-        };
-        lines.push(line)?;
+        script.push(alloc, line, action, &numbers)?;
     }
-    *count += lines.len() as u32;
-    Ok(Script::of(lines))
+    *count += script.len() as u32;
+    Ok(script)
 }
 
 /// How many steps count after an error: a fault leaves those of the lines before it.

@@ -1,17 +1,15 @@
 //! A script that was read, and its projections.
 ghost use Rattle.std.specs.Prelude.{◌≡◌, ℕ, List, All, IfOk, Some, None, if◌then◌else◌};
 ghost use Rattle.jm_semantics.specs.Scripts.{projection_of, is_for};
-ghost use Rattle.jm_script.specs.Projections.{script_of, spec_of, step_of, steps_in};
+ghost use Rattle.jm_script.specs.Projections.{script_of, spec_of, step_of};
 ghost use Rattle.jm_script.specs.Catalogs.{CatalogEntry};
 ghost use Rattle.jm_script.specs.Fitting.{FitsCatalog, FitsSpecification};
 ghost use Rattle.jm_script.specs.Meanings.{RisesFrom};
 
+use crate::compact::CompactScript;
 use jm_model::{Binding, Letter, NoMemory, Step};
 use std::alloc::Global;
 use std::marker::Model;
-
-/// How many steps a block has at most.
-const BLOCK: usize = 512;
 
 /// What a line does: an event of a specification or a disposal pass on one, or the death of an object, which is for all
 /// specifications.
@@ -81,6 +79,18 @@ impl Script {
         Script { lines }
     }
 
+    /// The lines of a script, each as a value of its own.
+    pub(crate) fn whole(alloc: Global, compact: &CompactScript) -> Result<Script, NoMemory>
+        ensures { IfOk result (λ script. script ≡ compact.now) }
+    {
+        let mut lines = Vec::with_capacity(alloc, compact.len())?;
+        for place in 0..compact.len() {
+            let ScriptLine { line, target } = compact.line(place);
+            lines.push(ScriptLine { line, target })?;
+        }
+        Ok(Script::of(lines))
+    }
+
     /// The step lines. Their numbers rise.
     pub fn lines(&self) -> &[ScriptLine]
         ensures value { result.now ≡ self.now }
@@ -98,28 +108,6 @@ pub fn project(alloc: Global, script: &Script, spec: u8) -> Result<Vec<(u32, Ste
         → IfOk result (λ steps. All (λ s. FitsSpecification catalog names spec s.1) steps.items) }
 {
     project_lines(alloc, script.lines(), spec)
-}
-
-/// The steps of a script that are for a specification, as `project` gives them, in blocks of not many steps, which can
-/// be let go one by one.
-pub fn project_in_blocks(
-    alloc: Global,
-    script: &Script,
-    spec: u8,
-) -> Result<Vec<Vec<(u32, Step)>>, NoMemory>
-    ensures value { IfOk result (λ blocks. steps_in blocks.items ≡ projection_of (script_of script.now) spec) }
-    ensures fitting { (catalog : List CatalogEntry) (names : ℕ) → FitsCatalog catalog names script.now
-        → IfOk result (λ blocks. All (λ s. FitsSpecification catalog names spec s.1) (steps_in blocks.items)) }
-{
-    let mut blocks = Vec::new(alloc);
-    let mut rest = script.lines();
-    while !rest.is_empty() {
-        let (front, behind) = rest.split_at(rest.len().min(BLOCK));
-        let block = project_lines(alloc, front, spec)?;
-        blocks.push(block)?;
-        rest = behind;
-    }
-    Ok(blocks)
 }
 
 /// The steps of these lines that are for a specification.

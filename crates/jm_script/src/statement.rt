@@ -10,16 +10,17 @@ ghost use Rattle.jm_script.specs.Objects.{mentioned, numbers_of};
 ghost use Rattle.jm_script.specs.Meanings.{mentioning, statement_meaning};
 ghost use Rattle.jm_script.specs.Answers.{IsStoppedBy, IsReadAs};
 ghost use Rattle.jm_script.specs.Fitting.{FitsTarget};
+ghost use Rattle.jm_script.specs.Blocks.{target_of, targets_of};
 ghost use Rattle.jm_script.specs.Known.{AreSound, FindsEvent};
 
+use crate::action::Action;
 use crate::catalog::Catalog;
 use crate::event::{NamedEvent, named_event};
 use crate::known::{Known, KnownWords};
 use crate::objects::{are_few, are_objects, have_room, known_numbers, mention};
-use crate::script::Target;
 use jm_events::Names;
 use jm_lines::{position_of, text};
-use jm_model::{Binding, ScriptError, ScriptFault};
+use jm_model::{ScriptError, ScriptFault};
 use jm_text::is_name_text;
 use std::alloc::Global;
 
@@ -54,7 +55,8 @@ impl Position {
     }
 }
 
-/// A line `SPEC.EVENT OBJECT..`, by its first word and its objects. The word is known then.
+/// A line `SPEC.EVENT OBJECT..`, by its first word and its objects. The word is known then, and the numbers of the
+/// objects are written.
 pub fn event_line<'a>(
     alloc: Global,
     catalog: &Catalog,
@@ -63,23 +65,20 @@ pub fn event_line<'a>(
     objects: &[&[u8]],
     names: &mut Names,
     known: &mut KnownWords<'a>,
-) -> Result<Option<Target>, ScriptError>
+    numbers: &mut [u32; 8],
+) -> Result<Option<Action>, ScriptError>
     requires few { length names.old ≤ 65536 }
     requires known { AreSound catalog.now known.old.slots }
     ensures known { AreSound catalog.now known.new.slots }
-    ensures fits { IfOk result (λ target. IfSome target (FitsTarget catalog.now (length names.new))) }
+    ensures fits { IfOk result (λ action. IfSome action
+        (λ a. FitsTarget catalog.now (length names.new) (target_of numbers.new a))) }
     ensures read { IsReadAs (statement_meaning catalog.now position.count position.line names.old
-        (event_statement word.now (map (λ w. w.now) objects.now))) names.old result names.new }
+        (event_statement word.now (map (λ w. w.now) objects.now))) names.old
+        (targets_of numbers.new result) names.new }
 {
     let event = event_of(catalog, position, word, objects, known)?;
-    let mut numbers = [0; 8];
-    number_all(alloc, position, objects, names, &mut numbers)?;
-    let binding = Binding::of(event.mask, &numbers[..objects.len()]);
-    Ok(Some(Target::Event {
-        spec: event.spec,
-        letter: event.letter,
-        binding,
-    }))
+    number_all(alloc, position, objects, names, numbers)?;
+    Ok(Some(Action::Event { event }))
 }
 
 /// The event of a line, if it has one more step; it is looked up where the word isn't known.
@@ -186,19 +185,20 @@ fn number_all(
     Ok(())
 }
 
-/// A line `death OBJECT`, by the words behind the first.
+/// A line `death OBJECT`, by the words behind the first. The number of the object may be written.
 pub fn death_line(
     alloc: Global,
     position: Position,
     words: &[&[u8]],
     names: &mut Names,
-) -> Result<Option<Target>, ScriptError>
+    numbers: &mut [u32; 8],
+) -> Result<Option<Action>, ScriptError>
     requires { length names.old ≤ 65536 }
-    ensures fits { (catalog : List CatalogEntry)
-        → IfOk result (λ target. IfSome target (FitsTarget catalog (length names.new))) }
+    ensures fits { (catalog : List CatalogEntry) → IfOk result (λ action. IfSome action
+        (λ a. FitsTarget catalog (length names.new) (target_of numbers.new a))) }
     ensures read { (catalog : List CatalogEntry)
         → IsReadAs (statement_meaning catalog position.count position.line names.old
-        (death_statement (map (λ w. w.now) words.now))) names.old result names.new }
+        (death_statement (map (λ w. w.now) words.now))) names.old (targets_of numbers.new result) names.new }
 {
     if !is_one_object(words) {
         return Err(position.bad_line());
@@ -206,9 +206,8 @@ pub fn death_line(
     if position.is_full() {
         return Err(position.too_many_lines());
     }
-    let mut numbers = [0; 8];
-    number_all(alloc, position, words, names, &mut numbers)?;
-    Ok(Some(Target::Death { object: numbers[0] }))
+    number_all(alloc, position, words, names, numbers)?;
+    Ok(Some(Action::Death { object: numbers[0] }))
 }
 
 fn is_one_object(words: &[&[u8]]) -> bool
@@ -222,11 +221,12 @@ pub fn pass_line(
     catalog: &Catalog,
     position: Position,
     words: &[&[u8]],
-) -> Result<Option<Target>, ScriptError>
-    ensures fits { (names : ℕ) → IfOk result (λ target. IfSome target (FitsTarget catalog.now names)) }
-    ensures read { (names : List (List ℕ))
+) -> Result<Option<Action>, ScriptError>
+    ensures fits { (names : ℕ) (numbers : List ℕ) → IfOk result (λ action. IfSome action
+        (λ a. FitsTarget catalog.now names (target_of numbers a))) }
+    ensures read { (names : List (List ℕ)) (numbers : List ℕ)
         → IsReadAs (statement_meaning catalog.now position.count position.line names
-        (pass_statement (map (λ w. w.now) words.now))) names result names }
+        (pass_statement (map (λ w. w.now) words.now))) names (targets_of numbers result) names }
 {
     let [spec] = words else {
         return Err(position.bad_line());
@@ -238,7 +238,7 @@ pub fn pass_line(
         return Err(position.too_many_lines());
     }
     match catalog.find(text(spec)) {
-        Some(spec) => Ok(Some(Target::Pass { spec })),
+        Some(spec) => Ok(Some(Action::Pass { spec })),
         None => {
             let line = position.line;
             Err(ScriptError::Bad(ScriptFault::UnknownSpec { line }))

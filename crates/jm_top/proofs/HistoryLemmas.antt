@@ -1,7 +1,6 @@
 -- The histories of scripts' steps, and their texts.
 use Rattle.std.proofs.Common.{◌≡◌, ◌≢◌, ℕ, zero, suc, ◌^◌, ◌<◌, ◌≤◌, true, List, [], ◌∷◌, ◌++◌, length, get_or, pow-suc, append-nil, append_assoc, refl, sym, ◌∙◌, ap, subst, arith}
 use Rattle.std.specs.Prelude.{All, Contains, Option, Some, None, ◌==◌, map, filter, slice_get, unwrap_or, option_map, Result, Ok, Err, IfOk}
-use Rattle.std.specs.Global.{Vec}
 use Rattle.std.specs.Option.{option_map_or}
 use Rattle.std.specs.List.{AllByRecursion}
 use Rattle.std.proofs.lemmas.Option.{slice_get-map, none-some}
@@ -28,7 +27,8 @@ use Rattle.jm_print.specs.Texts.{IsPrintable, history_text}
 use Rattle.jm_script.specs.Catalogs.{CatalogEntry, table_of}
 use Rattle.jm_script.specs.Events.{mask_at}
 use Rattle.jm_script.specs.Fitting.{FitsCatalog, FitsSpecification}
-use Rattle.jm_script.specs.Projections.{script_of, steps_in}
+use Rattle.jm_script.specs.Projections.{script_of}
+use Rattle.jm_script.specs.Blocks.{steps_in}
 use Rattle.jm_script.specs.declared.script.ScriptLine.{ScriptLine}
 use Rattle.jm_machine.specs.Meanings.{RuleDefinition, handler_count, rules_meaning}
 use Rattle.jm_machine.specs.HandlerNames.{names_of}
@@ -195,14 +195,14 @@ replayed_more caller first more before between after p q = record {
 }
 
 -- what holds of all steps holds of those of a block
-pub steps_of_block : (P : ℕ × Step → Type 0) (blocks : List (Vec (ℕ × Step))) (k : ℕ) (block : Vec (ℕ × Step)) → slice_get blocks k ≡ Some block → All P (steps_in blocks) → All P block.items
+pub steps_of_block : (P : ℕ × Step → Type 0) (blocks : List (List ScriptLine)) (k : ℕ) (block : List ScriptLine) → slice_get blocks k ≡ Some block → All P (steps_in 0 blocks) → All P (projection_of (script_of block) 0)
 steps_of_block P [] k block at all = absurd (none-some block at)
-steps_of_block P (b ∷ blocks) zero block at all = subst (λ (v : Vec (ℕ × Step)). All P v.items) (same_some at) (front b.items (steps_in blocks) all)
+steps_of_block P (b ∷ blocks) zero block at all = subst (λ (v : List ScriptLine). All P (projection_of (script_of v) 0)) (same_some at) (front (projection_of (script_of b) 0) (steps_in 0 blocks) all)
   where
     front : (xs ys : List (ℕ × Step)) → All P (xs ++ ys) → All P xs
     front [] ys all = All-nil P
     front (x ∷ xs) ys all = All-cons P x xs (All-head P x (xs ++ ys) all) (front xs ys (All-tail P x (xs ++ ys) all))
-steps_of_block P (b ∷ blocks) (suc k) block at all = steps_of_block P blocks k block at (behind b.items (steps_in blocks) all)
+steps_of_block P (b ∷ blocks) (suc k) block at all = steps_of_block P blocks k block at (behind (projection_of (script_of b) 0) (steps_in 0 blocks) all)
   where
     behind : (xs ys : List (ℕ × Step)) → All P (xs ++ ys) → All P ys
     behind [] ys all = all
@@ -213,8 +213,8 @@ map_same [] = refl
 map_same (x ∷ xs) = ap (λ l. x ∷ l) (map_same xs)
 
 -- the steps with a block more
-pub steps_in-more : (blocks : List (Vec (ℕ × Step))) (block : Vec (ℕ × Step)) → steps_in (blocks ++ block ∷ []) ≡ steps_in blocks ++ block.items
-steps_in-more blocks block = flat_map-append (λ (b : Vec (ℕ × Step)). b.items) blocks (block ∷ []) ∙ ap (λ ys. steps_in blocks ++ ys) (append-nil block.items)
+pub steps_in-more : (blocks : List (List ScriptLine)) (block : List ScriptLine) → steps_in 0 (blocks ++ block ∷ []) ≡ steps_in 0 blocks ++ projection_of (script_of block) 0
+steps_in-more blocks block = flat_map-append (λ (b : List ScriptLine). projection_of (script_of b) 0) blocks (block ∷ []) ∙ ap (λ ys. steps_in 0 blocks ++ ys) (append-nil (projection_of (script_of block) 0))
 
 -- what a core without history has after a replay of the steps
 pub replay_of : {D : Type 0} (mean : D → Meaning) (rules : D) (own : List (ℕ × Step)) (before after : Core D) (h : List Entry) → before.definition ≡ rules → before.entries ≡ [] → Replayed 0 own before after
@@ -292,9 +292,9 @@ module _ (library : Library) (catalogued : IsCatalogued library) (rest : List Lo
   pub alone_there : table_of (catalog_of (specs_in library)) 0 ≡ table
   alone_there = ap (λ v. table_of (catalog_of v) 0) alone_is
 
-module _ (library : Library) (catalogued : IsCatalogued library) (scripts : Scripts) (counted : AreCounted (specs_in library) scripts) (one_script : length scripts.list.items ≡ 1) (script : List ScriptLine) (here : script ≡ get_or scripts.list.items 0 script) where
+module _ (library : Library) (catalogued : IsCatalogued library) (scripts : Scripts) (counted : AreCounted (specs_in library) scripts) (one_script : length scripts.list.items ≡ 1) (others : List (List ScriptLine)) (script : List ScriptLine) (taken : scripts.list.items ≡ others ++ script ∷ []) where
   pub script_alone : scripts.list.items ≡ script ∷ []
-  script_alone = first_of scripts.list.items script one_script here
+  script_alone = single_of scripts.list.items others script taken one_script
 
   pub script_fits : FitsCatalog (catalog_of (specs_in library)) (length scripts.objects) script
   script_fits = All-head (FitsCatalog (catalog_of (specs_in library)) (length scripts.objects)) script [] (subst (All (FitsCatalog (catalog_of (specs_in library)) (length scripts.objects))) script_alone counted.fit)

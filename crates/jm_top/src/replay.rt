@@ -3,7 +3,7 @@ ghost use Rattle.std.specs.Prelude.{◌≡◌, List, All, IfOk, length};
 ghost use Rattle.jm_machine.specs.Meanings.{rules_meaning};
 ghost use Rattle.jm_model.specs.declared.step.Entry.{Entry};
 ghost use Rattle.jm_core.specs.Steps.{IsFitStep};
-ghost use Rattle.jm_script.specs.Projections.{steps_in};
+ghost use Rattle.jm_script.specs.Blocks.{steps_in};
 ghost use Rattle.jm_print.specs.Texts.{IsPrintable};
 ghost use Rattle.jm_inputs.specs.Reading.{named_entry, titled, specs_in, IsCatalogued, AreCounted};
 ghost use Rattle.jm_sync.specs.Checks.{AreSound, sync_of};
@@ -14,14 +14,14 @@ use jm_core::Prop;
 use jm_events::{EventTable, Names};
 use jm_history::History;
 use jm_inputs::{Library, Loaded, Scripts};
-use jm_model::{Monitor, NoMemory, Step};
+use jm_model::{Monitor, NoMemory};
 use jm_print::render_history;
-use jm_script::project_in_blocks;
+use jm_script::Block;
 use std::alloc::Global;
 
-/// The printed history of the one script, replayed over the one specification. The script is let go before the replay,
-/// and its steps as they are done, and of the core nothing but the rules and the history is left for the printing. A
-/// script that can be done in the order that it asks for has each wait below its post, so it is done line by line.
+/// The printed history of the one script, replayed over the one specification. The lines of the script are let go as they
+/// are done, and of the core nothing but the rules and the history is left for the printing. A script that can be done in
+/// the order that it asks for has each wait below its post, so it is done line by line.
 pub(crate) fn replay(alloc: Global, library: Library, scripts: Scripts) -> Result<Vec<u8>, NoMemory>
     requires one_spec { length library.specs.items ≡ 1 }
     requires one_script { length scripts.list.items ≡ 1 }
@@ -31,43 +31,49 @@ pub(crate) fn replay(alloc: Global, library: Library, scripts: Scripts) -> Resul
     ensures { IfOk result (λ text. IsTextOfOrdered (specs_in library) scripts.list.items (sync_of scripts.cuts.items)
         scripts.objects text.items) }
 {
-    let Scripts { list, objects, .. } = scripts;
-    let own = project_in_blocks(alloc, &list[0], 0)?;
-    drop(list);
+    let Scripts {
+        mut list,
+        objects,
+        ..
+    } = scripts;
+    let Some(script) = list.pop() else {
+        unreachable!()
+    };
+    let blocks = script.into_blocks()?;
     let Library { mut specs, catalog } = library;
     let Some(loaded) = specs.pop() else {
         unreachable!()
     };
-    replay_own(
+    replay_blocks(
         alloc,
         catalog.name(0),
         catalog.table(0),
         loaded,
-        own,
+        blocks,
         &objects,
     )
 }
 
-/// The printed history of these steps of a specification.
-fn replay_own(
+/// The printed history of the lines of these blocks that are for a specification.
+fn replay_blocks(
     alloc: Global,
     name: &str,
     table: &EventTable,
     loaded: Loaded,
-    own: Vec<Vec<(u32, Step)>>,
+    blocks: Vec<Block>,
     objects: &Names,
 ) -> Result<Vec<u8>, NoMemory>
     requires steps { All (λ step. IsFitStep (rules_meaning loaded.rules.definition) (length objects.now) step.1)
-        (steps_in own.items) }
-    requires printable { (h : List Entry) → IsReplayOf (rules_meaning loaded.rules.definition) (steps_in own.items) h
+        (steps_in 0 blocks.items) }
+    requires printable { (h : List Entry) → IsReplayOf (rules_meaning loaded.rules.definition) (steps_in 0 blocks.items) h
         → All (IsPrintable (lexicon objects.now
         (titled (named_entry name.now table.now) loaded.titles loaded.rules.definition))) h }
-    ensures { IfOk result (λ text. IsPrintedReplay (rules_meaning loaded.rules.definition) (steps_in own.items)
+    ensures { IfOk result (λ text. IsPrintedReplay (rules_meaning loaded.rules.definition) (steps_in 0 blocks.items)
         (lexicon objects.now
         (titled (named_entry name.now table.now) loaded.titles loaded.rules.definition)) text.items) }
 {
     let Loaded { titles, rules } = loaded;
-    let (rules, history) = history_of(alloc, rules, own, objects.len())?;
+    let (rules, history) = history_of(alloc, rules, blocks, objects.len())?;
     render_history(
         alloc,
         name,
@@ -79,37 +85,39 @@ fn replay_own(
     )
 }
 
-/// These rules, and the history of these steps of one caller by them.
+/// These rules, and the history of the steps in these blocks by them, which one caller does.
 fn history_of<M: Monitor>(
     alloc: Global,
     rules: M,
-    blocks: Vec<Vec<(u32, Step)>>,
+    blocks: Vec<Block>,
     objects: u32,
 ) -> Result<(M, History), NoMemory>
-    requires { All (λ step. IsFitStep (M.meaning (M.definition rules)) objects step.1) (steps_in blocks.items) }
+    requires { All (λ step. IsFitStep (M.meaning (M.definition rules)) objects step.1) (steps_in 0 blocks.items) }
     ensures rules { IfOk result (λ parts. M.definition parts.0 ≡ M.definition rules) }
     ensures replayed { IfOk result (λ parts.
-        IsReplayOf (M.meaning (M.definition rules)) (steps_in blocks.items) parts.1) }
+        IsReplayOf (M.meaning (M.definition rules)) (steps_in 0 blocks.items) parts.1) }
 {
     let prop = replayed(alloc, rules, blocks, objects)?;
     Ok(prop.into_parts())
 }
 
-/// The core after these steps of one caller. Each block of them is let go once it is done.
+/// The core after the steps in these blocks, which one caller does. Each block is let go once it is done.
 fn replayed<M: Monitor>(
     alloc: Global,
     rules: M,
-    blocks: Vec<Vec<(u32, Step)>>,
+    blocks: Vec<Block>,
     objects: u32,
 ) -> Result<Prop<M>, NoMemory>
-    requires { All (λ step. IsFitStep (M.meaning (M.definition rules)) objects step.1) (steps_in blocks.items) }
+    requires { All (λ step. IsFitStep (M.meaning (M.definition rules)) objects step.1) (steps_in 0 blocks.items) }
     ensures definition { IfOk result (λ prop. prop.definition ≡ M.definition rules) }
     ensures replayed { IfOk result (λ prop.
-        IsReplayOf (M.meaning (M.definition rules)) (steps_in blocks.items) prop.entries) }
+        IsReplayOf (M.meaning (M.definition rules)) (steps_in 0 blocks.items) prop.entries) }
 {
     let mut prop = Prop::new(alloc, rules, objects)?;
     for block in blocks {
-        prop.replay(0, block.as_slice())?;
+        let mut steps = Vec::with_capacity(alloc, block.len())?;
+        block.add_steps(0, &mut steps)?;
+        prop.replay(0, steps.as_slice())?;
     }
     Ok(prop)
 }

@@ -21,7 +21,7 @@ use jm_history::History;
 use jm_inputs::{Library, Loaded, Status};
 use jm_model::{Monitor, NoMemory, ScriptError};
 use jm_print::render_history;
-use jm_script::{Script, project, read_script};
+use jm_script::{CompactScript, read_compact};
 use jm_sweep::{Part, parts, replay_part};
 use rayon::prelude::*;
 use std::alloc::{AllocError, Global};
@@ -220,7 +220,7 @@ fn piece_of(alloc: Global, library: &Library, part: &[u8], count: u32) -> Result
 {
     let mut objects = Names::new(alloc);
     let mut then = count;
-    let script = read_script(alloc, part, &library.catalog, &mut objects, &mut then)?;
+    let script = read_compact(alloc, part, &library.catalog, &mut objects, &mut then)?;
     let text = replay_script(alloc, library, script, &objects)?;
     Ok(Piece {
         steps: then - count,
@@ -232,14 +232,14 @@ fn piece_of(alloc: Global, library: &Library, part: &[u8], count: u32) -> Result
 fn replay_script(
     alloc: Global,
     library: &Library,
-    script: Script,
+    script: CompactScript,
     objects: &Names,
 ) -> Result<Vec<u8>, NoMemory>
     requires library { IsOfOne library.now }
     requires fits { FitsCatalog (catalog_of (specs_in library.now)) (length objects.now) script }
     ensures { IfOk result (λ text. IsTextOfHistories (specs_in library.now) (script ∷ []) objects.now text.items) }
 {
-    let steps = project(alloc, &script, 0)?;
+    let steps = script.steps(alloc, 0)?;
     drop(script);
     let part = Part {
         objects: objects.len(),

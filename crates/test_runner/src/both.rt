@@ -10,7 +10,7 @@ use jm_dispatch::Watch;
 use jm_events::Names;
 use jm_model::{NoMemory, Step};
 use jm_runner::{FreeGate, Running, run_scripts};
-use jm_script::{Catalog, Script, project, read_script};
+use jm_script::{Catalog, CompactScript, read_compact};
 use std::alloc::Global;
 use std::sync::atomic::{AtomicU64, Ordering};
 use std::sync::{Arc, Wait};
@@ -53,7 +53,11 @@ pub(crate) fn shown(
 }
 
 /// The scripts of two texts, over specifications `A` and `B` with an event `go` of one object.
-pub(crate) fn scripts(alloc: Global, first: &str, second: &str) -> Option<(Script, Script)>
+pub(crate) fn scripts(
+    alloc: Global,
+    first: &str,
+    second: &str,
+) -> Option<(CompactScript, CompactScript)>
     ensures { IfSome result (λ r. FitsBoth r.0 × FitsBoth r.1) }
 {
     let catalog = two_specifications(alloc)?;
@@ -74,7 +78,7 @@ fn two_specifications(alloc: Global) -> Option<Catalog> {
 }
 
 /// A script that fits both specifications.
-fn script(alloc: Global, text: &str, catalog: &Catalog) -> Option<Script>
+fn script(alloc: Global, text: &str, catalog: &Catalog) -> Option<CompactScript>
     ensures { IfSome result (λ script. FitsBoth script) }
 {
     if text.len() > 1000 {
@@ -82,7 +86,7 @@ fn script(alloc: Global, text: &str, catalog: &Catalog) -> Option<Script>
     }
     let mut objects = Names::new(alloc);
     let mut count = 0;
-    let Ok(script) = read_script(alloc, text.as_bytes(), catalog, &mut objects, &mut count) else {
+    let Ok(script) = read_compact(alloc, text.as_bytes(), catalog, &mut objects, &mut count) else {
         return None;
     };
     if objects.len() > 2 {
@@ -98,10 +102,10 @@ fn script(alloc: Global, text: &str, catalog: &Catalog) -> Option<Script>
 }
 
 /// Whether each step that the script has for the specification is one that meets.
-fn meets(alloc: Global, script: &Script, spec: u8) -> Option<bool>
+fn meets(alloc: Global, script: &CompactScript, spec: u8) -> Option<bool>
     ensures { IfSome result (λ r. IsTrue r → All (λ p. IsMeeting p.1) (projection_of (script_of script.now) spec)) }
 {
-    let Ok(steps) = project(alloc, script, spec) else {
+    let Ok(steps) = script.steps(alloc, spec) else {
         return None;
     };
     Some(steps.iter().all(|step| meets_step(&step.1)))
@@ -119,8 +123,8 @@ fn meets_step(step: &Step) -> bool
 fn run_both<R: Threads + Wait + Sync>(
     rt: &R,
     alloc: Global,
-    first: Script,
-    second: Script,
+    first: CompactScript,
+    second: CompactScript,
     missed: &Arc<AtomicU64, Global>,
 ) -> Result<Vec<Prop<Meet>>, NoMemory>
     requires { FitsBoth first × FitsBoth second }

@@ -10,7 +10,7 @@ use jm_core::Prop;
 use jm_events::Names;
 use jm_model::NoMemory;
 use jm_runner::{FreeGate, run_with_notes};
-use jm_script::Script;
+use jm_script::CompactScript;
 use jm_sync::{Cut, check, cut};
 use std::alloc::Global;
 use std::sync::atomic::AtomicU64;
@@ -50,8 +50,8 @@ fn cut_small(alloc: Global, bytes: &[u8], names: &mut Names) -> Result<Cut, NoMe
 fn run_noted<R: Threads + Wait + Sync>(
     rt: &R,
     alloc: Global,
-    one: Script,
-    two: Script,
+    one: CompactScript,
+    two: CompactScript,
     first: Cut,
     second: Cut,
 ) -> Result<String, NoMemory>

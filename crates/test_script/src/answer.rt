@@ -1,4 +1,4 @@
-use crate::script;
+use crate::{compact, script};
 use jm_model::SpecError;
 use std::alloc::{AllocError, Global};
 use testkit::Case;
@@ -15,6 +15,8 @@ fn answered(alloc: Global, case: &Case) -> Result<String, SpecError> {
         "script" => script::script(alloc, case),
         "ending" => script::ending(alloc, case),
         "project" => script::projected(alloc, case),
+        "compact" => compact::compact(alloc, case),
+        "blocks" => compact::blocks(alloc, case),
         _ => laws(alloc),
     }
 }

@@ -3,6 +3,7 @@
 
 mod answer;
 mod catalog;
+mod compact;
 mod script;
 
 use std::io;

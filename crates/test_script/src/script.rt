@@ -54,7 +54,7 @@ fn read_all(
     Ok(out)
 }
 
-fn with_line_feeds(alloc: Global, text: &[u8]) -> Result<Vec<u8>, AllocError> {
+pub(crate) fn with_line_feeds(alloc: Global, text: &[u8]) -> Result<Vec<u8>, AllocError> {
     let mut out = Vec::new(alloc);
     for byte in text {
         out.push(resolved(*byte))?;
@@ -116,7 +116,7 @@ fn shown(alloc: Global, script: &Script) -> Result<String, AllocError> {
     Ok(out)
 }
 
-fn target_shown(alloc: Global, target: &Target) -> Result<String, AllocError> {
+pub(crate) fn target_shown(alloc: Global, target: &Target) -> Result<String, AllocError> {
     match target {
         Target::Event {
             spec,
@@ -156,7 +156,7 @@ pub(crate) fn projected(alloc: Global, case: &Case) -> Result<String, SpecError>
     }
 }
 
-fn steps_shown(alloc: Global, steps: &[(u32, Step)]) -> Result<String, AllocError> {
+pub(crate) fn steps_shown(alloc: Global, steps: &[(u32, Step)]) -> Result<String, AllocError> {
     let mut out = String::new(alloc);
     for (line, step) in steps {
         let step = step_shown(alloc, step)?;

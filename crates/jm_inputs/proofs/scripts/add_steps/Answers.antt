@@ -1,6 +1,7 @@
 use Rattle.std.proofs.Common.{refl, sym, subst, ◌∙◌}
 use Rattle.std.proofs.lemmas.Result.{err_from_is_err_and}
 use Rattle.jm_model.specs.declared.fault.ScriptError.{ScriptError}
+use Rattle.jm_script.proofs.ObjectLemmas.{length-IsExtension}
 use Rattle.jm_script.specs.Answers.{IsLeft}
 use Rattle.jm_script.specs.Meanings.{script_meaning}
 use Rattle.jm_script.specs.Objects.{IsExtension}
@@ -18,14 +19,14 @@ returns-in_err-script-clause-fault c = λ fault is.
     let library = c.args.library.now in
     let old = c.args.scripts.now in
     let bytes = c.args.bytes.now in
-    steps_refused (specs_in library) library.catalog (sym (its_catalog library c.requires.catalogued)) bytes c.requires.small old fault c.read_script.new.objects c.read_script.new.count
-    (subst (λ (e : ScriptError). IsLeft (script_meaning library.catalog old.count bytes old.objects) old.count old.objects e c.read_script.new.objects c.read_script.new.count) (sym p.2 ∙ same) c.in_err-script.ensures.err)
+    steps_refused (specs_in library) library.catalog (sym (its_catalog library c.requires.catalogued)) bytes c.requires.small old fault c.read_compact.new.objects c.read_compact.new.count
+    (subst (λ (e : ScriptError). IsLeft (script_meaning library.catalog old.count bytes old.objects) old.count old.objects e c.read_compact.new.objects c.read_compact.new.count) (sym p.2 ∙ same) c.in_err-script.ensures.err)
 
 pub returns-clause-read : goal.returns-clause-read
 returns-clause-read c =
     let library = c.args.library.now in
     steps_added (specs_in library) library.catalog (sym (its_catalog library c.requires.catalogued)) c.args.bytes.now c.requires.small c.args.scripts.now _ c.in_ok-script.script _ c.args.lines.items
-    c.in_ok-script.ensures.ok c.in_ok-script.ensures.fitting c.in_ok-script.ensures.rising c.in_ok-script.ensures.bounded.0 c.in_ok-script.ensures.bounded.1 c.in_ok-script.ensures.grown c.in_ok-push.ensures.items
+    c.in_ok-script.ensures.ok c.in_ok-script.ensures.fitting c.in_ok-script.ensures.rising c.in_ok-script.ensures.bounded.0 c.in_ok-script.ensures.bounded.1 (length-IsExtension _ _ c.in_ok-script.ensures.extended) c.in_ok-push.ensures.items
     refl c.in_ok-push-2.ensures.items refl
 
 pub returns-in_err-script-clause-left : goal.returns-in_err-script-clause-left
@@ -35,7 +36,7 @@ returns-in_err-script-clause-left c = λ fault is.
     let library = c.args.library.now in
     let old = c.args.scripts.now in
     let bytes = c.args.bytes.now in
-    let refused = subst (λ (e : ScriptError). IsLeft (script_meaning library.catalog old.count bytes old.objects) old.count old.objects e c.read_script.new.objects c.read_script.new.count) (sym p.2 ∙ same) c.in_err-script.ensures.err in
+    let refused = subst (λ (e : ScriptError). IsLeft (script_meaning library.catalog old.count bytes old.objects) old.count old.objects e c.read_compact.new.objects c.read_compact.new.count) (sym p.2 ∙ same) c.in_err-script.ensures.err in
     record {
       list = refl;
       cuts = refl;

@@ -5,6 +5,6 @@ use Rattle.jm_runner.proofs.worker.do_lines.Given as goal
 
 abbrev pub invariant-loop-place : goal.invariant-loop-place
 invariant-loop-place g l = record {
-  done : HaveDone l.caller (take l.place l.lines) l.watches l.seats.items;
+  done : HaveDone l.caller (take l.place l.script) l.watches l.seats.items;
   keep : KeepOrder l.fn.seats.items l.seats.items;
 }

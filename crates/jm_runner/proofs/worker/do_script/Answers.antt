@@ -1,4 +1,4 @@
-use Rattle.std.proofs.Common.{◌≡◌, ◌<◌, ◌≤◌, ◌∙◌, List, length, take, get_or, Some, slice_get, sym, ap, subst, arith}
+use Rattle.std.proofs.Common.{◌≡◌, ◌<◌, ◌≤◌, ◌∙◌, List, length, take, get_or, Some, slice_get, refl, sym, ap, subst, arith}
 use Rattle.std.proofs.lemmas.Grind.{common_steps}
 use Rattle.std.proofs.lemmas.Option.{slice_get-get_or}
 use Rattle.std.proofs.lemmas.List.{take_all}
@@ -14,7 +14,7 @@ use Rattle.jm_runner.proofs.worker.do_script.Goals as goal
 
 pub loop-sync-init : goal.loop-sync-init
 loop-sync-init g c = record {
-  counted = c.requires.none;
+  counted = refl;
   within = omega arith;
   done = c.requires.seats;
   above = λ m line later at. All-nil (λ (x : ScriptLine). x.line < line.line);
@@ -32,7 +32,7 @@ first_from-above-requires-clause-above g c =
     c.loop-sync.invariant.above i line self there
 
 pub pass-requires-clause-seats : goal.pass-requires-clause-seats
-pass-requires-clause-seats g c = seats_of_done c.args.caller (take c.first_from-above.result c.args.lines.now) c.args.watches.now c.do_lines.new.seats.items c.in_ok-do_lines.ensures.done
+pass-requires-clause-seats g c = seats_of_done c.args.caller (take c.first_from-above.result c.args.script.now) c.args.watches.now c.do_lines.new.seats.items c.in_ok-do_lines.ensures.done
 
 pub pass-requires-clause-know : goal.pass-requires-clause-know
 pass-requires-clause-know g c =
@@ -41,7 +41,7 @@ pass-requires-clause-know g c =
     let jw = g.J.Naming.watches in
     let k = c.args.caller in
     let watches = c.args.watches.now in
-    let lines = c.args.lines.now in
+    let lines = c.args.script.now in
     let asked = c.args.cut.now.lines.items in
     let i = c.loop-sync.sync-index in
     let listed = c.deref-sync-items.result.now in
@@ -59,7 +59,7 @@ loop-sync-preserved g c =
     let jw = g.J.Naming.watches in
     let k = c.args.caller in
     let watches = c.args.watches.now in
-    let lines = c.args.lines.now in
+    let lines = c.args.script.now in
     let asked = c.args.cut.now.lines.items in
     let i = c.loop-sync.sync-index in
     let listed = c.deref-sync-items.result.now in
@@ -86,8 +86,8 @@ do_lines-requires-2-clause-seats g c κs within = c.loop-sync.invariant.done
 
 pub returns-clause-done : goal.returns-clause-done
 returns-clause-done g c =
-    let lines = c.args.lines.now in
-    on_ok c.do_lines-2.result (λ h. subst (λ (l : List ScriptLine). HaveDone c.args.caller l c.args.watches.now c.do_lines-2.new.seats.items) (take_all (length lines) lines (omega arith)) h) c.do_lines-2.ensures.done
+    let lines = c.args.script.now in
+    on_ok c.do_lines-2.result (λ h. subst (λ (l : List ScriptLine). HaveDone c.args.caller l c.args.watches.now c.do_lines-2.new.seats.items) (take_all c.len-all.result lines (omega (arith, c.len-all.ensures.value))) h) c.do_lines-2.ensures.done
 
 pub returns-clause-know : goal.returns-clause-know
 returns-clause-know g c =

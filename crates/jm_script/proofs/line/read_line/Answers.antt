@@ -18,12 +18,12 @@ returns-then-is_word-clause-read c = λ line e.
     (rw (sym c.is_word.ensures ∙ c.if-is_word.true) (c.death_line.ensures.read c.args.catalog.now))
 
 pub returns-then-is_word-2-clause-fits : goal.returns-then-is_word-2-clause-fits
-returns-then-is_word-2-clause-fits c = c.pass_line.ensures.fits (length c.args.names.now)
+returns-then-is_word-2-clause-fits c = c.pass_line.ensures.fits (length c.args.names.now) c.args.numbers.now
 
 pub returns-then-is_word-2-clause-read : goal.returns-then-is_word-2-clause-read
 returns-then-is_word-2-clause-read c = λ line e.
     read_by_first _ _ _ line _ _ _ _ _ _ (texts_split c.args.words.now (record { ref_ptr = (0, 0); now = [] }) (omega arith)) e
-    (rw (sym c.is_word.ensures ∙ c.if-is_word.false, sym c.is_word-else-is_word.ensures ∙ c.if-is_word-2.true) (c.pass_line.ensures.read c.args.names.now))
+    (rw (sym c.is_word.ensures ∙ c.if-is_word.false, sym c.is_word-else-is_word.ensures ∙ c.if-is_word-2.true) (c.pass_line.ensures.read c.args.names.now c.args.numbers.now))
 
 pub returns-else-is_word-2-clause-read : goal.returns-else-is_word-2-clause-read
 returns-else-is_word-2-clause-read c = λ line e.

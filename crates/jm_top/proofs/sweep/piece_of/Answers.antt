@@ -16,8 +16,8 @@ returns-in_err-script-clause-fault c = λ fault is.
     let same = same_err (sym p.1 ∙ is) in
     let library = c.args.library.now in
     let left = rw c.new-objects.ensures at c.in_err-script.ensures.err in
-    part_refused (specs_in library) library.catalog (sym (its_catalog library c.requires.library.catalogued)) c.args.part.now c.requires.small c.args.count fault c.read_script.new.objects c.read_script.new.count
-    (subst (λ (e : ScriptError). IsLeft (script_meaning library.catalog c.args.count c.args.part.now []) c.args.count [] e c.read_script.new.objects c.read_script.new.count) (sym p.2 ∙ same) left)
+    part_refused (specs_in library) library.catalog (sym (its_catalog library c.requires.library.catalogued)) c.args.part.now c.requires.small c.args.count fault c.read_compact.new.objects c.read_compact.new.count
+    (subst (λ (e : ScriptError). IsLeft (script_meaning library.catalog c.args.count c.args.part.now []) c.args.count [] e c.read_compact.new.objects c.read_compact.new.count) (sym p.2 ∙ same) left)
 
 pub replay_script-requires-clause-library : goal.replay_script-requires-clause-library
 replay_script-requires-clause-library c = c.requires.library
@@ -25,15 +25,15 @@ replay_script-requires-clause-library c = c.requires.library
 pub replay_script-requires-clause-fits : goal.replay_script-requires-clause-fits
 replay_script-requires-clause-fits c =
     let library = c.args.library.now in
-    subst (λ v. FitsCatalog v (length c.read_script.new.objects) c.in_ok-script.script) (sym (its_catalog library c.requires.library.catalogued)) c.in_ok-script.ensures.fitting
+    subst (λ v. FitsCatalog v (length c.read_compact.new.objects) c.in_ok-script.script) (sym (its_catalog library c.requires.library.catalogued)) c.in_ok-script.ensures.fitting
 
 pub returns-clause-ok : goal.returns-clause-ok
 returns-clause-ok c =
     let library = c.args.library.now in
     let whole = rw c.new-objects.ensures at c.in_ok-script.ensures.ok in
     record {
-      part = record { script = c.in_ok-script.script; objects = c.read_script.new.objects };
-      said = part_said (specs_in library) library.catalog (sym (its_catalog library c.requires.library.catalogued)) c.args.part.now c.requires.small c.args.count c.in_ok-script.script c.read_script.new.objects c.read_script.new.count whole;
+      part = record { script = c.in_ok-script.script; objects = c.read_compact.new.objects };
+      said = part_said (specs_in library) library.catalog (sym (its_catalog library c.requires.library.catalogued)) c.args.part.now c.requires.small c.args.count c.in_ok-script.script c.read_compact.new.objects c.read_compact.new.count whole;
       counted = omega (arith, whole.counted);
       is_text = c.in_ok-text.ensures;
     }

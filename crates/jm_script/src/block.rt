@@ -1,0 +1,204 @@
+//! Lines of a script that take few bytes.
+ghost use Rattle.std.specs.Prelude.{◌≡◌, ◌+◌, ◌<◌, ◌≤◌, ◌^◌, [], ◌∷◌, ◌++◌, length, take, count_ones, slice_get, option_map, Some, vec_len, vec_capacity, IfOk, OnOk, OnErr};
+ghost use Rattle.jm_semantics.specs.Scripts.{projection_of};
+ghost use Rattle.jm_script.specs.Events.{spread};
+ghost use Rattle.jm_script.specs.Projections.{script_of};
+ghost use Rattle.jm_script.specs.Blocks.{target_of, target_in, FitsIn, Grown};
+
+use crate::action::Action;
+use crate::script::{ScriptLine, Target};
+use jm_model::{Binding, Letter, NoMemory, Step};
+use std::alloc::Global;
+use std::marker::Model;
+
+/// How many objects an event has at most.
+const MOST: usize = 8;
+
+/// What a line does. The objects of an event stand in a row, the first of them at a place.
+#[derive(Clone, Copy)]
+enum Brief {
+    Event {
+        spec: u8,
+        letter: Letter,
+        mask: u8,
+        first: u32,
+    },
+    Death {
+        object: u32,
+    },
+    Pass {
+        spec: u8,
+    },
+}
+
+/// A line in short form, with its number.
+#[derive(Clone, Copy)]
+struct BriefLine {
+    line: u32,
+    brief: Brief,
+}
+
+/// Some step lines, in order. A line takes 12 bytes, and four for each object of an event. Contracts see them as their
+/// list.
+#[derive(Drop)]
+pub struct Block {
+    lines: Vec<BriefLine>,
+    objects: Vec<u32>,
+}
+
+impl Model for Block {
+    ghost use Rattle.std.specs.Prelude.{List};
+    ghost use Rattle.jm_script.specs.declared.script.ScriptLine.{ScriptLine};
+    ghost use Rattle.jm_script.specs.Blocks.{lines_in, IsBlock};
+
+    ghost Value = { List ScriptLine };
+
+    ghost view = { λ b. lines_in b.objects.items b.lines.items };
+
+    ghost invariant = { λ b. IsBlock b.lines.items b.objects.items };
+}
+
+impl Block {
+    /// No line, with room for so many.
+    pub(crate) fn with_capacity(alloc: Global, lines: usize) -> Result<Block, NoMemory>
+        ensures { IfOk result (λ block. block ≡ []) }
+    {
+        Ok(Block {
+            lines: Vec::with_capacity(alloc, lines)?,
+            objects: Vec::with_capacity(alloc, lines.saturating_add(MOST))?,
+        })
+    }
+
+    /// Adds a line at the end, whose objects have these numbers.
+    #[inline(always)]
+    pub(crate) fn push(
+        &mut self,
+        line: u32,
+        action: Action,
+        numbers: &[u32; 8],
+    ) -> Result<(), NoMemory>
+        requires { length self.old < 512 }
+        ensures ok { OnOk result
+            (self.new ≡ self.old ++ record { line = line; target = target_of numbers.now action } ∷ []) }
+        ensures err { OnErr result (self.new ≡ self.old) }
+    {
+        self.lines.reserve(1)?;
+        self.objects.reserve(MOST)?;
+        let brief = shortened(&mut self.objects, action, numbers);
+        self.lines.push_reserved(BriefLine { line, brief });
+        Ok(())
+    }
+
+    /// How many lines there are.
+    pub fn len(&self) -> usize
+        ensures { result ≡ length self.now }
+    {
+        self.lines.len()
+    }
+
+    /// The number of the line at a place.
+    pub fn number(&self, place: usize) -> u32
+        requires { place < length self.now }
+        ensures { option_map (λ l. l.line) (slice_get self.now place) ≡ Some result }
+    {
+        self.lines[place].line
+    }
+
+    /// The line at a place.
+    #[inline(always)]
+    pub fn line(&self, place: usize) -> ScriptLine
+        requires { place < length self.now }
+        ensures { slice_get self.now place ≡ Some result }
+    {
+        let BriefLine { line, brief } = self.lines[place];
+        let target = whole(&self.objects, brief);
+        ScriptLine { line, target }
+    }
+
+    /// Adds the steps that are for a specification at the end, with the numbers of their lines.
+    pub fn add_steps(&self, spec: u8, steps: &mut Vec<(u32, Step)>) -> Result<(), NoMemory>
+        ensures { OnOk result (steps.new.items ≡ steps.old.items ++ projection_of (script_of self.now) spec) }
+    {
+        for place in 0..self.lines.len() {
+            let line = self.line(place);
+            let Some(step) = line.target.step_for(spec) else {
+                continue;
+            };
+            steps.push((line.line, step))?;
+        }
+        Ok(())
+    }
+}
+
+/// The short form of an action, whose objects are put behind the others.
+#[inline(always)]
+fn shortened(objects: &mut Vec<u32>, action: Action, numbers: &[u32; 8]) -> Brief
+    requires room { vec_len objects.old + 8 ≤ vec_capacity objects.old }
+    requires few { vec_len objects.old < 2 ^ 32 }
+    ensures target { target_in objects.new.items result ≡ target_of numbers.now action }
+    ensures fits { FitsIn (length objects.new.items) result }
+    ensures grown { Grown objects.old.items objects.new.items }
+    ensures len { vec_len objects.new ≤ vec_len objects.old + 8 }
+{
+    match action {
+        Action::Event { event } => {
+            let first = objects.len() as u32;
+            add_first(objects, numbers, event.mask.count_ones() as usize);
+            Brief::Event {
+                spec: event.spec,
+                letter: event.letter,
+                mask: event.mask,
+                first,
+            }
+        }
+        Action::Death { object } => Brief::Death { object },
+        Action::Pass { spec } => Brief::Pass { spec },
+    }
+}
+
+/// Puts the first of the numbers, so many, behind the others. All eight are copied, since a copy of a known length takes
+/// no call.
+#[inline(always)]
+fn add_first(objects: &mut Vec<u32>, numbers: &[u32; 8], count: usize)
+    requires room { vec_len objects.old + 8 ≤ vec_capacity objects.old }
+    requires few { count ≤ 8 }
+    ensures objects { objects.new.items ≡ objects.old.items ++ take count numbers.now }
+    ensures len { vec_len objects.new ≡ vec_len objects.old + count }
+{
+    let end = objects.len() + count;
+    for place in 0..MOST {
+        objects.push_reserved(numbers[place]);
+    }
+    objects.truncate(end);
+}
+
+/// The target of a short form, where the objects of all lines are these.
+#[inline(always)]
+fn whole(objects: &[u32], brief: Brief) -> Target
+    requires { FitsIn (length objects.now) brief }
+    ensures { result ≡ target_in objects.now brief }
+{
+    match brief {
+        Brief::Event {
+            spec,
+            letter,
+            mask,
+            first,
+        } => Target::Event {
+            spec,
+            letter,
+            binding: binding(&objects[first as usize..], mask),
+        },
+        Brief::Death { object } => Target::Death { object },
+        Brief::Pass { spec } => Target::Pass { spec },
+    }
+}
+
+/// The binding of the parameters of a set to the first of these objects.
+#[inline(always)]
+fn binding(objects: &[u32], mask: u8) -> Binding
+    requires { count_ones mask ≤ length objects.now }
+    ensures { result ≡ spread 8 mask (take (count_ones mask) objects.now) }
+{
+    Binding::of(mask, &objects[..mask.count_ones() as usize])
+}
