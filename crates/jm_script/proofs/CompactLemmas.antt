@@ -1,7 +1,7 @@
 -- The lines of full blocks, and where each stands.
 use Rattle.std.proofs.Common.{◌≡◌, ℕ, zero, suc, ◌+◌, ◌*◌, ◌/◌, ◌%◌, ◌<◌, ◌≤◌, List, [], ◌∷◌, ◌++◌, length, map, filter, take, Some, slice_get, refl, sym, ◌∙◌, ap, subst, arith, append_assoc, append-nil, length-append}
 use Rattle.std.specs.List.{flat_map}
-use Rattle.std.proofs.lemmas.List.{map-append}
+use Rattle.std.proofs.lemmas.List.{map-append, take_all}
 use Rattle.std.proofs.lemmas.Option.{get_or_from_slice_get, slice_get_within}
 use Rattle.std.proofs.Math.Seq.{take-suc}
 use Rattle.std.proofs.lemmas.Grind.{flat_map-append}
@@ -113,10 +113,4 @@ taken_more lines then place all l so_far at pushed =
     ∙ sym (rw next (take-suc all place l (slice_get_within all place l at)))
 
 pub taken_all : (lines all : List ScriptLine) (place : ℕ) → lines ≡ take place all → length all ≤ place → lines ≡ all
-taken_all lines all place so_far past = so_far ∙ take-all all place past
-  where
-    take-all : (xs : List ScriptLine) (n : ℕ) → length xs ≤ n → take n xs ≡ xs
-    take-all [] zero past = refl
-    take-all [] (suc n) past = refl
-    take-all (x ∷ xs) zero past = absurd (omega arith)
-    take-all (x ∷ xs) (suc n) past = ap (λ ls. x ∷ ls) (take-all xs n (omega arith))
+taken_all lines all place so_far past = so_far ∙ take_all place all past

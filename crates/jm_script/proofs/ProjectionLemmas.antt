@@ -1,5 +1,7 @@
 -- One line more of a projection.
 use Rattle.std.proofs.Common.{ℕ, ◌≡◌, ◌<◌, ◌+◌, Bool, true, false, cond, List, [], ◌∷◌, ◌++◌, length, get_or, drop, Some, None, refl, sym, ap, ◌∙◌, append_assoc, slice_get, subst}
+use mathlib.Core.List.{IsPrefix}
+use Rattle.std.specs.Prelude.{Result, Ok, Err, OnErr}
 use Rattle.std.proofs.lemmas.List.{drop_more}
 use Rattle.std.proofs.lemmas.Option.{get_or_from_slice_get, slice_get_within}
 use Rattle.jm_model.specs.declared.step.Step.{Step}
@@ -41,3 +43,12 @@ module _ (lines : List ScriptLine) (i s : ℕ) (l : ScriptLine) (steps whole : L
       let is = taken (is_for s (spec_of l.target)) step (step_of l.target) e in
       subst (λ (k : ScriptLine). (steps ++ (k.line, step) ∷ []) ++ projection_of (script_of (drop (i + 1) lines)) s ≡ whole) same
       (step_more lines i s l steps whole (slice_get_within lines i l at) before step (rw same is.0) (rw same is.1))
+
+-- what is in front stays there with a step more
+pub prefix_more : (front steps more : List (ℕ × Step)) (step : ℕ × Step) → IsPrefix front steps → more ≡ steps ++ step ∷ [] → IsPrefix front more
+prefix_more front steps more step kept pushed =
+    (kept.0 ++ step ∷ [], sym (append_assoc front kept.0 (step ∷ [])) ∙ ap (λ l. l ++ step ∷ []) kept.1 ∙ sym pushed)
+
+pub on_err : {T E X : Type 0} (r : Result T E) → X → OnErr r X
+on_err (Ok v) x = tt
+on_err (Err e) x = x

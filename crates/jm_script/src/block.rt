@@ -1,5 +1,6 @@
 //! Lines of a script that take few bytes.
 ghost use Rattle.std.specs.Prelude.{◌≡◌, ◌+◌, ◌<◌, ◌≤◌, ◌^◌, [], ◌∷◌, ◌++◌, length, take, count_ones, slice_get, option_map, Some, vec_len, vec_capacity, IfOk, OnOk, OnErr};
+ghost use mathlib.Core.List.{IsPrefix};
 ghost use Rattle.jm_semantics.specs.Scripts.{projection_of};
 ghost use Rattle.jm_script.specs.Events.{spread};
 ghost use Rattle.jm_script.specs.Projections.{script_of};
@@ -59,7 +60,7 @@ impl Model for Block {
 }
 
 impl Block {
-    /// No line, with room for so many.
+    /// No line, with room for a number of them.
     pub(crate) fn with_capacity(alloc: Global, lines: usize) -> Result<Block, NoMemory>
         ensures { IfOk result (λ block. block ≡ []) }
     {
@@ -115,9 +116,11 @@ impl Block {
         ScriptLine { line, target }
     }
 
-    /// Adds the steps that are for a specification at the end, with the numbers of their lines.
+    /// Adds the steps that are for a specification at the end, with the numbers of their lines. Out of memory, it may
+    /// have added some.
     pub fn add_steps(&self, spec: u8, steps: &mut Vec<(u32, Step)>) -> Result<(), NoMemory>
-        ensures { OnOk result (steps.new.items ≡ steps.old.items ++ projection_of (script_of self.now) spec) }
+        ensures ok { OnOk result (steps.new.items ≡ steps.old.items ++ projection_of (script_of self.now) spec) }
+        ensures err { OnErr result (IsPrefix steps.old.items steps.new.items) }
     {
         for place in 0..self.lines.len() {
             let line = self.line(place);
@@ -156,8 +159,7 @@ fn shortened(objects: &mut Vec<u32>, action: Action, numbers: &[u32; 8]) -> Brie
     }
 }
 
-/// Puts the first of the numbers, so many, behind the others. All eight are copied, since a copy of a known length takes
-/// no call.
+/// Puts the first `count` numbers behind the others. All eight are copied, since a copy of a known length takes no call.
 #[inline(always)]
 fn add_first(objects: &mut Vec<u32>, numbers: &[u32; 8], count: usize)
     requires room { vec_len objects.old + 8 ≤ vec_capacity objects.old }

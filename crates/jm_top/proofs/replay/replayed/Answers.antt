@@ -21,7 +21,7 @@ replay-requires g c =
     let at : slice_get blocks (length c.loop-block.yielded) ≡ Some c.in-Some.block = slice_get_read blocks (length blocks) (length c.loop-block.yielded) c.in-Some.block refl t.0 t.1 in
     let fits = steps_of_block (λ (step : ℕ × Step). IsFitStep (g.M.Monitor.meaning (g.M.Monitor.definition c.args.rules)) c.args.objects step.1) blocks (length c.loop-block.yielded) c.in-Some.block at c.requires in
     let own = projection_of (script_of c.in-Some.block) 0 in
-    let given = c.as_slice.ensures.value ∙ c.in_ok-add_steps.ensures ∙ ap (λ steps. steps ++ own) c.in_ok-steps.ensures.items in
+    let given = c.as_slice.ensures.value ∙ c.in_ok-add_steps.ensures.ok ∙ ap (λ steps. steps ++ own) c.in_ok-steps.ensures.items in
     subst (λ (steps : List (ℕ × Step)). All (λ (step : ℕ × Step). IsFitStep (g.M.Monitor.meaning c.loop-block.prop.definition) c.loop-block.prop.objects step.1) steps) (sym given)
     (subst (λ d. All (λ (step : ℕ × Step). IsFitStep (g.M.Monitor.meaning d) c.loop-block.prop.objects step.1) own) (sym (done.grown.definition ∙ c.in_ok-prop.ensures.definition))
     (subst (λ n. All (λ (step : ℕ × Step). IsFitStep (g.M.Monitor.meaning (g.M.Monitor.definition c.args.rules)) n step.1) own) (sym (done.grown.objects ∙ c.in_ok-prop.ensures.objects)) fits))
@@ -32,7 +32,7 @@ loop-block-init g c = record { legal = c.in_ok-prop.ensures.legal; done = replay
 pub loop-block-preserved : goal.loop-block-preserved
 loop-block-preserved g c =
     let own = projection_of (script_of c.in-Some.block) 0 in
-    let given = c.as_slice.ensures.value ∙ c.in_ok-add_steps.ensures ∙ ap (λ steps. steps ++ own) c.in_ok-steps.ensures.items in
+    let given = c.as_slice.ensures.value ∙ c.in_ok-add_steps.ensures.ok ∙ ap (λ steps. steps ++ own) c.in_ok-steps.ensures.items in
     record {
       legal = c.in_ok-replay.ensures.legal;
       done = subst (λ steps. Replayed 0 steps c.in_ok-prop.prop c.replay.new.self) (sym (steps_in-more c.loop-block.yielded c.in-Some.block))

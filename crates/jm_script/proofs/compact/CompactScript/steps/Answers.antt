@@ -12,7 +12,7 @@ use Rattle.jm_script.proofs.compact.CompactScript.steps.Goals as goal
 pub returns-clause-value : goal.returns-clause-value
 returns-clause-value c =
     let first = c.in_ok-add_steps.ensures ∙ ap (λ steps. steps ++ steps_in c.args.spec c.as_slice.result.now) c.in_ok-steps.ensures.items ∙ ap (λ full. [] ++ steps_in c.args.spec full) c.as_slice.ensures.value in
-    steps_both c.args.spec c.self.inside.full.items c.self.inside.last _ _ first c.in_ok-add_steps-2.ensures
+    steps_both c.args.spec c.self.inside.full.items c.self.inside.last _ _ first c.in_ok-add_steps-2.ensures.ok
     ∙ ap (λ ls. projection_of (script_of ls) c.args.spec) c.self.view_is
 
 pub returns-clause-fitting : goal.returns-clause-fitting
