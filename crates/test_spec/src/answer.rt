@@ -1,4 +1,4 @@
-use crate::spec;
+use crate::{events, spec, text};
 use jm_model::SpecError;
 use std::alloc::{AllocError, Global};
 use testkit::Case;
@@ -11,6 +11,12 @@ pub(crate) fn answer(alloc: Global, case: &Case) -> Result<String, AllocError> {
 
 fn answered(alloc: Global, case: &Case) -> Result<String, SpecError> {
     match case.verb.as_str() {
+        "tokens" => text::tokens_shown(alloc, case),
+        "tells" => text::tells(alloc, case),
+        "cursor" => text::cursor(alloc, case),
+        "items" => text::items(alloc, case),
+        "names" => events::names(alloc, case),
+        "events" => events::events(alloc, case),
         "spec" => spec::spec(alloc, case),
         "prefixes" => spec::prefixes(alloc, case),
         "laws" => spec::laws(alloc),
