@@ -1,4 +1,4 @@
-use crate::table;
+use crate::{ere, made, table};
 use std::alloc::{AllocError, Global};
 use testkit::Case;
 
@@ -9,6 +9,10 @@ pub(crate) fn answer(alloc: Global, case: &Case) -> Result<String, AllocError> {
         "next" => table::next(alloc, case),
         "word" => table::word(alloc, case),
         "groups" => table::groups(alloc, case),
+        "table" => made::table(alloc, case),
+        "chain" => made::chain(alloc, case),
+        "minimal_circle" => made::circle(alloc, case),
+        "ere" => ere::answer(alloc, case),
         _ => String::from_str(alloc, "no such verb"),
     }
 }

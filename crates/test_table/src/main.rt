@@ -1,8 +1,12 @@
-//! The cases of tables: circles of numbers.
+//! The cases of tables: circles of numbers, and minimal tables.
 #![tactic(auto)]
 
 mod answer;
 mod circle;
+mod ere;
+mod made;
+mod rows;
+mod shown;
 mod table;
 
 use std::io;
