@@ -1,6 +1,6 @@
 use Rattle.std.proofs.Common.{arith}
 use Rattle.jm_index.proofs.BindingLemmas.{object_at_within}
-use Rattle.test_index.proofs.table.all_live.Goals as goal
+use Rattle.test_store_parts.proofs.table.all_live.Goals as goal
 
 pub returns : goal.returns
 returns c =

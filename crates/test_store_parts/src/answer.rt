@@ -1,4 +1,7 @@
-use crate::{bindings, entries};
+use crate::awake::awake;
+use crate::index::index;
+use crate::random_index::random_index;
+use crate::{bindings, entries, marks, objects, random_marks};
 use jm_model::NoMemory;
 use std::alloc::{AllocError, Global};
 use testkit::Case;
@@ -16,6 +19,12 @@ fn answered(alloc: Global, case: &Case) -> Result<String, NoMemory> {
         "entries" => entries::entries(alloc, case),
         "history" => entries::history(alloc, case),
         "long" => entries::long(alloc, case),
+        "objects" => objects::objects(alloc, case),
+        "marks" => marks::marks(alloc, case),
+        "random_marks" => random_marks::random_marks(alloc, case),
+        "index" => index(alloc, case),
+        "random_index" => random_index(alloc, case),
+        "awake" => awake(alloc, case),
         _ => Ok(String::from_str(alloc, "no such verb")?),
     }
 }

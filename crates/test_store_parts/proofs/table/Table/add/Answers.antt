@@ -1,4 +1,4 @@
-use Rattle.test_index.proofs.table.Table.add.Goals as goal
+use Rattle.test_store_parts.proofs.table.Table.add.Goals as goal
 
 pub invariant_of-self : goal.invariant_of-self
 invariant_of-self c = c.add.ensures.fits _ (c.remove.ensures.fits _ c.self.invariant) (c.within.ensures c.if-within.true)
