@@ -21,6 +21,11 @@ abbrev pub IsSound : Transitions → List ℕ → Type 0
 IsSound t classes =
     (p q : ℕ) → p < t.states → q < t.states → slice_index classes p ≢ slice_index classes q → AreDistinguishable t p q
 
+-- the classes of a table's states, of which those of different classes can be told apart
+pub record AreClasses (t : Transitions) (classes firsts : List ℕ) : Type 0 where
+  pub partition : IsPartition t.states classes firsts
+  pub sound : IsSound t classes
+
 -- of each class all states are in the group, or none
 abbrev pub AgreesIn : Transitions → List ℕ → ℕ → Type 0
 AgreesIn t classes group =
@@ -93,6 +98,15 @@ abbrev pub AreGiven : ℕ → List ℕ → List ℕ → List ℕ → Type 0
 AreGiven n keys numbers firsts =
     (c : ℕ) → c < length firsts
     → (slice_index firsts c < n) × (slice_index numbers (slice_index keys (slice_index firsts c)) ≡ c)
+
+-- The numbers that were given are still those of their keys, and their first states are the same; there is one more at
+-- most.
+pub record AreGivenOn (keys numbers firsts new_numbers new_firsts : List ℕ) : Type 0 where
+  pub given : AreGiven (length keys) keys new_numbers new_firsts
+  pub kept : (key number : ℕ) → IsKnown keys numbers firsts key number → IsKnown keys new_numbers new_firsts key number
+  pub prefix : (c : ℕ) → c < length firsts → slice_index new_firsts c ≡ slice_index firsts c
+  pub grown : (length firsts ≤ length new_firsts) × (length new_firsts ≤ length firsts + 1)
+  pub size : length new_numbers ≡ length numbers
 
 -- the keys can give classes in which the first states keep their classes
 pub record FitClasses (n : ℕ) (firsts keys : List ℕ) : Type 0 where

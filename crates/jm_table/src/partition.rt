@@ -1,5 +1,5 @@
 ghost use Rattle.std.specs.Prelude.{ℕ, ◌≡◌, ◌<◌, ◌≤◌, ◌+◌, ◌*◌, ◌↔◌, IsTrue, IfOk, OnOk, length, slice_index};
-ghost use Rattle.jm_table.specs.Partitions.{IsPartition, IsKnown, AreGiven, FitClasses, AreNumbered};
+ghost use Rattle.jm_table.specs.Partitions.{IsPartition, IsKnown, AreGiven, AreGivenOn, FitClasses, AreNumbered};
 
 use jm_model::NoMemory;
 use std::alloc::Global;
@@ -71,14 +71,8 @@ fn number_of(
     requires key { slice_index keys.now state < length numbers.old.items }
     requires given { AreGiven (length keys.now) keys.now numbers.old.items firsts.old.items }
     ensures known { IfOk result (IsKnown keys.now numbers.new.items firsts.new.items (slice_index keys.now state)) }
-    ensures kept { OnOk result ((key number : ℕ) → IsKnown keys.now numbers.old.items firsts.old.items key number
-        → IsKnown keys.now numbers.new.items firsts.new.items key number) }
-    ensures given { OnOk result (AreGiven (length keys.now) keys.now numbers.new.items firsts.new.items) }
-    ensures firsts { OnOk result ((c : ℕ) → c < length firsts.old.items
-        → slice_index firsts.new.items c ≡ slice_index firsts.old.items c) }
-    ensures grown { OnOk result ((length firsts.old.items ≤ length firsts.new.items)
-        × (length firsts.new.items ≤ length firsts.old.items + 1)) }
-    ensures numbers { OnOk result (length numbers.new.items ≡ length numbers.old.items) }
+    ensures ok { OnOk result (AreGivenOn keys.now numbers.old.items firsts.old.items
+        numbers.new.items firsts.new.items) }
 {
     let key = keys[state];
     let number = numbers[key as usize];

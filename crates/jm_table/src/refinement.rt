@@ -2,7 +2,7 @@ ghost use Rattle.std.specs.Prelude.{ℕ, ◌≡◌, ◌<◌, ◌≤◌, ◌↔�
 ghost use Rattle.std.specs.Bool.{OnTrue, OnFalse};
 ghost use Rattle.jm_table.specs.Tables.{Transitions, next_of, IsTable, IsInGroup};
 ghost use Rattle.jm_table.specs.Minimal.{GroupTells};
-ghost use Rattle.jm_table.specs.Partitions.{IsPartition, IsSound, AgreesIn, AgreesBelow, IsStable, IsFiner, Tells, FindsAlike, IsTestOf, AreKeys, IsKeyOf};
+ghost use Rattle.jm_table.specs.Partitions.{IsPartition, AreClasses, AgreesIn, AgreesBelow, IsStable, IsFiner, Tells, FindsAlike, IsTestOf, AreKeys, IsKeyOf};
 
 use crate::partition::Partition;
 use crate::table::Table;
@@ -21,8 +21,7 @@ pub(crate) enum Test {
 /// The coarsest classes of states that are in the same groups, where each letter leads from one class to one class.
 pub(crate) fn equivalence(alloc: Global, table: &Table) -> Result<Partition, NoMemory>
     ensures table { IsTable table.now }
-    ensures partition { IfOk result (λ p. IsPartition table.now.states p.classes.items p.firsts.items) }
-    ensures sound { IfOk result (λ p. IsSound table.now p.classes.items) }
+    ensures classes { IfOk result (λ p. AreClasses table.now p.classes.items p.firsts.items) }
     ensures agrees { IfOk result (λ p. AgreesBelow table.now p.classes.items (length table.now.groups)) }
     ensures stable { IfOk result (λ p. IsStable table.now p.classes.items) }
 {
@@ -35,11 +34,8 @@ pub(crate) fn equivalence(alloc: Global, table: &Table) -> Result<Partition, NoM
 /// Splits classes until the states of each are in the same groups.
 fn split_by_groups(alloc: Global, table: &Table, partition: &mut Partition) -> Result<(), NoMemory>
     requires table { IsTable table.now }
-    requires partition { IsPartition table.now.states partition.old.classes.items partition.old.firsts.items }
-    requires sound { IsSound table.now partition.old.classes.items }
-    ensures partition { OnOk result
-        (IsPartition table.now.states partition.new.classes.items partition.new.firsts.items) }
-    ensures sound { OnOk result (IsSound table.now partition.new.classes.items) }
+    requires classes { AreClasses table.now partition.old.classes.items partition.old.firsts.items }
+    ensures classes { OnOk result (AreClasses table.now partition.new.classes.items partition.new.firsts.items) }
     ensures agrees { OnOk result (AgreesBelow table.now partition.new.classes.items (length table.now.groups)) }
 {
     for group in 0..table.group_count() {
@@ -52,11 +48,8 @@ fn split_by_groups(alloc: Global, table: &Table, partition: &mut Partition) -> R
 /// the last makes a class.
 fn split_by_letters(alloc: Global, table: &Table, partition: &mut Partition) -> Result<(), NoMemory>
     requires table { IsTable table.now }
-    requires partition { IsPartition table.now.states partition.old.classes.items partition.old.firsts.items }
-    requires sound { IsSound table.now partition.old.classes.items }
-    ensures partition { OnOk result
-        (IsPartition table.now.states partition.new.classes.items partition.new.firsts.items) }
-    ensures sound { OnOk result (IsSound table.now partition.new.classes.items) }
+    requires classes { AreClasses table.now partition.old.classes.items partition.old.firsts.items }
+    ensures classes { OnOk result (AreClasses table.now partition.new.classes.items partition.new.firsts.items) }
     ensures finer { OnOk result (IsFiner table.now.states partition.old.classes.items partition.new.classes.items) }
     ensures stable { OnOk result (IsStable table.now partition.new.classes.items) }
 {
@@ -78,11 +71,8 @@ fn split_by(
 ) -> Result<(), NoMemory>
     requires test { IsTestOf table.now test }
     requires table { IsTable table.now }
-    requires partition { IsPartition table.now.states partition.old.classes.items partition.old.firsts.items }
-    requires sound { IsSound table.now partition.old.classes.items }
-    ensures partition { OnOk result
-        (IsPartition table.now.states partition.new.classes.items partition.new.firsts.items) }
-    ensures sound { OnOk result (IsSound table.now partition.new.classes.items) }
+    requires classes { AreClasses table.now partition.old.classes.items partition.old.firsts.items }
+    ensures classes { OnOk result (AreClasses table.now partition.new.classes.items partition.new.firsts.items) }
     ensures finer { OnOk result (IsFiner table.now.states partition.old.classes.items partition.new.classes.items) }
     ensures grown { OnOk result (length partition.old.firsts.items ≤ length partition.new.firsts.items) }
     ensures agrees { (group : ℕ) → test ≡ Test.Group group

@@ -6,16 +6,17 @@ use Rattle.jm_table.proofs.partition.Partition.split.Goals as goal
 pub loop-state-preserved : goal.loop-state-preserved
 loop-state-preserved c =
     let before = c.loop-state.invariant in
-    let after = c.in_ok-number.ensures in
+    let known = c.in_ok-number.ensures.known in
+    let after = c.in_ok-number.ensures.ok in
     let within : c.loop-state.state < length c.loop-state.self.classes.items = omega (arith, before.count, c.loop-state-test.true) in
     record {
       given = after.given;
       seen = seen_more c.args.keys.now c.number_of.new.numbers.items c.number_of.new.firsts.items c.loop-state.self.classes.items c.loop-state.state c.in_ok-number.number within
-          (λ p lt. after.kept _ _ (before.seen p lt)) after.known;
-      prefix = λ k lt. after.firsts k (omega (arith, lt, before.grown)) ∙ before.prefix k lt;
+          (λ p lt. after.kept _ _ (before.seen p lt)) known;
+      prefix = λ k lt. after.prefix k (omega (arith, lt, before.grown)) ∙ before.prefix k lt;
       grown = omega (arith, before.grown, after.grown.0);
       room = omega (arith, before.room, after.grown.1);
-      numbers = after.numbers ∙ before.numbers;
+      numbers = after.size ∙ before.numbers;
       count = simp length-set before.count;
     }
 
