@@ -1,5 +1,5 @@
 -- What who reads a list of sound lists knows.
-use Rattle.std.proofs.Common.{◌≡◌, ◌≢◌, ℕ, ◌<◌, ◌*◌, ◌/◌, ◌%◌, inl, inr, true, List, [], ◌∷◌, Option, Some, length, map, refl, sym, ap, ◌∙◌, subst, arith}
+use Rattle.std.proofs.Common.{◌≡◌, ◌≢◌, ℕ, ◌<◌, ◌/◌, true, List, Option, Some, length, sym, ap, ◌∙◌, arith}
 use Rattle.std.specs.Prelude.{AllPairs, Contains, filter, slice_index_or, ◌==◌, nat_lt}
 use Rattle.std.proofs.lemmas.Bool.{ltb-true, eqb-true, and_parts}
 use Rattle.std.proofs.lemmas.List.{get_or-map, length-map}
@@ -8,7 +8,7 @@ use Rattle.std.proofs.lemmas.List.Kept.{AllPairs-filter}
 use Rattle.jm_model.specs.Bindings.{is_below}
 use Rattle.jm_awake.specs.declared.card.Listed.{Listed}
 use Rattle.jm_awake.specs.declared.card.Card.{Card}
-use Rattle.jm_awake.specs.Awake.{SlotList, Lists, fresh, list_at, card_at, IsOn, IsThere, entry_of, is_there, slots_there, IsKept, Occupant, Occupants, IsOccupied, IsEntry, AreSoundBut}
+use Rattle.jm_awake.specs.Awake.{Lists, fresh, list_at, card_at, IsOn, entry_of, is_there, slots_there, IsKept, Occupant, Occupants, IsOccupied, AreSoundBut}
 use Rattle.jm_awake.proofs.ListLemmas.{filtered_from, filtered_in, filtered_passes}
 use Rattle.jm_awake.proofs.SoundLemmas.{on_cards}
 

@@ -1,5 +1,5 @@
 -- Monitors that rest, or are in the lists, and lists that are sound for monitors that look the same.
-use Rattle.std.proofs.Common.{◌≡◌, ℕ, ◌⊎◌, inl, inr, true, List, Option, Some, None, refl, sym, ap, ◌∙◌, subst}
+use Rattle.std.proofs.Common.{◌≡◌, ℕ, ◌⊎◌, inl, inr, true, List, Option, Some, sym, ap, ◌∙◌, subst}
 use Rattle.std.specs.Prelude.{Contains, AllPairs, ◌≢◌, slice_index_or}
 use Rattle.std.specs.Int.{bit_at}
 use Rattle.std.proofs.lemmas.Option.{none-some}
@@ -7,7 +7,6 @@ use Rattle.std.proofs.lemmas.Bool.{cases_eq}
 use Rattle.jm_model.specs.Bindings.{is_below}
 use Rattle.jm_model.specs.declared.binding.Binding.{Binding}
 use Rattle.jm_awake.specs.declared.card.Card.{Card}
-use Rattle.jm_awake.specs.declared.card.Listed.{Listed}
 use Rattle.jm_awake.specs.Awake.{SlotList, Lists, fresh, list_at, card_at, entry_of, IsOn, IsKept, IsListOf, Occupant, Occupants, IsEntry, AreSoundBut, AreSound, AreStill, IsAwake, AreRested}
 use Rattle.jm_awake.specs.Steps.{IsFewer}
 use Rattle.jm_awake.proofs.SoundLemmas.{found_along}

@@ -1,5 +1,5 @@
 -- One slot's card changes: its monitor is mourned, rests or goes, or another comes.
-use Rattle.std.proofs.Common.{◌≡◌, ℕ, ◌<◌, ◌≤◌, ◌+◌, ◌*◌, ◌/◌, ◌%◌, ◌⊎◌, inl, inr, Bool, true, cond, Option, Some, None, length, refl, sym, ap, ◌∙◌, subst, arith}
+use Rattle.std.proofs.Common.{◌≡◌, ℕ, ◌≤◌, ◌+◌, ◌*◌, ◌/◌, ◌%◌, ◌⊎◌, inl, inr, Bool, true, cond, Option, Some, None, length, refl, sym, ap, ◌∙◌, subst, arith}
 use Rattle.std.specs.Prelude.{Contains, List, slice_index_or, ◌==◌, ◌&&◌, nat_lt}
 use Rattle.std.specs.Int.{bit_at}
 use Rattle.std.proofs.lemmas.Bool.{cases_eq, eq-eqb, eqb-true, false_from_ne_true}
@@ -10,7 +10,7 @@ use Rattle.jm_model.specs.Bindings.{is_below}
 use Rattle.jm_awake.specs.declared.card.Listed.{Listed}
 use Rattle.jm_awake.specs.declared.card.Card.{Card}
 use Rattle.jm_awake.specs.Awake.{Lists, fresh, list_at, card_at, IsOn, IsThere, IsMourned, entry_of, is_there, IsKept, Occupant, Occupants, with_slot, IsOccupied, AreSoundBut}
-use Rattle.jm_awake.specs.Steps.{IsCarded, IsAged, Takes}
+use Rattle.jm_awake.specs.Steps.{IsCarded, IsAged, IsUnlisted, Takes}
 use Rattle.jm_awake.proofs.SoundLemmas.{entry_same, same_place, stepped_sound}
 
 -- ---- another monitor in a slot
@@ -129,18 +129,17 @@ left_sound q o old new slot carded others letters age sound =
     sound
 
 -- ---- the slot is taken out of the lists of a letter
-pub unlisted_sound : (o : Occupants) (old new : Lists) (slot e place : ℕ) (y : Occupant) → IsCarded old new → ((k : ℕ) → (k ≡ slot → ⊥) → card_at new k ≡ card_at old k) → (card_at new slot).age ≡ (card_at old slot).age
-    → bit_at (card_at new slot).letters e ≡ 0 → ((other : ℕ) → other < 32 → (other ≡ e → ⊥) → bit_at (card_at new slot).letters other ≡ bit_at (card_at old slot).letters other)
-    → IsKept old place → Takes old e y.instance place → o slot ≡ Some y → ((k : ℕ) → IsOn (card_at new slot) k → IsOn (card_at old slot) k)
+pub unlisted_sound : (o : Occupants) (old new : Lists) (slot e place : ℕ) (y : Occupant) → IsCarded old new → ((k : ℕ) → (k ≡ slot → ⊥) → card_at new k ≡ card_at old k)
+    → IsUnlisted e (card_at old slot) (card_at new slot) → IsKept old place → Takes old e y.instance place → o slot ≡ Some y
     → AreSoundBut (Some place) o old → AreSoundBut (Some place) o new
-unlisted_sound o old new slot e place y carded others age off bits here takes own back sound =
+unlisted_sound o old new slot e place y carded others card here takes own sound =
     stepped_sound (Some place) o o old new slot carded (λ k other. (others k other, refl))
     (record {
-      aged = omega (arith, age);
-      listed = λ p x kept at below on. subst (Contains (list_at old p).entries) (sym (entry_same slot (card_at old slot) (card_at new slot) (ap (λ (n : ℕ). n / 2) age)))
-          (sound.listed p slot x kept at below (back (list_at old p).letter on));
+      aged = omega (arith, card.age);
+      listed = λ p x kept at below on. subst (Contains (list_at old p).entries) (sym (entry_same slot (card_at old slot) (card_at new slot) (ap (λ (n : ℕ). n / 2) card.age)))
+          (sound.listed p slot x kept at below (card.back (list_at old p).letter on));
       there = λ p x kept has is there. of_list p x kept has is there;
-      blank = λ k free on. sound.blank slot k free (back k on);
+      blank = λ k free on. sound.blank slot k free (card.back k on);
     })
     sound
   where
@@ -149,7 +148,7 @@ unlisted_sound o old new slot e place y carded others age off bits here takes ow
     of_list p x kept has is there =
         let was = sound.each p x kept has in
         let ages : (slice_index_or new.cards x.slot fresh).age ≡ (slice_index_or old.cards x.slot fresh).age =
-        ap (λ (n : ℕ). (slice_index_or new.cards n fresh).age) is ∙ age ∙ sym (ap (λ (n : ℕ). (slice_index_or old.cards n fresh).age) is)
+        ap (λ (n : ℕ). (slice_index_or new.cards n fresh).age) is ∙ card.age ∙ sym (ap (λ (n : ℕ). (slice_index_or old.cards n fresh).age) is)
         in
         let before = was.there (there ∙ ap (λ (n : ℕ). n / 2) ages) in
         record {
@@ -164,7 +163,7 @@ unlisted_sound o old new slot e place y carded others age off bits here takes ow
                     let mine : Takes old e y.instance p = record { letter = letter; below = ap (λ (z : Occupant). is_below (list_at old p).binding z.instance) same ∙ before.below } in
                     absurd (tight (ap (λ (n : ℕ). Some n) (same_place old place p e y.instance sound.found here kept takes mine)))
                 | inr other ↦
-                    bits (list_at old p).letter (sound.found p kept).low other
+                    card.bits (list_at old p).letter (sound.found p kept).low other
                     ∙ subst (λ (n : ℕ). IsOn (slice_index_or old.cards n fresh) (list_at old p).letter) is (before.on tight)
               ]);
         }

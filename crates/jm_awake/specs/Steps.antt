@@ -26,6 +26,14 @@ pub record IsAged (old new : Card) : Type 0 where
   pub half : new.age / 2 ≡ old.age / 2
   pub more : old.age ≤ new.age
 
+-- the slot is in the lists of a letter no more, and in those of the others as it was
+pub record IsUnlisted (e : ℕ) (old new : Card) : Type 0 where
+  pub age : new.age ≡ old.age
+  pub off : bit_at new.letters e ≡ 0
+  pub back : (other : ℕ) → IsOn new other → IsOn old other
+  pub kept : (other : ℕ) → (other ≡ e → ⊥) → IsOn old other → IsOn new other
+  pub bits : (other : ℕ) → other < 32 → (other ≡ e → ⊥) → bit_at new.letters other ≡ bit_at old.letters other
+
 -- there are more cards, of slots that are in no list
 pub record IsCovered (old new : Lists) : Type 0 where
   pub carded : IsCarded old new

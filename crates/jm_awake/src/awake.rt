@@ -3,7 +3,7 @@ ghost use Rattle.std.specs.Int.{bit_at};
 ghost use Rattle.jm_model.specs.Bindings.{is_below, mask_of};
 ghost use Rattle.jm_awake.specs.Awake.{Lists, fresh, list_at, card_at, number_at, path_in, is_there, IsOn, IsMourned, IsKept, IsListOf, HasNone, Occupant, Occupants, with_slot, AreFound, AreSoundBut, AreSound, AreStill, IsAwake, IsWakable, AreAllAbove};
 ghost use Rattle.jm_awake.specs.declared.card.Listed.{Listed as Entry};
-ghost use Rattle.jm_awake.specs.Steps.{IsCarded, IsCovered, IsAged, HasRoom, IsFewer, Takes, IsWokenAt, IsWoken, IsListedAt, AreListedIn, IsPlaceMade, IsMade};
+ghost use Rattle.jm_awake.specs.Steps.{IsCarded, IsCovered, IsAged, IsUnlisted, HasRoom, IsFewer, Takes, IsWokenAt, IsWoken, IsListedAt, AreListedIn, IsPlaceMade, IsMade};
 
 use crate::card::{Card, Listed, awake_at, without};
 use crate::list::AwakeList;
@@ -293,12 +293,7 @@ impl Awake {
         requires letter { letter < 32 }
         ensures carded { IsCarded self.old self.new }
         ensures others { (k : ℕ) → (k ≡ slot → ⊥) → card_at self.new k ≡ card_at self.old k }
-        ensures age { (card_at self.new slot).age ≡ (card_at self.old slot).age }
-        ensures off { bit_at (card_at self.new slot).letters letter ≡ 0 }
-        ensures bits { (e : ℕ) → e < 32 → (e ≡ letter → ⊥)
-            → bit_at (card_at self.new slot).letters e ≡ bit_at (card_at self.old slot).letters e }
-        ensures back { (e : ℕ) → IsOn (card_at self.new slot) e → IsOn (card_at self.old slot) e }
-        ensures kept { (e : ℕ) → (e ≡ letter → ⊥) → IsOn (card_at self.old slot) e → IsOn (card_at self.new slot) e }
+        ensures card { IsUnlisted letter (card_at self.old slot) (card_at self.new slot) }
         ensures size { length self.new.cards ≡ length self.old.cards }
     {
         self.cards[slot].unlist(letter);

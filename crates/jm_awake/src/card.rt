@@ -2,6 +2,7 @@
 ghost use Rattle.std.specs.Prelude.{ℕ, ◌≡◌, ◌+◌, ◌*◌, ◌/◌, ◌%◌, ◌<◌, ◌≤◌, ◌==◌, ◌&&◌, nat_lt, IsTrue, true, false};
 ghost use Rattle.std.specs.Int.{bit_at};
 ghost use Rattle.jm_awake.specs.Awake.{fresh, entry_of};
+ghost use Rattle.jm_awake.specs.Steps.{IsUnlisted};
 
 /// A slot in a list, and the age that its card had when it was listed.
 #[derive(Clone, Copy)]
@@ -101,11 +102,7 @@ impl Card {
     /// Notes that the list of a letter hasn't got the slot any more.
     pub(crate) fn unlist(&mut self, letter: u32)
         requires { letter < 32 }
-        ensures age { self.new.age ≡ self.old.age }
-        ensures off { bit_at self.new.letters letter ≡ 0 }
-        ensures back { (e : ℕ) → bit_at self.new.letters e ≡ 1 → bit_at self.old.letters e ≡ 1 }
-        ensures kept { (e : ℕ) → (e ≡ letter → ⊥) → bit_at self.old.letters e ≡ 1 → bit_at self.new.letters e ≡ 1 }
-        ensures others { (e : ℕ) → e < 32 → (e ≡ letter → ⊥) → bit_at self.new.letters e ≡ bit_at self.old.letters e }
+        ensures { IsUnlisted letter self.old self.new }
     {
         self.letters = without(self.letters, letter);
     }

@@ -142,8 +142,7 @@ fn enter_all(links: &mut Vec<Link>, heads: &mut Vec<u32>)
     requires empty { heads.old.items ≡ replicate (length heads.old.items) 0 }
     ensures same { hashes_of links.new.items ≡ hashes_of links.old.items }
     ensures chains { AreChains links.new.items heads.new.items }
-    ensures links { vec_len links.new ≡ vec_len links.old }
-    ensures heads { vec_len heads.new ≡ vec_len heads.old }
+    ensures sizes { (vec_len links.new ≡ vec_len links.old) × (vec_len heads.new ≡ vec_len heads.old) }
     ensures room { vec_capacity links.new ≡ vec_capacity links.old }
 {
     for number in 0..links.len() {
