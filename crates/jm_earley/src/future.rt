@@ -58,7 +58,14 @@ impl Futures {
     {
         let mut futures = Vec::new(alloc);
         for (number, set) in sets.sets().iter().enumerate() {
-            let future = future_of(alloc, grammar, *set, number, items, earlier)?;
+            let question = Question {
+                grammar,
+                set: *set,
+                number,
+                items,
+                earlier,
+            };
+            let future = question.future(alloc)?;
             futures.push(future)?;
         }
         Ok(Futures { futures })
@@ -170,67 +177,60 @@ fn keeps_alive(productions: &[Production], set: LetterSet, there: Future, item: 
     }
 }
 
-/// The nonterminals that such a rest of letters of the set may follow.
-fn followed(
-    alloc: Global,
-    grammar: &Grammar,
-    rest: Rest,
+/// What may follow, of letters of a set, at the place that has these items.
+#[derive(Clone, Copy)]
+struct Question<'a> {
+    grammar: &'a Grammar,
     set: LetterSet,
+    /// The number of the set.
     number: usize,
-    items: &[Item],
-    earlier: &Places,
-) -> Result<u64, NoMemory>
-    ensures { IfOk result (λ known. (n : ℕ) → IsBitSet known n
-        ↔ IsGained (rest_rules grammar.now rest set number earlier.now items.now) n) }
-{
-    let mut rules = Vec::new(alloc);
-    rules.push(start_rule(rest, grammar.start(), earlier))?;
-    for item in items {
-        let link = link_of(grammar.productions(), set, *item);
-        rules.push(rest_rule(rest, link, earlier, number, item.origin))?;
-    }
-    Ok(gained(rules.as_slice()))
+    items: &'a [Item],
+    earlier: &'a Places,
 }
 
-/// Whether letters of the set may go on behind one of the items.
-fn is_alive(
-    productions: &[Production],
-    set: LetterSet,
-    number: usize,
-    items: &[Item],
-    earlier: &Places,
-    here: Future,
-) -> bool
-    ensures { result ≡ list_any (keeps_alive productions.now set number earlier.now here) items.now }
-{
-    for item in items {
-        let there = future_at(earlier, number, item.origin).unwrap_or(here);
-        if keeps_alive(productions, set, there, *item) {
-            return true;
+impl<'a> Question<'a> {
+    /// The nonterminals that such a rest of letters of the set may follow.
+    fn followed(&self, alloc: Global, rest: Rest) -> Result<u64, NoMemory>
+        ensures { IfOk result (λ known. (n : ℕ) → IsBitSet known n
+            ↔ IsGained (rest_rules self.now.grammar.now rest self.now.set self.now.number
+            self.now.earlier.now self.now.items.now) n) }
+    {
+        let mut rules = Vec::new(alloc);
+        rules.push(start_rule(rest, self.grammar.start(), self.earlier))?;
+        for item in self.items {
+            let link = link_of(self.grammar.productions(), self.set, *item);
+            rules.push(rest_rule(rest, link, self.earlier, self.number, item.origin))?;
         }
+        Ok(gained(rules.as_slice()))
     }
-    false
-}
 
-/// What may follow of the letters of a set.
-fn future_of(
-    alloc: Global,
-    grammar: &Grammar,
-    set: LetterSet,
-    number: usize,
-    items: &[Item],
-    earlier: &Places,
-) -> Result<Future, NoMemory>
-    ensures { IfOk result (λ future. IsFutureOf grammar.now set number items.now earlier.now future) }
-{
-    let ends = followed(alloc, grammar, Rest::AnyLength, set, number, items, earlier)?;
-    let rest = Rest::NotEmpty(ends);
-    let more = followed(alloc, grammar, rest, set, number, items, earlier)?;
-    let here = Future {
-        ends,
-        more,
-        alive: false,
-    };
-    let alive = is_alive(grammar.productions(), set, number, items, earlier, here);
-    Ok(Future { ends, more, alive })
+    /// Whether letters of the set may go on behind one of the items.
+    fn is_alive(&self, productions: &[Production], here: Future) -> bool
+        ensures { result ≡ list_any
+            (keeps_alive productions.now self.now.set self.now.number self.now.earlier.now here) self.now.items.now }
+    {
+        for item in self.items {
+            let there = future_at(self.earlier, self.number, item.origin).unwrap_or(here);
+            if keeps_alive(productions, self.set, there, *item) {
+                return true;
+            }
+        }
+        false
+    }
+
+    /// What may follow of the letters of the set.
+    fn future(&self, alloc: Global) -> Result<Future, NoMemory>
+        ensures { IfOk result (λ future. IsFutureOf self.now.grammar.now self.now.set self.now.number
+            self.now.items.now self.now.earlier.now future) }
+    {
+        let ends = self.followed(alloc, Rest::AnyLength)?;
+        let more = self.followed(alloc, Rest::NotEmpty(ends))?;
+        let here = Future {
+            ends,
+            more,
+            alive: false,
+        };
+        let alive = self.is_alive(self.grammar.productions(), here);
+        Ok(Future { ends, more, alive })
+    }
 }

@@ -13,147 +13,129 @@ use jm_reading::{Items, event_names, name_of};
 use jm_text::Token;
 use std::alloc::Global;
 
-/// The number of a nonterminal.
-fn nonterminal_of(bytes: &[u8], known: &Names, token: Token) -> Result<u8, SpecError>
-    requires { length known.now ≤ 64 }
-    ensures { Answers result (nonterminal_said bytes.now known.now token) }
-{
-    match known.find(name_of(bytes, token)) {
-        Some(number) => Ok(number as u8),
-        None => {
-            let line = token.line;
-            Err(SpecError::Bad(SpecFault::UnknownName { line }))
+/// What the names of a formula stand for: events, or nonterminals.
+#[derive(Clone, Copy)]
+struct Resolver<'a> {
+    bytes: &'a [u8],
+    table: &'a EventTable,
+    known: &'a Names,
+    ghost few: { length known.now ≤ 64 },
+}
+
+impl<'a> Resolver<'a> {
+    /// The number of a nonterminal.
+    fn nonterminal(&self, token: Token) -> Result<u8, SpecError>
+        ensures { Answers result (nonterminal_said self.now.bytes.now self.now.known.now token) }
+    {
+        match self.known.find(name_of(self.bytes, token)) {
+            Some(number) => Ok(number as u8),
+            None => {
+                let line = token.line;
+                Err(SpecError::Bad(SpecFault::UnknownName { line }))
+            }
         }
     }
-}
 
-/// The symbol of a name.
-fn symbol_of(
-    bytes: &[u8],
-    table: &EventTable,
-    known: &Names,
-    token: Token,
-) -> Result<GrammarSymbol, SpecError>
-    requires { length known.now ≤ 64 }
-    ensures { Answers result (symbol_said bytes.now (event_names table.now) known.now token) }
-{
-    match table.letter(name_of(bytes, token)) {
-        Some(letter) => Ok(GrammarSymbol::Letter(letter)),
-        None => {
-            let number = nonterminal_of(bytes, known, token)?;
-            Ok(GrammarSymbol::Nonterminal(number))
+    /// The symbol of a name.
+    fn symbol(&self, token: Token) -> Result<GrammarSymbol, SpecError>
+        ensures { Answers result
+            (symbol_said self.now.bytes.now (event_names self.now.table.now) self.now.known.now token) }
+    {
+        match self.table.letter(name_of(self.bytes, token)) {
+            Some(letter) => Ok(GrammarSymbol::Letter(letter)),
+            None => {
+                let number = self.nonterminal(token)?;
+                Ok(GrammarSymbol::Nonterminal(number))
+            }
         }
     }
-}
 
-/// Adds a symbol, where it isn't `epsilon`.
-fn add_symbol(
-    bytes: &[u8],
-    table: &EventTable,
-    known: &Names,
-    symbols: &mut Items<GrammarSymbol>,
-    token: Token,
-) -> Result<(), SpecError>
-    requires { length known.now ≤ 64 }
-    ensures { Makes result symbols.new (with_symbol bytes.now (event_names table.now) known.now symbols.old token) }
-{
-    if faults::is_epsilon(name_of(bytes, token)) {
-        return Ok(());
+    /// Adds a symbol, where it isn't `epsilon`.
+    fn add_symbol(&self, symbols: &mut Items<GrammarSymbol>, token: Token) -> Result<(), SpecError>
+        ensures { Makes result symbols.new
+            (with_symbol self.now.bytes.now (event_names self.now.table.now) self.now.known.now symbols.old token) }
+    {
+        if faults::is_epsilon(name_of(self.bytes, token)) {
+            return Ok(());
+        }
+        let symbol = self.symbol(token)?;
+        symbols.push(symbol)
     }
-    let symbol = symbol_of(bytes, table, known, token)?;
-    symbols.push(symbol)
-}
 
-fn add_symbols(
-    bytes: &[u8],
-    table: &EventTable,
-    known: &Names,
-    symbols: &mut Items<GrammarSymbol>,
-    alternative: &[Token],
-) -> Result<(), SpecError>
-    requires { length known.now ≤ 64 }
-    ensures { Makes result symbols.new
-        (with_each (with_symbol bytes.now (event_names table.now) known.now) symbols.old alternative.now) }
-{
-    for token in alternative {
-        add_symbol(bytes, table, known, symbols, *token)?;
+    fn add_symbols(
+        &self,
+        symbols: &mut Items<GrammarSymbol>,
+        alternative: &[Token],
+    ) -> Result<(), SpecError>
+        ensures { Makes result symbols.new (with_each
+            (with_symbol self.now.bytes.now (event_names self.now.table.now) self.now.known.now) symbols.old alternative.now) }
+    {
+        for token in alternative {
+            self.add_symbol(symbols, *token)?;
+        }
+        Ok(())
     }
-    Ok(())
-}
 
-/// Adds the production of an alternative.
-fn add_alternative(
-    alloc: Global,
-    bytes: &[u8],
-    table: &EventTable,
-    known: &Names,
-    left: u8,
-    productions: &mut Items<Production>,
-    alternative: &[Token],
-) -> Result<(), SpecError>
-    requires { length known.now ≤ 64 }
-    ensures { Makes result productions.new
-        (with_alternative bytes.now (event_names table.now) known.now left productions.old alternative.now) }
-{
-    let mut symbols = Items::new(alloc);
-    add_symbols(bytes, table, known, &mut symbols, alternative)?;
-    productions.push(Production { left, symbols })
-}
-
-fn add_alternatives(
-    alloc: Global,
-    bytes: &[u8],
-    table: &EventTable,
-    known: &Names,
-    left: u8,
-    productions: &mut Items<Production>,
-    alternatives: &[Items<Token>],
-) -> Result<(), SpecError>
-    requires { length known.now ≤ 64 }
-    ensures { Makes result productions.new (with_each
-        (with_alternative bytes.now (event_names table.now) known.now left) productions.old alternatives.now) }
-{
-    for alternative in alternatives {
-        let alternative = alternative.as_slice();
-        add_alternative(alloc, bytes, table, known, left, productions, alternative)?;
+    /// Adds the production of an alternative.
+    fn add_alternative(
+        &self,
+        alloc: Global,
+        left: u8,
+        productions: &mut Items<Production>,
+        alternative: &[Token],
+    ) -> Result<(), SpecError>
+        ensures { Makes result productions.new (with_alternative
+            self.now.bytes.now (event_names self.now.table.now) self.now.known.now left productions.old alternative.now) }
+    {
+        let mut symbols = Items::new(alloc);
+        self.add_symbols(&mut symbols, alternative)?;
+        productions.push(Production { left, symbols })
     }
-    Ok(())
-}
 
-/// Adds the productions of a left side and its alternatives.
-fn add_part(
-    alloc: Global,
-    bytes: &[u8],
-    table: &EventTable,
-    known: &Names,
-    productions: &mut Items<Production>,
-    part: &Part,
-) -> Result<(), SpecError>
-    requires { length known.now ≤ 64 }
-    ensures { Makes result productions.new
-        (with_part bytes.now (event_names table.now) known.now productions.old part.now) }
-{
-    let left = nonterminal_of(bytes, known, part.left)?;
-    let alternatives = part.alternatives.as_slice();
-    add_alternatives(alloc, bytes, table, known, left, productions, alternatives)
-}
-
-fn add_parts(
-    alloc: Global,
-    bytes: &[u8],
-    table: &EventTable,
-    known: &Names,
-    productions: &mut Items<Production>,
-    parts: &[Part],
-) -> Result<(), SpecError>
-    requires { length known.now ≤ 64 }
-    ensures { Makes result productions.new
-        (with_each (with_part bytes.now (event_names table.now) known.now) productions.old parts.now) }
-{
-    for part in parts {
-        add_part(alloc, bytes, table, known, productions, part)?;
+    fn add_alternatives(
+        &self,
+        alloc: Global,
+        left: u8,
+        productions: &mut Items<Production>,
+        alternatives: &[Items<Token>],
+    ) -> Result<(), SpecError>
+        ensures { Makes result productions.new (with_each (with_alternative
+            self.now.bytes.now (event_names self.now.table.now) self.now.known.now left) productions.old alternatives.now) }
+    {
+        for alternative in alternatives {
+            self.add_alternative(alloc, left, productions, alternative.as_slice())?;
+        }
+        Ok(())
     }
-    Ok(())
+
+    /// Adds the productions of a left side and its alternatives.
+    fn add_part(
+        &self,
+        alloc: Global,
+        productions: &mut Items<Production>,
+        part: &Part,
+    ) -> Result<(), SpecError>
+        ensures { Makes result productions.new
+            (with_part self.now.bytes.now (event_names self.now.table.now) self.now.known.now productions.old part.now) }
+    {
+        let left = self.nonterminal(part.left)?;
+        self.add_alternatives(alloc, left, productions, part.alternatives.as_slice())
+    }
+
+    fn add_parts(
+        &self,
+        alloc: Global,
+        productions: &mut Items<Production>,
+        parts: &[Part],
+    ) -> Result<(), SpecError>
+        ensures { Makes result productions.new (with_each
+            (with_part self.now.bytes.now (event_names self.now.table.now) self.now.known.now) productions.old parts.now) }
+    {
+        for part in parts {
+            self.add_part(alloc, productions, part)?;
+        }
+        Ok(())
+    }
 }
 
 /// The grammar of a formula with these nonterminals, or its first name that isn't there.
@@ -173,7 +155,12 @@ fn known_grammar(
     ensures { Answers result (grammar_of bytes.now table.now parts.now) }
 {
     let mut productions = Items::new(alloc);
-    add_parts(alloc, bytes, table, known, &mut productions, parts)?;
+    let resolver = Resolver {
+        bytes,
+        table,
+        known,
+    };
+    resolver.add_parts(alloc, &mut productions, parts)?;
     Ok(Grammar::new(productions.into_vec(), 0))
 }
 
