@@ -16,172 +16,137 @@ use jm_reading::{add_name, event_names, letter_of, name_of};
 use jm_text::Token;
 use std::alloc::Global;
 
-/// Where a name leads: to a state or to `fail`.
-fn destination_of(bytes: &[u8], states: &Names, token: Token) -> Result<Destination, SpecError>
-    requires { length states.now ≤ 1023 }
-    ensures { Answers result (destination_said bytes.now states.now token) }
-{
-    let name = name_of(bytes, token);
-    if name == "fail" {
-        return Ok(Destination::Fail);
-    }
-    match states.find(name) {
-        Some(number) => Ok(Destination::State(number as u16)),
-        None => {
-            let line = token.line;
-            Err(SpecError::Bad(SpecFault::UnknownName { line }))
+/// What the names of a formula stand for: events, or states.
+#[derive(Clone, Copy)]
+struct Resolver<'a> {
+    bytes: &'a [u8],
+    table: &'a EventTable,
+    states: &'a Names,
+    ghost few: { length states.now ≤ 1023 },
+}
+
+impl<'a> Resolver<'a> {
+    /// Where a name leads: to a state or to `fail`.
+    fn destination(&self, token: Token) -> Result<Destination, SpecError>
+        ensures { Answers result (destination_said self.now.bytes.now self.now.states.now token) }
+    {
+        let name = name_of(self.bytes, token);
+        if name == "fail" {
+            return Ok(Destination::Fail);
+        }
+        match self.states.find(name) {
+            Some(number) => Ok(Destination::State(number as u16)),
+            None => {
+                let line = token.line;
+                Err(SpecError::Bad(SpecFault::UnknownName { line }))
+            }
         }
     }
-}
 
-/// Adds a transition to a state.
-fn add_transition(
-    bytes: &[u8],
-    table: &EventTable,
-    states: &Names,
-    state: &mut State,
-    transition: TransitionText,
-) -> Result<(), SpecError>
-    requires { length states.now ≤ 1023 }
-    ensures { Makes result state.new
-        (with_transition bytes.now (event_names table.now) states.now state.old transition) }
-{
-    match transition {
-        TransitionText::On { event, destination } => {
-            let letter = letter_of(bytes, table, event)?;
-            let destination = destination_of(bytes, states, destination)?;
-            state.list(Transition {
-                letter,
-                destination,
-            })
-        }
-        TransitionText::Fallback { destination, .. } => {
-            let destination = destination_of(bytes, states, destination)?;
-            state.fall_back(destination);
-            Ok(())
+    /// Adds a transition to a state.
+    fn add_transition(&self, state: &mut State, transition: TransitionText) -> Result<(), SpecError>
+        ensures { Makes result state.new (with_transition
+            self.now.bytes.now (event_names self.now.table.now) self.now.states.now state.old transition) }
+    {
+        match transition {
+            TransitionText::On { event, destination } => {
+                let letter = letter_of(self.bytes, self.table, event)?;
+                let destination = self.destination(destination)?;
+                state.list(Transition {
+                    letter,
+                    destination,
+                })
+            }
+            TransitionText::Fallback { destination, .. } => {
+                let destination = self.destination(destination)?;
+                state.fall_back(destination);
+                Ok(())
+            }
         }
     }
-}
 
-fn add_transitions(
-    bytes: &[u8],
-    table: &EventTable,
-    states: &Names,
-    state: &mut State,
-    transitions: &[TransitionText],
-) -> Result<(), SpecError>
-    requires { length states.now ≤ 1023 }
-    ensures { Makes result state.new
-        (with_each (with_transition bytes.now (event_names table.now) states.now) state.old transitions.now) }
-{
-    for transition in transitions {
-        add_transition(bytes, table, states, state, *transition)?;
-    }
-    Ok(())
-}
-
-/// Adds a member to an alias.
-fn add_member(
-    bytes: &[u8],
-    states: &Names,
-    alias: &mut Alias,
-    member: Token,
-) -> Result<(), SpecError>
-    requires { length states.now ≤ 1023 }
-    ensures { Makes result alias.new (with_member bytes.now states.now alias.old member) }
-{
-    let destination = destination_of(bytes, states, member)?;
-    alias.add(destination)
-}
-
-fn add_members(
-    bytes: &[u8],
-    states: &Names,
-    alias: &mut Alias,
-    members: &[Token],
-) -> Result<(), SpecError>
-    requires { length states.now ≤ 1023 }
-    ensures { Makes result alias.new (with_each (with_member bytes.now states.now) alias.old members.now) }
-{
-    for member in members {
-        add_member(bytes, states, alias, *member)?;
-    }
-    Ok(())
-}
-
-/// The state of a declaration.
-fn state_of(
-    alloc: Global,
-    bytes: &[u8],
-    table: &EventTable,
-    states: &Names,
-    name: Token,
-    transitions: &[TransitionText],
-) -> Result<State, SpecError>
-    requires { length states.now ≤ 1023 }
-    ensures { Answers result (state_said bytes.now (event_names table.now) states.now name transitions.now) }
-{
-    let mut state = State::new(alloc, name_of(bytes, name))?;
-    add_transitions(bytes, table, states, &mut state, transitions)?;
-    Ok(state)
-}
-
-/// The alias of a name and its members.
-fn alias_of(
-    alloc: Global,
-    bytes: &[u8],
-    states: &Names,
-    name: Token,
-    members: &[Token],
-) -> Result<Alias, SpecError>
-    requires { length states.now ≤ 1023 }
-    ensures { Answers result (alias_said bytes.now states.now name members.now) }
-{
-    let mut alias = Alias::new(alloc, name_of(bytes, name))?;
-    add_members(bytes, states, &mut alias, members)?;
-    Ok(alias)
-}
-
-/// Adds a state or an alias to a machine.
-fn add_part(
-    alloc: Global,
-    bytes: &[u8],
-    table: &EventTable,
-    states: &Names,
-    draft: &mut Draft,
-    part: &Part,
-) -> Result<(), SpecError>
-    requires { length states.now ≤ 1023 }
-    ensures { Makes result draft.new (with_part bytes.now (event_names table.now) states.now draft.old part.now) }
-{
-    match part {
-        Part::Declaration { name, transitions } => {
-            let state = state_of(alloc, bytes, table, states, *name, transitions.as_slice())?;
-            draft.add_state(state)
+    fn add_transitions(
+        &self,
+        state: &mut State,
+        transitions: &[TransitionText],
+    ) -> Result<(), SpecError>
+        ensures { Makes result state.new (with_each (with_transition
+            self.now.bytes.now (event_names self.now.table.now) self.now.states.now) state.old transitions.now) }
+    {
+        for transition in transitions {
+            self.add_transition(state, *transition)?;
         }
-        Part::Alias { name, members } => {
-            let alias = alias_of(alloc, bytes, states, *name, members.as_slice())?;
-            draft.add_alias(alias)
+        Ok(())
+    }
+
+    /// Adds a member to an alias.
+    fn add_member(&self, alias: &mut Alias, member: Token) -> Result<(), SpecError>
+        ensures { Makes result alias.new (with_member self.now.bytes.now self.now.states.now alias.old member) }
+    {
+        let destination = self.destination(member)?;
+        alias.add(destination)
+    }
+
+    fn add_members(&self, alias: &mut Alias, members: &[Token]) -> Result<(), SpecError>
+        ensures { Makes result alias.new
+            (with_each (with_member self.now.bytes.now self.now.states.now) alias.old members.now) }
+    {
+        for member in members {
+            self.add_member(alias, *member)?;
+        }
+        Ok(())
+    }
+
+    /// The state of a declaration.
+    fn state(
+        &self,
+        alloc: Global,
+        name: Token,
+        transitions: &[TransitionText],
+    ) -> Result<State, SpecError>
+        ensures { Answers result (state_said
+            self.now.bytes.now (event_names self.now.table.now) self.now.states.now name transitions.now) }
+    {
+        let mut state = State::new(alloc, name_of(self.bytes, name))?;
+        self.add_transitions(&mut state, transitions)?;
+        Ok(state)
+    }
+
+    /// The alias of a name and its members.
+    fn alias(&self, alloc: Global, name: Token, members: &[Token]) -> Result<Alias, SpecError>
+        ensures { Answers result (alias_said self.now.bytes.now self.now.states.now name members.now) }
+    {
+        let mut alias = Alias::new(alloc, name_of(self.bytes, name))?;
+        self.add_members(&mut alias, members)?;
+        Ok(alias)
+    }
+
+    /// Adds a state or an alias to a machine.
+    fn add_part(&self, alloc: Global, draft: &mut Draft, part: &Part) -> Result<(), SpecError>
+        ensures { Makes result draft.new (with_part
+            self.now.bytes.now (event_names self.now.table.now) self.now.states.now draft.old part.now) }
+    {
+        match part {
+            Part::Declaration { name, transitions } => {
+                let state = self.state(alloc, *name, transitions.as_slice())?;
+                draft.add_state(state)
+            }
+            Part::Alias { name, members } => {
+                let alias = self.alias(alloc, *name, members.as_slice())?;
+                draft.add_alias(alias)
+            }
         }
     }
-}
 
-fn add_parts(
-    alloc: Global,
-    bytes: &[u8],
-    table: &EventTable,
-    states: &Names,
-    draft: &mut Draft,
-    parts: &[Part],
-) -> Result<(), SpecError>
-    requires { length states.now ≤ 1023 }
-    ensures { Makes result draft.new
-        (with_each (with_part bytes.now (event_names table.now) states.now) draft.old parts.now) }
-{
-    for part in parts {
-        add_part(alloc, bytes, table, states, draft, part)?;
+    fn add_parts(&self, alloc: Global, draft: &mut Draft, parts: &[Part]) -> Result<(), SpecError>
+        ensures { Makes result draft.new (with_each (with_part
+            self.now.bytes.now (event_names self.now.table.now) self.now.states.now) draft.old parts.now) }
+    {
+        for part in parts {
+            self.add_part(alloc, draft, part)?;
+        }
+        Ok(())
     }
-    Ok(())
 }
 
 /// Adds the name of a state, where the part is one.
@@ -225,8 +190,13 @@ fn known_machine(
     ensures { Answers result (machine_of bytes.now table.now parts.now) }
 {
     let states = state_names(alloc, bytes, parts)?;
+    let resolver = Resolver {
+        bytes,
+        table,
+        states: &states,
+    };
     let mut draft = Draft::new(alloc);
-    add_parts(alloc, bytes, table, &states, &mut draft, parts)?;
+    resolver.add_parts(alloc, &mut draft, parts)?;
     Ok(draft.finish())
 }
 

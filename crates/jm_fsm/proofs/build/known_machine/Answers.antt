@@ -6,8 +6,8 @@ use Rattle.jm_fsm.proofs.build.known_machine.Goals as goal
 pub state_names-requires : goal.state_names-requires
 state_names-requires c = states_distinct c.args.bytes.now c.args.parts.now c.requires.distinct
 
-pub add_parts-requires : goal.add_parts-requires
-add_parts-requires c = omega (arith, few_state_names c.args.bytes.now c.args.parts.now c.requires.states, ap (λ (l : List (List ℕ)). length l) c.in_ok-states.ensures.ok)
+pub invariant_of-resolver : goal.invariant_of-resolver
+invariant_of-resolver c = omega (arith, few_state_names c.args.bytes.now c.args.parts.now c.requires.states, ap (λ (l : List (List ℕ)). length l) c.in_ok-states.ensures.ok)
 
 pub finish-requires : goal.finish-requires
 finish-requires c =
