@@ -1,5 +1,5 @@
 //! The lines of a script that ask for order are taken out.
-ghost use Rattle.std.specs.Prelude.{◌≡◌, ◌<◌, ◌≤◌, ◌-◌, ◌^◌, ◌++◌, All, IfOk, IfSome, IsTrue, OnOk, OnErr, length, map, option_map};
+ghost use Rattle.std.specs.Prelude.{◌≡◌, ◌<◌, ◌≤◌, ◌-◌, ◌^◌, ◌++◌, All, IfOk, IfSome, IsTrue, MatchResult, OnOk, OnErr, length, map, option_map};
 ghost use Rattle.jm_lines.specs.Lines.{words_of};
 ghost use Rattle.jm_lines.specs.Objects.{is_object};
 ghost use Rattle.jm_sync.specs.Cuts.{IsExtension, RisesFrom, kind_of, names_after, names_with, number_for, numbered, request_of, rest_of, rest_of_line, sync_lines_of, words_request};
@@ -22,8 +22,8 @@ pub fn cut(alloc: Global, bytes: &[u8], names: &mut Names) -> Result<Cut, NoMemo
     ensures lines { IfOk result (λ cut. cut.lines.items ≡ sync_lines_of names.old bytes.now) }
     ensures rising { IfOk result (λ cut. RisesFrom 1 cut.lines.items) }
     ensures named { IfOk result (λ cut. All (λ l. l.name < length names.new) cut.lines.items) }
-    ensures ok { OnOk result (names.new ≡ names_after names.old bytes.now) }
-    ensures err { OnErr result (IsExtension names.old names.new) }
+    ensures ok { MatchResult result (λ _. names.new ≡ names_after names.old bytes.now)
+        (λ _. IsExtension names.old names.new) }
 {
     let mut cut = Cut {
         rest: Vec::with_capacity(alloc, bytes.len())?,
