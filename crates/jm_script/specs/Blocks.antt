@@ -6,7 +6,8 @@ use Rattle.jm_model.specs.declared.step.Step.{Step}
 use Rattle.jm_semantics.specs.Scripts.{projection_of}
 use Rattle.jm_script.specs.Events.{spread}
 use Rattle.jm_script.specs.Projections.{script_of}
-use Rattle.jm_script.specs.Meanings.{RisesFrom}
+use Rattle.jm_script.specs.Meanings.{most_steps, RisesFrom}
+use Rattle.jm_script.specs.declared.block.TheConstants.{MOST_LINES}
 use Rattle.jm_script.specs.declared.script.Target.{Target}
 use Rattle.jm_script.specs.declared.script.Target.TheVariants as target
 use Rattle.jm_script.specs.declared.script.ScriptLine.{ScriptLine}
@@ -66,13 +67,13 @@ lines_of full last = flat_map (λ lines. lines) full ++ last
 
 -- blocks have as many lines as fit
 abbrev pub AreFull : List (List ScriptLine) → Type 0
-AreFull blocks = All (λ lines. length lines ≡ 512) blocks
+AreFull blocks = All (λ lines. length lines ≡ MOST_LINES) blocks
 
 -- all blocks but the last are full, and the numbers of all lines rise
 pub record IsCompact (full : List (List ScriptLine)) (last : List ScriptLine) : Type 0 where
   pub each : AreFull full
-  pub room : length last ≤ 512
-  pub few : length (lines_of full last) ≤ 200000
+  pub room : length last ≤ MOST_LINES
+  pub few : length (lines_of full last) ≤ most_steps
   pub rising : RisesFrom 1 (lines_of full last)
 
 -- the steps of blocks that are for a specification, block after block

@@ -9,7 +9,7 @@ use Rattle.jm_lines.specs.Objects.{is_object}
 use Rattle.jm_script.specs.Catalogs.{CatalogEntry}
 use Rattle.jm_script.specs.Events.{named_event}
 use Rattle.jm_script.specs.Fitting.{HasEvent}
-use Rattle.jm_script.specs.Meanings.{statement_meaning}
+use Rattle.jm_script.specs.Meanings.{most_steps, statement_meaning}
 use Rattle.jm_script.specs.Answers.{IsStoppedBy}
 use Rattle.jm_script.specs.declared.event.NamedEvent.{NamedEvent}
 use Rattle.jm_script.specs.declared.known.Known.{Known}
@@ -36,6 +36,6 @@ pub record FindsEvent (catalog : List CatalogEntry) (steps line : ℕ) (word : T
     (result : Result NamedEvent ScriptError) : Type 0 where
   pub event : IfOk result (IsEventOf catalog word count)
   pub named : OnOk result (list_all is_object objects ≡ true)
-  pub room : OnOk result (steps < 200000)
+  pub room : OnOk result (steps < most_steps)
   pub fault : (names : List Text) → IfErr result (λ error.
       IsStoppedBy (statement_meaning catalog steps line names (event_statement word objects)) names error names)

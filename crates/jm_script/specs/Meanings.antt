@@ -6,13 +6,17 @@ use Rattle.jm_model.specs.declared.fault.ScriptFault.TheVariants.{BadLine, TooMa
 use Rattle.jm_events.specs.Names.{number_of}
 use Rattle.jm_lines.specs.Lines.{lines_of, words_of}
 use Rattle.jm_script.specs.Statements.{Statement, Event, Death, Pass, statement_of}
-use Rattle.jm_script.specs.Objects.{mentioned, numbers_of}
+use Rattle.jm_script.specs.Objects.{most_objects, mentioned, numbers_of}
 use Rattle.jm_script.specs.Catalogs.{CatalogEntry, spec_names}
 use Rattle.jm_script.specs.Events.{named_event, spread}
 use Rattle.jm_script.specs.declared.event.NamedEvent.{NamedEvent}
 use Rattle.jm_script.specs.declared.script.Target.{Target}
 use Rattle.jm_script.specs.declared.script.Target.TheVariants as target
 use Rattle.jm_script.specs.declared.script.ScriptLine.{ScriptLine}
+
+-- how many steps all scripts have together at most
+abbrev pub most_steps : ℕ
+most_steps = 200000
 
 -- what a line means: its target, if it is a step, and the names of the objects after it
 pub record LineMeaning : Type 0 where
@@ -22,7 +26,7 @@ pub record LineMeaning : Type 0 where
 -- a line that mentions these objects, if there are not too many then, with a target by their numbers
 abbrev pub mentioning : ℕ → List Text → List Text → (Text → Target) → Result LineMeaning ScriptFault
 mentioning line names objects target_of =
-    if nat_le (length (mentioned names objects)) 65536
+    if nat_le (length (mentioned names objects)) most_objects
     then Ok (record { target = Some (target_of (numbers_of names objects)); names = mentioned names objects })
     else Err (TooManyObjects line)
 
@@ -51,7 +55,7 @@ abbrev pub statement_meaning : List CatalogEntry → ℕ → ℕ → List Text �
     → Result LineMeaning ScriptFault
 statement_meaning catalog count line names None = Err (BadLine line)
 statement_meaning catalog count line names (Some statement) =
-    if nat_lt count 200000 then step_meaning catalog line names statement else Err (TooManyLines line)
+    if nat_lt count most_steps then step_meaning catalog line names statement else Err (TooManyLines line)
 
 -- a line of these words; one without words is no step
 abbrev pub words_meaning : List CatalogEntry → ℕ → ℕ → List Text → List Text → Result LineMeaning ScriptFault

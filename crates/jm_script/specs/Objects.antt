@@ -3,6 +3,10 @@ use Rattle.std.specs.Prelude.{ℕ, ◌≡◌, List, [], ◌∷◌, ◌++◌, unw
 use Rattle.jm_model.specs.Words.{Text}
 use Rattle.jm_events.specs.Names.{number_of, with_name}
 
+-- how many names of objects there are at most
+abbrev pub most_objects : ℕ
+most_objects = 65536
+
 -- the names after some mentions, in order
 abbrev pub mentioned : List Text → List Text → List Text
 mentioned names [] = names

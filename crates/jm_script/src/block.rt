@@ -12,6 +12,9 @@ use jm_model::{Binding, Letter, NoMemory, Step};
 use std::alloc::Global;
 use std::marker::Model;
 
+/// How many lines a block has at most.
+pub(crate) const MOST_LINES: usize = 512;
+
 /// How many objects an event has at most.
 const MOST: usize = 8;
 
@@ -78,7 +81,7 @@ impl Block {
         action: Action,
         numbers: &[u32; 8],
     ) -> Result<(), NoMemory>
-        requires { length self.old < 512 }
+        requires { length self.old < MOST_LINES }
         ensures ok { OnOk result
             (self.new ≡ self.old ++ record { line = line; target = target_of numbers.now action } ∷ []) }
         ensures err { OnErr result (self.new ≡ self.old) }

@@ -5,18 +5,15 @@ ghost use Rattle.jm_script.specs.Projections.{script_of};
 ghost use Rattle.jm_script.specs.Blocks.{lines_of, steps_in, target_of, AreFull};
 ghost use Rattle.jm_script.specs.Catalogs.{CatalogEntry};
 ghost use Rattle.jm_script.specs.Fitting.{FitsCatalog, FitsSpecification};
-ghost use Rattle.jm_script.specs.Meanings.{RisesFrom};
+ghost use Rattle.jm_script.specs.Meanings.{most_steps, RisesFrom};
 
 use crate::action::Action;
-use crate::block::Block;
+use crate::block::{Block, MOST_LINES};
 use crate::script::ScriptLine;
 use jm_model::{NoMemory, Step};
 use std::alloc::Global;
 use std::marker::Model;
 use std::mem;
-
-/// How many lines a block has at most.
-const BLOCK: usize = 512;
 
 /// The step lines of a script, in order, in blocks that can be let go one by one. Their numbers rise. Contracts see a
 /// script as their list.
@@ -45,7 +42,7 @@ impl CompactScript {
     {
         Ok(CompactScript {
             full: Vec::new(alloc),
-            last: Block::with_capacity(alloc, BLOCK)?,
+            last: Block::with_capacity(alloc, MOST_LINES)?,
         })
     }
 
@@ -58,7 +55,7 @@ impl CompactScript {
         action: Action,
         numbers: &[u32; 8],
     ) -> Result<(), NoMemory>
-        requires few { length self.old < 200000 }
+        requires few { length self.old < most_steps }
         requires rises { RisesFrom 1 (self.old ++ record { line = line; target = target_of numbers.now action } ∷ []) }
         ensures ok { OnOk result
             (self.new ≡ self.old ++ record { line = line; target = target_of numbers.now action } ∷ []) }
@@ -71,10 +68,10 @@ impl CompactScript {
     /// How many lines there are, at most 200,000. Their numbers rise.
     pub fn len(&self) -> usize
         ensures value { result ≡ length self.now }
-        ensures few { result ≤ 200000 }
+        ensures few { result ≤ most_steps }
         ensures rising { RisesFrom 1 self.now }
     {
-        self.full.len() * BLOCK + self.last.len()
+        self.full.len() * MOST_LINES + self.last.len()
     }
 
     /// The number of the line at a place.
@@ -82,7 +79,7 @@ impl CompactScript {
         requires { place < length self.now }
         ensures { option_map (λ l. l.line) (slice_get self.now place) ≡ Some result }
     {
-        block_at(self.full.as_slice(), &self.last, place).number(place % BLOCK)
+        block_at(self.full.as_slice(), &self.last, place).number(place % MOST_LINES)
     }
 
     /// The line at a place.
@@ -90,7 +87,7 @@ impl CompactScript {
         requires { place < length self.now }
         ensures { slice_get self.now place ≡ Some result }
     {
-        block_at(self.full.as_slice(), &self.last, place).line(place % BLOCK)
+        block_at(self.full.as_slice(), &self.last, place).line(place % MOST_LINES)
     }
 
     /// The steps that are for a specification, with the numbers of their lines: its events and passes, and all deaths.
@@ -122,13 +119,13 @@ impl CompactScript {
 #[inline(always)]
 fn make_room(alloc: Global, full: &mut Vec<Block>, last: &mut Block) -> Result<(), NoMemory>
     requires full { AreFull full.old.items }
-    requires last { length last.old ≤ 512 }
+    requires last { length last.old ≤ MOST_LINES }
     ensures lines { lines_of full.new.items last.new ≡ lines_of full.old.items last.old }
     ensures full { AreFull full.new.items }
-    ensures last { length last.new ≤ 512 }
-    ensures room { OnOk result (length last.new < 512) }
+    ensures last { length last.new ≤ MOST_LINES }
+    ensures room { OnOk result (length last.new < MOST_LINES) }
 {
-    if last.len() < BLOCK {
+    if last.len() < MOST_LINES {
         return Ok(());
     }
     begin_block(alloc, full, last)
@@ -141,7 +138,7 @@ fn begin_block(alloc: Global, full: &mut Vec<Block>, last: &mut Block) -> Result
     ensures err { OnErr result ((full.new.items ≡ full.old.items) × (last.new ≡ last.old)) }
 {
     full.reserve(1)?;
-    let block = Block::with_capacity(alloc, BLOCK)?;
+    let block = Block::with_capacity(alloc, MOST_LINES)?;
     full.push_reserved(mem::replace(last, block));
     Ok(())
 }
@@ -150,12 +147,12 @@ fn begin_block(alloc: Global, full: &mut Vec<Block>, last: &mut Block) -> Result
 #[inline(always)]
 fn block_at<'a>(full: &'a [Block], last: &'a Block, place: usize) -> &'a Block
     requires full { AreFull full.now }
-    requires last { length last.now ≤ 512 }
+    requires last { length last.now ≤ MOST_LINES }
     requires there { place < length (lines_of full.now last.now) }
-    ensures there { place % 512 < length result.now }
-    ensures line { slice_get result.now (place % 512) ≡ slice_get (lines_of full.now last.now) place }
+    ensures there { place % MOST_LINES < length result.now }
+    ensures line { slice_get result.now (place % MOST_LINES) ≡ slice_get (lines_of full.now last.now) place }
 {
-    let block = place / BLOCK;
+    let block = place / MOST_LINES;
     if block < full.len() {
         &full[block]
     } else {

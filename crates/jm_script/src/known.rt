@@ -23,6 +23,13 @@ pub struct KnownWords<'a> {
     slots: [Option<Known<'a>>; 64],
 }
 
+/// What lasts from line to line: the known words, and the numbers of the objects of the last line that has some.
+#[derive(Clone, Copy)]
+pub struct Scratch<'a> {
+    pub known: KnownWords<'a>,
+    pub numbers: [u32; 8],
+}
+
 impl<'a> KnownWords<'a> {
     /// No word.
     pub fn new() -> KnownWords<'a>

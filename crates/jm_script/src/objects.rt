@@ -3,7 +3,7 @@ ghost use Rattle.std.specs.Prelude.{◌≡◌, ◌<◌, ◌≤◌, nat_le, ◌++
 ghost use Rattle.std.specs.List.{list_all};
 ghost use Rattle.jm_events.specs.Names.{with_name};
 ghost use Rattle.jm_lines.specs.Objects.{is_object};
-ghost use Rattle.jm_script.specs.Objects.{mentioned, number_at_mention, numbers_of, IsExtension};
+ghost use Rattle.jm_script.specs.Objects.{most_objects, mentioned, number_at_mention, numbers_of, IsExtension};
 
 use jm_events::Names;
 use jm_lines::{is_object, text};
@@ -41,7 +41,7 @@ pub fn known_numbers(objects: &[&[u8]], names: &Names, numbers: &mut [u32; 8]) -
 /// Whether there are not too many objects even if all of these are new.
 pub fn are_few(objects: &[&[u8]], names: &Names) -> bool
     requires { length objects.now ≤ 8 }
-    ensures { result ≡ nat_le (length names.now + length objects.now) 65536 }
+    ensures { result ≡ nat_le (length names.now + length objects.now) most_objects }
 {
     names.len() as usize + objects.len() <= MOST_OBJECTS
 }
@@ -51,8 +51,9 @@ pub fn are_few(objects: &[&[u8]], names: &Names) -> bool
 pub fn have_room(alloc: Global, objects: &[&[u8]], names: &Names) -> Result<bool, NoMemory>
     requires objects { IsTrue (list_all is_object (map (λ w. w.now) objects.now)) }
     requires few { length objects.now ≤ 8 }
-    requires room { length names.now ≤ 65536 }
-    ensures { IfOk result (λ b. b ≡ nat_le (length (mentioned names.now (map (λ w. w.now) objects.now))) 65536) }
+    requires room { length names.now ≤ most_objects }
+    ensures { IfOk result (λ b. b
+        ≡ nat_le (length (mentioned names.now (map (λ w. w.now) objects.now))) most_objects) }
 {
     if are_few(objects, names) {
         return Ok(true);
@@ -65,8 +66,9 @@ pub fn have_room(alloc: Global, objects: &[&[u8]], names: &Names) -> Result<bool
 fn have_room_for_new(alloc: Global, objects: &[&[u8]], names: &Names) -> Result<bool, NoMemory>
     requires objects { IsTrue (list_all is_object (map (λ w. w.now) objects.now)) }
     requires few { length objects.now ≤ 8 }
-    requires room { length names.now ≤ 65536 }
-    ensures { IfOk result (λ b. b ≡ nat_le (length (mentioned names.now (map (λ w. w.now) objects.now))) 65536) }
+    requires room { length names.now ≤ most_objects }
+    ensures { IfOk result (λ b. b
+        ≡ nat_le (length (mentioned names.now (map (λ w. w.now) objects.now))) most_objects) }
 {
     let new = new_names(alloc, objects, names)?;
     Ok(names.len() as usize + new.len() as usize <= MOST_OBJECTS)
@@ -93,7 +95,7 @@ fn new_names(alloc: Global, objects: &[&[u8]], names: &Names) -> Result<Names, N
 pub fn mention(objects: &[&[u8]], names: &mut Names, numbers: &mut [u32; 8]) -> Result<(), NoMemory>
     requires objects { IsTrue (list_all is_object (map (λ w. w.now) objects.now)) }
     requires few { length objects.now ≤ 8 }
-    requires room { length names.old ≤ 65536 }
+    requires room { length names.old ≤ most_objects }
     ensures ok { OnOk result (names.new ≡ mentioned names.old (map (λ w. w.now) objects.now)) }
     ensures numbers { OnOk result (take (length objects.now) numbers.new
         ≡ numbers_of names.old (map (λ w. w.now) objects.now)) }

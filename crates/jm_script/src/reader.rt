@@ -1,16 +1,16 @@
 //! Reading a whole script.
 ghost use Rattle.std.specs.Prelude.{◌≡◌, ◌<◌, ◌≤◌, ◌^◌, ◌-◌, length, IfOk, IfErr, OnOk};
-ghost use Rattle.jm_script.specs.Meanings.{RisesFrom, script_meaning};
+ghost use Rattle.jm_script.specs.Meanings.{most_steps, RisesFrom, script_meaning};
 ghost use Rattle.jm_script.specs.Answers.{IsWhole, IsLeft, count_left};
 ghost use Rattle.jm_script.specs.Fitting.{FitsCatalog};
-ghost use Rattle.jm_script.specs.Objects.{IsExtension};
+ghost use Rattle.jm_script.specs.Objects.{most_objects, IsExtension};
 
 use crate::catalog::Catalog;
 use crate::compact::CompactScript;
-use crate::known::KnownWords;
+use crate::known::{KnownWords, Scratch};
 use crate::line::read_line;
 use crate::script::Script;
-use crate::statement::Position;
+use crate::statement::{Position, Reader};
 use jm_events::Names;
 use jm_lines::{behind_line, first_words};
 use jm_model::ScriptError;
@@ -29,12 +29,11 @@ pub fn read_script(
     count: &mut u32,
 ) -> Result<Script, ScriptError>
     requires small { length bytes.now < 2 ^ 32 - 1 }
-    requires few_steps { count.old ≤ 200000 }
-    requires few_objects { length objects.old ≤ 65536 }
+    requires few { (count.old ≤ most_steps) × (length objects.old ≤ most_objects) }
     ensures ok { IfOk result (λ script. IsWhole
         (script_meaning catalog.now count.old bytes.now objects.old) count.old script objects.new count.new) }
     ensures fitting { IfOk result (λ script. FitsCatalog catalog.now (length objects.new) script) }
-    ensures bounded { OnOk result ((count.new ≤ 200000) × (length objects.new ≤ 65536)) }
+    ensures bounded { OnOk result ((count.new ≤ most_steps) × (length objects.new ≤ most_objects)) }
     ensures grown { OnOk result (length objects.old ≤ length objects.new) }
     ensures rising { IfOk result (λ script. RisesFrom 1 script) }
     ensures err { IfErr result (λ error. IsLeft (script_meaning catalog.now count.old bytes.now objects.old)
@@ -58,11 +57,11 @@ pub fn read_compact(
     count: &mut u32,
 ) -> Result<CompactScript, ScriptError>
     requires small { length bytes.now < 2 ^ 32 - 1 }
-    requires few { (count.old ≤ 200000) × (length objects.old ≤ 65536) }
+    requires few { (count.old ≤ most_steps) × (length objects.old ≤ most_objects) }
     ensures ok { IfOk result (λ script. IsWhole
         (script_meaning catalog.now count.old bytes.now objects.old) count.old script objects.new count.new) }
     ensures fitting { IfOk result (λ script. FitsCatalog catalog.now (length objects.new) script) }
-    ensures bounded { OnOk result ((count.new ≤ 200000) × (length objects.new ≤ 65536)) }
+    ensures bounded { OnOk result ((count.new ≤ most_steps) × (length objects.new ≤ most_objects)) }
     ensures extended { OnOk result (IsExtension objects.old objects.new) }
     ensures rising { IfOk result (λ script. RisesFrom 1 script) }
     ensures err { IfErr result (λ error. IsLeft (script_meaning catalog.now count.old bytes.now objects.old)
@@ -70,8 +69,11 @@ pub fn read_compact(
 {
     let mut script = CompactScript::new(alloc)?;
     let mut words = Vec::new(alloc);
-    let mut known = KnownWords::new();
-    let mut numbers = [0; 8];
+    let known = KnownWords::new();
+    let mut scratch = Scratch {
+        known,
+        numbers: [0; 8],
+    };
     let mut line = 0;
     let mut rest = Some(bytes);
     while let Some(text) = rest {
@@ -80,17 +82,14 @@ pub fn read_compact(
             line,
             count: *count + script.len() as u32,
         };
-        let end = first_words(text, &mut words)?;
-        rest = behind_line(text, end);
-        let action = match read_line(
+        let reader = Reader {
             alloc,
             catalog,
             position,
-            &words,
-            objects,
-            &mut known,
-            &mut numbers,
-        ) {
+        };
+        let end = first_words(text, &mut words)?;
+        rest = behind_line(text, end);
+        let action = match read_line(&reader, &words, objects, &mut scratch) {
             Ok(action) => action,
             Err(error) => {
                 *count = count_left(error, position.count, *count);
@@ -100,7 +99,7 @@ pub fn read_compact(
         let Some(action) = action else {
             continue;
         };
-        script.push(alloc, line, action, &numbers)?;
+        script.push(alloc, line, action, &scratch.numbers)?;
     }
     *count += script.len() as u32;
     Ok(script)

@@ -6,8 +6,8 @@ ghost use Rattle.jm_script.specs.declared.script.Target.{Target};
 ghost use Rattle.jm_script.specs.Statements.{event_statement, death_statement, pass_statement};
 ghost use Rattle.jm_lines.specs.Objects.{is_object};
 ghost use Rattle.jm_script.specs.Catalogs.{CatalogEntry};
-ghost use Rattle.jm_script.specs.Objects.{mentioned, numbers_of};
-ghost use Rattle.jm_script.specs.Meanings.{mentioning, statement_meaning};
+ghost use Rattle.jm_script.specs.Objects.{most_objects, mentioned, numbers_of};
+ghost use Rattle.jm_script.specs.Meanings.{most_steps, mentioning, statement_meaning};
 ghost use Rattle.jm_script.specs.Answers.{IsStoppedBy, IsReadAs};
 ghost use Rattle.jm_script.specs.Fitting.{FitsTarget};
 ghost use Rattle.jm_script.specs.Blocks.{target_of, targets_of};
@@ -16,7 +16,7 @@ ghost use Rattle.jm_script.specs.Known.{AreSound, FindsEvent};
 use crate::action::Action;
 use crate::catalog::Catalog;
 use crate::event::{NamedEvent, named_event};
-use crate::known::{Known, KnownWords};
+use crate::known::{Known, KnownWords, Scratch};
 use crate::objects::{are_few, are_objects, have_room, known_numbers, mention};
 use jm_events::Names;
 use jm_lines::{position_of, text};
@@ -37,7 +37,7 @@ pub struct Position {
 impl Position {
     /// Whether one step more would be too many.
     fn is_full(self) -> bool
-        ensures { result ≡ nat_le 200000 self.count }
+        ensures { result ≡ nat_le most_steps self.count }
     {
         self.count >= MOST_STEPS
     }
@@ -55,29 +55,47 @@ impl Position {
     }
 }
 
+/// What a line is read over: the specifications, and where it stands.
+#[derive(Clone, Copy)]
+pub struct Reader<'c> {
+    pub alloc: Global,
+    pub catalog: &'c Catalog,
+    pub position: Position,
+}
+
 /// A line `SPEC.EVENT OBJECT..`, by its first word and its objects. The word is known then, and the numbers of the
 /// objects are written.
 pub fn event_line<'a>(
-    alloc: Global,
-    catalog: &Catalog,
-    position: Position,
+    reader: &Reader<'_>,
     word: &'a [u8],
     objects: &[&[u8]],
     names: &mut Names,
-    known: &mut KnownWords<'a>,
-    numbers: &mut [u32; 8],
+    scratch: &mut Scratch<'a>,
 ) -> Result<Option<Action>, ScriptError>
-    requires few { length names.old ≤ 65536 }
-    requires known { AreSound catalog.now known.old.slots }
-    ensures known { AreSound catalog.now known.new.slots }
+    requires few { length names.old ≤ most_objects }
+    requires known { AreSound reader.now.catalog.now scratch.old.known.slots }
+    ensures known { AreSound reader.now.catalog.now scratch.new.known.slots }
     ensures fits { IfOk result (λ action. IfSome action
-        (λ a. FitsTarget catalog.now (length names.new) (target_of numbers.new a))) }
-    ensures read { IsReadAs (statement_meaning catalog.now position.count position.line names.old
+        (λ a. FitsTarget reader.now.catalog.now (length names.new) (target_of scratch.new.numbers a))) }
+    ensures read { IsReadAs (statement_meaning
+        reader.now.catalog.now reader.now.position.count reader.now.position.line names.old
         (event_statement word.now (map (λ w. w.now) objects.now))) names.old
-        (targets_of numbers.new result) names.new }
+        (targets_of scratch.new.numbers result) names.new }
 {
-    let event = event_of(catalog, position, word, objects, known)?;
-    number_all(alloc, position, objects, names, numbers)?;
+    let event = event_of(
+        reader.catalog,
+        reader.position,
+        word,
+        objects,
+        &mut scratch.known,
+    )?;
+    number_all(
+        reader.alloc,
+        reader.position,
+        objects,
+        names,
+        &mut scratch.numbers,
+    )?;
     Ok(Some(Action::Event { event }))
 }
 
@@ -162,8 +180,8 @@ fn number_all(
 ) -> Result<(), ScriptError>
     requires objects { IsTrue (list_all is_object (map (λ w. w.now) objects.now)) }
     requires few { length objects.now ≤ 8 }
-    requires room { length names.old ≤ 65536 }
-    ensures room { OnOk result (length (mentioned names.old (map (λ w. w.now) objects.now)) ≤ 65536) }
+    requires room { length names.old ≤ most_objects }
+    ensures room { OnOk result (length (mentioned names.old (map (λ w. w.now) objects.now)) ≤ most_objects) }
     ensures ok { OnOk result (names.new ≡ mentioned names.old (map (λ w. w.now) objects.now)) }
     ensures numbers { OnOk result (take (length objects.now) numbers.new
         ≡ numbers_of names.old (map (λ w. w.now) objects.now)) }
@@ -193,7 +211,7 @@ pub fn death_line(
     names: &mut Names,
     numbers: &mut [u32; 8],
 ) -> Result<Option<Action>, ScriptError>
-    requires { length names.old ≤ 65536 }
+    requires { length names.old ≤ most_objects }
     ensures fits { (catalog : List CatalogEntry) → IfOk result (λ action. IfSome action
         (λ a. FitsTarget catalog (length names.new) (target_of numbers.new a))) }
     ensures read { (catalog : List CatalogEntry)

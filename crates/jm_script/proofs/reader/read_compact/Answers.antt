@@ -48,13 +48,13 @@ loop-rest-preserved c =
     let steps : c.loop-rest.count + c.len.result ≡ c.args.count.now + length c.loop-rest.script = omega arith in
     let meaning = rw (steps, c.in-Some-action.is) at (c.in-Ok.ensures.read (first_line c.in-Some.text.now) words) in
     let fits = rw c.in-Some-action.is at c.in-Ok.ensures.fits in
-    let kept = FitsCatalog-more c.args.catalog.now (length c.loop-rest.objects) (length c.read_line.new.names) (more_names c.args.catalog.now _ c.args.count.now c.args.objects.now c.loop-rest.script c.loop-rest.objects c.loop-rest.line _ c.loop-rest.invariant.read (first_line c.in-Some.text.now) (lines_left c.behind_line-rest.result) here (Some (target_of c.read_line.new.numbers c.in-Some-action.action)) c.read_line.new.names meaning) c.loop-rest.script c.loop-rest.invariant.fitting in
+    let kept = FitsCatalog-more c.args.catalog.now (length c.loop-rest.objects) (length c.read_line.new.names) (more_names c.args.catalog.now _ c.args.count.now c.args.objects.now c.loop-rest.script c.loop-rest.objects c.loop-rest.line _ c.loop-rest.invariant.read (first_line c.in-Some.text.now) (lines_left c.behind_line-rest.result) here (Some (target_of c.read_line.new.scratch.numbers c.in-Some-action.action)) c.read_line.new.names meaning) c.loop-rest.script c.loop-rest.invariant.fitting in
     record {
       counted = c.loop-rest.invariant.counted;
       few = omega (arith, ap bytes_left c.in-Some.is, c.loop-rest.invariant.few, c.behind_line-rest.ensures.shorter);
       known = c.read_line.ensures.known;
-      fitting = rw c.in_ok-push.ensures.ok (All-push (λ l. FitsTarget c.args.catalog.now (length c.read_line.new.names) l.target) c.loop-rest.script (record { line = c.loop-rest.line + 1; target = (target_of c.read_line.new.numbers c.in-Some-action.action) }) kept fits);
-      read = rw c.in_ok-push.ensures.ok (one_step c.args.catalog.now _ c.args.count.now c.args.objects.now c.loop-rest.script c.loop-rest.objects c.loop-rest.line _ c.loop-rest.invariant.read (first_line c.in-Some.text.now) (lines_left c.behind_line-rest.result) here (target_of c.read_line.new.numbers c.in-Some-action.action) c.read_line.new.names meaning);
+      fitting = rw c.in_ok-push.ensures.ok (All-push (λ l. FitsTarget c.args.catalog.now (length c.read_line.new.names) l.target) c.loop-rest.script (record { line = c.loop-rest.line + 1; target = (target_of c.read_line.new.scratch.numbers c.in-Some-action.action) }) kept fits);
+      read = rw c.in_ok-push.ensures.ok (one_step c.args.catalog.now _ c.args.count.now c.args.objects.now c.loop-rest.script c.loop-rest.objects c.loop-rest.line _ c.loop-rest.invariant.read (first_line c.in-Some.text.now) (lines_left c.behind_line-rest.result) here (target_of c.read_line.new.scratch.numbers c.in-Some-action.action) c.read_line.new.names meaning);
     }
 
 pub returns-in_err-push-clause-err : goal.returns-in_err-push-clause-err
@@ -64,7 +64,7 @@ returns-in_err-push-clause-err c =
     let steps : c.loop-rest.count + c.len.result ≡ c.args.count.now + length c.loop-rest.script = omega arith in
     let p = err_from_is_err_and c.from_residual-in_err-push.result c.from_residual-in_err-push.ensures.1 in
     rw (p.1, p.2) (record {
-      extended = abandoned c.args.catalog.now _ c.args.count.now c.args.objects.now c.loop-rest.script c.loop-rest.objects c.loop-rest.line _ c.loop-rest.invariant.read (first_line c.in-Some.text.now) (lines_left c.behind_line-rest.result) here (option_map (target_of c.read_line.new.numbers) c.in-Ok.action) c.read_line.new.names (rw steps at (c.in-Ok.ensures.read (first_line c.in-Some.text.now) words));
+      extended = abandoned c.args.catalog.now _ c.args.count.now c.args.objects.now c.loop-rest.script c.loop-rest.objects c.loop-rest.line _ c.loop-rest.invariant.read (first_line c.in-Some.text.now) (lines_left c.behind_line-rest.result) here (option_map (target_of c.read_line.new.scratch.numbers) c.in-Ok.action) c.read_line.new.names (rw steps at (c.in-Ok.ensures.read (first_line c.in-Some.text.now) words));
       counted = c.loop-rest.invariant.counted;
     })
 
@@ -74,7 +74,7 @@ push-requires-clause-few c =
     let words = ap texts c.deref.ensures.value ∙ c.in_ok-end.ensures.words in
     let steps : c.loop-rest.count + c.len.result ≡ c.args.count.now + length c.loop-rest.script = omega arith in
     let meaning = rw (steps, c.in-Some-action.is) at (c.in-Ok.ensures.read (first_line c.in-Some.text.now) words) in
-    let target = target_of c.read_line.new.numbers c.in-Some-action.action in
+    let target = target_of c.read_line.new.scratch.numbers c.in-Some-action.action in
     let after = one_step c.args.catalog.now _ c.args.count.now c.args.objects.now c.loop-rest.script c.loop-rest.objects c.loop-rest.line _ c.loop-rest.invariant.read (first_line c.in-Some.text.now) (lines_left c.behind_line-rest.result) here target c.read_line.new.names meaning in
     omega (arith, after.few_steps, length_push c.loop-rest.script (record { line = c.loop-rest.line + 1; target = target }))
 
@@ -84,4 +84,4 @@ push-requires-clause-rises c =
     let words = ap texts c.deref.ensures.value ∙ c.in_ok-end.ensures.words in
     let steps : c.loop-rest.count + c.len.result ≡ c.args.count.now + length c.loop-rest.script = omega arith in
     let meaning = rw (steps, c.in-Some-action.is) at (c.in-Ok.ensures.read (first_line c.in-Some.text.now) words) in
-    read_rises _ c.args.bytes.now _ _ _ _ _ _ (one_step c.args.catalog.now _ c.args.count.now c.args.objects.now c.loop-rest.script c.loop-rest.objects c.loop-rest.line _ c.loop-rest.invariant.read (first_line c.in-Some.text.now) (lines_left c.behind_line-rest.result) here (target_of c.read_line.new.numbers c.in-Some-action.action) c.read_line.new.names meaning)
+    read_rises _ c.args.bytes.now _ _ _ _ _ _ (one_step c.args.catalog.now _ c.args.count.now c.args.objects.now c.loop-rest.script c.loop-rest.objects c.loop-rest.line _ c.loop-rest.invariant.read (first_line c.in-Some.text.now) (lines_left c.behind_line-rest.result) here (target_of c.read_line.new.scratch.numbers c.in-Some-action.action) c.read_line.new.names meaning)

@@ -10,7 +10,7 @@ abbrev pub invariant-loop-rest : goal.invariant-loop-rest
 invariant-loop-rest l = record {
   counted : l.count ≡ l.fn.count;
   few : l.line + bytes_left l.rest ≤ length l.bytes + 1;
-  known : AreSound l.catalog l.known.slots;
+  known : AreSound l.catalog l.scratch.known.slots;
   fitting : FitsCatalog l.catalog (length l.objects) l.script;
   read : HasRead l.catalog (script_meaning l.catalog l.fn.count l.bytes l.fn.objects) l.fn.count l.fn.objects l.script l.objects l.line (lines_left l.rest);
 }
