@@ -67,8 +67,8 @@ impl<'a> Resolver<'a> {
         symbols: &mut Items<GrammarSymbol>,
         alternative: &[Token],
     ) -> Result<(), SpecError>
-        ensures { Makes result symbols.new (with_each
-            (with_symbol self.now.bytes.now (event_names self.now.table.now) self.now.known.now) symbols.old alternative.now) }
+        ensures { Makes result symbols.new (with_each (with_symbol
+            self.now.bytes.now (event_names self.now.table.now) self.now.known.now) symbols.old alternative.now) }
     {
         for token in alternative {
             self.add_symbol(symbols, *token)?;
@@ -85,7 +85,8 @@ impl<'a> Resolver<'a> {
         alternative: &[Token],
     ) -> Result<(), SpecError>
         ensures { Makes result productions.new (with_alternative
-            self.now.bytes.now (event_names self.now.table.now) self.now.known.now left productions.old alternative.now) }
+            self.now.bytes.now (event_names self.now.table.now) self.now.known.now left
+            productions.old alternative.now) }
     {
         let mut symbols = Items::new(alloc);
         self.add_symbols(&mut symbols, alternative)?;
@@ -100,7 +101,8 @@ impl<'a> Resolver<'a> {
         alternatives: &[Items<Token>],
     ) -> Result<(), SpecError>
         ensures { Makes result productions.new (with_each (with_alternative
-            self.now.bytes.now (event_names self.now.table.now) self.now.known.now left) productions.old alternatives.now) }
+            self.now.bytes.now (event_names self.now.table.now) self.now.known.now left)
+            productions.old alternatives.now) }
     {
         for alternative in alternatives {
             self.add_alternative(alloc, left, productions, alternative.as_slice())?;
@@ -115,8 +117,8 @@ impl<'a> Resolver<'a> {
         productions: &mut Items<Production>,
         part: &Part,
     ) -> Result<(), SpecError>
-        ensures { Makes result productions.new
-            (with_part self.now.bytes.now (event_names self.now.table.now) self.now.known.now productions.old part.now) }
+        ensures { Makes result productions.new (with_part
+            self.now.bytes.now (event_names self.now.table.now) self.now.known.now productions.old part.now) }
     {
         let left = self.nonterminal(part.left)?;
         self.add_alternatives(alloc, left, productions, part.alternatives.as_slice())
@@ -128,8 +130,8 @@ impl<'a> Resolver<'a> {
         productions: &mut Items<Production>,
         parts: &[Part],
     ) -> Result<(), SpecError>
-        ensures { Makes result productions.new (with_each
-            (with_part self.now.bytes.now (event_names self.now.table.now) self.now.known.now) productions.old parts.now) }
+        ensures { Makes result productions.new (with_each (with_part
+            self.now.bytes.now (event_names self.now.table.now) self.now.known.now) productions.old parts.now) }
     {
         for part in parts {
             self.add_part(alloc, productions, part)?;
