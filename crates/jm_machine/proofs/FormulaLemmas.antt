@@ -1,13 +1,16 @@
 -- What runs a formula tells its categories.
-use Rattle.std.proofs.Common.{Bool, true, false, [], ◌∷◌, map, length-append, ◌≡◌, ℕ, zero, suc, ◌<◌, List, ◌++◌, length, Result, Ok, Err, sym, subst, arith}
-use Rattle.std.specs.Prelude.{◌↔◌, All, Contains, IfOk, codes}
+use Rattle.std.proofs.Common.{Bool, true, false, [], ◌∷◌, map, length-append, ◌≡◌, ℕ, zero, suc, ◌<◌, List, ◌++◌, length, Result, Ok, Err, refl, sym, ap, ◌∙◌, subst, arith}
+use Rattle.std.specs.Prelude.{◌↔◌, All, Contains, IfOk, IfErr, codes}
 use Rattle.std.proofs.lemmas.List.{length-map}
 use Rattle.std.proofs.lemmas.List.Elements.{All-weaker, All-contains_itself, All-append, All-tail}
 use Rattle.jm_model.specs.declared.step.Letter.{Letter as LetterType}
 use Rattle.jm_model.specs.declared.fault.SpecError.{SpecError}
+use Rattle.jm_model.specs.declared.fault.SpecError.TheVariants.{Bad, NoMemory}
+use Rattle.jm_model.specs.declared.fault.SpecFault.{SpecFault}
 use Rattle.jm_text.specs.declared.token.Token.{Token}
-use Rattle.jm_events.specs.Events.{EventDefinitions}
+use Rattle.jm_events.specs.Events.{EventDefinition, EventDefinitions}
 use Rattle.jm_table.specs.Tables.{Transitions, IsWord, IsInGroup, state_after_of}
+use Rattle.jm_table.specs.Explorations.{IfBad}
 use Rattle.jm_fsm.specs.Machines as fsm
 use Rattle.jm_fsm.specs.Categories as fsm_categories
 use Rattle.jm_fsm.specs.Tables as fsm_tables
@@ -34,8 +37,8 @@ use Rattle.jm_machine.specs.declared.formula.Formula.{Formula}
 use Rattle.jm_machine.specs.declared.formula.Formula.TheVariants.{Machine, Regular, RegularSuffix, Temporal, Grammatical, GrammaticalSuffix}
 use Rattle.jm_machine.specs.declared.engine.Engine.{Engine}
 use Rattle.jm_machine.specs.declared.engine.Engine.TheVariants.{States, Parses}
-use Rattle.jm_machine.specs.Formulas.{IsReadAs, CategoryHolds, SuffixHolds}
-use Rattle.jm_machine.specs.Engines.{letters_of_engine, EngineHolds, HasLetters, IsSuffixParserOf, IsCompiled}
+use Rattle.jm_machine.specs.Formulas.{category_names, is_grammar, IsReadAs, CategoryHolds, SuffixHolds}
+use Rattle.jm_machine.specs.Engines.{is_parsing, HasParams, EngineHolds, HasLetters, IsCompiled, IsMinimised, IsEngineOf}
 
 pub machine_count : (m : fsm.StateMachine) → length (fsm_categories.category_names m) ≡ fsm_categories.category_count m
 machine_count m =
@@ -80,22 +83,53 @@ all_behind : (P : ℕ → Type 0) (word more : List ℕ) → All P (word ++ more
 all_behind P [] more h = h
 all_behind P (x ∷ word) more h = all_behind P word more (All-tail P x (word ++ more) h)
 
-suffix_parsed : (g : GrammarDefinition) (c : ChartsDefinition) (word : List ℕ) (category : ℕ) → IsSuffixParserOf g (length c.params) (Parses c) → All (λ letter. letter < length c.params) word → category < 2
-    → GrammarHolds c.grammar category word ↔ SuffixHolds (grammar.IsWord g) (length c.params) category word
-suffix_parsed g c word zero h below less = let w = h.0 word in (λ own. (w.0 own).1, λ ends. w.1 (below, ends))
-suffix_parsed g c word (suc zero) h below less =
-    let P : ℕ → Type 0 = λ letter. letter < length c.params in (
-      λ hopeless more letters ends. hopeless more ((h.0 (word ++ more)).1 (all_extended P word more below letters, ends)),
-      λ never more own. let w = (h.0 (word ++ more)).0 own in never more (all_behind P word more w.0) w.1,
-    )
-suffix_parsed g c word (suc (suc category)) h below less = absurd (omega (arith, less))
+-- the charts have the words of the grammar
+module _ (g : GrammarDefinition) (c : ChartsDefinition) (words : (word : List ℕ) → grammar.IsWord c.grammar word ↔ grammar.IsWord g word) where
+  parsed : (word : List ℕ) (category : ℕ) → GrammarHolds c.grammar category word ↔ GrammarHolds g category word
+  parsed word zero = words word
+  parsed word (suc zero) = (
+    λ hopeless more own. hopeless more ((words (word ++ more)).1 own),
+    λ hopeless more own. hopeless more ((words (word ++ more)).0 own),
+  )
+  parsed word (suc (suc category)) = (λ never. never, λ never. never)
 
--- the charts of the words that end in one of a grammar
-pub suffix_parser_compiled : (g : GrammarDefinition) (letters : ℕ) (r : Result Engine SpecError) → IfOk r (IsSuffixParserOf g letters) → IfOk r (IsCompiled (GrammaticalSuffix g))
-suffix_parser_compiled g letters (Err e) h = tt
-suffix_parser_compiled g letters (Ok (States t)) h = absurd h
-suffix_parser_compiled g letters (Ok (Parses c)) h = λ word below some category less.
-    suffix_parsed g c word category (subst (λ (n : ℕ). IsSuffixParserOf g n (Parses c)) (sym h.1) h) below less
+  pub parser_engine : (events : List EventDefinition) → c.params ≡ map (λ e. e.mask) events → IsEngineOf events (Grammatical g) (Parses c)
+  parser_engine events params = record {
+    letters = ap (λ l. length l) params ∙ length-map events (λ (e : EventDefinition). e.mask);
+    categories = refl;
+    compiled = λ word below some category less. parsed word category;
+    minimal = tt;
+    kind = refl;
+    params = params;
+  }
+
+-- the charts have the words, over so many letters, that end in a word of the grammar
+module _ (g : GrammarDefinition) (c : ChartsDefinition) where
+  abbrev HasSuffixWords : ℕ → Type 0
+  HasSuffixWords letters = (word : List ℕ) → grammar.IsWord c.grammar word ↔ (All (λ letter. letter < letters) word × EndsIn (grammar.IsWord g) word)
+
+  suffix_parsed : (word : List ℕ) (category : ℕ) → HasSuffixWords (length c.params) → All (λ letter. letter < length c.params) word → category < 2
+      → GrammarHolds c.grammar category word ↔ SuffixHolds (grammar.IsWord g) (length c.params) category word
+  suffix_parsed word zero h below less = let w = h word in (λ own. (w.0 own).1, λ ends. w.1 (below, ends))
+  suffix_parsed word (suc zero) h below less =
+      let P : ℕ → Type 0 = λ letter. letter < length c.params in (
+        λ hopeless more letters ends. hopeless more ((h (word ++ more)).1 (all_extended P word more below letters, ends)),
+        λ never more own. let w = (h (word ++ more)).0 own in never more (all_behind P word more w.0) w.1,
+      )
+  suffix_parsed word (suc (suc category)) h below less = absurd (omega (arith, less))
+
+  pub suffix_parser_engine : (events : List EventDefinition) → HasSuffixWords (length events) → c.params ≡ map (λ e. e.mask) events → IsEngineOf events (GrammaticalSuffix g) (Parses c)
+  suffix_parser_engine events words params =
+      let count = ap (λ l. length l) params ∙ length-map events (λ (e : EventDefinition). e.mask) in
+      let own = subst (λ (n : ℕ). HasSuffixWords n) (sym count) words in
+      record {
+        letters = count;
+        categories = refl;
+        compiled = λ word below some category less. suffix_parsed word category own below less;
+        minimal = tt;
+        kind = refl;
+        params = params;
+      }
 
 temporal_at : (f : past.Formula LetterType) (t : Transitions) (word : List ℕ) (category : ℕ) → past_tables.IsCompiled f t → IsWord t word → 0 < length word → category < 2 → IsInGroup t (state_after_of t word) category ↔ PastHolds f category word
 temporal_at f t word zero h below some less = h.validation word below some
@@ -106,14 +140,40 @@ pub temporal_compiled : (f : past.Formula LetterType) (t : Transitions) → past
 temporal_compiled f t h = λ word below some category less. temporal_at f t word category h below some less
 
 -- what is compiled is so by a table with the same groups after each word
-pub compiled_by : (formula : Formula) (t : Transitions) (r : Result Engine SpecError) → IsCompiled formula (States t) → IfOk r (λ e. letters_of_engine e ≡ t.letters)
-    → IfOk r (λ e. (word : List ℕ) → IsWord t word → (category : ℕ) → EngineHolds e category word ↔ IsInGroup t (state_after_of t word) category) → IfOk r (IsCompiled formula)
-compiled_by formula t (Err x) compiled letters same = tt
-compiled_by formula t (Ok e) compiled letters same = λ word below some category less.
-    let w : IsWord t word = subst (λ (n : ℕ). All (λ x. x < n) word) letters below in
-    let s = same word w category in
-    let h = compiled word w some category less in
-    subst (λ (n : ℕ). EngineHolds e category word ↔ CategoryHolds formula n category word) (sym letters) (λ at. h.0 (s.0 at), λ holds. s.1 (h.1 holds))
+compiled_by : (formula : Formula) (t : Transitions) (e : Engine) → IsCompiled formula (States t) → IsMinimised t e → IsCompiled formula e
+compiled_by formula t e compiled h = λ word below some category less.
+    let w : IsWord t word = subst (λ (n : ℕ). All (λ x. x < n) word) h.letters below in
+    let s = h.same word w category in
+    let c = compiled word w some category less in
+    subst (λ (n : ℕ). EngineHolds e category word ↔ CategoryHolds formula n category word) (sym h.letters) (λ at. c.0 (s.0 at), λ holds. s.1 (c.1 holds))
+
+-- a table knows no parameters
+table_params : (masks : List ℕ) (e : Engine) → is_parsing e ≡ false → HasParams masks e
+table_params masks (States t) table = tt
+table_params masks (Parses c) table = absurd cc
+
+-- the minimal table of a formula's table runs the formula
+pub table_engine : (events : List EventDefinition) (formula : Formula) (t : Transitions) (r : Result Engine SpecError) → is_grammar formula ≡ false → t.letters ≡ length events → length t.groups ≡ length (category_names formula) → IsCompiled formula (States t)
+    → IfOk r (IsMinimised t) → IfOk r (IsEngineOf events formula)
+table_engine events formula t (Err x) plain letters groups compiled h = tt
+table_engine events formula t (Ok e) plain letters groups compiled h = record {
+  letters = h.letters ∙ letters;
+  categories = h.categories ∙ groups;
+  compiled = compiled_by formula t e compiled h;
+  minimal = h.minimal;
+  kind = h.kind ∙ sym plain;
+  params = table_params (map (λ x. x.mask) events) e h.kind;
+}
+
+-- what holds anyway holds of what was made, and being out of memory is no fault
+pub any_ok : (X : Type 0) (r : Result Engine SpecError) → X → IfOk r (λ e. X)
+any_ok X (Err e) x = tt
+any_ok X (Ok e) x = x
+
+pub never_bad : (P : SpecFault → Type 0) (r : Result Engine SpecError) → IfErr r (λ e. e ≡ NoMemory) → IfErr r (λ e. IfBad e P)
+never_bad P (Ok e) h = tt
+never_bad P (Err NoMemory) h = tt
+never_bad P (Err (Bad fault)) h = absurd cc
 
 -- ---- the letters of a grammar
 

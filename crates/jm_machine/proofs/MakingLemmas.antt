@@ -10,7 +10,7 @@ use Rattle.jm_goal.specs.Goals.{GoalDefinition}
 use Rattle.jm_spec.specs.Trees.{PropertyFacts}
 use Rattle.jm_machine.specs.declared.formula.Formula.{Formula}
 use Rattle.jm_machine.specs.declared.engine.Engine.{Engine}
-use Rattle.jm_machine.specs.Engines.{letters_of_engine, categories_of_engine, IsCompiled, IsMinimal}
+use Rattle.jm_machine.specs.Engines.{IsEngineOf}
 use Rattle.jm_machine.specs.Formulas.{category_names}
 use Rattle.jm_machine.specs.Handlers.{handler_names, resetting_handlers}
 use Rattle.jm_machine.specs.PropertyMeanings.{must_bind_of, property_rules_of}
@@ -37,13 +37,12 @@ module _ (t : EventDefinitions) (formula : Formula) (masks : List ℕ) (handlers
     resets = there;
   }
 
-  pub made_set : (categories : List (List ℕ)) (engine : Engine) → categories ≡ category_names formula → letters_of_engine engine ≡ length t.events → categories_of_engine engine ≡ length categories → IsCompiled formula engine → IsMinimal engine
-      → IsCompiledProperty (record { definition = definition_of masks formula handlers goal; engine = engine })
-  made_set categories engine named letters groups compiled minimal = record {
-    letters = letters ∙ sym masks_each;
-    categories = groups ∙ ap length named;
-    compiled = compiled;
-    minimal = minimal;
+  pub made_set : (engine : Engine) → IsEngineOf t.events formula engine → IsCompiledProperty (record { definition = definition_of masks formula handlers goal; engine = engine })
+  made_set engine runs = record {
+    letters = runs.letters ∙ sym masks_each;
+    categories = runs.categories;
+    compiled = runs.compiled;
+    minimal = runs.minimal;
   }
 
 -- the property that is made is that of the facts

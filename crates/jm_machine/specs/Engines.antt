@@ -1,11 +1,10 @@
 -- What runs a property, and where words lead in it.
-use Rattle.std.specs.Prelude.{ℕ, ◌≡◌, ◌<◌, ◌↔◌, Bool, true, false, List, All, length}
+use Rattle.std.specs.Prelude.{ℕ, ◌≡◌, ◌<◌, ◌↔◌, Bool, true, false, List, All, length, map}
 use Rattle.jm_model.specs.Words.{Word, Mask}
-use Rattle.jm_table.specs.Tables.{IsWord, IsInGroup, state_after_of}
+use Rattle.jm_events.specs.Events.{EventDefinition}
+use Rattle.jm_table.specs.Tables.{Transitions, IsWord, IsInGroup, state_after_of}
 use Rattle.jm_table.specs.Minimal.{IsReduced}
-use Rattle.jm_ere.specs.Suffixes.{EndsIn}
-use Rattle.jm_grammar.specs.Grammars.{GrammarDefinition, IsWithin}
-use Rattle.jm_grammar.specs.Meanings as grammar
+use Rattle.jm_grammar.specs.Grammars.{IsWithin}
 use Rattle.jm_grammar.specs.Categories.{GrammarHolds}
 use Rattle.jm_earley.specs.Charts.{AreBelow, IsChartOf}
 use Rattle.jm_machine.specs.declared.engine.Engine.{Engine}
@@ -14,7 +13,7 @@ use Rattle.jm_machine.specs.declared.place.Place.{Place}
 use Rattle.jm_machine.specs.declared.place.Place.TheVariants.{State, Parse}
 use Rattle.jm_machine.specs.declared.formula.Formula.{Formula}
 use Rattle.jm_machine.specs.declared.formula.Formula.TheVariants.{Grammatical, GrammaticalSuffix}
-use Rattle.jm_machine.specs.Formulas.{category_names, CategoryHolds}
+use Rattle.jm_machine.specs.Formulas.{category_names, is_grammar, CategoryHolds}
 
 -- how many letters there are, and how many categories
 abbrev pub letters_of_engine : Engine → ℕ
@@ -57,20 +56,6 @@ HasLetters letters (Grammatical g) = AreBelow g.productions letters
 HasLetters letters (GrammaticalSuffix g) = AreBelow g.productions letters × IsWithin 31 g
 HasLetters letters _ = Unit {0}
 
--- the charts are those of a grammar with the words of this one, over so many letters
-abbrev pub IsParserOf : GrammarDefinition → ℕ → Engine → Type 0
-IsParserOf g letters (Parses c) =
-    ((word : Word) → grammar.IsWord c.grammar word ↔ grammar.IsWord g word) × (length c.params ≡ letters)
-IsParserOf g letters (States t) = ⊥
-
--- the charts are those of a grammar with the words, over so many letters, that end in a word of this one
-abbrev pub IsSuffixParserOf : GrammarDefinition → ℕ → Engine → Type 0
-IsSuffixParserOf g letters (Parses c) =
-    ((word : Word) → grammar.IsWord c.grammar word
-    ↔ (All (λ letter. letter < letters) word × EndsIn (grammar.IsWord g) word))
-    × (length c.params ≡ letters)
-IsSuffixParserOf g letters (States t) = ⊥
-
 -- after each word of its letters that isn't empty, the categories hold by what runs the property where they hold of the
 -- word
 abbrev pub IsCompiled : Formula → Engine → Type 0
@@ -78,3 +63,22 @@ IsCompiled formula engine =
     (word : Word) → All (λ letter. letter < letters_of_engine engine) word → 0 < length word → (category : ℕ)
     → category < length (category_names formula)
     → EngineHolds engine category word ↔ CategoryHolds formula (letters_of_engine engine) category word
+
+-- it is a table of the same groups after each word, in which no two states agree
+pub record IsMinimised (t : Transitions) (engine : Engine) : Type 0 where
+  pub letters : letters_of_engine engine ≡ t.letters
+  pub categories : categories_of_engine engine ≡ length t.groups
+  pub same : (word : Word) → IsWord t word → (category : ℕ)
+      → EngineHolds engine category word ↔ IsInGroup t (state_after_of t word) category
+  pub minimal : IsMinimal engine
+  pub kind : is_parsing engine ≡ false
+
+-- What runs a formula over these events: each event is a letter, each category is known, a table is minimal, and charts
+-- are for a grammar alone.
+pub record IsEngineOf (events : List EventDefinition) (formula : Formula) (engine : Engine) : Type 0 where
+  pub letters : letters_of_engine engine ≡ length events
+  pub categories : categories_of_engine engine ≡ length (category_names formula)
+  pub compiled : IsCompiled formula engine
+  pub minimal : IsMinimal engine
+  pub kind : is_parsing engine ≡ is_grammar formula
+  pub params : HasParams (map (λ e. e.mask) events) engine

@@ -11,6 +11,7 @@ pub mod Engines
 pub mod CompiledProperties
 pub mod Places
 pub mod Outlooks
+pub mod Handlings
 pub mod Known
 pub mod RuleSets
 pub mod Configurations

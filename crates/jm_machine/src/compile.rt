@@ -13,8 +13,8 @@ ghost use Rattle.jm_machine.specs.Refusals.{earlier_of, IsHandled, IsPart, ArePa
 
 use crate::formula::Formula;
 use crate::handlers::{distinct, resets_of};
+use crate::handling::Handling;
 use crate::property::Property;
-use jm_events::EventTable;
 use jm_model::{Counted, SpecError, SpecFault};
 use jm_reading::range_of;
 use jm_spec::{PropertyTree, SpecTree};
@@ -40,14 +40,7 @@ pub(crate) fn read_formulas(
     let mut formulas = Vec::new(alloc);
     let mut first = None;
     for property in tree.properties.as_slice() {
-        match read_formula(
-            alloc,
-            bytes,
-            tokens,
-            property,
-            tree.suffix.is_some(),
-            &tree.table,
-        ) {
+        match read_formula(alloc, bytes, tokens, property, tree) {
             Ok(formula) => formulas.push(formula)?,
             Err(SpecError::NoMemory) => return Err(SpecError::NoMemory),
             Err(SpecError::Bad(fault)) => first = Some(earlier(first, fault)),
@@ -65,17 +58,17 @@ fn read_formula(
     bytes: &[u8],
     tokens: &[Token],
     property: &PropertyTree,
-    suffix: bool,
-    table: &EventTable,
+    tree: &SpecTree,
 ) -> Result<Formula, SpecError>
     requires { LieWithin bytes.now tokens.now }
-    ensures ok { IfOk result (IsFormula bytes.now tokens.now table.now suffix (facts_of property.now)) }
-    ensures err { IfErr result (λ e.
-        IfBad e (IsRefusedFormula bytes.now tokens.now table.now suffix (facts_of property.now))) }
+    ensures ok { IfOk result
+        (IsFormula bytes.now tokens.now tree.now.table (is_some tree.now.suffix) (facts_of property.now)) }
+    ensures err { IfErr result (λ e. IfBad e
+        (IsRefusedFormula bytes.now tokens.now tree.now.table (is_some tree.now.suffix) (facts_of property.now))) }
 {
     let text = range_of(tokens, property.first, property.last);
     let line = line_before(tokens, property.first);
-    Formula::read(alloc, bytes, text, line, property.logic, suffix, table)
+    Formula::read(alloc, bytes, text, line, property.logic, tree)
 }
 
 /// The line of the token before a place, or 1 where there is none.
@@ -165,5 +158,10 @@ fn compile_formula(
     let handlers = distinct(alloc, bytes, texts)?;
     let resets = resets_of(bytes, tokens, texts);
     let engine = formula.compile(alloc, &tree.table)?;
-    Property::new(alloc, tree, formula, &categories, handlers, resets, engine)
+    let handling = Handling {
+        categories,
+        handlers,
+        resets,
+    };
+    Property::new(alloc, tree, formula, handling, engine)
 }

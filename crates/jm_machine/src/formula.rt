@@ -1,13 +1,13 @@
 //! The formula of a property, in whichever logic.
-ghost use Rattle.std.specs.Prelude.{if◌then◌else◌, ℕ, ◌≡◌, ◌≤◌, ◌↔◌, List, false, length, map, IfOk, IfErr};
+ghost use Rattle.std.specs.Prelude.{if◌then◌else◌, ◌≡◌, ◌≤◌, length, IfOk, IfErr};
+ghost use Rattle.std.specs.Option.{is_some};
 ghost use Rattle.jm_model.specs.declared.fault.SpecFault.{SpecFault};
 ghost use Rattle.jm_text.specs.Spans.{LieWithin};
 ghost use Rattle.jm_table.specs.Explorations.{IfBad};
-ghost use Rattle.jm_table.specs.Tables.{IsWord, IsInGroup, state_after_of};
 ghost use Rattle.jm_grammar.specs.Grammars.{IsWithin};
 ghost use Rattle.jm_earley.specs.Charts.{AreBelow};
-ghost use Rattle.jm_machine.specs.Formulas.{category_names, is_grammar, IsReadAs, IsRefusedIn, IsTableFault};
-ghost use Rattle.jm_machine.specs.Engines.{letters_of_engine, categories_of_engine, is_parsing, EngineHolds, HasLetters, HasParams, IsParserOf, IsSuffixParserOf, IsCompiled, IsMinimal};
+ghost use Rattle.jm_machine.specs.Formulas.{category_names, IsReadAs, IsRefusedIn, IsTableFault};
+ghost use Rattle.jm_machine.specs.Engines.{HasLetters, IsMinimised, IsEngineOf};
 
 use crate::engine::Engine;
 use jm_earley::Charts;
@@ -17,7 +17,7 @@ use jm_fsm::Fsm;
 use jm_grammar::Grammar;
 use jm_model::{NoMemory, SpecError};
 use jm_ptltl::Past;
-use jm_spec::Logic;
+use jm_spec::{Logic, SpecTree};
 use jm_suffix::{suffix_ere, suffix_grammar};
 use jm_table::Table;
 use jm_text::Token;
@@ -41,8 +41,8 @@ pub enum Formula {
 }
 
 impl Formula {
-    /// The formula of these tokens, in the logic. The token before them is on the line. Where `suffix` says so, the rule
-    /// may begin anywhere.
+    /// The formula of these tokens, in the logic, with the events of the tree. The token before them is on the line.
+    /// Where `suffix` stands in the tree, the rule may begin anywhere.
     ///
     /// The fault is that of the logic's reader.
     pub(crate) fn read(
@@ -51,13 +51,15 @@ impl Formula {
         tokens: &[Token],
         line: u32,
         logic: Logic,
-        suffix: bool,
-        table: &EventTable,
+        tree: &SpecTree,
     ) -> Result<Formula, SpecError>
         requires { LieWithin bytes.now tokens.now }
-        ensures ok { IfOk result (IsReadAs bytes.now tokens.now table.now logic suffix) }
-        ensures err { IfErr result (λ e. IfBad e (IsRefusedIn bytes.now tokens.now table.now logic suffix)) }
+        ensures ok { IfOk result (IsReadAs bytes.now tokens.now tree.now.table logic (is_some tree.now.suffix)) }
+        ensures err { IfErr result (λ e.
+            IfBad e (IsRefusedIn bytes.now tokens.now tree.now.table logic (is_some tree.now.suffix))) }
     {
+        let table = &tree.table;
+        let suffix = tree.suffix.is_some();
         match logic {
             Logic::Fsm => {
                 let machine = jm_fsm::read(alloc, bytes, tokens, line, table)?;
@@ -98,24 +100,16 @@ impl Formula {
     /// The fault is that of the logic's table, before it is made minimal.
     pub(crate) fn compile(&self, alloc: Global, events: &EventTable) -> Result<Engine, SpecError>
         requires { HasLetters (length events.now.events) self.now }
-        ensures letters { IfOk result (λ engine. letters_of_engine engine ≡ length events.now.events) }
-        ensures groups { IfOk result (λ engine. categories_of_engine engine ≡ length (category_names self.now)) }
-        ensures compiled { IfOk result (IsCompiled self.now) }
-        ensures minimal { IfOk result IsMinimal }
-        ensures kind { IfOk result (λ engine. is_parsing engine ≡ is_grammar self.now) }
-        ensures params { IfOk result (HasParams (map (λ e. e.mask) events.now.events)) }
+        ensures engine { IfOk result (IsEngineOf events.now.events self.now) }
         ensures settled { IfOk result (λ _. (fault : SpecFault) → IsTableFault self.now (length events.now.events) fault
             → ⊥) }
         ensures err { IfErr result (λ e. IfBad e (IsTableFault self.now (length events.now.events))) }
     {
         match self {
-            Formula::Machine(machine) => minimal(machine.compile(alloc, events)?),
-            Formula::Regular(expression) => minimal(expression.compile(alloc, events)?),
-            Formula::RegularSuffix(expression) => {
-                let changed = suffix_ere(alloc, expression.copy(alloc)?)?;
-                minimal(changed.compile(alloc, events)?)
-            }
-            Formula::Temporal(past) => minimal(past.compile(alloc, events)?),
+            Formula::Machine(machine) => runs_machine(alloc, machine, events),
+            Formula::Regular(expression) => runs_regular(alloc, expression, events),
+            Formula::RegularSuffix(expression) => runs_suffixes(alloc, expression, events),
+            Formula::Temporal(past) => runs_temporal(alloc, past, events),
             Formula::Grammatical(grammar) => parses(alloc, grammar, events),
             Formula::GrammaticalSuffix(grammar) => parses_suffixes(alloc, grammar, events),
         }
@@ -144,14 +138,50 @@ fn grammatical(grammar: Grammar, suffix: bool) -> Formula
     }
 }
 
+/// The minimal table of a state machine.
+fn runs_machine(alloc: Global, machine: &Fsm, events: &EventTable) -> Result<Engine, SpecError>
+    ensures engine { IfOk result (IsEngineOf events.now.events (Formula.Machine machine.now)) }
+    ensures settled { IfOk result (λ _. (fault : SpecFault) →
+        IsTableFault (Formula.Machine machine.now) (length events.now.events) fault → ⊥) }
+    ensures err { IfErr result (λ e. IfBad e (IsTableFault (Formula.Machine machine.now) (length events.now.events))) }
+{
+    minimal(machine.compile(alloc, events)?)
+}
+
+/// The minimal table of a regular expression.
+fn runs_regular(alloc: Global, expression: &Ere, events: &EventTable) -> Result<Engine, SpecError>
+    ensures engine { IfOk result (IsEngineOf events.now.events (Formula.Regular expression.now)) }
+    ensures settled { IfOk result (λ _. (fault : SpecFault) →
+        IsTableFault (Formula.Regular expression.now) (length events.now.events) fault → ⊥) }
+    ensures err { IfErr result (λ e. IfBad e (IsTableFault (Formula.Regular expression.now) (length events.now.events))) }
+{
+    minimal(expression.compile(alloc, events)?)
+}
+
+/// The minimal table of the words that end in one of a regular expression.
+fn runs_suffixes(alloc: Global, expression: &Ere, events: &EventTable) -> Result<Engine, SpecError>
+    ensures engine { IfOk result (IsEngineOf events.now.events (Formula.RegularSuffix expression.now)) }
+    ensures settled { IfOk result (λ _. (fault : SpecFault) →
+        IsTableFault (Formula.RegularSuffix expression.now) (length events.now.events) fault → ⊥) }
+    ensures err { IfErr result (λ e. IfBad e (IsTableFault (Formula.RegularSuffix expression.now) (length events.now.events))) }
+{
+    let changed = suffix_ere(alloc, expression.copy(alloc)?)?;
+    minimal(changed.compile(alloc, events)?)
+}
+
+/// The minimal table of a past-time formula.
+fn runs_temporal(alloc: Global, past: &Past, events: &EventTable) -> Result<Engine, SpecError>
+    ensures engine { IfOk result (IsEngineOf events.now.events (Formula.Temporal past.now)) }
+    ensures settled { IfOk result (λ _. (fault : SpecFault) →
+        IsTableFault (Formula.Temporal past.now) (length events.now.events) fault → ⊥) }
+    ensures err { IfErr result (λ e. IfBad e (IsTableFault (Formula.Temporal past.now) (length events.now.events))) }
+{
+    minimal(past.compile(alloc, events)?)
+}
+
 /// The minimal table of a table.
 fn minimal(table: Table) -> Result<Engine, SpecError>
-    ensures letters { IfOk result (λ engine. letters_of_engine engine ≡ table.letters) }
-    ensures groups { IfOk result (λ engine. categories_of_engine engine ≡ length table.groups) }
-    ensures same { IfOk result (λ engine. (word : List ℕ) → IsWord table word → (category : ℕ) →
-        EngineHolds engine category word ↔ IsInGroup table (state_after_of table word) category) }
-    ensures minimal { IfOk result IsMinimal }
-    ensures kind { IfOk result (λ engine. is_parsing engine ≡ false) }
+    ensures minimised { IfOk result (IsMinimised table) }
     ensures err { IfErr result (λ e. e ≡ SpecError.NoMemory) }
 {
     Ok(Engine::States(table.minimise()?))
@@ -160,8 +190,7 @@ fn minimal(table: Table) -> Result<Engine, SpecError>
 /// The charts of a grammar, whose letters are events of the table.
 fn parses(alloc: Global, grammar: &Grammar, events: &EventTable) -> Result<Engine, SpecError>
     requires { AreBelow grammar.now.productions (length events.now.events) }
-    ensures parses { IfOk result (IsParserOf grammar.now (length events.now.events)) }
-    ensures params { IfOk result (HasParams (map (λ e. e.mask) events.now.events)) }
+    ensures engine { IfOk result (IsEngineOf events.now.events (Formula.Grammatical grammar.now)) }
     ensures err { IfErr result (λ e. e ≡ SpecError.NoMemory) }
 {
     Ok(Engine::Parses(Charts::of(alloc, grammar, events)?))
@@ -175,8 +204,7 @@ fn parses_suffixes(
 ) -> Result<Engine, SpecError>
     requires below { AreBelow grammar.now.productions (length events.now.events) }
     requires few { IsWithin 31 grammar.now }
-    ensures parses { IfOk result (IsSuffixParserOf grammar.now (length events.now.events)) }
-    ensures params { IfOk result (HasParams (map (λ e. e.mask) events.now.events)) }
+    ensures engine { IfOk result (IsEngineOf events.now.events (Formula.GrammaticalSuffix grammar.now)) }
     ensures err { IfErr result (λ e. e ≡ SpecError.NoMemory) }
 {
     let changed = suffix_grammar(alloc, grammar.reduce()?, events.letters())?;

@@ -2,40 +2,35 @@
 ghost use Rattle.std.specs.Prelude.{ℕ, ◌≡◌, ◌<◌, ◌≤◌, ◌^◌, ◌-◌, ◌↔◌, ◌⊎◌, Some, false, IsTrue, IsBitSet, IfOk, IfErr, length, map};
 ghost use Rattle.jm_events.specs.Names.{number_of};
 ghost use Rattle.jm_events.specs.Events.{IsCreation};
-ghost use Rattle.jm_machine.specs.Handlers.{AreCategories};
+ghost use Rattle.jm_machine.specs.Handlings.{IsHandling};
 ghost use Rattle.jm_machine.specs.PropertyMeanings.{must_bind_of};
 ghost use Rattle.jm_machine.specs.CompiledProperties.{may_begin};
 
 use crate::handlers::groups_of;
-use jm_events::{EventTable, Names};
+use crate::handling::Handling;
+use jm_events::EventTable;
 use jm_goal::Goal;
 use jm_model::{Letter, SpecError};
 use jm_spec::SpecTree;
 use std::alloc::Global;
 
-/// The goal of these handlers, over the categories of the property and the events of the tree. Bit k of `resets` says
-/// that handler k resets the property, which none does where the specification is for full bindings alone.
+/// The goal of a property's handlers, over the events of the tree.
 pub(crate) fn goal_of(
     alloc: Global,
     tree: &SpecTree,
-    categories: &Names,
-    handlers: &Names,
-    resets: u16,
+    handling: &Handling,
 ) -> Result<Goal, SpecError>
-    requires categories { length categories.now ≤ 65535 }
-    requires handlers { length handlers.now ≤ 16 }
-    requires known { AreCategories categories.now handlers.now }
-    requires there { resets < 2 ^ length handlers.now }
-    requires apart { (resets ≡ 0) ⊎ (tree.now.full_binding ≡ false) }
-    ensures groups { IfOk result (λ goal. map Some goal.groups ≡ map (number_of categories.now) handlers.now) }
+    requires { IsHandling tree.now.full_binding handling.now }
+    ensures groups { IfOk result (λ goal. map Some goal.groups
+        ≡ map (number_of handling.now.categories) handling.now.handlers) }
     ensures creation { IfOk result (λ goal. (k : ℕ) → IsBitSet goal.creation k ↔ IsCreation tree.now.table k) }
     ensures must_bind { IfOk result (λ goal. goal.must_bind ≡ must_bind_of tree.now.table tree.now.full_binding) }
-    ensures resets { IfOk result (λ goal. goal.resets ≡ resets) }
+    ensures resets { IfOk result (λ goal. goal.resets ≡ handling.now.resets) }
     ensures err { IfErr result (λ e. e ≡ SpecError.NoMemory) }
 {
-    let groups = groups_of(alloc, categories, handlers)?;
+    let groups = groups_of(alloc, &handling.categories, &handling.handlers)?;
     let must_bind = must_bind_of(&tree.table, tree.full_binding);
-    Ok(Goal::new(groups, tree.table.creation(), must_bind, resets))
+    Ok(Goal::new(groups, tree.table.creation(), must_bind, handling.resets))
 }
 
 /// All parameters where the specification is for full bindings alone, else none.

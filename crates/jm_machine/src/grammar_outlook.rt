@@ -14,6 +14,14 @@ use jm_model::{Letter, NoMemory};
 use std::alloc::Global;
 use std::marker::Model;
 
+/// The charts of a grammar, what its property is run for, and the parameters of its letters.
+#[derive(Clone, Copy)]
+pub(crate) struct Parser<'a> {
+    pub(crate) charts: &'a Charts,
+    pub(crate) goal: &'a Goal,
+    pub(crate) masks: &'a [u8],
+}
+
 /// The chart of the empty word, the charts of the words of one letter, and whether `fail` is handled. Contracts see it
 /// as its `ParseFacts`.
 pub(crate) struct GrammarOutlook {
@@ -75,71 +83,54 @@ impl GrammarOutlook {
     }
 
     /// Whether an instance with this place, whose property may have been reset there, can never fire again.
-    /// Where `fail` is handled that is so only where no letter is without a dead parameter. The masks are the
-    /// parameters of the letters.
+    /// Where `fail` is handled that is so only where no letter is without a dead parameter.
     #[inline(never)]
-    pub(crate) fn is_cut(
-        &self,
-        charts: &Charts,
-        goal: &Goal,
-        masks: &[u8],
-        place: &Place,
-        reset: bool,
-        dead: u8,
-    ) -> bool
-        requires begin { IsChartOf charts.now [] self.now.begin }
-        requires firsts { AreFirstCharts charts.now self.now.firsts }
-        requires masks { masks.now ≡ charts.now.params }
-        requires few { length masks.now ≤ 32 }
+    pub(crate) fn is_cut(&self, parser: &Parser, place: &Place, reset: bool, dead: u8) -> bool
+        requires begin { IsChartOf parser.now.charts.now [] self.now.begin }
+        requires firsts { AreFirstCharts parser.now.charts.now self.now.firsts }
+        requires masks { parser.now.masks.now ≡ parser.now.charts.now.params }
+        requires few { length parser.now.masks.now ≤ 32 }
         ensures failing { self.now.failing ≡ true →
-            IsTrue result ↔ ((e : ℕ) → IsAvailable charts.now.params dead e → ⊥) }
+            IsTrue result ↔ ((e : ℕ) → IsAvailable parser.now.charts.now.params dead e → ⊥) }
         ensures matching { self.now.failing ≡ false → (word : List ℕ)
-            → IsLeftOf charts.now place.now reset word →
-            IsTrue result ↔ ((goal.now.groups ≢ []) × CanMatch charts.now goal.now place.now word dead → ⊥) }
+            → IsLeftOf parser.now.charts.now place.now reset word →
+            IsTrue result ↔ ((parser.now.goal.now.groups ≢ [])
+            × CanMatch parser.now.charts.now parser.now.goal.now place.now word dead → ⊥) }
     {
         if self.failing {
-            masks.iter().all(|mask| mask & dead != 0)
+            parser.masks.iter().all(|mask| mask & dead != 0)
         } else {
-            goal.handlers() == 0 || !self.can_match(charts, goal, masks, place, reset, dead)
+            parser.goal.handlers() == 0 || !self.can_match(parser, place, reset, dead)
         }
     }
 
     /// Whether some word of one or more letters without a dead parameter, put after what is left of the place's
-    /// word, is in the language. After the empty word it is one that may begin so. The masks are the parameters of the
-    /// letters.
-    pub(crate) fn can_match(
-        &self,
-        charts: &Charts,
-        goal: &Goal,
-        masks: &[u8],
-        place: &Place,
-        reset: bool,
-        dead: u8,
-    ) -> bool
-        requires begin { IsChartOf charts.now [] self.now.begin }
-        requires firsts { AreFirstCharts charts.now self.now.firsts }
-        requires masks { masks.now ≡ charts.now.params }
-        requires few { length masks.now ≤ 32 }
-        ensures { (word : List ℕ) → IsLeftOf charts.now place.now reset word →
-            IsTrue result ↔ CanMatch charts.now goal.now place.now word dead }
+    /// word, is in the language. After the empty word it is one that may begin so.
+    pub(crate) fn can_match(&self, parser: &Parser, place: &Place, reset: bool, dead: u8) -> bool
+        requires begin { IsChartOf parser.now.charts.now [] self.now.begin }
+        requires firsts { AreFirstCharts parser.now.charts.now self.now.firsts }
+        requires masks { parser.now.masks.now ≡ parser.now.charts.now.params }
+        requires few { length parser.now.masks.now ≤ 32 }
+        ensures { (word : List ℕ) → IsLeftOf parser.now.charts.now place.now reset word →
+            IsTrue result ↔ CanMatch parser.now.charts.now parser.now.goal.now place.now word dead }
     {
         match place {
-            Place::Start => self.can_begin(charts, goal, masks, dead),
-            Place::Parse(_) if reset => charts.alive(&self.begin, dead),
-            Place::Parse(chart) => charts.alive(chart, dead),
+            Place::Start => self.can_begin(parser, dead),
+            Place::Parse(_) if reset => parser.charts.alive(&self.begin, dead),
+            Place::Parse(chart) => parser.charts.alive(chart, dead),
             _ => false,
         }
     }
 
     /// Whether some word of letters without a dead parameter, which may begin so, is in the language.
-    fn can_begin(&self, charts: &Charts, goal: &Goal, masks: &[u8], dead: u8) -> bool
-        requires firsts { AreFirstCharts charts.now self.now.firsts }
-        requires masks { masks.now ≡ charts.now.params }
-        requires few { length masks.now ≤ 32 }
-        ensures { IsTrue result ↔ ((e : ℕ) × BeginsWith charts.now goal.now dead e) }
+    fn can_begin(&self, parser: &Parser, dead: u8) -> bool
+        requires firsts { AreFirstCharts parser.now.charts.now self.now.firsts }
+        requires masks { parser.now.masks.now ≡ parser.now.charts.now.params }
+        requires few { length parser.now.masks.now ≤ 32 }
+        ensures { IsTrue result ↔ ((e : ℕ) × BeginsWith parser.now.charts.now parser.now.goal.now dead e) }
     {
-        for letter in 0..masks.len() as u8 {
-            if self.begins_with(charts, goal, masks, Letter(letter), dead) {
+        for letter in 0..parser.masks.len() as u8 {
+            if self.begins_with(parser, Letter(letter), dead) {
                 return true;
             }
         }
@@ -148,23 +139,16 @@ impl GrammarOutlook {
 
     /// Whether some word of letters without a dead parameter, which may begin so and begins with the letter, is in the
     /// language.
-    fn begins_with(
-        &self,
-        charts: &Charts,
-        goal: &Goal,
-        masks: &[u8],
-        letter: Letter,
-        dead: u8,
-    ) -> bool
-        requires firsts { AreFirstCharts charts.now self.now.firsts }
-        requires masks { masks.now ≡ charts.now.params }
-        requires few { length masks.now ≤ 32 }
-        requires letter { letter.0 < length masks.now }
-        ensures { IsTrue result ↔ BeginsWith charts.now goal.now dead letter.0 }
+    fn begins_with(&self, parser: &Parser, letter: Letter, dead: u8) -> bool
+        requires firsts { AreFirstCharts parser.now.charts.now self.now.firsts }
+        requires masks { parser.now.masks.now ≡ parser.now.charts.now.params }
+        requires few { length parser.now.masks.now ≤ 32 }
+        requires letter { letter.0 < length parser.now.masks.now }
+        ensures { IsTrue result ↔ BeginsWith parser.now.charts.now parser.now.goal.now dead letter.0 }
     {
-        may_begin(goal, letter)
-            && masks[letter.0 as usize] & dead == 0
-            && self.goes_on(charts, letter, dead)
+        may_begin(parser.goal, letter)
+            && parser.masks[letter.0 as usize] & dead == 0
+            && self.goes_on(parser.charts, letter, dead)
     }
 
     /// Whether the word of the letter alone is in the language, or one that goes on with letters without a dead

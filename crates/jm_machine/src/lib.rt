@@ -14,6 +14,7 @@ mod formula;
 mod goal;
 mod grammar_outlook;
 mod handlers;
+mod handling;
 mod laws;
 mod names;
 mod outlook;

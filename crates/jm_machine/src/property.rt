@@ -5,19 +5,21 @@ ghost use Rattle.std.specs.Str.{bytes_eq};
 ghost use Rattle.jm_table.specs.Minimal.{IsReduced};
 ghost use Rattle.jm_semantics.specs.Families.{IsFamily};
 ghost use Rattle.jm_machine.specs.Formulas.{category_names, is_grammar};
-ghost use Rattle.jm_machine.specs.Handlers.{AreCategories};
+ghost use Rattle.jm_machine.specs.Handlings.{IsHandling};
 ghost use Rattle.jm_machine.specs.PropertyMeanings.{Resets, property_rules_of, property_meaning};
 ghost use Rattle.jm_model.specs.Meanings.{IsHit, IsCutWord};
 ghost use Rattle.jm_model.specs.Numbers.{no_number, at_rest, IsPlainMove, IsAtRest, AreEnds};
 ghost use Rattle.jm_machine.specs.declared.place.Place.{Place};
 ghost use Rattle.jm_machine.specs.Places.{Stands, IsPlaceAfter};
-ghost use Rattle.jm_machine.specs.Engines.{letters_of_engine, categories_of_engine, is_parsing, HasParams, IsPlaceOf, IsCompiled, IsMinimal};
+ghost use Rattle.jm_machine.specs.Engines.{IsPlaceOf, IsEngineOf};
 ghost use Rattle.jm_machine.specs.CompiledProperties.{numbers_of, IsCompiledProperty, IsHandledBy};
 ghost use Rattle.jm_machine.specs.declared.place.Place.TheVariants as place;
 
 use crate::engine::{Engine, handlers_at, next_state};
 use crate::formula::Formula;
 use crate::goal::{goal_of, may_begin};
+use crate::grammar_outlook::Parser;
+use crate::handling::Handling;
 use crate::outlook::Outlook;
 use crate::place::Place;
 use jm_events::Names;
@@ -76,42 +78,30 @@ impl Model for Property {
 }
 
 impl Property {
-    /// The property of a formula with what runs it, and of these handled categories, with the events of the tree. Bit k of
-    /// `resets` says that handler k resets the property.
+    /// The property of a formula with what runs it, and with these handlers, over the events of the tree.
     pub(crate) fn new(
         alloc: Global,
         tree: &SpecTree,
         formula: Formula,
-        categories: &Names,
-        handlers: Names,
-        resets: u16,
+        handling: Handling,
         engine: Engine,
     ) -> Result<Property, SpecError>
-        requires categories { categories.now ≡ category_names formula }
-        requires many { length categories.now ≤ 65535 }
-        requires few { length handlers ≤ 16 }
-        requires known { AreCategories categories.now handlers }
-        requires there { resets < 2 ^ length handlers }
-        requires apart { (resets ≡ 0) ⊎ (tree.now.full_binding ≡ false) }
-        requires letters { letters_of_engine engine ≡ length tree.now.table.events }
-        requires groups { categories_of_engine engine ≡ length categories.now }
-        requires compiled { IsCompiled formula engine }
-        requires minimal { IsMinimal engine }
-        requires kind { is_parsing engine ≡ is_grammar formula }
-        requires params { HasParams (map (λ e. e.mask) tree.now.table.events) engine }
-        ensures rules { IfOk result (λ r. r.definition
-            ≡ property_rules_of tree.now.table tree.now.full_binding formula handlers (numbers_of resets (length handlers))) }
+        requires categories { handling.categories ≡ category_names formula }
+        requires handling { IsHandling tree.now.full_binding handling }
+        requires engine { IsEngineOf tree.now.table.events formula engine }
+        ensures rules { IfOk result (λ r. r.definition ≡ property_rules_of tree.now.table tree.now.full_binding formula
+            handling.handlers (numbers_of handling.resets (length handling.handlers))) }
         ensures fit { IfOk result (λ r. All (λ mask. mask < 2 ^ length tree.now.table.parameters) r.definition.masks) }
         ensures err { IfErr result (λ e. e ≡ SpecError.NoMemory) }
     {
         let masks = tree.table.masks(alloc)?;
-        let goal = goal_of(alloc, tree, categories, &handlers, resets)?;
-        let failing = is_failing(&formula, &handlers);
+        let goal = goal_of(alloc, tree, &handling)?;
+        let failing = is_failing(&formula, &handling.handlers);
         let outlook = Outlook::new(alloc, &engine, &goal, &tree.table, failing)?;
         Ok(Property {
             masks,
             formula,
-            handlers,
+            handlers: handling.into_handlers(),
             goal,
             engine,
             outlook,
@@ -335,8 +325,12 @@ impl Property {
             (Outlook::Table(outlook), _) => !outlook.can_hit(place, dead),
             (Outlook::Grammar(outlook), Engine::Parses(charts)) => {
                 let reset = self.is_reset(place);
-                let masks = self.masks.as_slice();
-                outlook.is_cut(charts, &self.goal, masks, place, reset, dead)
+                let parser = Parser {
+                    charts,
+                    goal: &self.goal,
+                    masks: self.masks.as_slice(),
+                };
+                outlook.is_cut(&parser, place, reset, dead)
             }
             _ => unreachable!(),
         }

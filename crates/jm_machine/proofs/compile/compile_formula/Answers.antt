@@ -1,4 +1,4 @@
-use Rattle.std.proofs.Common.{List, ℕ, length, ap, sym, ◌∙◌}
+use Rattle.std.proofs.Common.{List, ℕ, length, ap, ◌∙◌, arith}
 use Rattle.std.specs.Prelude.{slice_range}
 use Rattle.std.specs.Option.{is_some}
 use Rattle.std.proofs.lemmas.List.{length-map}
@@ -22,28 +22,21 @@ resets_of-resets-requires-clause-few c = rw c.as_slice-texts.ensures.value c.req
 pub compile-requires : goal.compile-requires
 compile-requires c = letters_read c.args.bytes.now (slice_range c.args.tokens.now c.args.property.now.first c.args.property.now.last) c.args.tree.now.table c.args.property.now.logic (is_some c.args.tree.now.suffix) c.args.formula c.requires.read
 
-pub new-requires-clause-known : goal.new-requires-clause-known
-new-requires-clause-known c =
+pub new-requires-clause-handling : goal.new-requires-clause-handling
+new-requires-clause-handling c =
     let bytes = c.args.bytes.now in
     let texts = c.as_slice-texts.result.now in
-    let known = ap (λ (cs : List (List ℕ)). category_fault bytes cs texts) c.in_ok-categories.ensures.value ∙ ap (λ (hs : List HandlerText). category_fault bytes (category_names c.args.formula) hs) c.as_slice-texts.ensures.value ∙ c.requires.handled.known in
-    rw c.in_ok-handlers.ensures.names (all_known bytes c.in_ok-categories.categories texts known)
-
-pub new-requires-clause-few : goal.new-requires-clause-few
-new-requires-clause-few c =
-    rw (c.in_ok-handlers.ensures.names, length-map, c.as_slice-texts.ensures.value) c.requires.handled.few
-
-pub new-requires-clause-there : goal.new-requires-clause-there
-new-requires-clause-there c =
-    rw (c.in_ok-handlers.ensures.names, length-map) c.resets_of-resets.ensures.below
-
-pub new-requires-clause-groups : goal.new-requires-clause-groups
-new-requires-clause-groups c = c.in_ok-engine.ensures.groups ∙ ap length (sym c.in_ok-categories.ensures.value)
-
-pub new-requires-clause-apart : goal.new-requires-clause-apart
-new-requires-clause-apart c =
-    let bound = ap (λ (hs : List HandlerText). binding_fault c.args.bytes.now c.args.tree.now.full_binding c.args.tokens.now hs) c.as_slice-texts.ensures.value ∙ c.requires.handled.bound in
-    resets_apart c.args.bytes.now c.args.tokens.now c.as_slice-texts.result.now c.resets_of-resets.result c.resets_of-resets.ensures.bits c.args.tree.now.full_binding bound
+    let is = c.as_slice-texts.ensures.value in
+    let known = ap (λ (cs : List (List ℕ)). category_fault bytes cs texts) c.in_ok-categories.ensures.value ∙ ap (λ (hs : List HandlerText). category_fault bytes (category_names c.args.formula) hs) is ∙ c.requires.handled.known in
+    let bound = ap (λ (hs : List HandlerText). binding_fault bytes c.args.tree.now.full_binding c.args.tokens.now hs) is ∙ c.requires.handled.bound in
+    let names = c.in_ok-handlers.ensures.names in
+    record {
+      many = omega (arith, c.in_ok-categories.ensures.few);
+      few = rw (names, length-map, is) c.requires.handled.few;
+      known = rw names (all_known bytes c.in_ok-categories.categories texts known);
+      there = rw (names, length-map) c.resets_of-resets.ensures.below;
+      apart = resets_apart bytes c.args.tokens.now texts c.resets_of-resets.result c.resets_of-resets.ensures.bits c.args.tree.now.full_binding bound;
+    }
 
 pub returns-clause-part : goal.returns-clause-part
 returns-clause-part c =

@@ -49,9 +49,9 @@ loop-property-preserved c =
     elim c.match-read_formula.branch [
       | in-Ok+in_ok-push-in-Ok w ↦
           read_step bytes tokens tree.table (is_some tree.suffix) xs tree.properties.items c.as_slice-property-items.ensures.value i x c.property-item.is c.loop-property-test.true fs c.match-read_formula.formulas.items first c.match-read_formula.first w.in-Ok.formula
-          (rw w.formulas-is w.in_ok-push-in-Ok.ensures.items) w.first-is c.loop-property.invariant (subst (λ (b : Bool). IsFormula bytes tokens tree.table b (facts_of x) w.in-Ok.formula) c.is_some.ensures w.in-Ok.ensures.ok)
+          (rw w.formulas-is w.in_ok-push-in-Ok.ensures.items) w.first-is c.loop-property.invariant w.in-Ok.ensures.ok
       | in-Err-Bad w ↦
           refused_step bytes tokens tree.table (is_some tree.suffix) xs tree.properties.items c.as_slice-property-items.ensures.value i x c.property-item.is c.loop-property-test.true fs c.match-read_formula.formulas.items first c.match-read_formula.first w.in-Err-Bad.fault w.earlier.result
           w.earlier.ensures w.first-is c.loop-property.invariant
-          (subst (λ (b : Bool). IsRefusedFormula bytes tokens tree.table b (facts_of x) w.in-Err-Bad.fault) c.is_some.ensures (rw w.in-Err-Bad.field-0-is at w.in-Err-Bad.ensures.err))
+          (rw w.in-Err-Bad.field-0-is at w.in-Err-Bad.ensures.err)
     ]

@@ -3,4 +3,4 @@ use Rattle.jm_machine.specs.Outlooks.{BeginsWith}
 use Rattle.jm_machine.proofs.grammar_outlook.GrammarOutlook.can_begin.Given as goal
 
 abbrev pub invariant-loop-letter : goal.invariant-loop-letter
-invariant-loop-letter l = (e : ℕ) → e < l.letter → BeginsWith l.charts l.goal l.dead e → ⊥
+invariant-loop-letter l = (e : ℕ) → e < l.letter → BeginsWith l.parser.charts.now l.parser.goal.now l.dead e → ⊥

@@ -7,4 +7,4 @@ returns-in-Parse c =
     let begin = rw (← c.self.view_is) at c.requires.begin in
     let alive = c.alive.ensures [] begin in
     rw (c.in-Parse.is, c.if-reset.true)
-    (λ word none. subst (λ (x : List ℕ). IsTrue c.alive.result ↔ IsAliveFor c.args.charts.now.grammar c.args.charts.now.params c.args.dead x) (sym none) alive)
+    (λ word none. subst (λ (x : List ℕ). IsTrue c.alive.result ↔ IsAliveFor c.args.parser.now.charts.now.grammar c.args.parser.now.charts.now.params c.args.dead x) (sym none) alive)

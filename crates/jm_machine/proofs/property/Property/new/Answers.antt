@@ -9,25 +9,38 @@ use Rattle.jm_machine.proofs.PropertyLemmas.{groups_within}
 use Rattle.jm_machine.proofs.property.Property.new.Goals as goal
 
 pub new-requires-clause-groups : goal.new-requires-clause-groups
-new-requires-clause-groups c = groups_within c.args.categories.now c.args.handlers c.in_ok-goal.goal.groups (categories_of_engine c.args.engine) c.requires.groups c.in_ok-goal.ensures.groups
+new-requires-clause-groups c =
+    let handling = c.args.handling in
+    groups_within handling.categories handling.handlers c.in_ok-goal.goal.groups (categories_of_engine c.args.engine) (c.requires.engine.categories ∙ ap length (sym c.requires.categories)) c.in_ok-goal.ensures.groups
 
 pub invariant_of-result : goal.invariant_of-result
 invariant_of-result c =
-    let t = c.args.tree.now.table in (
-      made_goal t c.args.formula c.in_ok-masks.masks.items c.args.handlers c.in_ok-goal.goal c.in_ok-masks.ensures.value c.in_ok-goal.ensures.creation c.args.categories.now c.requires.categories c.in_ok-goal.ensures.groups c.in_ok-masks.ensures.few
-          (bits_below c.in_ok-goal.goal.resets (length c.args.handlers) (subst (λ n. n < 2 ^ length c.args.handlers) (sym c.in_ok-goal.ensures.resets) c.requires.there)),
-      made_set t c.args.formula c.in_ok-masks.masks.items c.args.handlers c.in_ok-goal.goal c.in_ok-masks.ensures.value c.in_ok-goal.ensures.creation c.args.categories.now c.args.engine c.requires.categories c.requires.letters c.requires.groups c.requires.compiled c.requires.minimal,
+    let t = c.args.tree.now.table in
+    let handling = c.args.handling in
+    let engine = c.requires.engine in
+    let goal = c.in_ok-goal.goal in
+    let masks = c.in_ok-masks.masks.items in
+    let filled = c.in_ok-masks.ensures.value in
+    let creation = c.in_ok-goal.ensures.creation in
+    rw c.into_handlers.ensures (
+      made_goal t c.args.formula masks handling.handlers goal filled creation handling.categories c.requires.categories c.in_ok-goal.ensures.groups c.in_ok-masks.ensures.few
+          (bits_below goal.resets (length handling.handlers) (subst (λ n. n < 2 ^ length handling.handlers) (sym c.in_ok-goal.ensures.resets) c.requires.handling.there)),
+      made_set t c.args.formula masks handling.handlers goal filled creation c.args.engine engine,
       record {
         events = t;
-        masks = c.in_ok-masks.ensures.value;
+        masks = filled;
         few = c.in_ok-masks.ensures.bytes;
-        kind = c.requires.kind;
-        bound = subst (λ masks. HasParams masks c.args.engine) (sym c.in_ok-masks.ensures.value) c.requires.params;
-        told = subst (λ failing. IsOutlookOf c.args.engine c.in_ok-goal.goal t failing c.in_ok-outlook.outlook) c.is_failing-failing.ensures c.in_ok-outlook.ensures;
+        kind = engine.kind;
+        bound = subst (λ masks. HasParams masks c.args.engine) (sym filled) engine.params;
+        told = subst (λ failing. IsOutlookOf c.args.engine goal t failing c.in_ok-outlook.outlook) c.is_failing-failing.ensures c.in_ok-outlook.ensures;
       },
     )
 
 pub returns-clause-rules : goal.returns-clause-rules
 returns-clause-rules c =
-    made_rules c.args.tree.now.table c.args.formula c.in_ok-masks.masks.items c.args.handlers c.in_ok-goal.goal c.in_ok-masks.ensures.value c.in_ok-goal.ensures.creation c.args.tree.now.full_binding c.in_ok-goal.ensures.must_bind
-    ∙ ap (λ n. property_rules_of c.args.tree.now.table c.args.tree.now.full_binding c.args.formula c.args.handlers (numbers_of n (length c.args.handlers))) c.in_ok-goal.ensures.resets
+    let t = c.args.tree.now.table in
+    let full = c.args.tree.now.full_binding in
+    let handlers = c.args.handling.handlers in
+    rw c.into_handlers.ensures
+    (made_rules t c.args.formula c.in_ok-masks.masks.items handlers c.in_ok-goal.goal c.in_ok-masks.ensures.value c.in_ok-goal.ensures.creation full c.in_ok-goal.ensures.must_bind
+    ∙ ap (λ n. property_rules_of t full c.args.formula handlers (numbers_of n (length handlers))) c.in_ok-goal.ensures.resets)
