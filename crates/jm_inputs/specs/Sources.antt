@@ -1,10 +1,15 @@
 -- Where the files of a command come from, and what they hold.
-use Rattle.std.specs.Prelude.{◌≡◌, List, [], ◌∷◌, Option, IfSome, IsSome}
+use Rattle.std.specs.Prelude.{ℕ, ◌≡◌, ◌≤◌, List, [], ◌∷◌, Option, IfSome, IsSome}
 use Rattle.jm_model.specs.Words.{Text}
 
 -- what is told of files: the bytes of the file of a name, where they are told
 abbrev pub FileContents : Type 0
 FileContents = Text → Option Text
+
+-- files of a folder were read: each holds what it held, and the count of faults didn't fall
+pub record AreOnlyRead (contents left : FileContents) (faults counted : ℕ) : Type 0 where
+  pub same : (name : Text) → left name ≡ contents name
+  pub never_falls : faults ≤ counted
 
 -- a file that a folder has by this name, or one whose bytes are given
 pub data Source : Type 0 where

@@ -1,10 +1,10 @@
 //! The scripts of a command, read one behind the other.
-ghost use Rattle.std.specs.Prelude.{◌≡◌, ◌+◌, ◌<◌, ◌≤◌, [], ℕ, List, true, length, map, take, Some, IfOk, IfErr, OnOk, string_bytes};
+ghost use Rattle.std.specs.Prelude.{◌≡◌, ◌+◌, ◌<◌, ◌≤◌, [], List, true, length, map, take, Some, IfOk, IfErr, OnOk, string_bytes};
 ghost use Rattle.std.specs.List.{IsDistinct};
 ghost use Rattle.std.specs.Str.{bytes_eq};
 ghost use Rattle.jm_model.specs.declared.fault.ScriptFault.{ScriptFault};
 ghost use Rattle.jm_inputs.specs.Commands.{named, given_files};
-ghost use Rattle.jm_inputs.specs.Sources.{FileContents, Named};
+ghost use Rattle.jm_inputs.specs.Sources.{FileContents, Named, AreOnlyRead};
 ghost use Rattle.jm_inputs.specs.Specifications.{Specification, most_bytes};
 ghost use Rattle.jm_sync.specs.Checks.{AreSound, sync_of};
 ghost use Rattle.jm_inputs.specs.Scripts.{meaning_over, IsScriptFileFault};
@@ -165,9 +165,8 @@ fn read_next<F: Folder>(
     files: &mut F,
     scripts: &mut Scripts,
 ) -> Result<(), Status>
-    requires files { setting.files ≤ 1 }
+    requires few_files { setting.files + length library.now.specs.items ≤ 17 }
     requires few { length scripts.old.list.items < 16 }
-    requires few_specs { length library.now.specs.items ≤ 16 }
     requires catalogued { IsCatalogued library.now }
     requires counted { AreCounted (specs_in library.now) scripts.old }
     ensures read { OnOk result (HasScriptFrom (F.holds files.old) (Named name.now)
@@ -176,8 +175,7 @@ fn read_next<F: Folder>(
         (setting.files + length library.now.specs.items) scripts.old.count scripts.old.objects
         (length scripts.old.list.items) (Named name.now)) }
     ensures read_failed { CountsFailedReads result (F.faults files.old) (F.faults files.new) }
-    ensures never_falls { F.faults files.old ≤ F.faults files.new }
-    ensures same { (other : List ℕ) → F.holds files.new other ≡ F.holds files.old other }
+    ensures files { AreOnlyRead (F.holds files.old) (F.holds files.new) (F.faults files.old) (F.faults files.new) }
 {
     let number = scripts.list.len() as u32;
     let specs = setting.files + library.specs.len() as u32;

@@ -23,21 +23,23 @@ read_next-requires-clause-counted g c = c.loop-name.invariant.read.counted
 pub returns-in_err-read_next-clause-err : goal.returns-in_err-read_next-clause-err
 returns-in_err-read_next-clause-err g c =
     let p = err_from_is_err_and c.from_residual.result c.from_residual.ensures.1 in
-    rw (p.1, p.2) (scripts_end (λ n. Named n) string_bytes (g.F.Folder.holds c.args.files.now) (g.F.Folder.holds c.loop-name.files) c.loop-name.invariant.same c.args.setting.ordered (specs_in c.args.library.now) (c.args.setting.files + length c.args.library.now.specs.items) c.args.setting.steps c.args.names.now c.loop-name.name-index c.name-item.result c.loop-name-test.true c.name-item.is c.as_str.result.now c.as_str.ensures.value
+    rw (p.1, p.2) (scripts_end (λ n. Named n) string_bytes (g.F.Folder.holds c.args.files.now) (g.F.Folder.holds c.loop-name.files) c.loop-name.invariant.files.same c.args.setting.ordered (specs_in c.args.library.now) (c.args.setting.files + length c.args.library.now.specs.items) c.args.setting.steps c.args.names.now c.loop-name.name-index c.name-item.result c.loop-name-test.true c.name-item.is c.as_str.result.now c.as_str.ensures.value
     c.loop-name.scripts _ c.loop-name.invariant.read c.in_err-read_next.ensures.err)
 
 pub returns-in_err-read_next-clause-read_failed : goal.returns-in_err-read_next-clause-read_failed
 returns-in_err-read_next-clause-read_failed g c = λ file is.
     let p = err_from_is_err_and c.from_residual.result c.from_residual.ensures.1 in
     let same = same_err (sym p.1 ∙ is) in
-    risen_before c.loop-name.invariant.never_falls (c.in_err-read_next.ensures.read_failed file (ap (λ e. Err e) (sym p.2 ∙ same)))
+    risen_before c.loop-name.invariant.files.never_falls (c.in_err-read_next.ensures.read_failed file (ap (λ e. Err e) (sym p.2 ∙ same)))
 
 pub loop-name-preserved : goal.loop-name-preserved
 loop-name-preserved g c = record {
-  read = scripts_turn (λ n. Named n) string_bytes (g.F.Folder.holds c.args.files.now) (g.F.Folder.holds c.loop-name.files) c.loop-name.invariant.same c.args.setting.ordered (specs_in c.args.library.now) (c.args.setting.files + length c.args.library.now.specs.items) c.args.setting.steps c.args.names.now c.loop-name.name-index c.name-item.result c.loop-name-test.true c.name-item.is c.as_str.result.now c.as_str.ensures.value
+  read = scripts_turn (λ n. Named n) string_bytes (g.F.Folder.holds c.args.files.now) (g.F.Folder.holds c.loop-name.files) c.loop-name.invariant.files.same c.args.setting.ordered (specs_in c.args.library.now) (c.args.setting.files + length c.args.library.now.specs.items) c.args.setting.steps c.args.names.now c.loop-name.name-index c.name-item.result c.loop-name-test.true c.name-item.is c.as_str.result.now c.as_str.ensures.value
       c.loop-name.scripts _ c.loop-name.invariant.read c.in_ok-read_next.ensures.read;
-  never_falls = omega (arith, c.loop-name.invariant.never_falls, c.read_next.ensures.never_falls);
-  same = λ other. c.read_next.ensures.same other ∙ c.loop-name.invariant.same other;
+  files = record {
+    same = λ other. c.read_next.ensures.files.same other ∙ c.loop-name.invariant.files.same other;
+    never_falls = omega (arith, c.loop-name.invariant.files.never_falls, c.read_next.ensures.files.never_falls);
+  };
 }
 
 pub check_order-requires : goal.check_order-requires
