@@ -9,7 +9,7 @@ use Rattle.jm_semantics.proofs.ListLemmas.{Contains-cons_cases}
 use Rattle.jm_index.specs.Index.{Pair}
 use Rattle.jm_store.specs.declared.moves.Move.{Move}
 use Rattle.jm_store.specs.Slots.{monitor_at}
-use Rattle.jm_store.specs.Contents.{Contents, IsFilled, IsPlannedBy}
+use Rattle.jm_store.specs.Contents.{Contents, IsFilled, IsPlannedBy, KeepsContents}
 use Rattle.jm_store.specs.Plans.{CanPlan, Plans}
 
 pub item_among : {X : Type 0} (xs : List X) (i : ℕ) (x : X) → i < length xs → x ≡ get_or xs i x → Contains xs x
@@ -36,6 +36,18 @@ module _ {S : Type 0} where
 
   pub filled_same : (old new : Contents S) (pair : Pair) → ((k : ℕ) → monitor_at old.monitors k ≡ monitor_at new.monitors k) → IsFilled old pair → IsFilled new pair
   filled_same old new pair same (s, at, is) = (s, sym (same pair.slot) ∙ at, is)
+
+  -- the contents stay where nothing is done, and over two steps that leave them
+  pub contents_kept : (a : Contents S) → KeepsContents a a
+  contents_kept a = record { stored = refl; monitors = λ k. refl; marks = refl; ending = refl }
+
+  pub contents_still : (a b c : Contents S) → KeepsContents b c → KeepsContents a b → KeepsContents a c
+  contents_still a b c second first = record {
+    stored = second.stored ∙ first.stored;
+    monitors = λ k. second.monitors k ∙ first.monitors k;
+    marks = second.marks ∙ first.marks;
+    ending = second.ending ∙ first.ending;
+  }
 
 -- out of memory before anything of the store changed
 pub plans_untouched : (m : Meaning) {S : Type 0} (Stands : S → Word → Type 0) (dead : List Bool) (letter : ℕ) (b : Binding) (store : Contents S) (e : NoMemory) → CanPlan m dead letter b store

@@ -158,6 +158,25 @@ pub record IsPlacedFrom {S : Type 0} (old : Contents S) (first move : Move S) : 
   pub kept : (k : ℕ) → first.slot ≡ Some k → move.slot ≡ Some k
   pub got : (k : ℕ) → first.slot ≡ None → move.slot ≡ Some k → monitor_at old.monitors k ≡ None
 
+-- The monitors, the marks and the letters that were kept stay as they are; the index may change, and a plan be opened or
+-- given up.
+pub record KeepsContents {S : Type 0} (old new : Contents S) : Type 0 where
+  pub stored : stored_of new ≡ stored_of old
+  pub monitors : (k : ℕ) → monitor_at new.monitors k ≡ monitor_at old.monitors k
+  pub marks : new.marks ≡ old.marks
+  pub ending : new.ending ≡ old.ending
+
+-- no two of the moves have one slot, and where one has a slot, the index leads to it
+pub record AreReady {S : Type 0} (store : Contents S) (moves : List (Move S)) : Type 0 where
+  pub apart : AreApart moves
+  pub leads : ArePlaced store moves
+
+-- Where one of the moves has a slot, the index leads to it, and a slot to which the index leads has a monitor, or one of
+-- the moves is for it.
+pub record ArePending {S : Type 0} (store : Contents S) (moves : List (Move S)) : Type 0 where
+  pub leads : ArePlaced store moves
+  pub filled : (pair : Pair) → Contains store.index.list pair → IsFilled store pair ⊎ IsPlannedBy moves pair
+
 -- the moves of distinct instances
 abbrev pub AreDistinct : {S : Type 0} → List (Move S) → Type 0
 AreDistinct moves = AllPairs (λ x y. x.monitor.instance ≢ y.monitor.instance) moves
@@ -175,6 +194,11 @@ pub record ArePlacedOf {S : Type 0} (old new : Contents S) (moves done placed : 
       × IsPlacedFrom old first move
       × (AreDistinct moves → move.slot ≡ None → HasInstance (stored_of old) first.monitor.instance)
   pub kept : (pair : Pair) → Contains old.index.list pair → Contains new.index.list pair
+
+-- one move got its slot, if it can have one, and a plan is open if one was
+pub record IsPlacedOne {S : Type 0} (old new : Contents S) (step slotted : Move S) : Type 0 where
+  pub still : new.is_open ≡ old.is_open
+  pub placed : ArePlacedOf old new (step ∷ []) (step ∷ []) (slotted ∷ [])
 
 -- The index has the pair of each monitor's instance and slot, no two pairs of one binding, and none of a slot that
 -- isn't there.

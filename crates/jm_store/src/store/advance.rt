@@ -8,7 +8,7 @@ ghost use Rattle.jm_monitors.specs.declared.stored.Stored.{Stored as Kept};
 ghost use Rattle.jm_monitors.specs.Steps.{AreMarksAfter};
 ghost use Rattle.jm_store.specs.Slots.{monitor_at};
 ghost use Rattle.jm_store.specs.Moves.{AreGiven, IsReadAt, IsPushed, IsCompatibleAt, AreMovesRead, asks_by, EndsFewer, IsEnding};
-ghost use Rattle.jm_store.specs.Contents.{stored_of, with_ending, with_open, IsFit, IsFilled, ArePlaced, ArePlacedOf, ArePaired, IsSlotAdvanced, IsAbove, IsStepTaken};
+ghost use Rattle.jm_store.specs.Contents.{stored_of, with_ending, with_open, IsFit, IsFilled, ArePlaced, ArePaired, IsPlacedOne, KeepsContents, IsSlotAdvanced, IsAbove, IsStepTaken};
 ghost use Rattle.jm_store.specs.Listed.{KeepListed};
 ghost use Rattle.jm_store.specs.Plans.{CanPlan, Advances};
 
@@ -471,16 +471,11 @@ impl<M: Monitor> Store<M> {
         requires slotted { self.old.is_open ≡ false → step.old.slot ≡ None → ⊥ }
         requires settled { (pair : Pair) → Contains self.old.index.list pair → IsFilled self.old pair }
         requires leads { ArePlaced self.old (step.old ∷ []) }
-        ensures stored { stored_of self.new ≡ stored_of self.old }
-        ensures monitors { (k : ℕ) → monitor_at self.new.monitors k ≡ monitor_at self.old.monitors k }
-        ensures marks { self.new.marks ≡ self.old.marks }
-        ensures ending { self.new.ending ≡ self.old.ending }
+        ensures kept { KeepsContents self.old self.new }
         ensures fits { (dead : List Bool) → IsFitting self.old.index dead
             → AreBelow (length dead) step.old.monitor.instance → IsFitting self.new.index dead }
         ensures closed { IfNone result (self.new.is_open ≡ false) }
-        ensures still { IfSome result (λ done. self.new.is_open ≡ self.old.is_open) }
-        ensures placed { IfSome result (λ done. ArePlacedOf self.old self.new (step.old ∷ []) (step.old ∷ [])
-            (step.new ∷ [])) }
+        ensures placed { IfSome result (λ done. IsPlacedOne self.old self.new step.old step.new) }
         ensures paired { ArePaired self.new }
     {
         let _monitors = &self.monitors;

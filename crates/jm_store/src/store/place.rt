@@ -1,9 +1,8 @@
 //! How new instances get their slots, and how these are taken back.
 ghost use Rattle.std.specs.Prelude.{◌≡◌, ◌≢◌, ℕ, AllPairs, List, Bool, [], true, false, Contains, IfOk, OnOk, OnErr, Some, None, length, ◌⊎◌};
 ghost use Rattle.jm_index.specs.Index.{Pair, AreBelow, IsFitting};
-ghost use Rattle.jm_store.specs.Slots.{monitor_at};
-ghost use Rattle.jm_store.specs.Moves.{AreApart, LieWithin};
-ghost use Rattle.jm_store.specs.Contents.{stored_of, IsFilled, IsPlannedBy, IsPlaced, ArePlaced, IsPlacedNext, ArePlacedOf, ArePaired};
+ghost use Rattle.jm_store.specs.Moves.{LieWithin};
+ghost use Rattle.jm_store.specs.Contents.{IsFilled, IsPlaced, IsPlacedNext, ArePlacedOf, ArePaired, AreReady, ArePending, KeepsContents};
 
 use super::Store;
 use crate::moves::{Move, have_slots};
@@ -18,18 +17,14 @@ impl<M: Monitor> Store<M> {
         moves: Vec<Move<M::State>>,
     ) -> Result<Vec<Move<M::State>>, NoMemory>
         requires closed { self.old.is_open ≡ false }
-        requires apart { AreApart moves.items }
-        requires leads { ArePlaced self.old moves.items }
-        ensures stored { stored_of self.new ≡ stored_of self.old }
-        ensures monitors { (k : ℕ) → monitor_at self.new.monitors k ≡ monitor_at self.old.monitors k }
-        ensures marks { self.new.marks ≡ self.old.marks }
+        requires ready { AreReady self.old moves.items }
+        ensures kept { KeepsContents self.old self.new }
         ensures fits { (dead : List Bool) → IsFitting self.old.index dead → LieWithin (length dead) moves.items
             → IsFitting self.new.index dead }
         ensures closed { OnErr result (self.new.is_open ≡ false) }
         ensures opened { OnOk result (self.new.is_open ≡ true) }
         ensures placed { IfOk result (λ placed. ArePlacedOf self.old self.new moves.items moves.items placed.items) }
         ensures housed { OnOk result (ArePaired self.new) }
-        ensures ending { self.new.ending ≡ self.old.ending }
     {
         self.marks.reserve()?;
         self.is_open = true;
@@ -59,19 +54,13 @@ impl<M: Monitor> Store<M> {
     ) -> Result<(), NoMemory>
         requires open { self.old.is_open ≡ true }
         requires settled { (pair : Pair) → Contains self.old.index.list pair → IsFilled self.old pair }
-        requires apart { AreApart moves.items }
-        requires leads { ArePlaced self.old moves.items }
+        requires ready { AreReady self.old moves.items }
         ensures open { self.new.is_open ≡ true }
-        ensures stored { stored_of self.new ≡ stored_of self.old }
-        ensures monitors { (k : ℕ) → monitor_at self.new.monitors k ≡ monitor_at self.old.monitors k }
-        ensures marks { self.new.marks ≡ self.old.marks }
+        ensures kept { KeepsContents self.old self.new }
         ensures fits { (dead : List Bool) → IsFitting self.old.index dead → LieWithin (length dead) moves.items
             → IsFitting self.new.index dead }
-        ensures leads { ArePlaced self.new placed.new.items }
-        ensures filled { (pair : Pair) → Contains self.new.index.list pair → IsFilled self.new pair
-            ⊎ IsPlannedBy placed.new.items pair }
+        ensures pending { ArePending self.new placed.new.items }
         ensures placed { OnOk result (ArePlacedOf self.old self.new moves.items moves.items placed.new.items) }
-        ensures ending { self.new.ending ≡ self.old.ending }
     {
         self.lend_room(placed);
         while let Some(step) = moves.pop() {
@@ -105,15 +94,12 @@ impl<M: Monitor> Store<M> {
     ) -> Result<(), NoMemory>
         requires { self.old.is_open ≡ true }
         ensures open { self.new.is_open ≡ true }
-        ensures stored { stored_of self.new ≡ stored_of self.old }
-        ensures monitors { (k : ℕ) → monitor_at self.new.monitors k ≡ monitor_at self.old.monitors k }
-        ensures marks { self.new.marks ≡ self.old.marks }
+        ensures kept { KeepsContents self.old self.new }
         ensures fits { (dead : List Bool) → IsFitting self.old.index dead → AreBelow (length dead) step.monitor.instance
             → IsFitting self.new.index dead }
         ensures next { OnOk result (IsPlacedNext self.old self.new step placed.old.items placed.new.items) }
         ensures same { OnErr result (self.new.index.list ≡ self.old.index.list) }
         ensures none { OnErr result (placed.new.items ≡ placed.old.items) }
-        ensures ending { self.new.ending ≡ self.old.ending }
     {
         placed.reserve(1)?;
         if step.slot.is_none() {
@@ -127,14 +113,11 @@ impl<M: Monitor> Store<M> {
     pub(super) fn place(&mut self, instance: &Binding) -> Result<Option<usize>, NoMemory>
         requires open { self.old.is_open ≡ true }
         ensures open { self.new.is_open ≡ true }
-        ensures stored { stored_of self.new ≡ stored_of self.old }
-        ensures monitors { (k : ℕ) → monitor_at self.new.monitors k ≡ monitor_at self.old.monitors k }
-        ensures marks { self.new.marks ≡ self.old.marks }
+        ensures kept { KeepsContents self.old self.new }
         ensures fits { (dead : List Bool) → IsFitting self.old.index dead → AreBelow (length dead) instance.now
             → IsFitting self.new.index dead }
         ensures placed { IfOk result (λ slot. IsPlaced self.old self.new instance.now slot) }
         ensures same { OnErr result (self.new.index.list ≡ self.old.index.list) }
-        ensures ending { self.new.ending ≡ self.old.ending }
     {
         if self.index.has(instance) {
             return Ok(None);
@@ -166,16 +149,11 @@ impl<M: Monitor> Store<M> {
     /// Takes planned instances out again.
     fn take_back(&mut self, moves: &[Move<M::State>])
         requires open { self.old.is_open ≡ true }
-        requires placed { ArePlaced self.old moves.now }
-        requires filled { (pair : Pair) → Contains self.old.index.list pair → IsFilled self.old pair
-            ⊎ IsPlannedBy moves.now pair }
+        requires pending { ArePending self.old moves.now }
         ensures open { self.new.is_open ≡ true }
-        ensures stored { stored_of self.new ≡ stored_of self.old }
-        ensures monitors { (k : ℕ) → monitor_at self.new.monitors k ≡ monitor_at self.old.monitors k }
-        ensures marks { self.new.marks ≡ self.old.marks }
+        ensures kept { KeepsContents self.old self.new }
         ensures fits { (dead : List Bool) → IsFitting self.old.index dead → IsFitting self.new.index dead }
         ensures filled { (pair : Pair) → Contains self.new.index.list pair → IsFilled self.new pair }
-        ensures ending { self.new.ending ≡ self.old.ending }
     {
         let _monitors = &self.monitors;
         for step in moves {
@@ -193,13 +171,10 @@ impl<M: Monitor> Store<M> {
         requires bound { (pair : Pair) → Contains self.old.index.list pair → pair.binding ≡ instance.now
             → pair.slot ≡ slot }
         ensures open { self.new.is_open ≡ true }
-        ensures stored { stored_of self.new ≡ stored_of self.old }
-        ensures monitors { (k : ℕ) → monitor_at self.new.monitors k ≡ monitor_at self.old.monitors k }
-        ensures marks { self.new.marks ≡ self.old.marks }
+        ensures kept { KeepsContents self.old self.new }
         ensures fits { (dead : List Bool) → IsFitting self.old.index dead → IsFitting self.new.index dead }
         ensures within { (pair : Pair) → Contains self.new.index.list pair → Contains self.old.index.list pair }
         ensures gone { (pair : Pair) → Contains self.new.index.list pair → pair.slot ≡ slot → IsFilled self.new pair }
-        ensures ending { self.new.ending ≡ self.old.ending }
     {
         if self.monitors.is_planned(slot) {
             self.index.remove(instance);

@@ -15,16 +15,6 @@ invariant_of-self g c =
     let open_now = rw (← c.self.view_is) at c.requires.open in
     rw (c.release.ensures, c.remove.ensures.list) (kept_taken_back _ _ _ _ _ c.args.slot _ c.args.instance.now open_now c.self.invariant to of)
 
-pub returns-then-is_planned-clause-stored : goal.returns-then-is_planned-clause-stored
-returns-then-is_planned-clause-stored g c =
-    let planned = ap monitor_in (c.is_planned.ensures.0 c.if-is_planned.true) in
-    rw (← c.self.view_is, c.release.ensures) (stored_in-planned c.self.inside.monitors.slots c.args.slot _ refl planned)
-
-pub returns-then-is_planned-clause-monitors : goal.returns-then-is_planned-clause-monitors
-returns-then-is_planned-clause-monitors g c =
-    let planned = ap monitor_in (c.is_planned.ensures.0 c.if-is_planned.true) in
-    rw (← c.self.view_is, c.release.ensures) (emptied_monitors c.self.inside.monitors.slots c.args.slot _ planned)
-
 pub returns-then-is_planned-clause-within : goal.returns-then-is_planned-clause-within
 returns-then-is_planned-clause-within g c =
     rw (← c.self.view_is, c.remove.ensures.list) (from_without c.args.instance.now c.self.inside.index.list)
@@ -40,3 +30,14 @@ returns-else-is_planned-clause-gone g c =
 
 pub returns-then-is_planned-clause-fits : goal.returns-then-is_planned-clause-fits
 returns-then-is_planned-clause-fits g c = rw (← c.self.view_is) c.remove.ensures.fits
+
+pub returns-then-is_planned-clause-kept : goal.returns-then-is_planned-clause-kept
+returns-then-is_planned-clause-kept g c =
+    let planned = ap monitor_in (c.is_planned.ensures.0 c.if-is_planned.true) in
+    rw (← c.self.view_is, c.release.ensures)
+    (record {
+      stored = stored_in-planned c.self.inside.monitors.slots c.args.slot _ refl planned;
+      monitors = emptied_monitors c.self.inside.monitors.slots c.args.slot _ planned;
+      marks = refl;
+      ending = refl;
+    })

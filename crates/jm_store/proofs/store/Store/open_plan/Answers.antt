@@ -10,12 +10,6 @@ place_all-requires-clause-settled g c =
     let closed = rw (← c.self.view_is) at c.requires.closed in
     settled_monitor _ _ c.self.invariant.housed (c.self.invariant.settled closed)
 
-pub place_all-requires-clause-leads : goal.place_all-requires-clause-leads
-place_all-requires-clause-leads g c = rw (← c.self.view_is) at c.requires.leads
-
-pub take_back-requires-clause-filled : goal.take_back-requires-clause-filled
-take_back-requires-clause-filled g c = rw c.deref-in-Err.ensures.value c.in-Err.ensures.filled
-
 pub invariant_of-self-in-Err-1 : goal.invariant_of-self-in-Err-1
 invariant_of-self-in-Err-1 g c =
     let filled = rw (← c.self-in-Err.view_is) at c.take_back.ensures.filled in
@@ -29,11 +23,6 @@ invariant_of-self-in-Err-1 g c =
 pub returns-in-Ok-clause-placed : goal.returns-in-Ok-clause-placed
 returns-in-Ok-clause-placed g c = rw (← c.self.view_is) (placed_same _ _ _ c.args.moves.items c.args.moves.items _ refl refl c.in-Ok.ensures.placed)
 
-pub returns-in-Err-clause-monitors : goal.returns-in-Err-clause-monitors
-returns-in-Err-clause-monitors g c =
-    let back = rw (← c.self-in-Err.view_is) at c.take_back.ensures.monitors in
-    rw (← c.self.view_is) (λ k. back k ∙ c.in-Err.ensures.monitors k)
-
 pub returns-in-Err-clause-fits : goal.returns-in-Err-clause-fits
 returns-in-Err-clause-fits g c =
     let back = rw (← c.self-in-Err.view_is) at c.take_back.ensures.fits in
@@ -45,20 +34,39 @@ returns-in-Ok-clause-housed g c = rw (← c.self-in-Ok.view_is) (are_paired _ _ 
 pub returns-then-have_slots-clause-placed : goal.returns-then-have_slots-clause-placed
 returns-then-have_slots-clause-placed g c =
     let closed = rw (← c.self.view_is) at c.requires.closed in
-    let leads = rw (← c.self.view_is) at c.requires.leads in
+    let leads = rw (← c.self.view_is) at c.requires.ready.leads in
     let slotted = rw c.deref.ensures.value at (c.have_slots.ensures c.if-have_slots.true) in
     rw (← c.self.view_is)
     (placed_same _ _ _ c.args.moves.items c.args.moves.items _ refl refl
-    (placed_already _ c.args.moves.items c.requires.apart leads (settled_monitor _ _ c.self.invariant.housed (c.self.invariant.settled closed)) slotted))
+    (placed_already _ c.args.moves.items c.requires.ready.apart leads (settled_monitor _ _ c.self.invariant.housed (c.self.invariant.settled closed)) slotted))
 
 pub returns-then-have_slots-clause-housed : goal.returns-then-have_slots-clause-housed
 returns-then-have_slots-clause-housed g c = are_paired _ _ _ c.self.inside.index _ c.self.invariant.housed
 
-pub take_back-requires-clause-placed : goal.take_back-requires-clause-placed
-take_back-requires-clause-placed g c = rw c.deref-in-Err.ensures.value c.in-Err.ensures.leads
-
-pub returns-in-Ok-clause-monitors : goal.returns-in-Ok-clause-monitors
-returns-in-Ok-clause-monitors g c = rw (← c.self.view_is) (λ k. c.in-Ok.ensures.monitors k)
-
 pub returns-in-Ok-clause-fits : goal.returns-in-Ok-clause-fits
 returns-in-Ok-clause-fits g c = rw (← c.self.view_is) (λ dead fits within. c.in-Ok.ensures.fits dead fits within)
+
+pub place_all-requires-clause-ready : goal.place_all-requires-clause-ready
+place_all-requires-clause-ready g c =
+    let leads = rw (← c.self.view_is) at c.requires.ready.leads in
+    record { apart = c.requires.ready.apart; leads = leads }
+
+pub take_back-requires-clause-pending : goal.take_back-requires-clause-pending
+take_back-requires-clause-pending g c = rw c.deref-in-Err.ensures.value c.in-Err.ensures.pending
+
+pub returns-in-Err-clause-kept : goal.returns-in-Err-clause-kept
+returns-in-Err-clause-kept g c =
+    let back = rw (← c.self-in-Err.view_is) at c.take_back.ensures.kept in
+    let there = c.in-Err.ensures.kept in
+    rw (← c.self.view_is)
+    (record {
+      stored = back.stored ∙ there.stored;
+      monitors = λ k. back.monitors k ∙ there.monitors k;
+      marks = back.marks ∙ there.marks ∙ c.reserve.ensures.list;
+      ending = back.ending ∙ there.ending;
+    })
+
+pub returns-in-Ok-clause-kept : goal.returns-in-Ok-clause-kept
+returns-in-Ok-clause-kept g c =
+    let there = c.in-Ok.ensures.kept in
+    rw (← c.self.view_is) (record { stored = there.stored; monitors = there.monitors; marks = there.marks ∙ c.reserve.ensures.list; ending = there.ending })

@@ -25,9 +25,6 @@ invariant_of-self-in-Err g c =
     rw (c.in-Err.ensures.same, c.release.ensures)
     (kept_released _ _ _ _ _ _ _ c.in_ok-slot.slot _ open_now c.self.invariant c.in_ok-slot.ensures.reserved c.in_ok-list_domain.ensures.distinct c.in_ok-list_domain.ensures.kept)
 
-pub returns-in-Ok-clause-monitors : goal.returns-in-Ok-clause-monitors
-returns-in-Ok-clause-monitors g c = rw (← c.self.view_is) (reserved_monitors _ _ c.in_ok-slot.slot c.in_ok-slot.ensures.reserved)
-
 pub returns-in-Ok-clause-fits : goal.returns-in-Ok-clause-fits
 returns-in-Ok-clause-fits g c = rw (← c.self.view_is) (λ dead fits below. c.in-Ok.ensures.fits dead fits below)
 
@@ -35,13 +32,6 @@ pub returns-in-Ok-clause-placed : goal.returns-in-Ok-clause-placed
 returns-in-Ok-clause-placed g c =
     rw (← c.self.view_is)
     (c.in-Ok.ensures.added, reserved_apart _ _ _ c.in_ok-slot.slot c.self.invariant.housed c.in_ok-slot.ensures.reserved, reserved_none _ _ c.in_ok-slot.slot c.in_ok-slot.ensures.reserved)
-
-pub returns-in-Err-clause-stored : goal.returns-in-Err-clause-stored
-returns-in-Err-clause-stored g c =
-    rw (← c.self.view_is, c.release.ensures) (released_stored c.self.inside.monitors.slots c.reserve.new.self.slots c.in_ok-slot.slot _ c.in_ok-slot.ensures.reserved.here c.in_ok-slot.ensures.stored)
-
-pub returns-in-Err-clause-monitors : goal.returns-in-Err-clause-monitors
-returns-in-Err-clause-monitors g c = rw (← c.self.view_is, c.release.ensures) (released_monitors _ _ c.in_ok-slot.slot _ c.in_ok-slot.ensures.reserved)
 
 pub returns-in-Err-clause-fits : goal.returns-in-Err-clause-fits
 returns-in-Err-clause-fits g c = rw (← c.self.view_is) (λ dead fits below. c.in-Err.ensures.fits dead fits below)
@@ -51,3 +41,18 @@ invariant_of-self g c = kept_listed _ _ _ _ _ _ c.self.invariant c.in_err-list_d
 
 pub returns-then-has-clause-placed : goal.returns-then-has-clause-placed
 returns-then-has-clause-placed g c = rw (← c.self.view_is) (refl, c.has.ensures.yes c.if-has.true)
+
+pub returns-in-Ok-clause-kept : goal.returns-in-Ok-clause-kept
+returns-in-Ok-clause-kept g c =
+    rw (← c.self.view_is)
+    (record { stored = c.in_ok-slot.ensures.stored; monitors = reserved_monitors _ _ c.in_ok-slot.slot c.in_ok-slot.ensures.reserved; marks = refl; ending = refl })
+
+pub returns-in-Err-clause-kept : goal.returns-in-Err-clause-kept
+returns-in-Err-clause-kept g c =
+    rw (← c.self.view_is, c.release.ensures)
+    (record {
+      stored = released_stored c.self.inside.monitors.slots c.reserve.new.self.slots c.in_ok-slot.slot _ c.in_ok-slot.ensures.reserved.here c.in_ok-slot.ensures.stored;
+      monitors = released_monitors _ _ c.in_ok-slot.slot _ c.in_ok-slot.ensures.reserved;
+      marks = refl;
+      ending = refl;
+    })

@@ -1,19 +1,15 @@
-use Rattle.std.proofs.Common.{◌≡◌, ◌++◌, ℕ, List, length, true}
+use Rattle.std.proofs.Common.{◌≡◌, ◌++◌, List, length, true}
 use Rattle.std.specs.Prelude.{Bool}
 use Rattle.jm_index.specs.Index.{IsFitting}
 use Rattle.jm_store.specs.declared.moves.Move.{Move}
-use Rattle.jm_store.specs.Slots.{monitor_at}
 use Rattle.jm_store.specs.Moves.{LieWithin}
-use Rattle.jm_store.specs.Contents.{stored_of, ArePlacedOf}
+use Rattle.jm_store.specs.Contents.{ArePlacedOf, KeepsContents}
 use Rattle.jm_store.proofs.store.Store.place_all.Given as goal
 
 abbrev pub invariant-loop-step : goal.invariant-loop-step
 invariant-loop-step g l = record {
   open_now : l.self.is_open ≡ true;
-  stored : stored_of l.self ≡ stored_of l.fn.self;
-  monitors : (k : ℕ) → monitor_at l.self.monitors k ≡ monitor_at l.fn.self.monitors k;
-  marks : l.self.marks ≡ l.fn.self.marks;
-  ending : l.self.ending ≡ l.fn.self.ending;
+  kept : KeepsContents l.fn.self l.self;
   fits : (dead : List Bool) → IsFitting l.fn.self.index dead → LieWithin (length dead) l.initial.moves.items → IsFitting l.self.index dead;
   done : List (Move g.row.M-State.Denot);
   split : l.initial.moves.items ≡ l.moves.items ++ done;

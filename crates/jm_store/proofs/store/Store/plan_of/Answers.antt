@@ -17,22 +17,18 @@ use Rattle.jm_store.proofs.StoreLemmas.{store_same, spared_same}
 use Rattle.jm_store.proofs.GivenLemmas.{pairs_map}
 use Rattle.jm_store.proofs.store.Store.plan_of.Goals as goal
 
-pub open_plan-requires-clause-apart : goal.open_plan-requires-clause-apart
-open_plan-requires-clause-apart g c =
-    let m = g.M.Monitor.meaning (g.M.Monitor.definition c.args.rules.now) in
-    let Stands = g.M.Monitor.StandsFor c.args.rules.now in
-    let whole = completed m Stands _ _ _ _ _ _ _ c.requires.read in
-    apart_left c.args.moves.items whole.resting (apart_moves m Stands _ _ _ _ _ _ _ whole.all)
-
-pub open_plan-requires-clause-leads : goal.open_plan-requires-clause-leads
-open_plan-requires-clause-leads g c =
+pub open_plan-requires-clause-ready : goal.open_plan-requires-clause-ready
+open_plan-requires-clause-ready g c =
     let m = g.M.Monitor.meaning (g.M.Monitor.definition c.args.rules.now) in
     let Stands = g.M.Monitor.StandsFor c.args.rules.now in
     let read = rw (← c.self.view_is) at c.requires.read in
     let whole = completed m Stands _ _ _ _ _ _ _ read in
     rw (← c.self.view_is)
-    (λ move k there slot.
-    leads_moves m Stands _ _ _ _ _ _ _ whole.all _ c.self.invariant.housed.paired move k (Contains-append_left c.args.moves.items whole.resting move there) slot)
+    (record {
+      apart = apart_left c.args.moves.items whole.resting (apart_moves m Stands _ _ _ _ _ _ _ whole.all);
+      leads = λ move k there slot.
+          leads_moves m Stands _ _ _ _ _ _ _ whole.all _ c.self.invariant.housed.paired move k (Contains-append_left c.args.moves.items whole.resting move there) slot;
+    })
 
 pub returns-in_err-moves : goal.returns-in_err-moves
 returns-in_err-moves g c =
@@ -43,23 +39,23 @@ returns-in_err-moves g c =
     let within = λ (move : Move g.row.M-State.Denot) (there : Contains c.args.moves.items move).
     moves_within m Stands _ _ _ _ _ _ _ whole.all (length c.args.objects.now) c.requires.can.fits.instances c.requires.can.there move
     (Contains-append_left c.args.moves.items whole.resting move there) in
-    let fewer : EndsFewer c.args.self.now.ending c.open_plan.new.self.ending = rw opened.ending (fewer-refl _) in
+    let fewer : EndsFewer c.args.self.now.ending c.open_plan.new.self.ending = rw opened.kept.ending (fewer-refl _) in
     let failed = err_from_is_err_and c.from_residual-in_err-moves.result c.from_residual-in_err-moves.ensures.1 in
     rw failed.1
     (record {
-      stored = opened.stored;
-      monitors = opened.monitors;
-      marks = opened.marks;
+      stored = opened.kept.stored;
+      monitors = opened.kept.monitors;
+      marks = opened.kept.marks;
       fewer = fewer;
-      fits = fit_same c.args.self.now c.open_plan.new.self c.args.objects.now opened.stored opened.marks (opened.fits c.args.objects.now c.requires.can.fits.index within) c.requires.can.fits;
+      fits = fit_same c.args.self.now c.open_plan.new.self c.args.objects.now opened.kept.stored opened.kept.marks (opened.fits c.args.objects.now c.requires.can.fits.index within) c.requires.can.fits;
       closed = opened.closed;
       opened = tt;
       binding = tt;
       plan = tt;
       keeps = λ trace.
-          store_same m Stands trace c.args.objects.now c.args.self.now c.open_plan.new.self opened.stored opened.marks fewer
+          store_same m Stands trace c.args.objects.now c.args.self.now c.open_plan.new.self opened.kept.stored opened.kept.marks fewer
           (opened_fewer c.args.self.now.index c.open_plan.new.self.index c.args.objects.now c.args.moves.items c.requires.can.fits.index within opened.fits);
-      spares = spared_same m Stands c.args.self.now c.open_plan.new.self opened.stored
+      spares = spared_same m Stands c.args.self.now c.open_plan.new.self opened.kept.stored
           (opened_fewer c.args.self.now.index c.open_plan.new.self.index c.args.objects.now c.args.moves.items c.requires.can.fits.index within opened.fits);
       leaves = tt;
       works = tt;
@@ -77,17 +73,17 @@ returns g c =
     let within = λ (move : Move g.row.M-State.Denot) (there : Contains c.args.moves.items move).
     moves_within m Stands _ _ _ _ _ _ _ whole.all (length c.args.objects.now) c.requires.can.fits.instances c.requires.can.there move
     (Contains-append_left c.args.moves.items whole.resting move there) in
-    let fewer : EndsFewer old.ending c.end_fewer.new.self.ending = rw opened.ending at c.end_fewer.ensures.fewer in
+    let fewer : EndsFewer old.ending c.end_fewer.new.self.ending = rw opened.kept.ending at c.end_fewer.ensures.fewer in
     let known : IsTrue c.args.known → Contains new.marks c.args.binding.now = λ e.
-    subst (λ (l : List Binding). Contains l c.args.binding.now) (sym opened.marks) (c.requires.known.0 e) in
+    subst (λ (l : List Binding). Contains l c.args.binding.now) (sym opened.kept.marks) (c.requires.known.0 e) in
     let fits : IsFit c.end_fewer.new.self c.args.objects.now = rw c.end_fewer.ensures.same
     (fit_ending new _ c.args.objects.now
-    (fit_same old new c.args.objects.now opened.stored opened.marks (opened.fits c.args.objects.now c.requires.can.fits.index within) c.requires.can.fits)) in
+    (fit_same old new c.args.objects.now opened.kept.stored opened.kept.marks (opened.fits c.args.objects.now c.requires.can.fits.index within) c.requires.can.fits)) in
     let keeps : (trace : List ParametricEvent) → IsStoreAfter m Stands trace c.args.objects.now old → IsStoreAfter m Stands trace c.args.objects.now c.end_fewer.new.self = λ trace.
     rw c.end_fewer.ensures.same
-    (store_same m Stands trace c.args.objects.now old (with_ending new c.end_fewer.new.self.ending) opened.stored opened.marks fewer
+    (store_same m Stands trace c.args.objects.now old (with_ending new c.end_fewer.new.self.ending) opened.kept.stored opened.kept.marks fewer
     (opened_fewer old.index new.index c.args.objects.now c.args.moves.items c.requires.can.fits.index within opened.fits)) in
-    let spares = spared_same m Stands old new opened.stored (opened_fewer old.index new.index c.args.objects.now c.args.moves.items c.requires.can.fits.index within opened.fits) in
+    let spares = spared_same m Stands old new opened.kept.stored (opened_fewer old.index new.index c.args.objects.now c.args.moves.items c.requires.can.fits.index within opened.fits) in
     let asks = asks_by c.args.known old.ending c.args.letter.0 c.args.binding.now in
     let letter = c.args.letter.0 in
     let b = c.args.binding.now in
@@ -97,13 +93,13 @@ returns g c =
     let full = completed m Stands letter b dead old.monitors old.marks asks moves c.requires.read in
     let resting = full.resting in
     let apart = apart_moves m Stands letter b dead old.marks asks old.monitors (moves ++ resting) full.all in
-    let all_placed = placed_resting m Stands letter b dead old new moves slotted resting full.each opened.monitors placed apart opened.housed in
+    let all_placed = placed_resting m Stands letter b dead old new moves slotted resting full.each opened.kept.monitors placed apart opened.housed in
     let report = rw c.deref.ensures.value at c.in_ok-answer.ensures in
     let moved = rw c.deref-2.ensures.value at c.end_fewer.ensures.ended in
     record {
-      stored = rw c.end_fewer.ensures.same opened.stored;
-      monitors = rw c.end_fewer.ensures.same opened.monitors;
-      marks = rw c.end_fewer.ensures.same opened.marks;
+      stored = rw c.end_fewer.ensures.same opened.kept.stored;
+      monitors = rw c.end_fewer.ensures.same opened.kept.monitors;
+      marks = rw c.end_fewer.ensures.same opened.kept.marks;
       fewer = fewer;
       fits = fits;
       closed = tt;
@@ -118,18 +114,18 @@ returns g c =
           plan_leaves m Stands new after _ (slotted ++ resting) _
           (spared_placed m Stands letter b dead asks old new (moves ++ resting) (moves ++ resting) (slotted ++ resting) full.all (IsPermutation-refl _) all_placed (spares spared)
           (rw c.end_fewer.ensures.same at fits.index.reached))
-          (after_resting m Stands letter b dead old new moves slotted resting full.each opened.monitors) done);
+          (after_resting m Stands letter b dead old new moves slotted resting full.each opened.kept.monitors) done);
       works = λ trace holds.
           let may = may_reach m Stands c.args.letter.0 c.args.binding.now c.args.objects.now old.marks c.args.known old.ending (stored_of old) c.requires.known.0 holds.ended in
           let distinct = sorted_distinct m Stands letter b dead asks old new (moves ++ resting) (moves ++ resting) (slotted ++ resting)
-          full.all may (IsPermutation-refl _) all_placed opened.housed opened.monitors opened.stored opened.marks trace holds.monitors c.requires.can.event in
+          full.all may (IsPermutation-refl _) all_placed opened.housed opened.kept.monitors opened.kept.stored opened.kept.marks trace holds.monitors c.requires.can.event in
           let reported = report (pairs_map (λ r s. r.instance ≢ s.instance) (λ (x : Move g.row.M-State.Denot). x.monitor) moves (distinct_left moves resting distinct)) in
           rw c.end_fewer.ensures.same
           (plan_works m Stands letter b dead asks old new (moves ++ resting) (moves ++ resting) (slotted ++ resting)
-          full.all may (IsPermutation-refl _) all_placed opened.housed opened.monitors opened.stored opened.marks trace holds.monitors c.requires.can.event
+          full.all may (IsPermutation-refl _) all_placed opened.housed opened.kept.monitors opened.kept.stored opened.kept.marks trace holds.monitors c.requires.can.event
           _ (report_still m Stands letter b dead old.monitors moves resting _ full.each reported) _ refl
-          (after_resting m Stands letter b dead old new moves slotted resting full.each opened.monitors)
-          (placed_or_resting m Stands letter b dead old new moves slotted resting full.each opened.monitors) refl _ fewer holds.ended
+          (after_resting m Stands letter b dead old new moves slotted resting full.each opened.kept.monitors)
+          (placed_or_resting m Stands letter b dead old new moves slotted resting full.each opened.kept.monitors) refl _ fewer holds.ended
           (ending_still m Stands letter b dead old.monitors slotted resting old.ending _ full.each fewer holds.ended moved)
           (rw c.end_fewer.ensures.same at (keeps trace holds).spared) (rw c.end_fewer.ensures.same at fits.index.reached));
     }

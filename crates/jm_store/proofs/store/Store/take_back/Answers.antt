@@ -1,20 +1,17 @@
 use Rattle.std.proofs.Common.{◌∙◌, inl, inr, refl, sym}
 use Rattle.std.proofs.lemmas.Option.{same_Some}
 use Rattle.jm_store.proofs.HousingLemmas.{pair_by_slot, pair_by_binding}
-use Rattle.jm_store.proofs.PlanLemmas.{planned_next, planned_none, filled_same, item_among}
+use Rattle.jm_store.proofs.PlanLemmas.{planned_next, planned_none, filled_same, item_among, contents_kept, contents_still}
 use Rattle.jm_store.proofs.store.Store.take_back.Goals as goal
 use Rattle.jm_store.proofs.store.Store.take_back.Goals.{in-Some, in_default}
 
 pub loop-step-init : goal.loop-step-init
 loop-step-init g c = record {
   open_now = c.requires.«open»;
-  stored = refl;
-  monitors = λ k. refl;
-  marks = refl;
-  ending = refl;
+  kept = contents_kept c.args.self.now;
   fits = λ dead fits. fits;
   within = λ pair there. there;
-  filled = c.requires.filled;
+  filled = c.requires.pending.filled;
 }
 
 pub loop-step-preserved : goal.loop-step-preserved
@@ -26,14 +23,11 @@ loop-step-preserved g c =
     elim c.match-step.branch [
       | in-Some w ↦ rw w.self-is (record {
         open_now = w.free.ensures.«open»;
-        stored = w.free.ensures.stored ∙ inv.stored;
-        monitors = λ k. w.free.ensures.monitors k ∙ inv.monitors k;
-        marks = w.free.ensures.marks ∙ inv.marks;
-        ending = w.free.ensures.ending ∙ inv.ending;
+        kept = contents_still c.args.self.now c.loop-step.self w.free.new.self w.free.ensures.kept inv.kept;
         fits = λ dead fits. w.free.ensures.fits dead (inv.fits dead fits);
         within = λ pair there. inv.within pair (w.free.ensures.within pair there);
         filled = λ pair there. elim (inv.filled pair (w.free.ensures.within pair there)) [
-          | inl full ↦ inl (filled_same c.loop-step.self w.free.new.self pair (λ k. sym (w.free.ensures.monitors k)) full)
+          | inl full ↦ inl (filled_same c.loop-step.self w.free.new.self pair (λ k. sym (w.free.ensures.kept.monitors k)) full)
           | inr planned ↦ elim (planned_next moves i step pair c.loop-step-test.true c.step-item.is planned) [
             | inl here ↦ inl (w.free.ensures.gone pair there (same_Some pair.slot w.in-Some.slot (sym here.0 ∙ w.in-Some.is)))
             | inr later ↦ inr later
@@ -42,10 +36,7 @@ loop-step-preserved g c =
       })
       | in_default w ↦ rw w.self-is (record {
         open_now = inv.open_now;
-        stored = inv.stored;
-        monitors = inv.monitors;
-        marks = inv.marks;
-        ending = inv.ending;
+        kept = inv.kept;
         fits = inv.fits;
         within = inv.within;
         filled = λ pair there. elim (inv.filled pair there) [
@@ -62,7 +53,7 @@ pub free-requires : goal.free-requires
 free-requires g c =
     let inv = c.loop-step.invariant in
     let step = c.step-item.result in
-    let there = rw (← c.self.view_is) at (c.requires.placed step c.in-Some.slot (item_among c.args.moves.now c.loop-step.step-index step c.loop-step-test.true c.step-item.is) c.in-Some.is) in
+    let there = rw (← c.self.view_is) at (c.requires.pending.leads step c.in-Some.slot (item_among c.args.moves.now c.loop-step.step-index step c.loop-step-test.true c.step-item.is) c.in-Some.is) in
     record {
       «open» = inv.open_now;
       paired = λ pair within same. pair_by_slot _ _ c.in-Some.slot step.monitor.instance c.self.invariant.housed there pair (rw (← c.self.view_is) at (inv.within pair within)) same;
@@ -76,5 +67,5 @@ returns-clause-filled g c =
       | inr planned ↦ absurd (planned_none c.args.moves.now c.loop-step.step-index pair c.loop-step-test.false planned)
     ]
 
-pub returns-clause-ending : goal.returns-clause-ending
-returns-clause-ending g c = c.loop-step.invariant.ending
+pub returns-clause-kept : goal.returns-clause-kept
+returns-clause-kept g c = c.loop-step.invariant.kept

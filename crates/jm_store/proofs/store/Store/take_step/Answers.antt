@@ -25,12 +25,12 @@ place_one-requires-clause-leads g c = rw c.in_ok-open_for.ensures.opened c.requi
 pub returns-in_err-place_one-clause-fits : goal.returns-in_err-place_one-clause-fits
 returns-in_err-place_one-clause-fits g c =
     let p = rw c.in_ok-open_for.ensures.opened at c.in_err-place_one.ensures in
-    λ dead fit below mine. fit_same c.args.self.now c.place_one.new.self dead p.stored p.marks (p.fits dead fit.index mine) fit
+    λ dead fit below mine. fit_same c.args.self.now c.place_one.new.self dead p.kept.stored p.kept.marks (p.fits dead fit.index mine) fit
 
 pub carry_out-requires : goal.carry_out-requires
 carry_out-requires g c =
     let step = c.place_one.new.step in
-    rw c.end_one.ensures.same (λ k slot. c.in_ok-place_one.ensures.placed.leads step k (Contains-head step []) slot)
+    rw c.end_one.ensures.same (λ k slot. c.in_ok-place_one.ensures.placed.placed.leads step k (Contains-head step []) slot)
 
 pub close-requires-clause-settled : goal.close-requires-clause-settled
 close-requires-clause-settled g c =
@@ -39,7 +39,7 @@ close-requires-clause-settled g c =
     let carried = rw c.end_one.ensures.same at c.carry_out.ensures in
     λ pair there.
     elim (filled_on (with_ending c.place_one.new.self c.end_one.new.self.ending) c.carry_out.new.self [] step carried.bindings carried.slots carried.within
-    (one_pair (λ x y. (k : ℕ) → x.slot ≡ Some k → y.slot ≡ Some k → ⊥) step) p.placed.leads carried.monitors carried.index p.placed.filled pair there) [
+    (one_pair (λ x y. (k : ℕ) → x.slot ≡ Some k → y.slot ≡ Some k → ⊥) step) p.placed.placed.leads carried.monitors carried.index p.placed.placed.filled pair there) [
       | inl full ↦ full
       | inr planned ↦ absurd (unplanned [] pair refl planned)
     ]
@@ -49,7 +49,7 @@ returns-clause-fits g c =
     let p = rw c.in_ok-open_for.ensures.opened at c.in_ok-place_one.ensures in
     let carried = rw c.end_one.ensures.same at c.carry_out.ensures in
     λ dead fit below mine.
-    c.close.ensures.fits dead (carried.fits dead (p.fits dead fit.index mine)) (λ t there. fit.marks t (subst (λ (l : List Binding). Contains l t) (carried.marks ∙ p.marks) there)) below
+    c.close.ensures.fits dead (carried.fits dead (p.fits dead fit.index mine)) (λ t there. fit.marks t (subst (λ (l : List Binding). Contains l t) (carried.marks ∙ p.kept.marks) there)) below
 
 pub returns-clause-index : goal.returns-clause-index
 returns-clause-index g c =
@@ -61,7 +61,7 @@ pub returns-clause-marks : goal.returns-clause-marks
 returns-clause-marks g c =
     let p = rw c.in_ok-open_for.ensures.opened at c.in_ok-place_one.ensures in
     let carried = rw c.end_one.ensures.same at c.carry_out.ensures in
-    subst (λ (l : List Binding). AreMarksAfter c.args.binding.now l c.close.new.self.marks) (carried.marks ∙ p.marks) c.close.ensures.marks
+    subst (λ (l : List Binding). AreMarksAfter c.args.binding.now l c.close.new.self.marks) (carried.marks ∙ p.kept.marks) c.close.ensures.marks
 
 pub returns-clause-taken : goal.returns-clause-taken
 returns-clause-taken g c =
@@ -73,15 +73,15 @@ returns-clause-taken g c =
     record {
       between = c.place_one.new.self;
       slotted = slotted;
-      placed = placed_same _ c.args.self.now c.place_one.new.self (step ∷ []) (step ∷ []) (slotted ∷ []) refl refl p.placed;
+      placed = placed_same _ c.args.self.now c.place_one.new.self (step ∷ []) (step ∷ []) (slotted ∷ []) refl refl p.placed.placed;
       paired = p.paired;
-      stored = p.stored;
-      marks = p.marks;
-      same = p.monitors;
+      stored = p.kept.stored;
+      marks = p.kept.marks;
+      same = p.kept.monitors;
       fits = p.fits;
       monitors = c.close.ensures.monitors ∙ carried.monitors;
       dropped = ap (λ i. i.dropped) c.close.ensures.index ∙ carried.dropped;
-      fewer = rw ending (rw p.ending at c.end_one.ensures.fewer);
+      fewer = rw ending (rw p.kept.ending at c.end_one.ensures.fewer);
       ended = rw ending c.end_one.ensures.ended;
       report = c.in-Ok.ensures;
     }
@@ -91,7 +91,7 @@ returns-in_err-place_one-clause-listed g c = λ dead listed.
     let m = g.M.Monitor.meaning (g.M.Monitor.definition c.args.rules.now) in
     let Stands = g.M.Monitor.StandsFor c.args.rules.now in
     let p = rw c.in_ok-open_for.ensures.opened at c.in_err-place_one.ensures in
-    listed_same m Stands dead None c.args.self.now.monitors c.place_one.new.self.monitors c.args.awake.now p.monitors listed
+    listed_same m Stands dead None c.args.self.now.monitors c.place_one.new.self.monitors c.args.awake.now p.kept.monitors listed
 
 pub returns-clause-listed : goal.returns-clause-listed
 returns-clause-listed g c = λ dead listed.
@@ -101,8 +101,8 @@ returns-clause-listed g c = λ dead listed.
     let carried = rw c.end_one.ensures.same at c.carry_out.ensures in
     let mid = c.place_one.new.self in
     let step = c.place_one.new.step in
-    let first = listed_same m Stands dead None c.args.self.now.monitors mid.monitors c.args.awake.now p.monitors listed in
-    let is = for_slots mid.monitors mid.index.list step carried.slots p.paired.within p.paired.paired (λ k slot. p.placed.leads step k (Contains-head step []) slot) in
+    let first = listed_same m Stands dead None c.args.self.now.monitors mid.monitors c.args.awake.now p.kept.monitors listed in
+    let is = for_slots mid.monitors mid.index.list step carried.slots p.paired.within p.paired.paired (λ k slot. p.placed.placed.leads step k (Contains-head step []) slot) in
     let moved = c.follow.ensures c.args.rules.now dead mid.monitors is first in
     subst (λ (l : List (Option (Stored g.row.M-State.Denot))). AreListed m Stands dead l c.follow.new.awake) (sym (c.close.ensures.monitors ∙ carried.monitors)) moved
 
