@@ -10,11 +10,12 @@ use Rattle.jm_semantics.specs.Answers.{IsAnswer}
 use Rattle.jm_index.specs.Index.{Pair, PairList, IsFitting, AreBelow}
 use Rattle.jm_monitors.specs.declared.stored.Stored.{Stored}
 use Rattle.jm_monitors.specs.Stores.{IsStoreOf, HasInstance}
-use Rattle.jm_monitors.specs.Steps.{AreMarksAfter, NoneCutAbove, AreSpared, IsReport}
+use Rattle.jm_monitors.specs.Steps.{AreMarksAfter, NoneCutAbove, IsThinned, AreSpared, AreLiveMarks, IsReport}
 use Rattle.jm_store.specs.declared.moves.Move.{Move}
 use Rattle.jm_store.specs.declared.moves.Plan.{Plan}
 use Rattle.jm_store.specs.Slots.{monitor_at, stored_in}
-use Rattle.jm_store.specs.Moves.{after_moves, AreApart, IsEnding, AreEnding, EndsFewer, IsNext, IsSwept, AreVisited, has_all, IsAtRest}
+use Rattle.jm_store.specs.Moves.{after_move, after_moves, pairs_after, AreApart, IsEnding, AreEnding, EndsFewer, IsNext, IsSwept, AreVisited, has_all, IsAtRest}
+use Rattle.jm_store.specs.Listed.{AreLeftOf}
 
 -- The monitors by slot, the marks, whether a plan is open, and the index, which has a pair for each monitor. What the
 -- store is to have where a plan is open isn't among the monitors. Last, for each set of parameters letters that end the
@@ -77,6 +78,18 @@ pub record IsCutDown (m : Meaning) {S : Type 0} (Stands : S → Word → Type 0)
   pub ending : new.ending ≡ old.ending
   pub index : (flags : List Bool) → IsFitting old.index flags → IsFitting new.index flags
 
+-- The store after a pass: the monitors that no dead object cuts are left, each in its slot, and the marks with a live
+-- object. Of whatever trace the store was one, it still is.
+pub record IsDisposed (m : Meaning) {S : Type 0} (Stands : S → Word → Type 0) (dead : List Bool)
+    (old new : Contents S) : Type 0 where
+  pub thinned : IsThinned m Stands dead (stored_of old) (stored_of new)
+  pub alive : AreSpared m Stands dead (stored_of new)
+  pub slots : AreLeftOf old.monitors new.monitors
+  pub marks : AreLiveMarks dead old.marks new.marks
+  pub ending : new.ending ≡ old.ending
+  pub keeps : (trace : List ParametricEvent) → IsStoreAfter m Stands trace dead old
+      → IsStoreAfter m Stands trace dead new
+
 -- the pair's slot has a monitor, of its binding
 abbrev pub IsFilled : {S : Type 0} → Contents S → Pair → Type 0
 IsFilled {S} store pair = (s : Stored S) × (monitor_at store.monitors pair.slot ≡ Some s) × (s.instance ≡ pair.binding)
@@ -107,6 +120,15 @@ pub record IsCarriedOut {S : Type 0} (before after : Contents S) (plan : Plan S)
   pub marks : AreMarksAfter plan.binding before.marks after.marks
   pub ending : after.ending ≡ before.ending
   pub dropped : after.index.dropped ≡ before.index.dropped
+
+-- the store after a move was carried out in it
+pub record IsMoveDone {S : Type 0} (step : Move S) (before after : Contents S) : Type 0 where
+  pub still : after.is_open ≡ before.is_open
+  pub monitors : after.monitors ≡ after_move step before.monitors
+  pub marks : after.marks ≡ before.marks
+  pub index : after.index.list ≡ pairs_after step before.index.list
+  pub dropped : after.index.dropped ≡ before.index.dropped
+  pub ending : after.ending ≡ before.ending
 
 -- The plan is that of the event with this letter after the trace: its answer is the event's, and once it is carried out
 -- the contents are a store of the trace with the event, in which no monitor above the event's binding is cut. Each

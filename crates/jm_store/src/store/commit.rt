@@ -3,8 +3,7 @@ ghost use Rattle.std.specs.Prelude.{◌≡◌, ◌≢◌, ℕ, ◌<◌, ◌≤�
 ghost use Rattle.jm_semantics.specs.Traces.{ParametricEvent};
 ghost use Rattle.jm_index.specs.Index.{Pair, AreBelow, IsFitting};
 ghost use Rattle.jm_monitors.specs.Steps.{AreMarksAfter, NoneCutAbove};
-ghost use Rattle.jm_store.specs.Moves.{after_move, pairs_after};
-ghost use Rattle.jm_store.specs.Contents.{stored_of, monitors_after, IsFit, IsStoreAfter, IsPlanFor, IsPlanOf};
+ghost use Rattle.jm_store.specs.Contents.{stored_of, IsFit, IsStoreAfter, IsPlanFor, IsPlanOf, IsCarriedOut, IsMoveDone};
 
 use super::Store;
 use crate::moves::{Move, Plan};
@@ -16,10 +15,7 @@ impl<M: Monitor> Store<M> {
     pub fn commit(&mut self, plan: Plan<M::State>) -> (Firings, Firings)
         requires open { self.old.is_open ≡ true }
         requires plan { IsPlanFor self.old plan }
-        ensures monitors { self.new.monitors ≡ monitors_after self.old plan }
-        ensures marks { AreMarksAfter plan.binding self.old.marks self.new.marks }
-        ensures ending { self.new.ending ≡ self.old.ending }
-        ensures dropped { self.new.index.dropped ≡ self.old.index.dropped }
+        ensures carried { IsCarriedOut self.old self.new plan }
         ensures closed { self.new.is_open ≡ false }
         ensures fits { (dead : List Bool) → IsFit self.old dead → AreBelow (length dead) plan.binding
             → IsFit self.new dead }
@@ -52,16 +48,11 @@ impl<M: Monitor> Store<M> {
     pub(super) fn carry_out(&mut self, step: Move<M::State>)
         requires { (k : ℕ) → step.slot ≡ Some k
             → Contains self.old.index.list (record { binding = step.monitor.instance; slot = k }) }
-        ensures open { self.new.is_open ≡ self.old.is_open }
-        ensures monitors { self.new.monitors ≡ after_move step self.old.monitors }
-        ensures marks { self.new.marks ≡ self.old.marks }
+        ensures done { IsMoveDone step self.old self.new }
         ensures fits { (dead : List Bool) → IsFitting self.old.index dead → IsFitting self.new.index dead }
-        ensures index { self.new.index.list ≡ pairs_after step self.old.index.list }
         ensures bindings { AllPairs (λ a b. a.binding ≢ b.binding) self.old.index.list }
         ensures slots { AllPairs (λ a b. a.slot ≢ b.slot) self.old.index.list }
         ensures within { (pair : Pair) → Contains self.old.index.list pair → pair.slot < length self.old.monitors }
-        ensures dropped { self.new.index.dropped ≡ self.old.index.dropped }
-        ensures ending { self.new.ending ≡ self.old.ending }
     {
         let _monitors = &self.monitors;
         let Some(slot) = step.slot else { return };

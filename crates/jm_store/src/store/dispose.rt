@@ -1,12 +1,9 @@
 //! What a pass drops.
 ghost use Rattle.std.specs.Prelude.{◌≡◌, ℕ, List, Bool, false, Contains, Some, length};
-ghost use Rattle.jm_semantics.specs.Traces.{ParametricEvent};
 ghost use Rattle.jm_index.specs.Index.{IsKey, flag_of, IsFitting, without};
-ghost use Rattle.jm_monitors.specs.Steps.{IsThinned, AreSpared, AreLiveMarks};
 ghost use Rattle.jm_store.specs.Slots.{monitor_at};
 ghost use Rattle.jm_store.specs.Moves.{IsSwept};
-ghost use Rattle.jm_store.specs.Contents.{stored_of, IsSpared, IsFitFor, IsStoreAfter, IsCutDown};
-ghost use Rattle.jm_store.specs.Listed.{AreLeftOf};
+ghost use Rattle.jm_store.specs.Contents.{stored_of, IsSpared, IsFitFor, IsDisposed, IsCutDown};
 
 use super::Store;
 use jm_index::NoRoom;
@@ -19,16 +16,8 @@ impl<M: Monitor> Store<M> {
     pub fn dispose(&mut self, rules: &M, objects: &Objects) -> u64
         requires closed { self.old.is_open ≡ false }
         requires fits { IsFitFor (M.meaning (M.definition rules.now)) (M.StandsFor rules.now) self.old objects.now }
-        ensures thinned { IsThinned (M.meaning (M.definition rules.now)) (M.StandsFor rules.now) objects.now
-            (stored_of self.old) (stored_of self.new) }
-        ensures alive { AreSpared (M.meaning (M.definition rules.now)) (M.StandsFor rules.now) objects.now
-            (stored_of self.new) }
-        ensures slots { AreLeftOf self.old.monitors self.new.monitors }
-        ensures marks { AreLiveMarks objects.now self.old.marks self.new.marks }
-        ensures ending { self.new.ending ≡ self.old.ending }
-        ensures keeps { (trace : List ParametricEvent)
-            → IsStoreAfter (M.meaning (M.definition rules.now)) (M.StandsFor rules.now) trace objects.now self.old
-            → IsStoreAfter (M.meaning (M.definition rules.now)) (M.StandsFor rules.now) trace objects.now self.new }
+        ensures disposed { IsDisposed (M.meaning (M.definition rules.now)) (M.StandsFor rules.now) objects.now
+            self.old self.new }
         ensures left { result ≡ length (stored_of self.new) }
         ensures closed { self.new.is_open ≡ false }
         ensures fits { IsFitFor (M.meaning (M.definition rules.now)) (M.StandsFor rules.now) self.new objects.now }

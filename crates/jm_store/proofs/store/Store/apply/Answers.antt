@@ -36,15 +36,15 @@ loop-step-preserved g c =
     let rest = c.pop.new.self.items in
     let step = c.in-Some.step in
     record {
-      closed = carried.«open» ∙ inv.closed;
-      monitors = ap (after_moves rest) carried.monitors ∙ sym (after_push rest step c.loop-step.self.monitors) ∙ inv.monitors;
-      marks = carried.marks ∙ inv.marks;
-      dropped = carried.dropped ∙ inv.dropped;
+      closed = carried.done.still ∙ inv.closed;
+      monitors = ap (after_moves rest) carried.done.monitors ∙ sym (after_push rest step c.loop-step.self.monitors) ∙ inv.monitors;
+      marks = carried.done.marks ∙ inv.marks;
+      dropped = carried.done.dropped ∙ inv.dropped;
       fits = λ dead fits. carried.fits dead (inv.fits dead fits);
-      fewer = rw carried.ending inv.fewer;
-      ended = rw carried.ending inv.ended;
+      fewer = rw carried.done.ending inv.fewer;
+      ended = rw carried.done.ending inv.ended;
       apart = apart_front rest step inv.apart;
-      leads = leads_on c.loop-step.self c.carry_out.new.self rest step carried.bindings carried.slots carried.within inv.apart inv.leads carried.monitors carried.index;
+      leads = leads_on c.loop-step.self c.carry_out.new.self rest step carried.bindings carried.slots carried.within inv.apart inv.leads carried.done.monitors carried.done.index;
     }
 
 pub returns-clause-applied : goal.returns-clause-applied

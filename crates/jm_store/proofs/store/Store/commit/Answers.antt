@@ -14,15 +14,15 @@ loop-step-preserved g c =
     let rest = c.pop.new.self.items in
     let step = c.in-Some.step in
     record {
-      open_now = carried.«open» ∙ inv.open_now;
-      monitors = ap (after_moves rest) carried.monitors ∙ sym (after_push rest step c.loop-step.self.monitors) ∙ inv.monitors;
-      marks = carried.marks ∙ inv.marks;
-      ending = carried.ending ∙ inv.ending;
-      dropped = carried.dropped ∙ inv.dropped;
+      open_now = carried.done.still ∙ inv.open_now;
+      monitors = ap (after_moves rest) carried.done.monitors ∙ sym (after_push rest step c.loop-step.self.monitors) ∙ inv.monitors;
+      marks = carried.done.marks ∙ inv.marks;
+      ending = carried.done.ending ∙ inv.ending;
+      dropped = carried.done.dropped ∙ inv.dropped;
       fits = λ dead fits. carried.fits dead (inv.fits dead fits);
       apart = apart_front rest step inv.apart;
-      leads = leads_on c.loop-step.self c.carry_out.new.self rest step carried.bindings carried.slots carried.within inv.apart inv.leads carried.monitors carried.index;
-      filled = filled_on c.loop-step.self c.carry_out.new.self rest step carried.bindings carried.slots carried.within inv.apart inv.leads carried.monitors carried.index inv.filled;
+      leads = leads_on c.loop-step.self c.carry_out.new.self rest step carried.bindings carried.slots carried.within inv.apart inv.leads carried.done.monitors carried.done.index;
+      filled = filled_on c.loop-step.self c.carry_out.new.self rest step carried.bindings carried.slots carried.within inv.apart inv.leads carried.done.monitors carried.done.index inv.filled;
     }
 
 pub invariant_of-self : goal.invariant_of-self
@@ -36,17 +36,6 @@ invariant_of-self g c =
       room = λ e. absurd (false≢true e);
     }
 
-pub returns-clause-marks : goal.returns-clause-marks
-returns-clause-marks g c =
-    let same = rw (← c.self.view_is) at c.loop-step.invariant.marks in
-    rw (← same) c.add_mark.ensures
-
-pub returns-clause-ending : goal.returns-clause-ending
-returns-clause-ending g c = rw (← c.self.view_is) at c.loop-step.invariant.ending
-
-pub returns-clause-dropped : goal.returns-clause-dropped
-returns-clause-dropped g c = rw (← c.self.view_is) at c.loop-step.invariant.dropped
-
 pub returns-clause-fits : goal.returns-clause-fits
 returns-clause-fits g c =
     let fits = rw (← c.self.view_is) at c.loop-step.invariant.fits in
@@ -59,11 +48,20 @@ returns-clause-fits g c =
       | inr is ↦ rw is below
     ])
 
-pub returns-clause-works : goal.returns-clause-works
-returns-clause-works g c =
+pub returns-clause-carried : goal.returns-clause-carried
+returns-clause-carried g c =
     let none : length c.loop-step.moves.items ≡ 0 = grind (arith, common_steps) in
     let after = rw (← c.self.view_is) at c.loop-step.invariant.monitors in
-    let monitors = sym (after_none c.loop-step.moves.items _ none) ∙ after in
-    let dropped = rw (← c.self.view_is) at c.loop-step.invariant.dropped in
+    let same = rw (← c.self.view_is) at c.loop-step.invariant.marks in
+    record {
+      monitors = sym (after_none c.loop-step.moves.items _ none) ∙ after;
+      marks = rw (← same) c.add_mark.ensures;
+      ending = rw (← c.self.view_is) at c.loop-step.invariant.ending;
+      dropped = rw (← c.self.view_is) at c.loop-step.invariant.dropped;
+    }
+
+pub returns-clause-works : goal.returns-clause-works
+returns-clause-works g c =
+    let carried = returns-clause-carried g c in
     λ rules trace dead letter plan.
-    store_after_plan (g.M.Monitor.meaning (g.M.Monitor.definition rules)) (g.M.Monitor.StandsFor rules) trace dead letter c.args.self.now _ c.args.plan plan monitors (returns-clause-marks g c) (returns-clause-ending g c) dropped
+    store_after_plan (g.M.Monitor.meaning (g.M.Monitor.definition rules)) (g.M.Monitor.StandsFor rules) trace dead letter c.args.self.now _ c.args.plan plan carried.monitors carried.marks carried.ending carried.dropped

@@ -16,30 +16,26 @@ use Rattle.jm_store.proofs.store.Store.dispose.Goals as goal
 pub invariant_of-self : goal.invariant_of-self
 invariant_of-self g c = kept_swept _ _ _ _ _ _ _ c.self.invariant c.drop_dead.ensures.list c.sweep.ensures.spare
 
-pub returns-clause-thinned : goal.returns-clause-thinned
-returns-clause-thinned g c =
-    let m = g.M.Monitor.meaning (g.M.Monitor.definition c.args.rules.now) in
-    let Stands = g.M.Monitor.StandsFor c.args.rules.now in
-    let down = rw (← c.self.view_is) at c.drop_all_cut.ensures.down in
-    thinned m Stands c.args.objects.now c.args.self.now.monitors (monitors_of c.self.inside.monitors.slots) down.each (single_housed _ _ c.self.invariant.housed)
-
-pub returns-clause-alive : goal.returns-clause-alive
-returns-clause-alive g c =
-    let m = g.M.Monitor.meaning (g.M.Monitor.definition c.args.rules.now) in
-    let Stands = g.M.Monitor.StandsFor c.args.rules.now in
-    let all = rw (← c.self.view_is) at c.drop_all_cut.ensures.all in
-    alive m Stands c.args.objects.now c.args.self.now.monitors (monitors_of c.self.inside.monitors.slots) all
-
-pub returns-clause-marks : goal.returns-clause-marks
-returns-clause-marks g c =
+pub returns-clause-disposed : goal.returns-clause-disposed
+returns-clause-disposed g c =
     let m = g.M.Monitor.meaning (g.M.Monitor.definition c.args.rules.now) in
     let Stands = g.M.Monitor.StandsFor c.args.rules.now in
     let dead = c.args.objects.now in
+    let old = c.args.self.now in
+    let left = monitors_of c.self.inside.monitors.slots in
     let down = rw (← c.self.view_is) at c.drop_all_cut.ensures.down in
-    live_marks m Stands dead _ _ (subst (λ (l : List Binding). IsPermutation (filter (has_live dead) l) c.sweep.new.self.list) down.marks c.sweep.ensures.list)
-
-pub returns-clause-ending : goal.returns-clause-ending
-returns-clause-ending g c = (rw (← c.self.view_is) at c.drop_all_cut.ensures.down).ending
+    let all = rw (← c.self.view_is) at c.drop_all_cut.ensures.all in
+    let few = thinned m Stands dead old.monitors left down.each (single_housed _ _ c.self.invariant.housed) in
+    let living = alive m Stands dead old.monitors left all in
+    let marked = live_marks m Stands dead _ _ (subst (λ (l : List Binding). IsPermutation (filter (has_live dead) l) c.sweep.new.self.list) down.marks c.sweep.ensures.list) in
+    record {
+      thinned = few;
+      alive = living;
+      slots = left_down m Stands dead old _ down;
+      marks = marked;
+      ending = down.ending;
+      keeps = λ trace holds. store_after_pass m Stands trace dead old _ few (λ spared. living) marked down.ending c.drop_dead.ensures.fits.reached holds;
+    }
 
 pub returns-clause-fits : goal.returns-clause-fits
 returns-clause-fits g c =
@@ -52,22 +48,8 @@ returns-clause-fits g c =
           (λ b there.
           let kept = Contains-from_filter (has_live dead) c.self.inside.marks.list b (Contains-permutation _ _ b (IsPermutation-sym _ _ c.sweep.ensures.list) there) in
           c.requires.fits.fits.marks b (subst (λ (l : List Binding). Contains l b) down.marks kept.0));
-      spared = spared_fewer m Stands dead _ _ c.drop_dead.ensures.fits.reached (returns-clause-alive g c);
+      spared = spared_fewer m Stands dead _ _ c.drop_dead.ensures.fits.reached (returns-clause-disposed g c).alive;
     }
-
-pub returns-clause-keeps : goal.returns-clause-keeps
-returns-clause-keeps g c =
-    let m = g.M.Monitor.meaning (g.M.Monitor.definition c.args.rules.now) in
-    let Stands = g.M.Monitor.StandsFor c.args.rules.now in
-    λ trace holds.
-    store_after_pass m Stands trace c.args.objects.now c.args.self.now _ (returns-clause-thinned g c) (λ spared. returns-clause-alive g c) (returns-clause-marks g c) (returns-clause-ending g c) c.drop_dead.ensures.fits.reached holds
-
-pub returns-clause-slots : goal.returns-clause-slots
-returns-clause-slots g c =
-    let m = g.M.Monitor.meaning (g.M.Monitor.definition c.args.rules.now) in
-    let Stands = g.M.Monitor.StandsFor c.args.rules.now in
-    let down = rw (← c.self.view_is) at c.drop_all_cut.ensures.down in
-    left_down m Stands c.args.objects.now c.args.self.now _ down
 
 pub drop_all_cut-requires-clause-spared : goal.drop_all_cut-requires-clause-spared
 drop_all_cut-requires-clause-spared g c = c.requires.fits.spared

@@ -39,7 +39,7 @@ close-requires-clause-settled g c =
     let carried = rw c.end_one.ensures.same at c.carry_out.ensures in
     λ pair there.
     elim (filled_on (with_ending c.place_one.new.self c.end_one.new.self.ending) c.carry_out.new.self [] step carried.bindings carried.slots carried.within
-    (one_pair (λ x y. (k : ℕ) → x.slot ≡ Some k → y.slot ≡ Some k → ⊥) step) p.placed.placed.leads carried.monitors carried.index p.placed.placed.filled pair there) [
+    (one_pair (λ x y. (k : ℕ) → x.slot ≡ Some k → y.slot ≡ Some k → ⊥) step) p.placed.placed.leads carried.done.monitors carried.done.index p.placed.placed.filled pair there) [
       | inl full ↦ full
       | inr planned ↦ absurd (unplanned [] pair refl planned)
     ]
@@ -49,7 +49,7 @@ returns-clause-fits g c =
     let p = rw c.in_ok-open_for.ensures.opened at c.in_ok-place_one.ensures in
     let carried = rw c.end_one.ensures.same at c.carry_out.ensures in
     λ dead fit below mine.
-    c.close.ensures.fits dead (carried.fits dead (p.fits dead fit.index mine)) (λ t there. fit.marks t (subst (λ (l : List Binding). Contains l t) (carried.marks ∙ p.kept.marks) there)) below
+    c.close.ensures.fits dead (carried.fits dead (p.fits dead fit.index mine)) (λ t there. fit.marks t (subst (λ (l : List Binding). Contains l t) (carried.done.marks ∙ p.kept.marks) there)) below
 
 pub returns-clause-index : goal.returns-clause-index
 returns-clause-index g c =
@@ -61,7 +61,7 @@ pub returns-clause-marks : goal.returns-clause-marks
 returns-clause-marks g c =
     let p = rw c.in_ok-open_for.ensures.opened at c.in_ok-place_one.ensures in
     let carried = rw c.end_one.ensures.same at c.carry_out.ensures in
-    subst (λ (l : List Binding). AreMarksAfter c.args.binding.now l c.close.new.self.marks) (carried.marks ∙ p.kept.marks) c.close.ensures.marks
+    subst (λ (l : List Binding). AreMarksAfter c.args.binding.now l c.close.new.self.marks) (carried.done.marks ∙ p.kept.marks) c.close.ensures.marks
 
 pub returns-clause-taken : goal.returns-clause-taken
 returns-clause-taken g c =
@@ -69,7 +69,7 @@ returns-clause-taken g c =
     let carried = rw c.end_one.ensures.same at c.carry_out.ensures in
     let step = c.args.step in
     let slotted = c.place_one.new.step in
-    let ending = c.close.ensures.ending ∙ c.carry_out.ensures.ending in
+    let ending = c.close.ensures.ending ∙ c.carry_out.ensures.done.ending in
     record {
       between = c.place_one.new.self;
       slotted = slotted;
@@ -79,8 +79,8 @@ returns-clause-taken g c =
       marks = p.kept.marks;
       same = p.kept.monitors;
       fits = p.fits;
-      monitors = c.close.ensures.monitors ∙ carried.monitors;
-      dropped = ap (λ i. i.dropped) c.close.ensures.index ∙ carried.dropped;
+      monitors = c.close.ensures.monitors ∙ carried.done.monitors;
+      dropped = ap (λ i. i.dropped) c.close.ensures.index ∙ carried.done.dropped;
       fewer = rw ending (rw p.kept.ending at c.end_one.ensures.fewer);
       ended = rw ending c.end_one.ensures.ended;
       report = c.in-Ok.ensures;
@@ -104,7 +104,7 @@ returns-clause-listed g c = λ dead listed.
     let first = listed_same m Stands dead None c.args.self.now.monitors mid.monitors c.args.awake.now p.kept.monitors listed in
     let is = for_slots mid.monitors mid.index.list step carried.slots p.paired.within p.paired.paired (λ k slot. p.placed.placed.leads step k (Contains-head step []) slot) in
     let moved = c.follow.ensures c.args.rules.now dead mid.monitors is first in
-    subst (λ (l : List (Option (Stored g.row.M-State.Denot))). AreListed m Stands dead l c.follow.new.awake) (sym (c.close.ensures.monitors ∙ carried.monitors)) moved
+    subst (λ (l : List (Option (Stored g.row.M-State.Denot))). AreListed m Stands dead l c.follow.new.awake) (sym (c.close.ensures.monitors ∙ carried.done.monitors)) moved
 
 pub returns-in_err-place_one-clause-index : goal.returns-in_err-place_one-clause-index
 returns-in_err-place_one-clause-index g c =
