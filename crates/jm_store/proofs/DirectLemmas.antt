@@ -85,6 +85,18 @@ pub if_none : {X : Type 0} (o : Option X) (A B C D : Type 0) → (A → B → C 
 if_none None A B C D f a b c = f a b c
 if_none (Some x) A B C D f a b c = tt
 
+pub in_none : {X : Type 0} (o : Option X) (A : Type 0) → A → IfNone o A
+in_none None A a = a
+in_none (Some x) A a = tt
+
+pub none_map : {X : Type 0} (o : Option X) (A B : Type 0) → (A → B) → IfNone o A → IfNone o B
+none_map None A B f a = f a
+none_map (Some x) A B f a = tt
+
+pub some_map : {X : Type 0} (o : Option X) (P Q : X → Type 0) → ((x : X) → P x → Q x) → IfSome o P → IfSome o Q
+some_map None P Q f p = tt
+some_map (Some x) P Q f p = f x p
+
 pub if_some : {X : Type 0} (o : Option X) (P Q R : X → Type 0) → ((x : X) → P x → Q x → R x) → IfSome o P → IfSome o Q → IfSome o R
 if_some None P Q R f p q = tt
 if_some (Some x) P Q R f p q = f x p q

@@ -188,6 +188,25 @@ pub record KeepsContents {S : Type 0} (old new : Contents S) : Type 0 where
   pub marks : new.marks ≡ old.marks
   pub ending : new.ending ≡ old.ending
 
+-- the monitors, the index and the letters that were kept stay as they are
+pub record KeepsAllButMarks {S : Type 0} (old new : Contents S) : Type 0 where
+  pub monitors : new.monitors ≡ old.monitors
+  pub index : new.index ≡ old.index
+  pub ending : new.ending ≡ old.ending
+
+-- the marks stay as they are, no plan is open, and the store fits the objects that it fitted
+pub record StaysClosed {S : Type 0} (old new : Contents S) : Type 0 where
+  pub marks : new.marks ≡ old.marks
+  pub closed : new.is_open ≡ false
+  pub fits : (dead : List Bool) → IsFit old dead → IsFit new dead
+
+-- The store fits the objects that it fitted, where those of two bindings are among them; and its index does, where those
+-- of the second one are.
+pub record StaysFit {S : Type 0} (b t : Binding) (old new : Contents S) : Type 0 where
+  pub fits : (dead : List Bool) → IsFit old dead → AreBelow (length dead) b → AreBelow (length dead) t
+      → IsFit new dead
+  pub index : (dead : List Bool) → IsFitting old.index dead → AreBelow (length dead) t → IsFitting new.index dead
+
 -- no two of the moves have one slot, and where one has a slot, the index leads to it
 pub record AreReady {S : Type 0} (store : Contents S) (moves : List (Move S)) : Type 0 where
   pub apart : AreApart moves

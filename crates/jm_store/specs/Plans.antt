@@ -1,5 +1,5 @@
 -- What working out an event needs of a store, what it leaves of it, and what it answers.
-use Rattle.std.specs.Prelude.{ℕ, ◌≡◌, ◌≢◌, ◌≤◌, AllPairs, take, Bool, true, false, List, Option, Some, None, Result, Ok, Err, IfNone, IfSome, IfOk, OnOk, OnErr, length}
+use Rattle.std.specs.Prelude.{ℕ, ◌≡◌, ◌≢◌, ◌≤◌, AllPairs, take, Bool, true, false, List, [], Option, Some, None, Result, Ok, Err, IfNone, IfSome, IfOk, OnOk, OnErr, length}
 use Rattle.jm_model.specs.Words.{Word}
 use Rattle.jm_model.specs.Meanings.{Meaning}
 use Rattle.jm_model.specs.declared.binding.Binding.{Binding}
@@ -8,6 +8,7 @@ use Rattle.jm_semantics.specs.Traces.{ParametricEvent}
 use Rattle.jm_index.specs.Index.{AreBelow}
 use Rattle.jm_awake.specs.Awake.{Lists}
 use Rattle.jm_monitors.specs.Steps.{IsLiveEvent, IsReport, AreMarksAfter, AreResting}
+use Rattle.jm_monitors.specs.declared.stored.Stored.{Stored}
 use Rattle.jm_store.specs.declared.moves.Move.{Move}
 use Rattle.jm_store.specs.declared.walk.Shift.{Shift}
 use Rattle.jm_store.specs.declared.store.at_once.Reading.{Reading}
@@ -16,7 +17,7 @@ use Rattle.jm_store.specs.declared.store.advance.Done.{Done}
 use Rattle.jm_store.specs.Slots.{monitor_at}
 use Rattle.jm_store.specs.Moves.{EndsFewer, AreEnding, AreSifted, IsReadAt, after_moves, reached_by}
 use Rattle.jm_store.specs.Walks.{IsShiftAt}
-use Rattle.jm_store.specs.Contents.{Contents, stored_of, IsFit, IsSpared, IsStoreAfter, IsPlanFor, IsPlanOf, IsCarriedOut, IsEventDone}
+use Rattle.jm_store.specs.Contents.{Contents, stored_of, IsFit, IsSpared, IsStoreAfter, IsPlanFor, IsPlanOf, IsCarriedOut, IsEventDone, IsStepTaken, IsSlotAdvanced}
 
 -- No plan is open in the store, it fits the objects, and the event is one of the specification's, of live objects that
 -- stand in their table.
@@ -70,6 +71,24 @@ module _ (m : Meaning) {S : Type 0} (Stands : S → Word → Type 0) (dead : Lis
     pub twice : IfSome result (λ done. done.copy ≡ done.answer)
     pub works : IfSome result (λ done. (trace : List ParametricEvent) → IsStoreAfter m Stands trace dead old
         → IsEventDone m Stands trace dead letter b new done.answer)
+
+-- no handler runs
+abbrev pub IsSilent : Done → Type 0
+IsSilent done = (done.answer ≡ []) × (done.copy ≡ [])
+
+-- the move of an event with binding b was taken at once, b is a mark, and the answer is there twice
+pub record IsStepDone (m : Meaning) {S : Type 0} (Stands : S → Word → Type 0) (b : Binding) (step : Move S)
+    (old new : Contents S) (done : Done) : Type 0 where
+  pub marks : AreMarksAfter b old.marks new.marks
+  pub twice : done.copy ≡ done.answer
+  pub taken : IsStepTaken m Stands step old new done.answer
+
+-- the monitor of slot k was moved by the letter, and the answer is there twice
+pub record IsSlotDone (m : Meaning) {S : Type 0} (Stands : S → Word → Type 0) (letter : ℕ) (dead : List Bool) (k : ℕ)
+    (old new : Contents S) (done : Done) : Type 0 where
+  pub twice : done.copy ≡ done.answer
+  pub moved : (base : Stored S) → monitor_at old.monitors k ≡ Some base
+      → IsSlotAdvanced m Stands letter dead k base old new done.answer
 
 -- What the event makes of the monitors of some slots, of those that get other numbers by so many of the shifts, and of
 -- others by moves; of those of `rests` it makes nothing. And the answer, twice, which is the report of the moves where

@@ -8,9 +8,9 @@ ghost use Rattle.jm_monitors.specs.declared.stored.Stored.{Stored as Kept};
 ghost use Rattle.jm_monitors.specs.Steps.{AreMarksAfter};
 ghost use Rattle.jm_store.specs.Slots.{monitor_at};
 ghost use Rattle.jm_store.specs.Moves.{AreGiven, IsReadAt, IsPushed, IsCompatibleAt, AreMovesRead, asks_by, EndsFewer, IsEnding};
-ghost use Rattle.jm_store.specs.Contents.{stored_of, with_ending, with_open, IsFit, IsFilled, ArePlaced, ArePaired, IsPlacedOne, KeepsContents, IsSlotAdvanced, IsAbove, IsStepTaken};
+ghost use Rattle.jm_store.specs.Contents.{stored_of, with_ending, with_open, IsFit, IsFilled, ArePlaced, ArePaired, IsPlacedOne, KeepsContents, KeepsAllButMarks, StaysClosed, StaysFit, IsAbove};
 ghost use Rattle.jm_store.specs.Listed.{KeepListed};
-ghost use Rattle.jm_store.specs.Plans.{CanPlan, Advances};
+ghost use Rattle.jm_store.specs.Plans.{CanPlan, Advances, IsSilent, IsStepDone, IsSlotDone};
 
 use super::Store;
 use super::reach::make_room;
@@ -186,14 +186,9 @@ impl<M: Monitor> Store<M> {
         requires closed { self.old.is_open ≡ false }
         requires letter { letter.0 < (M.meaning (M.definition rules.now)).letters }
         ensures same { IfNone result (self.new ≡ self.old) }
-        ensures marks { self.new.marks ≡ self.old.marks }
-        ensures fits { (dead : List Bool) → IsFit self.old dead → IsFit self.new dead }
-        ensures closed { self.new.is_open ≡ false }
-        ensures twice { IfSome result (λ done. done.copy ≡ done.answer) }
-        ensures done { IfSome result (λ done. (base : Kept M.State)
-            → monitor_at self.old.monitors slot ≡ Some base
-            → IsSlotAdvanced (M.meaning (M.definition rules.now)) (M.StandsFor rules.now) letter.0 objects.now slot base
-            self.old self.new done.answer) }
+        ensures stays { StaysClosed self.old self.new }
+        ensures done { IfSome result (IsSlotDone (M.meaning (M.definition rules.now)) (M.StandsFor rules.now) letter.0
+            objects.now slot self.old self.new) }
         ensures listed { KeepListed (M.meaning (M.definition rules.now)) (M.StandsFor rules.now) objects.now
             self.old.monitors self.new.monitors awake.old awake.new }
         ensures steps { steps.new ≤ steps.old + 1 }
@@ -371,15 +366,12 @@ impl<M: Monitor> Store<M> {
         requires closed { self.old.is_open ≡ false }
         requires known { IsTrue known → Contains self.old.marks binding.now }
         ensures same { IfNone result (self.new ≡ self.old) }
-        ensures monitors { self.new.monitors ≡ self.old.monitors }
-        ensures index { self.new.index ≡ self.old.index }
-        ensures ending { self.new.ending ≡ self.old.ending }
+        ensures kept { KeepsAllButMarks self.old self.new }
         ensures closed { self.new.is_open ≡ false }
         ensures fits { (dead : List Bool) → IsFit self.old dead → AreBelow (length dead) binding.now
             → IsFit self.new dead }
         ensures marks { IfSome result (λ done. AreMarksAfter binding.now self.old.marks self.new.marks) }
-        ensures answer { IfSome result (λ done. done.answer ≡ []) }
-        ensures copy { IfSome result (λ done. done.copy ≡ []) }
+        ensures silent { IfSome result IsSilent }
     {
         let alloc = *self.domains.allocator();
         self.open_for(known)?;
@@ -398,21 +390,13 @@ impl<M: Monitor> Store<M> {
         known: bool,
     ) -> Option<Done>
         requires closed { self.old.is_open ≡ false }
-        requires known { IsTrue known → Contains self.old.marks binding.now }
-        requires slotted { IsTrue known → step.slot ≡ None → ⊥ }
+        requires known { IsTrue known → Contains self.old.marks binding.now × (step.slot ≡ None → ⊥) }
         requires leads { ArePlaced self.old (step ∷ []) }
-        ensures stored { IfNone result (stored_of self.new ≡ stored_of self.old) }
-        ensures unmarked { IfNone result (self.new.marks ≡ self.old.marks) }
-        ensures ending { IfNone result (self.new.ending ≡ self.old.ending) }
+        ensures same { IfNone result (KeepsContents self.old self.new) }
         ensures closed { self.new.is_open ≡ false }
-        ensures fits { (dead : List Bool) → IsFit self.old dead → AreBelow (length dead) binding.now
-            → AreBelow (length dead) step.monitor.instance → IsFit self.new dead }
-        ensures index { (dead : List Bool) → IsFitting self.old.index dead
-            → AreBelow (length dead) step.monitor.instance → IsFitting self.new.index dead }
-        ensures marks { IfSome result (λ done. AreMarksAfter binding.now self.old.marks self.new.marks) }
-        ensures twice { IfSome result (λ done. done.copy ≡ done.answer) }
-        ensures taken { IfSome result (λ done. IsStepTaken (M.meaning (M.definition rules.now))
-            (M.StandsFor rules.now) step self.old self.new done.answer) }
+        ensures fits { StaysFit binding.now step.monitor.instance self.old self.new }
+        ensures done { IfSome result (IsStepDone (M.meaning (M.definition rules.now)) (M.StandsFor rules.now)
+            binding.now step self.old self.new) }
         ensures listed { (dead : List Bool) → KeepListed (M.meaning (M.definition rules.now)) (M.StandsFor rules.now)
             dead self.old.monitors self.new.monitors awake.old awake.new }
     {
@@ -516,9 +500,7 @@ impl<M: Monitor> Store<M> {
         requires opened { self.old.is_open ≡ not known }
         requires known { IsTrue known → Contains self.old.marks binding.now }
         requires settled { (pair : Pair) → Contains self.old.index.list pair → IsFilled self.old pair }
-        ensures monitors { self.new.monitors ≡ self.old.monitors }
-        ensures index { self.new.index ≡ self.old.index }
-        ensures ending { self.new.ending ≡ self.old.ending }
+        ensures kept { KeepsAllButMarks self.old self.new }
         ensures closed { self.new.is_open ≡ false }
         ensures marks { AreMarksAfter binding.now self.old.marks self.new.marks }
         ensures fits { (dead : List Bool) → IsFitting self.old.index dead

@@ -6,9 +6,10 @@ use Rattle.jm_monitors.specs.declared.stored.Stored.{Stored}
 use Rattle.jm_monitors.specs.Steps.{AreMarksAfter}
 use Rattle.jm_store.specs.declared.store.advance.Done.{Done}
 use Rattle.jm_store.specs.Slots.{monitor_at}
-use Rattle.jm_store.specs.Contents.{Contents, stored_of, IsSpared, IsStoreAfter, IsEventDone, IsSlotAdvanced, IsOnlyAbove, IsNoneAbove, IsAbove}
+use Rattle.jm_store.specs.Contents.{Contents, stored_of, IsSpared, IsStoreAfter, IsEventDone, IsOnlyAbove, IsNoneAbove, IsAbove}
+use Rattle.jm_store.specs.Plans.{IsSlotDone}
 use Rattle.jm_store.proofs.AdvanceLemmas.{option_map, reached_one, one_counted, one_spared, one_done, none_done, still_known}
-use Rattle.jm_store.proofs.DirectLemmas.{if_none, in_some, either_way}
+use Rattle.jm_store.proofs.DirectLemmas.{if_none, in_some, some_map, either_way}
 use Rattle.jm_store.proofs.store.Store.advance_in.Goals as goal
 
 pub only_slot_above-requires-clause-live : goal.only_slot_above-requires-clause-live
@@ -27,23 +28,23 @@ returns-in-Some-above-clause-advances g c =
     let result = c.advance_slot.result in
     let known = c.requires.known.0 c.if-known.true in
     let (base, at) = reached_one b old slot only in
-    let Moved : Done → Type 0 = λ (done : Done). (s : Stored g.row.M-State.Denot) → monitor_at old.monitors slot ≡ Some s → IsSlotAdvanced m Stands c.args.letter.0 c.args.objects.now slot s old new done.answer in
+    let Moved : Done → Type 0 = λ (done : Done). IsSlotDone m Stands c.args.letter.0 c.args.objects.now slot old new done in
     record {
       stored = if_none result (new ≡ old) (new ≡ old) (new ≡ old) (stored_of new ≡ stored_of old) (λ same x y. ap (λ (s : Contents g.row.M-State.Denot). stored_of s) same) did.same did.same did.same;
       unmarked = if_none result (new ≡ old) (new ≡ old) (new ≡ old) (new.marks ≡ old.marks) (λ same x y. ap (λ (s : Contents g.row.M-State.Denot). s.marks) same) did.same did.same did.same;
       keeps = if_none result (new ≡ old) (new ≡ old) (new ≡ old) ((trace : List ParametricEvent) → IsStoreAfter m Stands trace c.args.objects.now old → IsStoreAfter m Stands trace c.args.objects.now new)
           (λ same x y trace holds. subst (λ (s : Contents g.row.M-State.Denot). IsStoreAfter m Stands trace c.args.objects.now s) (sym same) holds) did.same did.same did.same;
-      fits = did.fits c.args.objects.now c.requires.can.fits;
+      fits = did.stays.fits c.args.objects.now c.requires.can.fits;
       spares = either_way result (IsSpared m Stands old → IsSpared m Stands new)
           (if_none result (new ≡ old) (new ≡ old) (new ≡ old) (IsSpared m Stands old → IsSpared m Stands new) (λ same x y spared. subst (λ (s : Contents g.row.M-State.Denot). IsSpared m Stands s) (sym same) spared) did.same did.same did.same)
           (option_map result (Unit {0}) Moved (λ (done : Done). IsSpared m Stands old → IsSpared m Stands new)
-          (λ done h. one_spared m Stands c.args.letter.0 b c.args.objects.now old new slot base done.answer only at known (h base at) c.requires.can.fits.index.reached) did.done);
-      closed = did.closed;
-      marks = in_some result (λ (done : Done). AreMarksAfter b old.marks new.marks) (λ done. rw did.marks (still_known b old.marks known));
-      twice = did.twice;
+          (λ done h. one_spared m Stands c.args.letter.0 b c.args.objects.now old new slot base done.answer only at known (h.moved base at) c.requires.can.fits.index.reached) did.done);
+      closed = did.stays.closed;
+      marks = in_some result (λ (done : Done). AreMarksAfter b old.marks new.marks) (λ done. rw did.stays.marks (still_known b old.marks known));
+      twice = some_map result Moved (λ (done : Done). done.copy ≡ done.answer) (λ done h. h.twice) did.done;
       works = option_map result (Unit {0}) Moved
           (λ (done : Done). (trace : List ParametricEvent) → IsStoreAfter m Stands trace c.args.objects.now old → IsEventDone m Stands trace c.args.objects.now c.args.letter.0 b new done.answer)
-          (λ done h trace holds. one_done m Stands c.args.letter.0 b c.args.objects.now old new slot base done.answer only at known (h base at) trace c.requires.can.event c.requires.can.fits.index.reached holds) did.done;
+          (λ done h trace holds. one_done m Stands c.args.letter.0 b c.args.objects.now old new slot base done.answer only at known (h.moved base at) trace c.requires.can.event c.requires.can.fits.index.reached holds) did.done;
     }
 
 pub returns-in-Some-above-clause-steps : goal.returns-in-Some-above-clause-steps

@@ -10,10 +10,11 @@ use Rattle.jm_store.specs.declared.store.advance.Done.{Done}
 use Rattle.jm_store.specs.Slots.{monitor_at}
 use Rattle.jm_store.specs.Listed.{AreListed}
 use Rattle.jm_store.specs.Moves.{AreMovesRead, asks_by}
-use Rattle.jm_store.specs.Contents.{Contents, stored_of, IsSpared, IsStoreAfter, IsEventDone, IsStepTaken, IsFilled, ArePaired}
+use Rattle.jm_store.specs.Contents.{Contents, stored_of, IsSpared, IsStoreAfter, IsEventDone, IsFilled, ArePaired, KeepsContents}
+use Rattle.jm_store.specs.Plans.{IsSilent, IsStepDone}
 use Rattle.jm_store.proofs.VisitLemmas.{settled_monitor}
 use Rattle.jm_store.proofs.FitLemmas.{are_paired}
-use Rattle.jm_store.proofs.DirectLemmas.{if_none, if_some, either_way, step_within, step_slotted, step_leads, step_kept, step_still, step_spared, step_done, none_done}
+use Rattle.jm_store.proofs.DirectLemmas.{none_map, some_map, if_some, either_way, step_within, step_slotted, step_leads, step_kept, step_still, step_spared, step_done, none_done}
 use Rattle.jm_store.proofs.store.Store.advance_only.Goals as goal
 
 pub find_only-requires-clause-known : goal.find_only-requires-clause-known
@@ -22,8 +23,8 @@ find_only-requires-clause-known g c = rw (← c.self.view_is) at c.requires.know
 pub find_only-requires-clause-live : goal.find_only-requires-clause-live
 find_only-requires-clause-live g c = λ o binds. c.requires.can.event.live o (object-among _ binds.0 o binds.1)
 
-pub take_step-requires-clause-slotted : goal.take_step-requires-clause-slotted
-take_step-requires-clause-slotted g c =
+pub take_step-requires-clause-known : goal.take_step-requires-clause-known
+take_step-requires-clause-known g c =
     let m = g.M.Monitor.meaning (g.M.Monitor.definition c.args.rules.now) in
     let Stands = g.M.Monitor.StandsFor c.args.rules.now in
     let old = c.args.self.now in
@@ -31,7 +32,7 @@ take_step-requires-clause-slotted g c =
     let marks : c.self.inside.marks.list ≡ old.marks = ap (λ v. v.marks) c.self.view_is in
     let is = rw c.in-Some.is at c.in_ok-step.ensures.read in
     let read = subst (λ (l : List Binding). AreMovesRead m Stands c.args.letter.0 c.args.binding.now c.args.objects.now l asks old.monitors (c.in-Some.step ∷ [])) marks is in
-    step_slotted m Stands c.args.letter.0 c.args.binding.now c.args.objects.now c.args.known old old c.in-Some.step [] c.requires.known.0 read c.requires.can.fits c.requires.can.there
+    λ e. (c.requires.known.0 e, step_slotted m Stands c.args.letter.0 c.args.binding.now c.args.objects.now c.args.known old old c.in-Some.step [] c.requires.known.0 read c.requires.can.fits c.requires.can.there e)
 
 pub take_step-requires-clause-leads : goal.take_step-requires-clause-leads
 take_step-requires-clause-leads g c =
@@ -62,25 +63,24 @@ returns-in_ok-room_for-in-Some-clause-advances g c =
     let t = c.take_step.ensures in
     let result = c.take_step.result in
     let mine = step_within m Stands letter b dead c.args.known old new step [] c.requires.known.0 read c.requires.can.fits c.requires.can.there in
-    let Taken : Done → Type 0 = λ (done : Done). IsStepTaken m Stands step old new done.answer in
+    let Kept = KeepsContents old new in
+    let Did : Done → Type 0 = λ (done : Done). IsStepDone m Stands b step old new done in
     record {
-      stored = t.stored;
-      unmarked = t.unmarked;
-      keeps = if_none result (stored_of new ≡ stored_of old) (new.marks ≡ old.marks) (new.ending ≡ old.ending)
-          ((trace : List ParametricEvent) → IsStoreAfter m Stands trace dead old → IsStoreAfter m Stands trace dead new)
-          (λ stored unmarked ending. step_kept m Stands letter b dead c.args.known old new step [] c.requires.known.0 read c.requires.can.fits c.requires.can.there stored unmarked ending t.index) t.stored t.unmarked t.ending;
-      fits = t.fits dead c.requires.can.fits c.requires.can.there mine;
+      stored = none_map result Kept (stored_of new ≡ stored_of old) (λ kept. kept.stored) t.same;
+      unmarked = none_map result Kept (new.marks ≡ old.marks) (λ kept. kept.marks) t.same;
+      keeps = none_map result Kept ((trace : List ParametricEvent) → IsStoreAfter m Stands trace dead old → IsStoreAfter m Stands trace dead new)
+          (λ kept. step_kept m Stands letter b dead c.args.known old new step [] c.requires.known.0 read c.requires.can.fits c.requires.can.there kept.stored kept.marks kept.ending t.fits.index) t.same;
+      fits = t.fits.fits dead c.requires.can.fits c.requires.can.there mine;
       spares = either_way result (IsSpared m Stands old → IsSpared m Stands new)
-          (if_none result (stored_of new ≡ stored_of old) (stored_of new ≡ stored_of old) (stored_of new ≡ stored_of old) (IsSpared m Stands old → IsSpared m Stands new)
-          (λ stored x y. step_still m Stands letter b dead c.args.known old new step [] c.requires.known.0 read c.requires.can.fits c.requires.can.there stored t.index) t.stored t.stored t.stored)
-          (if_some result Taken Taken (λ (done : Done). IsSpared m Stands old → IsSpared m Stands new)
-          (λ done taken again. step_spared m Stands letter b dead c.args.known old new step done.answer c.requires.known.0 read c.requires.can.fits c.requires.can.there taken) t.taken t.taken);
+          (none_map result Kept (IsSpared m Stands old → IsSpared m Stands new)
+          (λ kept. step_still m Stands letter b dead c.args.known old new step [] c.requires.known.0 read c.requires.can.fits c.requires.can.there kept.stored t.fits.index) t.same)
+          (some_map result Did (λ (done : Done). IsSpared m Stands old → IsSpared m Stands new)
+          (λ done did. step_spared m Stands letter b dead c.args.known old new step done.answer c.requires.known.0 read c.requires.can.fits c.requires.can.there did.taken) t.done);
       closed = t.closed;
-      marks = t.marks;
-      twice = t.twice;
-      works = if_some result (λ (done : Done). AreMarksAfter b old.marks new.marks) Taken
-          (λ (done : Done). (trace : List ParametricEvent) → IsStoreAfter m Stands trace dead old → IsEventDone m Stands trace dead letter b new done.answer)
-          (λ done added taken trace holds. step_done m Stands letter b dead c.args.known old new step done.answer c.requires.known.0 read c.requires.can.fits c.requires.can.there taken added trace c.requires.can.event holds) t.marks t.taken;
+      marks = some_map result Did (λ (done : Done). AreMarksAfter b old.marks new.marks) (λ done did. did.marks) t.done;
+      twice = some_map result Did (λ (done : Done). done.copy ≡ done.answer) (λ done did. did.twice) t.done;
+      works = some_map result Did (λ (done : Done). (trace : List ParametricEvent) → IsStoreAfter m Stands trace dead old → IsEventDone m Stands trace dead letter b new done.answer)
+          (λ done did trace holds. step_done m Stands letter b dead c.args.known old new step done.answer c.requires.known.0 read c.requires.can.fits c.requires.can.there did.taken did.marks trace c.requires.can.event holds) t.done;
     }
 
 pub returns-in-None-clause-advances : goal.returns-in-None-clause-advances
@@ -102,19 +102,19 @@ returns-in-None-clause-advances g c =
     let t = c.take_none.ensures in
     let result = c.take_none.result in
     record {
-      stored = if_none result (new ≡ old) (new ≡ old) (new ≡ old) (stored_of new ≡ stored_of old) (λ same x y. ap (λ (s : Contents g.row.M-State.Denot). stored_of s) same) t.same t.same t.same;
-      unmarked = if_none result (new ≡ old) (new ≡ old) (new ≡ old) (new.marks ≡ old.marks) (λ same x y. ap (λ (s : Contents g.row.M-State.Denot). s.marks) same) t.same t.same t.same;
-      keeps = if_none result (new ≡ old) (new ≡ old) (new ≡ old) ((trace : List ParametricEvent) → IsStoreAfter m Stands trace dead old → IsStoreAfter m Stands trace dead new)
-          (λ same x y trace holds. subst (λ (s : Contents g.row.M-State.Denot). IsStoreAfter m Stands trace dead s) (sym same) holds) t.same t.same t.same;
+      stored = none_map result (new ≡ old) (stored_of new ≡ stored_of old) (λ same. ap (λ (s : Contents g.row.M-State.Denot). stored_of s) same) t.same;
+      unmarked = none_map result (new ≡ old) (new.marks ≡ old.marks) (λ same. ap (λ (s : Contents g.row.M-State.Denot). s.marks) same) t.same;
+      keeps = none_map result (new ≡ old) ((trace : List ParametricEvent) → IsStoreAfter m Stands trace dead old → IsStoreAfter m Stands trace dead new)
+          (λ same trace holds. subst (λ (s : Contents g.row.M-State.Denot). IsStoreAfter m Stands trace dead s) (sym same) holds) t.same;
       fits = t.fits dead c.requires.can.fits c.requires.can.there;
-      spares = λ spared. rw (t.monitors, t.index) spared;
+      spares = λ spared. rw (t.kept.monitors, t.kept.index) spared;
       closed = t.closed;
       marks = t.marks;
-      twice = if_some result (λ (done : Done). done.copy ≡ []) (λ (done : Done). done.answer ≡ []) (λ (done : Done). done.copy ≡ done.answer) (λ done copy answer. copy ∙ sym answer) t.copy t.answer;
-      works = if_some result (λ (done : Done). AreMarksAfter b old.marks new.marks) (λ (done : Done). done.answer ≡ [])
+      twice = some_map result IsSilent (λ (done : Done). done.copy ≡ done.answer) (λ done silent. silent.1 ∙ sym silent.0) t.silent;
+      works = if_some result (λ (done : Done). AreMarksAfter b old.marks new.marks) IsSilent
           (λ (done : Done). (trace : List ParametricEvent) → IsStoreAfter m Stands trace dead old → IsEventDone m Stands trace dead letter b new done.answer)
-          (λ done added answer. rw answer (none_done m Stands letter b dead c.args.known old new c.requires.known.0 read paired filled c.requires.can.fits t.monitors t.index t.ending added
-          c.requires.can.event)) t.marks t.answer;
+          (λ done added silent. rw silent.0 (none_done m Stands letter b dead c.args.known old new c.requires.known.0 read paired filled c.requires.can.fits t.kept.monitors t.kept.index t.kept.ending added
+          c.requires.can.event)) t.marks t.silent;
     }
 
 pub returns-in_ok-room_for-in-Some-clause-listed : goal.returns-in_ok-room_for-in-Some-clause-listed
@@ -124,4 +124,4 @@ pub returns-in-None-clause-listed : goal.returns-in-None-clause-listed
 returns-in-None-clause-listed g c = λ listed.
     let m = g.M.Monitor.meaning (g.M.Monitor.definition c.args.rules.now) in
     let Stands = g.M.Monitor.StandsFor c.args.rules.now in
-    subst (λ (l : List (Option (Stored g.row.M-State.Denot))). AreListed m Stands c.args.objects.now l c.args.awake.now) (sym c.take_none.ensures.monitors) listed
+    subst (λ (l : List (Option (Stored g.row.M-State.Denot))). AreListed m Stands c.args.objects.now l c.args.awake.now) (sym c.take_none.ensures.kept.monitors) listed

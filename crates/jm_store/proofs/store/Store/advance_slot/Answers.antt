@@ -1,5 +1,5 @@
 use Rattle.std.proofs.Common.{◌≡◌, ℕ, List, refl, sym, ap, ◌∙◌, subst}
-use Rattle.std.specs.Prelude.{Option, Some, None, not, slice_set}
+use Rattle.std.specs.Prelude.{Bool, Option, Some, None, not, slice_set}
 use Rattle.std.proofs.lemmas.Option.{same_Some}
 use Rattle.jm_awake.specs.Awake.{Lists}
 use Rattle.jm_store.specs.Listed.{AreListed}
@@ -13,7 +13,7 @@ use Rattle.jm_store.specs.Slots.{monitor_in, monitor_at}
 use Rattle.jm_store.specs.Moves.{IsNext}
 use Rattle.jm_index.specs.Index.{Pair}
 use Rattle.jm_store.specs.Housing.{IsHoused}
-use Rattle.jm_store.specs.Contents.{IsSlotAdvanced}
+use Rattle.jm_store.specs.Contents.{IsFit, IsSlotAdvanced}
 use Rattle.jm_store.proofs.EndingLemmas.{ending_one}
 use Rattle.jm_store.proofs.FitLemmas.{housed_fits}
 use Rattle.jm_store.proofs.KeptLemmas.{kept_changed, kept_dropped}
@@ -27,8 +27,10 @@ pub invariant_of-self-else-stays : goal.invariant_of-self-else-stays
 invariant_of-self-else-stays g c =
     rw (c.release.ensures, c.remove.ensures.list) (kept_dropped _ _ _ _ _ c.args.slot _ c.in_ok-base.base.now c.self.invariant c.in_ok-base.ensures.value)
 
-pub returns-clause-fits : goal.returns-clause-fits
-returns-clause-fits g c = λ dead fit.
+pub returns-clause-stays : goal.returns-clause-stays
+returns-clause-stays g c =
+    let closed = rw (← c.self.view_is) at c.requires.closed in
+    let fits : (dead : List Bool) → IsFit c.args.self.now dead → IsFit c.if-stays.self dead = λ dead fit.
     let was = rw (← c.self.view_is) at fit in
     elim c.if-stays.branch [
       | then-stays w ↦
@@ -37,12 +39,18 @@ returns-clause-fits g c = λ dead fit.
       | else-stays w ↦
           rw (w.self-is, w.release.ensures)
           (housed_fits _ _ _ _ _ dead (subst (λ (l : List Pair). IsHoused (slice_set c.self.inside.monitors.slots c.args.slot (Free c.self.inside.monitors.free)) l) (sym w.remove.ensures.list) (kept_dropped _ _ _ _ _ c.args.slot c.self.inside.monitors.free c.in_ok-base.base.now c.self.invariant c.in_ok-base.ensures.value).housed) (w.remove.ensures.fits dead was.index) was.marks)
+    ] in
+    elim c.if-stays.branch [
+      | then-stays w ↦ record { marks = rw (w.self-is, ← c.self.view_is) refl; closed = rw w.self-is closed; fits = fits }
+      | else-stays w ↦ record { marks = rw (w.self-is, ← c.self.view_is) refl; closed = rw w.self-is closed; fits = fits }
     ]
 
 pub returns-clause-done : goal.returns-clause-done
-returns-clause-done g c = λ base at.
+returns-clause-done g c =
     let m = g.M.Monitor.meaning (g.M.Monitor.definition c.args.rules.now) in
     let Stands = g.M.Monitor.StandsFor c.args.rules.now in
+    let moved : (base : Stored g.row.M-State.Denot) → monitor_at c.args.self.now.monitors c.args.slot ≡ Some base
+    → IsSlotAdvanced m Stands c.args.letter.0 c.args.objects.now c.args.slot base c.args.self.now c.if-stays.self c.in-Ok-report_one.answer = λ base at.
     let was = rw (← c.self.view_is) at at in
     let mine = c.in_ok-base.base.now in
     let there : Some mine ≡ Some base = sym c.in_ok-base.ensures.value ∙ was in
@@ -79,7 +87,8 @@ returns-clause-done g c = λ base at.
         ended = rw w.self-is (ending_one m Stands _ _ _ _ c.mask.ensures.value c.end_fewer.ensures.among c.ending.ensures.quiet c.ending.ensures.cut);
         dropped = rw (w.self-is, ← c.self.view_is) w.remove.ensures.dropped;
       }
-    ])
+    ]) in
+    record { twice = c.in-Ok-copy.ensures; moved = moved }
 
 pub returns-clause-listed : goal.returns-clause-listed
 returns-clause-listed g c = λ listed.

@@ -1,4 +1,4 @@
-use Rattle.std.proofs.Common.{inl, inr}
+use Rattle.std.proofs.Common.{inl, inr, refl}
 use Rattle.std.proofs.lemmas.Bool.{false≢true}
 use Rattle.jm_store.proofs.CommitLemmas.{marks_added}
 use Rattle.jm_store.proofs.FitLemmas.{housed_fits}
@@ -25,3 +25,6 @@ returns-then-not-known-clause-fits g c =
 
 pub returns-else-not-known-clause-fits : goal.returns-else-not-known-clause-fits
 returns-else-not-known-clause-fits g c = rw (← c.self.view_is) (λ dead fits marks below. housed_fits _ _ _ _ _ dead c.self.invariant.housed fits marks)
+
+pub returns-then-not-known-clause-kept : goal.returns-then-not-known-clause-kept
+returns-then-not-known-clause-kept g c = rw (← c.self.view_is) (record { monitors = refl; index = refl; ending = refl })

@@ -13,3 +13,11 @@ pub returns-clause-fits : goal.returns-clause-fits
 returns-clause-fits g c =
     let closed = rw c.in_ok-open_for.ensures.opened at c.close.ensures.fits in
     λ dead fit below. closed dead fit.index fit.marks below
+
+pub returns-clause-kept : goal.returns-clause-kept
+returns-clause-kept g c =
+    let kept = rw c.in_ok-open_for.ensures.opened at c.close.ensures.kept in
+    record { monitors = kept.monitors; index = kept.index; ending = kept.ending }
+
+pub returns-clause-silent : goal.returns-clause-silent
+returns-clause-silent g c = (c.nothing.ensures.answer, c.nothing.ensures.copy)

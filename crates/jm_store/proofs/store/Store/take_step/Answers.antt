@@ -6,12 +6,14 @@ use Rattle.jm_store.proofs.ListedLemmas.{listed_same, for_slots}
 use Rattle.jm_model.specs.declared.binding.Binding.{Binding}
 use Rattle.jm_semantics.proofs.ListLemmas.{Contains-head}
 use Rattle.jm_monitors.specs.Steps.{AreMarksAfter}
-use Rattle.jm_store.specs.Contents.{with_ending}
+use Rattle.jm_store.specs.Contents.{with_ending, KeepsContents}
+use Rattle.std.proofs.lemmas.Bool.{not-false}
 use Rattle.jm_store.proofs.VisitLemmas.{settled_monitor}
 use Rattle.jm_store.proofs.GivenLemmas.{one_pair}
 use Rattle.jm_store.proofs.CommitLemmas.{filled_on, unplanned}
 use Rattle.jm_store.proofs.PlanningLemmas.{fit_same}
 use Rattle.jm_store.proofs.PlacingLemmas.{placed_same}
+use Rattle.jm_store.proofs.DirectLemmas.{in_none}
 use Rattle.jm_store.proofs.store.Store.take_step.Goals as goal
 
 pub place_one-requires-clause-settled : goal.place_one-requires-clause-settled
@@ -21,11 +23,6 @@ place_one-requires-clause-settled g c =
 
 pub place_one-requires-clause-leads : goal.place_one-requires-clause-leads
 place_one-requires-clause-leads g c = rw c.in_ok-open_for.ensures.opened c.requires.leads
-
-pub returns-in_err-place_one-clause-fits : goal.returns-in_err-place_one-clause-fits
-returns-in_err-place_one-clause-fits g c =
-    let p = rw c.in_ok-open_for.ensures.opened at c.in_err-place_one.ensures in
-    λ dead fit below mine. fit_same c.args.self.now c.place_one.new.self dead p.kept.stored p.kept.marks (p.fits dead fit.index mine) fit
 
 pub carry_out-requires : goal.carry_out-requires
 carry_out-requires g c =
@@ -43,48 +40,6 @@ close-requires-clause-settled g c =
       | inl full ↦ full
       | inr planned ↦ absurd (unplanned [] pair refl planned)
     ]
-
-pub returns-clause-fits : goal.returns-clause-fits
-returns-clause-fits g c =
-    let p = rw c.in_ok-open_for.ensures.opened at c.in_ok-place_one.ensures in
-    let carried = rw c.end_one.ensures.same at c.carry_out.ensures in
-    λ dead fit below mine.
-    c.close.ensures.fits dead (carried.fits dead (p.fits dead fit.index mine)) (λ t there. fit.marks t (subst (λ (l : List Binding). Contains l t) (carried.done.marks ∙ p.kept.marks) there)) below
-
-pub returns-clause-index : goal.returns-clause-index
-returns-clause-index g c =
-    let p = rw c.in_ok-open_for.ensures.opened at c.in_ok-place_one.ensures in
-    let carried = rw c.end_one.ensures.same at c.carry_out.ensures in
-    λ dead fits mine. rw c.close.ensures.index (carried.fits dead (p.fits dead fits mine))
-
-pub returns-clause-marks : goal.returns-clause-marks
-returns-clause-marks g c =
-    let p = rw c.in_ok-open_for.ensures.opened at c.in_ok-place_one.ensures in
-    let carried = rw c.end_one.ensures.same at c.carry_out.ensures in
-    subst (λ (l : List Binding). AreMarksAfter c.args.binding.now l c.close.new.self.marks) (carried.done.marks ∙ p.kept.marks) c.close.ensures.marks
-
-pub returns-clause-taken : goal.returns-clause-taken
-returns-clause-taken g c =
-    let p = rw c.in_ok-open_for.ensures.opened at c.in_ok-place_one.ensures in
-    let carried = rw c.end_one.ensures.same at c.carry_out.ensures in
-    let step = c.args.step in
-    let slotted = c.place_one.new.step in
-    let ending = c.close.ensures.ending ∙ c.carry_out.ensures.done.ending in
-    record {
-      between = c.place_one.new.self;
-      slotted = slotted;
-      placed = placed_same _ c.args.self.now c.place_one.new.self (step ∷ []) (step ∷ []) (slotted ∷ []) refl refl p.placed.placed;
-      paired = p.paired;
-      stored = p.kept.stored;
-      marks = p.kept.marks;
-      same = p.kept.monitors;
-      fits = p.fits;
-      monitors = c.close.ensures.monitors ∙ carried.done.monitors;
-      dropped = ap (λ i. i.dropped) c.close.ensures.index ∙ carried.done.dropped;
-      fewer = rw ending (rw p.kept.ending at c.end_one.ensures.fewer);
-      ended = rw ending c.end_one.ensures.ended;
-      report = c.in-Ok.ensures;
-    }
 
 pub returns-in_err-place_one-clause-listed : goal.returns-in_err-place_one-clause-listed
 returns-in_err-place_one-clause-listed g c = λ dead listed.
@@ -104,9 +59,59 @@ returns-clause-listed g c = λ dead listed.
     let first = listed_same m Stands dead None c.args.self.now.monitors mid.monitors c.args.awake.now p.kept.monitors listed in
     let is = for_slots mid.monitors mid.index.list step carried.slots p.paired.within p.paired.paired (λ k slot. p.placed.placed.leads step k (Contains-head step []) slot) in
     let moved = c.follow.ensures c.args.rules.now dead mid.monitors is first in
-    subst (λ (l : List (Option (Stored g.row.M-State.Denot))). AreListed m Stands dead l c.follow.new.awake) (sym (c.close.ensures.monitors ∙ carried.done.monitors)) moved
+    subst (λ (l : List (Option (Stored g.row.M-State.Denot))). AreListed m Stands dead l c.follow.new.awake) (sym (c.close.ensures.kept.monitors ∙ carried.done.monitors)) moved
 
-pub returns-in_err-place_one-clause-index : goal.returns-in_err-place_one-clause-index
-returns-in_err-place_one-clause-index g c =
+pub place_one-requires-clause-slotted : goal.place_one-requires-clause-slotted
+place_one-requires-clause-slotted g c = rw c.in_ok-open_for.ensures.opened (λ closed none. (c.requires.known (not-false c.args.known closed)).1 none)
+
+pub returns-in_err-place_one-clause-same : goal.returns-in_err-place_one-clause-same
+returns-in_err-place_one-clause-same g c =
     let p = rw c.in_ok-open_for.ensures.opened at c.in_err-place_one.ensures in
-    λ dead fit mine. p.fits dead fit mine
+    in_none c.from_residual-in_err-place_one.result (KeepsContents c.args.self.now c.place_one.new.self)
+    (record { stored = p.kept.stored; monitors = p.kept.monitors; marks = p.kept.marks; ending = p.kept.ending })
+
+pub returns-in_err-place_one-clause-fits : goal.returns-in_err-place_one-clause-fits
+returns-in_err-place_one-clause-fits g c =
+    let p = rw c.in_ok-open_for.ensures.opened at c.in_err-place_one.ensures in
+    record {
+      fits = λ dead fit below mine. fit_same c.args.self.now c.place_one.new.self dead p.kept.stored p.kept.marks (p.fits dead fit.index mine) fit;
+      index = λ dead fit mine. p.fits dead fit mine;
+    }
+
+pub returns-clause-fits : goal.returns-clause-fits
+returns-clause-fits g c =
+    let p = rw c.in_ok-open_for.ensures.opened at c.in_ok-place_one.ensures in
+    let carried = rw c.end_one.ensures.same at c.carry_out.ensures in
+    record {
+      fits = λ dead fit below mine.
+          c.close.ensures.fits dead (carried.fits dead (p.fits dead fit.index mine))
+          (λ t there. fit.marks t (subst (λ (l : List Binding). Contains l t) (carried.done.marks ∙ p.kept.marks) there)) below;
+      index = λ dead fits mine. rw c.close.ensures.kept.index (carried.fits dead (p.fits dead fits mine));
+    }
+
+pub returns-clause-done : goal.returns-clause-done
+returns-clause-done g c =
+    let p = rw c.in_ok-open_for.ensures.opened at c.in_ok-place_one.ensures in
+    let carried = rw c.end_one.ensures.same at c.carry_out.ensures in
+    let step = c.args.step in
+    let slotted = c.place_one.new.step in
+    let ending = c.close.ensures.kept.ending ∙ c.carry_out.ensures.done.ending in
+    record {
+      marks = subst (λ (l : List Binding). AreMarksAfter c.args.binding.now l c.close.new.self.marks) (carried.done.marks ∙ p.kept.marks) c.close.ensures.marks;
+      twice = c.in-Ok-copy.ensures;
+      taken = record {
+        between = c.place_one.new.self;
+        slotted = slotted;
+        placed = placed_same _ c.args.self.now c.place_one.new.self (step ∷ []) (step ∷ []) (slotted ∷ []) refl refl p.placed.placed;
+        paired = p.paired;
+        stored = p.kept.stored;
+        marks = p.kept.marks;
+        same = p.kept.monitors;
+        fits = p.fits;
+        monitors = c.close.ensures.kept.monitors ∙ carried.done.monitors;
+        dropped = ap (λ i. i.dropped) c.close.ensures.kept.index ∙ carried.done.dropped;
+        fewer = rw ending (rw p.kept.ending at c.end_one.ensures.fewer);
+        ended = rw ending c.end_one.ensures.ended;
+        report = c.in-Ok.ensures;
+      };
+    }
