@@ -4,7 +4,8 @@ use Rattle.jm_model.specs.Words.{Word}
 use Rattle.jm_model.specs.Bindings.{is_below}
 use Rattle.jm_model.specs.Meanings.{Meaning}
 use Rattle.jm_model.specs.declared.binding.Binding.{Binding}
-use Rattle.jm_awake.specs.Awake.{Lists, list_at, card_at, slots_there, IsOn, IsKept, Occupant, Occupants, with_slot, AreSoundBut, AreSound, AreRested}
+use Rattle.jm_awake.specs.declared.card.Listed.{Listed}
+use Rattle.jm_awake.specs.Awake.{Lists, list_at, card_at, slots_there, is_there, IsOn, IsKept, IsListOf, Occupant, Occupants, with_slot, AreSoundBut, AreSound, AreRested}
 use Rattle.jm_marks.specs.Marks.{dead_mask_of}
 use Rattle.jm_monitors.specs.declared.stored.Stored.{Stored}
 use Rattle.jm_monitors.specs.Steps.{IsResting, IsAliveState}
@@ -46,6 +47,15 @@ module _ (m : Meaning) {S : Type 0} (Stands : S → Word → Type 0) (dead : Lis
   abbrev pub AreListed : List (Option (Stored S)) → Lists → Type 0
   AreListed monitors lists = AreListedBut None monitors lists
 
+  -- The binding is a mark, and the list at this place is that of its events with this letter; the lists tell of the
+  -- monitors.
+  pub record HasList (e : ℕ) (b : Binding) (marks : List Binding) (monitors : List (Option (Stored S)))
+      (lists : Lists) (place : ℕ) : Type 0 where
+    pub known : Contains marks b
+    pub within : place < length lists.lists
+    pub of_event : IsListOf (list_at lists place) e b
+    pub listed : AreListed monitors lists
+
   -- lists that told of some monitors became lists that tell of others
   abbrev pub KeepListed : List (Option (Stored S)) → List (Option (Stored S)) → Lists → Lists → Type 0
   KeepListed before after old new = AreListed before old → AreListed after new
@@ -79,6 +89,11 @@ abbrev pub IsFor : {S : Type 0} → List (Option (Stored S)) → Move S → Type
 IsFor {S} monitors move =
     (k : ℕ) → move.slot ≡ Some k
     → (k < length monitors) × ((s : Stored S) → monitor_at monitors k ≡ Some s → s.instance ≡ move.monitor.instance)
+
+-- the lists stay, and the entries that counted are those that count
+pub record KeepEntries (old new : Lists) : Type 0 where
+  pub lists : new.lists ≡ old.lists
+  pub there : (x : Listed) → is_there new.cards x ≡ is_there old.cards x
 
 -- some of the monitors are left, each in its slot, and there are as many slots
 pub record AreLeftOf {S : Type 0} (before after : List (Option (Stored S))) : Type 0 where

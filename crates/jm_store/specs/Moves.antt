@@ -183,6 +183,10 @@ reached_by moves = map (λ move. move.monitor) moves
 abbrev pub AreApart : {S : Type 0} → List (Move S) → Type 0
 AreApart {S} moves = AllPairs (λ a b. (k : ℕ) → a.slot ≡ Some k → b.slot ≡ Some k → ⊥) moves
 
+-- neither moves nor slots of monitors that rest were noted yet
+abbrev pub AreNone : {X Y : Type 0} → List X → List Y → Type 0
+AreNone moves rests = (moves ≡ []) × (rests ≡ [])
+
 -- y is what R gives for x, put at the end of ys where it gives something
 abbrev pub IsPushed : {X Y : Type 0} → (X → Option Y → Type 0) → X → List Y → List Y → Type 0
 IsPushed {X} {Y} R x old new = (o : Option Y) × R x o × (new ≡ old ++ option_to_list o)

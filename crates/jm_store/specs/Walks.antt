@@ -15,6 +15,7 @@ use Rattle.jm_monitors.specs.declared.stored.Stored.{Stored}
 use Rattle.jm_monitors.specs.Steps.{IsOverAfter}
 use Rattle.jm_store.specs.declared.walk.Shift.{Shift}
 use Rattle.jm_store.specs.declared.walk.Turn.{Turn}
+use Rattle.jm_store.specs.declared.walk.Asked.{Asked}
 use Rattle.jm_store.specs.declared.walk.Told.{Told}
 use Rattle.jm_store.specs.declared.walk.Told.TheVariants.{Shifts, Rests, Nothing}
 use Rattle.jm_store.specs.declared.monitors.Slot.{Slot}
@@ -27,6 +28,12 @@ abbrev pub AreAliveBut : List Bool → Binding → Mask → Type 0
 AreAliveBut dead b params =
     (t : Binding) (p o : ℕ) → p < 8 → is_below b t ≡ true → object_at t p ≡ Some o → (bit_at params p ≡ 1 → ⊥)
     → is_dead_object dead o ≡ false
+
+-- What is asked of a monitor above b that gets a shift: that its slot is in the lists of all letters that have some but
+-- the event's, and that its objects are alive at all parameters at which one may be dead.
+pub record AsksAll (dead : List Bool) (b : Binding) (letter : ℕ) (letters : Mask) (asked : Asked) : Type 0 where
+  pub free : AreAliveBut dead b asked.params
+  pub others : (e : ℕ) → bit_at letters e ≡ 1 → (e ≡ letter → ⊥) → bit_at asked.letters e ≡ 1
 
 -- each of the letters is among those that a row has at a number
 abbrev pub EndsAll : Mask → List Mask → ℕ → Type 0

@@ -10,10 +10,10 @@ ghost use Rattle.jm_index.specs.Index.{AreLive};
 ghost use Rattle.jm_marks.specs.Marks.{dead_mask_of, is_dead_object};
 ghost use Rattle.jm_monitors.specs.declared.stored.Stored.{Stored as Kept};
 ghost use Rattle.jm_store.specs.Slots.{monitors_of, monitor_at};
-ghost use Rattle.jm_store.specs.Moves.{AreSifted, IsPushed, IsReadAt};
-ghost use Rattle.jm_store.specs.Listed.{slots_listed, AreListed};
+ghost use Rattle.jm_store.specs.Moves.{AreNone, AreSifted, IsPushed, IsReadAt};
+ghost use Rattle.jm_store.specs.Listed.{slots_listed, HasList};
 ghost use Rattle.jm_store.specs.Walks.{AreRows, AreAliveBut, EndsAll, IsShiftAt, no_turn, AreTurns, EndsLike};
-ghost use Rattle.jm_store.specs.Walks.{AreAmong, AreReadable, CanWalk, IsTold};
+ghost use Rattle.jm_store.specs.Walks.{AreAmong, AreReadable, AsksAll, CanWalk, IsTold};
 ghost use Rattle.jm_store.specs.declared.walk.Told.TheVariants.{Shifts, Nothing};
 
 use crate::event::Event;
@@ -103,18 +103,15 @@ impl<M: Monitor> Walk<'_, M> {
             self.now.plain.now self.now.endings.now self.now.event.now.known self.now.event.now.marks.now.list
             self.now.event.now.binding.now }
         requires live { AreLive self.now.event.now.objects.now self.now.event.now.binding.now }
-        requires within { place < length self.now.awake.now.lists }
-        requires of { IsListOf (list_at self.now.awake.now place) self.now.event.now.letter.0
-            self.now.event.now.binding.now }
-        requires listed { AreListed (M.meaning (M.definition self.now.event.now.rules.now)) (M.StandsFor
-            self.now.event.now.rules.now) self.now.event.now.objects.now (monitors_of self.now.slots.items.now)
-            self.now.awake.now }
+        requires list { HasList (M.meaning (M.definition self.now.event.now.rules.now)) (M.StandsFor
+            self.now.event.now.rules.now) self.now.event.now.objects.now self.now.event.now.letter.0
+            self.now.event.now.binding.now self.now.event.now.marks.now.list (monitors_of self.now.slots.items.now)
+            self.now.awake.now place }
         requires ends { (k : ℕ) (s : Kept M.State) → monitor_at (monitors_of self.now.slots.items.now) k ≡ Some s
             → is_below self.now.event.now.binding.now s.instance ≡ true
             → AreAmong self.now.ending.now (mask_of s.instance) self.now.ends }
         requires room { length (list_at self.now.awake.now place).entries ≤ length shifts.old.items }
-        requires none { moves.old.items ≡ [] }
-        requires clear { rests.old.items ≡ [] }
+        requires none { AreNone moves.old.items rests.old.items }
         ensures sifted { IfSome result (λ count. (count ≤ length shifts.new.items) × AreSifted (IsShiftAt (M.meaning
             (M.definition self.now.event.now.rules.now)) (M.StandsFor self.now.event.now.rules.now) (M.HasNumber
             self.now.event.now.rules.now) self.now.event.now.letter.0 self.now.event.now.objects.now
@@ -157,14 +154,12 @@ impl<M: Monitor> Walk<'_, M> {
             self.now.event.now.rules.now) (M.HasNumber self.now.event.now.rules.now) self.now.event.now.letter.0
             self.now.plain.now self.now.endings.now self.now.event.now.known self.now.event.now.marks.now.list
             self.now.event.now.binding.now }
-        requires free { AreAliveBut self.now.event.now.objects.now self.now.event.now.binding.now asked.params }
-        requires others { (e : ℕ) → bit_at self.now.awake.now.letters e ≡ 1 → (e ≡ self.now.event.now.letter.0 → ⊥)
-            → bit_at asked.letters e ≡ 1 }
+        requires asks { AsksAll self.now.event.now.objects.now self.now.event.now.binding.now
+            self.now.event.now.letter.0 self.now.awake.now.letters asked }
         requires each { AreReadable self.now.event.now.binding.now self.now.event.now.letter.0 self.now.ending.now
             self.now.ends self.now.awake.now (monitors_of self.now.slots.items.now) entries.now }
         requires room { length entries.now ≤ length shifts.old }
-        requires none { moves.old.items ≡ [] }
-        requires clear { rests.old.items ≡ [] }
+        requires none { AreNone moves.old.items rests.old.items }
         ensures sifted { IfSome result (λ count. (count ≤ length shifts.new) × AreSifted (IsShiftAt (M.meaning
             (M.definition self.now.event.now.rules.now)) (M.StandsFor self.now.event.now.rules.now) (M.HasNumber
             self.now.event.now.rules.now) self.now.event.now.letter.0 self.now.event.now.objects.now

@@ -3,13 +3,12 @@
 ghost use Rattle.std.specs.Prelude.{◌≡◌, ℕ, ◌+◌, ◌<◌, ◌≤◌, ◌↔◌, [], List, Bool, Contains, IfNone, IfSome, IsTrue, Some, true, false, length, count_by};
 ghost use Rattle.std.specs.Int.{bit_at};
 ghost use Rattle.jm_model.specs.Bindings.{is_below, is_compatible, mask_of};
-ghost use Rattle.jm_awake.specs.Awake.{list_at, IsListOf};
 ghost use Rattle.jm_index.specs.Index.{AreLive};
 ghost use Rattle.jm_monitors.specs.declared.stored.Stored.{Stored as Kept};
 ghost use Rattle.jm_store.specs.Slots.{monitor_at};
-ghost use Rattle.jm_store.specs.Moves.{ends_all, AreApart};
-ghost use Rattle.jm_store.specs.Contents.{stored_of, ArePlaced};
-ghost use Rattle.jm_store.specs.Listed.{slots_listed, AreAtRest, AreListed, KeepListed};
+ghost use Rattle.jm_store.specs.Moves.{ends_all, AreNone};
+ghost use Rattle.jm_store.specs.Contents.{stored_of, AreReady};
+ghost use Rattle.jm_store.specs.Listed.{slots_listed, AreAtRest, AreListed, HasList, KeepListed};
 ghost use Rattle.jm_store.specs.Plans.{CanPlan, Advances, IsApplied, IsReading};
 
 use super::Store;
@@ -48,11 +47,8 @@ impl<M: Monitor> Store<M> {
         steps: &mut Steps<L>,
     ) -> Option<Done>
         requires can { CanPlan (M.meaning (M.definition rules.now)) objects.now letter.0 binding.now self.old }
-        requires known { Contains self.old.marks binding.now }
-        requires within { place < length awake.old.lists }
-        requires of { IsListOf (list_at awake.old place) letter.0 binding.now }
-        requires listed { AreListed (M.meaning (M.definition rules.now)) (M.StandsFor rules.now) objects.now
-            self.old.monitors awake.old }
+        requires list { HasList (M.meaning (M.definition rules.now)) (M.StandsFor rules.now) objects.now letter.0
+            binding.now self.old.marks self.old.monitors awake.old place }
         ensures same { IfNone result ((self.new ≡ self.old) × (awake.new ≡ awake.old)) }
         ensures marks { self.new.marks ≡ self.old.marks }
         ensures advances { Advances (M.meaning (M.definition rules.now)) (M.StandsFor rules.now) objects.now letter.0
@@ -85,11 +81,8 @@ impl<M: Monitor> Store<M> {
         steps: &mut Steps<L>,
     ) -> Option<Done>
         requires can { CanPlan (M.meaning (M.definition rules.now)) objects.now letter.0 binding.now self.old }
-        requires known { Contains self.old.marks binding.now }
-        requires within { place < length awake.old.lists }
-        requires of { IsListOf (list_at awake.old place) letter.0 binding.now }
-        requires listed { AreListed (M.meaning (M.definition rules.now)) (M.StandsFor rules.now) objects.now
-            self.old.monitors awake.old }
+        requires list { HasList (M.meaning (M.definition rules.now)) (M.StandsFor rules.now) objects.now letter.0
+            binding.now self.old.marks self.old.monitors awake.old place }
         requires clear { rests.old.items ≡ [] }
         ensures same { IfNone result ((self.new ≡ self.old) × (awake.new ≡ awake.old)) }
         ensures marks { self.new.marks ≡ self.old.marks }
@@ -155,12 +148,10 @@ impl<M: Monitor> Store<M> {
         requires letter { event.now.letter.0 < (M.meaning (M.definition event.now.rules.now)).letters }
         requires known { IsTrue event.now.known ↔ Contains event.now.marks.now.list event.now.binding.now }
         requires live { AreLive event.now.objects.now event.now.binding.now }
-        requires within { place < length awake.now.lists }
-        requires of { IsListOf (list_at awake.now place) event.now.letter.0 event.now.binding.now }
-        requires listed { AreListed (M.meaning (M.definition event.now.rules.now)) (M.StandsFor event.now.rules.now)
-            event.now.objects.now self.now.monitors awake.now }
-        requires none { moves.old.items ≡ [] }
-        requires clear { rests.old.items ≡ [] }
+        requires list { HasList (M.meaning (M.definition event.now.rules.now)) (M.StandsFor event.now.rules.now)
+            event.now.objects.now event.now.letter.0 event.now.binding.now event.now.marks.now.list self.now.monitors
+            awake.now place }
+        requires none { AreNone moves.old.items rests.old.items }
         ensures reading { IfSome result (λ reading. IsReading (M.meaning (M.definition event.now.rules.now))
             (M.StandsFor event.now.rules.now) (M.HasNumber event.now.rules.now) event.now.letter.0 event.now.objects.now
             event.now.binding.now event.now.marks.now.list self.now awake.now (slots_listed awake.now place)
@@ -198,8 +189,7 @@ impl<M: Monitor> Store<M> {
     #[inline(always)]
     fn apply(&mut self, rules: &M, awake: &mut Awake, mut moves: Vec<Move<M::State>>)
         requires closed { self.old.is_open ≡ false }
-        requires apart { AreApart moves.items }
-        requires leads { ArePlaced self.old moves.items }
+        requires ready { AreReady self.old moves.items }
         ensures applied { IsApplied (M.meaning (M.definition rules.now)) (M.StandsFor rules.now) moves.items self.old
             self.new }
         ensures listed { (dead : List Bool) → KeepListed (M.meaning (M.definition rules.now)) (M.StandsFor rules.now)

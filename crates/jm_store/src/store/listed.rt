@@ -1,15 +1,14 @@
 //! Events of which it is known which monitors they may change: the others are at rest, and aren't read.
 ghost use Rattle.std.specs.Prelude.{◌≡◌, ℕ, ◌+◌, ◌<◌, ◌≤◌, ◌↔◌, [], List, Bool, Option, Some, None, Contains, IfOk, OnOk, IsTrue, true, false, length, count_by};
 ghost use Rattle.jm_model.specs.Bindings.{is_below, is_compatible};
-ghost use Rattle.jm_awake.specs.declared.card.Listed.{Listed as Entry};
-ghost use Rattle.jm_awake.specs.Awake.{list_at, is_there, IsListOf, AreSound, AreFound, AreStill};
+ghost use Rattle.jm_awake.specs.Awake.{list_at, IsListOf, AreSound, AreFound, AreStill};
 ghost use Rattle.jm_index.specs.Index.{AreLive, IsFitting, flag_of};
 ghost use Rattle.jm_monitors.specs.declared.stored.Stored.{Stored as Kept};
 ghost use Rattle.jm_monitors.specs.Steps.{after_death};
 ghost use Rattle.jm_store.specs.Slots.{monitor_at};
-ghost use Rattle.jm_store.specs.Moves.{after_moves, AreApart, AreGiven, IsReadAt, IsPushed, AreMovesRead, AreVisited, asks_by, has_all};
-ghost use Rattle.jm_store.specs.Contents.{stored_of, monitors_after, ArePlaced, IsPlanFor};
-ghost use Rattle.jm_store.specs.Listed.{occupants_of, slots_listed, AreListed, AreListedBut, AreLeftOf, KeepListed, IsInAll};
+ghost use Rattle.jm_store.specs.Moves.{after_moves, AreGiven, IsReadAt, IsPushed, AreMovesRead, AreVisited, asks_by, has_all};
+ghost use Rattle.jm_store.specs.Contents.{stored_of, monitors_after, AreReady, IsPlanFor};
+ghost use Rattle.jm_store.specs.Listed.{occupants_of, slots_listed, AreListed, AreListedBut, HasList, AreLeftOf, KeepEntries, KeepListed, IsInAll};
 ghost use Rattle.jm_store.specs.Plans.{CanPlan, PlansUnlessRests};
 
 use super::Store;
@@ -37,11 +36,8 @@ impl<M: Monitor> Store<M> {
         steps: &mut Steps<L>,
     ) -> Result<Option<Plan<M::State>>, NoMemory>
         requires can { CanPlan (M.meaning (M.definition rules.now)) objects.now letter.0 binding.now self.old }
-        requires known { Contains self.old.marks binding.now }
-        requires within { place < length awake.old.lists }
-        requires of { IsListOf (list_at awake.old place) letter.0 binding.now }
-        requires listed { AreListed (M.meaning (M.definition rules.now)) (M.StandsFor rules.now) objects.now
-            self.old.monitors awake.old }
+        requires list { HasList (M.meaning (M.definition rules.now)) (M.StandsFor rules.now) objects.now letter.0
+            binding.now self.old.marks self.old.monitors awake.old place }
         ensures plans { PlansUnlessRests (M.meaning (M.definition rules.now)) (M.StandsFor rules.now) objects.now
             letter.0 binding.now self.old self.new result }
         ensures listed { AreListed (M.meaning (M.definition rules.now)) (M.StandsFor rules.now) objects.now
@@ -82,11 +78,9 @@ impl<M: Monitor> Store<M> {
     ) -> Result<Vec<Move<M::State>>, NoMemory>
         requires letter { event.now.letter.0 < (M.meaning (M.definition event.now.rules.now)).letters }
         requires known { IsTrue event.now.known ↔ Contains event.now.marks.now.list event.now.binding.now }
-        requires marked { Contains event.now.marks.now.list event.now.binding.now }
-        requires within { place < length awake.old.lists }
-        requires of { IsListOf (list_at awake.old place) event.now.letter.0 event.now.binding.now }
-        requires listed { AreListed (M.meaning (M.definition event.now.rules.now)) (M.StandsFor event.now.rules.now)
-            event.now.objects.now self.now.monitors awake.old }
+        requires list { HasList (M.meaning (M.definition event.now.rules.now)) (M.StandsFor event.now.rules.now)
+            event.now.objects.now event.now.letter.0 event.now.binding.now event.now.marks.now.list self.now.monitors
+            awake.old place }
         requires none { moves.items ≡ [] }
         ensures moves { IfOk result (λ moves. AreMovesRead (M.meaning (M.definition event.now.rules.now))
             (M.StandsFor event.now.rules.now) event.now.letter.0 event.now.binding.now
@@ -116,11 +110,9 @@ impl<M: Monitor> Store<M> {
     ) -> Result<(), NoMemory>
         requires letter { event.now.letter.0 < (M.meaning (M.definition event.now.rules.now)).letters }
         requires known { IsTrue event.now.known ↔ Contains event.now.marks.now.list event.now.binding.now }
-        requires marked { Contains event.now.marks.now.list event.now.binding.now }
-        requires within { place < length awake.old.lists }
-        requires of { IsListOf (list_at awake.old place) event.now.letter.0 event.now.binding.now }
-        requires listed { AreListed (M.meaning (M.definition event.now.rules.now)) (M.StandsFor event.now.rules.now)
-            event.now.objects.now self.now.monitors awake.old }
+        requires list { HasList (M.meaning (M.definition event.now.rules.now)) (M.StandsFor event.now.rules.now)
+            event.now.objects.now event.now.letter.0 event.now.binding.now event.now.marks.now.list self.now.monitors
+            awake.old place }
         requires none { moves.old.items ≡ [] }
         ensures moves { OnOk result (AreGiven (IsReadAt (M.meaning (M.definition event.now.rules.now))
             (M.StandsFor event.now.rules.now) event.now.letter.0 event.now.binding.now
@@ -164,8 +156,7 @@ impl<M: Monitor> Store<M> {
             event.now.objects.now (Some place) self.now.monitors awake.old
             → AreListedBut (M.meaning (M.definition event.now.rules.now)) (M.StandsFor event.now.rules.now)
             event.now.objects.now (Some place) self.now.monitors awake.new }
-        ensures lists { awake.new.lists ≡ awake.old.lists }
-        ensures there { (x : Entry) → is_there awake.new.cards x ≡ is_there awake.old.cards x }
+        ensures entries { KeepEntries awake.old awake.new }
         ensures steps { steps.new ≤ steps.old + 1 }
     {
         let Some(base) = self.monitors.lend(slot, steps) else {
@@ -194,8 +185,7 @@ impl<M: Monitor> Store<M> {
     /// Takes in what moves make of the monitors of their slots, before they are carried out.
     #[inline(always)]
     pub(super) fn follow_moves(&self, awake: &mut Awake, moves: &[Move<M::State>])
-        requires apart { AreApart moves.now }
-        requires leads { ArePlaced self.now moves.now }
+        requires { AreReady self.now moves.now }
         ensures { (rules : M) (dead : List Bool) → KeepListed (M.meaning (M.definition rules)) (M.StandsFor rules) dead
             self.now.monitors (after_moves moves.now self.now.monitors) awake.old awake.new }
     {

@@ -7,8 +7,8 @@ use Rattle.jm_store.proofs.CommitLemmas.{after_none, after_push, apart_front, le
 use Rattle.jm_store.proofs.FitLemmas.{housed_fits}
 use Rattle.jm_store.proofs.store.Store.apply.Goals as goal
 
-pub follow_moves-requires-clause-leads : goal.follow_moves-requires-clause-leads
-follow_moves-requires-clause-leads g c = rw (c.as_slice-2.ensures.value, c.end_fewer.ensures.same) c.requires.leads
+pub follow_moves-requires : goal.follow_moves-requires
+follow_moves-requires g c = rw (c.as_slice-2.ensures.value, c.end_fewer.ensures.same) (record { apart = c.requires.ready.apart; leads = c.requires.ready.leads })
 
 pub loop-step-init : goal.loop-step-init
 loop-step-init g c = record {
@@ -19,8 +19,8 @@ loop-step-init g c = record {
   fits = λ dead fits. fits;
   fewer = λ e d ends. ends;
   ended = rw c.as_slice.ensures.value at c.end_fewer.ensures.ended;
-  apart = c.requires.apart;
-  leads = rw c.end_fewer.ensures.same c.requires.leads;
+  apart = c.requires.ready.apart;
+  leads = rw c.end_fewer.ensures.same c.requires.ready.leads;
 }
 
 pub carry_out-requires : goal.carry_out-requires

@@ -7,7 +7,7 @@ use Rattle.jm_monitors.specs.declared.stored.Stored.{Stored}
 use Rattle.jm_store.specs.declared.walk.Shift.{Shift}
 use Rattle.jm_store.specs.Slots.{monitors_of}
 use Rattle.jm_store.specs.Contents.{Contents, stored_of, IsFit, ArePaired, IsFilled}
-use Rattle.jm_store.specs.Listed.{slots_listed, AreAtRest}
+use Rattle.jm_store.specs.Listed.{slots_listed, AreAtRest, AreListed}
 use Rattle.jm_store.specs.Moves.{IsReadAt}
 use Rattle.jm_store.specs.Plans.{IsReading}
 use Rattle.jm_store.specs.Walks.{AreShifted, IsShiftAt}
@@ -46,8 +46,8 @@ returns-in_default-clause-steps g c =
     let b = c.args.binding.now in
     let e = c.args.letter.0 in
     let dead = c.args.objects.now in
-    let count = above_counted b monitors (slots_listed lists c.args.place) (listed_apart m Stands dead None monitors lists c.args.place e b c.requires.of c.requires.listed)
-    (listed_above m Stands dead None monitors lists c.args.place e b c.requires.of c.requires.listed) in
+    let count = above_counted b monitors (slots_listed lists c.args.place) (listed_apart m Stands dead None monitors lists c.args.place e b c.requires.list.of_event c.requires.list.listed)
+    (listed_above m Stands dead None monitors lists c.args.place e b c.requires.list.of_event c.requires.list.listed) in
     omega (arith, count, c.tell_listed.ensures.steps)
 
 pub shift_all-requires-clause-apart : goal.shift_all-requires-clause-apart
@@ -71,7 +71,7 @@ shift_all-requires-clause-apart g c =
     (subst (λ (s : Contents S). IsReading m Stands HasNumber e dead b c.self.inside.marks.list s lists (slots_listed lists place) c.tell_listed.new.shifts.items few rests c.in-Some.reading)
     (c.take_moves-moves.ensures.same ∙ c.take_shifts-shifts.ensures) c.in-Some.ensures.reading) in
     let parted = parted_of (IsShiftAt m Stands HasNumber e dead b old.ending lists old.monitors) (IsReadAt m Stands e b dead old.marks old.monitors) (slots_listed lists place) shifts few rests reading.sifted in
-    rw c.as_slice.ensures.value (parted_apart m Stands HasNumber e b dead old lists place shifts few c.requires.of c.requires.listed parted)
+    rw c.as_slice.ensures.value (parted_apart m Stands HasNumber e b dead old lists place shifts few c.requires.list.of_event c.requires.list.listed parted)
 
 pub shift_all-requires-clause-there : goal.shift_all-requires-clause-there
 shift_all-requires-clause-there g c =
@@ -94,51 +94,14 @@ shift_all-requires-clause-there g c =
     (subst (λ (s : Contents S). IsReading m Stands HasNumber e dead b c.self.inside.marks.list s lists (slots_listed lists place) c.tell_listed.new.shifts.items few rests c.in-Some.reading)
     (c.take_moves-moves.ensures.same ∙ c.take_shifts-shifts.ensures) c.in-Some.ensures.reading) in
     let parted = parted_of (IsShiftAt m Stands HasNumber e dead b old.ending lists old.monitors) (IsReadAt m Stands e b dead old.marks old.monitors) (slots_listed lists place) shifts few rests reading.sifted in
-    rw (c.as_slice.ensures.value, ap (λ (s : Contents S). s.monitors) whole) (parted_there m Stands HasNumber e b dead old lists place shifts few c.requires.of c.requires.listed parted)
+    rw (c.as_slice.ensures.value, ap (λ (s : Contents S). s.monitors) whole) (parted_there m Stands HasNumber e b dead old lists place shifts few c.requires.list.of_event c.requires.list.listed parted)
 
 pub invariant_of-self : goal.invariant_of-self
 invariant_of-self g c =
     kept_alike c.self.inside.monitors.slots c.shift_all.new.self.slots c.shift_all.ensures.alike c.self.inside.index.list c.self.inside.domains.items c.self.inside.is_open c.self.inside.marks.spare c.self.invariant
 
-pub apply-requires-clause-apart : goal.apply-requires-clause-apart
-apply-requires-clause-apart g c =
-    let S = g.row.M-State.Denot in
-    let m = g.M.Monitor.meaning (g.M.Monitor.definition c.args.rules.now) in
-    let Stands = g.M.Monitor.StandsFor c.args.rules.now in
-    let HasNumber = g.M.Monitor.HasNumber c.args.rules.now in
-    let old = c.args.self.now in
-    let lists = c.args.awake.now in
-    let place = c.args.place in
-    let b = c.args.binding.now in
-    let e = c.args.letter.0 in
-    let dead = c.args.objects.now in
-    let whole = c.self.view_is ∙ c.take_moves-moves.ensures.same ∙ c.take_shifts-shifts.ensures in
-    let few = c.tell_listed.new.moves.items in
-    let shifts = take c.in-Some.reading.count c.tell_listed.new.shifts.items in
-    let rests = c.tell_listed.new.rests.items in
-    let reading =
-    subst (λ (l : List Binding). IsReading m Stands HasNumber e dead b l old lists (slots_listed lists place) c.tell_listed.new.shifts.items few rests c.in-Some.reading) (ap (λ (s : Contents S). s.marks) whole)
-    (subst (λ (s : Contents S). IsReading m Stands HasNumber e dead b c.self.inside.marks.list s lists (slots_listed lists place) c.tell_listed.new.shifts.items few rests c.in-Some.reading)
-    (c.take_moves-moves.ensures.same ∙ c.take_shifts-shifts.ensures) c.in-Some.ensures.reading) in
-    let parted = parted_of (IsShiftAt m Stands HasNumber e dead b old.ending lists old.monitors) (IsReadAt m Stands e b dead old.marks old.monitors) (slots_listed lists place) shifts few rests reading.sifted in
-    let slots = c.self.inside.monitors.slots in
-    let new = c.shift_all.new.self.slots in
-    let mid = c.give_shifts-2.new.self in
-    let monitors : monitors_of slots ≡ old.monitors = ap (λ (s : Contents S). s.monitors) whole in
-    let after : mid.monitors ≡ monitors_of new = ap (λ (s : Contents S). s.monitors) c.give_shifts-2.ensures in
-    let moved : AreShifted HasNumber shifts old.monitors mid.monitors =
-    subst (λ (l : List (Option (Stored S))). AreShifted HasNumber shifts l mid.monitors) monitors
-    (subst (λ (l : List (Option (Stored S))). AreShifted HasNumber shifts (monitors_of slots) l) (sym after)
-    (subst (λ (l : List Shift). AreShifted HasNumber (take c.in-Some.reading.count l) (monitors_of slots) (monitors_of new)) c.as_slice.ensures.value c.shift_all.ensures.moved)) in
-    let paired : ArePaired old = subst ArePaired whole (are_paired slots c.self.inside.marks.list c.self.inside.is_open c.self.inside.index c.self.inside.ending c.self.invariant.housed) in
-    let closed = ap (λ (s : Contents S). s.is_open) whole ∙ c.requires.can.closed in
-    let filled : (pair : Pair) → Contains old.index.list pair → IsFilled old pair =
-    subst (λ (s : Contents S). (pair : Pair) → Contains s.index.list pair → IsFilled s pair) whole
-    (settled_monitor slots c.self.inside.index.list c.self.invariant.housed (c.self.invariant.settled closed)) in
-    few_apart m Stands HasNumber e b dead old lists place shifts few c.requires.of c.requires.listed parted mid moved c.requires.can c.requires.known paired filled
-
-pub apply-requires-clause-leads : goal.apply-requires-clause-leads
-apply-requires-clause-leads g c =
+pub apply-requires-clause-ready : goal.apply-requires-clause-ready
+apply-requires-clause-ready g c =
     let S = g.row.M-State.Denot in
     let m = g.M.Monitor.meaning (g.M.Monitor.definition c.args.rules.now) in
     let Stands = g.M.Monitor.StandsFor c.args.rules.now in
@@ -173,7 +136,11 @@ apply-requires-clause-leads g c =
     subst (λ (s : Contents S). (pair : Pair) → Contains s.index.list pair → IsFilled s pair) whole
     (settled_monitor slots c.self.inside.index.list c.self.invariant.housed (c.self.invariant.settled closed)) in
     let index = ap (λ (s : Contents S). s.index) c.give_shifts-2.ensures ∙ ap (λ (s : Contents S). s.index) whole in
-    rw index (few_lead m Stands HasNumber e b dead old lists place shifts few c.requires.of c.requires.listed parted mid moved c.requires.can c.requires.known paired filled)
+    let leads = few_lead m Stands HasNumber e b dead old lists place shifts few c.requires.list.of_event c.requires.list.listed parted mid moved c.requires.can c.requires.list.known paired filled in
+    record {
+      apart = few_apart m Stands HasNumber e b dead old lists place shifts few c.requires.list.of_event c.requires.list.listed parted mid moved c.requires.can c.requires.list.known paired filled;
+      leads = rw index leads;
+    }
 
 pub returns-clause-advances : goal.returns-clause-advances
 returns-clause-advances g c =
@@ -225,11 +192,11 @@ returns-clause-advances g c =
       unmarked = tt;
       keeps = tt;
       fits = applied.fits dead fits;
-      spares = parted_spared m Stands HasNumber e b dead old lists place shifts few c.requires.of c.requires.listed parted mid moved c.requires.can c.requires.known paired filled done applied index marks ending;
+      spares = parted_spared m Stands HasNumber e b dead old lists place shifts few c.requires.list.of_event c.requires.list.listed parted mid moved c.requires.can c.requires.list.known paired filled done applied index marks ending;
       closed = applied.closed;
-      marks = parted_marks m Stands HasNumber e b dead old lists place shifts few c.requires.of c.requires.listed parted mid moved c.requires.can c.requires.known paired filled done applied index marks ending;
+      marks = parted_marks m Stands HasNumber e b dead old lists place shifts few c.requires.list.of_event c.requires.list.listed parted mid moved c.requires.can c.requires.list.known paired filled done applied index marks ending;
       twice = reading.twice;
-      works = parted_done m Stands HasNumber e b dead old lists place shifts few c.requires.of c.requires.listed parted mid moved c.requires.can c.requires.known paired filled done applied index marks ending c.in-Some.reading.answer reading.report;
+      works = parted_done m Stands HasNumber e b dead old lists place shifts few c.requires.list.of_event c.requires.list.listed parted mid moved c.requires.can c.requires.list.known paired filled done applied index marks ending c.in-Some.reading.answer reading.report;
     }
 
 pub returns-clause-listed : goal.returns-clause-listed
@@ -262,9 +229,9 @@ returns-clause-listed g c =
     subst (λ (l : List (Option (Stored S))). AreShifted HasNumber shifts l mid.monitors) monitors
     (subst (λ (l : List (Option (Stored S))). AreShifted HasNumber shifts (monitors_of slots) l) (sym after)
     (subst (λ (l : List Shift). AreShifted HasNumber (take c.in-Some.reading.count l) (monitors_of slots) (monitors_of new)) c.as_slice.ensures.value c.shift_all.ensures.moved)) in
-    let resting = still_at_rest m Stands HasNumber e b dead old lists place shifts few rests c.requires.of c.requires.listed reading.sifted mid c.apply.new.self moved c.apply.ensures.applied in
+    let resting = still_at_rest m Stands HasNumber e b dead old lists place shifts few rests c.requires.list.of_event c.requires.list.listed reading.sifted mid c.apply.new.self moved c.apply.ensures.applied in
     c.let_rest.ensures dead (subst (λ (l : List ℕ). AreAtRest m Stands e b dead l c.apply.new.self.monitors) (sym c.as_slice-2.ensures.value) resting)
-    (c.apply.ensures.listed dead (parted_listed m Stands HasNumber e b dead old lists place shifts few c.requires.of c.requires.listed parted mid moved))
+    (c.apply.ensures.listed dead (parted_listed m Stands HasNumber e b dead old lists place shifts few c.requires.list.of_event c.requires.list.listed parted mid moved))
 
 pub returns-clause-steps : goal.returns-clause-steps
 returns-clause-steps g c =
@@ -275,6 +242,20 @@ returns-clause-steps g c =
     let b = c.args.binding.now in
     let e = c.args.letter.0 in
     let dead = c.args.objects.now in
-    let count = above_counted b monitors (slots_listed lists c.args.place) (listed_apart m Stands dead None monitors lists c.args.place e b c.requires.of c.requires.listed)
-    (listed_above m Stands dead None monitors lists c.args.place e b c.requires.of c.requires.listed) in
+    let count = above_counted b monitors (slots_listed lists c.args.place) (listed_apart m Stands dead None monitors lists c.args.place e b c.requires.list.of_event c.requires.list.listed)
+    (listed_above m Stands dead None monitors lists c.args.place e b c.requires.list.of_event c.requires.list.listed) in
     omega (arith, count, c.tell_listed.ensures.steps)
+
+pub tell_listed-requires-clause-list : goal.tell_listed-requires-clause-list
+tell_listed-requires-clause-list g c =
+    let S = g.row.M-State.Denot in
+    let m = g.M.Monitor.meaning (g.M.Monitor.definition c.args.rules.now) in
+    let Stands = g.M.Monitor.StandsFor c.args.rules.now in
+    let same = c.take_moves-moves.ensures.same ∙ c.take_shifts-shifts.ensures in
+    let marks = ap (λ (s : Contents S). s.marks) (c.self.view_is ∙ same) in
+    record {
+      known = subst (λ (l : List Binding). Contains l c.args.binding.now) (sym marks) c.requires.list.known;
+      within = c.requires.list.within;
+      of_event = c.requires.list.of_event;
+      listed = subst (λ (s : Contents S). AreListed m Stands c.args.objects.now s.monitors c.args.awake.now) (sym same) c.requires.list.listed;
+    }

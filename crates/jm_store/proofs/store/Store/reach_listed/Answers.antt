@@ -21,8 +21,8 @@ returns-in_err-read-clause-steps g c =
     let e = c.args.event.now.letter.0 in
     let b = c.args.event.now.binding.now in
     let dead = c.args.event.now.objects.now in
-    let count = above_counted b monitors (slots_listed c.args.awake.now c.args.place) (listed_apart m Stands dead None monitors c.args.awake.now c.args.place e b c.requires.of c.requires.listed)
-    (listed_above m Stands dead None monitors c.args.awake.now c.args.place e b c.requires.of c.requires.listed) in
+    let count = above_counted b monitors (slots_listed c.args.awake.now c.args.place) (listed_apart m Stands dead None monitors c.args.awake.now c.args.place e b c.requires.list.of_event c.requires.list.listed)
+    (listed_above m Stands dead None monitors c.args.awake.now c.args.place e b c.requires.list.of_event c.requires.list.listed) in
     omega (arith, count, c.read_listed-read.ensures.steps)
 
 pub returns-clause-moves : goal.returns-clause-moves
@@ -37,11 +37,11 @@ returns-clause-moves g c =
     let ending = c.args.self.now.ending in
     let lists = c.args.awake.now in
     let place = c.args.place in
-    let known : c.args.event.now.known ≡ true = c.requires.known.1 c.requires.marked in
+    let known : c.args.event.now.known ≡ true = c.requires.known.1 c.requires.list.known in
     subst (λ (v : Bool). AreMovesRead m Stands e b dead marks (asks_by v ending e b) monitors c.read_listed-read.new.moves.items) (sym known)
-    (listed_all b monitors m Stands e dead marks ending (slots_listed lists place) c.read_listed-read.new.moves.items (listed_apart m Stands dead None monitors lists place e b c.requires.of c.requires.listed)
-    (listed_above m Stands dead None monitors lists place e b c.requires.of c.requires.listed) c.in_ok-read.ensures.moves
-    (listed_rest m Stands dead None monitors lists place e b c.requires.of c.requires.listed))
+    (listed_all b monitors m Stands e dead marks ending (slots_listed lists place) c.read_listed-read.new.moves.items (listed_apart m Stands dead None monitors lists place e b c.requires.list.of_event c.requires.list.listed)
+    (listed_above m Stands dead None monitors lists place e b c.requires.list.of_event c.requires.list.listed) c.in_ok-read.ensures.moves
+    (listed_rest m Stands dead None monitors lists place e b c.requires.list.of_event c.requires.list.listed))
 
 pub returns-clause-listed : goal.returns-clause-listed
 returns-clause-listed g c =
@@ -59,6 +59,6 @@ returns-clause-steps g c =
     let e = c.args.event.now.letter.0 in
     let b = c.args.event.now.binding.now in
     let dead = c.args.event.now.objects.now in
-    let count = above_counted b monitors (slots_listed c.args.awake.now c.args.place) (listed_apart m Stands dead None monitors c.args.awake.now c.args.place e b c.requires.of c.requires.listed)
-    (listed_above m Stands dead None monitors c.args.awake.now c.args.place e b c.requires.of c.requires.listed) in
+    let count = above_counted b monitors (slots_listed c.args.awake.now c.args.place) (listed_apart m Stands dead None monitors c.args.awake.now c.args.place e b c.requires.list.of_event c.requires.list.listed)
+    (listed_above m Stands dead None monitors c.args.awake.now c.args.place e b c.requires.list.of_event c.requires.list.listed) in
     omega (arith, count, c.read_listed-read.ensures.steps)

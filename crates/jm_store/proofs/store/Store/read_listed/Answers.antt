@@ -18,14 +18,14 @@ use Rattle.jm_store.proofs.store.Store.read_listed.Goals.{then-is_there+in_ok-re
 pub loop-at-init : goal.loop-at-init
 loop-at-init g c = record {
   moves = c.requires.none;
-  listed = record { sound = loosen (Some c.args.place) (occupants_of c.args.self.now.monitors) c.args.awake.now c.requires.listed.sound; rested = c.requires.listed.rested };
+  listed = record { sound = loosen (Some c.args.place) (occupants_of c.args.self.now.monitors) c.args.awake.now c.requires.list.listed.sound; rested = c.requires.list.listed.rested };
   lists = refl;
   there = λ x. refl;
   steps = omega arith;
 }
 
 pub entries-requires : goal.entries-requires
-entries-requires g c = subst (λ (l : List SlotList). c.args.place < length l) (sym c.loop-at.invariant.lists) c.requires.within
+entries-requires g c = subst (λ (l : List SlotList). c.args.place < length l) (sym c.loop-at.invariant.lists) c.requires.list.within
 
 pub bounds-entries-at : goal.bounds-entries-at
 bounds-entries-at g c =
@@ -38,7 +38,7 @@ read_entry-requires-clause-above g c = λ s at.
     let Stands = g.M.Monitor.StandsFor c.args.event.now.rules.now in
     let same = same_list c.args.awake.now c.loop-at.awake c.args.place c.loop-at.invariant.lists in
     let of : IsListOf (list_at c.loop-at.awake c.args.place) c.args.event.now.letter.0 c.args.event.now.binding.now =
-    subst (λ (l : SlotList). IsListOf l c.args.event.now.letter.0 c.args.event.now.binding.now) (sym same) c.requires.of in
+    subst (λ (l : SlotList). IsListOf l c.args.event.now.letter.0 c.args.event.now.binding.now) (sym same) c.requires.list.of_event in
     let none : Listed = record { slot = 0; age = 0 } in
     let x = get_or c.entries.result.now c.loop-at.at none in
     let whole : c.entries.result.now ≡ c.entries-at-end.result.now = c.entries.ensures ∙ ap (λ (l : SlotList). l.entries) same ∙ sym c.entries-at-end.ensures in
@@ -51,7 +51,7 @@ read_entry-requires-clause-above g c = λ s at.
 pub returns-in_err-read_entry-clause-listed : goal.returns-in_err-read_entry-clause-listed
 returns-in_err-read_entry-clause-listed g c =
     let same = same_list c.args.awake.now c.loop-at.awake c.args.place c.loop-at.invariant.lists in
-    c.read_entry.ensures.listed c.args.place (subst (λ (l : SlotList). IsListOf l c.args.event.now.letter.0 c.args.event.now.binding.now) (sym same) c.requires.of) c.loop-at.invariant.listed
+    c.read_entry.ensures.listed c.args.place (subst (λ (l : SlotList). IsListOf l c.args.event.now.letter.0 c.args.event.now.binding.now) (sym same) c.requires.list.of_event) c.loop-at.invariant.listed
 
 pub returns-in_err-read_entry-clause-steps : goal.returns-in_err-read_entry-clause-steps
 returns-in_err-read_entry-clause-steps g c =
@@ -85,9 +85,9 @@ loop-at-preserved g c =
           let push = rw w.slot.ensures at read.moves in
           rw (w.awake-is, w.moves-is, w.steps-is, more) (record {
             moves = pushed _ slots x.slot c.loop-at.moves.items w.read_entry.new.moves.items inv.moves push;
-            listed = read.listed c.args.place (subst (λ (l : SlotList). IsListOf l c.args.event.now.letter.0 c.args.event.now.binding.now) (sym same) c.requires.of) inv.listed;
-            lists = read.lists ∙ inv.lists;
-            there = λ y. read.there y ∙ inv.there y;
+            listed = read.listed c.args.place (subst (λ (l : SlotList). IsListOf l c.args.event.now.letter.0 c.args.event.now.binding.now) (sym same) c.requires.list.of_event) inv.listed;
+            lists = read.entries.lists ∙ inv.lists;
+            there = λ y. read.entries.there y ∙ inv.there y;
             steps = omega (arith, length-append slots (x.slot ∷ []), inv.steps, read.steps);
           })
       | else-is_there w ↦

@@ -20,7 +20,7 @@ use Rattle.jm_store.proofs.walk.Walk.read_entries.Goals.{then-is_there+in-Shifts
 
 pub loop-entry-init : goal.loop-entry-init
 loop-entry-init g c = record {
-  sifted = rw (c.requires.none, c.requires.clear) (sifted_none _ _);
+  sifted = rw (c.requires.none.0, c.requires.none.1) (sifted_none _ _);
   turns = no_turns c.args.self.now.plain.now c.args.self.now.ends c.args.self.now.endings.now 16;
   few = omega arith;
   room = omega arith;
@@ -122,7 +122,7 @@ loop-entry-preserved g c =
           let told : IsShifting m Stands HasNumber event.letter.0 event.objects.now event.binding.now walk.ending.now c.args.asked.letters (card_at lists x.slot) base shift.number =
           subst (λ (y : Card). IsShifting m Stands HasNumber event.letter.0 event.objects.now event.binding.now walk.ending.now c.args.asked.letters y base shift.number) card w.in-Shifts.ensures.told in
           let is : IsShifting m Stands HasNumber event.letter.0 event.objects.now event.binding.now walk.ending.now lists.letters (card_at lists x.slot) base shift.number =
-          shifts_all m Stands HasNumber event.letter.0 event.objects.now event.binding.now walk.ending.now lists.letters c.args.asked.letters (card_at lists x.slot) base shift.number c.requires.others own told in
+          shifts_all m Stands HasNumber event.letter.0 event.objects.now event.binding.now walk.ending.now lists.letters c.args.asked.letters (card_at lists x.slot) base shift.number c.requires.asks.others own told in
           rw (w.turns-is, w.shifts-is, w.moves-is, w.rests-is, w.count-is, w.steps-is, more) (record {
             sifted = sifted_told R Q slots x.slot (take c.loop-entry.count c.loop-entry.shifts) (take w.push_shift.new.count w.push_shift.new.shifts) c.loop-entry.moves.items c.loop-entry.rests.items inv.sifted
                 (Some shift, (base, here, w.slot_number.ensures, is), w.push_shift.ensures.added);

@@ -11,13 +11,16 @@ use Rattle.jm_store.proofs.ListedLemmas.{listed_each, listed_on}
 use Rattle.jm_store.proofs.WalkLemmas.{written_back}
 use Rattle.jm_store.proofs.walk.Walk.read_list.Goals as goal
 
-pub read_entries-requires-clause-free : goal.read_entries-requires-clause-free
-read_entries-requires-clause-free g c =
+pub read_entries-requires-clause-asks : goal.read_entries-requires-clause-asks
+read_entries-requires-clause-asks g c =
     let event = c.args.self.now.event.now in
-    subst (λ (n : ℕ). AreAliveBut event.objects.now event.binding.now n) c.if-params-eq0.true c.free_params-params.ensures
+    record {
+      free = subst (λ (n : ℕ). AreAliveBut event.objects.now event.binding.now n) c.if-params-eq0.true c.free_params-params.ensures;
+      others = λ e bit other. subst (λ (n : ℕ). bit_at n e ≡ 1) c.if-letters-eq0.true (c.letters_but-letters.ensures e bit other);
+    }
 
-pub read_entries-requires-clause-others : goal.read_entries-requires-clause-others
-read_entries-requires-clause-others g c = λ e bit other. subst (λ (n : ℕ). bit_at n e ≡ 1) c.if-letters-eq0.true (c.letters_but-letters.ensures e bit other)
+pub read_entries-requires-2-clause-asks : goal.read_entries-requires-2-clause-asks
+read_entries-requires-2-clause-asks g c = record { free = c.free_params-params.ensures; others = c.letters_but-letters.ensures }
 
 pub read_entries-requires-clause-each : goal.read_entries-requires-clause-each
 read_entries-requires-clause-each g c = λ x among.
@@ -29,10 +32,10 @@ read_entries-requires-clause-each g c = λ x among.
     let monitors = monitors_of walk.slots.items.now in
     let place = c.args.place in
     let has : Contains (list_at lists place).entries x = subst (λ (l : List Listed). Contains l x) c.entries-entries.ensures among in (
-      (c.requires.listed.sound.each place x c.requires.of.kept has).within,
+      (c.requires.list.listed.sound.each place x c.requires.list.of_event.kept has).within,
       λ there.
-          let (s, at, below) = listed_each m Stands event.objects.now None monitors lists place event.letter.0 event.binding.now c.requires.of c.requires.listed x has there in
-          let on = listed_on m Stands event.objects.now None monitors lists place event.letter.0 event.binding.now c.requires.of c.requires.listed refl x has there in
+          let (s, at, below) = listed_each m Stands event.objects.now None monitors lists place event.letter.0 event.binding.now c.requires.list.of_event c.requires.list.listed x has there in
+          let on = listed_on m Stands event.objects.now None monitors lists place event.letter.0 event.binding.now c.requires.list.of_event c.requires.list.listed refl x has there in
           (on, (s, at, below, c.requires.ends x.slot s at below)),
     )
 
@@ -49,10 +52,10 @@ read_entries-requires-2-clause-each g c = λ x among.
     let monitors = monitors_of walk.slots.items.now in
     let place = c.args.place in
     let has : Contains (list_at lists place).entries x = subst (λ (l : List Listed). Contains l x) c.entries-entries.ensures among in (
-      (c.requires.listed.sound.each place x c.requires.of.kept has).within,
+      (c.requires.list.listed.sound.each place x c.requires.list.of_event.kept has).within,
       λ there.
-          let (s, at, below) = listed_each m Stands event.objects.now None monitors lists place event.letter.0 event.binding.now c.requires.of c.requires.listed x has there in
-          let on = listed_on m Stands event.objects.now None monitors lists place event.letter.0 event.binding.now c.requires.of c.requires.listed refl x has there in
+          let (s, at, below) = listed_each m Stands event.objects.now None monitors lists place event.letter.0 event.binding.now c.requires.list.of_event c.requires.list.listed x has there in
+          let on = listed_on m Stands event.objects.now None monitors lists place event.letter.0 event.binding.now c.requires.list.of_event c.requires.list.listed refl x has there in
           (on, (s, at, below, c.requires.ends x.slot s at below)),
     )
 
