@@ -1,11 +1,9 @@
 use Rattle.std.proofs.Common.{◌≡◌, ℕ, List, sym, ap, ◌∙◌, subst}
-use Rattle.std.specs.Prelude.{Option, Some}
+use Rattle.std.specs.Prelude.{Option}
 use Rattle.jm_semantics.specs.Traces.{ParametricEvent}
 use Rattle.jm_monitors.proofs.BaseLemmas.{object-among}
-use Rattle.jm_monitors.specs.declared.stored.Stored.{Stored}
 use Rattle.jm_monitors.specs.Steps.{AreMarksAfter}
 use Rattle.jm_store.specs.declared.store.advance.Done.{Done}
-use Rattle.jm_store.specs.Slots.{monitor_at}
 use Rattle.jm_store.specs.Contents.{Contents, stored_of, IsSpared, IsStoreAfter, IsEventDone, IsOnlyAbove, IsNoneAbove, IsAbove}
 use Rattle.jm_store.specs.Plans.{IsSlotDone}
 use Rattle.jm_store.proofs.AdvanceLemmas.{option_map, reached_one, one_counted, one_spared, one_done, none_done, still_known}

@@ -1,4 +1,4 @@
-use Rattle.std.proofs.Common.{◌∙◌, inl, inr, refl, sym}
+use Rattle.std.proofs.Common.{◌∙◌, inl, inr, sym}
 use Rattle.std.proofs.lemmas.Option.{same_Some}
 use Rattle.jm_store.proofs.HousingLemmas.{pair_by_slot, pair_by_binding}
 use Rattle.jm_store.proofs.PlanLemmas.{planned_next, planned_none, filled_same, item_among, contents_kept, contents_still}
