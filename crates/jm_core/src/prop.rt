@@ -7,7 +7,7 @@ ghost use Rattle.jm_core.specs.Cores.{IsExtended, KeepsMemory, KeepsMemoryUnless
 ghost use Rattle.jm_core.specs.Memory.{StepKeepsMemory};
 ghost use Rattle.jm_core.specs.Replays.{Replayed, ReplayedInPart};
 
-use crate::firing::perform;
+use crate::firing::{Call, perform};
 use jm_awake::Awake;
 use jm_history::{History, Node, Spare};
 use jm_model::{Binding, Monitor, NoMemory, Outcome, Step};
@@ -107,15 +107,13 @@ impl<M: Monitor> Prop<M> {
         let Step::Event { letter, binding } = node.step() else {
             unreachable!()
         };
-        let (outcome, copy) = perform(
-            self.alloc,
-            &self.rules,
-            &self.objects,
-            &mut self.store,
-            &mut self.awake,
-            *letter,
+        let call = Call {
+            rules: &self.rules,
+            objects: &self.objects,
+            letter: *letter,
             binding,
-        );
+        };
+        let (outcome, copy) = perform(self.alloc, &call, &mut self.store, &mut self.awake);
         self.history.push_sparing(node, copy, spare);
         outcome
     }

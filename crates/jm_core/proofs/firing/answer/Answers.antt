@@ -29,17 +29,25 @@ fire-requires g c =
 
 pub returns : goal.returns
 returns g c =
-    let m = g.M.Monitor.meaning (g.M.Monitor.definition c.args.rules.now) in
-    let Stands = g.M.Monitor.StandsFor c.args.rules.now in
+    let m = g.M.Monitor.meaning (g.M.Monitor.definition c.args.call.now.rules.now) in
+    let Stands = g.M.Monitor.StandsFor c.args.call.now.rules.now in
     let kept = c.in_default-counted_advance.ensures in
     let fired = c.fire.ensures in
     let mid = c.counted_advance.new.store in
-    let a : ParametricEvent = record { letter = c.args.letter.0; binding = c.args.binding.now } in
+    let a : ParametricEvent = record { letter = c.args.call.now.letter.0; binding = c.args.call.now.binding.now } in
     record {
       twice = fired.twice;
       closed = fired.closed;
       fits = fired.fits;
       listed = fired.listed;
       works = λ trace holds.
-          outcome_before m Stands trace c.args.objects.now a c.args.store.now mid c.fire.new.store _ kept.advances.stored kept.advances.unmarked (fired.works trace (kept.advances.keeps trace holds));
+          outcome_before m Stands trace c.args.call.now.objects.now a c.args.store.now mid c.fire.new.store _ kept.advances.stored kept.advances.unmarked (fired.works trace (kept.advances.keeps trace holds));
     }
+
+pub answer_by_list-requires-clause-list : goal.answer_by_list-requires-clause-list
+answer_by_list-requires-clause-list g c = record {
+  known = c.is_mark-known.ensures.0 c.if-known.true;
+  within = c.in-Some.ensures.within;
+  of_event = c.in-Some.ensures.of;
+  listed = c.requires.listed;
+}

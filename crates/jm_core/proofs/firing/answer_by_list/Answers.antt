@@ -14,3 +14,6 @@ returns-in-Some g c =
           let event = done.advances.works trace holds in
           (c.requires.live, event.answer, record { holds = event.store; none_cut = event.none_cut });
     }
+
+pub answer_listed-requires-clause-list : goal.answer_listed-requires-clause-list
+answer_listed-requires-clause-list g c = rw (c.in_default.ensures.same.0, c.in_default.ensures.same.1) c.requires.list

@@ -12,7 +12,7 @@ use Rattle.jm_core.proofs.firing.fire.Goals as goal
 
 pub list_if-requires-clause-fits : goal.list_if-requires-clause-fits
 list_if-requires-clause-fits g c =
-    let dead = c.args.objects.now in
+    let dead = c.args.call.now.objects.now in
     let planned = c.in-Ok.ensures in
     (c.commit-answer.ensures.fits dead planned.fits (subst (λ (b : Binding). AreBelow (length dead) b) (sym planned.binding) c.requires.can.there)).index
 
@@ -21,16 +21,16 @@ list_if-requires-clause-live g c = λ o binds. c.requires.can.event.live o (obje
 
 pub returns-after-known : goal.returns-after-known
 returns-after-known g c =
-    let m = g.M.Monitor.meaning (g.M.Monitor.definition c.args.rules.now) in
-    let Stands = g.M.Monitor.StandsFor c.args.rules.now in
-    let dead = c.args.objects.now in
+    let m = g.M.Monitor.meaning (g.M.Monitor.definition c.args.call.now.rules.now) in
+    let Stands = g.M.Monitor.StandsFor c.args.call.now.rules.now in
+    let dead = c.args.call.now.objects.now in
     let planned = c.in-Ok.ensures in
     let done = c.commit-answer.ensures in
     let before = c.counted_plan.new.store in
     let after = c.commit-answer.new.self in
     let first = listed_same m Stands dead None c.args.store.now.monitors before.monitors c.args.awake.now planned.monitors c.requires.listed in
-    let followed = c.follow.ensures c.args.rules.now dead first in
-    let committed : AreListed m Stands dead after.monitors c.follow.new.awake = subst (λ (l : List (Option (Stored g.row.M-State.Denot))). AreListed m Stands dead l c.follow.new.awake) (sym done.monitors) followed in
+    let followed = c.follow.ensures c.args.call.now.rules.now dead first in
+    let committed : AreListed m Stands dead after.monitors c.follow.new.awake = subst (λ (l : List (Option (Stored g.row.M-State.Denot))). AreListed m Stands dead l c.follow.new.awake) (sym done.carried.monitors) followed in
     record {
       twice = ap Fired (done.copy ∙ sym done.answer);
       closed = done.closed;
@@ -38,20 +38,20 @@ returns-after-known g c =
       listed = c.list_if.ensures committed;
       works = λ trace holds.
           let works = planned.works trace holds in
-          let out = carried_out m Stands trace dead c.args.letter.0 c.args.binding.now before after c.in-Ok.plan c.commit-answer.result.0
-          works planned.binding (done.works c.args.rules.now trace dead c.args.letter.0 works) done.answer in
+          let out = carried_out m Stands trace dead c.args.call.now.letter.0 c.args.call.now.binding.now before after c.in-Ok.plan c.commit-answer.result.0
+          works planned.binding (done.works c.args.call.now.rules.now trace dead c.args.call.now.letter.0 works) done.answer in
           (c.requires.live, out.0, out.1);
     }
 
 pub returns-in-Err : goal.returns-in-Err
 returns-in-Err g c =
-    let m = g.M.Monitor.meaning (g.M.Monitor.definition c.args.rules.now) in
-    let Stands = g.M.Monitor.StandsFor c.args.rules.now in
+    let m = g.M.Monitor.meaning (g.M.Monitor.definition c.args.call.now.rules.now) in
+    let Stands = g.M.Monitor.StandsFor c.args.call.now.rules.now in
     let same = c.in-Err.ensures in
     record {
       twice = refl;
       closed = same.closed;
       fits = same.fits;
-      listed = listed_same m Stands c.args.objects.now None c.args.store.now.monitors c.counted_plan.new.store.monitors c.args.awake.now same.monitors c.requires.listed;
+      listed = listed_same m Stands c.args.call.now.objects.now None c.args.store.now.monitors c.counted_plan.new.store.monitors c.args.awake.now same.monitors c.requires.listed;
       works = λ trace holds. (c.requires.live, record { stored = same.stored; marks = same.marks; holds = same.keeps trace holds });
     }
