@@ -37,6 +37,6 @@ invariant_of-self-2 g c =
       closed = done.closed;
       fits = record {
         fits = done.fits dead plans.fits (subst (λ (b : Binding). AreBelow (length dead) b) (sym plans.binding) there);
-        spared = plans.leaves c.self.invariant.fits.spared c.commit-answer.new.self (record { monitors = done.monitors; marks = done.marks; ending = done.ending; dropped = done.dropped });
+        spared = plans.leaves c.self.invariant.fits.spared c.commit-answer.new.self done.carried;
       };
     }
