@@ -13,6 +13,15 @@ use jm_model::{Binding, Letter, Monitor, NoMemory};
 use jm_monitors::Stored;
 use jm_objects::Objects;
 
+/// An event, as its caller asks for it, and the rules and objects that it is done with.
+#[derive(Drop)]
+pub struct Call<'a, M: Monitor> {
+    pub rules: &'a M,
+    pub objects: &'a Objects,
+    pub letter: Letter,
+    pub binding: &'a Binding,
+}
+
 /// An event, and what it is worked out with.
 #[derive(Drop)]
 pub(crate) struct Event<'a, M: Monitor> {

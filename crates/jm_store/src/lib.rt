@@ -20,6 +20,7 @@ mod store;
 mod waking;
 mod walk;
 
+pub use event::Call;
 pub use laws::death_keeps_store;
 pub use moves::{Move, Plan};
 pub use store::{Done, Store};

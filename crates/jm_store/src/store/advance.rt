@@ -15,7 +15,7 @@ ghost use Rattle.jm_store.specs.Plans.{CanPlan, Advances, IsSilent, IsStepDone, 
 use super::Store;
 use super::reach::make_room;
 use crate::ending::end_fewer;
-use crate::event::Event;
+use crate::event::{Call, Event};
 use crate::moves::{MANY, Move};
 use crate::report::report_one;
 use crate::waking::{follow, wake};
@@ -60,27 +60,23 @@ impl<M: Monitor> Store<M> {
     /// binding are read, each once.
     pub fn advance_one<L: Ledger>(
         &mut self,
-        rules: &M,
-        objects: &Objects,
+        call: &Call<'_, M>,
         awake: &mut Awake,
-        letter: Letter,
-        binding: &Binding,
         known: bool,
         steps: &mut Steps<L>,
     ) -> Option<Done>
-        requires can { CanPlan (M.meaning (M.definition rules.now)) objects.now letter.0 binding.now self.old }
-        requires known { IsTrue known ↔ Contains self.old.marks binding.now }
-        ensures advances { Advances (M.meaning (M.definition rules.now)) (M.StandsFor rules.now) objects.now letter.0
-            binding.now self.old self.new result }
-        ensures listed { KeepListed (M.meaning (M.definition rules.now)) (M.StandsFor rules.now) objects.now
-            self.old.monitors self.new.monitors awake.old awake.new }
-        ensures steps { steps.new ≤ steps.old + count_by (λ s. is_compatible s.instance binding.now)
+        requires can { CanPlan (M.meaning (M.definition call.now.rules.now)) call.now.objects.now call.now.letter.0
+            call.now.binding.now self.old }
+        requires known { IsTrue known ↔ Contains self.old.marks call.now.binding.now }
+        ensures advances { Advances (M.meaning (M.definition call.now.rules.now)) (M.StandsFor call.now.rules.now)
+            call.now.objects.now call.now.letter.0 call.now.binding.now self.old self.new result }
+        ensures listed { KeepListed (M.meaning (M.definition call.now.rules.now)) (M.StandsFor call.now.rules.now)
+            call.now.objects.now self.old.monitors self.new.monitors awake.old awake.new }
+        ensures steps { steps.new ≤ steps.old + count_by (λ s. is_compatible s.instance call.now.binding.now)
             (stored_of self.old) }
     {
         let mut slots = self.take_slots();
-        let done = self.advance_in(
-            rules, objects, awake, letter, binding, known, &mut slots, steps,
-        );
+        let done = self.advance_in(call, awake, known, &mut slots, steps);
         self.give_slots(slots);
         done
     }
@@ -88,28 +84,26 @@ impl<M: Monitor> Store<M> {
     /// Does an event as `advance_one` does, in room that is lent for slots.
     fn advance_in<L: Ledger>(
         &mut self,
-        rules: &M,
-        objects: &Objects,
+        call: &Call<'_, M>,
         awake: &mut Awake,
-        letter: Letter,
-        binding: &Binding,
         known: bool,
         slots: &mut Vec<usize>,
         steps: &mut Steps<L>,
     ) -> Option<Done>
-        requires can { CanPlan (M.meaning (M.definition rules.now)) objects.now letter.0 binding.now self.old }
-        requires known { IsTrue known ↔ Contains self.old.marks binding.now }
-        ensures advances { Advances (M.meaning (M.definition rules.now)) (M.StandsFor rules.now) objects.now letter.0
-            binding.now self.old self.new result }
-        ensures listed { KeepListed (M.meaning (M.definition rules.now)) (M.StandsFor rules.now) objects.now
-            self.old.monitors self.new.monitors awake.old awake.new }
-        ensures steps { steps.new ≤ steps.old + count_by (λ s. is_compatible s.instance binding.now)
+        requires can { CanPlan (M.meaning (M.definition call.now.rules.now)) call.now.objects.now call.now.letter.0
+            call.now.binding.now self.old }
+        requires known { IsTrue known ↔ Contains self.old.marks call.now.binding.now }
+        ensures advances { Advances (M.meaning (M.definition call.now.rules.now)) (M.StandsFor call.now.rules.now)
+            call.now.objects.now call.now.letter.0 call.now.binding.now self.old self.new result }
+        ensures listed { KeepListed (M.meaning (M.definition call.now.rules.now)) (M.StandsFor call.now.rules.now)
+            call.now.objects.now self.old.monitors self.new.monitors awake.old awake.new }
+        ensures steps { steps.new ≤ steps.old + count_by (λ s. is_compatible s.instance call.now.binding.now)
             (stored_of self.old) }
     {
         if known {
-            if let Some(above) = self.only_slot_above(objects, binding, slots) {
+            if let Some(above) = self.only_slot_above(call.objects, call.binding, slots) {
                 return match above {
-                    Some(slot) => self.advance_slot(rules, objects, awake, letter, slot, steps),
+                    Some(slot) => self.advance_slot(call, awake, slot, steps),
                     None => Some(Done::nothing(*self.domains.allocator())),
                 };
             }
@@ -117,7 +111,7 @@ impl<M: Monitor> Store<M> {
                 return None;
             }
         }
-        self.advance_only(rules, objects, awake, letter, binding, known, slots, steps)
+        self.advance_only(call, awake, known, slots, steps)
     }
 
     /// The slot of the only monitor above a binding, or that there is none. Where several are or may be, since several
@@ -176,35 +170,44 @@ impl<M: Monitor> Store<M> {
     /// Moves the monitor of a slot, if there is one, unless out of memory.
     fn advance_slot<L: Ledger>(
         &mut self,
-        rules: &M,
-        objects: &Objects,
+        call: &Call<'_, M>,
         awake: &mut Awake,
-        letter: Letter,
         slot: usize,
         steps: &mut Steps<L>,
     ) -> Option<Done>
         requires closed { self.old.is_open ≡ false }
-        requires letter { letter.0 < (M.meaning (M.definition rules.now)).letters }
+        requires letter { call.now.letter.0 < (M.meaning (M.definition call.now.rules.now)).letters }
         ensures same { IfNone result (self.new ≡ self.old) }
         ensures stays { StaysClosed self.old self.new }
-        ensures done { IfSome result (IsSlotDone (M.meaning (M.definition rules.now)) (M.StandsFor rules.now) letter.0
-            objects.now slot self.old self.new) }
-        ensures listed { KeepListed (M.meaning (M.definition rules.now)) (M.StandsFor rules.now) objects.now
-            self.old.monitors self.new.monitors awake.old awake.new }
+        ensures done { IfSome result (IsSlotDone (M.meaning (M.definition call.now.rules.now))
+            (M.StandsFor call.now.rules.now) call.now.letter.0 call.now.objects.now slot self.old self.new) }
+        ensures listed { KeepListed (M.meaning (M.definition call.now.rules.now)) (M.StandsFor call.now.rules.now)
+            call.now.objects.now self.old.monitors self.new.monitors awake.old awake.new }
         ensures steps { steps.new ≤ steps.old + 1 }
     {
         let base = self.monitors.lend(slot, steps)?;
-        let Ok(state) = rules.next(&base.state, letter) else {
+        let Ok(state) = call.rules.next(&base.state, call.letter) else {
             return None;
         };
-        let Ok(answer) = report_one(*self.domains.allocator(), rules, &base.instance, &state) else {
+        let Ok(answer) = report_one(
+            *self.domains.allocator(),
+            call.rules,
+            &base.instance,
+            &state,
+        ) else {
             return None;
         };
         let Ok(copy) = answer.copy() else {
             return None;
         };
-        let stays = !rules.cut(&state, dead_mask(objects, &base.instance));
-        end_fewer(&mut self.ending, base.instance.mask(), rules.ending(&state));
+        let stays = !call
+            .rules
+            .cut(&state, dead_mask(call.objects, &base.instance));
+        end_fewer(
+            &mut self.ending,
+            base.instance.mask(),
+            call.rules.ending(&state),
+        );
         let instance = base.instance;
         if stays {
             wake(awake, slot, &instance);
@@ -221,38 +224,36 @@ impl<M: Monitor> Store<M> {
     #[inline(never)]
     fn advance_only<L: Ledger>(
         &mut self,
-        rules: &M,
-        objects: &Objects,
+        call: &Call<'_, M>,
         awake: &mut Awake,
-        letter: Letter,
-        binding: &Binding,
         known: bool,
         slots: &mut Vec<usize>,
         steps: &mut Steps<L>,
     ) -> Option<Done>
-        requires can { CanPlan (M.meaning (M.definition rules.now)) objects.now letter.0 binding.now self.old }
-        requires known { IsTrue known ↔ Contains self.old.marks binding.now }
-        ensures advances { Advances (M.meaning (M.definition rules.now)) (M.StandsFor rules.now) objects.now letter.0
-            binding.now self.old self.new result }
-        ensures listed { KeepListed (M.meaning (M.definition rules.now)) (M.StandsFor rules.now) objects.now
-            self.old.monitors self.new.monitors awake.old awake.new }
-        ensures steps { steps.new ≤ steps.old + count_by (λ s. is_compatible s.instance binding.now)
+        requires can { CanPlan (M.meaning (M.definition call.now.rules.now)) call.now.objects.now call.now.letter.0
+            call.now.binding.now self.old }
+        requires known { IsTrue known ↔ Contains self.old.marks call.now.binding.now }
+        ensures advances { Advances (M.meaning (M.definition call.now.rules.now)) (M.StandsFor call.now.rules.now)
+            call.now.objects.now call.now.letter.0 call.now.binding.now self.old self.new result }
+        ensures listed { KeepListed (M.meaning (M.definition call.now.rules.now)) (M.StandsFor call.now.rules.now)
+            call.now.objects.now self.old.monitors self.new.monitors awake.old awake.new }
+        ensures steps { steps.new ≤ steps.old + count_by (λ s. is_compatible s.instance call.now.binding.now)
             (stored_of self.old) }
     {
         let event = Event {
-            rules,
-            objects,
+            rules: call.rules,
+            objects: call.objects,
             marks: &self.marks,
-            letter,
-            binding,
+            letter: call.letter,
+            binding: call.binding,
             known,
         };
         match self.find_only(&event, slots, steps)? {
             Some(step) => {
                 self.room_for(&step, slots)?;
-                self.take_step(rules, awake, step, binding, known)
+                self.take_step(call, awake, step, known)
             }
-            None => self.take_none(binding, known),
+            None => self.take_none(call.binding, known),
         }
     }
 
@@ -383,26 +384,25 @@ impl<M: Monitor> Store<M> {
     #[inline(always)]
     fn take_step(
         &mut self,
-        rules: &M,
+        call: &Call<'_, M>,
         awake: &mut Awake,
         mut step: Move<M::State>,
-        binding: &Binding,
         known: bool,
     ) -> Option<Done>
         requires closed { self.old.is_open ≡ false }
-        requires known { IsTrue known → Contains self.old.marks binding.now × (step.slot ≡ None → ⊥) }
+        requires known { IsTrue known → Contains self.old.marks call.now.binding.now × (step.slot ≡ None → ⊥) }
         requires leads { ArePlaced self.old (step ∷ []) }
         ensures same { IfNone result (KeepsContents self.old self.new) }
         ensures closed { self.new.is_open ≡ false }
-        ensures fits { StaysFit binding.now step.monitor.instance self.old self.new }
-        ensures done { IfSome result (IsStepDone (M.meaning (M.definition rules.now)) (M.StandsFor rules.now)
-            binding.now step self.old self.new) }
-        ensures listed { (dead : List Bool) → KeepListed (M.meaning (M.definition rules.now)) (M.StandsFor rules.now)
-            dead self.old.monitors self.new.monitors awake.old awake.new }
+        ensures fits { StaysFit call.now.binding.now step.monitor.instance self.old self.new }
+        ensures done { IfSome result (IsStepDone (M.meaning (M.definition call.now.rules.now))
+            (M.StandsFor call.now.rules.now) call.now.binding.now step self.old self.new) }
+        ensures listed { (dead : List Bool) → KeepListed (M.meaning (M.definition call.now.rules.now))
+            (M.StandsFor call.now.rules.now) dead self.old.monitors self.new.monitors awake.old awake.new }
     {
         let Ok(answer) = report_one(
             *self.domains.allocator(),
-            rules,
+            call.rules,
             &step.monitor.instance,
             &step.monitor.state,
         ) else {
@@ -413,10 +413,10 @@ impl<M: Monitor> Store<M> {
         };
         self.open_for(known)?;
         self.place_one(&mut step)?;
-        self.end_one(rules, &step.monitor);
+        self.end_one(call.rules, &step.monitor);
         follow::<M>(awake, &step);
         self.carry_out(step);
-        self.close(binding, known);
+        self.close(call.binding, known);
         Some(Done { answer, copy })
     }
 

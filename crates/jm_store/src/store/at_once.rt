@@ -13,7 +13,7 @@ ghost use Rattle.jm_store.specs.Plans.{CanPlan, Advances, IsApplied, IsReading};
 
 use super::Store;
 use super::advance::Done;
-use crate::event::Event;
+use crate::event::{Call, Event};
 use crate::moves::Move;
 use crate::report::report;
 use crate::walk::{Shift, Walk};
@@ -38,31 +38,27 @@ impl<M: Monitor> Store<M> {
     #[inline(never)]
     pub fn advance_listed<L: Ledger>(
         &mut self,
-        rules: &M,
-        objects: &Objects,
+        call: &Call<'_, M>,
         awake: &mut Awake,
         place: usize,
-        letter: Letter,
-        binding: &Binding,
         steps: &mut Steps<L>,
     ) -> Option<Done>
-        requires can { CanPlan (M.meaning (M.definition rules.now)) objects.now letter.0 binding.now self.old }
-        requires list { HasList (M.meaning (M.definition rules.now)) (M.StandsFor rules.now) objects.now letter.0
-            binding.now self.old.marks self.old.monitors awake.old place }
+        requires can { CanPlan (M.meaning (M.definition call.now.rules.now)) call.now.objects.now call.now.letter.0
+            call.now.binding.now self.old }
+        requires list { HasList (M.meaning (M.definition call.now.rules.now)) (M.StandsFor call.now.rules.now)
+            call.now.objects.now call.now.letter.0 call.now.binding.now self.old.marks self.old.monitors awake.old place }
         ensures same { IfNone result ((self.new ≡ self.old) × (awake.new ≡ awake.old)) }
         ensures marks { self.new.marks ≡ self.old.marks }
-        ensures advances { Advances (M.meaning (M.definition rules.now)) (M.StandsFor rules.now) objects.now letter.0
-            binding.now self.old self.new result }
-        ensures listed { AreListed (M.meaning (M.definition rules.now)) (M.StandsFor rules.now) objects.now
-            self.new.monitors awake.new }
-        ensures steps { steps.new ≤ steps.old + count_by (λ s. is_compatible s.instance binding.now)
+        ensures advances { Advances (M.meaning (M.definition call.now.rules.now)) (M.StandsFor call.now.rules.now)
+            call.now.objects.now call.now.letter.0 call.now.binding.now self.old self.new result }
+        ensures listed { AreListed (M.meaning (M.definition call.now.rules.now)) (M.StandsFor call.now.rules.now)
+            call.now.objects.now self.new.monitors awake.new }
+        ensures steps { steps.new ≤ steps.old + count_by (λ s. is_compatible s.instance call.now.binding.now)
             (stored_of self.old) }
     {
         let mut rests = self.take_slots();
         rests.clear();
-        let done = self.do_listed(
-            rules, objects, awake, place, letter, binding, &mut rests, steps,
-        );
+        let done = self.do_listed(call, awake, place, &mut rests, steps);
         self.give_slots(rests);
         done
     }
@@ -71,26 +67,24 @@ impl<M: Monitor> Store<M> {
     #[inline(always)]
     fn do_listed<L: Ledger>(
         &mut self,
-        rules: &M,
-        objects: &Objects,
+        call: &Call<'_, M>,
         awake: &mut Awake,
         place: usize,
-        letter: Letter,
-        binding: &Binding,
         rests: &mut Vec<usize>,
         steps: &mut Steps<L>,
     ) -> Option<Done>
-        requires can { CanPlan (M.meaning (M.definition rules.now)) objects.now letter.0 binding.now self.old }
-        requires list { HasList (M.meaning (M.definition rules.now)) (M.StandsFor rules.now) objects.now letter.0
-            binding.now self.old.marks self.old.monitors awake.old place }
+        requires can { CanPlan (M.meaning (M.definition call.now.rules.now)) call.now.objects.now call.now.letter.0
+            call.now.binding.now self.old }
+        requires list { HasList (M.meaning (M.definition call.now.rules.now)) (M.StandsFor call.now.rules.now)
+            call.now.objects.now call.now.letter.0 call.now.binding.now self.old.marks self.old.monitors awake.old place }
         requires clear { rests.old.items ≡ [] }
         ensures same { IfNone result ((self.new ≡ self.old) × (awake.new ≡ awake.old)) }
         ensures marks { self.new.marks ≡ self.old.marks }
-        ensures advances { Advances (M.meaning (M.definition rules.now)) (M.StandsFor rules.now) objects.now letter.0
-            binding.now self.old self.new result }
-        ensures listed { AreListed (M.meaning (M.definition rules.now)) (M.StandsFor rules.now) objects.now
-            self.new.monitors awake.new }
-        ensures steps { steps.new ≤ steps.old + count_by (λ s. is_compatible s.instance binding.now)
+        ensures advances { Advances (M.meaning (M.definition call.now.rules.now)) (M.StandsFor call.now.rules.now)
+            call.now.objects.now call.now.letter.0 call.now.binding.now self.old self.new result }
+        ensures listed { AreListed (M.meaning (M.definition call.now.rules.now)) (M.StandsFor call.now.rules.now)
+            call.now.objects.now self.new.monitors awake.new }
+        ensures steps { steps.new ≤ steps.old + count_by (λ s. is_compatible s.instance call.now.binding.now)
             (stored_of self.old) }
     {
         if awake.entries(place).is_empty() {
@@ -99,11 +93,11 @@ impl<M: Monitor> Store<M> {
         let mut shifts = self.take_shifts();
         let mut moves = self.take_moves();
         let event = Event {
-            rules,
-            objects,
+            rules: call.rules,
+            objects: call.objects,
             marks: &self.marks,
-            letter,
-            binding,
+            letter: call.letter,
+            binding: call.binding,
             known: true,
         };
         let Some(reading) = self.tell_listed(
@@ -125,10 +119,11 @@ impl<M: Monitor> Store<M> {
             copy,
         } = reading;
         let few = count + moves.len() < awake.entries(place).len() / 2;
-        self.monitors.shift_all(rules, &shifts.as_slice()[..count]);
+        self.monitors
+            .shift_all(call.rules, &shifts.as_slice()[..count]);
         self.give_shifts(shifts);
-        self.apply(rules, awake, moves);
-        self.let_rest(rules, awake, letter, binding, rests.as_slice(), few);
+        self.apply(call.rules, awake, moves);
+        self.let_rest(call, awake, rests.as_slice(), few);
         Some(Done { answer, copy })
     }
 
@@ -207,46 +202,31 @@ impl<M: Monitor> Store<M> {
     /// Takes slots whose monitors rest at a letter out of the list of an event, where few of the list's monitors
     /// change.
     #[inline(always)]
-    fn let_rest(
-        &self,
-        rules: &M,
-        awake: &mut Awake,
-        letter: Letter,
-        binding: &Binding,
-        rests: &[usize],
-        few: bool,
-    )
-        requires letter { letter.0 < (M.meaning (M.definition rules.now)).letters }
-        ensures { (dead : List Bool) → AreAtRest (M.meaning (M.definition rules.now)) (M.StandsFor rules.now)
-            letter.0 binding.now dead rests.now self.now.monitors
-            → KeepListed (M.meaning (M.definition rules.now)) (M.StandsFor rules.now) dead self.now.monitors
-            self.now.monitors awake.old awake.new }
+    fn let_rest(&self, call: &Call<'_, M>, awake: &mut Awake, rests: &[usize], few: bool)
+        requires letter { call.now.letter.0 < (M.meaning (M.definition call.now.rules.now)).letters }
+        ensures { (dead : List Bool) → AreAtRest (M.meaning (M.definition call.now.rules.now))
+            (M.StandsFor call.now.rules.now) call.now.letter.0 call.now.binding.now dead rests.now self.now.monitors →
+            KeepListed (M.meaning (M.definition call.now.rules.now)) (M.StandsFor call.now.rules.now) dead
+            self.now.monitors self.now.monitors awake.old awake.new }
     {
         if few {
-            self.unlist_all(rules, awake, letter, binding, rests);
+            self.unlist_all(call, awake, rests);
         }
     }
 
     /// Takes slots whose monitors rest at a letter out of the list of an event, if there is one.
     #[inline(never)]
-    fn unlist_all(
-        &self,
-        rules: &M,
-        awake: &mut Awake,
-        letter: Letter,
-        binding: &Binding,
-        rests: &[usize],
-    )
-        requires letter { letter.0 < (M.meaning (M.definition rules.now)).letters }
-        ensures { (dead : List Bool) → AreAtRest (M.meaning (M.definition rules.now)) (M.StandsFor rules.now)
-            letter.0 binding.now dead rests.now self.now.monitors
-            → KeepListed (M.meaning (M.definition rules.now)) (M.StandsFor rules.now) dead self.now.monitors
-            self.now.monitors awake.old awake.new }
+    fn unlist_all(&self, call: &Call<'_, M>, awake: &mut Awake, rests: &[usize])
+        requires letter { call.now.letter.0 < (M.meaning (M.definition call.now.rules.now)).letters }
+        ensures { (dead : List Bool) → AreAtRest (M.meaning (M.definition call.now.rules.now))
+            (M.StandsFor call.now.rules.now) call.now.letter.0 call.now.binding.now dead rests.now self.now.monitors →
+            KeepListed (M.meaning (M.definition call.now.rules.now)) (M.StandsFor call.now.rules.now) dead
+            self.now.monitors self.now.monitors awake.old awake.new }
     {
-        let _letters = rules.letters();
-        if let Some(place) = awake.find(letter, binding) {
+        let _letters = call.rules.letters();
+        if let Some(place) = awake.find(call.letter, call.binding) {
             for slot in rests {
-                awake.unlist(*slot, letter);
+                awake.unlist(*slot, call.letter);
             }
             awake.tidy(place);
         }

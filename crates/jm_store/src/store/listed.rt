@@ -12,7 +12,7 @@ ghost use Rattle.jm_store.specs.Listed.{occupants_of, slots_listed, AreListed, A
 ghost use Rattle.jm_store.specs.Plans.{CanPlan, PlansUnlessRests};
 
 use super::Store;
-use crate::event::Event;
+use crate::event::{Call, Event};
 use crate::moves::{Move, Plan};
 use crate::waking::follow_all;
 use jm_awake::Awake;
@@ -27,22 +27,20 @@ impl<M: Monitor> Store<M> {
     #[inline(never)]
     pub fn plan_listed<L: Ledger>(
         &mut self,
-        rules: &M,
-        objects: &Objects,
+        call: &Call<'_, M>,
         awake: &mut Awake,
         place: usize,
-        letter: Letter,
-        binding: &Binding,
         steps: &mut Steps<L>,
     ) -> Result<Option<Plan<M::State>>, NoMemory>
-        requires can { CanPlan (M.meaning (M.definition rules.now)) objects.now letter.0 binding.now self.old }
-        requires list { HasList (M.meaning (M.definition rules.now)) (M.StandsFor rules.now) objects.now letter.0
-            binding.now self.old.marks self.old.monitors awake.old place }
-        ensures plans { PlansUnlessRests (M.meaning (M.definition rules.now)) (M.StandsFor rules.now) objects.now
-            letter.0 binding.now self.old self.new result }
-        ensures listed { AreListed (M.meaning (M.definition rules.now)) (M.StandsFor rules.now) objects.now
-            self.old.monitors awake.new }
-        ensures steps { steps.new ≤ steps.old + count_by (λ s. is_compatible s.instance binding.now)
+        requires can { CanPlan (M.meaning (M.definition call.now.rules.now)) call.now.objects.now call.now.letter.0
+            call.now.binding.now self.old }
+        requires list { HasList (M.meaning (M.definition call.now.rules.now)) (M.StandsFor call.now.rules.now)
+            call.now.objects.now call.now.letter.0 call.now.binding.now self.old.marks self.old.monitors awake.old place }
+        ensures plans { PlansUnlessRests (M.meaning (M.definition call.now.rules.now)) (M.StandsFor call.now.rules.now)
+            call.now.objects.now call.now.letter.0 call.now.binding.now self.old self.new result }
+        ensures listed { AreListed (M.meaning (M.definition call.now.rules.now)) (M.StandsFor call.now.rules.now)
+            call.now.objects.now self.old.monitors awake.new }
+        ensures steps { steps.new ≤ steps.old + count_by (λ s. is_compatible s.instance call.now.binding.now)
             (stored_of self.old) }
     {
         if awake.entries(place).is_empty() {
@@ -50,11 +48,11 @@ impl<M: Monitor> Store<M> {
         }
         let moves = self.take_moves();
         let event = Event {
-            rules,
-            objects,
+            rules: call.rules,
+            objects: call.objects,
             marks: &self.marks,
-            letter,
-            binding,
+            letter: call.letter,
+            binding: call.binding,
             known: true,
         };
         let moves = self.reach_listed(&event, awake, place, moves, steps)?;
@@ -62,7 +60,7 @@ impl<M: Monitor> Store<M> {
             self.give_moves(moves);
             return Ok(None);
         }
-        let plan = self.plan_of(rules, objects, letter, binding, true, moves, 0)?;
+        let plan = self.plan_of(call, true, moves, 0)?;
         Ok(Some(plan))
     }
 
@@ -196,28 +194,21 @@ impl<M: Monitor> Store<M> {
     /// Makes a list of the monitors above an event's binding, which the event reads from now on. It takes the place of
     /// the list of another binding with the same first object. Out of memory, none is made, or lists are let go.
     #[inline(never)]
-    pub fn list(
-        &self,
-        rules: &M,
-        objects: &Objects,
-        awake: &mut Awake,
-        letter: Letter,
-        binding: &Binding,
-    )
+    pub fn list(&self, call: &Call<'_, M>, awake: &mut Awake)
         requires closed { self.now.is_open ≡ false }
-        requires letter { letter.0 < (M.meaning (M.definition rules.now)).letters }
-        requires fits { IsFitting self.now.index objects.now }
-        requires live { AreLive objects.now binding.now }
-        ensures { KeepListed (M.meaning (M.definition rules.now)) (M.StandsFor rules.now) objects.now
-            self.now.monitors self.now.monitors awake.old awake.new }
+        requires letter { call.now.letter.0 < (M.meaning (M.definition call.now.rules.now)).letters }
+        requires fits { IsFitting self.now.index call.now.objects.now }
+        requires live { AreLive call.now.objects.now call.now.binding.now }
+        ensures { KeepListed (M.meaning (M.definition call.now.rules.now)) (M.StandsFor call.now.rules.now)
+            call.now.objects.now self.now.monitors self.now.monitors awake.old awake.new }
     {
         let alloc = *self.domains.allocator();
         let mut above = Vec::new(alloc);
-        let Ok(()) = self.add_above(objects, binding, &mut above) else {
+        let Ok(()) = self.add_above(call.objects, call.binding, &mut above) else {
             return;
         };
-        let _letters = rules.letters();
-        awake.list_all(letter, binding, above.as_slice());
+        let _letters = call.rules.letters();
+        awake.list_all(call.letter, call.binding, above.as_slice());
     }
 
     /// Adds the slots of the monitors above a binding.

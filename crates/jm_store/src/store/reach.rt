@@ -9,7 +9,7 @@ ghost use Rattle.jm_store.specs.Plans.{CanPlan, Plans};
 
 use super::Store;
 use crate::ending::end_fewer_by;
-use crate::event::Event;
+use crate::event::{Call, Event};
 use crate::moves::{Move, Plan};
 use crate::report::report;
 use jm_model::{Binding, Letter, Monitor, NoMemory, Steps};
@@ -52,31 +52,33 @@ impl<M: Monitor> Store<M> {
             (stored_of self.old) }
     {
         let known = self.marks.contains(binding);
-        self.plan_as(rules, objects, letter, binding, known, steps)
+        let call = Call {
+            rules,
+            objects,
+            letter,
+            binding,
+        };
+        self.plan_as(&call, known, steps)
     }
 
     /// Works out an event as `plan` does, where it is known whether the binding is a mark.
     pub fn plan_as<L: Ledger>(
         &mut self,
-        rules: &M,
-        objects: &Objects,
-        letter: Letter,
-        binding: &Binding,
+        call: &Call<'_, M>,
         known: bool,
         steps: &mut Steps<L>,
     ) -> Result<Plan<M::State>, NoMemory>
-        requires can { CanPlan (M.meaning (M.definition rules.now)) objects.now letter.0 binding.now self.old }
-        requires known { IsTrue known ↔ Contains self.old.marks binding.now }
-        ensures plans { Plans (M.meaning (M.definition rules.now)) (M.StandsFor rules.now) objects.now letter.0
-            binding.now self.old self.new result }
-        ensures steps { steps.new ≤ steps.old + count_by (λ s. is_compatible s.instance binding.now)
+        requires can { CanPlan (M.meaning (M.definition call.now.rules.now)) call.now.objects.now call.now.letter.0
+            call.now.binding.now self.old }
+        requires known { IsTrue known ↔ Contains self.old.marks call.now.binding.now }
+        ensures plans { Plans (M.meaning (M.definition call.now.rules.now)) (M.StandsFor call.now.rules.now)
+            call.now.objects.now call.now.letter.0 call.now.binding.now self.old self.new result }
+        ensures steps { steps.new ≤ steps.old + count_by (λ s. is_compatible s.instance call.now.binding.now)
             (stored_of self.old) }
     {
         let moves = self.take_moves();
         let mut slots = self.take_slots();
-        let plan = self.plan_in(
-            rules, objects, letter, binding, known, steps, &mut slots, moves,
-        );
+        let plan = self.plan_in(call, known, steps, &mut slots, moves);
         self.give_slots(slots);
         plan
     }
@@ -85,36 +87,34 @@ impl<M: Monitor> Store<M> {
     #[tactic(auto, using(crate::proofs::PlanLemmas::plans_untouched))]
     fn plan_in<L: Ledger>(
         &mut self,
-        rules: &M,
-        objects: &Objects,
-        letter: Letter,
-        binding: &Binding,
+        call: &Call<'_, M>,
         known: bool,
         steps: &mut Steps<L>,
         slots: &mut Vec<usize>,
         moves: Vec<Move<M::State>>,
     ) -> Result<Plan<M::State>, NoMemory>
-        requires can { CanPlan (M.meaning (M.definition rules.now)) objects.now letter.0 binding.now self.old }
-        requires known { IsTrue known ↔ Contains self.old.marks binding.now }
+        requires can { CanPlan (M.meaning (M.definition call.now.rules.now)) call.now.objects.now call.now.letter.0
+            call.now.binding.now self.old }
+        requires known { IsTrue known ↔ Contains self.old.marks call.now.binding.now }
         requires none { moves.items ≡ [] }
-        ensures plans { Plans (M.meaning (M.definition rules.now)) (M.StandsFor rules.now) objects.now letter.0
-            binding.now self.old self.new result }
-        ensures steps { steps.new ≤ steps.old + count_by (λ s. is_compatible s.instance binding.now)
+        ensures plans { Plans (M.meaning (M.definition call.now.rules.now)) (M.StandsFor call.now.rules.now)
+            call.now.objects.now call.now.letter.0 call.now.binding.now self.old self.new result }
+        ensures steps { steps.new ≤ steps.old + count_by (λ s. is_compatible s.instance call.now.binding.now)
             (stored_of self.old) }
     {
         slots.clear();
         make_room(slots, self.monitors.count_slots())?;
         let event = Event {
-            rules,
-            objects,
+            rules: call.rules,
+            objects: call.objects,
             marks: &self.marks,
-            letter,
-            binding,
+            letter: call.letter,
+            binding: call.binding,
             known,
         };
         let mut met = 0;
         let moves = self.reach(&event, slots, moves, &mut met, steps)?;
-        self.plan_of(rules, objects, letter, binding, known, moves, met)
+        self.plan_of(call, known, moves, met)
     }
 
     /// Opens the plan of an event that makes these moves, and met so many monitors.
@@ -122,28 +122,26 @@ impl<M: Monitor> Store<M> {
     #[tactic(auto, using(crate::proofs::PlanLemmas::plans_untouched))]
     pub(super) fn plan_of(
         &mut self,
-        rules: &M,
-        objects: &Objects,
-        letter: Letter,
-        binding: &Binding,
+        call: &Call<'_, M>,
         known: bool,
         moves: Vec<Move<M::State>>,
         met: usize,
     ) -> Result<Plan<M::State>, NoMemory>
-        requires can { CanPlan (M.meaning (M.definition rules.now)) objects.now letter.0 binding.now self.old }
-        requires known { IsTrue known ↔ Contains self.old.marks binding.now }
-        requires read { AreMovesRead (M.meaning (M.definition rules.now)) (M.StandsFor rules.now) letter.0
-            binding.now objects.now self.old.marks (asks_by known self.old.ending letter.0 binding.now)
-            self.old.monitors moves.items }
-        ensures { Plans (M.meaning (M.definition rules.now)) (M.StandsFor rules.now) objects.now letter.0
-            binding.now self.old self.new result }
+        requires can { CanPlan (M.meaning (M.definition call.now.rules.now)) call.now.objects.now call.now.letter.0
+            call.now.binding.now self.old }
+        requires known { IsTrue known ↔ Contains self.old.marks call.now.binding.now }
+        requires read { AreMovesRead (M.meaning (M.definition call.now.rules.now)) (M.StandsFor call.now.rules.now)
+            call.now.letter.0 call.now.binding.now call.now.objects.now self.old.marks
+            (asks_by known self.old.ending call.now.letter.0 call.now.binding.now) self.old.monitors moves.items }
+        ensures { Plans (M.meaning (M.definition call.now.rules.now)) (M.StandsFor call.now.rules.now)
+            call.now.objects.now call.now.letter.0 call.now.binding.now self.old self.new result }
     {
-        let answer = report(*self.domains.allocator(), rules, &moves)?;
+        let answer = report(*self.domains.allocator(), call.rules, &moves)?;
         let copy = answer.copy()?;
         let moves = self.open_plan(moves)?;
-        self.end_fewer(rules, &moves);
+        self.end_fewer(call.rules, &moves);
         Ok(Plan {
-            binding: *binding,
+            binding: *call.binding,
             known,
             moves,
             met,

@@ -25,36 +25,36 @@ find_only-requires-clause-live g c = λ o binds. c.requires.can.event.live o (ob
 
 pub take_step-requires-clause-known : goal.take_step-requires-clause-known
 take_step-requires-clause-known g c =
-    let m = g.M.Monitor.meaning (g.M.Monitor.definition c.args.rules.now) in
-    let Stands = g.M.Monitor.StandsFor c.args.rules.now in
+    let m = g.M.Monitor.meaning (g.M.Monitor.definition c.args.call.now.rules.now) in
+    let Stands = g.M.Monitor.StandsFor c.args.call.now.rules.now in
     let old = c.args.self.now in
-    let asks = asks_by c.args.known old.ending c.args.letter.0 c.args.binding.now in
+    let asks = asks_by c.args.known old.ending c.args.call.now.letter.0 c.args.call.now.binding.now in
     let marks : c.self.inside.marks.list ≡ old.marks = ap (λ v. v.marks) c.self.view_is in
     let is = rw c.in-Some.is at c.in_ok-step.ensures.read in
-    let read = subst (λ (l : List Binding). AreMovesRead m Stands c.args.letter.0 c.args.binding.now c.args.objects.now l asks old.monitors (c.in-Some.step ∷ [])) marks is in
-    λ e. (c.requires.known.0 e, step_slotted m Stands c.args.letter.0 c.args.binding.now c.args.objects.now c.args.known old old c.in-Some.step [] c.requires.known.0 read c.requires.can.fits c.requires.can.there e)
+    let read = subst (λ (l : List Binding). AreMovesRead m Stands c.args.call.now.letter.0 c.args.call.now.binding.now c.args.call.now.objects.now l asks old.monitors (c.in-Some.step ∷ [])) marks is in
+    λ e. (c.requires.known.0 e, step_slotted m Stands c.args.call.now.letter.0 c.args.call.now.binding.now c.args.call.now.objects.now c.args.known old old c.in-Some.step [] c.requires.known.0 read c.requires.can.fits c.requires.can.there e)
 
 pub take_step-requires-clause-leads : goal.take_step-requires-clause-leads
 take_step-requires-clause-leads g c =
-    let m = g.M.Monitor.meaning (g.M.Monitor.definition c.args.rules.now) in
-    let Stands = g.M.Monitor.StandsFor c.args.rules.now in
+    let m = g.M.Monitor.meaning (g.M.Monitor.definition c.args.call.now.rules.now) in
+    let Stands = g.M.Monitor.StandsFor c.args.call.now.rules.now in
     let old = c.args.self.now in
-    let asks = asks_by c.args.known old.ending c.args.letter.0 c.args.binding.now in
+    let asks = asks_by c.args.known old.ending c.args.call.now.letter.0 c.args.call.now.binding.now in
     let marks : c.self.inside.marks.list ≡ old.marks = ap (λ v. v.marks) c.self.view_is in
     let is = rw c.in-Some.is at c.in_ok-step.ensures.read in
-    let read = subst (λ (l : List Binding). AreMovesRead m Stands c.args.letter.0 c.args.binding.now c.args.objects.now l asks old.monitors (c.in-Some.step ∷ [])) marks is in
+    let read = subst (λ (l : List Binding). AreMovesRead m Stands c.args.call.now.letter.0 c.args.call.now.binding.now c.args.call.now.objects.now l asks old.monitors (c.in-Some.step ∷ [])) marks is in
     let paired : (k : ℕ) (s : Stored g.row.M-State.Denot) → monitor_at old.monitors k ≡ Some s → Contains {X = Pair} old.index.list (record { binding = s.instance; slot = k }) = rw (← c.self.view_is) c.self.invariant.housed.paired in
-    step_leads m Stands c.args.letter.0 c.args.binding.now c.args.objects.now c.args.known old old c.in-Some.step [] c.requires.known.0 read c.requires.can.fits c.requires.can.there paired
+    step_leads m Stands c.args.call.now.letter.0 c.args.call.now.binding.now c.args.call.now.objects.now c.args.known old old c.in-Some.step [] c.requires.known.0 read c.requires.can.fits c.requires.can.there paired
 
 pub returns-in_ok-room_for-in-Some-clause-advances : goal.returns-in_ok-room_for-in-Some-clause-advances
 returns-in_ok-room_for-in-Some-clause-advances g c =
-    let m = g.M.Monitor.meaning (g.M.Monitor.definition c.args.rules.now) in
-    let Stands = g.M.Monitor.StandsFor c.args.rules.now in
+    let m = g.M.Monitor.meaning (g.M.Monitor.definition c.args.call.now.rules.now) in
+    let Stands = g.M.Monitor.StandsFor c.args.call.now.rules.now in
     let old = c.args.self.now in
     let new = c.take_step.new.self in
-    let letter = c.args.letter.0 in
-    let b = c.args.binding.now in
-    let dead = c.args.objects.now in
+    let letter = c.args.call.now.letter.0 in
+    let b = c.args.call.now.binding.now in
+    let dead = c.args.call.now.objects.now in
     let step = c.in-Some.step in
     let asks = asks_by c.args.known old.ending letter b in
     let marks : c.self.inside.marks.list ≡ old.marks = ap (λ v. v.marks) c.self.view_is in
@@ -85,13 +85,13 @@ returns-in_ok-room_for-in-Some-clause-advances g c =
 
 pub returns-in-None-clause-advances : goal.returns-in-None-clause-advances
 returns-in-None-clause-advances g c =
-    let m = g.M.Monitor.meaning (g.M.Monitor.definition c.args.rules.now) in
-    let Stands = g.M.Monitor.StandsFor c.args.rules.now in
+    let m = g.M.Monitor.meaning (g.M.Monitor.definition c.args.call.now.rules.now) in
+    let Stands = g.M.Monitor.StandsFor c.args.call.now.rules.now in
     let old = c.args.self.now in
     let new = c.take_none.new.self in
-    let letter = c.args.letter.0 in
-    let b = c.args.binding.now in
-    let dead = c.args.objects.now in
+    let letter = c.args.call.now.letter.0 in
+    let b = c.args.call.now.binding.now in
+    let dead = c.args.call.now.objects.now in
     let asks = asks_by c.args.known old.ending letter b in
     let marks : c.self.inside.marks.list ≡ old.marks = ap (λ v. v.marks) c.self.view_is in
     let is = rw c.in-None.is at c.in_ok-step.ensures.read in
@@ -118,10 +118,10 @@ returns-in-None-clause-advances g c =
     }
 
 pub returns-in_ok-room_for-in-Some-clause-listed : goal.returns-in_ok-room_for-in-Some-clause-listed
-returns-in_ok-room_for-in-Some-clause-listed g c = c.take_step.ensures.listed c.args.objects.now
+returns-in_ok-room_for-in-Some-clause-listed g c = c.take_step.ensures.listed c.args.call.now.objects.now
 
 pub returns-in-None-clause-listed : goal.returns-in-None-clause-listed
 returns-in-None-clause-listed g c = λ listed.
-    let m = g.M.Monitor.meaning (g.M.Monitor.definition c.args.rules.now) in
-    let Stands = g.M.Monitor.StandsFor c.args.rules.now in
-    subst (λ (l : List (Option (Stored g.row.M-State.Denot))). AreListed m Stands c.args.objects.now l c.args.awake.now) (sym c.take_none.ensures.kept.monitors) listed
+    let m = g.M.Monitor.meaning (g.M.Monitor.definition c.args.call.now.rules.now) in
+    let Stands = g.M.Monitor.StandsFor c.args.call.now.rules.now in
+    subst (λ (l : List (Option (Stored g.row.M-State.Denot))). AreListed m Stands c.args.call.now.objects.now l c.args.awake.now) (sym c.take_none.ensures.kept.monitors) listed

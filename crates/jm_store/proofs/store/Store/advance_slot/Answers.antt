@@ -47,15 +47,15 @@ returns-clause-stays g c =
 
 pub returns-clause-done : goal.returns-clause-done
 returns-clause-done g c =
-    let m = g.M.Monitor.meaning (g.M.Monitor.definition c.args.rules.now) in
-    let Stands = g.M.Monitor.StandsFor c.args.rules.now in
+    let m = g.M.Monitor.meaning (g.M.Monitor.definition c.args.call.now.rules.now) in
+    let Stands = g.M.Monitor.StandsFor c.args.call.now.rules.now in
     let moved : (base : Stored g.row.M-State.Denot) → monitor_at c.args.self.now.monitors c.args.slot ≡ Some base
-    → IsSlotAdvanced m Stands c.args.letter.0 c.args.objects.now c.args.slot base c.args.self.now c.if-stays.self c.in-Ok-report_one.answer = λ base at.
+    → IsSlotAdvanced m Stands c.args.call.now.letter.0 c.args.call.now.objects.now c.args.slot base c.args.self.now c.if-stays.self c.in-Ok-report_one.answer = λ base at.
     let was = rw (← c.self.view_is) at at in
     let mine = c.in_ok-base.base.now in
     let there : Some mine ≡ Some base = sym c.in_ok-base.ensures.value ∙ was in
     let same : mine ≡ base = cc in
-    let next : IsNext m Stands c.args.letter.0 c.args.objects.now mine.instance mine.state c.in-Ok.state (not c.cut-stays.result) = record {
+    let next : IsNext m Stands c.args.call.now.letter.0 c.args.call.now.objects.now mine.instance mine.state c.in-Ok.state (not c.cut-stays.result) = record {
       next = c.in-Ok.ensures;
       alive = λ stays w stands gone.
           both_ways c.cut-stays.result (not-true c.cut-stays.result stays)
@@ -63,7 +63,7 @@ returns-clause-done g c =
       cut = λ goes w stands.
           subst (λ (d : ℕ). IsCutWord m w d) c.dead_mask.ensures ((c.cut-stays.ensures w stands).0 (not-false c.cut-stays.result goes));
     } in
-    subst (λ (x : Stored g.row.M-State.Denot). IsSlotAdvanced m Stands c.args.letter.0 c.args.objects.now c.args.slot x c.args.self.now c.if-stays.self c.in-Ok-report_one.answer) same
+    subst (λ (x : Stored g.row.M-State.Denot). IsSlotAdvanced m Stands c.args.call.now.letter.0 c.args.call.now.objects.now c.args.slot x c.args.self.now c.if-stays.self c.in-Ok-report_one.answer) same
     (elim c.if-stays.branch [
       | then-stays w ↦ record {
         state = c.in-Ok.state;
@@ -92,10 +92,10 @@ returns-clause-done g c =
 
 pub returns-clause-listed : goal.returns-clause-listed
 returns-clause-listed g c = λ listed.
-    let m = g.M.Monitor.meaning (g.M.Monitor.definition c.args.rules.now) in
-    let Stands = g.M.Monitor.StandsFor c.args.rules.now in
+    let m = g.M.Monitor.meaning (g.M.Monitor.definition c.args.call.now.rules.now) in
+    let Stands = g.M.Monitor.StandsFor c.args.call.now.rules.now in
     let monitors = c.args.self.now.monitors in
-    let dead = c.args.objects.now in
+    let dead = c.args.call.now.objects.now in
     let slot = c.args.slot in
     let base = c.in_ok-base.base.now in
     let old = c.args.awake.now in

@@ -39,13 +39,13 @@ returns-in_default-clause-advances g c =
 
 pub returns-in_default-clause-steps : goal.returns-in_default-clause-steps
 returns-in_default-clause-steps g c =
-    let m = g.M.Monitor.meaning (g.M.Monitor.definition c.args.rules.now) in
-    let Stands = g.M.Monitor.StandsFor c.args.rules.now in
+    let m = g.M.Monitor.meaning (g.M.Monitor.definition c.args.call.now.rules.now) in
+    let Stands = g.M.Monitor.StandsFor c.args.call.now.rules.now in
     let monitors = c.args.self.now.monitors in
     let lists = c.args.awake.now in
-    let b = c.args.binding.now in
-    let e = c.args.letter.0 in
-    let dead = c.args.objects.now in
+    let b = c.args.call.now.binding.now in
+    let e = c.args.call.now.letter.0 in
+    let dead = c.args.call.now.objects.now in
     let count = above_counted b monitors (slots_listed lists c.args.place) (listed_apart m Stands dead None monitors lists c.args.place e b c.requires.list.of_event c.requires.list.listed)
     (listed_above m Stands dead None monitors lists c.args.place e b c.requires.list.of_event c.requires.list.listed) in
     omega (arith, count, c.tell_listed.ensures.steps)
@@ -53,15 +53,15 @@ returns-in_default-clause-steps g c =
 pub shift_all-requires-clause-apart : goal.shift_all-requires-clause-apart
 shift_all-requires-clause-apart g c =
     let S = g.row.M-State.Denot in
-    let m = g.M.Monitor.meaning (g.M.Monitor.definition c.args.rules.now) in
-    let Stands = g.M.Monitor.StandsFor c.args.rules.now in
-    let HasNumber = g.M.Monitor.HasNumber c.args.rules.now in
+    let m = g.M.Monitor.meaning (g.M.Monitor.definition c.args.call.now.rules.now) in
+    let Stands = g.M.Monitor.StandsFor c.args.call.now.rules.now in
+    let HasNumber = g.M.Monitor.HasNumber c.args.call.now.rules.now in
     let old = c.args.self.now in
     let lists = c.args.awake.now in
     let place = c.args.place in
-    let b = c.args.binding.now in
-    let e = c.args.letter.0 in
-    let dead = c.args.objects.now in
+    let b = c.args.call.now.binding.now in
+    let e = c.args.call.now.letter.0 in
+    let dead = c.args.call.now.objects.now in
     let whole = c.self.view_is ∙ c.take_moves-moves.ensures.same ∙ c.take_shifts-shifts.ensures in
     let few = c.tell_listed.new.moves.items in
     let shifts = take c.in-Some.reading.count c.tell_listed.new.shifts.items in
@@ -76,15 +76,15 @@ shift_all-requires-clause-apart g c =
 pub shift_all-requires-clause-there : goal.shift_all-requires-clause-there
 shift_all-requires-clause-there g c =
     let S = g.row.M-State.Denot in
-    let m = g.M.Monitor.meaning (g.M.Monitor.definition c.args.rules.now) in
-    let Stands = g.M.Monitor.StandsFor c.args.rules.now in
-    let HasNumber = g.M.Monitor.HasNumber c.args.rules.now in
+    let m = g.M.Monitor.meaning (g.M.Monitor.definition c.args.call.now.rules.now) in
+    let Stands = g.M.Monitor.StandsFor c.args.call.now.rules.now in
+    let HasNumber = g.M.Monitor.HasNumber c.args.call.now.rules.now in
     let old = c.args.self.now in
     let lists = c.args.awake.now in
     let place = c.args.place in
-    let b = c.args.binding.now in
-    let e = c.args.letter.0 in
-    let dead = c.args.objects.now in
+    let b = c.args.call.now.binding.now in
+    let e = c.args.call.now.letter.0 in
+    let dead = c.args.call.now.objects.now in
     let whole = c.self.view_is ∙ c.take_moves-moves.ensures.same ∙ c.take_shifts-shifts.ensures in
     let few = c.tell_listed.new.moves.items in
     let shifts = take c.in-Some.reading.count c.tell_listed.new.shifts.items in
@@ -103,15 +103,15 @@ invariant_of-self g c =
 pub apply-requires-clause-ready : goal.apply-requires-clause-ready
 apply-requires-clause-ready g c =
     let S = g.row.M-State.Denot in
-    let m = g.M.Monitor.meaning (g.M.Monitor.definition c.args.rules.now) in
-    let Stands = g.M.Monitor.StandsFor c.args.rules.now in
-    let HasNumber = g.M.Monitor.HasNumber c.args.rules.now in
+    let m = g.M.Monitor.meaning (g.M.Monitor.definition c.args.call.now.rules.now) in
+    let Stands = g.M.Monitor.StandsFor c.args.call.now.rules.now in
+    let HasNumber = g.M.Monitor.HasNumber c.args.call.now.rules.now in
     let old = c.args.self.now in
     let lists = c.args.awake.now in
     let place = c.args.place in
-    let b = c.args.binding.now in
-    let e = c.args.letter.0 in
-    let dead = c.args.objects.now in
+    let b = c.args.call.now.binding.now in
+    let e = c.args.call.now.letter.0 in
+    let dead = c.args.call.now.objects.now in
     let whole = c.self.view_is ∙ c.take_moves-moves.ensures.same ∙ c.take_shifts-shifts.ensures in
     let few = c.tell_listed.new.moves.items in
     let shifts = take c.in-Some.reading.count c.tell_listed.new.shifts.items in
@@ -145,15 +145,15 @@ apply-requires-clause-ready g c =
 pub returns-clause-advances : goal.returns-clause-advances
 returns-clause-advances g c =
     let S = g.row.M-State.Denot in
-    let m = g.M.Monitor.meaning (g.M.Monitor.definition c.args.rules.now) in
-    let Stands = g.M.Monitor.StandsFor c.args.rules.now in
-    let HasNumber = g.M.Monitor.HasNumber c.args.rules.now in
+    let m = g.M.Monitor.meaning (g.M.Monitor.definition c.args.call.now.rules.now) in
+    let Stands = g.M.Monitor.StandsFor c.args.call.now.rules.now in
+    let HasNumber = g.M.Monitor.HasNumber c.args.call.now.rules.now in
     let old = c.args.self.now in
     let lists = c.args.awake.now in
     let place = c.args.place in
-    let b = c.args.binding.now in
-    let e = c.args.letter.0 in
-    let dead = c.args.objects.now in
+    let b = c.args.call.now.binding.now in
+    let e = c.args.call.now.letter.0 in
+    let dead = c.args.call.now.objects.now in
     let whole = c.self.view_is ∙ c.take_moves-moves.ensures.same ∙ c.take_shifts-shifts.ensures in
     let few = c.tell_listed.new.moves.items in
     let shifts = take c.in-Some.reading.count c.tell_listed.new.shifts.items in
@@ -202,15 +202,15 @@ returns-clause-advances g c =
 pub returns-clause-listed : goal.returns-clause-listed
 returns-clause-listed g c =
     let S = g.row.M-State.Denot in
-    let m = g.M.Monitor.meaning (g.M.Monitor.definition c.args.rules.now) in
-    let Stands = g.M.Monitor.StandsFor c.args.rules.now in
-    let HasNumber = g.M.Monitor.HasNumber c.args.rules.now in
+    let m = g.M.Monitor.meaning (g.M.Monitor.definition c.args.call.now.rules.now) in
+    let Stands = g.M.Monitor.StandsFor c.args.call.now.rules.now in
+    let HasNumber = g.M.Monitor.HasNumber c.args.call.now.rules.now in
     let old = c.args.self.now in
     let lists = c.args.awake.now in
     let place = c.args.place in
-    let b = c.args.binding.now in
-    let e = c.args.letter.0 in
-    let dead = c.args.objects.now in
+    let b = c.args.call.now.binding.now in
+    let e = c.args.call.now.letter.0 in
+    let dead = c.args.call.now.objects.now in
     let whole = c.self.view_is ∙ c.take_moves-moves.ensures.same ∙ c.take_shifts-shifts.ensures in
     let few = c.tell_listed.new.moves.items in
     let shifts = take c.in-Some.reading.count c.tell_listed.new.shifts.items in
@@ -235,13 +235,13 @@ returns-clause-listed g c =
 
 pub returns-clause-steps : goal.returns-clause-steps
 returns-clause-steps g c =
-    let m = g.M.Monitor.meaning (g.M.Monitor.definition c.args.rules.now) in
-    let Stands = g.M.Monitor.StandsFor c.args.rules.now in
+    let m = g.M.Monitor.meaning (g.M.Monitor.definition c.args.call.now.rules.now) in
+    let Stands = g.M.Monitor.StandsFor c.args.call.now.rules.now in
     let monitors = c.args.self.now.monitors in
     let lists = c.args.awake.now in
-    let b = c.args.binding.now in
-    let e = c.args.letter.0 in
-    let dead = c.args.objects.now in
+    let b = c.args.call.now.binding.now in
+    let e = c.args.call.now.letter.0 in
+    let dead = c.args.call.now.objects.now in
     let count = above_counted b monitors (slots_listed lists c.args.place) (listed_apart m Stands dead None monitors lists c.args.place e b c.requires.list.of_event c.requires.list.listed)
     (listed_above m Stands dead None monitors lists c.args.place e b c.requires.list.of_event c.requires.list.listed) in
     omega (arith, count, c.tell_listed.ensures.steps)
@@ -249,13 +249,13 @@ returns-clause-steps g c =
 pub tell_listed-requires-clause-list : goal.tell_listed-requires-clause-list
 tell_listed-requires-clause-list g c =
     let S = g.row.M-State.Denot in
-    let m = g.M.Monitor.meaning (g.M.Monitor.definition c.args.rules.now) in
-    let Stands = g.M.Monitor.StandsFor c.args.rules.now in
+    let m = g.M.Monitor.meaning (g.M.Monitor.definition c.args.call.now.rules.now) in
+    let Stands = g.M.Monitor.StandsFor c.args.call.now.rules.now in
     let same = c.take_moves-moves.ensures.same ∙ c.take_shifts-shifts.ensures in
     let marks = ap (λ (s : Contents S). s.marks) (c.self.view_is ∙ same) in
     record {
-      known = subst (λ (l : List Binding). Contains l c.args.binding.now) (sym marks) c.requires.list.known;
+      known = subst (λ (l : List Binding). Contains l c.args.call.now.binding.now) (sym marks) c.requires.list.known;
       within = c.requires.list.within;
       of_event = c.requires.list.of_event;
-      listed = subst (λ (s : Contents S). AreListed m Stands c.args.objects.now s.monitors c.args.awake.now) (sym same) c.requires.list.listed;
+      listed = subst (λ (s : Contents S). AreListed m Stands c.args.call.now.objects.now s.monitors c.args.awake.now) (sym same) c.requires.list.listed;
     }

@@ -13,22 +13,22 @@ use Rattle.jm_store.proofs.store.Store.plan_listed.Goals as goal
 
 pub returns-then-is_empty-clause-plans : goal.returns-then-is_empty-clause-plans
 returns-then-is_empty-clause-plans g c =
-    let m = g.M.Monitor.meaning (g.M.Monitor.definition c.args.rules.now) in
-    let Stands = g.M.Monitor.StandsFor c.args.rules.now in
+    let m = g.M.Monitor.meaning (g.M.Monitor.definition c.args.call.now.rules.now) in
+    let Stands = g.M.Monitor.StandsFor c.args.call.now.rules.now in
     let size : length c.entries.result.now ≡ 0 = eqb-true (length c.entries.result.now) 0 (sym c.is_empty.ensures ∙ c.if-is_empty.true) in (
       refl,
-      empty_rests m Stands c.args.objects.now c.args.self.now.monitors c.args.awake.now c.args.place c.args.letter.0 c.args.binding.now c.args.self.now.marks c.requires.list.of_event c.requires.list.listed
+      empty_rests m Stands c.args.call.now.objects.now c.args.self.now.monitors c.args.awake.now c.args.place c.args.call.now.letter.0 c.args.call.now.binding.now c.args.self.now.marks c.requires.list.of_event c.requires.list.listed
           (sym c.entries.ensures ∙ empty_list c.entries.result.now size) c.requires.list.known,
     )
 
 pub returns-then-is_empty-2-clause-plans : goal.returns-then-is_empty-2-clause-plans
 returns-then-is_empty-2-clause-plans g c =
-    let m = g.M.Monitor.meaning (g.M.Monitor.definition c.args.rules.now) in
-    let Stands = g.M.Monitor.StandsFor c.args.rules.now in
+    let m = g.M.Monitor.meaning (g.M.Monitor.definition c.args.call.now.rules.now) in
+    let Stands = g.M.Monitor.StandsFor c.args.call.now.rules.now in
     let old = c.args.self.now in
-    let e = c.args.letter.0 in
-    let b = c.args.binding.now in
-    let dead = c.args.objects.now in
+    let e = c.args.call.now.letter.0 in
+    let b = c.args.call.now.binding.now in
+    let dead = c.args.call.now.objects.now in
     let moves = c.in_ok-moves.moves.items in
     let same : c.take_moves-moves.new.self ≡ old = c.take_moves-moves.ensures.same in
     let marks : c.self.inside.marks.list ≡ old.marks = ap (λ v. v.marks) c.self.view_is ∙ ap (λ (s : Contents g.row.M-State.Denot). s.marks) same in
@@ -42,8 +42,8 @@ returns-then-is_empty-2-clause-plans g c =
 
 pub returns-in_err-plan-clause-plans : goal.returns-in_err-plan-clause-plans
 returns-in_err-plan-clause-plans g c =
-    let m = g.M.Monitor.meaning (g.M.Monitor.definition c.args.rules.now) in
-    let Stands = g.M.Monitor.StandsFor c.args.rules.now in
+    let m = g.M.Monitor.meaning (g.M.Monitor.definition c.args.call.now.rules.now) in
+    let Stands = g.M.Monitor.StandsFor c.args.call.now.rules.now in
     let planned = rw c.take_moves-moves.ensures.same at c.in_err-plan.ensures in
     let failed = err_from_is_err_and c.from_residual-in_err-plan.result c.from_residual-in_err-plan.ensures.1 in
     rw failed.1
@@ -65,12 +65,12 @@ returns-in_err-plan-clause-plans g c =
 
 pub returns-in_err-moves-clause-plans : goal.returns-in_err-moves-clause-plans
 returns-in_err-moves-clause-plans g c =
-    let m = g.M.Monitor.meaning (g.M.Monitor.definition c.args.rules.now) in
-    let Stands = g.M.Monitor.StandsFor c.args.rules.now in
+    let m = g.M.Monitor.meaning (g.M.Monitor.definition c.args.call.now.rules.now) in
+    let Stands = g.M.Monitor.StandsFor c.args.call.now.rules.now in
     let old = c.args.self.now in
-    let dead = c.args.objects.now in
-    let e = c.args.letter.0 in
-    let b = c.args.binding.now in
+    let dead = c.args.call.now.objects.now in
+    let e = c.args.call.now.letter.0 in
+    let b = c.args.call.now.binding.now in
     let failed = err_from_is_err_and c.from_residual.result c.from_residual.ensures.1 in
     rw failed.1
     (subst (λ (s : Contents g.row.M-State.Denot). Plans m Stands dead e b old s (Err failed.0)) (sym c.take_moves-moves.ensures.same) (plans_untouched m Stands dead e b old failed.0 c.requires.can))
@@ -78,13 +78,13 @@ returns-in_err-moves-clause-plans g c =
 pub reach_listed-requires-clause-list : goal.reach_listed-requires-clause-list
 reach_listed-requires-clause-list g c =
     let S = g.row.M-State.Denot in
-    let m = g.M.Monitor.meaning (g.M.Monitor.definition c.args.rules.now) in
-    let Stands = g.M.Monitor.StandsFor c.args.rules.now in
+    let m = g.M.Monitor.meaning (g.M.Monitor.definition c.args.call.now.rules.now) in
+    let Stands = g.M.Monitor.StandsFor c.args.call.now.rules.now in
     let same = c.take_moves-moves.ensures.same in
     let marks = ap (λ (s : Contents S). s.marks) (c.self.view_is ∙ same) in
     record {
-      known = subst (λ (l : List Binding). Contains l c.args.binding.now) (sym marks) c.requires.list.known;
+      known = subst (λ (l : List Binding). Contains l c.args.call.now.binding.now) (sym marks) c.requires.list.known;
       within = c.requires.list.within;
       of_event = c.requires.list.of_event;
-      listed = subst (λ (s : Contents S). AreListed m Stands c.args.objects.now s.monitors c.args.awake.now) (sym same) c.requires.list.listed;
+      listed = subst (λ (s : Contents S). AreListed m Stands c.args.call.now.objects.now s.monitors c.args.awake.now) (sym same) c.requires.list.listed;
     }

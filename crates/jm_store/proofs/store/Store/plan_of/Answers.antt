@@ -19,8 +19,8 @@ use Rattle.jm_store.proofs.store.Store.plan_of.Goals as goal
 
 pub open_plan-requires-clause-ready : goal.open_plan-requires-clause-ready
 open_plan-requires-clause-ready g c =
-    let m = g.M.Monitor.meaning (g.M.Monitor.definition c.args.rules.now) in
-    let Stands = g.M.Monitor.StandsFor c.args.rules.now in
+    let m = g.M.Monitor.meaning (g.M.Monitor.definition c.args.call.now.rules.now) in
+    let Stands = g.M.Monitor.StandsFor c.args.call.now.rules.now in
     let read = rw (← c.self.view_is) at c.requires.read in
     let whole = completed m Stands _ _ _ _ _ _ _ read in
     rw (← c.self.view_is)
@@ -32,12 +32,12 @@ open_plan-requires-clause-ready g c =
 
 pub returns-in_err-moves : goal.returns-in_err-moves
 returns-in_err-moves g c =
-    let m = g.M.Monitor.meaning (g.M.Monitor.definition c.args.rules.now) in
-    let Stands = g.M.Monitor.StandsFor c.args.rules.now in
+    let m = g.M.Monitor.meaning (g.M.Monitor.definition c.args.call.now.rules.now) in
+    let Stands = g.M.Monitor.StandsFor c.args.call.now.rules.now in
     let opened = c.in_err-moves.ensures in
     let whole = completed m Stands _ _ _ _ _ _ _ c.requires.read in
     let within = λ (move : Move g.row.M-State.Denot) (there : Contains c.args.moves.items move).
-    moves_within m Stands _ _ _ _ _ _ _ whole.all (length c.args.objects.now) c.requires.can.fits.instances c.requires.can.there move
+    moves_within m Stands _ _ _ _ _ _ _ whole.all (length c.args.call.now.objects.now) c.requires.can.fits.instances c.requires.can.there move
     (Contains-append_left c.args.moves.items whole.resting move there) in
     let fewer : EndsFewer c.args.self.now.ending c.open_plan.new.self.ending = rw opened.kept.ending (fewer-refl _) in
     let failed = err_from_is_err_and c.from_residual-in_err-moves.result c.from_residual-in_err-moves.ensures.1 in
@@ -47,47 +47,47 @@ returns-in_err-moves g c =
       monitors = opened.kept.monitors;
       marks = opened.kept.marks;
       fewer = fewer;
-      fits = fit_same c.args.self.now c.open_plan.new.self c.args.objects.now opened.kept.stored opened.kept.marks (opened.fits c.args.objects.now c.requires.can.fits.index within) c.requires.can.fits;
+      fits = fit_same c.args.self.now c.open_plan.new.self c.args.call.now.objects.now opened.kept.stored opened.kept.marks (opened.fits c.args.call.now.objects.now c.requires.can.fits.index within) c.requires.can.fits;
       closed = opened.closed;
       opened = tt;
       binding = tt;
       plan = tt;
       keeps = λ trace.
-          store_same m Stands trace c.args.objects.now c.args.self.now c.open_plan.new.self opened.kept.stored opened.kept.marks fewer
-          (opened_fewer c.args.self.now.index c.open_plan.new.self.index c.args.objects.now c.args.moves.items c.requires.can.fits.index within opened.fits);
+          store_same m Stands trace c.args.call.now.objects.now c.args.self.now c.open_plan.new.self opened.kept.stored opened.kept.marks fewer
+          (opened_fewer c.args.self.now.index c.open_plan.new.self.index c.args.call.now.objects.now c.args.moves.items c.requires.can.fits.index within opened.fits);
       spares = spared_same m Stands c.args.self.now c.open_plan.new.self opened.kept.stored
-          (opened_fewer c.args.self.now.index c.open_plan.new.self.index c.args.objects.now c.args.moves.items c.requires.can.fits.index within opened.fits);
+          (opened_fewer c.args.self.now.index c.open_plan.new.self.index c.args.call.now.objects.now c.args.moves.items c.requires.can.fits.index within opened.fits);
       leaves = tt;
       works = tt;
     })
 
 pub returns : goal.returns
 returns g c =
-    let m = g.M.Monitor.meaning (g.M.Monitor.definition c.args.rules.now) in
-    let Stands = g.M.Monitor.StandsFor c.args.rules.now in
+    let m = g.M.Monitor.meaning (g.M.Monitor.definition c.args.call.now.rules.now) in
+    let Stands = g.M.Monitor.StandsFor c.args.call.now.rules.now in
     let old = c.args.self.now in
     let new = c.open_plan.new.self in
     let opened = c.in_ok-moves.ensures in
     let placed = opened.placed in
     let whole = completed m Stands _ _ _ _ _ _ _ c.requires.read in
     let within = λ (move : Move g.row.M-State.Denot) (there : Contains c.args.moves.items move).
-    moves_within m Stands _ _ _ _ _ _ _ whole.all (length c.args.objects.now) c.requires.can.fits.instances c.requires.can.there move
+    moves_within m Stands _ _ _ _ _ _ _ whole.all (length c.args.call.now.objects.now) c.requires.can.fits.instances c.requires.can.there move
     (Contains-append_left c.args.moves.items whole.resting move there) in
     let fewer : EndsFewer old.ending c.end_fewer.new.self.ending = rw opened.kept.ending at c.end_fewer.ensures.fewer in
-    let known : IsTrue c.args.known → Contains new.marks c.args.binding.now = λ e.
-    subst (λ (l : List Binding). Contains l c.args.binding.now) (sym opened.kept.marks) (c.requires.known.0 e) in
-    let fits : IsFit c.end_fewer.new.self c.args.objects.now = rw c.end_fewer.ensures.same
-    (fit_ending new _ c.args.objects.now
-    (fit_same old new c.args.objects.now opened.kept.stored opened.kept.marks (opened.fits c.args.objects.now c.requires.can.fits.index within) c.requires.can.fits)) in
-    let keeps : (trace : List ParametricEvent) → IsStoreAfter m Stands trace c.args.objects.now old → IsStoreAfter m Stands trace c.args.objects.now c.end_fewer.new.self = λ trace.
+    let known : IsTrue c.args.known → Contains new.marks c.args.call.now.binding.now = λ e.
+    subst (λ (l : List Binding). Contains l c.args.call.now.binding.now) (sym opened.kept.marks) (c.requires.known.0 e) in
+    let fits : IsFit c.end_fewer.new.self c.args.call.now.objects.now = rw c.end_fewer.ensures.same
+    (fit_ending new _ c.args.call.now.objects.now
+    (fit_same old new c.args.call.now.objects.now opened.kept.stored opened.kept.marks (opened.fits c.args.call.now.objects.now c.requires.can.fits.index within) c.requires.can.fits)) in
+    let keeps : (trace : List ParametricEvent) → IsStoreAfter m Stands trace c.args.call.now.objects.now old → IsStoreAfter m Stands trace c.args.call.now.objects.now c.end_fewer.new.self = λ trace.
     rw c.end_fewer.ensures.same
-    (store_same m Stands trace c.args.objects.now old (with_ending new c.end_fewer.new.self.ending) opened.kept.stored opened.kept.marks fewer
-    (opened_fewer old.index new.index c.args.objects.now c.args.moves.items c.requires.can.fits.index within opened.fits)) in
-    let spares = spared_same m Stands old new opened.kept.stored (opened_fewer old.index new.index c.args.objects.now c.args.moves.items c.requires.can.fits.index within opened.fits) in
-    let asks = asks_by c.args.known old.ending c.args.letter.0 c.args.binding.now in
-    let letter = c.args.letter.0 in
-    let b = c.args.binding.now in
-    let dead = c.args.objects.now in
+    (store_same m Stands trace c.args.call.now.objects.now old (with_ending new c.end_fewer.new.self.ending) opened.kept.stored opened.kept.marks fewer
+    (opened_fewer old.index new.index c.args.call.now.objects.now c.args.moves.items c.requires.can.fits.index within opened.fits)) in
+    let spares = spared_same m Stands old new opened.kept.stored (opened_fewer old.index new.index c.args.call.now.objects.now c.args.moves.items c.requires.can.fits.index within opened.fits) in
+    let asks = asks_by c.args.known old.ending c.args.call.now.letter.0 c.args.call.now.binding.now in
+    let letter = c.args.call.now.letter.0 in
+    let b = c.args.call.now.binding.now in
+    let dead = c.args.call.now.objects.now in
     let moves = c.args.moves.items in
     let slotted = c.in_ok-moves.moves.items in
     let full = completed m Stands letter b dead old.monitors old.marks asks moves c.requires.read in
@@ -116,7 +116,7 @@ returns g c =
           (rw c.end_fewer.ensures.same at fits.index.reached))
           (after_resting m Stands letter b dead old new moves slotted resting full.each opened.kept.monitors) done);
       works = λ trace holds.
-          let may = may_reach m Stands c.args.letter.0 c.args.binding.now c.args.objects.now old.marks c.args.known old.ending (stored_of old) c.requires.known.0 holds.ended in
+          let may = may_reach m Stands c.args.call.now.letter.0 c.args.call.now.binding.now c.args.call.now.objects.now old.marks c.args.known old.ending (stored_of old) c.requires.known.0 holds.ended in
           let distinct = sorted_distinct m Stands letter b dead asks old new (moves ++ resting) (moves ++ resting) (slotted ++ resting)
           full.all may (IsPermutation-refl _) all_placed opened.housed opened.kept.monitors opened.kept.stored opened.kept.marks trace holds.monitors c.requires.can.event in
           let reported = report (pairs_map (λ r s. r.instance ≢ s.instance) (λ (x : Move g.row.M-State.Denot). x.monitor) moves (distinct_left moves resting distinct)) in

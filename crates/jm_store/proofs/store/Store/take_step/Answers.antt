@@ -43,22 +43,22 @@ close-requires-clause-settled g c =
 
 pub returns-in_err-place_one-clause-listed : goal.returns-in_err-place_one-clause-listed
 returns-in_err-place_one-clause-listed g c = λ dead listed.
-    let m = g.M.Monitor.meaning (g.M.Monitor.definition c.args.rules.now) in
-    let Stands = g.M.Monitor.StandsFor c.args.rules.now in
+    let m = g.M.Monitor.meaning (g.M.Monitor.definition c.args.call.now.rules.now) in
+    let Stands = g.M.Monitor.StandsFor c.args.call.now.rules.now in
     let p = rw c.in_ok-open_for.ensures.opened at c.in_err-place_one.ensures in
     listed_same m Stands dead None c.args.self.now.monitors c.place_one.new.self.monitors c.args.awake.now p.kept.monitors listed
 
 pub returns-clause-listed : goal.returns-clause-listed
 returns-clause-listed g c = λ dead listed.
-    let m = g.M.Monitor.meaning (g.M.Monitor.definition c.args.rules.now) in
-    let Stands = g.M.Monitor.StandsFor c.args.rules.now in
+    let m = g.M.Monitor.meaning (g.M.Monitor.definition c.args.call.now.rules.now) in
+    let Stands = g.M.Monitor.StandsFor c.args.call.now.rules.now in
     let p = rw c.in_ok-open_for.ensures.opened at c.in_ok-place_one.ensures in
     let carried = rw c.end_one.ensures.same at c.carry_out.ensures in
     let mid = c.place_one.new.self in
     let step = c.place_one.new.step in
     let first = listed_same m Stands dead None c.args.self.now.monitors mid.monitors c.args.awake.now p.kept.monitors listed in
     let is = for_slots mid.monitors mid.index.list step carried.slots p.paired.within p.paired.paired (λ k slot. p.placed.placed.leads step k (Contains-head step []) slot) in
-    let moved = c.follow.ensures c.args.rules.now dead mid.monitors is first in
+    let moved = c.follow.ensures c.args.call.now.rules.now dead mid.monitors is first in
     subst (λ (l : List (Option (Stored g.row.M-State.Denot))). AreListed m Stands dead l c.follow.new.awake) (sym (c.close.ensures.kept.monitors ∙ carried.done.monitors)) moved
 
 pub place_one-requires-clause-slotted : goal.place_one-requires-clause-slotted
@@ -97,7 +97,7 @@ returns-clause-done g c =
     let slotted = c.place_one.new.step in
     let ending = c.close.ensures.kept.ending ∙ c.carry_out.ensures.done.ending in
     record {
-      marks = subst (λ (l : List Binding). AreMarksAfter c.args.binding.now l c.close.new.self.marks) (carried.done.marks ∙ p.kept.marks) c.close.ensures.marks;
+      marks = subst (λ (l : List Binding). AreMarksAfter c.args.call.now.binding.now l c.close.new.self.marks) (carried.done.marks ∙ p.kept.marks) c.close.ensures.marks;
       twice = c.in-Ok-copy.ensures;
       taken = record {
         between = c.place_one.new.self;

@@ -15,10 +15,10 @@ loop-slot-init g c = record {
 pub loop-slot-preserved : goal.loop-slot-preserved
 loop-slot-preserved g c =
     let inv = c.loop-slot.invariant in
-    let m = g.M.Monitor.meaning (g.M.Monitor.definition c.args.rules.now) in
-    let Stands = g.M.Monitor.StandsFor c.args.rules.now in
-    let e = c.args.letter.0 in
-    let b = c.args.binding.now in
+    let m = g.M.Monitor.meaning (g.M.Monitor.definition c.args.call.now.rules.now) in
+    let Stands = g.M.Monitor.StandsFor c.args.call.now.rules.now in
+    let e = c.args.call.now.letter.0 in
+    let b = c.args.call.now.binding.now in
     let monitors = c.args.self.now.monitors in
     let place = c.in-Some.place in
     let same = same_list c.args.awake.now c.loop-slot.awake place inv.lists in
@@ -33,8 +33,8 @@ loop-slot-preserved g c =
 
 pub returns-after-loop-slot : goal.returns-after-loop-slot
 returns-after-loop-slot g c = λ dead rest listed.
-    let m = g.M.Monitor.meaning (g.M.Monitor.definition c.args.rules.now) in
-    let Stands = g.M.Monitor.StandsFor c.args.rules.now in
+    let m = g.M.Monitor.meaning (g.M.Monitor.definition c.args.call.now.rules.now) in
+    let Stands = g.M.Monitor.StandsFor c.args.call.now.rules.now in
     let monitors = c.args.self.now.monitors in
     let loose = c.loop-slot.invariant.listed dead rest listed in
     listed_still m Stands dead (Some c.in-Some.place) None monitors c.loop-slot.awake c.tidy.new.self
