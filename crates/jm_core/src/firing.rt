@@ -8,21 +8,12 @@ ghost use Rattle.jm_store.specs.Plans.{Advances, CanPlan, Plans, PlansUnlessRest
 ghost use Rattle.jm_core.specs.Inside.{first_dead_by, Performs};
 
 use jm_awake::Awake;
-use jm_model::{Binding, Firings, Letter, Monitor, NoMemory, Outcome, Steps};
+use jm_model::{Binding, Firings, Monitor, NoMemory, Outcome, Steps};
 use jm_objects::Objects;
-use jm_store::{Done, Plan, Store};
+use jm_store::{Call, Done, Plan, Store};
 use std::alloc::Global;
 use std::marker::Brand;
 use std::sync::ledger::{Blank, Ledger};
-
-/// An event, as its caller asks for it, and the rules and objects that it is done with.
-#[derive(Drop)]
-pub(crate) struct Call<'a, M: Monitor> {
-    pub(crate) rules: &'a M,
-    pub(crate) objects: &'a Objects,
-    pub(crate) letter: Letter,
-    pub(crate) binding: &'a Binding,
-}
 
 /// What an event comes to, twice: it is refused where it binds a dead object, with the first one. Unless it is
 /// answered, monitors and marks stay as they are.
@@ -133,15 +124,7 @@ fn counted_advance_listed<M: Monitor, L: Ledger>(
         call.now.objects.now store.new.monitors awake.new }
 {
     let mut steps = Steps::<L>::new(blank);
-    store.advance_listed(
-        call.rules,
-        call.objects,
-        awake,
-        place,
-        call.letter,
-        call.binding,
-        &mut steps,
-    )
+    store.advance_listed(call, awake, place, &mut steps)
 }
 
 /// What an event comes to whose list was found, by a plan.
@@ -198,15 +181,7 @@ fn counted_plan_listed<M: Monitor, L: Ledger>(
         call.now.objects.now store.old.monitors awake.new }
 {
     let mut steps = Steps::<L>::new(blank);
-    store.plan_listed(
-        call.rules,
-        call.objects,
-        awake,
-        place,
-        call.letter,
-        call.binding,
-        &mut steps,
-    )
+    store.plan_listed(call, awake, place, &mut steps)
 }
 
 /// Does an event at once, if it makes something of one monitor or none, with a counter made of a ledger of one part.
@@ -229,15 +204,7 @@ fn counted_advance<M: Monitor, L: Ledger>(
         call.now.objects.now store.old.monitors store.new.monitors awake.old awake.new }
 {
     let mut steps = Steps::<L>::new(blank);
-    store.advance_one(
-        call.rules,
-        call.objects,
-        awake,
-        call.letter,
-        call.binding,
-        known,
-        &mut steps,
-    )
+    store.advance_one(call, awake, known, &mut steps)
 }
 
 /// The first dead object that a binding binds, in the order of the parameters.
@@ -296,7 +263,7 @@ fn list_if<M: Monitor>(call: &Call<M>, store: &Store<M>, awake: &mut Awake, list
         call.now.objects.now store.now.monitors store.now.monitors awake.old awake.new }
 {
     if listed {
-        store.list(call.rules, call.objects, awake, call.letter, call.binding);
+        store.list(call, awake);
     }
 }
 
@@ -317,12 +284,5 @@ fn counted_plan<M: Monitor, L: Ledger>(
         call.now.letter.0 call.now.binding.now store.old store.new result }
 {
     let mut steps = Steps::<L>::new(blank);
-    store.plan_as(
-        call.rules,
-        call.objects,
-        call.letter,
-        call.binding,
-        known,
-        &mut steps,
-    )
+    store.plan_as(call, known, &mut steps)
 }

@@ -7,12 +7,12 @@ ghost use Rattle.jm_core.specs.Cores.{IsExtended, KeepsMemory, KeepsMemoryUnless
 ghost use Rattle.jm_core.specs.Memory.{StepKeepsMemory};
 ghost use Rattle.jm_core.specs.Replays.{Replayed, ReplayedInPart};
 
-use crate::firing::{Call, perform};
+use crate::firing::perform;
 use jm_awake::Awake;
 use jm_history::{History, Node, Spare};
 use jm_model::{Binding, Monitor, NoMemory, Outcome, Step};
 use jm_objects::Objects;
-use jm_store::Store;
+use jm_store::{Call, Store};
 use std::alloc::Global;
 use std::marker::Model;
 
