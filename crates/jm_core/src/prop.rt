@@ -185,10 +185,10 @@ impl<M: Monitor> Prop<M> {
         ensures legal { IsLegal (M.meaning self.new.definition) self.new.entries }
         ensures fits { FitsHistory (M.meaning self.new.definition) self.new.entries self.new.stored self.new.marks }
     {
-        let alloc = self.alloc;
+        let _history = &self.history;
         let mut spare = Spare::none();
         for (line, step) in steps {
-            let node = self.node(alloc, caller, *line, *step, &mut spare)?;
+            let node = self.node(caller, *line, *step, &mut spare)?;
             if let Outcome::NoMemory = self.do_step(node, &mut spare) {
                 return Err(NoMemory);
             }
@@ -199,7 +199,6 @@ impl<M: Monitor> Prop<M> {
     /// A step that is not recorded yet, with the memory that its entry takes.
     fn node(
         &mut self,
-        alloc: Global,
         caller: u32,
         line: u32,
         step: Step,
@@ -208,7 +207,7 @@ impl<M: Monitor> Prop<M> {
         ensures same { self.new ≡ self.old }
         ensures node { IfOk result (λ node. node ≡ record { caller = caller; line = line; step = step }) }
     {
-        self.history.node(alloc, caller, line, step, spare)
+        self.history.node(self.alloc, caller, line, step, spare)
     }
 
     /// Does a step of any kind, as `event`, `death` and `pass` do, and records it with the outcome that it answers: in a
