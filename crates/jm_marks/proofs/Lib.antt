@@ -4,3 +4,6 @@ pub mod CoverLemmas
 pub mod SweepLemmas
 pub mod WatchLemmas
 pub mod FlagLemmas
+pub mod SingleLemmas
+pub mod PlaceLemmas
+pub mod ClearLemmas

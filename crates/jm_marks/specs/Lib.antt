@@ -2,3 +2,4 @@ pub mod Marks
 pub mod Objects
 pub mod Layout
 pub mod Watch
+pub mod Singles

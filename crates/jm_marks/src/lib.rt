@@ -13,6 +13,7 @@ mod bound;
 mod dead;
 mod hints;
 mod marks;
+mod singles;
 mod sweep;
 mod watch;
 

@@ -5,6 +5,7 @@ ghost use Rattle.jm_marks.specs.Marks.{has_live, IsCovered, IsCoveredAt};
 
 use crate::bound::{first_object, is_beyond, raised};
 use crate::hints::Hints;
+use crate::singles::{Singles, is_single};
 use crate::sweep::drop_dead;
 use crate::watch::Watch;
 use indexmap::IndexSet;
@@ -17,6 +18,9 @@ use std::marker::Model;
 /// can be made at least before memory is wanted again.
 #[derive(Drop)]
 pub struct Marks {
+    singles: Singles,
+    /// Whether marks of one parameter stand among the bindings, where an object had no byte when the mark was added.
+    has_strays: bool,
     bindings: IndexSet<Binding>,
     watch: Watch,
     masks: Vec<u8>,
@@ -30,18 +34,19 @@ impl Model for Marks {
 
     ghost Value = { MarkList };
 
-    ghost use Rattle.std.specs.Prelude.{min, ◌-◌, vec_capacity, vec_len};
+    ghost use Rattle.std.specs.Prelude.{min, ◌-◌, ◌++◌, vec_capacity, vec_len};
     ghost use Rattle.indexmap.specs.IndexSet.{spare};
-    ghost use Rattle.jm_marks.specs.Layout.{AreMarks, AreWatched};
+    ghost use Rattle.jm_marks.specs.Layout.{AreMarks, AreApart, AreWatched};
+    ghost use Rattle.jm_marks.specs.Singles.{singles_of};
 
     ghost view = { λ m. record {
-      list = m.bindings.keys;
+      list = singles_of m.singles ++ m.bindings.keys;
       spare = min (spare m.bindings)
           (min (vec_capacity m.masks - vec_len m.masks) m.watch.spare);
     } };
 
-    ghost invariant = { λ m. AreMarks m.bindings.keys m.masks.items m.limit
-        × AreWatched m.bindings.keys m.watch.spots };
+    ghost invariant = { λ m. AreMarks (singles_of m.singles ++ m.bindings.keys) m.masks.items m.limit
+        × AreApart (singles_of m.singles) m.bindings.keys m.has_strays × AreWatched m.bindings.keys m.watch.spots };
 }
 
 impl Marks {
@@ -50,6 +55,8 @@ impl Marks {
         ensures { result.list ≡ [] }
     {
         Marks {
+            singles: Singles::new(alloc),
+            has_strays: false,
             bindings: IndexSet::new(alloc),
             watch: Watch::new(alloc),
             masks: Vec::new(alloc),
@@ -67,7 +74,10 @@ impl Marks {
         self.masks.reserve(1)?;
         self.watch.reserve(self.limit)?;
         self.bindings.reserve(1)?;
-        self.hints.cover(self.limit);
+        self.singles.cover(self.limit);
+        if self.bindings.len() > 0 {
+            self.hints.cover(self.limit);
+        }
         Ok(())
     }
 
@@ -75,11 +85,19 @@ impl Marks {
     pub fn add(&mut self, binding: Binding)
         requires { 1 ≤ self.old.spare }
         ensures known { Contains self.old.list binding → self.new.list ≡ self.old.list }
-        ensures unknown { (Contains self.old.list binding → ⊥) → self.new.list ≡ self.old.list ++ binding ∷ [] }
+        ensures unknown { (Contains self.old.list binding → ⊥)
+            → IsPermutation (binding ∷ self.old.list) self.new.list }
         ensures spare { self.old.spare ≤ self.new.spare + 1 }
     {
         list_mask(&mut self.masks, binding.mask());
         self.limit = raised(self.limit, &binding);
+        if let Some(single) = self.singles.place_of(&binding) {
+            if !self.has_strays || !self.bindings.contains(&binding) {
+                self.singles.put(&binding, single);
+            }
+            return;
+        }
+        self.has_strays = self.has_strays || is_single(&binding);
         let place = self.bindings.len();
         match self.bindings.insert(binding) {
             Ok(true) => {
@@ -96,6 +114,12 @@ impl Marks {
     pub fn contains(&self, binding: &Binding) -> bool
         ensures { IsTrue result ↔ Contains self.now.list binding.now }
     {
+        if self.singles.contains(binding) {
+            return true;
+        }
+        if !self.has_strays && is_single(binding) {
+            return false;
+        }
         if is_hinted(&self.hints, &self.bindings, binding) {
             return true;
         }
@@ -138,6 +162,7 @@ impl Marks {
         ensures list { IsPermutation (filter (has_live objects.now) self.old.list) self.new.list }
         ensures spare { self.old.spare ≤ self.new.spare }
     {
+        self.singles.drop_dead(objects);
         drop_dead(
             &mut self.bindings,
             &mut self.watch,
@@ -151,7 +176,10 @@ impl Marks {
         ensures list { IfOk result (λ list. list.items ≡ self.now.list) }
         ensures distinct { AllPairs (λ a b. a ≢ b) self.now.list }
     {
-        Ok(self.bindings.as_slice().to_vec(*self.bindings.allocator())?)
+        let mut list = Vec::new(*self.bindings.allocator());
+        self.singles.append_to(&mut list)?;
+        list.extend_from_slice(self.bindings.as_slice())?;
+        Ok(list)
     }
 }
 

@@ -213,7 +213,7 @@ fn renew(flags: &mut Vec<u8>, words: &mut Vec<u64>, objects: &Objects)
 }
 
 /// The flags of 64 objects; those that aren't there are alive.
-fn word_of(objects: &Objects, index: usize) -> u64
+pub(crate) fn word_of(objects: &Objects, index: usize) -> u64
     ensures { (o : ℕ) → o / 64 ≡ index → bit_at result (o % 64) ≡ 0 → is_dead_object objects.now o ≡ false }
 {
     if index < (objects.len() as usize).div_ceil(WORD) {
