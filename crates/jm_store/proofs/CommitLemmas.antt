@@ -4,8 +4,10 @@ use Rattle.std.specs.Prelude.{Option, Some, None, Contains, AllPairs}
 use Rattle.std.proofs.lemmas.Bool.{both_ways, cases_Bool}
 use Rattle.std.proofs.lemmas.Option.{none-some}
 use Rattle.std.proofs.lemmas.List.{length-map}
-use Rattle.std.proofs.lemmas.List.Elements.{Contains-append_left, Contains-push, Contains-push_cases}
+use Rattle.std.proofs.lemmas.List.Elements.{Contains-append_left, Contains-append_right, Contains-push}
+use Rattle.std.proofs.lemmas.List.Sorted.{Contains-permutation, IsPermutation-sym}
 use Rattle.std.specs.List.{list_any}
+use Rattle.std.specs.List.Sorted.{IsPermutation}
 use Rattle.jm_model.specs.declared.binding.Binding.{Binding}
 use Rattle.jm_model.specs.Layout.{binding_eq}
 use Rattle.jm_model.proofs.EqLemmas.{found-Contains, Contains-found}
@@ -39,7 +41,7 @@ pairs_last {X} Q (z ∷ xs) x h y there =
       | inr later ↦ pairs_last Q xs x (pairs_tail Q z (xs ++ x ∷ []) h) y later
     ]
 
-pub marks_added : (marks new : List Binding) (b : Binding) → (Contains marks b → new ≡ marks) → ((Contains marks b → ⊥) → new ≡ marks ++ b ∷ []) → AreMarksAfter b marks new
+pub marks_added : (marks new : List Binding) (b : Binding) → (Contains marks b → new ≡ marks) → ((Contains marks b → ⊥) → IsPermutation (b ∷ marks) new) → AreMarksAfter b marks new
 marks_added marks new b known unknown = by (cases_Bool (list_any (binding_eq b) marks))
   where
     by : (list_any (binding_eq b) marks ≡ true) ⊎ (list_any (binding_eq b) marks ≡ false) → AreMarksAfter b marks new
@@ -53,8 +55,8 @@ marks_added marks new b known unknown = by (cases_Bool (list_any (binding_eq b) 
     by (inr none) =
         let grown = unknown (λ there. both_ways (list_any (binding_eq b) marks) none (Contains-found marks b there)) in
         λ t. (
-          (λ h. elim (Contains-push_cases marks b t (subst (λ (l : List Binding). Contains l t) grown h)) [ inl before ↦ inl before | inr is ↦ inr (sym is) ]),
-          (λ h. subst (λ (l : List Binding). Contains l t) (sym grown) (elim h [ inl before ↦ Contains-append_left marks (b ∷ []) t before | inr is ↦ subst (λ (x : Binding). Contains (marks ++ b ∷ []) x) (sym is) (Contains-push marks b) ])),
+          (λ h. elim (Contains-cons_cases b marks t (Contains-permutation new (b ∷ marks) t (IsPermutation-sym (b ∷ marks) new grown) h)) [ inl is ↦ inr (sym is) | inr before ↦ inl before ]),
+          (λ h. Contains-permutation (b ∷ marks) new t grown (elim h [ inl before ↦ Contains-append_right (b ∷ []) marks t before | inr is ↦ (0, omega arith, sym is) ])),
         )
 
 module _ {S : Type 0} where
