@@ -143,15 +143,10 @@ summaries_are (e ∷ es) (l ∷ ls) (h ∷ hs) same = ap (λ v. summary_text e.n
 
 -- ---- what is kept under the entries
 
-titled_listed : (es : List CatalogEntry) (ls : List Loaded) (ps : List (Core CompiledRules)) → map (λ (p : Core CompiledRules). p.definition) ps ≡ map (λ (l : Loaded). l.rules) ls
-    → titled_by es (map (λ (l : Loaded). l.titles) ls) ps ≡ map specification_of (listed es ls)
-titled_listed [] ls ps ruled = refl
-titled_listed (e ∷ es) [] ps ruled = refl
-titled_listed (e ∷ es) (l ∷ ls) [] ruled = absurd cc
-titled_listed (e ∷ es) (l ∷ ls) (p ∷ ps) ruled =
-    let here : p.definition ≡ l.rules = ap (λ v. get_or v 0 p.definition) ruled in
-    let rest = titled_listed es ls ps (ap (drop 1) ruled) in
-    λ i. titled e l.titles (here i).definition ∷ rest i
+titled_listed : (es : List CatalogEntry) (ls : List Loaded) → titled_by es (map (λ (l : Loaded). l.titles) ls) (map (λ (l : Loaded). l.rules) ls) ≡ map specification_of (listed es ls)
+titled_listed [] ls = refl
+titled_listed (e ∷ es) [] = refl
+titled_listed (e ∷ es) (l ∷ ls) = ap (λ rest. titled e l.titles l.rules.definition ∷ rest) (titled_listed es ls)
 
 kept_at : (es : List CatalogEntry) (ls : List Loaded) (k : ℕ) (x : Listed) → slice_get (listed es ls) k ≡ Some x → (l : Loaded) × (slice_get ls k ≡ Some l) × (l.rules ≡ x.rules)
 kept_at [] ls k x at = absurd (none-some x at)
@@ -177,10 +172,10 @@ module _ (library : Library) (scripts : Scripts) (catalogued : IsCatalogued libr
       let (own, place, same) = kept_at library.catalog library.specs.items k l at in
       record { legal = subst (λ (d : CompiledRules). IsLegal (rules_meaning d.definition) p.entries) same (runs.legal k own p place there); woven = runs.woven k own p place there }
 
-  run_specs : titled_by library.catalog titles ps ≡ specs_in library
-  run_specs = ap (λ ts. titled_by library.catalog ts ps) runs.titled ∙ titled_listed library.catalog library.specs.items ps runs.ruled
+  run_specs : titled_by library.catalog titles (map (λ (p : Core CompiledRules). p.definition) ps) ≡ specs_in library
+  run_specs = rw (runs.titled, runs.ruled) (titled_listed library.catalog library.specs.items)
 
-  pub runs_printable : ArePrintable (map (lexicon scripts.objects) (titled_by library.catalog titles ps)) (map (λ (p : Core CompiledRules). p.entries) ps)
+  pub runs_printable : ArePrintable (map (lexicon scripts.objects) (titled_by library.catalog titles (map (λ (p : Core CompiledRules). p.definition) ps))) (map (λ (p : Core CompiledRules). p.entries) ps)
   runs_printable =
       subst (λ specs. ArePrintable (map (lexicon scripts.objects) specs) (map (λ (p : Core CompiledRules). p.entries) ps)) (sym run_specs)
       (printables_from scripts.objects (listed_in library) ps
@@ -191,7 +186,7 @@ module _ (library : Library) (scripts : Scripts) (catalogued : IsCatalogued libr
       (λ k l p at there. let same : 0 + k ≡ k = omega arith in
       subst (λ n. IsHistoryOf n (specification_of l) scripts.list.items p.entries) (sym same) (run_history k l p at there))
 
-  pub runs_text : (text : List ℕ) → text ≡ texts_of (map (lexicon scripts.objects) (titled_by library.catalog titles ps)) (map (λ (p : Core CompiledRules). p.entries) ps) → IsTextOfOrdered (specs_in library) scripts.list.items (sync_of scripts.cuts.items) scripts.objects text
+  pub runs_text : (text : List ℕ) → text ≡ texts_of (map (lexicon scripts.objects) (titled_by library.catalog titles (map (λ (p : Core CompiledRules). p.definition) ps))) (map (λ (p : Core CompiledRules). p.entries) ps) → IsTextOfOrdered (specs_in library) scripts.list.items (sync_of scripts.cuts.items) scripts.objects text
   runs_text text printed = record {
     histories = map (λ (p : Core CompiledRules). p.entries) ps;
     each = run_histories;

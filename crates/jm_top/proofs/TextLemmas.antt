@@ -15,11 +15,11 @@ use Rattle.jm_script.specs.Catalogs.{CatalogEntry}
 use Rattle.jm_inputs.specs.declared.specification.Titles.{Titles}
 use Rattle.jm_inputs.specs.declared.specification.Loaded.{Loaded}
 use Rattle.jm_inputs.specs.Specifications.{Specification}
-use Rattle.jm_core.specs.Cores.{Core}
 use Rattle.jm_machine.specs.RuleSets.{CompiledRules}
 use Rattle.jm_inputs.specs.Reading.{Listed, named_entry, listing, listed, titled, specification_of}
 use Rattle.jm_top.specs.Texts.{declared_text, IsTextOfFamily, IsTextOfFamilies}
 use Rattle.jm_inputs.proofs.OneReadingLemmas.{same_some}
+use Rattle.jm_top.specs.declared.histories.Ended.{Ended}
 use Rattle.jm_top.specs.Printing.{titled_by, ArePrintable, entry_summaries}
 
 -- what holds of each holds of the one of a place
@@ -51,18 +51,22 @@ listed_there (d ∷ es) (m ∷ ls) (suc k) e l same lt here there =
     let rest = listed_there es ls k e l (omega (arith, same)) (omega (arith, lt)) here there in
     (omega (arith, rest.0), rest.1)
 
-pub length-titled_by : (es : List CatalogEntry) (ts : List Titles) (ps : List (Core CompiledRules)) → length es ≡ length ts → length ts ≡ length ps → length (titled_by es ts ps) ≡ length es
+-- the rules of what is left of cores
+abbrev pub rules_of : List Ended → List CompiledRules
+rules_of ps = map (λ (p : Ended). p.rules) ps
+
+pub length-titled_by : (es : List CatalogEntry) (ts : List Titles) (ps : List Ended) → length es ≡ length ts → length ts ≡ length ps → length (titled_by es ts (rules_of ps)) ≡ length es
 length-titled_by [] ts ps same many = refl
 length-titled_by (e ∷ es) [] ps same many = absurd (omega (arith, same))
 length-titled_by (e ∷ es) (t ∷ ts) [] same many = absurd (omega (arith, many))
 length-titled_by (e ∷ es) (t ∷ ts) (p ∷ ps) same many = omega (arith, length-titled_by es ts ps (omega (arith, same)) (omega (arith, many)))
 
-pub titled_there : (es : List CatalogEntry) (ts : List Titles) (ps : List (Core CompiledRules)) (k : ℕ) (e : CatalogEntry) (t : Titles) (p : Core CompiledRules) → length es ≡ length ts → length ts ≡ length ps → k < length es
-    → e ≡ get_or es k e → t ≡ get_or ts k t → p ≡ get_or ps k p → (k < length (titled_by es ts ps)) × (titled e t p.definition.definition ≡ get_or (titled_by es ts ps) k (titled e t p.definition.definition))
+pub titled_there : (es : List CatalogEntry) (ts : List Titles) (ps : List Ended) (k : ℕ) (e : CatalogEntry) (t : Titles) (p : Ended) → length es ≡ length ts → length ts ≡ length ps → k < length es
+    → e ≡ get_or es k e → t ≡ get_or ts k t → p ≡ get_or ps k p → (k < length (titled_by es ts (rules_of ps))) × (titled e t p.rules.definition ≡ get_or (titled_by es ts (rules_of ps)) k (titled e t p.rules.definition))
 titled_there [] ts ps k e t p same many lt here there own = absurd (omega (arith, lt))
 titled_there (d ∷ es) [] ps k e t p same many lt here there own = absurd (omega (arith, same))
 titled_there (d ∷ es) (u ∷ ts) [] k e t p same many lt here there own = absurd (omega (arith, many))
-titled_there (d ∷ es) (u ∷ ts) (q ∷ ps) zero e t p same many lt here there own = (omega arith, λ i. titled (here i) (there i) (own i).definition.definition)
+titled_there (d ∷ es) (u ∷ ts) (q ∷ ps) zero e t p same many lt here there own = (omega arith, λ i. titled (here i) (there i) (own i).rules.definition)
 titled_there (d ∷ es) (u ∷ ts) (q ∷ ps) (suc k) e t p same many lt here there own =
     let rest = titled_there es ts ps k e t p (omega (arith, same)) (omega (arith, many)) (omega (arith, lt)) here there own in
     (omega (arith, rest.0), rest.1)
@@ -139,3 +143,11 @@ printable_place f g [] ys i x y all in_xs in_ys here there = absurd (omega (arit
 printable_place f g (a ∷ xs) [] i x y all in_xs in_ys here there = absurd (omega (arith, in_ys))
 printable_place f g (a ∷ xs) (b ∷ ys) zero x y all in_xs in_ys here there = subst (λ v. All (IsPrintable (f v)) (g y)) (sym here) (subst (λ v. All (IsPrintable (f a)) (g v)) (sym there) all.0)
 printable_place f g (a ∷ xs) (b ∷ ys) (suc i) x y all in_xs in_ys here there = printable_place f g xs ys i x y all.1 (omega (arith, in_xs)) (omega (arith, in_ys)) here there
+
+-- one more is read off two lists in the same way
+pub mapped_more : {A B C : Type 0} (f : A → C) (g : B → C) (xs new : List A) (ys : List B) (x : A) (y : B) → map f xs ≡ map g ys → new ≡ xs ++ x ∷ [] → f x ≡ g y → map f new ≡ map g (ys ++ y ∷ [])
+mapped_more {A} {B} {C} f g xs new ys x y before is same =
+    ap (map f) is ∙ map-append f xs (x ∷ []) ∙ (λ i. before i ++ same i ∷ []) ∙ sym (map-append g ys (y ∷ []))
+
+pub same_length : {A B C : Type 0} (f : A → C) (g : B → C) (xs : List A) (ys : List B) → map f xs ≡ map g ys → length xs ≡ length ys
+same_length f g xs ys same = sym (length-map xs f) ∙ ap (λ l. length l) same ∙ length-map ys g

@@ -2,7 +2,6 @@
 use Rattle.std.specs.Prelude.{List, [], ◌∷◌, ◌++◌, All}
 use Rattle.jm_model.specs.Words.{Text}
 use Rattle.jm_model.specs.declared.step.Entry.{Entry}
-use Rattle.jm_core.specs.Cores.{Core}
 use Rattle.jm_machine.specs.RuleSets.{CompiledRules}
 use Rattle.jm_print.specs.Lexicons.{Lexicon}
 use Rattle.jm_print.specs.Texts.{IsPrintable}
@@ -12,9 +11,9 @@ use Rattle.jm_inputs.specs.declared.specification.Titles.{Titles}
 use Rattle.jm_inputs.specs.Specifications.{Specification}
 use Rattle.jm_inputs.specs.Reading.{titled}
 
--- the specifications of these entries, with these titles and the rules of these cores
-abbrev pub titled_by : List CatalogEntry → List Titles → List (Core CompiledRules) → List Specification
-titled_by (e ∷ es) (t ∷ ts) (p ∷ ps) = titled e t p.definition.definition ∷ titled_by es ts ps
+-- the specifications of these entries, with these titles and rules
+abbrev pub titled_by : List CatalogEntry → List Titles → List CompiledRules → List Specification
+titled_by (e ∷ es) (t ∷ ts) (r ∷ rs) = titled e t r.definition ∷ titled_by es ts rs
 titled_by _ _ _ = []
 
 -- each history can be printed by its lexicon

@@ -10,6 +10,7 @@ ghost use Rattle.jm_top.specs.Printing.{titled_by, ArePrintable, entry_summaries
 use crate::blocks::joined;
 use jm_core::Prop;
 use jm_events::{EventTable, Names};
+use jm_history::History;
 use jm_inputs::Titles;
 use jm_machine::Rules;
 use jm_model::{Monitor, NoMemory};
@@ -17,53 +18,74 @@ use jm_print::{render_history, render_summary};
 use jm_script::Catalog;
 use std::alloc::Global;
 
+/// What is left of a core to be printed: its rules, and its history.
+#[derive(Drop)]
+pub(crate) struct Ended {
+    pub rules: Rules,
+    pub history: History,
+}
+
+/// What is left of these cores to be printed: all else that they have in memory is let go.
+pub(crate) fn ended_of(alloc: Global, props: Vec<Prop<Rules>>) -> Result<Vec<Ended>, NoMemory>
+    ensures rules { IfOk result (λ all. map (λ e. e.rules) all.items ≡ map (λ p. p.definition) props.items) }
+    ensures histories { IfOk result (λ all. map (λ e. e.history) all.items ≡ map (λ p. p.entries) props.items) }
+{
+    let mut all = Vec::with_capacity(alloc, props.len())?;
+    for prop in props {
+        let (rules, history) = prop.into_parts();
+        all.push(Ended { rules, history })?;
+    }
+    Ok(all)
+}
+
 /// The printed histories of these cores, each by its titles, one after another.
 pub(crate) fn histories_text(
     alloc: Global,
     catalog: &Catalog,
     titles: &[Titles],
-    props: &[Prop<Rules>],
+    ended: &[Ended],
     objects: &Names,
 ) -> Result<Vec<u8>, NoMemory>
     requires titled { length catalog.now ≡ length titles.now }
-    requires many { length titles.now ≡ length props.now }
-    requires printable { ArePrintable (map (lexicon objects.now) (titled_by catalog.now titles.now props.now))
-        (map (λ p. p.entries) props.now) }
-    ensures { IfOk result (λ text. text.items
-        ≡ texts_of (map (lexicon objects.now) (titled_by catalog.now titles.now props.now))
-        (map (λ p. p.entries) props.now)) }
+    requires many { length titles.now ≡ length ended.now }
+    requires printable { ArePrintable
+        (map (lexicon objects.now) (titled_by catalog.now titles.now (map (λ e. e.rules) ended.now)))
+        (map (λ e. e.history) ended.now) }
+    ensures { IfOk result (λ text. text.items ≡ texts_of
+        (map (lexicon objects.now) (titled_by catalog.now titles.now (map (λ e. e.rules) ended.now)))
+        (map (λ e. e.history) ended.now)) }
 {
     let mut text = Vec::new(alloc);
     for spec in 0..catalog.len() {
         let number = spec as usize;
         let name = catalog.name(spec);
         let table = catalog.table(spec);
-        let block = history_text(alloc, name, table, &titles[number], &props[number], objects)?;
+        let block = history_text(alloc, name, table, &titles[number], &ended[number], objects)?;
         text = joined(text, block)?;
     }
     Ok(text)
 }
 
-/// The printed history of a core.
+/// The printed history of what is left of a core.
 fn history_text(
     alloc: Global,
     name: &str,
     table: &EventTable,
     titles: &Titles,
-    prop: &Prop<Rules>,
+    ended: &Ended,
     objects: &Names,
 ) -> Result<Vec<u8>, NoMemory>
     requires { All (IsPrintable (lexicon objects.now (titled (named_entry name.now table.now) titles.now
-        prop.now.definition.definition))) prop.now.entries }
+        ended.now.rules.definition))) ended.now.history }
     ensures { IfOk result (λ text. text.items ≡ history_text (lexicon objects.now
-        (titled (named_entry name.now table.now) titles.now prop.now.definition.definition)) prop.now.entries) }
+        (titled (named_entry name.now table.now) titles.now ended.now.rules.definition)) ended.now.history) }
 {
     render_history(
         alloc,
         name,
-        prop.history(),
+        &ended.history,
         table,
-        prop.rules().handlers(),
+        ended.rules.handlers(),
         titles.texts.as_slice(),
         objects,
     )

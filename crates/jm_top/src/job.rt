@@ -108,7 +108,7 @@ fn ran<R: Threads + Wait + Sync, F: Folder, G: Gate>(
     ensures read_failed { CountsFailedReads result (F.faults files.old) (F.faults files.new) }
 {
     let inputs = read_inputs(alloc, specs, scripts, TO_RUN, files)?;
-    let text = run(rt, alloc, inputs.library, &inputs.scripts, gate)?;
+    let text = run(rt, alloc, inputs.library, inputs.scripts, gate)?;
     Ok(text)
 }
 

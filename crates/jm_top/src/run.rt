@@ -5,9 +5,10 @@ ghost use Rattle.jm_top.specs.Histories.{IsTextOfOrdered, IsTextOfSummaries};
 ghost use Rattle.jm_inputs.specs.Reading.{specs_in};
 ghost use Rattle.jm_top.specs.Runs.{CanRunOver, IsWatchOf, AreWatchesOf, AreRunsOf};
 
-use crate::histories::{histories_text, summaries_text};
+use crate::histories::{ended_of, histories_text, summaries_text};
 use jm_core::Prop;
 use jm_dispatch::Watch;
+use jm_events::Names;
 use jm_inputs::{Library, Loaded, Scripts, Titles};
 use jm_machine::Rules;
 use jm_model::NoMemory;
@@ -17,26 +18,42 @@ use std::alloc::Global;
 use std::sync::Wait;
 use std::thread::Threads;
 
-/// The printed histories of the specifications, over which the scripts run in the order that they ask for.
+/// The printed histories of the specifications, over which the scripts run in the order that they ask for. For the
+/// printing nothing is left of the scripts but the names of the objects, and of each core its rules and its history.
 pub(crate) fn run<R: Threads + Wait + Sync, G: Gate>(
     rt: &R,
     alloc: Global,
     library: Library,
-    scripts: &Scripts,
+    scripts: Scripts,
     gate: &G,
 ) -> Result<Vec<u8>, NoMemory>
-    requires ready { CanRunOver library scripts.now }
-    ensures { IfOk result (λ text. IsTextOfOrdered (specs_in library) scripts.now.list.items
-        (sync_of scripts.now.cuts.items) scripts.now.objects text.items) }
+    requires ready { CanRunOver library scripts }
+    ensures { IfOk result (λ text. IsTextOfOrdered (specs_in library) scripts.list.items
+        (sync_of scripts.cuts.items) scripts.objects text.items) }
 {
-    let runs = run_all(rt, alloc, library, scripts, gate)?;
+    let runs = run_all(rt, alloc, library, &scripts, gate)?;
+    let objects = objects_of(scripts);
+    let Runs {
+        catalog,
+        titles,
+        props,
+    } = runs;
+    let ended = ended_of(alloc, props)?;
     histories_text(
         alloc,
-        &runs.catalog,
-        runs.titles.as_slice(),
-        runs.props.as_slice(),
-        &scripts.objects,
+        &catalog,
+        titles.as_slice(),
+        ended.as_slice(),
+        &objects,
     )
+}
+
+/// The names of the objects of scripts: all else of these is let go.
+fn objects_of(scripts: Scripts) -> Names
+    ensures { result ≡ scripts.objects }
+{
+    let Scripts { objects, .. } = scripts;
+    objects
 }
 
 /// The summaries of the specifications' histories, over which the scripts run.
