@@ -1,5 +1,6 @@
 //! Steps over marks and the objects that they bind.
 use crate::objects::kill;
+use crate::random_marks::in_order;
 use jm_marks::{Marks, dead_mask};
 use jm_model::{Binding, NoMemory};
 use jm_objects::Objects;
@@ -62,7 +63,7 @@ fn covers(marks: &Marks, words: &str) -> bool {
 
 fn list_shown(alloc: Global, marks: &Marks) -> Result<String, NoMemory> {
     let mut out = String::new(alloc);
-    for mark in &marks.to_list()? {
+    for mark in &in_order(marks.to_list()?) {
         put_word(&mut out, binding_shown(alloc, mark)?.as_str())?;
     }
     if out.is_empty() {

@@ -109,8 +109,8 @@ impl Rows {
     }
 }
 
-/// The bindings in their order: a sweep keeps none.
-fn in_order(mut list: Vec<Binding>) -> Vec<Binding> {
+/// The bindings in their order: `add` and `sweep` have none.
+pub(crate) fn in_order(mut list: Vec<Binding>) -> Vec<Binding> {
     list.sort_unstable_by(|a, b| a.cmp(b));
     list
 }

@@ -1,4 +1,4 @@
-use Rattle.std.proofs.Common.{◌≡◌, List, ◌++◌, ◌∷◌, [], length, refl, sym, ap, ◌∙◌}
+use Rattle.std.proofs.Common.{◌≡◌, sym, ap, ◌∙◌}
 use Rattle.std.specs.Prelude.{map}
 use Rattle.std.proofs.lemmas.List.{map-append}
 use Rattle.std.proofs.lemmas.Iterator.Adapters.{YieldsList-from_vec}
@@ -11,8 +11,8 @@ pub loop-prop-preserved : goal.loop-prop-preserved
 loop-prop-preserved c =
     let inv = c.loop-prop.invariant in
     record {
-      rules = mapped_more (λ e. e.rules) (λ p. p.definition) _ _ _ _ _ inv.rules c.in_ok-push.ensures.items c.into_parts.ensures.rules;
-      histories = mapped_more (λ e. e.history) (λ p. p.entries) _ _ _ _ _ inv.histories c.in_ok-push.ensures.items c.into_parts.ensures.history;
+      rules = mapped_more (λ e. e.rules) (λ p. p.definition) _ _ _ _ _ inv.rules c.in_ok-push.ensures.items c.into_parts-rules.ensures.rules;
+      histories = mapped_more (λ e. e.history) (λ p. p.entries) _ _ _ _ _ inv.histories c.in_ok-push.ensures.items c.into_parts-rules.ensures.history;
     }
 
 pub returns-clause-rules : goal.returns-clause-rules
