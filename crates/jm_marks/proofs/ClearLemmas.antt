@@ -1,12 +1,13 @@
 -- What is left of the bytes where those of dead objects are cleared.
-use Rattle.std.proofs.Common.{◌≡◌, ◌≢◌, ℕ, ◌+◌, ◌*◌, ◌/◌, ◌%◌, ◌^◌, ◌<◌, ◌≤◌, ◌==◌, ◌⊎◌, inl, inr, Bool, true, false, cond, not, List, length, get_or, refl, ◌∙◌, ap, arith}
-use Rattle.std.specs.Prelude.{bit_and, filter}
+use Rattle.std.proofs.Common.{◌≡◌, ◌≢◌, ℕ, ◌+◌, ◌*◌, ◌/◌, ◌%◌, ◌^◌, ◌<◌, ◌≤◌, ◌==◌, ◌⊎◌, inl, inr, Bool, true, false, cond, not, List, Some, length, get_or, refl, ◌∙◌, ap, arith}
+use Rattle.std.specs.Prelude.{bit_and, filter, slice_get}
 use Rattle.std.specs.Int.{w64, bit_at, bit_not}
 use Rattle.std.proofs.lemmas.Bool.{cases_eq}
 use Rattle.std.proofs.lemmas.List.{get_or_past}
 use Rattle.std.proofs.lemmas.Nat.Bits.{bit_at_and, bit_at_not, bit_at-lt, bit_at-zero, bit_at_clear_other}
 use Rattle.jm_marks.specs.Marks.{is_dead_object, has_live}
 use Rattle.jm_marks.specs.Singles.{is_single, singles_of, AreGone, AreDropped}
+use Rattle.jm_marks.proofs.FlagLemmas.{alive_by_bit}
 use Rattle.jm_marks.proofs.SingleLemmas.{dropped_singles, single_live}
 
 -- an object of a word is still to be looked at, or done
@@ -21,15 +22,15 @@ zero_dropped dead old o none = rw none (at 0 (is_dead_object dead o))
     at n true = refl
     at n false = refl
 
--- where the object is alive, or the bit says that its byte is 0, there is nothing to do
-pub underway_start : (dead : List Bool) (bytes gone : List ℕ) (i word g k : ℕ) → AreGone bytes gone → g ≡ get_or gone i 0 → g < 2 ^ 64 → k < 64
-    → ((o : ℕ) → o / 64 ≡ i → bit_at word (o % 64) ≡ 0 → is_dead_object dead o ≡ false)
-    → IsUnderway dead bytes bytes (bit_at (bit_and word (bit_not w64 g)) k) (i * 64 + k)
-underway_start dead bytes gone i word g k are was few low alive = elim (cases_eq (bit_at word k) 0) [
-  | inl unset ↦ inr (rw (alive (i * 64 + k) here (rw at unset)) refl)
+-- where the object is alive, or its bit says that its byte is 0, there is nothing to clear
+pub unset_dropped : (dead : List Bool) (bytes gone words : List ℕ) (i g k : ℕ) → AreGone bytes gone → g ≡ get_or gone i 0 → g < 2 ^ 64 → k < 64
+    → ((o : ℕ) → o < length dead → slice_get dead o ≡ Some (bit_at (get_or words (o / 64) 0) (o % 64) == 1))
+    → bit_at (bit_and (get_or words i 0) (bit_not w64 g)) k ≡ 0 → AreDropped dead bytes bytes (i * 64 + k)
+unset_dropped dead bytes gone words i g k are was few low flags none = elim (cases_eq (bit_at (get_or words i 0) k) 0) [
+  | inl unset ↦ rw (alive_by_bit dead (i * 64 + k) (bit_at (get_or words i 0) k) (λ here. rw (← same) (flags (i * 64 + k) here)) unset) refl
   | inr set ↦ elim (cases_eq (bit_at g k) 1) [
-    | inl one ↦ inr (zero_dropped dead bytes (i * 64 + k) (are.each (i * 64 + k) (rw (here, at, ← was) one)))
-    | inr none ↦ inl (omega (arith, set, none, bit_at_and word (bit_not w64 g) k, bit_at_not w64 g k few low, bit_at-lt g k, bit_at-lt word k), refl)
+    | inl one ↦ zero_dropped dead bytes (i * 64 + k) (are.each (i * 64 + k) (rw (here, at, ← was) one))
+    | inr isnt ↦ absurd (omega (arith, set, isnt, none, bit_at_and (get_or words i 0) (bit_not w64 g) k, bit_at_not w64 g k few low, bit_at-lt g k, bit_at-lt (get_or words i 0) k))
   ]
 ]
   where
@@ -38,6 +39,13 @@ underway_start dead bytes gone i word g k are was few low alive = elim (cases_eq
 
     at : (i * 64 + k) % 64 ≡ k
     at = omega (arith, low)
+
+    same : bit_at (get_or words ((i * 64 + k) / 64) 0) ((i * 64 + k) % 64) ≡ bit_at (get_or words i 0) k
+    same = rw (here, at) refl
+
+-- an object without a bit
+pub alive_past : (dead : List Bool) (words bytes new : List ℕ) (o : ℕ) → length dead ≤ 64 * length words → length words ≤ o / 64 → get_or new o 0 ≡ get_or bytes o 0 → AreDropped dead bytes new o
+alive_past dead words bytes new o room past same = rw (get_or_past dead o false (omega (arith, room, past))) same
 
 -- an object that was looked at
 pub underway_cleared : (dead : List Bool) (old bytes new : List ℕ) (i left t k : ℕ) → t < 64 → k < 64 → is_dead_object dead (i * 64 + t) ≡ true

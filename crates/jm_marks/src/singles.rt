@@ -1,11 +1,11 @@
 //! The marks of one parameter: for each object a byte, whose bit p is 1 where the binding of parameter p to it is a mark.
-ghost use Rattle.std.specs.Prelude.{ℕ, ◌≡◌, ◌≢◌, ◌+◌, ◌*◌, ◌/◌, ◌<◌, ◌↔◌, [], ◌∷◌, ◌++◌, filter, Contains, IsTrue, IfSome, IfNone, OnOk, false, if◌then◌else◌, length, slice_index};
-ghost use Rattle.std.specs.List.Sorted.{IsPermutation};
+ghost use Rattle.std.specs.Prelude.{ℕ, ◌≡◌, ◌≢◌, ◌+◌, ◌*◌, ◌/◌, ◌<◌, ◌↔◌, [], ◌++◌, filter, Contains, IsTrue, IfSome, IfNone, OnOk, false, length, slice_index};
+ghost use Rattle.std.specs.Int.{bit_at};
 ghost use Rattle.jm_model.specs.Bindings.{bound, empty};
 ghost use Rattle.jm_marks.specs.Marks.{has_live, is_dead_object};
 ghost use Rattle.jm_marks.specs.Singles.{singles_of, AreGone, AreDropped, IsPlaceOf, IsSingle, IsAddedTo};
 
-use crate::watch::word_of;
+use crate::watch::WORD;
 use jm_model::Binding;
 use jm_objects::Objects;
 use std::alloc::{AllocError, Global};
@@ -16,9 +16,6 @@ const AHEAD: u64 = 64;
 
 /// Objects from this number on have no byte.
 const MOST: u64 = 16_777_216;
-
-/// So many objects have their flags in one word.
-const WORD: usize = 64;
 
 /// A parameter and its object.
 #[derive(Clone, Copy)]
@@ -168,22 +165,28 @@ fn drop_all(bytes: &mut Vec<u8>, gone: &mut Vec<u64>, objects: &Objects)
     ensures size { length bytes.new.items ≡ length bytes.old.items }
     ensures each { (o : ℕ) → AreDropped objects.now bytes.old.items bytes.new.items o }
 {
-    for index in 0..gone.len() {
-        drop_word(bytes, gone, objects, index);
+    let words = objects.words();
+    for index in 0..gone.len().min(words.len()) {
+        let left = words[index] & !gone[index];
+        if left > 0 {
+            drop_among(bytes, gone, objects, index, left);
+        }
     }
 }
 
-/// Clears the bytes of the dead among 64 objects.
-fn drop_word(bytes: &mut Vec<u8>, gone: &mut Vec<u64>, objects: &Objects, index: usize)
+/// Clears the bytes of the dead among 64 objects. Where a bit of `left` is 0 there is nothing to clear.
+fn drop_among(bytes: &mut Vec<u8>, gone: &mut Vec<u64>, objects: &Objects, index: usize, left: u64)
     requires there { index < length gone.old.items }
     requires gone { AreGone bytes.old.items gone.old.items }
+    requires left { (k : ℕ) → k < 64 → bit_at left k ≡ 0
+        → AreDropped objects.now bytes.old.items bytes.old.items (index * 64 + k) }
     ensures gone { AreGone bytes.new.items gone.new.items }
     ensures size { length bytes.new.items ≡ length bytes.old.items }
     ensures words { length gone.new.items ≡ length gone.old.items }
     ensures here { (o : ℕ) → o / 64 ≡ index → AreDropped objects.now bytes.old.items bytes.new.items o }
     ensures elsewhere { (o : ℕ) → o / 64 ≢ index → slice_index bytes.new.items o ≡ slice_index bytes.old.items o }
 {
-    let mut left = word_of(objects, index) & !gone[index];
+    let mut left = left;
     while left > 0 {
         let bit = left.trailing_zeros();
         let object = index * WORD + bit as usize;

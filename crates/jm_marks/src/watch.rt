@@ -20,7 +20,7 @@ const AHEAD: usize = 64;
 const MOST: u64 = 16_777_216;
 
 /// So many objects have their flags in one word.
-const WORD: usize = 64;
+pub(crate) const WORD: usize = 64;
 
 /// A spot for each mark, by its place: one more than an object that it binds, or 0.
 #[derive(Drop)]
@@ -213,7 +213,7 @@ fn renew(flags: &mut Vec<u8>, words: &mut Vec<u64>, objects: &Objects)
 }
 
 /// The flags of 64 objects; those that aren't there are alive.
-pub(crate) fn word_of(objects: &Objects, index: usize) -> u64
+fn word_of(objects: &Objects, index: usize) -> u64
     ensures { (o : ℕ) → o / 64 ≡ index → bit_at result (o % 64) ≡ 0 → is_dead_object objects.now o ≡ false }
 {
     if index < (objects.len() as usize).div_ceil(WORD) {

@@ -2,7 +2,7 @@ use Rattle.std.proofs.Common.{◌≡◌, ◌≢◌, ℕ, ◌+◌, ◌*◌, ◌/�
 use Rattle.std.specs.Int.{bit_at}
 use Rattle.jm_marks.specs.Singles.{AreGone}
 use Rattle.jm_marks.proofs.ClearLemmas.{IsUnderway}
-use Rattle.jm_marks.proofs.singles.drop_word.Given as goal
+use Rattle.jm_marks.proofs.singles.drop_among.Given as goal
 
 abbrev pub invariant-loop-left : goal.invariant-loop-left
 invariant-loop-left l = record {

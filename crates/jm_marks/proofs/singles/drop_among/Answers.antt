@@ -1,16 +1,21 @@
-use Rattle.std.proofs.Common.{◌≡◌, ◌+◌, ◌*◌, ◌%◌, refl, sym, ◌∙◌, arith}
+use Rattle.std.proofs.Common.{◌≡◌, ◌+◌, ◌*◌, ◌%◌, inl, inr, refl, sym, ◌∙◌, arith}
+use Rattle.std.specs.Int.{bit_at}
+use Rattle.std.proofs.lemmas.Bool.{cases_eq}
+use Rattle.std.proofs.lemmas.Nat.Bits.{bit_at-lt}
 use Rattle.jm_objects.proofs.WordLemmas.{first_left, fewer_left}
-use Rattle.jm_marks.proofs.WatchLemmas.{other_default}
-use Rattle.jm_marks.proofs.ClearLemmas.{underway_start, underway_cleared, underway_passed, underway_end}
-use Rattle.jm_marks.proofs.singles.drop_word.Goals as goal
-use Rattle.jm_marks.proofs.singles.drop_word.Goals.{then-is_gone, else-is_gone}
+use Rattle.jm_marks.proofs.ClearLemmas.{underway_cleared, underway_passed, underway_end}
+use Rattle.jm_marks.proofs.singles.drop_among.Goals as goal
+use Rattle.jm_marks.proofs.singles.drop_among.Goals.{then-is_gone, else-is_gone}
 
 pub loop-left-init : goal.loop-left-init
 loop-left-init c = record {
   gone = c.requires.gone;
   size = refl;
   words = refl;
-  here = λ k low. underway_start _ _ _ _ _ _ k c.requires.gone (c.index.ensures ∙ other_default _ _ _ 0 c.requires.there) (omega arith) low c.word_of.ensures;
+  here = λ k low. elim (cases_eq (bit_at c.args.left k) 0) [
+    | inl none ↦ inr (c.requires.left k low none)
+    | inr isnt ↦ inl (omega (arith, isnt, bit_at-lt c.args.left k), refl)
+  ];
   elsewhere = λ _ _. refl;
 }
 
