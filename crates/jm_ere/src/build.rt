@@ -6,7 +6,7 @@ ghost use Rattle.jm_ere.specs.Faults.{over, between, atom_said};
 ghost use Rattle.jm_ere.specs.Rules.{IsWritten};
 ghost use Rattle.jm_ere.specs.Values.{wrapped, joined, with_node, Leave, fault_of_nodes};
 
-use crate::faults::{Words, few_nodes};
+use crate::faults::{Words, check_nodes};
 use crate::forms::boxed;
 use crate::formula::{Atom, Binary, Node, Unary};
 use crate::stack::Stack;
@@ -125,7 +125,7 @@ pub(crate) fn expression_of(
     ensures ok { IfOk result (Leave bytes.now (event_names table.now) nodes.now) }
     ensures checked { Checks result (fault_of_nodes bytes.now table.now nodes.now) }
 {
-    few_nodes(nodes)?;
+    check_nodes(nodes)?;
     event_names::<Words>(table)?;
     let mut stack = Stack::new(alloc);
     apply_all(alloc, bytes, table, &mut stack, nodes)?;

@@ -10,7 +10,7 @@ use jm_reading::GrammarWords;
 const MAX_NODES: usize = 256;
 
 /// There are at most 256 nodes.
-pub(crate) fn few_nodes(nodes: &[Node]) -> Result<(), SpecError>
+pub(crate) fn check_nodes(nodes: &[Node]) -> Result<(), SpecError>
     ensures { Checks result (nodes_fault (length nodes.now)) }
 {
     if nodes.len() > MAX_NODES {

@@ -212,11 +212,11 @@ pub fn machine_of(
     ensures ok { IfOk result (λ m. machine_of bytes.now table.now parts.now ≡ Ok m) }
     ensures checked { Checks result (first_fault bytes.now table.now parts.now) }
 {
-    faults::few_aliases(parts)?;
+    faults::check_aliases(parts)?;
     event_names::<Words>(table)?;
-    faults::part_names(bytes, parts)?;
-    faults::duplicate_states(alloc, bytes, parts)?;
-    faults::duplicate_transitions(alloc, bytes, parts)?;
-    faults::few_states(parts)?;
+    faults::check_part_names(bytes, parts)?;
+    faults::check_duplicate_states(alloc, bytes, parts)?;
+    faults::check_duplicate_transitions(alloc, bytes, parts)?;
+    faults::check_states(parts)?;
     known_machine(alloc, bytes, parts, table)
 }

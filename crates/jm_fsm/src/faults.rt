@@ -19,7 +19,7 @@ const MAX_ALIASES: usize = 256;
 const MAX_STATES: usize = 1023;
 
 /// There are at most 256 aliases.
-pub fn few_aliases(parts: &[Part]) -> Result<(), SpecError>
+pub fn check_aliases(parts: &[Part]) -> Result<(), SpecError>
     ensures { Checks result (aliases_fault parts.now) }
 {
     if parts.iter().filter(|part| part.is_alias()).count() > MAX_ALIASES {
@@ -30,7 +30,7 @@ pub fn few_aliases(parts: &[Part]) -> Result<(), SpecError>
 }
 
 /// With `fail` there are at most 1,024 states.
-pub fn few_states(parts: &[Part]) -> Result<(), SpecError>
+pub fn check_states(parts: &[Part]) -> Result<(), SpecError>
     ensures { Checks result (states_fault parts.now) }
 {
     if parts.iter().filter(|part| part.is_state()).count() > MAX_STATES {
@@ -57,7 +57,7 @@ fn is_reserved(name: &str) -> bool
 }
 
 /// No state or alias is named by a word of the grammar, or `fail`.
-pub fn part_names(bytes: &[u8], parts: &[Part]) -> Result<(), SpecError>
+pub fn check_part_names(bytes: &[u8], parts: &[Part]) -> Result<(), SpecError>
     ensures { Checks result (part_name_fault bytes.now parts.now) }
 {
     for part in parts {
@@ -78,7 +78,7 @@ fn is_among(names: &Names, name: &str) -> bool
 }
 
 /// No state or alias has the name of an earlier one.
-pub fn duplicate_states(alloc: Global, bytes: &[u8], parts: &[Part]) -> Result<(), SpecError>
+pub fn check_duplicate_states(alloc: Global, bytes: &[u8], parts: &[Part]) -> Result<(), SpecError>
     ensures { Checks result (duplicate_state_fault bytes.now [] parts.now) }
 {
     let mut names = Names::new(alloc);
@@ -156,7 +156,7 @@ fn part_transitions(alloc: Global, bytes: &[u8], part: &Part) -> Result<(), Spec
 }
 
 /// In no state is a transition on the event of an earlier one, or a second `default`.
-pub fn duplicate_transitions(alloc: Global, bytes: &[u8], parts: &[Part]) -> Result<(), SpecError>
+pub fn check_duplicate_transitions(alloc: Global, bytes: &[u8], parts: &[Part]) -> Result<(), SpecError>
     ensures { Checks result (transitions_fault bytes.now parts.now) }
 {
     for part in parts {

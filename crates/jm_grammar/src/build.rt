@@ -179,11 +179,11 @@ pub fn grammar_of(
     ensures checked { Checks result (first_fault bytes.now table.now suffix parts.now) }
 {
     let known = faults::nonterminals(alloc, bytes, parts)?;
-    faults::few_nonterminals(bytes, suffix, parts, &known)?;
-    faults::few_productions(parts)?;
-    faults::few_symbols(bytes, parts)?;
+    faults::check_nonterminals(bytes, suffix, parts, &known)?;
+    faults::check_productions(parts)?;
+    faults::check_symbols(bytes, parts)?;
     event_names::<Words>(table)?;
-    faults::left_names(bytes, parts)?;
-    faults::clashes(bytes, table, parts)?;
+    faults::check_left_names(bytes, parts)?;
+    faults::check_clashes(bytes, table, parts)?;
     known_grammar(alloc, bytes, table, &known, parts)
 }

@@ -47,7 +47,7 @@ fn most_nonterminals(suffix: bool) -> u32
 }
 
 /// There are at most 64 nonterminals, or 31 where the rule may begin anywhere.
-pub fn few_nonterminals(
+pub fn check_nonterminals(
     bytes: &[u8],
     suffix: bool,
     parts: &[Part],
@@ -65,7 +65,7 @@ pub fn few_nonterminals(
 }
 
 /// There are at most 256 productions.
-pub fn few_productions(parts: &[Part]) -> Result<(), SpecError>
+pub fn check_productions(parts: &[Part]) -> Result<(), SpecError>
     ensures { Checks result (productions_fault parts.now) }
 {
     let mut count = 0;
@@ -134,7 +134,7 @@ fn is_any_long(bytes: &[u8], parts: &[Part]) -> bool
 }
 
 /// There are at most 32 symbols other than `epsilon` in each alternative.
-pub fn few_symbols(bytes: &[u8], parts: &[Part]) -> Result<(), SpecError>
+pub fn check_symbols(bytes: &[u8], parts: &[Part]) -> Result<(), SpecError>
     ensures { Checks result (symbols_fault bytes.now parts.now) }
 {
     if is_any_long(bytes, parts) {
@@ -145,7 +145,7 @@ pub fn few_symbols(bytes: &[u8], parts: &[Part]) -> Result<(), SpecError>
 }
 
 /// No nonterminal is named `epsilon`.
-pub fn left_names(bytes: &[u8], parts: &[Part]) -> Result<(), SpecError>
+pub fn check_left_names(bytes: &[u8], parts: &[Part]) -> Result<(), SpecError>
     ensures { Checks result (left_name_fault bytes.now parts.now) }
 {
     for part in parts {
@@ -165,7 +165,7 @@ fn is_event(table: &EventTable, name: &str) -> bool
 }
 
 /// No nonterminal has the name of an event.
-pub fn clashes(bytes: &[u8], table: &EventTable, parts: &[Part]) -> Result<(), SpecError>
+pub fn check_clashes(bytes: &[u8], table: &EventTable, parts: &[Part]) -> Result<(), SpecError>
     ensures { Checks result (clash_fault bytes.now (event_names table.now) parts.now) }
 {
     for part in parts {

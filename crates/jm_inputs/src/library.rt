@@ -194,12 +194,12 @@ fn admit(
         table,
         loaded,
     } = reading;
-    has_families(families, &loaded.titles)?;
+    check_families(families, &loaded.titles)?;
     library.add(name, table, loaded)
 }
 
 /// Refuses the first grammar, where families are asked for: it has none.
-fn has_families(families: bool, titles: &Titles) -> Result<(), SpecError>
+fn check_families(families: bool, titles: &Titles) -> Result<(), SpecError>
     ensures { Checks result (grammar_fault families titles.now.grammar_line) }
 {
     match titles.grammar_line {

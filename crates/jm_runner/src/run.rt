@@ -1,8 +1,7 @@
-ghost use Rattle.std.specs.Prelude.{◌≡◌, ◌<◌, ◌≤◌, ◌-◌, ◌^◌, ℕ, [], All, length, map, vec_len, slice_get, Some, IfOk};
-ghost use Rattle.jm_sync.specs.Checks.{ArePostedOnce, AreSound, sync_of};
-ghost use Rattle.jm_sync.specs.Cuts.{RisesFrom};
+ghost use Rattle.std.specs.Prelude.{◌≡◌, ◌≤◌, ℕ, [], All, length, map, vec_len, slice_get, Some, IfOk};
+ghost use Rattle.jm_sync.specs.Checks.{sync_of};
 ghost use Rattle.jm_runner.specs.Orders.{IsOrdered};
-ghost use Rattle.jm_runner.specs.Runs.{CanRun, IsRunOf};
+ghost use Rattle.jm_runner.specs.Runs.{AreCuts, CanRun, IsNaming, IsRunOf};
 
 use crate::closing::close_all;
 use crate::gate::Gate;
@@ -74,10 +73,7 @@ where
     requires scripts { (1 ≤ length scripts.now) × (length scripts.now ≤ 16) }
     requires ready { (s : ℕ) (r : _) → slice_get watches.items s ≡ Some r
         → CanRun (M.meaning r.watch.fixed.definition) scripts.now s r.watch r.seats.items }
-    requires cuts { length cuts.now ≡ length scripts.now }
-    requires rising { All (λ cut. RisesFrom 1 cut.lines.items) cuts.now }
-    requires names { All (λ cut. All (λ l. l.name < 2 ^ 32 - 1) cut.lines.items) cuts.now }
-    requires sound { AreSound (sync_of cuts.now) }
+    requires cuts { AreCuts (length scripts.now) cuts.now }
     ensures count { IfOk result (λ props. vec_len props ≡ vec_len watches) }
     ensures runs { IfOk result (λ props. (s : ℕ) (r : _) (p : _) → slice_get watches.items s ≡ Some r
         → slice_get props.items s ≡ Some p
@@ -107,13 +103,9 @@ where
     requires scripts { (1 ≤ length scripts.now) × (length scripts.now ≤ 16) }
     requires ready { (s : ℕ) (r : _) → slice_get watches.items s ≡ Some r
         → CanRun (M.meaning r.watch.fixed.definition) scripts.now s r.watch r.seats.items }
-    requires cuts { length cuts.now ≡ length scripts.now }
-    requires rising { All (λ cut. RisesFrom 1 cut.lines.items) cuts.now }
-    requires names { All (λ cut. All (λ l. l.name < 2 ^ 32 - 1) cut.lines.items) cuts.now }
-    requires once { ArePostedOnce (sync_of cuts.now) }
-    requires scripts_named { J.scripts ≡ scripts.now }
-    requires cuts_named { J.cuts ≡ sync_of cuts.now }
-    requires watches_named { J.watches ≡ map (λ r. r.watch) watches.items }
+    requires cuts { AreCuts (length scripts.now) cuts.now }
+    requires naming { IsNaming scripts.now (sync_of cuts.now) (map (λ r. r.watch) watches.items)
+        J.scripts J.cuts J.watches }
     ensures count { IfOk result (λ props. vec_len props ≡ vec_len watches) }
     ensures runs { IfOk result (λ props. (s : ℕ) (r : _) (p : _) → slice_get watches.items s ≡ Some r
         → slice_get props.items s ≡ Some p

@@ -12,20 +12,20 @@ returns-in_err-reading-clause-fault c = λ fault is.
     let same = same_err (sym p.1 ∙ is) in
     faulty (c.in_err-reading.ensures.err fault (ap (λ e. Err e) (sym p.2 ∙ same)))
 
-pub returns-in_err-has_families-clause-fault : goal.returns-in_err-has_families-clause-fault
-returns-in_err-has_families-clause-fault c = λ fault is.
-    let p = err_from_is_err_and c.from_residual-in_err-has_families.result c.from_residual-in_err-has_families.ensures.1 in
+pub returns-in_err-check_families-clause-fault : goal.returns-in_err-check_families-clause-fault
+returns-in_err-check_families-clause-fault c = λ fault is.
+    let p = err_from_is_err_and c.from_residual-in_err-check_families.result c.from_residual-in_err-check_families.ensures.1 in
     let same = same_err (sym p.1 ∙ is) in
     grammar_of c.args.families c.args.bytes.now c.args.library.now c.in_ok-reading.reading c.in_ok-reading.ensures.ok fault
-    (subst (Refuses (grammar_fault c.args.families c.in_ok-reading.reading.loaded.titles.grammar_line)) (sym p.2 ∙ same) c.in_err-has_families.ensures)
+    (subst (Refuses (grammar_fault c.args.families c.in_ok-reading.reading.loaded.titles.grammar_line)) (sym p.2 ∙ same) c.in_err-check_families.ensures)
 
 pub returns-clause-read : goal.returns-clause-read
 returns-clause-read c =
     all_ok _ _ _ _ c.add.result
-    (λ more catalogued unique. next_of c.args.families c.args.bytes.now c.args.library.now c.in_ok-reading.reading c.in_ok-reading.ensures.ok c.add.new.self c.in_ok-has_families.ensures unique more catalogued)
+    (λ more catalogued unique. next_of c.args.families c.args.bytes.now c.args.library.now c.in_ok-reading.reading c.in_ok-reading.ensures.ok c.add.new.self c.in_ok-check_families.ensures unique more catalogued)
     c.add.ensures.listed c.add.ensures.catalogued c.add.ensures.new_name
 
 pub returns-clause-fault : goal.returns-clause-fault
 returns-clause-fault c = λ fault is.
     let twice = c.add.ensures.fault fault is in
-    twice_of c.args.families c.args.bytes.now c.args.library.now c.in_ok-reading.reading c.in_ok-reading.ensures.ok fault c.in_ok-has_families.ensures twice.0 twice.1
+    twice_of c.args.families c.args.bytes.now c.args.library.now c.in_ok-reading.reading c.in_ok-reading.ensures.ok fault c.in_ok-check_families.ensures twice.0 twice.1

@@ -22,16 +22,16 @@ columns-requires g c =
     c.in_ok-watches.ensures.watches c.in_ok-watches.ensures.seats c.requires.ready
 
 pub new-requires : goal.new-requires
-new-requires g c = All-map (λ lines. All (λ l. l.name < 2 ^ 32 - 1) lines) (λ cut. cut.lines.items) c.args.cuts.now c.requires.names
+new-requires g c = All-map (λ lines. All (λ l. l.name < 2 ^ 32 - 1) lines) (λ cut. cut.lines.items) c.args.cuts.now c.requires.cuts.names
 
 pub work_all-requires-clause-named : goal.work_all-requires-clause-named
 work_all-requires-clause-named g c κs within = record {
-  scripts_are = c.requires.scripts_named;
-  cuts_are = c.requires.cuts_named;
-  watches_are = c.requires.watches_named ∙ sym c.in_ok-watches.ensures.watches ∙ sym c.deref.ensures.value;
-  count = length-sync_of c.args.cuts.now ∙ c.requires.cuts;
-  once = c.requires.once;
-  rising = All-map (λ lines. RisesFrom 1 lines) (λ cut. cut.lines.items) c.args.cuts.now c.requires.rising;
+  scripts_are = c.requires.naming.scripts_are;
+  cuts_are = c.requires.naming.cuts_are;
+  watches_are = c.requires.naming.watches_are ∙ sym c.in_ok-watches.ensures.watches ∙ sym c.deref.ensures.value;
+  count = length-sync_of c.args.cuts.now ∙ c.requires.cuts.count;
+  once = c.requires.cuts.sound.once;
+  rising = All-map (λ lines. RisesFrom 1 lines) (λ cut. cut.lines.items) c.args.cuts.now c.requires.cuts.rising;
   below = c.in_ok-notices.ensures;
 }
 
@@ -95,5 +95,5 @@ returns-clause-ordered g c =
     c.in_ok-watches.ensures.watches c.in_ok-watches.ensures.seats c.requires.ready
     c.in_ok-hands.hands.items c.in_ok-hands.ensures.columns (sync_of c.args.cuts.now) c.in_ok-back.back.items (omega (arith, c.in_ok-hands.ensures.count)) (omega (arith, c.in_ok-back.ensures.count))
     (λ k before after bat aat. subst (λ w. HasWorked w c.args.scripts.now (sync_of c.args.cuts.now) before.items after.items) c.deref.ensures.value (c.in_ok-back.ensures.worked k before after bat aat))
-    c.in_ok-seats.seats.items c.in_ok-seats.ensures.columns s all.0 all.1 r.0 prop r.1 (length-sync_of c.args.cuts.now ∙ c.requires.cuts) (closed s r.0.watch all.0 prop wat all.1 pat)))
+    c.in_ok-seats.seats.items c.in_ok-seats.ensures.columns s all.0 all.1 r.0 prop r.1 (length-sync_of c.args.cuts.now ∙ c.requires.cuts.count) (closed s r.0.watch all.0 prop wat all.1 pat)))
     c.close_all.ensures.count c.close_all.ensures.closed

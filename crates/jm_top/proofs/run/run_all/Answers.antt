@@ -20,17 +20,13 @@ run_with_notes-requires-clause-ready g c = λ words bounds s r at.
     rw c.as_slice.ensures.value (ready_at (λ r. r.watch) (λ r. r.seats.items) c.len.result c.len-seats.result c.args.library c.args.scripts.now c.requires.ready.catalogued c.requires.ready.counted c.len.ensures.value seats c.in_ok-made.made.watches.items c.in_ok-made.ensures.watches s r at)
 
 pub run_with_notes-requires-clause-cuts : goal.run_with_notes-requires-clause-cuts
-run_with_notes-requires-clause-cuts g c = λ words bounds. rw (c.as_slice.ensures.value, c.as_slice-2.ensures.value) c.requires.ready.counted.cut
-
-pub run_with_notes-requires-clause-rising : goal.run_with_notes-requires-clause-rising
-run_with_notes-requires-clause-rising g c = λ words bounds. rw c.as_slice-2.ensures.value c.requires.ready.counted.rising
-
-pub run_with_notes-requires-clause-names : goal.run_with_notes-requires-clause-names
-run_with_notes-requires-clause-names g c = λ words bounds.
-    rw c.as_slice-2.ensures.value (names_within (specs_in c.args.library) c.args.scripts.now c.requires.ready.counted c.requires.ready.scripts.1)
-
-pub run_with_notes-requires-clause-sound : goal.run_with_notes-requires-clause-sound
-run_with_notes-requires-clause-sound g c = λ words bounds. rw c.as_slice-2.ensures.value c.requires.ready.sound
+run_with_notes-requires-clause-cuts g c = λ words bounds.
+    rw (c.as_slice.ensures.value, c.as_slice-2.ensures.value) record {
+      count = c.requires.ready.counted.cut;
+      rising = c.requires.ready.counted.rising;
+      names = names_within (specs_in c.args.library) c.args.scripts.now c.requires.ready.counted c.requires.ready.scripts.1;
+      sound = c.requires.ready.sound;
+    }
 
 pub returns-clause-ran : goal.returns-clause-ran
 returns-clause-ran g c =

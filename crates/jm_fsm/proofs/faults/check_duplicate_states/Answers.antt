@@ -9,7 +9,7 @@ use Rattle.jm_reading.specs.Names.{is_among}
 use Rattle.jm_reading.specs.Tokens.{name_of}
 use Rattle.jm_fsm.specs.declared.formula.Part.{Part}
 use Rattle.jm_fsm.specs.Faults.{name_token, duplicate_state_fault}
-use Rattle.jm_fsm.proofs.faults.duplicate_states.Goals as goal
+use Rattle.jm_fsm.proofs.faults.check_duplicate_states.Goals as goal
 
 module _ (bytes : List ℕ) (names : List (List ℕ)) (parts : List Part) (i : ℕ) (part : Part) (token : Token) (name : List ℕ) (whole : Option SpecFault)
     (lt : i < length parts) (read : part ≡ get_or parts i part) (at : token ≡ name_token part) (named : name ≡ name_of bytes token)

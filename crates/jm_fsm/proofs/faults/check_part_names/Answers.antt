@@ -6,7 +6,7 @@ use Rattle.jm_text.specs.declared.token.Token.{Token}
 use Rattle.jm_reading.specs.Tokens.{name_of}
 use Rattle.jm_fsm.specs.declared.formula.Part.{Part}
 use Rattle.jm_fsm.specs.Faults.{name_token, is_reserved, part_name_fault}
-use Rattle.jm_fsm.proofs.faults.part_names.Goals as goal
+use Rattle.jm_fsm.proofs.faults.check_part_names.Goals as goal
 
 module _ (bytes : List ℕ) (parts : List Part) (i : ℕ) (part : Part) (token : Token) (name : List ℕ) (whole : Option SpecFault)
     (lt : i < length parts) (read : part ≡ get_or parts i part) (at : token ≡ name_token part) (named : name ≡ name_of bytes token)

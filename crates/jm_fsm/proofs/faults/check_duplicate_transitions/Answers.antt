@@ -7,7 +7,7 @@ use Rattle.jm_model.specs.declared.fault.SpecFault.{SpecFault}
 use Rattle.jm_reading.specs.Faults.{Refuses}
 use Rattle.jm_fsm.specs.declared.formula.Part.{Part}
 use Rattle.jm_fsm.specs.Faults.{part_transitions_fault, transitions_fault}
-use Rattle.jm_fsm.proofs.faults.duplicate_transitions.Goals as goal
+use Rattle.jm_fsm.proofs.faults.check_duplicate_transitions.Goals as goal
 
 module _ (bytes : List ℕ) (parts : List Part) (i : ℕ) (part : Part) (whole : Option SpecFault) (lt : i < length parts) (read : part ≡ get_or parts i part) (so_far : transitions_fault bytes (drop i parts) ≡ whole) where
   here : transitions_fault bytes (part ∷ drop (i + 1) parts) ≡ whole

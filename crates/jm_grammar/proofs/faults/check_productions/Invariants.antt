@@ -1,6 +1,6 @@
 use Rattle.std.proofs.Common.{◌≡◌, ◌≤◌, ◌+◌, drop}
 use Rattle.jm_grammar.specs.Faults.{production_count}
-use Rattle.jm_grammar.proofs.faults.few_productions.Given as goal
+use Rattle.jm_grammar.proofs.faults.check_productions.Given as goal
 
 abbrev pub invariant-loop-part : goal.invariant-loop-part
 invariant-loop-part l = record {
