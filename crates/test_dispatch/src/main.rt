@@ -1,10 +1,9 @@
-//! Cases of one specification's dispatcher: steps of two seats, and of many seats on threads of their own.
+//! Cases of one specification's dispatcher: steps of two seats. In `test_dispatch_storm` many seats work on threads of
+//! their own.
 #![tactic(auto)]
 
 mod answer;
-mod many;
 mod rig;
-mod shown;
 mod steps;
 
 use std::io;

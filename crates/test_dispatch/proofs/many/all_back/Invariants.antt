@@ -1,9 +1,0 @@
-use Rattle.std.proofs.Common.{◌≡◌, All, length, vec_len}
-use Rattle.jm_turn.specs.Seats.{IsSeatOf}
-use Rattle.test_dispatch.proofs.many.all_back.Given as goal
-
-abbrev pub invariant-loop-seat : goal.invariant-loop-seat
-invariant-loop-seat g l = record {
-  count : vec_len l.seats ≡ length l.yielded;
-  each : All (λ s. IsSeatOf l.watch s) l.seats.items;
-}

@@ -1,5 +1,0 @@
-use Rattle.jm_turn.specs.Seats.{IsSeatOf}
-use Rattle.test_dispatch.proofs.many.at_work.Given as goal
-
-abbrev pub invariant-loop-turn : goal.invariant-loop-turn
-invariant-loop-turn g l = IsSeatOf l.watch l.seat
