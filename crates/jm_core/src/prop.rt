@@ -9,7 +9,7 @@ ghost use Rattle.jm_core.specs.Replays.{Replayed, ReplayedInPart};
 
 use crate::firing::perform;
 use jm_awake::Awake;
-use jm_history::{History, Node, Spare};
+use jm_history::{History, Node};
 use jm_model::{Binding, Monitor, NoMemory, Outcome, Step};
 use jm_objects::Objects;
 use jm_store::{Call, Store};
@@ -93,17 +93,6 @@ impl<M: Monitor> Prop<M> {
         ensures legal { IsLegal (M.meaning self.new.definition) self.new.entries }
         ensures fits { FitsHistory (M.meaning self.new.definition) self.new.entries self.new.stored self.new.marks }
     {
-        self.do_event(node, &mut Spare::none())
-    }
-
-    /// Does an event as `event` does. The link that the entry doesn't take is spare then.
-    fn do_event(&mut self, node: Node, spare: &mut Spare) -> Outcome
-        requires { IsEventOf (M.meaning self.old.definition) self.old.objects node.step }
-        ensures added { IsExtended self.old self.new (answered node result ∷ []) }
-        ensures memory { KeepsMemoryUnlessFired result self.old self.new }
-        ensures legal { IsLegal (M.meaning self.new.definition) self.new.entries }
-        ensures fits { FitsHistory (M.meaning self.new.definition) self.new.entries self.new.stored self.new.marks }
-    {
         let Step::Event { letter, binding } = node.step() else {
             unreachable!()
         };
@@ -114,7 +103,7 @@ impl<M: Monitor> Prop<M> {
             binding,
         };
         let (outcome, copy) = perform(self.alloc, &call, &mut self.store, &mut self.awake);
-        self.history.push_sparing(node, copy, spare);
+        self.history.push(node, copy);
         outcome
     }
 
@@ -127,28 +116,16 @@ impl<M: Monitor> Prop<M> {
         ensures legal { IsLegal (M.meaning self.new.definition) self.new.entries }
         ensures fits { FitsHistory (M.meaning self.new.definition) self.new.entries self.new.stored self.new.marks }
     {
-        self.do_death(node, &mut Spare::none())
-    }
-
-    /// Takes in a death as `death` does. The link that the entry doesn't take is spare then.
-    fn do_death(&mut self, node: Node, spare: &mut Spare) -> Outcome
-        requires { IsDeathOf self.old.objects node.step }
-        ensures added { IsExtended self.old self.new (answered node result ∷ []) }
-        ensures memory { KeepsMemory self.old self.new }
-        ensures legal { IsLegal (M.meaning self.new.definition) self.new.entries }
-        ensures fits { FitsHistory (M.meaning self.new.definition) self.new.entries self.new.stored self.new.marks }
-    {
         let Step::Death { object } = node.step() else {
             unreachable!()
         };
         let object = *object;
         if self.objects.kill(object) {
             self.store.mourn(&mut self.awake, object);
-            self.history.push_sparing(node, Outcome::Done, spare);
+            self.history.push(node, Outcome::Done);
             Outcome::Done
         } else {
-            self.history
-                .push_sparing(node, Outcome::Refused(object), spare);
+            self.history.push(node, Outcome::Refused(object));
             Outcome::Refused(object)
         }
     }
@@ -161,19 +138,9 @@ impl<M: Monitor> Prop<M> {
         ensures legal { IsLegal (M.meaning self.new.definition) self.new.entries }
         ensures fits { FitsHistory (M.meaning self.new.definition) self.new.entries self.new.stored self.new.marks }
     {
-        self.do_pass(node, &mut Spare::none())
-    }
-
-    /// Does a pass as `pass` does. The link that the entry doesn't take is spare then.
-    fn do_pass(&mut self, node: Node, spare: &mut Spare) -> Outcome
-        requires { node.step ≡ Pass }
-        ensures added { IsExtended self.old self.new (answered node result ∷ []) }
-        ensures legal { IsLegal (M.meaning self.new.definition) self.new.entries }
-        ensures fits { FitsHistory (M.meaning self.new.definition) self.new.entries self.new.stored self.new.marks }
-    {
         let kept = self.store.dispose(&self.rules, &self.objects);
         self.store.settle(&mut self.awake);
-        self.history.push_sparing(node, Outcome::Kept(kept), spare);
+        self.history.push(node, Outcome::Kept(kept));
         Outcome::Kept(kept)
     }
 
@@ -186,10 +153,9 @@ impl<M: Monitor> Prop<M> {
         ensures fits { FitsHistory (M.meaning self.new.definition) self.new.entries self.new.stored self.new.marks }
     {
         let _history = &self.history;
-        let mut spare = Spare::none();
         for (line, step) in steps {
-            let node = self.node(caller, *line, *step, &mut spare)?;
-            if let Outcome::NoMemory = self.do_step(node, &mut spare) {
+            let node = self.node(caller, *line, *step)?;
+            if let Outcome::NoMemory = self.step(node) {
                 return Err(NoMemory);
             }
         }
@@ -197,21 +163,16 @@ impl<M: Monitor> Prop<M> {
     }
 
     /// A step that is not recorded yet, with the memory that its entry takes.
-    fn node(
-        &mut self,
-        caller: u32,
-        line: u32,
-        step: Step,
-        spare: &mut Spare,
-    ) -> Result<Node, NoMemory>
+    fn node(&mut self, caller: u32, line: u32, step: Step) -> Result<Node, NoMemory>
         ensures same { self.new ≡ self.old }
         ensures node { IfOk result (λ node. node ≡ record { caller = caller; line = line; step = step }) }
     {
-        self.history.node(self.alloc, caller, line, step, spare)
+        self.history.node(self.alloc, caller, line, step)
     }
 
     /// Does a step of any kind, as `event`, `death` and `pass` do, and records it with the outcome that it answers: in a
     /// row of entries, which takes less memory than the node's link, where there is room or memory for it.
+    #[inline(always)]
     pub fn step(&mut self, node: Node) -> Outcome
         requires { IsFitStep (M.meaning self.old.definition) self.old.objects node.step }
         ensures added { IsExtended self.old self.new (answered node result ∷ []) }
@@ -220,22 +181,10 @@ impl<M: Monitor> Prop<M> {
         ensures fits { FitsHistory (M.meaning self.new.definition) self.new.entries self.new.stored self.new.marks }
     {
         self.history.make_room(self.alloc);
-        self.do_step(node, &mut Spare::none())
-    }
-
-    /// Does a step as `step` does. The link that the entry doesn't take is spare then.
-    #[inline(always)]
-    fn do_step(&mut self, node: Node, spare: &mut Spare) -> Outcome
-        requires { IsFitStep (M.meaning self.old.definition) self.old.objects node.step }
-        ensures added { IsExtended self.old self.new (answered node result ∷ []) }
-        ensures memory { StepKeepsMemory node.step result self.old self.new }
-        ensures legal { IsLegal (M.meaning self.new.definition) self.new.entries }
-        ensures fits { FitsHistory (M.meaning self.new.definition) self.new.entries self.new.stored self.new.marks }
-    {
         match node.step() {
-            Step::Event { .. } => self.do_event(node, spare),
-            Step::Death { .. } => self.do_death(node, spare),
-            Step::Pass => self.do_pass(node, spare),
+            Step::Event { .. } => self.event(node),
+            Step::Death { .. } => self.death(node),
+            Step::Pass => self.pass(node),
         }
     }
 

@@ -4,7 +4,7 @@ ghost use Rattle.jm_history.specs.Nodes.{answered};
 
 use crate::chain::Chain;
 use crate::lent::Piece;
-use crate::node::{Node, Spare};
+use crate::node::Node;
 use jm_model::{Entry, NoMemory, Outcome, Step};
 use std::alloc::Global;
 use std::marker::Model;
@@ -14,6 +14,8 @@ use std::marker::Model;
 pub struct History {
     newest: Chain,
     count: u64,
+    /// The memory of one link that no entry took, for the next node.
+    spare: Option<Box<Chain>>,
 }
 
 impl Model for History {
@@ -36,6 +38,7 @@ impl History {
         History {
             newest: Chain::End,
             count: 0,
+            spare: None,
         }
     }
 
@@ -46,8 +49,8 @@ impl History {
         self.count
     }
 
-    /// A step of a caller, at a line of its script, as `Node::new` makes it. Where it can, it makes room for the entry
-    /// in a row of entries, which takes less memory than a link. The node has the link that is spare, if one is.
+    /// A step of a caller, at a line of its script, as `Node::new` makes it, but with the spare link, if there is one:
+    /// where one caller makes many entries, a link is used again from entry to entry.
     #[inline(always)]
     pub fn node(
         &mut self,
@@ -55,13 +58,14 @@ impl History {
         caller: u32,
         line: u32,
         step: Step,
-        spare: &mut Spare,
     ) -> Result<Node, NoMemory>
         ensures same { self.new ≡ self.old }
         ensures node { IfOk result (λ node. node ≡ record { caller = caller; line = line; step = step }) }
     {
-        self.make_room(alloc);
-        spare.node(alloc, caller, line, step)
+        match self.spare.take() {
+            Some(link) => Ok(Node::with_link(caller, line, step, link)),
+            None => Node::new(alloc, caller, line, step),
+        }
     }
 
     /// Makes room for an entry in a row of entries, which takes less memory than a link, if there is memory.
@@ -72,21 +76,16 @@ impl History {
         self.newest.make_room(alloc);
     }
 
-    /// Adds an entry at the end. It takes no memory: the node brings its own.
+    /// Adds an entry at the end. It takes no memory: the node brings its own. Where the entry goes into a row, the link
+    /// of the node is kept as the spare one, unless there is one.
+    #[inline(always)]
     pub fn push(&mut self, node: Node, outcome: Outcome)
         ensures { self.new ≡ self.old ++ answered node outcome ∷ [] }
     {
-        self.push_sparing(node, outcome, &mut Spare::none());
-    }
-
-    /// Adds an entry at the end, as `push` does, and keeps the node's link as a spare one where the entry goes into a
-    /// row.
-    #[inline(always)]
-    pub fn push_sparing(&mut self, node: Node, outcome: Outcome, spare: &mut Spare)
-        ensures { self.new ≡ self.old ++ answered node outcome ∷ [] }
-    {
         match self.newest.add(&node, outcome) {
-            None => spare.keep(node.into_link()),
+            None => {
+                let _ = self.spare.get_or_insert(node.into_link());
+            }
             Some(outcome) => self.newest.link(node, outcome),
         }
         self.count = self.count.wrapping_add(1);

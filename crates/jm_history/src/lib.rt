@@ -10,4 +10,4 @@ mod row;
 pub use history::History;
 pub use jm_model::Entry;
 pub use lent::{Lent, LentEvent, Piece};
-pub use node::{Node, Spare};
+pub use node::Node;

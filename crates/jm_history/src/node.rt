@@ -24,54 +24,26 @@ impl Model for Node {
     ghost view = { λ n. record { caller = n.caller; line = n.line; step = n.step } };
 }
 
-/// The memory of a link that no entry took, for the next node. It is used again from entry to entry where one caller
-/// makes many.
-#[derive(Drop)]
-pub struct Spare {
-    link: Option<Box<Chain>>,
-}
-
-impl Spare {
-    /// No memory yet.
-    pub fn none() -> Spare {
-        Spare { link: None }
-    }
-
-    /// Keeps a link for the next node, in place of the one that was kept, if there was one.
-    pub(crate) fn keep(&mut self, link: Box<Chain>) {
-        self.link = Some(link);
-    }
-
-    /// A step of a caller, at a line of its script, with the link that is kept, or with a new one.
-    #[inline(always)]
-    pub(crate) fn node(
-        &mut self,
-        alloc: Global,
-        caller: u32,
-        line: u32,
-        step: Step,
-    ) -> Result<Node, NoMemory>
-        ensures { IfOk result (λ node. node ≡ record { caller = caller; line = line; step = step }) }
-    {
-        let link = match self.link.take() {
-            Some(link) => link,
-            None => Box::new(alloc, Chain::End)?,
-        };
-        Ok(Node {
-            caller,
-            line,
-            step,
-            link,
-        })
-    }
-}
-
 impl Node {
     /// A step of a caller, at a line of its script.
     pub fn new(alloc: Global, caller: u32, line: u32, step: Step) -> Result<Node, NoMemory>
         ensures { IfOk result (λ node. node ≡ record { caller = caller; line = line; step = step }) }
     {
-        Spare::none().node(alloc, caller, line, step)
+        let link = Box::new(alloc, Chain::End)?;
+        Ok(Node::with_link(caller, line, step, link))
+    }
+
+    /// A step of a caller, at a line of its script, with the memory of a link that is there.
+    #[inline(always)]
+    pub(crate) fn with_link(caller: u32, line: u32, step: Step, link: Box<Chain>) -> Node
+        ensures { result ≡ record { caller = caller; line = line; step = step } }
+    {
+        Node {
+            caller,
+            line,
+            step,
+            link,
+        }
     }
 
     /// The caller of `Node::new`.

@@ -25,15 +25,15 @@ loop-line-preserved g c =
     let i = c.loop-line.line-index in
     let item = c.loop-line-item.result in
     let u = c.in_ok-node.node in
-    let next = c.do_step.new.self in
-    let added = rw c.node.ensures.same at c.do_step.ensures.added in
-    let grown = replayed_more c.args.caller (take i steps) c.args.self.now c.loop-line.self next u c.do_step.result (ap (λ n. n.caller) c.in_ok-node.ensures.node) c.in_default.not-NoMemory c.loop-line.invariant.done added in
+    let next = c.step.new.self in
+    let added = rw c.node.ensures.same at c.step.ensures.added in
+    let grown = replayed_more c.args.caller (take i steps) c.args.self.now c.loop-line.self next u c.step.result (ap (λ n. n.caller) c.in_ok-node.ensures.node) c.in_default.not-NoMemory c.loop-line.invariant.done added in
     let at_item : Replayed c.args.caller (take i steps ++ item ∷ []) c.args.self.now next =
     subst (λ (s : ℕ × Step). Replayed c.args.caller (take i steps ++ s ∷ []) c.args.self.now next) (ap (λ n. (n.line, n.step)) c.in_ok-node.ensures.node) grown in
     record {
       done = subst (λ (l : List (ℕ × Step)). Replayed c.args.caller l c.args.self.now next) (sym (take_with_item steps i item c.loop-line-test.true c.loop-line-item.is)) at_item;
-      legal = c.do_step.ensures.legal;
-      fits = c.do_step.ensures.fits;
+      legal = c.step.ensures.legal;
+      fits = c.step.ensures.fits;
     }
 
 pub returns-in_err-node-clause-err : goal.returns-in_err-node-clause-err
@@ -48,8 +48,8 @@ returns-in-NoMemory-clause-err g c =
     let i = c.loop-line.line-index in
     let item = c.loop-line-item.result in
     let u = c.in_ok-node.node in
-    let next = c.do_step.new.self in
-    let added = rw c.node.ensures.same at c.do_step.ensures.added in
+    let next = c.step.new.self in
+    let added = rw c.node.ensures.same at c.step.ensures.added in
     let within : IsPrefix (take i steps ++ (u.line, u.step) ∷ []) steps =
     subst (λ (l : List (ℕ × Step)). IsPrefix l steps)
     (take_with_item steps i item c.loop-line-test.true c.loop-line-item.is ∙ ap (λ n. take i steps ++ (n.line, n.step) ∷ []) (sym c.in_ok-node.ensures.node))

@@ -14,7 +14,7 @@ use Rattle.jm_core.proofs.FlagLemmas.{live_event, objects_below}
 use Rattle.jm_core.proofs.FitLemmas.{fits_history}
 use Rattle.jm_core.proofs.FireLemmas.{keeps_memory}
 use Rattle.jm_core.proofs.CoreLemmas.{core_after_event}
-use Rattle.jm_core.proofs.prop.Prop.do_event.Goals as goal
+use Rattle.jm_core.proofs.prop.Prop.event.Goals as goal
 
 pub perform-outcome-requires-clause-eight : goal.perform-outcome-requires-clause-eight
 perform-outcome-requires-clause-eight g c =
@@ -57,7 +57,7 @@ invariant_of-self g c =
     subst (λ (s : Step). IsEventOf m c.args.self.now.objects s) is
     (subst (λ (core : Core g.row.M-Definition.Denot). IsEventOf (g.M.Monitor.meaning core.definition) c.args.self.now.objects c.args.node.step) (sym c.self.view_is) c.requires) in
     let works = done.works (trace_of h) c.self.invariant.0.holds in
-    let core = subst (λ (l : List Entry). IsCore m Stands l dead after) (sym c.push_sparing.ensures)
+    let core = subst (λ (l : List Entry). IsCore m Stands l dead after) (sym c.push.ensures)
     (subst (λ (o : Outcome). IsCore m Stands (h ++ answered c.args.node o ∷ []) dead after) (sym done.twice)
     (core_after_event m Stands h dead before after c.args.node c.in-Event.letter c.in-Event.binding c.perform-outcome.result.0 c.self.invariant.0 is fits.0 done.closed done.fits
     works)) in
@@ -70,7 +70,7 @@ returns-clause-memory g c =
     let h = c.self.inside.history in
     let after = c.perform-outcome.new.store in
     let a : ParametricEvent = record { letter = c.in-Event.letter.0; binding = c.in-Event.binding } in
-    let next : Core g.row.M-Definition.Denot = record { definition = g.M.Monitor.definition c.self.inside.rules; objects = length c.self.inside.objects; entries = c.push_sparing.new.self; stored = instances_of (stored_of after); marks = after.marks } in
+    let next : Core g.row.M-Definition.Denot = record { definition = g.M.Monitor.definition c.self.inside.rules; objects = length c.self.inside.objects; entries = c.push.new.self; stored = instances_of (stored_of after); marks = after.marks } in
     keeps_memory m Stands (trace_of h) c.self.inside.objects a c.self.inside.store after c.perform-outcome.result.0 c.args.self.now next
     (c.perform-outcome.ensures.works (trace_of h) c.self.invariant.0.holds) (sym (ap (λ core. core.stored) c.self.view_is)) (sym (ap (λ core. core.marks) c.self.view_is)) refl refl
 
@@ -79,4 +79,4 @@ returns-clause-legal g c = (invariant_of-self g c).0.legal
 
 pub returns-clause-fits : goal.returns-clause-fits
 returns-clause-fits g c =
-    fits_history (g.M.Monitor.meaning (g.M.Monitor.definition c.self.inside.rules)) (g.M.Monitor.StandsFor c.self.inside.rules) c.push_sparing.new.self c.self.inside.objects c.perform-outcome.new.store (invariant_of-self g c).0
+    fits_history (g.M.Monitor.meaning (g.M.Monitor.definition c.self.inside.rules)) (g.M.Monitor.StandsFor c.self.inside.rules) c.push.new.self c.self.inside.objects c.perform-outcome.new.store (invariant_of-self g c).0
