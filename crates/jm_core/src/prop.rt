@@ -7,21 +7,21 @@ ghost use Rattle.jm_core.specs.Cores.{IsExtended, KeepsMemory, KeepsMemoryUnless
 ghost use Rattle.jm_core.specs.Memory.{StepKeepsMemory};
 ghost use Rattle.jm_core.specs.Replays.{Replayed, ReplayedInPart};
 
-use crate::firing::perform;
+use crate::live::Live;
 use jm_awake::Awake;
 use jm_history::{History, Node};
 use jm_model::{Binding, Monitor, NoMemory, Outcome, Step};
 use jm_objects::Objects;
 use jm_store::{Call, Store};
 use std::alloc::Global;
-use std::marker::Model;
+use std::marker::{Brand, Model};
+use std::sync::ledger::Blank;
 
 /// The core of one specification, over a number of objects.
 pub struct Prop<M: Monitor> {
     rules: M,
     objects: Objects,
-    store: Store<M>,
-    awake: Awake,
+    live: Live<M>,
     history: History,
     alloc: Global,
 }
@@ -32,8 +32,7 @@ impl<M: Monitor> Drop for Prop<M> {
         let Prop {
             rules: _,
             objects: _,
-            store: _,
-            awake: _,
+            live: _,
             history: _,
             alloc: _,
         } = self;
@@ -53,12 +52,14 @@ impl<M: Monitor> Model for Prop<M> {
       definition = M.definition p.rules;
       objects = length p.objects;
       entries = p.history;
-      stored = instances_of (stored_of p.store);
-      marks = p.store.marks;
+      stored = instances_of (stored_of p.live.store);
+      marks = p.live.store.marks;
     } };
 
-    ghost invariant = { λ p. IsCore (M.meaning (M.definition p.rules)) (M.StandsFor p.rules) p.history p.objects p.store
-        × AreListed (M.meaning (M.definition p.rules)) (M.StandsFor p.rules) p.objects p.store.monitors p.awake };
+    ghost invariant = { λ p. IsCore (M.meaning (M.definition p.rules)) (M.StandsFor p.rules) p.history p.objects
+        p.live.store
+        × AreListed (M.meaning (M.definition p.rules)) (M.StandsFor p.rules) p.objects p.live.store.monitors
+        p.live.awake };
 }
 
 impl<M: Monitor> Prop<M> {
@@ -76,8 +77,10 @@ impl<M: Monitor> Prop<M> {
         Ok(Prop {
             rules,
             objects,
-            store,
-            awake: Awake::new(alloc),
+            live: Live {
+                store,
+                awake: Awake::new(alloc),
+            },
             history: History::new(),
             alloc,
         })
@@ -102,7 +105,7 @@ impl<M: Monitor> Prop<M> {
             letter: *letter,
             binding,
         };
-        let (outcome, copy) = perform(self.alloc, &call, &mut self.store, &mut self.awake);
+        let (outcome, copy) = self.live.perform::<Brand>(self.alloc, &call, Blank::new(1));
         self.history.push(node, copy);
         outcome
     }
@@ -121,7 +124,7 @@ impl<M: Monitor> Prop<M> {
         };
         let object = *object;
         if self.objects.kill(object) {
-            self.store.mourn(&mut self.awake, object);
+            self.live.store.mourn(&mut self.live.awake, object);
             self.history.push(node, Outcome::Done);
             Outcome::Done
         } else {
@@ -138,8 +141,8 @@ impl<M: Monitor> Prop<M> {
         ensures legal { IsLegal (M.meaning self.new.definition) self.new.entries }
         ensures fits { FitsHistory (M.meaning self.new.definition) self.new.entries self.new.stored self.new.marks }
     {
-        let kept = self.store.dispose(&self.rules, &self.objects);
-        self.store.settle(&mut self.awake);
+        let kept = self.live.store.dispose(&self.rules, &self.objects);
+        self.live.store.settle(&mut self.live.awake);
         self.history.push(node, Outcome::Kept(kept));
         Outcome::Kept(kept)
     }
@@ -170,8 +173,8 @@ impl<M: Monitor> Prop<M> {
         self.history.node(self.alloc, caller, line, step)
     }
 
-    /// Does a step of any kind, as `event`, `death` and `pass` do, and records it with the outcome that it answers: in a
-    /// row of entries, which takes less memory than the node's link, where there is room or memory for it.
+    /// Does a step of any kind, as `event`, `death` and `pass` do, and records it with the outcome that it answers: in
+    /// a row of entries, which takes less memory than the node's link, where there is room or memory for it.
     #[inline(always)]
     pub fn step(&mut self, node: Node) -> Outcome
         requires { IsFitStep (M.meaning self.old.definition) self.old.objects node.step }
@@ -220,8 +223,7 @@ impl<M: Monitor> Prop<M> {
         let Prop {
             rules,
             objects: _,
-            store: _,
-            awake: _,
+            live: _,
             history,
             alloc: _,
         } = self;
@@ -242,7 +244,7 @@ impl<M: Monitor> Prop<M> {
         ensures value { IfOk result (λ list. AreInOrder self.now.stored list.items) }
         ensures fits { FitsHistory (M.meaning self.now.definition) self.now.entries self.now.stored self.now.marks }
     {
-        self.store.stored()
+        self.live.store.stored()
     }
 
     /// The marks, in the order of bindings.
@@ -251,6 +253,6 @@ impl<M: Monitor> Prop<M> {
         ensures distinct { AllPairs (λ a b. a ≢ b) self.now.marks }
         ensures fits { FitsHistory (M.meaning self.now.definition) self.now.entries self.now.stored self.now.marks }
     {
-        self.store.marks()
+        self.live.store.marks()
     }
 }

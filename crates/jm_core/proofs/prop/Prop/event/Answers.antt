@@ -49,8 +49,8 @@ invariant_of-self g c =
     let Stands = g.M.Monitor.StandsFor c.self.inside.rules in
     let h = c.self.inside.history in
     let dead = c.self.inside.objects in
-    let before = c.self.inside.store in
-    let after = c.perform-outcome.new.store in
+    let before = c.self.inside.live.store in
+    let after = c.perform-outcome.new.self.store in
     let done = c.perform-outcome.ensures in
     let is : c.args.node.step ≡ Event c.in-Event.letter c.in-Event.binding = sym c.step.ensures ∙ c.in-Event.is in
     let fits : IsEventOf m c.args.self.now.objects (Event c.in-Event.letter c.in-Event.binding) =
@@ -68,10 +68,10 @@ returns-clause-memory g c =
     let m = g.M.Monitor.meaning (g.M.Monitor.definition c.self.inside.rules) in
     let Stands = g.M.Monitor.StandsFor c.self.inside.rules in
     let h = c.self.inside.history in
-    let after = c.perform-outcome.new.store in
+    let after = c.perform-outcome.new.self.store in
     let a : ParametricEvent = record { letter = c.in-Event.letter.0; binding = c.in-Event.binding } in
     let next : Core g.row.M-Definition.Denot = record { definition = g.M.Monitor.definition c.self.inside.rules; objects = length c.self.inside.objects; entries = c.push.new.self; stored = instances_of (stored_of after); marks = after.marks } in
-    keeps_memory m Stands (trace_of h) c.self.inside.objects a c.self.inside.store after c.perform-outcome.result.0 c.args.self.now next
+    keeps_memory m Stands (trace_of h) c.self.inside.objects a c.self.inside.live.store after c.perform-outcome.result.0 c.args.self.now next
     (c.perform-outcome.ensures.works (trace_of h) c.self.invariant.0.holds) (sym (ap (λ core. core.stored) c.self.view_is)) (sym (ap (λ core. core.marks) c.self.view_is)) refl refl
 
 pub returns-clause-legal : goal.returns-clause-legal
@@ -79,4 +79,4 @@ returns-clause-legal g c = (invariant_of-self g c).0.legal
 
 pub returns-clause-fits : goal.returns-clause-fits
 returns-clause-fits g c =
-    fits_history (g.M.Monitor.meaning (g.M.Monitor.definition c.self.inside.rules)) (g.M.Monitor.StandsFor c.self.inside.rules) c.push.new.self c.self.inside.objects c.perform-outcome.new.store (invariant_of-self g c).0
+    fits_history (g.M.Monitor.meaning (g.M.Monitor.definition c.self.inside.rules)) (g.M.Monitor.StandsFor c.self.inside.rules) c.push.new.self c.self.inside.objects c.perform-outcome.new.self.store (invariant_of-self g c).0

@@ -10,7 +10,7 @@ use Rattle.jm_core.proofs.prop.Prop.marks.Goals as goal
 
 pub returns-clause-value : goal.returns-clause-value
 returns-clause-value g c =
-    let kept = c.self.inside.store.marks in
+    let kept = c.self.inside.live.store.marks in
     subst (λ (l : List Binding). IfOk c.marks.result (λ list. AreInOrder l list.items)) (ap (λ core. core.marks) c.self.view_is)
     (both_ok c.marks.result (λ list. IsPermutation kept list.items) (λ list. IsSorted binding_cmp list.items) (λ list. AreInOrder kept list.items)
     (λ list same ordered. record { same = same; ordered = ordered }) c.marks.ensures.same c.marks.ensures.ordered)
@@ -18,4 +18,4 @@ returns-clause-value g c =
 pub returns-clause-fits : goal.returns-clause-fits
 returns-clause-fits g c =
     subst (λ (core : Core g.row.M-Definition.Denot). FitsHistory (g.M.Monitor.meaning core.definition) core.entries core.stored core.marks) c.self.view_is
-    (fits_history (g.M.Monitor.meaning (g.M.Monitor.definition c.self.inside.rules)) (g.M.Monitor.StandsFor c.self.inside.rules) c.self.inside.history c.self.inside.objects c.self.inside.store c.self.invariant.0)
+    (fits_history (g.M.Monitor.meaning (g.M.Monitor.definition c.self.inside.rules)) (g.M.Monitor.StandsFor c.self.inside.rules) c.self.inside.history c.self.inside.objects c.self.inside.live.store c.self.invariant.0)

@@ -14,8 +14,8 @@ invariant_of-self g c =
     let passed = done.disposed in
     let small : c.dispose-kept.result < 2 ^ 64 = c.dispose-kept.type_inv in
     let core = subst (λ (l : List Entry). IsCore m Stands l c.self.inside.objects c.dispose-kept.new.self) (sym c.push.ensures)
-    (core_after_pass m Stands c.self.inside.history c.self.inside.objects c.self.inside.store c.dispose-kept.new.self c.args.node c.dispose-kept.result c.self.invariant.0 c.requires (record { thinned = passed.thinned; alive = passed.alive; left_marks = passed.marks }) small done.left done.closed done.fits.fits (passed.keeps (trace_of c.self.inside.history) c.self.invariant.0.holds)) in
-    (core, c.settle.ensures c.self.inside.rules c.self.inside.objects c.self.inside.store.monitors passed.slots c.self.invariant.1)
+    (core_after_pass m Stands c.self.inside.history c.self.inside.objects c.self.inside.live.store c.dispose-kept.new.self c.args.node c.dispose-kept.result c.self.invariant.0 c.requires (record { thinned = passed.thinned; alive = passed.alive; left_marks = passed.marks }) small done.left done.closed done.fits.fits (passed.keeps (trace_of c.self.inside.history) c.self.invariant.0.holds)) in
+    (core, c.settle.ensures c.self.inside.rules c.self.inside.objects c.self.inside.live.store.monitors passed.slots c.self.invariant.1)
 
 pub returns-clause-legal : goal.returns-clause-legal
 returns-clause-legal g c = (invariant_of-self g c).0.legal

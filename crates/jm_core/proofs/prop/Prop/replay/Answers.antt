@@ -16,7 +16,7 @@ loop-line-init g c = record {
   done = replayed_none c.args.caller c.args.self.now;
   legal = subst (λ (core : Core g.row.M-Definition.Denot). IsLegal (g.M.Monitor.meaning core.definition) core.entries) c.self.view_is c.self.invariant.0.legal;
   fits = subst (λ (core : Core g.row.M-Definition.Denot). FitsHistory (g.M.Monitor.meaning core.definition) core.entries core.stored core.marks) c.self.view_is
-      (fits_history (g.M.Monitor.meaning (g.M.Monitor.definition c.self.inside.rules)) (g.M.Monitor.StandsFor c.self.inside.rules) c.self.inside.history c.self.inside.objects c.self.inside.store c.self.invariant.0);
+      (fits_history (g.M.Monitor.meaning (g.M.Monitor.definition c.self.inside.rules)) (g.M.Monitor.StandsFor c.self.inside.rules) c.self.inside.history c.self.inside.objects c.self.inside.live.store c.self.invariant.0);
 }
 
 pub loop-line-preserved : goal.loop-line-preserved

@@ -12,7 +12,7 @@ use Rattle.jm_core.proofs.prop.Prop.stored.Goals as goal
 
 pub returns-clause-value : goal.returns-clause-value
 returns-clause-value g c =
-    let kept = instances_of (stored_of c.self.inside.store) in
+    let kept = instances_of (stored_of c.self.inside.live.store) in
     subst (λ (l : List Binding). IfOk c.stored.result (λ list. AreInOrder l list.items)) (ap (λ core. core.stored) c.self.view_is)
     (both_ok c.stored.result (λ list. IsPermutation kept list.items) (λ list. IsSorted binding_cmp list.items) (λ list. AreInOrder kept list.items)
     (λ list same ordered. record { same = same; ordered = ordered }) c.stored.ensures.same c.stored.ensures.ordered)
@@ -20,4 +20,4 @@ returns-clause-value g c =
 pub returns-clause-fits : goal.returns-clause-fits
 returns-clause-fits g c =
     subst (λ (core : Core g.row.M-Definition.Denot). FitsHistory (g.M.Monitor.meaning core.definition) core.entries core.stored core.marks) c.self.view_is
-    (fits_history (g.M.Monitor.meaning (g.M.Monitor.definition c.self.inside.rules)) (g.M.Monitor.StandsFor c.self.inside.rules) c.self.inside.history c.self.inside.objects c.self.inside.store c.self.invariant.0)
+    (fits_history (g.M.Monitor.meaning (g.M.Monitor.definition c.self.inside.rules)) (g.M.Monitor.StandsFor c.self.inside.rules) c.self.inside.history c.self.inside.objects c.self.inside.live.store c.self.invariant.0)

@@ -8,12 +8,12 @@ use Rattle.jm_monitors.specs.declared.stored.Stored.{Stored}
 use Rattle.jm_store.specs.Listed.{AreListed}
 use Rattle.jm_store.proofs.ListedLemmas.{listed_same}
 use Rattle.jm_core.proofs.FireLemmas.{carried_out}
-use Rattle.jm_core.proofs.firing.fire.Goals as goal
+use Rattle.jm_core.proofs.live.Live.fire.Goals as goal
 
 pub list_if-requires-clause-fits : goal.list_if-requires-clause-fits
 list_if-requires-clause-fits g c =
     let dead = c.args.call.now.objects.now in
-    let planned = c.in-Ok.ensures in
+    let planned = c.in-Ok.ensures.plans in
     (c.commit-answer.ensures.fits dead planned.fits (subst (λ (b : Binding). AreBelow (length dead) b) (sym planned.binding) c.requires.can.there)).index
 
 pub list_if-requires-clause-live : goal.list_if-requires-clause-live
@@ -24,11 +24,11 @@ returns-after-known g c =
     let m = g.M.Monitor.meaning (g.M.Monitor.definition c.args.call.now.rules.now) in
     let Stands = g.M.Monitor.StandsFor c.args.call.now.rules.now in
     let dead = c.args.call.now.objects.now in
-    let planned = c.in-Ok.ensures in
+    let planned = c.in-Ok.ensures.plans in
     let done = c.commit-answer.ensures in
-    let before = c.counted_plan.new.store in
+    let before = c.plan_as.new.self in
     let after = c.commit-answer.new.self in
-    let first = listed_same m Stands dead None c.args.store.now.monitors before.monitors c.args.awake.now planned.monitors c.requires.listed in
+    let first = listed_same m Stands dead None c.args.self.now.store.monitors before.monitors c.args.self.now.awake planned.monitors c.requires.listed in
     let followed = c.follow.ensures c.args.call.now.rules.now dead first in
     let committed : AreListed m Stands dead after.monitors c.follow.new.awake = subst (λ (l : List (Option (Stored g.row.M-State.Denot))). AreListed m Stands dead l c.follow.new.awake) (sym done.carried.monitors) followed in
     record {
@@ -47,11 +47,11 @@ pub returns-in-Err : goal.returns-in-Err
 returns-in-Err g c =
     let m = g.M.Monitor.meaning (g.M.Monitor.definition c.args.call.now.rules.now) in
     let Stands = g.M.Monitor.StandsFor c.args.call.now.rules.now in
-    let same = c.in-Err.ensures in
+    let same = c.in-Err.ensures.plans in
     record {
       twice = refl;
       closed = same.closed;
       fits = same.fits;
-      listed = listed_same m Stands c.args.call.now.objects.now None c.args.store.now.monitors c.counted_plan.new.store.monitors c.args.awake.now same.monitors c.requires.listed;
+      listed = listed_same m Stands c.args.call.now.objects.now None c.args.self.now.store.monitors c.plan_as.new.self.monitors c.args.self.now.awake same.monitors c.requires.listed;
       works = λ trace holds. (c.requires.live, record { stored = same.stored; marks = same.marks; holds = same.keeps trace holds });
     }

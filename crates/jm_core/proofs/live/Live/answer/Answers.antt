@@ -2,11 +2,11 @@ use Rattle.std.proofs.Common.{ap}
 use Rattle.jm_model.specs.declared.step.Outcome.TheVariants.{Fired}
 use Rattle.jm_semantics.specs.Traces.{ParametricEvent}
 use Rattle.jm_core.proofs.FireLemmas.{outcome_before}
-use Rattle.jm_core.proofs.firing.answer.Goals as goal
+use Rattle.jm_core.proofs.live.Live.answer.Goals as goal
 
-pub returns-in-Some-counted_advance : goal.returns-in-Some-counted_advance
-returns-in-Some-counted_advance g c =
-    let done = c.in-Some-counted_advance.ensures in
+pub returns-in-Some-advance_one : goal.returns-in-Some-advance_one
+returns-in-Some-advance_one g c =
+    let done = c.in-Some-advance_one.ensures in
     record {
       twice = ap Fired done.advances.twice;
       closed = done.advances.closed;
@@ -19,7 +19,7 @@ returns-in-Some-counted_advance g c =
 
 pub fire-requires : goal.fire-requires
 fire-requires g c =
-    let kept = c.in_default-counted_advance.ensures in
+    let kept = c.in_default-advance_one.ensures in
     record {
       can = record { closed = kept.advances.closed; fits = kept.advances.fits; event = c.requires.can.event; there = c.requires.can.there };
       known = rw kept.advances.unmarked c.is_mark-known.ensures;
@@ -31,9 +31,9 @@ pub returns : goal.returns
 returns g c =
     let m = g.M.Monitor.meaning (g.M.Monitor.definition c.args.call.now.rules.now) in
     let Stands = g.M.Monitor.StandsFor c.args.call.now.rules.now in
-    let kept = c.in_default-counted_advance.ensures in
+    let kept = c.in_default-advance_one.ensures in
     let fired = c.fire.ensures in
-    let mid = c.counted_advance.new.store in
+    let mid = c.advance_one.new.self in
     let a : ParametricEvent = record { letter = c.args.call.now.letter.0; binding = c.args.call.now.binding.now } in
     record {
       twice = fired.twice;
@@ -41,7 +41,7 @@ returns g c =
       fits = fired.fits;
       listed = fired.listed;
       works = λ trace holds.
-          outcome_before m Stands trace c.args.call.now.objects.now a c.args.store.now mid c.fire.new.store _ kept.advances.stored kept.advances.unmarked (fired.works trace (kept.advances.keeps trace holds));
+          outcome_before m Stands trace c.args.call.now.objects.now a c.args.self.now.store mid c.fire.new.self.store _ kept.advances.stored kept.advances.unmarked (fired.works trace (kept.advances.keeps trace holds));
     }
 
 pub answer_by_list-requires-clause-list : goal.answer_by_list-requires-clause-list

@@ -1,6 +1,6 @@
 use Rattle.std.proofs.Common.{ap}
 use Rattle.jm_model.specs.declared.step.Outcome.TheVariants.{Fired}
-use Rattle.jm_core.proofs.firing.answer_by_list.Goals as goal
+use Rattle.jm_core.proofs.live.Live.answer_by_list.Goals as goal
 
 pub returns-in-Some : goal.returns-in-Some
 returns-in-Some g c =
@@ -15,5 +15,5 @@ returns-in-Some g c =
           (c.requires.live, event.answer, record { holds = event.store; none_cut = event.none_cut });
     }
 
-pub answer_listed-requires-clause-list : goal.answer_listed-requires-clause-list
-answer_listed-requires-clause-list g c = rw (c.in_default.ensures.same.0, c.in_default.ensures.same.1) c.requires.list
+pub fire_listed-requires-clause-list : goal.fire_listed-requires-clause-list
+fire_listed-requires-clause-list g c = rw (c.in_default.ensures.same.0, c.in_default.ensures.same.1) c.requires.list

@@ -1,5 +1,5 @@
 use Rattle.std.proofs.Common.{refl, sym}
-use Rattle.jm_core.proofs.firing.perform.Goals as goal
+use Rattle.jm_core.proofs.live.Live.perform.Goals as goal
 
 pub returns-in-Some : goal.returns-in-Some
 returns-in-Some g c = record {

@@ -6,8 +6,8 @@ use Rattle.jm_model.specs.Bindings.{object_at}
 use Rattle.jm_marks.specs.Marks.{is_dead_object}
 use Rattle.jm_core.specs.Inside.{first_dead_by}
 use Rattle.jm_core.proofs.FlagLemmas.{found_first, none_yet}
-use Rattle.jm_core.proofs.firing.first_dead.Goals as goal
-use Rattle.jm_core.proofs.firing.first_dead.Goals.{in-Some+else-is_dead, in_default}
+use Rattle.jm_core.proofs.live.first_dead.Goals as goal
+use Rattle.jm_core.proofs.live.first_dead.Goals.{in-Some+else-is_dead, in_default}
 
 pub is_dead-requires : goal.is_dead-requires
 is_dead-requires c = c.requires.there c.in-Some.object (c.loop-p.p, sym c.get.ensures ∙ c.in-Some.is)

@@ -1,0 +1,210 @@
+//! What is live of a core, and what an event comes to there.
+ghost use Rattle.std.specs.Prelude.{◌≡◌, ◌<◌, ◌↔◌, false, None, Contains, IsTrue, length};
+ghost use Rattle.jm_index.specs.Index.{AreBelow, AreLive, IsFitting};
+ghost use Rattle.jm_monitors.specs.Steps.{IsLiveEvent};
+ghost use Rattle.jm_store.specs.Contents.{IsFit};
+ghost use Rattle.jm_store.specs.Listed.{AreListed, HasList, KeepListed};
+ghost use Rattle.jm_store.specs.Plans.{CanPlan};
+ghost use Rattle.jm_core.specs.Inside.{first_dead_by, Performs};
+
+use jm_awake::Awake;
+use jm_model::{Binding, Firings, Monitor, NoMemory, Outcome, Steps};
+use jm_objects::Objects;
+use jm_store::{Call, Store};
+use std::alloc::Global;
+use std::sync::ledger::{Blank, Ledger};
+
+/// What is live of a core: what of its history can still matter.
+#[derive(Drop)]
+pub(crate) struct Live<M: Monitor> {
+    /// The monitors and marks.
+    pub(crate) store: Store<M>,
+    /// Lists of the monitors that an event may change.
+    pub(crate) awake: Awake,
+}
+
+impl<M: Monitor> Live<M> {
+    /// What an event comes to, twice: it is refused where it binds a dead object, with the first one. Unless it is
+    /// answered, monitors and marks stay as they are. The counter of what it reads is made of a ledger of one part.
+    #[inline(always)]
+    pub(crate) fn perform<L: Ledger>(
+        &mut self,
+        alloc: Global,
+        call: &Call<M>,
+        blank: Blank,
+    ) -> (Outcome, Outcome)
+        requires name { blank.name ≡ L.name }
+        requires parts { blank.parts ≡ L.parts }
+        requires one { blank.parts ≡ 1 }
+        requires closed { self.old.store.is_open ≡ false }
+        requires fits { IsFit self.old.store call.now.objects.now }
+        requires eight { length call.now.binding.now ≡ 8 }
+        requires event { first_dead_by call.now.objects.now call.now.binding.now ≡ None → IsLiveEvent
+            (M.meaning (M.definition call.now.rules.now)) call.now.objects.now call.now.letter.0 call.now.binding.now }
+        requires there { AreBelow (length call.now.objects.now) call.now.binding.now }
+        requires listed { AreListed (M.meaning (M.definition call.now.rules.now)) (M.StandsFor call.now.rules.now)
+            call.now.objects.now self.old.store.monitors self.old.awake }
+        ensures { Performs (M.meaning (M.definition call.now.rules.now)) (M.StandsFor call.now.rules.now)
+            call.now.objects.now (record { letter = call.now.letter.0; binding = call.now.binding.now })
+            self.old.store self.new.store self.old.awake self.new.awake result }
+    {
+        let mut steps = Steps::<L>::new(blank);
+        match first_dead(call.objects, call.binding) {
+            Some(object) => (Outcome::Refused(object), Outcome::Refused(object)),
+            None => self.answer(alloc, call, &mut steps),
+        }
+    }
+
+    /// What an event comes to that binds no dead object. Where there is a list of it, only the listed monitors are
+    /// read.
+    #[inline(always)]
+    fn answer<L: Ledger>(
+        &mut self,
+        alloc: Global,
+        call: &Call<M>,
+        steps: &mut Steps<L>,
+    ) -> (Outcome, Outcome)
+        requires can { CanPlan (M.meaning (M.definition call.now.rules.now)) call.now.objects.now call.now.letter.0
+            call.now.binding.now self.old.store }
+        requires live { first_dead_by call.now.objects.now call.now.binding.now ≡ None }
+        requires listed { AreListed (M.meaning (M.definition call.now.rules.now)) (M.StandsFor call.now.rules.now)
+            call.now.objects.now self.old.store.monitors self.old.awake }
+        ensures { Performs (M.meaning (M.definition call.now.rules.now)) (M.StandsFor call.now.rules.now)
+            call.now.objects.now (record { letter = call.now.letter.0; binding = call.now.binding.now })
+            self.old.store self.new.store self.old.awake self.new.awake result }
+    {
+        let known = self.store.is_mark(call.binding);
+        if known {
+            let _letters = call.rules.letters();
+            if let Some(place) = self.awake.find(call.letter, call.binding) {
+                return self.answer_by_list(alloc, call, place, steps);
+            }
+        }
+        if let Some(done) = self.store.advance_one(call, &mut self.awake, known, steps) {
+            return (Outcome::Fired(done.answer), Outcome::Fired(done.copy));
+        }
+        self.fire(call, known, steps)
+    }
+
+    /// What an event comes to whose list was found: at once, or by a plan.
+    #[inline(always)]
+    fn answer_by_list<L: Ledger>(
+        &mut self,
+        alloc: Global,
+        call: &Call<M>,
+        place: usize,
+        steps: &mut Steps<L>,
+    ) -> (Outcome, Outcome)
+        requires can { CanPlan (M.meaning (M.definition call.now.rules.now)) call.now.objects.now call.now.letter.0
+            call.now.binding.now self.old.store }
+        requires list { HasList (M.meaning (M.definition call.now.rules.now)) (M.StandsFor call.now.rules.now)
+            call.now.objects.now call.now.letter.0 call.now.binding.now self.old.store.marks self.old.store.monitors
+            self.old.awake place }
+        requires live { first_dead_by call.now.objects.now call.now.binding.now ≡ None }
+        ensures { Performs (M.meaning (M.definition call.now.rules.now)) (M.StandsFor call.now.rules.now)
+            call.now.objects.now (record { letter = call.now.letter.0; binding = call.now.binding.now })
+            self.old.store self.new.store self.old.awake self.new.awake result }
+    {
+        if let Some(done) = self
+            .store
+            .advance_listed(call, &mut self.awake, place, steps)
+        {
+            return (Outcome::Fired(done.answer), Outcome::Fired(done.copy));
+        }
+        self.fire_listed(alloc, call, place, steps)
+    }
+
+    /// What an event comes to whose list was found, by a plan.
+    #[inline(always)]
+    fn fire_listed<L: Ledger>(
+        &mut self,
+        alloc: Global,
+        call: &Call<M>,
+        place: usize,
+        steps: &mut Steps<L>,
+    ) -> (Outcome, Outcome)
+        requires can { CanPlan (M.meaning (M.definition call.now.rules.now)) call.now.objects.now call.now.letter.0
+            call.now.binding.now self.old.store }
+        requires list { HasList (M.meaning (M.definition call.now.rules.now)) (M.StandsFor call.now.rules.now)
+            call.now.objects.now call.now.letter.0 call.now.binding.now self.old.store.marks self.old.store.monitors
+            self.old.awake place }
+        requires live { first_dead_by call.now.objects.now call.now.binding.now ≡ None }
+        ensures { Performs (M.meaning (M.definition call.now.rules.now)) (M.StandsFor call.now.rules.now)
+            call.now.objects.now (record { letter = call.now.letter.0; binding = call.now.binding.now })
+            self.old.store self.new.store self.old.awake self.new.awake result }
+    {
+        let planned = self.store.plan_listed(call, &mut self.awake, place, steps);
+        match planned {
+            Ok(Some(plan)) => {
+                self.store.follow(&mut self.awake, &plan);
+                let (answer, copy) = self.store.commit(plan);
+                (Outcome::Fired(answer), Outcome::Fired(copy))
+            }
+            Ok(None) => (
+                Outcome::Fired(Firings::new(alloc)),
+                Outcome::Fired(Firings::new(alloc)),
+            ),
+            Err(NoMemory) => (Outcome::NoMemory, Outcome::NoMemory),
+        }
+    }
+
+    /// What an event comes to of which there is no list, by a plan.
+    fn fire<L: Ledger>(
+        &mut self,
+        call: &Call<M>,
+        known: bool,
+        steps: &mut Steps<L>,
+    ) -> (Outcome, Outcome)
+        requires can { CanPlan (M.meaning (M.definition call.now.rules.now)) call.now.objects.now call.now.letter.0
+            call.now.binding.now self.old.store }
+        requires known { IsTrue known ↔ Contains self.old.store.marks call.now.binding.now }
+        requires live { first_dead_by call.now.objects.now call.now.binding.now ≡ None }
+        requires listed { AreListed (M.meaning (M.definition call.now.rules.now)) (M.StandsFor call.now.rules.now)
+            call.now.objects.now self.old.store.monitors self.old.awake }
+        ensures { Performs (M.meaning (M.definition call.now.rules.now)) (M.StandsFor call.now.rules.now)
+            call.now.objects.now (record { letter = call.now.letter.0; binding = call.now.binding.now })
+            self.old.store self.new.store self.old.awake self.new.awake result }
+    {
+        match self.store.plan_as(call, known, steps) {
+            Ok(plan) => {
+                let listed = known && plan.is_worth_listing();
+                self.store.follow(&mut self.awake, &plan);
+                let (answer, copy) = self.store.commit(plan);
+                list_if(call, &self.store, &mut self.awake, listed);
+                (Outcome::Fired(answer), Outcome::Fired(copy))
+            }
+            Err(NoMemory) => (Outcome::NoMemory, Outcome::NoMemory),
+        }
+    }
+}
+
+/// Lists the monitors above the binding of an event, if that is worth its while: when the event comes again, it reads
+/// only those that it may change.
+fn list_if<M: Monitor>(call: &Call<M>, store: &Store<M>, awake: &mut Awake, listed: bool)
+    requires closed { store.now.is_open ≡ false }
+    requires letter { call.now.letter.0 < (M.meaning (M.definition call.now.rules.now)).letters }
+    requires fits { IsFitting store.now.index call.now.objects.now }
+    requires live { AreLive call.now.objects.now call.now.binding.now }
+    ensures { KeepListed (M.meaning (M.definition call.now.rules.now)) (M.StandsFor call.now.rules.now)
+        call.now.objects.now store.now.monitors store.now.monitors awake.old awake.new }
+{
+    if listed {
+        store.list(call, awake);
+    }
+}
+
+/// The first dead object that a binding binds, in the order of the parameters.
+fn first_dead(objects: &Objects, binding: &Binding) -> Option<u32>
+    requires eight { length binding.now ≡ 8 }
+    requires there { AreBelow (length objects.now) binding.now }
+    ensures { result ≡ first_dead_by objects.now binding.now }
+{
+    for p in 0..8 {
+        if let Some(object) = binding.get(p) {
+            if objects.is_dead(object) {
+                return Some(object);
+            }
+        }
+    }
+    None
+}
