@@ -6,12 +6,13 @@ use Rattle.jm_ere.proofs.tree.Tree.TheLaws.TheKnot.{crosses as tree}
 use Rattle.jm_machine.specs.contracts.rules.Rules as Rules
 use Rattle.jm_machine.specs.contracts.property.Property as Property
 use Rattle.jm_machine.specs.contracts.formula.Formula as Formula
-use Rattle.jm_machine.specs.contracts.engine.Engine as Engine
-use Rattle.jm_machine.specs.contracts.outlook.Outlook as Outlook
+use Rattle.jm_machine.specs.contracts.prepared_engine.PreparedEngine as PreparedEngine
 use Rattle.jm_events.specs.contracts.names.Names as Names
 use Rattle.jm_goal.specs.contracts.goal.Goal as Goal
 use Rattle.jm_machine.specs.contracts.table_outlook.TableOutlook as TableOutlook
 use Rattle.jm_machine.specs.contracts.grammar_outlook.GrammarOutlook as GrammarOutlook
+use Rattle.jm_table.specs.contracts.table.Table as Table
+use Rattle.jm_earley.specs.contracts.chart.Charts as Charts
 use Rattle.jm_earley.specs.contracts.chart.Chart as Chart
 use denote.Param.Send.{IsSend, IsSync, sendable}
 
@@ -26,8 +27,11 @@ goal_crosses = search (crosses, maps, sendable) depth 100 fits 20000
 formula_crosses : IsSend Formula.the_field.row
 formula_crosses = search (tree, crosses, maps, sendable) depth 100 fits 20000
 
-engine_crosses : IsSend Engine.the_field.row
-engine_crosses = search (crosses, maps, sendable) depth 100 fits 20000
+table_crosses : IsSend Table.the_field.row
+table_crosses = search (crosses, maps, sendable) depth 100 fits 20000
+
+charts_crosses : IsSend Charts.the_field.row
+charts_crosses = search (crosses, maps, sendable) depth 100 fits 20000
 
 table_outlook_crosses : IsSend TableOutlook.the_row
 table_outlook_crosses = search (crosses, maps, sendable) depth 100 fits 20000
@@ -38,12 +42,14 @@ chart_crosses = search (crosses, maps, sendable) depth 100 fits 20000
 grammar_outlook_crosses : IsSend GrammarOutlook.the_row
 grammar_outlook_crosses = search (chart_crosses, crosses, maps, sendable) depth 100 fits 20000
 
-outlook_crosses : IsSend Outlook.the_field.row
-outlook_crosses = search (table_outlook_crosses, grammar_outlook_crosses, crosses, sendable) depth 100 fits 20000
+engine_crosses : IsSend PreparedEngine.the_field.row
+engine_crosses =
+    search (table_crosses, charts_crosses, table_outlook_crosses, grammar_outlook_crosses, crosses, maps, sendable)
+    depth 100 fits 20000
 
 property_crosses : IsSend Property.the_row
 property_crosses =
-    search (formula_crosses, engine_crosses, outlook_crosses, names_crosses, goal_crosses, crosses, maps, sendable)
+    search (formula_crosses, engine_crosses, names_crosses, goal_crosses, crosses, maps, sendable)
     depth 100 fits 20000
 
 pub rules_cross : IsSend Rules.the_row
@@ -60,8 +66,11 @@ goal_shared = search (crosses, maps, sendable) depth 100 fits 20000
 formula_shared : IsSync Formula.the_field.row
 formula_shared = search (tree, crosses, maps, sendable) depth 100 fits 20000
 
-engine_shared : IsSync Engine.the_field.row
-engine_shared = search (crosses, maps, sendable) depth 100 fits 20000
+table_shared : IsSync Table.the_field.row
+table_shared = search (crosses, maps, sendable) depth 100 fits 20000
+
+charts_shared : IsSync Charts.the_field.row
+charts_shared = search (crosses, maps, sendable) depth 100 fits 20000
 
 table_outlook_shared : IsSync TableOutlook.the_row
 table_outlook_shared = search (crosses, maps, sendable) depth 100 fits 20000
@@ -72,12 +81,14 @@ chart_shared = search (crosses, maps, sendable) depth 100 fits 20000
 grammar_outlook_shared : IsSync GrammarOutlook.the_row
 grammar_outlook_shared = search (chart_shared, crosses, maps, sendable) depth 100 fits 20000
 
-outlook_shared : IsSync Outlook.the_field.row
-outlook_shared = search (table_outlook_shared, grammar_outlook_shared, crosses, sendable) depth 100 fits 20000
+engine_shared : IsSync PreparedEngine.the_field.row
+engine_shared =
+    search (table_shared, charts_shared, table_outlook_shared, grammar_outlook_shared, crosses, maps, sendable)
+    depth 100 fits 20000
 
 property_shared : IsSync Property.the_row
 property_shared =
-    search (formula_shared, engine_shared, outlook_shared, names_shared, goal_shared, crosses, maps, sendable)
+    search (formula_shared, engine_shared, names_shared, goal_shared, crosses, maps, sendable)
     depth 100 fits 20000
 
 pub rules_shared : IsSync Rules.the_row

@@ -17,7 +17,7 @@ use Rattle.jm_coenable.specs.Needs.{is_reset, step_of, run_from}
 use Rattle.jm_coenable.proofs.ResetLemmas.{IsResettingAt, reset_tells}
 use Rattle.jm_machine.specs.declared.engine.Engine.TheVariants.{States}
 use Rattle.jm_machine.specs.declared.place.Place.{Place}
-use Rattle.jm_machine.specs.declared.place.Place.TheVariants.{Start, Barren, State, Parse}
+use Rattle.jm_machine.specs.declared.place.Place.TheVariants.{Start, Trap, State, Parse}
 use Rattle.jm_machine.specs.Formulas.{category_names}
 use Rattle.jm_machine.specs.Engines.{EngineHolds}
 use Rattle.jm_machine.specs.PropertyMeanings.{PropertyRules, Resets, property_meaning, is_failing_grammar}
@@ -62,13 +62,13 @@ cut_words d w dead other = (
 )
 
 -- a word that begins otherwise than words may can't be hit again
-pub barren_never : (d : PropertyRules) (w : List ℕ) (mask : ℕ) → w ≢ [] → (IsCreated (property_meaning d) w → ⊥) → IsNeeded (property_meaning d) w mask → ⊥
-barren_never d w mask some never need = never ((created_later (property_meaning d) w (need.next ∷ need.rest) some).1 need.hit.1)
+pub trap_never : (d : PropertyRules) (w : List ℕ) (mask : ℕ) → w ≢ [] → (IsCreated (property_meaning d) w → ⊥) → IsNeeded (property_meaning d) w mask → ⊥
+trap_never d w mask some never need = never ((created_later (property_meaning d) w (need.next ∷ need.rest) some).1 need.hit.1)
 
-pub barren_quiet : (d : PropertyRules) (w : List ℕ) (dead : ℕ) → w ≢ [] → (IsCreated (property_meaning d) w → ⊥) → CanHit (property_meaning d) w dead 0 → ⊥
-barren_quiet d w dead some never can =
+pub trap_quiet : (d : PropertyRules) (w : List ℕ) (dead : ℕ) → w ≢ [] → (IsCreated (property_meaning d) w → ⊥) → CanHit (property_meaning d) w dead 0 → ⊥
+trap_quiet d w dead some never can =
     let need = (can_hit_needed (property_meaning d) dead w 0 (λ k. refl)).0 can in
-    barren_never d w need.0 some never need.1
+    trap_never d w need.0 some never need.1
 
 -- ---- the words of a table
 
@@ -252,7 +252,7 @@ module _ (d : PropertyRules) (t : Transitions) (goal : GoalDefinition) (v : Even
       (let by = can_hit_needed m dead [] 0 (λ k. refl) in
       let same = alive_same (IsNeeded m []) (needs.IsNeededAtStart t goal v) dead needed_start in
       (λ can. same.0 (by.0 can), λ alive. by.1 (same.1 alive)))
-  can_hit_run Barren w dead within h = (λ can. barren_quiet d w dead h.0 h.1 can, λ never. absurd never)
+  can_hit_run Trap w dead within h = (λ can. trap_quiet d w dead h.0 h.1 can, λ never. absurd never)
   can_hit_run (State s) w dead within h =
       let by = can_hit_needed m dead w 0 (λ k. refl) in
       let same = alive_same (IsNeeded m w) (needs.IsNeededFrom t goal v s) dead (λ mask. needed_from w s mask h.1 h.0) in

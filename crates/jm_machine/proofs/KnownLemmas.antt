@@ -20,9 +20,9 @@ use Rattle.jm_earley.specs.DeadSets as charts
 use Rattle.jm_machine.specs.declared.formula.Formula.{Formula}
 use Rattle.jm_machine.specs.declared.engine.Engine.{Engine}
 use Rattle.jm_machine.specs.declared.engine.Engine.TheVariants.{States, Parses}
-use Rattle.jm_machine.specs.declared.outlook.Outlook.TheVariants.{Table, Grammar}
+use Rattle.jm_machine.specs.declared.prepared_engine.PreparedEngine.TheVariants.{Table, Grammar}
 use Rattle.jm_machine.specs.declared.place.Place.{Place}
-use Rattle.jm_machine.specs.declared.place.Place.TheVariants.{Start, Barren, State, Parse}
+use Rattle.jm_machine.specs.declared.place.Place.TheVariants.{Start, Trap, State, Parse}
 use Rattle.jm_machine.specs.Formulas.{category_names}
 use Rattle.jm_machine.specs.Engines.{IsPlaceOf, EngineHolds}
 use Rattle.jm_machine.specs.Rests.{IsRest}
@@ -36,7 +36,7 @@ use Rattle.jm_machine.proofs.GoalLemmas.{begins_as_listed, number_in, number_set
 use Rattle.jm_machine.proofs.PlaceLemmas.{state_within, push_word}
 use Rattle.jm_machine.proofs.RestLemmas.{letter_there, asked_some, asked_on, left_anew, left_on}
 use Rattle.jm_machine.proofs.PropertyLemmas.{handled_told, hit_handled, run_hits, begun_later, created_later}
-use Rattle.jm_machine.proofs.CutLemmas.{not_so, cut_words, can_hit_run, barren_quiet, stood_more, stood_first}
+use Rattle.jm_machine.proofs.CutLemmas.{not_so, cut_words, can_hit_run, trap_quiet, stood_more, stood_first}
 use Rattle.jm_machine.proofs.ParseLemmas.{failing_cut, matching_cut}
 use Rattle.jm_machine.proofs.FamilyLemmas.{family_is}
 use Rattle.jm_machine.proofs.OutlookLemmas.{no_bit_of_zero, mask_at}
@@ -59,7 +59,7 @@ module _ (masks : List ℕ) (formula : Formula) (handlers : List (List ℕ)) (go
   marked : (k : ℕ) → IsBitSet goal.resets k ↔ Contains d.resets k
   marked k = (λ bit. number_in goal.resets (length handlers) k (g.resets k bit) bit, number_set goal.resets (length handlers) k)
 
-  module _ (t : Transitions) (facts : StateFacts) (set : IsCompiledProperty (rules_with (States t))) (known : IsKnown d goal (States t) (Table facts)) where
+  module _ (t : Transitions) (facts : StateFacts) (set : IsCompiledProperty (rules_with (States t))) (known : IsKnown d goal (Table t facts)) where
     abbrev r : CompiledProperty
     r = rules_with (States t)
 
@@ -148,143 +148,113 @@ module _ (masks : List ℕ) (formula : Formula) (handlers : List (List ℕ)) (go
           | inr ends ↦ ended_cut 0 e (e ∷ []) (letter_there [] e) (first_ended e ends) ends
         ]
 
-  -- ---- whatever runs the property
+    -- ---- what is answered
 
-  module _ (facts : StateFacts) where
-    pub known_hits : (engine : Engine) → IsCompiledProperty (rules_with engine) → IsKnown d goal engine (Table facts) → (s : ℕ) (bits : ℕ) → (s < length facts.hits → bits ≡ slice_index facts.hits s) → (word : List ℕ) → IsPlaceOf engine (State s) word → (k : ℕ) → IsBitSet bits k ↔ IsHandledBy (rules_with engine) word k
-    known_hits (States t) set known s bits is word place k =
-        let told : AreFactsOf t goal known.events facts = known.told in
-        let less : s < length facts.hits = subst (λ (n : ℕ). s < n) (sym told.count) (there t facts set known s word place) in
-        subst (λ (n : ℕ). IsBitSet n k ↔ IsHandledBy (rules_with (States t)) word k) (sym (is less)) (handled_state t facts set known s word place k)
-    known_hits (Parses c) set known s bits is word place k = absurd place
+    pub known_hits : (s : ℕ) (bits : ℕ) → (s < length facts.hits → bits ≡ slice_index facts.hits s) → (word : List ℕ) → IsPlaceOf (States t) (State s) word → (k : ℕ) → IsBitSet bits k ↔ IsHandledBy r word k
+    known_hits s bits is word place k =
+        let less : s < length facts.hits = subst (λ (n : ℕ). s < n) (sym told.count) (there s word place) in
+        subst (λ (n : ℕ). IsBitSet n k ↔ IsHandledBy r word k) (sym (is less)) (handled_state s word place k)
 
-    pub known_state_hits : (engine : Engine) → IsCompiledProperty (rules_with engine)
-        → IsKnown d goal engine (Table facts) → (s : ℕ) (bits : ℕ)
-        → (s < length facts.hits → bits ≡ slice_index facts.hits s) → (w : List ℕ)
-        → IsPlaceAfter (rules_with engine) (State s) w → (k : ℕ) → IsBitSet bits k ↔ IsHit m w k
-    known_state_hits engine set known s bits is w h =
-        run_hits (rules_with engine) set (State s) w h.0 h.1 bits (known_hits engine set known s bits is)
+    pub known_state_hits : (s : ℕ) (bits : ℕ) → (s < length facts.hits → bits ≡ slice_index facts.hits s)
+        → (w : List ℕ) → IsPlaceAfter r (State s) w → (k : ℕ) → IsBitSet bits k ↔ IsHit m w k
+    known_state_hits s bits is w h = run_hits r set (State s) w h.0 h.1 bits (known_hits s bits is)
 
-    pub known_cut : (engine : Engine) → IsCompiledProperty (rules_with engine) → IsKnown d goal engine (Table facts) → (place : Place) (dead : ℕ) (can : Bool)
+    pub known_cut : (place : Place) (dead : ℕ) (can : Bool)
         → ((t : Transitions) (g : GoalDefinition) (v : EventDefinitions) → AreNeedsOf t g v facts.needs → IsTrue can ↔ CanHitFrom t g v place dead)
-        → (w : List ℕ) → IsPlaceAfter (rules_with engine) place w → IsTrue (not can) ↔ IsCutWord m w dead
-    known_cut (States t) set known place dead can says w h =
-        let told : AreFactsOf t goal known.events facts = known.told in
-        table_cut t facts set known place dead can (says t goal known.events told.needs) w h
-    known_cut (Parses c) set known place dead can says w h = absurd known.told
+        → (w : List ℕ) → IsPlaceAfter r place w → IsTrue (not can) ↔ IsCutWord m w dead
+    known_cut place dead can says w h = table_cut place dead can (says t goal known.events told.needs) w h
 
-    pub known_stays : (engine : Engine) → IsCompiledProperty (rules_with engine) → IsKnown d goal engine (Table facts) → (s e bits : ℕ) → bits ≡ slice_index facts.idle s → IsBitSet bits e → (w : List ℕ) → IsPlaceAfter (rules_with engine) (State s) w → IsPlaceAfter (rules_with engine) (State s) (w ++ e ∷ [])
-    known_stays (States t) set known s e bits is bit w h = table_stays t facts set known s e (subst (λ (n : ℕ). IsBitSet n e) is bit) w h
-    known_stays (Parses c) set known s e bits is bit w h = absurd known.told
+    pub known_stays : (s e bits : ℕ) → bits ≡ slice_index facts.idle s → IsBitSet bits e → (w : List ℕ) → IsPlaceAfter r (State s) w → IsPlaceAfter r (State s) (w ++ e ∷ [])
+    known_stays s e bits is bit w h = table_stays s e (subst (λ (n : ℕ). IsBitSet n e) is bit) w h
 
-    pub known_rests : (engine : Engine) → IsCompiledProperty (rules_with engine) → IsKnown d goal engine (Table facts) → (s e bits : ℕ) → bits ≡ slice_index facts.idle s → IsBitSet bits e → (w : List ℕ) → IsPlaceAfter (rules_with engine) (State s) w → (k : ℕ) → IsHit m (w ++ e ∷ []) k → ⊥
-    known_rests (States t) set known s e bits is bit w h k hit = table_rests t facts set known s e (subst (λ (n : ℕ). IsBitSet n e) is bit) w h k hit
-    known_rests (Parses c) set known s e bits is bit w h k hit = absurd known.told
+    pub known_rests : (s e bits : ℕ) → bits ≡ slice_index facts.idle s → IsBitSet bits e → (w : List ℕ) → IsPlaceAfter r (State s) w → (k : ℕ) → IsHit m (w ++ e ∷ []) k → ⊥
+    known_rests s e bits is bit w h k hit = table_rests s e (subst (λ (n : ℕ). IsBitSet n e) is bit) w h k hit
 
-    ending_at : (t : Transitions) (set : IsCompiledProperty (rules_with (States t))) (known : IsKnown d goal (States t) (Table facts)) (s e bits : ℕ) → bits ≡ slice_index facts.ending s → IsBitSet bits e → (w : List ℕ) → IsPlaceAfter (rules_with (States t)) (State s) w → IsEndingLetter t facts.hits goal facts.needs s e
-    ending_at t set known s e bits is bit w h =
-        let told : AreFactsOf t goal known.events facts = known.told in
-        told.ending s e (there t facts set known s h.1.0 h.1.2) (subst (λ (n : ℕ). IsBitSet n e) is bit)
+    ending_at : (s e bits : ℕ) → bits ≡ slice_index facts.ending s → IsBitSet bits e → (w : List ℕ) → IsPlaceAfter r (State s) w → IsEndingLetter t facts.hits goal facts.needs s e
+    ending_at s e bits is bit w h =
+        told.ending s e (there s h.1.0 h.1.2) (subst (λ (n : ℕ). IsBitSet n e) is bit)
 
-    pub known_quiet : (engine : Engine) → IsCompiledProperty (rules_with engine) → IsKnown d goal engine (Table facts) → (s e bits : ℕ) → bits ≡ slice_index facts.ending s → IsBitSet bits e → (w : List ℕ) → IsPlaceAfter (rules_with engine) (State s) w → (k : ℕ) → IsHit m (w ++ e ∷ []) k → ⊥
-    known_quiet (States t) set known s e bits is bit w h k hit =
-        let ends = ending_at t set known s e bits is bit w h in
-        ended_quiet t facts set known s e (w ++ e ∷ []) (ended t facts set known s e w h.1 ends) ends k hit
-    known_quiet (Parses c) set known s e bits is bit w h k hit = absurd known.told
+    pub known_quiet : (s e bits : ℕ) → bits ≡ slice_index facts.ending s → IsBitSet bits e → (w : List ℕ) → IsPlaceAfter r (State s) w → (k : ℕ) → IsHit m (w ++ e ∷ []) k → ⊥
+    known_quiet s e bits is bit w h k hit =
+        let ends = ending_at s e bits is bit w h in
+        ended_quiet s e (w ++ e ∷ []) (ended s e w h.1 ends) ends k hit
 
-    pub known_ends : (engine : Engine) → IsCompiledProperty (rules_with engine) → IsKnown d goal engine (Table facts) → (s e bits : ℕ) → bits ≡ slice_index facts.ending s → IsBitSet bits e → (w : List ℕ) → IsPlaceAfter (rules_with engine) (State s) w → IsCutWord m (w ++ e ∷ []) 0
-    known_ends (States t) set known s e bits is bit w h =
-        let ends = ending_at t set known s e bits is bit w h in
-        ended_cut t facts set known s e (w ++ e ∷ []) (letter_there w e) (ended t facts set known s e w h.1 ends) ends
-    known_ends (Parses c) set known s e bits is bit w h = absurd known.told
+    pub known_ends : (s e bits : ℕ) → bits ≡ slice_index facts.ending s → IsBitSet bits e → (w : List ℕ) → IsPlaceAfter r (State s) w → IsCutWord m (w ++ e ∷ []) 0
+    known_ends s e bits is bit w h =
+        let ends = ending_at s e bits is bit w h in
+        ended_cut s e (w ++ e ∷ []) (letter_there w e) (ended s e w h.1 ends) ends
 
-    pub known_first_quiet : (engine : Engine) → IsCompiledProperty (rules_with engine) → IsKnown d goal engine (Table facts) → (e bits : ℕ) → bits ≡ facts.first_ending → IsBitSet bits e → (w : List ℕ) → w ≡ [] → (k : ℕ) → IsHit m (w ++ e ∷ []) k → ⊥
-    known_first_quiet (States t) set known e bits is bit w empty k hit =
-        first_quiet t facts set known e (subst (λ (n : ℕ). IsBitSet n e) is bit) k (subst (λ (x : List ℕ). IsHit m (x ++ e ∷ []) k) empty hit)
-    known_first_quiet (Parses c) set known e bits is bit w empty k hit = absurd known.told
+    pub known_first_quiet : (e bits : ℕ) → bits ≡ facts.first_ending → IsBitSet bits e → (w : List ℕ) → w ≡ [] → (k : ℕ) → IsHit m (w ++ e ∷ []) k → ⊥
+    known_first_quiet e bits is bit w empty k hit =
+        first_quiet e (subst (λ (n : ℕ). IsBitSet n e) is bit) k (subst (λ (x : List ℕ). IsHit m (x ++ e ∷ []) k) empty hit)
 
-    pub known_first_ends : (engine : Engine) → IsCompiledProperty (rules_with engine) → IsKnown d goal engine (Table facts) → (e bits : ℕ) → bits ≡ facts.first_ending → IsBitSet bits e → (w : List ℕ) → w ≡ [] → IsCutWord m (w ++ e ∷ []) 0
-    known_first_ends (States t) set known e bits is bit w empty =
-        subst (λ (x : List ℕ). IsCutWord m (x ++ e ∷ []) 0) (sym empty) (first_cut t facts set known e (subst (λ (n : ℕ). IsBitSet n e) is bit))
-    known_first_ends (Parses c) set known e bits is bit w empty = absurd known.told
+    pub known_first_ends : (e bits : ℕ) → bits ≡ facts.first_ending → IsBitSet bits e → (w : List ℕ) → w ≡ [] → IsCutWord m (w ++ e ∷ []) 0
+    known_first_ends e bits is bit w empty =
+        subst (λ (x : List ℕ). IsCutWord m (x ++ e ∷ []) 0) (sym empty) (first_cut e (subst (λ (n : ℕ). IsBitSet n e) is bit))
 
     -- ---- by the numbers of states
 
-    plain_move : (t : Transitions) (set : IsCompiledProperty (rules_with (States t)))
-        (known : IsKnown d goal (States t) (Table facts)) (e s n : ℕ)
-        → IsPlainState t facts.hits goal facts.needs e s n
-        → IsPlainMove Place m (IsPlaceAfter (rules_with (States t))) e (State s) (State n)
-    plain_move t set known e s n plain = record {
+    plain_move : (e s n : ℕ) → IsPlainState t facts.hits goal facts.needs e s n
+        → IsPlainMove Place m (IsPlaceAfter r) e (State s) (State n)
+    plain_move e s n plain = record {
       leads = λ w h. (
-        begun_later (rules_with (States t)) w e h.0,
-        subst (λ (next : ℕ). Stands (rules_with (States t)) (State next) (w ++ e ∷ [])) (sym plain.next)
+        begun_later r w e h.0,
+        subst (λ (next : ℕ). Stands r (State next) (w ++ e ∷ [])) (sym plain.next)
             (stood_more d t goal known.events set known.masks g.groups listed marked s e w plain.letter h.1),
       );
-      quiet = λ w h k hit. silent t facts set known n w h.0 h.1 plain.quiet k hit;
+      quiet = λ w h k hit. silent n w h.0 h.1 plain.quiet k hit;
       goes_on = λ w h cut.
-          let told : AreFactsOf t goal known.events facts = known.told in
           let alive = plain.goes_on t goal known.events told.needs in
-          let within = there t facts set known n h.1.0 h.1.2 in
-          let can = (can_run t facts set known (State n) w 0 h).1 (within, alive) in
-          (cut_words d w 0 (not_failing t facts set known)).1 cut can;
+          let within = there n h.1.0 h.1.2 in
+          let can = (can_run (State n) w 0 h).1 (within, alive) in
+          (cut_words d w 0 not_failing).1 cut can;
     }
 
-    entry_at : (t : Transitions) (known : IsKnown d goal (States t) (Table facts)) (e : ℕ) (row : List ℕ)
-        → row ≡ slice_index_or facts.plain e [] → (s entry : ℕ) → slice_get row s ≡ Some entry
-        → IsPlainEntry t facts.hits goal facts.needs e s entry
-    entry_at t known e row is s entry at =
-        let told : AreFactsOf t goal known.events facts = known.told in
+    entry_at : (e : ℕ) (row : List ℕ) → row ≡ slice_index_or facts.plain e []
+        → (s entry : ℕ) → slice_get row s ≡ Some entry → IsPlainEntry t facts.hits goal facts.needs e s entry
+    entry_at e row is s entry at =
         told.plain e s entry (subst (λ (xs : List ℕ). slice_get xs s ≡ Some entry) is at)
 
-    pub known_plain : (engine : Engine) → IsCompiledProperty (rules_with engine)
-        → IsKnown d goal engine (Table facts) → (e : ℕ) (row : List ℕ) → row ≡ slice_index_or facts.plain e []
+    pub known_plain : (e : ℕ) (row : List ℕ) → row ≡ slice_index_or facts.plain e []
         → (s n : ℕ) → slice_get row s ≡ Some n → n ≢ no_number → n ≢ at_rest
-        → IsPlainMove Place m (IsPlaceAfter (rules_with engine)) e (State s) (State n)
-    known_plain (States t) set known e row is s n at some moves =
-        plain_move t set known e s n ((entry_at t known e row is s n at).moves some moves)
-    known_plain (Parses c) set known e row is s n at some moves = absurd known.told
+        → IsPlainMove Place m (IsPlaceAfter r) e (State s) (State n)
+    known_plain e row is s n at some moves = plain_move e s n ((entry_at e row is s n at).moves some moves)
 
-    pub known_at_rest : (engine : Engine) → IsCompiledProperty (rules_with engine)
-        → IsKnown d goal engine (Table facts) → (e : ℕ) (row : List ℕ) → row ≡ slice_index_or facts.plain e []
-        → (s : ℕ) → slice_get row s ≡ Some at_rest
-        → IsAtRest Place m (IsPlaceAfter (rules_with engine)) e (State s)
-    known_at_rest (States t) set known e row is s at =
-        let move = plain_move t set known e s s ((entry_at t known e row is s at_rest at).rests refl) in record {
+    pub known_at_rest : (e : ℕ) (row : List ℕ) → row ≡ slice_index_or facts.plain e []
+        → (s : ℕ) → slice_get row s ≡ Some at_rest → IsAtRest Place m (IsPlaceAfter r) e (State s)
+    known_at_rest e row is s at =
+        let move = plain_move e s s ((entry_at e row is s at_rest at).rests refl) in record {
           stays = move.leads;
           quiet = move.quiet;
           goes_on = move.goes_on;
         }
-    known_at_rest (Parses c) set known e row is s at = absurd known.told
 
-    pub known_endings : (engine : Engine) → IsCompiledProperty (rules_with engine)
-        → IsKnown d goal engine (Table facts) → (masks : List ℕ) → masks ≡ facts.ending
-        → (s mask : ℕ) → slice_get masks s ≡ Some mask → AreEnds Place m (IsPlaceAfter (rules_with engine)) mask (State s)
-    known_endings engine set known masks is s mask at =
+    pub known_endings : (masks : List ℕ) → masks ≡ facts.ending
+        → (s mask : ℕ) → slice_get masks s ≡ Some mask → AreEnds Place m (IsPlaceAfter r) mask (State s)
+    known_endings masks is s mask at =
         let here : mask ≡ slice_index facts.ending s =
         mask_at facts.ending s mask (subst (λ (xs : List ℕ). slice_get xs s ≡ Some mask) is at) in record {
-          quiet = λ w h e k bit. known_quiet engine set known s e mask here bit w h k;
-          cut = λ w h e bit. known_ends engine set known s e mask here bit w h;
+          quiet = λ w h e k bit. known_quiet s e mask here bit w h k;
+          cut = λ w h e bit. known_ends s e mask here bit w h;
         }
 
-    pub known_family : (engine : Engine) → IsCompiledProperty (rules_with engine) → IsKnown d goal engine (Table facts) → (e : ℕ) (family : List ℕ) → e < length masks → ((mask : ℕ) → Contains family mask → mask < 256) → IsStrictlySortedBy nat_cmp family
+    pub known_family : (e : ℕ) (family : List ℕ) → e < length masks → ((mask : ℕ) → Contains family mask → mask < 256) → IsStrictlySortedBy nat_cmp family
         → ((t : Transitions) (g : GoalDefinition) (v : EventDefinitions) → AreNeedsOf t g v facts.needs → (mask : ℕ) → mask < 256 → Contains family mask ↔ IsInFamily t g v e mask) → IsFamily m e family
-    known_family (States t) set known e family less bytes rising exact =
-        let told : AreFactsOf t goal known.events facts = known.told in
+    known_family e family less bytes rising exact =
         family_is d t goal known.events set known.masks g.groups listed marked e family (subst (λ (n : ℕ). e < n) (sym set.letters) less) known.few bytes rising (exact t goal known.events told.needs)
-    known_family (Parses c) set known e family less bytes rising exact = absurd known.told
 
-  -- no word leads to a state of a table where charts run the property
-  pub never_state : (facts : ParseFacts) (engine : Engine) → IsKnown d goal engine (Grammar facts) → (s : ℕ)
-      (w : List ℕ) → IsPlaceAfter (rules_with engine) (State s) w → ⊥
-  never_state facts (States t) known s w h = known.told
-  never_state facts (Parses c) known s w h = h.1.2
+  -- ---- the charts of a grammar
 
-  module _ (facts : ParseFacts) (c : ChartsDefinition) (set : IsCompiledProperty (rules_with (Parses c))) (known : IsKnown d goal (Parses c) (Grammar facts)) where
+  -- no word leads to a state of a table
+  pub never_state : (c : ChartsDefinition) (s : ℕ) (w : List ℕ) → IsPlaceAfter (rules_with (Parses c)) (State s) w → ⊥
+  never_state c s w h = h.1.2
+
+  module _ (facts : ParseFacts) (c : ChartsDefinition) (set : IsCompiledProperty (rules_with (Parses c))) (known : IsKnown d goal (Grammar c facts)) where
     -- so much is left of a place's word, by what tells whether it reset the property
     left_of_run : (place : Place) (reset : Bool) → ((x : List ℕ) → x ≢ [] → IsPlaceOf (Parses c) place x → IsTrue reset ↔ Resets d x) → (w : List ℕ) → IsPlaceAfter (rules_with (Parses c)) place w
-        → (place ≡ Barren → ⊥) → (rest : List ℕ) × IsRest (Resets d) w rest × All (λ e. e < length c.params) rest × IsLeftOf c place reset rest
+        → (place ≡ Trap → ⊥) → (rest : List ℕ) × IsRest (Resets d) w rest × All (λ e. e < length c.params) rest × IsLeftOf c place reset rest
     left_of_run Start reset says w h run = ([], subst (λ (x : List ℕ). IsRest (Resets d) x []) (sym h) refl, All-nil (λ e. e < length c.params), tt)
-    left_of_run Barren reset says w h run = absurd (run refl)
+    left_of_run Trap reset says w h run = absurd (run refl)
     left_of_run (State s) reset says w h run = absurd h.1.2
     left_of_run (Parse chart) true says w h run =
         let x = h.1.0 in
@@ -304,8 +274,8 @@ module _ (masks : List ℕ) (formula : Formula) (handlers : List (List ℕ)) (go
       where
         by_matching : facts.failing ≡ false → (place : Place) → ((x : List ℕ) → x ≢ [] → IsPlaceOf (Parses c) place x → IsTrue reset ↔ Resets d x)
             → ((word : List ℕ) → IsLeftOf c place reset word → IsTrue cut ↔ ((goal.groups ≢ []) × CanMatch c goal place word dead → ⊥)) → IsPlaceAfter (rules_with (Parses c)) place w → IsTrue cut ↔ IsCutWord m w dead
-        by_matching is Barren says told h =
-            let meant = (cut_words d w dead (sym known.told.2 ∙ is)).0 (λ can. barren_quiet d w dead h.0 h.1 can) in
+        by_matching is Trap says told h =
+            let meant = (cut_words d w dead (sym known.told.2 ∙ is)).0 (λ can. trap_quiet d w dead h.0 h.1 can) in
             (λ _. meant, λ _. (told [] tt).1 (λ both. both.1))
         by_matching is Start says told h =
             let left = left_of_run Start reset says w h (λ e. absurd cc) in

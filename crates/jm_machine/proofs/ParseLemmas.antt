@@ -21,7 +21,7 @@ use Rattle.jm_machine.specs.declared.formula.Formula.{Formula}
 use Rattle.jm_machine.specs.declared.formula.Formula.TheVariants.{Machine, Regular, RegularSuffix, Temporal, Grammatical, GrammaticalSuffix}
 use Rattle.jm_machine.specs.declared.engine.Engine.TheVariants.{Parses}
 use Rattle.jm_machine.specs.declared.place.Place.{Place}
-use Rattle.jm_machine.specs.declared.place.Place.TheVariants.{Start, Barren, State, Parse}
+use Rattle.jm_machine.specs.declared.place.Place.TheVariants.{Start, Trap, State, Parse}
 use Rattle.jm_machine.specs.Formulas.{category_names, is_grammar}
 use Rattle.jm_machine.specs.Rests.{IsRest}
 use Rattle.jm_machine.specs.PropertyMeanings.{PropertyRules, IsNamedCategory, IsInCategory, Resets, property_meaning, is_failing_grammar}
@@ -29,7 +29,7 @@ use Rattle.jm_machine.specs.CompiledProperties.{CompiledProperty, IsCompiledProp
 use Rattle.jm_machine.specs.Places.{IsPlaceAfter, IsBegun}
 use Rattle.jm_machine.specs.Outlooks.{GoesOn, BeginsWith, CanMatch}
 use Rattle.jm_machine.proofs.PropertyLemmas.{handled_told, some_within, created_later}
-use Rattle.jm_machine.proofs.CutLemmas.{all_places, all_recursion, word_there, barren_quiet, cut_words}
+use Rattle.jm_machine.proofs.CutLemmas.{all_places, all_recursion, word_there, trap_quiet, cut_words}
 use Rattle.jm_machine.proofs.QuietLemmas.{IsPlain, never_plainly}
 
 names_of_grammar : (f : Formula) → is_grammar f ≡ true → category_names f ≡ categories.category_names
@@ -202,8 +202,8 @@ module _ (d : PropertyRules) (c : ChartsDefinition) (goal : GoalDefinition) (set
     parse_never_hit : (place : Place) (w rest : List ℕ) (dead : ℕ) → IsPlaceAfter rules place w → IsRest (Resets d) w rest → All (λ e. e < length c.params) rest
         → (CanHit m w dead 0 → ⊥) ↔ ((goal.groups ≢ []) × CanMatch c goal place rest dead → ⊥)
     parse_never_hit Start w rest dead h left letters = subst (λ (x : List ℕ). (CanHit m x dead 0 → ⊥) ↔ ((goal.groups ≢ []) × ((e : ℕ) × BeginsWith c goal dead e) → ⊥)) (sym h) (start_never_hit dead)
-    parse_never_hit Barren w rest dead h left letters =
-        (λ never both. both.1, λ _ can. barren_quiet d w dead h.0 h.1 can)
+    parse_never_hit Trap w rest dead h left letters =
+        (λ never both. both.1, λ _ can. trap_quiet d w dead h.0 h.1 can)
     parse_never_hit (Parse chart) w rest dead h left letters = word_never_hit w rest dead left letters h.0
     parse_never_hit (State s) w rest dead h left letters = absurd h.1.2
 

@@ -8,7 +8,7 @@ use Rattle.jm_model.specs.Meanings.{Meaning, IsCreated, IsHit}
 use Rattle.jm_events.specs.Names.{number_of}
 use Rattle.jm_model.specs.declared.step.NoMemory.{NoMemory}
 use Rattle.jm_machine.specs.declared.place.Place.{Place}
-use Rattle.jm_machine.specs.declared.place.Place.TheVariants.{Start, Barren, State, Parse}
+use Rattle.jm_machine.specs.declared.place.Place.TheVariants.{Start, Trap, State, Parse}
 use Rattle.jm_machine.specs.declared.engine.Engine.{Engine}
 use Rattle.jm_machine.specs.declared.engine.Engine.TheVariants.{States, Parses}
 use Rattle.jm_machine.specs.Engines.{letters_of_engine, IsPlaceOf, EngineHolds}
@@ -60,22 +60,22 @@ pub place_letters : (engine : Engine) (place : Place) (w : List ℕ) → IsPlace
 place_letters (States t) (State state) w h = h.0
 place_letters (States t) (Parse chart) w h = absurd h
 place_letters (States t) Start w h = absurd h
-place_letters (States t) Barren w h = absurd h
+place_letters (States t) Trap w h = absurd h
 place_letters (Parses c) (Parse chart) w h = h.0
 place_letters (Parses c) (State state) w h = absurd h
 place_letters (Parses c) Start w h = absurd h
-place_letters (Parses c) Barren w h = absurd h
+place_letters (Parses c) Trap w h = absurd h
 
 -- the empty word has no place, nor has one that began otherwise
-no_place : (engine : Engine) (place : Place) (w : List ℕ) → IsPlaceOf engine place w → (place ≡ Start) ⊎ (place ≡ Barren) → ⊥
+no_place : (engine : Engine) (place : Place) (w : List ℕ) → IsPlaceOf engine place w → (place ≡ Start) ⊎ (place ≡ Trap) → ⊥
 no_place (States t) (State state) w h which = elim which [ inl same ↦ absurd cc | inr same ↦ absurd cc ]
 no_place (States t) (Parse chart) w h which = h
 no_place (States t) Start w h which = h
-no_place (States t) Barren w h which = h
+no_place (States t) Trap w h which = h
 no_place (Parses c) (Parse chart) w h which = elim which [ inl same ↦ absurd cc | inr same ↦ absurd cc ]
 no_place (Parses c) (State state) w h which = h
 no_place (Parses c) Start w h which = h
-no_place (Parses c) Barren w h which = h
+no_place (Parses c) Trap w h which = h
 
 -- ---- what hits
 
@@ -127,27 +127,27 @@ module _ (r : CompiledProperty) (set : IsCompiledProperty r) where
       (λ b. hit.0 (bit.0 b), λ h. bit.1 (hit.1 h))
 
 -- a place of its own is that of the empty word, or of one that began otherwise; any other stands for its words
-pub run_split : (r : CompiledProperty) (place : Place) (w : List ℕ) → (place ≡ Start → ⊥) → (place ≡ Barren → ⊥) → IsPlaceAfter r place w → IsBegun r w × Stands r place w
-run_split r Start w start barren h = absurd (start refl)
-run_split r Barren w start barren h = absurd (barren refl)
-run_split r (State s) w start barren h = (h.0, h.1)
-run_split r (Parse c) w start barren h = (h.0, h.1)
+pub run_split : (r : CompiledProperty) (place : Place) (w : List ℕ) → (place ≡ Start → ⊥) → (place ≡ Trap → ⊥) → IsPlaceAfter r place w → IsBegun r w × Stands r place w
+run_split r Start w start trap h = absurd (start refl)
+run_split r Trap w start trap h = absurd (trap refl)
+run_split r (State s) w start trap h = (h.0, h.1)
+run_split r (Parse c) w start trap h = (h.0, h.1)
 
 -- a place that stands for a word which began so is the word's
 placed : (r : CompiledProperty) (place : Place) (w : List ℕ) → IsBegun r w → Stands r place w → IsPlaceAfter r place w
 placed r (State s) w begun stands = (begun, stands)
 placed r (Parse c) w begun stands = (begun, stands)
 placed r Start w begun stands = absurd (no_place r.engine Start stands.0 stands.2 (inl refl))
-placed r Barren w begun stands = absurd (no_place r.engine Barren stands.0 stands.2 (inr refl))
+placed r Trap w begun stands = absurd (no_place r.engine Trap stands.0 stands.2 (inr refl))
 
 -- ---- what is answered
 
 module _ (r : CompiledProperty) where
-  pub went_on : (result : Result Place NoMemory) (before : Place) (e : ℕ) → IfOk result (λ next. (w : List ℕ) → Stands r before w → Stands r next (w ++ e ∷ [])) → (before ≡ Start → ⊥) → (before ≡ Barren → ⊥)
+  pub went_on : (result : Result Place NoMemory) (before : Place) (e : ℕ) → IfOk result (λ next. (w : List ℕ) → Stands r before w → Stands r next (w ++ e ∷ [])) → (before ≡ Start → ⊥) → (before ≡ Trap → ⊥)
       → IfOk result (λ next. (w : List ℕ) → IsPlaceAfter r before w → IsPlaceAfter r next (w ++ e ∷ []))
-  went_on (Err x) before e stands start barren = tt
-  went_on (Ok next) before e stands start barren = λ w h.
-      let run = run_split r before w start barren h in
+  went_on (Err x) before e stands start trap = tt
+  went_on (Ok next) before e stands start trap = λ w h.
+      let run = run_split r before w start trap h in
       placed r next (w ++ e ∷ []) (begun_later r w e run.0) (stands w run.1)
 
   -- from the start where the property is reset, and else from the place

@@ -87,9 +87,9 @@ module _ (r : CompiledRules) (places : List Place) (otherwise : Place) where
       (step w (subst (λ (x : Place). IsPlaceAfter own x w) (sym is) (subst (λ (c : CompiledProperty). IsPlaceAfter c (place_at places otherwise n) w) (sym same) h)))
 
 -- the place of words that began otherwise is that of words with a letter more
-pub barren_later : (part : CompiledProperty) (w : List ℕ) (e : ℕ) → IsPlaceAfter part place.Barren w → IsPlaceAfter part place.Barren (w ++ e ∷ [])
-barren_later part [] e h = absurd (h.0 refl)
-barren_later part (d ∷ w) e h = (λ (none : d ∷ (w ++ e ∷ []) ≡ []). absurd cc, h.1)
+pub trap_later : (part : CompiledProperty) (w : List ℕ) (e : ℕ) → IsPlaceAfter part place.Trap w → IsPlaceAfter part place.Trap (w ++ e ∷ [])
+trap_later part [] e h = absurd (h.0 refl)
+trap_later part (d ∷ w) e h = (λ (none : d ∷ (w ++ e ∷ []) ≡ []). absurd cc, h.1)
 
 -- of the bits of two masks that are set in both
 pub and_set : (a b k : ℕ) → IsBitSet (bit_and a b) k → IsBitSet a k × IsBitSet b k
@@ -178,8 +178,8 @@ module _ (r : CompiledRules) (set : IsRuleSet r) where
       ap (λ (d : PropertyRules). d.creation) (sym (set.about j part at) ∙ λ i. rules_about r.definition (property_of part)) ∙ ap (λ (d : PropertyRules). d.creation) (set.about k other there)
 
   -- where one began otherwise, all did
-  pub all_barren : (j : ℕ) (part : CompiledProperty) → slice_get r.parts j ≡ Some part → (w : List ℕ) → IsPlaceAfter part place.Barren w → AreAfter r.parts [] place.Barren w
-  all_barren j part at w h k other there =
+  pub all_trap : (j : ℕ) (part : CompiledProperty) → slice_get r.parts j ≡ Some part → (w : List ℕ) → IsPlaceAfter part place.Trap w → AreAfter r.parts [] place.Trap w
+  all_trap j part at w h k other there =
       (h.0, λ created. h.1 (created_same (means other) (means part) (same_creation k j other part there at) w created))
 
   -- ---- the only part
@@ -412,16 +412,16 @@ module _ (first : CompiledProperty) (others : List CompiledProperty) (given : Op
     λ hit. let by = hit_by_part made made_set w k hit in absurd (by.5.0 (after by.0 by.1 by.3)),
   )
 
-  pub barren_never : (w : List ℕ) → AreAfter (first ∷ others) [] place.Barren w → (k : ℕ) → IsHit (rules_meaning (rules_with first others)) w k → ⊥
-  barren_never w after k hit =
+  pub trap_never : (w : List ℕ) → AreAfter (first ∷ others) [] place.Trap w → (k : ℕ) → IsHit (rules_meaning (rules_with first others)) w k → ⊥
+  trap_never w after k hit =
       let by = hit_by_part made made_set w k hit in
       (after by.0 by.1 by.3).1 by.5.1
 
-  pub barren_hits : (w : List ℕ) → AreAfter (first ∷ others) [] place.Barren w → (k : ℕ) → IsBitSet 0 k ↔ IsHit (rules_meaning (rules_with first others)) w k
-  barren_hits w after k = (λ set. absurd (no_bit 0 k refl set), λ hit. absurd (barren_never w after k hit))
+  pub trap_hits : (w : List ℕ) → AreAfter (first ∷ others) [] place.Trap w → (k : ℕ) → IsBitSet 0 k ↔ IsHit (rules_meaning (rules_with first others)) w k
+  trap_hits w after k = (λ set. absurd (no_bit 0 k refl set), λ hit. absurd (trap_never w after k hit))
 
-  pub barren_quiet : (w : List ℕ) → AreAfter (first ∷ others) [] place.Barren w → (e k : ℕ) → IsHit (rules_meaning (rules_with first others)) (w ++ e ∷ []) k → ⊥
-  barren_quiet w after e k hit = barren_never (w ++ e ∷ []) (λ j part at. barren_later part w e (after j part at)) k hit
+  pub trap_quiet : (w : List ℕ) → AreAfter (first ∷ others) [] place.Trap w → (e k : ℕ) → IsHit (rules_meaning (rules_with first others)) (w ++ e ∷ []) k → ⊥
+  trap_quiet w after e k hit = trap_never (w ++ e ∷ []) (λ j part at. trap_later part w e (after j part at)) k hit
 
   -- what stands for the word of one letter is where that leads from the start
   pub from_start : (c : Configuration) (e : ℕ) → IsConfigurationOf made c (e ∷ []) → (w : List ℕ)

@@ -4,7 +4,7 @@ use Rattle.jm_model.specs.Words.{Word}
 use Rattle.jm_machine.specs.declared.place.Place.{Place}
 use Rattle.jm_machine.specs.declared.place.Place.TheVariants as place
 use Rattle.jm_machine.specs.declared.configuration.Configuration.{Configuration}
-use Rattle.jm_machine.specs.declared.configuration.Configuration.TheVariants.{Start, Barren, State, Single, Several}
+use Rattle.jm_machine.specs.declared.configuration.Configuration.TheVariants.{Start, Trap, State, Single, Several}
 use Rattle.jm_machine.specs.CompiledProperties.{CompiledProperty}
 use Rattle.jm_machine.specs.Places.{IsPlaceAfter}
 use Rattle.jm_machine.specs.RuleSets.{CompiledRules}
@@ -22,7 +22,7 @@ AreAfter parts places otherwise w =
 -- the configuration of a word: one where each property is at its place after the word
 abbrev pub IsConfigurationOf : CompiledRules → Configuration → Word → Type 0
 IsConfigurationOf r Start w = AreAfter r.parts [] place.Start w
-IsConfigurationOf r Barren w = AreAfter r.parts [] place.Barren w
+IsConfigurationOf r Trap w = AreAfter r.parts [] place.Trap w
 IsConfigurationOf r (State s) w = (length r.parts ≡ 1) × AreAfter r.parts [] (place.State s) w
 IsConfigurationOf r (Single here) w = (length r.parts ≡ 1) × AreAfter r.parts [] here.value w
 IsConfigurationOf r (Several each) w = AreAfter r.parts each.value.items place.Start w

@@ -1,29 +1,33 @@
--- What compiled rules know beside their property: the outlook of what runs it.
+-- What compiled rules know beside their property: what may still follow.
 use Rattle.std.specs.Prelude.{◌≡◌, ◌<◌, Bool, [], All, map}
 use Rattle.jm_events.specs.Events.{EventDefinitions}
 use Rattle.jm_goal.specs.Goals.{GoalDefinition}
 use Rattle.jm_earley.specs.Charts.{IsChartOf}
 use Rattle.jm_machine.specs.declared.engine.Engine.{Engine}
 use Rattle.jm_machine.specs.declared.engine.Engine.TheVariants.{States, Parses}
-use Rattle.jm_machine.specs.declared.outlook.Outlook.{Outlook}
-use Rattle.jm_machine.specs.declared.outlook.Outlook.TheVariants.{Table, Grammar}
+use Rattle.jm_machine.specs.declared.prepared_engine.PreparedEngine.{PreparedEngine}
+use Rattle.jm_machine.specs.declared.prepared_engine.PreparedEngine.TheVariants.{Table, Grammar}
 use Rattle.jm_machine.specs.Formulas.{is_grammar}
 use Rattle.jm_machine.specs.PropertyMeanings.{PropertyRules, is_failing_grammar}
 use Rattle.jm_machine.specs.Engines.{is_parsing, HasParams}
 use Rattle.jm_machine.specs.Outlooks.{AreFactsOf, AreFirstCharts}
 
--- which outlook is that of what runs a property
-abbrev pub IsOutlookOf : Engine → GoalDefinition → EventDefinitions → Bool → Outlook → Type 0
-IsOutlookOf (States t) goal events failing (Table facts) = AreFactsOf t goal events facts
-IsOutlookOf (Parses c) goal events failing (Grammar facts) =
-    IsChartOf c [] facts.begin × AreFirstCharts c facts.firsts × (facts.failing ≡ failing)
-IsOutlookOf _ goal events failing _ = ⊥
+-- what runs the formula, without what may still follow
+abbrev pub engine_of : PreparedEngine → Engine
+engine_of (Table t facts) = States t
+engine_of (Grammar c facts) = Parses c
 
--- what the rules keep: events of these masks, charts for a grammar alone, and the outlook
-pub record IsKnown (d : PropertyRules) (goal : GoalDefinition) (engine : Engine) (outlook : Outlook) : Type 0 where
+-- what may still follow is that of the table, or of the charts
+abbrev pub IsPrepared : GoalDefinition → EventDefinitions → Bool → PreparedEngine → Type 0
+IsPrepared goal events failing (Table t facts) = AreFactsOf t goal events facts
+IsPrepared goal events failing (Grammar c facts) =
+    IsChartOf c [] facts.begin × AreFirstCharts c facts.firsts × (facts.failing ≡ failing)
+
+-- what the rules keep: events of these masks, charts for a grammar alone, and what may still follow
+pub record IsKnown (d : PropertyRules) (goal : GoalDefinition) (engine : PreparedEngine) : Type 0 where
   pub events : EventDefinitions
   pub masks : d.masks ≡ map (λ e. e.mask) events.events
   pub few : All (λ mask. mask < 256) d.masks
-  pub kind : is_parsing engine ≡ is_grammar d.formula
-  pub bound : HasParams d.masks engine
-  pub told : IsOutlookOf engine goal events (is_failing_grammar d) outlook
+  pub kind : is_parsing (engine_of engine) ≡ is_grammar d.formula
+  pub bound : HasParams d.masks (engine_of engine)
+  pub told : IsPrepared goal events (is_failing_grammar d) engine

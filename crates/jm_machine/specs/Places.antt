@@ -3,7 +3,7 @@ use Rattle.std.specs.Prelude.{◌≡◌, ◌≢◌, []}
 use Rattle.jm_model.specs.Words.{Word}
 use Rattle.jm_model.specs.Meanings.{IsCreated}
 use Rattle.jm_machine.specs.declared.place.Place.{Place}
-use Rattle.jm_machine.specs.declared.place.Place.TheVariants.{Start, Barren, State, Parse}
+use Rattle.jm_machine.specs.declared.place.Place.TheVariants.{Start, Trap, State, Parse}
 use Rattle.jm_machine.specs.Rests.{IsAsked}
 use Rattle.jm_machine.specs.PropertyMeanings.{Resets, property_meaning}
 use Rattle.jm_machine.specs.Engines.{IsPlaceOf}
@@ -15,8 +15,8 @@ module _ (r : CompiledProperty) where
   IsBegun w = (w ≢ []) × IsCreated (property_meaning r.definition) w
 
   -- the word has a letter, and its first one may not
-  abbrev pub IsBarren : Word → Type 0
-  IsBarren w = (w ≢ []) × (IsCreated (property_meaning r.definition) w → ⊥)
+  abbrev pub IsTrap : Word → Type 0
+  IsTrap w = (w ≢ []) × (IsCreated (property_meaning r.definition) w → ⊥)
 
   -- The place stands for the word: what a category is asked of after the word leads to it. Where that resets
   -- the property, the next letter leads on from the start.
@@ -28,6 +28,6 @@ module _ (r : CompiledProperty) where
   -- charts that stand for the others
   abbrev pub IsPlaceAfter : Place → Word → Type 0
   IsPlaceAfter Start w = w ≡ []
-  IsPlaceAfter Barren w = IsBarren w
+  IsPlaceAfter Trap w = IsTrap w
   IsPlaceAfter (State s) w = IsBegun w × Stands (State s) w
   IsPlaceAfter (Parse c) w = IsBegun w × Stands (Parse c) w

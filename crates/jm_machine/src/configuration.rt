@@ -10,8 +10,8 @@ pub enum Configuration {
     /// The configuration of the empty word.
     Start,
     /// The configuration of the words that begin with another letter than a creation letter, where there are creation
-    /// letters.
-    Barren,
+    /// letters. No word that goes on from there hits.
+    Trap,
     /// A state of the table, where there is one property.
     State(u16),
     /// The place of the one property.

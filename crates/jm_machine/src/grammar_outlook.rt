@@ -1,5 +1,6 @@
 //! What may still follow the charts of a grammar.
-ghost use Rattle.std.specs.Prelude.{ℕ, ◌≡◌, ◌≢◌, ◌<◌, ◌≤◌, ◌↔◌, ◌∷◌, [], List, true, false, IsTrue, IfOk, length};
+ghost use Rattle.std.specs.Prelude.{ℕ, ◌≡◌, ◌≢◌, ◌<◌, ◌≤◌, ◌↔◌, ◌∷◌, [], List, true, false, IsTrue, IsBitSet, IsSomeAnd, IfOk, length, slice_get};
+ghost use Rattle.jm_grammar.specs.Categories.{GrammarHolds};
 ghost use Rattle.jm_earley.specs.Charts.{IsChartOf};
 ghost use Rattle.jm_earley.specs.DeadSets.{IsAvailable};
 ghost use Rattle.jm_machine.specs.declared.engine.Engine.TheVariants.{Parses};
@@ -179,4 +180,32 @@ fn first_charts(
         firsts.push(charts.next(begin, Letter(letter))?)?;
     }
     Ok(firsts)
+}
+
+/// The handlers whose category holds of the chart's words: bit k stands for handler k.
+#[inline(never)]
+pub(crate) fn handlers_of_chart(goal: &Goal, charts: &Charts, chart: &Chart) -> u16
+    ensures { (word : List ℕ) → IsChartOf charts.now word chart.now → (k : ℕ) →
+        IsBitSet result k ↔ IsSomeAnd (slice_get goal.now.groups k)
+        (λ group. GrammarHolds charts.now.grammar group word) }
+{
+    let mut hits = 0;
+    for handler in 0..goal.handlers() {
+        if category_holds(charts, chart, goal.group(handler)) {
+            hits |= 1 << handler;
+        }
+    }
+    hits
+}
+
+/// Whether the category of this number holds of the chart's words.
+fn category_holds(charts: &Charts, chart: &Chart, category: u16) -> bool
+    ensures { (word : List ℕ) → IsChartOf charts.now word chart.now →
+        IsTrue result ↔ GrammarHolds charts.now.grammar category word }
+{
+    match category {
+        0 => charts.matches(chart),
+        1 => charts.fails(chart),
+        _ => false,
+    }
 }

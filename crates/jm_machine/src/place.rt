@@ -10,7 +10,8 @@ pub enum Place {
     /// The place of the empty word.
     Start,
     /// The place of the words that begin with another letter than a creation letter, where there are creation letters.
-    Barren,
+    /// No word that goes on from there hits.
+    Trap,
     /// A state of the table.
     State(u16),
     /// A chart.

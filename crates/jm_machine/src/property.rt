@@ -15,13 +15,13 @@ ghost use Rattle.jm_machine.specs.Engines.{IsPlaceOf, IsEngineOf};
 ghost use Rattle.jm_machine.specs.CompiledProperties.{numbers_of, IsCompiledProperty, IsHandledBy};
 ghost use Rattle.jm_machine.specs.declared.place.Place.TheVariants as place;
 
-use crate::engine::{Engine, handlers_at, next_state};
+use crate::engine::Engine;
 use crate::formula::Formula;
 use crate::goal::{goal_of, may_begin};
-use crate::grammar_outlook::Parser;
+use crate::grammar_outlook::{Parser, handlers_of_chart};
 use crate::handling::Handling;
-use crate::outlook::Outlook;
 use crate::place::Place;
+use crate::prepared_engine::{PreparedEngine, next_state};
 use jm_events::Names;
 use jm_goal::Goal;
 use jm_model::{Letter, Monitor, NoMemory, SpecError};
@@ -31,14 +31,13 @@ use std::alloc::Global;
 use std::marker::Model;
 
 /// A property of a specification: the parameters of the events, its formula, the categories that are handled, what it is
-/// run for, what runs it, and what may still follow. Contracts see it as its `CompiledProperty`.
+/// run for, and what runs it, with what may still follow. Contracts see it as its `CompiledProperty`.
 pub struct Property {
     masks: Vec<u8>,
     formula: Formula,
     handlers: Names,
     goal: Goal,
-    engine: Engine,
-    outlook: Outlook,
+    engine: PreparedEngine,
 }
 
 // Written out, so that a drop is one call wherever a property is let go.
@@ -50,14 +49,13 @@ impl Drop for Property {
             handlers: _,
             goal: _,
             engine: _,
-            outlook: _,
         } = self;
     }
 }
 
 impl Model for Property {
     ghost use Rattle.jm_machine.specs.CompiledProperties.{CompiledProperty, definition_of, IsCompiledProperty, IsGoalOf};
-    ghost use Rattle.jm_machine.specs.Known.{IsKnown};
+    ghost use Rattle.jm_machine.specs.Known.{engine_of, IsKnown};
 
     ghost Value = { CompiledProperty };
 
@@ -69,12 +67,12 @@ impl Model for Property {
 
     ghost view = { λ r. record {
       definition = definition_of r.masks.items r.formula r.handlers r.goal;
-      engine = r.engine;
+      engine = engine_of r.engine;
     } };
 
     ghost invariant = { λ r. let d = definition_of r.masks.items r.formula r.handlers r.goal in
-        IsGoalOf r.masks.items r.formula r.handlers r.goal × IsCompiledProperty (record { definition = d; engine = r.engine })
-        × IsKnown d r.goal r.engine r.outlook };
+        IsGoalOf r.masks.items r.formula r.handlers r.goal × IsCompiledProperty (record { definition = d; engine = engine_of r.engine })
+        × IsKnown d r.goal r.engine };
 }
 
 impl Property {
@@ -97,14 +95,13 @@ impl Property {
         let masks = tree.table.masks(alloc)?;
         let goal = goal_of(alloc, tree, &handling)?;
         let failing = is_failing(&formula, &handling.handlers);
-        let outlook = Outlook::new(alloc, &engine, &goal, &tree.table, failing)?;
+        let engine = PreparedEngine::new(alloc, engine, &goal, &tree.table, failing)?;
         Ok(Property {
             masks,
             formula,
             handlers: handling.into_handlers(),
             goal,
             engine,
-            outlook,
         })
     }
 
@@ -123,11 +120,9 @@ impl Property {
         ensures minimal { IfSome result (λ t. IsReduced t.now) }
         ensures rules { IsCompiledProperty self.now }
     {
-        // The table is that of the formula: the proof learns it from the fields.
-        let _ = &self.outlook;
         match &self.engine {
-            Engine::States(table) => Some(table),
-            Engine::Parses(_) => None,
+            PreparedEngine::Table { table, .. } => Some(table),
+            PreparedEngine::Grammar { .. } => None,
         }
     }
 
@@ -141,9 +136,9 @@ impl Property {
         ensures few { IfOk result (λ family. IfSome family (λ masks. (mask : ℕ) → Contains masks.items mask → mask < 256)) }
         ensures none { is_grammar self.now.definition.formula ≡ true → IfOk result (λ family. family ≡ None) }
     {
-        match &self.outlook {
-            Outlook::Table(outlook) => Ok(Some(outlook.family(letter)?)),
-            Outlook::Grammar(_) => Ok(None),
+        match &self.engine {
+            PreparedEngine::Table { outlook, .. } => Ok(Some(outlook.family(letter)?)),
+            PreparedEngine::Grammar { .. } => Ok(None),
         }
     }
 
@@ -161,12 +156,11 @@ impl Property {
         requires { letter.0 < length self.now.definition.masks }
         ensures { IfOk result (λ place. IsPlaceOf self.now.engine place (letter.0 ∷ [])) }
     {
-        match (&self.engine, &self.outlook) {
-            (Engine::States(table), _) => {
+        match &self.engine {
+            PreparedEngine::Table { table, .. } => {
                 Ok(Place::State(next_state(table, table.start(), letter)))
             }
-            (Engine::Parses(charts), Outlook::Grammar(outlook)) => { outlook.first(charts, letter) }
-            _ => unreachable!(),
+            PreparedEngine::Grammar { charts, outlook } => outlook.first(charts, letter),
         }
     }
 
@@ -179,7 +173,7 @@ impl Property {
             → IsPlaceAfter self.now (place.State next) (w ++ letter.0 ∷ [])) }
     {
         match &self.engine {
-            Engine::States(table) if self.goal.resets() == 0 => {
+            PreparedEngine::Table { table, .. } if self.goal.resets() == 0 => {
                 Some(next_state(table, state, letter))
             }
             _ => None,
@@ -194,8 +188,10 @@ impl Property {
         ensures { IfSome result (λ first. IsPlaceAfter self.now (place.State first) (letter.0 ∷ [])) }
     {
         match &self.engine {
-            Engine::States(table) => { Some(next_state(table, table.start(), letter)) }
-            Engine::Parses(_) => None,
+            PreparedEngine::Table { table, .. } => {
+                Some(next_state(table, table.start(), letter))
+            }
+            PreparedEngine::Grammar { .. } => None,
         }
     }
 
@@ -205,9 +201,9 @@ impl Property {
         ensures { (w : List ℕ) → IsPlaceAfter self.now (place.State state) w → (k : ℕ) →
             IsBitSet result k ↔ IsHit (property_meaning self.now.definition) w k }
     {
-        match &self.outlook {
-            Outlook::Table(outlook) => outlook.hits(state),
-            Outlook::Grammar(_) => 0,
+        match &self.engine {
+            PreparedEngine::Table { outlook, .. } => outlook.hits(state),
+            PreparedEngine::Grammar { .. } => 0,
         }
     }
 
@@ -217,9 +213,9 @@ impl Property {
         ensures { (w : List ℕ) → IsPlaceAfter self.now (place.State state) w →
             IsTrue result ↔ IsCutWord (property_meaning self.now.definition) w dead }
     {
-        match &self.outlook {
-            Outlook::Table(outlook) => !outlook.is_alive(state, dead),
-            Outlook::Grammar(_) => false,
+        match &self.engine {
+            PreparedEngine::Table { outlook, .. } => !outlook.is_alive(state, dead),
+            PreparedEngine::Grammar { .. } => false,
         }
     }
 
@@ -231,9 +227,9 @@ impl Property {
         ensures quiet { (w : List ℕ) → IsPlaceAfter self.now (place.State state) w → (e k : ℕ) →
             IsBitSet result e → IsHit (property_meaning self.now.definition) (w ++ e ∷ []) k → ⊥ }
     {
-        match &self.outlook {
-            Outlook::Table(outlook) => outlook.idle(state),
-            Outlook::Grammar(_) => 0,
+        match &self.engine {
+            PreparedEngine::Table { outlook, .. } => outlook.idle(state),
+            PreparedEngine::Grammar { .. } => 0,
         }
     }
 
@@ -245,9 +241,9 @@ impl Property {
         ensures cut { (w : List ℕ) → IsPlaceAfter self.now (place.State state) w → (e : ℕ) →
             IsBitSet result e → IsCutWord (property_meaning self.now.definition) (w ++ e ∷ []) 0 }
     {
-        match &self.outlook {
-            Outlook::Table(outlook) => outlook.ending(state),
-            Outlook::Grammar(_) => 0,
+        match &self.engine {
+            PreparedEngine::Table { outlook, .. } => outlook.ending(state),
+            PreparedEngine::Grammar { .. } => 0,
         }
     }
 
@@ -258,9 +254,9 @@ impl Property {
         ensures rests { (k : ℕ) → slice_get result.now k ≡ Some at_rest → IsAtRest Place
             (property_meaning self.now.definition) (IsPlaceAfter self.now) letter.0 (place.State k) }
     {
-        match &self.outlook {
-            Outlook::Table(outlook) => outlook.plain_states(letter),
-            Outlook::Grammar(_) => &[],
+        match &self.engine {
+            PreparedEngine::Table { outlook, .. } => outlook.plain_states(letter),
+            PreparedEngine::Grammar { .. } => &[],
         }
     }
 
@@ -269,9 +265,9 @@ impl Property {
         ensures { (k mask : ℕ) → slice_get result.now k ≡ Some mask → AreEnds Place
             (property_meaning self.now.definition) (IsPlaceAfter self.now) mask (place.State k) }
     {
-        match &self.outlook {
-            Outlook::Table(outlook) => outlook.endings(),
-            Outlook::Grammar(_) => &[],
+        match &self.engine {
+            PreparedEngine::Table { outlook, .. } => outlook.endings(),
+            PreparedEngine::Grammar { .. } => &[],
         }
     }
 
@@ -321,9 +317,9 @@ impl Property {
         ensures { (w : List ℕ) → IsPlaceAfter self.now place.now w →
             IsTrue result ↔ IsCutWord (property_meaning self.now.definition) w dead }
     {
-        match (&self.outlook, &self.engine) {
-            (Outlook::Table(outlook), _) => !outlook.can_hit(place, dead),
-            (Outlook::Grammar(outlook), Engine::Parses(charts)) => {
+        match &self.engine {
+            PreparedEngine::Table { outlook, .. } => !outlook.can_hit(place, dead),
+            PreparedEngine::Grammar { charts, outlook } => {
                 let reset = self.is_reset(place);
                 let parser = Parser {
                     charts,
@@ -332,7 +328,6 @@ impl Property {
                 };
                 outlook.is_cut(&parser, place, reset, dead)
             }
-            _ => unreachable!(),
         }
     }
 
@@ -343,9 +338,12 @@ impl Property {
             (k : ℕ) → IsBitSet result k ↔ IsHandledBy self.now word k }
         ensures rules { IsCompiledProperty self.now }
     {
-        match (&self.outlook, place) {
-            (Outlook::Table(outlook), Place::State(state)) => outlook.hits(*state),
-            _ => handlers_at(&self.goal, &self.engine, place),
+        match (&self.engine, place) {
+            (PreparedEngine::Table { outlook, .. }, Place::State(state)) => outlook.hits(*state),
+            (PreparedEngine::Grammar { charts, .. }, Place::Parse(chart)) => {
+                handlers_of_chart(&self.goal, charts, chart)
+            }
+            _ => 0,
         }
     }
 }
@@ -396,7 +394,7 @@ impl Monitor for Property {
     fn copy(&self, state: &Place) -> Result<Place, NoMemory> {
         match state {
             Place::Start => Ok(Place::Start),
-            Place::Barren => Ok(Place::Barren),
+            Place::Trap => Ok(Place::Trap),
             _ => self.engine.copy(state),
         }
     }
@@ -405,7 +403,7 @@ impl Monitor for Property {
     fn next(&self, state: &Place, letter: Letter) -> Result<Place, NoMemory> {
         match state {
             Place::Start if self.may_begin(letter) => self.first(letter),
-            Place::Start | Place::Barren => Ok(Place::Barren),
+            Place::Start | Place::Trap => Ok(Place::Trap),
             _ => self.step(state, letter),
         }
     }
@@ -413,7 +411,7 @@ impl Monitor for Property {
     #[inline(always)]
     fn hits(&self, state: &Place) -> u16 {
         match state {
-            Place::Start | Place::Barren => 0,
+            Place::Start | Place::Trap => 0,
             Place::State(state) => self.hits_of_state(*state),
             _ => self.handlers_at(state),
         }
@@ -421,16 +419,16 @@ impl Monitor for Property {
 
     #[inline(always)]
     fn cut(&self, state: &Place, dead: u8) -> bool {
-        match &self.outlook {
-            Outlook::Table(outlook) => !outlook.can_hit(state, dead),
-            Outlook::Grammar(_) => self.is_cut(state, dead),
+        match &self.engine {
+            PreparedEngine::Table { outlook, .. } => !outlook.can_hit(state, dead),
+            PreparedEngine::Grammar { .. } => self.is_cut(state, dead),
         }
     }
 
     #[inline(always)]
     fn idle(&self, state: &Place) -> u32 {
         match state {
-            Place::Barren => u32::MAX,
+            Place::Trap => u32::MAX,
             Place::State(state) => self.idle_of_state(*state),
             _ => 0,
         }
@@ -438,10 +436,10 @@ impl Monitor for Property {
 
     #[inline(always)]
     fn ending(&self, state: &Place) -> u32 {
-        match (state, &self.outlook) {
+        match (state, &self.engine) {
             (Place::State(state), _) => self.ending_of_state(*state),
-            (Place::Barren, Outlook::Table(_)) => u32::MAX,
-            (Place::Start, Outlook::Table(outlook)) => outlook.first_ending(),
+            (Place::Trap, PreparedEngine::Table { .. }) => u32::MAX,
+            (Place::Start, PreparedEngine::Table { outlook, .. }) => outlook.first_ending(),
             _ => 0,
         }
     }

@@ -222,7 +222,7 @@ impl Rules {
     {
         match place {
             Place::Start => Ok(Configuration::Start),
-            Place::Barren => Ok(Configuration::Barren),
+            Place::Trap => Ok(Configuration::Trap),
             Place::State(state) => Ok(Configuration::State(state)),
             parse => Ok(Configuration::Single(Box::new(*self.others.allocator(), parse)?)),
         }
@@ -248,7 +248,7 @@ impl Rules {
             return None;
         }
         if !self.first.may_begin(letter) {
-            return Some(Configuration::Barren);
+            return Some(Configuration::Trap);
         }
         match self.first.first_state(letter) {
             Some(state) => Some(Configuration::State(state)),
@@ -267,8 +267,8 @@ impl Rules {
         if self.others.is_empty() {
             return self.configuration_at(place);
         }
-        if let Place::Barren = place {
-            return Ok(Configuration::Barren);
+        if let Place::Trap = place {
+            return Ok(Configuration::Trap);
         }
         self.next_of_each(&[], &Place::Start, letter)
     }
@@ -425,7 +425,7 @@ impl Rules {
                 self.next_of_each(places.as_slice(), &Place::Start, letter)
             }
             Configuration::Start => self.first_of_each(letter),
-            Configuration::Barren => Ok(Configuration::Barren),
+            Configuration::Trap => Ok(Configuration::Trap),
         }
     }
 
@@ -440,7 +440,7 @@ impl Rules {
             Configuration::Single(place) => self.first.hits(place),
             Configuration::Several(places) => self.hits_of_each(places.as_slice(), &Place::Start),
             Configuration::Start => 0,
-            Configuration::Barren => 0,
+            Configuration::Trap => 0,
         }
     }
 
@@ -457,7 +457,7 @@ impl Rules {
                 self.is_each_cut(places.as_slice(), &Place::Start, dead)
             }
             Configuration::Start => self.is_cut_at(&Place::Start, dead),
-            Configuration::Barren => self.is_cut_at(&Place::Barren, dead),
+            Configuration::Trap => self.is_cut_at(&Place::Trap, dead),
         }
     }
 
@@ -474,7 +474,7 @@ impl Rules {
             Configuration::Single(place) => self.first.idle(place),
             Configuration::Several(places) => self.idle_of_each(places.as_slice(), &Place::Start),
             Configuration::Start => 0,
-            Configuration::Barren => u32::MAX,
+            Configuration::Trap => u32::MAX,
         }
     }
 
@@ -491,7 +491,7 @@ impl Rules {
             Configuration::Single(place) => self.first.ending(place),
             Configuration::Several(places) => self.ending_of_each(places.as_slice(), &Place::Start),
             Configuration::Start => self.ending_at(&Place::Start),
-            Configuration::Barren => self.ending_at(&Place::Barren),
+            Configuration::Trap => self.ending_at(&Place::Trap),
         }
     }
 }
@@ -566,7 +566,7 @@ impl Monitor for Rules {
     fn copy(&self, state: &Configuration) -> Result<Configuration, NoMemory> {
         match state {
             Configuration::Start => Ok(Configuration::Start),
-            Configuration::Barren => Ok(Configuration::Barren),
+            Configuration::Trap => Ok(Configuration::Trap),
             Configuration::State(state) => Ok(Configuration::State(*state)),
             Configuration::Single(place) => self.configuration_at(self.first.copy(place)?),
             Configuration::Several(places) => self.copy_of_each(places.as_slice()),

@@ -1,16 +1,16 @@
 //! What may still follow the states of a table.
-ghost use Rattle.std.specs.Prelude.{ℕ, ◌≡◌, ◌≢◌, ◌<◌, ◌↔◌, [], All, Contains, IsTrue, IsBitSet, IfOk, length, map, slice_index, slice_index_or};
+ghost use Rattle.std.specs.Prelude.{ℕ, ◌≡◌, ◌≢◌, ◌<◌, ◌↔◌, [], List, All, Contains, IsTrue, IsBitSet, IsSomeAnd, IfOk, length, map, slice_get, slice_index, slice_index_or};
 ghost use Rattle.std.specs.List.Sorted.{IsStrictlySortedBy};
 ghost use Rattle.std.specs.Ordering.{nat_cmp};
 ghost use Rattle.jm_events.specs.Events.{EventDefinitions};
 ghost use Rattle.jm_goal.specs.Goals.{GoalDefinition};
-ghost use Rattle.jm_table.specs.Tables.{Transitions};
+ghost use Rattle.jm_table.specs.Tables.{Transitions, IsTable};
 ghost use Rattle.jm_coenable.specs.Needs.{AreFit, AreNeedsOf, IsAlive, IsNeededFrom, IsInFamily};
 ghost use Rattle.jm_machine.specs.declared.engine.Engine.TheVariants.{States};
-ghost use Rattle.jm_machine.specs.Engines.{categories_of_engine};
+ghost use Rattle.jm_machine.specs.Engines.{IsPlaceOf, EngineHolds};
+ghost use Rattle.jm_machine.specs.declared.place.Place.TheVariants.{State};
 ghost use Rattle.jm_machine.specs.Outlooks.{AreHandlerMasks, IsIdleLetter, IsEndingLetter, IsFirstEnding, IsPlainEntry, IsPlainRow, ArePlainRows, AreIdle, AreEnding, AreFactsOf, CanHitFrom};
 
-use crate::engine::{Engine, handlers_at};
 use crate::goal::may_begin;
 use crate::place::Place;
 use jm_coenable::{Needs, step};
@@ -68,20 +68,18 @@ impl Model for TableOutlook {
 }
 
 impl TableOutlook {
-    /// The outlook of a table for this goal; the engine is the table's.
+    /// The outlook of a table for this goal.
     pub(crate) fn new(
         alloc: Global,
-        engine: &Engine,
         table: &Table,
         goal: &Goal,
         events: &EventTable,
     ) -> Result<TableOutlook, NoMemory>
-        requires engine { engine.now ≡ States table.now }
-        requires fit { AreFit table.now goal.now events.now }
+        requires { AreFit table.now goal.now events.now }
         ensures { IfOk result (AreFactsOf table.now goal.now events.now) }
     {
         let needs = Needs::new(alloc, table, goal, events)?;
-        let hits = handler_masks(alloc, goal, engine, table.len())?;
+        let hits = handler_masks(alloc, table, goal)?;
         let idle = idle_masks(alloc, table, hits.as_slice())?;
         let ending = ending_masks(alloc, table, goal, hits.as_slice(), &needs)?;
         let first_ending = first_ending(table, goal, hits.as_slice(), &needs);
@@ -187,21 +185,42 @@ impl TableOutlook {
 }
 
 /// The handlers that each state hits.
-fn handler_masks(
-    alloc: Global,
-    goal: &Goal,
-    engine: &Engine,
-    states: u16,
-) -> Result<Vec<u16>, NoMemory>
-    requires { All (λ group. group < categories_of_engine engine.now) goal.now.groups }
-    ensures count { IfOk result (λ masks. length masks.items ≡ states) }
-    ensures masks { IfOk result (λ masks. AreHandlerMasks engine.now goal.now masks.items) }
+fn handler_masks(alloc: Global, table: &Table, goal: &Goal) -> Result<Vec<u16>, NoMemory>
+    requires { All (λ group. group < length table.now.groups) goal.now.groups }
+    ensures count { IfOk result (λ masks. length masks.items ≡ table.now.states) }
+    ensures masks { IfOk result (λ masks. AreHandlerMasks (States table.now) goal.now masks.items) }
+    ensures table { IsTable table.now }
 {
-    let mut masks = Vec::with_capacity(alloc, states as usize)?;
-    for state in 0..states {
-        masks.push(handlers_at(goal, engine, &Place::State(state)))?;
+    let mut masks = Vec::with_capacity(alloc, table.len() as usize)?;
+    for state in 0..table.len() {
+        masks.push(handlers_of_state(table, goal, state))?;
     }
     Ok(masks)
+}
+
+/// The handlers that a state hits: bit k stands for handler k.
+fn handlers_of_state(table: &Table, goal: &Goal, state: u16) -> u16
+    requires { All (λ group. group < length table.now.groups) goal.now.groups }
+    ensures { (word : List ℕ) → IsPlaceOf (States table.now) (State state) word → (k : ℕ) →
+        IsBitSet result k ↔ IsSomeAnd (slice_get goal.now.groups k)
+        (λ group. EngineHolds (States table.now) group word) }
+{
+    let mut hits = 0;
+    for handler in 0..goal.handlers() {
+        if is_in_group(table, state, goal.group(handler)) {
+            hits |= 1 << handler;
+        }
+    }
+    hits
+}
+
+/// Whether a state of the table is in the group.
+fn is_in_group(table: &Table, state: u16, group: u16) -> bool
+    requires { group < length table.now.groups }
+    ensures { (word : List ℕ) → IsPlaceOf (States table.now) (State state) word →
+        IsTrue result ↔ EngineHolds (States table.now) group word }
+{
+    state < table.len() && table.in_group(state, group)
 }
 
 /// The letters that leave each state as it is and hit nothing.

@@ -1,9 +1,10 @@
 use Rattle.std.proofs.Common.{◌≡◌, length}
+use Rattle.jm_machine.specs.declared.engine.Engine.TheVariants.{States}
 use Rattle.jm_machine.specs.Outlooks.{AreHandlerMasks}
 use Rattle.jm_machine.proofs.table_outlook.handler_masks.Given as goal
 
 abbrev pub invariant-loop-state : goal.invariant-loop-state
 invariant-loop-state l = record {
   count : length l.masks.items ≡ l.state;
-  each : AreHandlerMasks l.engine l.goal l.masks.items;
+  each : AreHandlerMasks (States l.table) l.goal l.masks.items;
 }

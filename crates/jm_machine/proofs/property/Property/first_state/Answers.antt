@@ -8,19 +8,18 @@ use Rattle.jm_machine.proofs.PlaceLemmas.{no_letters, state_next}
 use Rattle.jm_machine.proofs.RestLemmas.{asked_first}
 use Rattle.jm_machine.proofs.property.Property.first_state.Goals as goal
 
-pub returns-in-States : goal.returns-in-States
-returns-in-States c =
+pub returns-in-Table : goal.returns-in-Table
+returns-in-Table c =
     let i = c.self.inside in
     let r = c.args.self.now in
     let e = c.args.letter.0 in
     let next = c.next_state.result in
-    let same : i.engine ≡ r.engine = rw (← c.self.view_is) refl in
-    let run : r.engine ≡ States c.in-States.table = sym same ∙ c.in-States.is in
+    let run : r.engine ≡ States c.in-Table.table = rw (← c.self.view_is, c.in-Table.is) refl in
     let masks : length i.masks.items ≡ length r.definition.masks = rw (← c.self.view_is) refl in
-    let letters = rw c.in-States.is at c.self.invariant.1.letters in
-    let within : e < c.in-States.table.letters = omega (arith, c.requires.letter, letters, masks) in
-    let place : IsPlaceOf (States c.in-States.table) (State next) (e ∷ []) =
-    state_next c.in-States.table c.start.result next e [] c.next_state.ensures.table within c.next_state.ensures.next (no_letters c.in-States.table, c.start.ensures.value) in (
+    let letters = rw c.in-Table.is at c.self.invariant.1.letters in
+    let within : e < c.in-Table.table.letters = omega (arith, c.requires.letter, letters, masks) in
+    let place : IsPlaceOf (States c.in-Table.table) (State next) (e ∷ []) =
+    state_next c.in-Table.table c.start.result next e [] c.next_state.ensures.table within c.next_state.ensures.next (no_letters c.in-Table.table, c.start.ensures.value) in (
       ((λ h. absurd cc), c.requires.begins),
       (
         e ∷ [],

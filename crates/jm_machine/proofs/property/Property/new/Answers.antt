@@ -1,6 +1,6 @@
 use Rattle.std.proofs.Common.{◌<◌, ◌^◌, length, sym, ap, ◌∙◌, subst}
-use Rattle.jm_machine.specs.Engines.{HasParams, categories_of_engine}
-use Rattle.jm_machine.specs.Known.{IsOutlookOf}
+use Rattle.jm_machine.specs.Engines.{HasParams, IsEngineOf, categories_of_engine}
+use Rattle.jm_machine.specs.Known.{engine_of, IsPrepared}
 use Rattle.jm_machine.specs.PropertyMeanings.{property_rules_of}
 use Rattle.jm_machine.specs.CompiledProperties.{numbers_of}
 use Rattle.jm_machine.proofs.GoalLemmas.{bits_below}
@@ -17,7 +17,8 @@ pub invariant_of-result : goal.invariant_of-result
 invariant_of-result c =
     let t = c.args.tree.now.table in
     let handling = c.args.handling in
-    let engine = c.requires.engine in
+    let prepared = c.in_ok-engine.engine in
+    let engine = subst (IsEngineOf t.events c.args.formula) (sym c.in_ok-engine.ensures.engine) c.requires.engine in
     let goal = c.in_ok-goal.goal in
     let masks = c.in_ok-masks.masks.items in
     let filled = c.in_ok-masks.ensures.value in
@@ -25,14 +26,14 @@ invariant_of-result c =
     rw c.into_handlers.ensures (
       made_goal t c.args.formula masks handling.handlers goal filled creation handling.categories c.requires.categories c.in_ok-goal.ensures.groups c.in_ok-masks.ensures.few
           (bits_below goal.resets (length handling.handlers) (subst (λ n. n < 2 ^ length handling.handlers) (sym c.in_ok-goal.ensures.resets) c.requires.handling.there)),
-      made_set t c.args.formula masks handling.handlers goal filled creation c.args.engine engine,
+      made_set t c.args.formula masks handling.handlers goal filled creation (engine_of prepared) engine,
       record {
         events = t;
         masks = filled;
         few = c.in_ok-masks.ensures.bytes;
         kind = engine.kind;
-        bound = subst (λ masks. HasParams masks c.args.engine) (sym filled) engine.params;
-        told = subst (λ failing. IsOutlookOf c.args.engine goal t failing c.in_ok-outlook.outlook) c.is_failing-failing.ensures c.in_ok-outlook.ensures;
+        bound = subst (λ masks. HasParams masks (engine_of prepared)) (sym filled) engine.params;
+        told = subst (λ failing. IsPrepared goal t failing prepared) c.is_failing-failing.ensures c.in_ok-engine.ensures.outlook;
       },
     )
 

@@ -2,6 +2,7 @@ use Rattle.std.proofs.Common.{ℕ, ◌≡◌, List, [], ◌∷◌, ◌++◌, IfO
 use Rattle.std.proofs.lemmas.Bool.{false≢true}
 use Rattle.jm_machine.specs.declared.engine.Engine.{Engine}
 use Rattle.jm_machine.specs.Engines.{IsPlaceOf}
+use Rattle.jm_machine.specs.Known.{engine_of}
 use Rattle.jm_machine.proofs.PropertyLemmas.{went_anew, went_past}
 use Rattle.jm_machine.proofs.property.Property.step_past_reset.Goals as goal
 
@@ -11,7 +12,7 @@ returns-then-is_reset c =
 
 pub returns-else-is_reset : goal.returns-else-is_reset
 returns-else-is_reset c =
-    let same : c.self.inside.engine ≡ c.args.self.now.engine = rw (← c.self.view_is) refl in
+    let same : engine_of c.self.inside.engine ≡ c.args.self.now.engine = rw (← c.self.view_is) refl in
     went_past c.args.self.now c.next.result c.args.place.now c.args.letter.0
     (subst (λ (e : Engine). IfOk c.next.result (λ next. (word : List ℕ) → IsPlaceOf e c.args.place.now word → IsPlaceOf e next (word ++ c.args.letter.0 ∷ []))) same c.next.ensures)
     (λ x some place resets. false≢true (sym c.if-is_reset.false ∙ (c.is_reset.ensures x some place).1 resets))

@@ -4,6 +4,7 @@ use Rattle.jm_machine.proofs.property.PropertyMonitor.cut.Goals as goal
 pub returns-in-Table : goal.returns-in-Table
 returns-in-Table c =
     let i = c.self.inside in
+    let set = rw c.in-Table.is at c.self.invariant.1 in
     let known = rw c.in-Table.is at c.self.invariant.2 in
-    rw (← c.self.view_is)
-    (known_cut i.masks.items i.formula i.handlers i.goal c.self.invariant.0 c.in-Table.outlook i.engine c.self.invariant.1 known c.args.state.now c.args.dead c.can_hit.result c.can_hit.ensures)
+    rw (← c.self.view_is, c.in-Table.is)
+    (known_cut i.masks.items i.formula i.handlers i.goal c.self.invariant.0 c.in-Table.table c.in-Table.outlook set known c.args.state.now c.args.dead c.can_hit.result c.can_hit.ensures)

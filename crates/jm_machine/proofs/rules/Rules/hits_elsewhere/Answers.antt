@@ -2,7 +2,7 @@ use Rattle.std.proofs.Common.{List, sym, ◌∙◌, subst}
 use Rattle.jm_machine.specs.declared.place.Place.{Place}
 use Rattle.jm_machine.specs.declared.place.Place.TheVariants.{Start, State}
 use Rattle.jm_machine.specs.Configurations.{AreAfter}
-use Rattle.jm_machine.proofs.RuleLemmas.{alone_hits, start_hits, barren_hits}
+use Rattle.jm_machine.proofs.RuleLemmas.{alone_hits, start_hits, trap_hits}
 use Rattle.jm_machine.proofs.rules.Rules.hits_elsewhere.Goals as goal
 
 pub returns-in-State : goal.returns-in-State
@@ -29,7 +29,7 @@ returns-in-Start c =
     rw (← c.self.view_is, c.in-Start.is)
     (start_hits c.self.inside.first c.self.inside.others.items c.self.inside.names c.self.invariant)
 
-pub returns-in-Barren : goal.returns-in-Barren
-returns-in-Barren c =
-    rw (← c.self.view_is, c.in-Barren.is)
-    (barren_hits c.self.inside.first c.self.inside.others.items c.self.inside.names c.self.invariant)
+pub returns-in-Trap : goal.returns-in-Trap
+returns-in-Trap c =
+    rw (← c.self.view_is, c.in-Trap.is)
+    (trap_hits c.self.inside.first c.self.inside.others.items c.self.inside.names c.self.invariant)

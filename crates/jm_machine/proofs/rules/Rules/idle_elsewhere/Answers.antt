@@ -1,5 +1,5 @@
 use Rattle.jm_machine.specs.declared.place.Place.TheVariants.{State}
-use Rattle.jm_machine.proofs.RuleLemmas.{alone_quiet, alone_stays, barren_later, barren_quiet}
+use Rattle.jm_machine.proofs.RuleLemmas.{alone_quiet, alone_stays, trap_later, trap_quiet}
 use Rattle.jm_machine.proofs.rules.Rules.idle_elsewhere.Goals as goal
 
 pub returns-in-State-clause-stays : goal.returns-in-State-clause-stays
@@ -32,11 +32,11 @@ returns-in-Single-clause-quiet c =
     (λ w h. alone_quiet c.self.inside.first c.self.inside.others.items c.self.inside.names c.self.invariant
     h.0 c.in-Single.place.value c.idle.result (rw c.deref.ensures at c.idle.ensures.quiet) w h.1)
 
-pub returns-in-Barren-clause-stays : goal.returns-in-Barren-clause-stays
-returns-in-Barren-clause-stays c = rw c.in-Barren.is (λ w h e bit k part at. barren_later part w e (h k part at))
+pub returns-in-Trap-clause-stays : goal.returns-in-Trap-clause-stays
+returns-in-Trap-clause-stays c = rw c.in-Trap.is (λ w h e bit k part at. trap_later part w e (h k part at))
 
-pub returns-in-Barren-clause-quiet : goal.returns-in-Barren-clause-quiet
-returns-in-Barren-clause-quiet c =
-    rw (← c.self.view_is, c.in-Barren.is)
-    (λ w h e k set hit. barren_quiet c.self.inside.first c.self.inside.others.items c.self.inside.names c.self.invariant
+pub returns-in-Trap-clause-quiet : goal.returns-in-Trap-clause-quiet
+returns-in-Trap-clause-quiet c =
+    rw (← c.self.view_is, c.in-Trap.is)
+    (λ w h e k set hit. trap_quiet c.self.inside.first c.self.inside.others.items c.self.inside.names c.self.invariant
     w h e k hit)

@@ -1,6 +1,6 @@
 use Rattle.std.proofs.Common.{ℕ, ◌↔◌, IsTrue, sym, subst}
 use Rattle.jm_grammar.specs.Categories.{GrammarHolds}
-use Rattle.jm_machine.proofs.engine.parse_holds.Goals as goal
+use Rattle.jm_machine.proofs.grammar_outlook.category_holds.Goals as goal
 
 pub returns-in-1 : goal.returns-in-1
 returns-in-1 c = λ word of_word.
