@@ -8,5 +8,6 @@ returns-in_ok-family-in-Table-clause-family c =
     let known = rw c.in-Table.is at c.self.invariant.2 in
     let less = rw (← c.self.view_is) at c.requires in
     rw (← c.self.view_is)
-    (λ other. known_family i.masks.items i.formula i.handlers i.goal c.self.invariant.0 c.in-Table.table c.in-Table.outlook set known c.args.letter.0 c.in_ok-family-in-Table.field-0.items less c.in_ok-family-in-Table.ensures.few
+    (λ other. known_family i.masks.items i.formula i.handlers i.goal c.self.invariant.0 c.in-Table.table
+    c.in-Table.outlook set known c.args.letter.0 c.in_ok-family-in-Table.field-0.items less c.in_ok-family-in-Table.ensures.few
     c.in_ok-family-in-Table.ensures.rising c.in_ok-family-in-Table.ensures.exact)

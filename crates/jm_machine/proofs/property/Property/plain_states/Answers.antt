@@ -7,7 +7,8 @@ returns-in-Table-clause-moves c =
     let set = rw c.in-Table.is at c.self.invariant.1 in
     let known = rw c.in-Table.is at c.self.invariant.2 in
     rw (← c.self.view_is, c.in-Table.is)
-    (known_plain i.masks.items i.formula i.handlers i.goal c.self.invariant.0 c.in-Table.table c.in-Table.outlook set known c.args.letter.0 c.plain_states.result.now c.plain_states.ensures)
+    (known_plain i.masks.items i.formula i.handlers i.goal c.self.invariant.0 c.in-Table.table
+    c.in-Table.outlook set known c.args.letter.0 c.plain_states.result.now c.plain_states.ensures)
 
 pub returns-in-Table-clause-rests : goal.returns-in-Table-clause-rests
 returns-in-Table-clause-rests c =
@@ -15,4 +16,5 @@ returns-in-Table-clause-rests c =
     let set = rw c.in-Table.is at c.self.invariant.1 in
     let known = rw c.in-Table.is at c.self.invariant.2 in
     rw (← c.self.view_is, c.in-Table.is)
-    (known_at_rest i.masks.items i.formula i.handlers i.goal c.self.invariant.0 c.in-Table.table c.in-Table.outlook set known c.args.letter.0 c.plain_states.result.now c.plain_states.ensures)
+    (known_at_rest i.masks.items i.formula i.handlers i.goal c.self.invariant.0 c.in-Table.table
+    c.in-Table.outlook set known c.args.letter.0 c.plain_states.result.now c.plain_states.ensures)
