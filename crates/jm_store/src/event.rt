@@ -22,6 +22,13 @@ pub struct Call<'a, M: Monitor> {
     pub binding: &'a Binding,
 }
 
+/// An event as its caller asks for it, of which it is known whether its binding is a mark.
+#[derive(Drop)]
+pub(crate) struct KnownCall<'a, M: Monitor> {
+    pub(crate) call: &'a Call<'a, M>,
+    pub(crate) known: bool,
+}
+
 /// An event, and what it is worked out with.
 #[derive(Drop)]
 pub(crate) struct Event<'a, M: Monitor> {
@@ -32,6 +39,13 @@ pub(crate) struct Event<'a, M: Monitor> {
     pub(crate) binding: &'a Binding,
     /// Whether the binding is a mark.
     pub(crate) known: bool,
+}
+
+/// An event of whose monitors there is a list, and the list's place.
+#[derive(Drop)]
+pub(crate) struct ListedEvent<'a, M: Monitor> {
+    pub(crate) event: Event<'a, M>,
+    pub(crate) place: usize,
 }
 
 impl<M: Monitor> Event<'_, M> {

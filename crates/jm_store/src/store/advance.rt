@@ -15,7 +15,7 @@ ghost use Rattle.jm_store.specs.Plans.{CanPlan, Advances, IsSilent, IsStepDone, 
 use super::Store;
 use super::reach::make_room;
 use crate::ending::end_fewer;
-use crate::event::{Call, Event};
+use crate::event::{Call, Event, KnownCall};
 use crate::moves::{MANY, Move};
 use crate::report::report_one;
 use crate::waking::{follow, wake};
@@ -76,7 +76,8 @@ impl<M: Monitor> Store<M> {
             (stored_of self.old) }
     {
         let mut slots = self.take_slots();
-        let done = self.advance_in(call, awake, known, &mut slots, steps);
+        let asked = KnownCall { call, known };
+        let done = self.advance_in(&asked, awake, &mut slots, steps);
         self.give_slots(slots);
         done
     }
@@ -84,23 +85,25 @@ impl<M: Monitor> Store<M> {
     /// Does an event as `advance_one` does, in room that is lent for slots.
     fn advance_in<L: Ledger>(
         &mut self,
-        call: &Call<'_, M>,
+        asked: &KnownCall<'_, M>,
         awake: &mut Awake,
-        known: bool,
         slots: &mut Vec<usize>,
         steps: &mut Steps<L>,
     ) -> Option<Done>
-        requires can { CanPlan (M.meaning (M.definition call.now.rules.now)) call.now.objects.now call.now.letter.0
-            call.now.binding.now self.old }
-        requires known { IsTrue known ↔ Contains self.old.marks call.now.binding.now }
-        ensures advances { Advances (M.meaning (M.definition call.now.rules.now)) (M.StandsFor call.now.rules.now)
-            call.now.objects.now call.now.letter.0 call.now.binding.now self.old self.new result }
-        ensures listed { KeepListed (M.meaning (M.definition call.now.rules.now)) (M.StandsFor call.now.rules.now)
-            call.now.objects.now self.old.monitors self.new.monitors awake.old awake.new }
-        ensures steps { steps.new ≤ steps.old + count_by (λ s. is_compatible s.instance call.now.binding.now)
+        requires can { CanPlan (M.meaning (M.definition asked.now.call.now.rules.now)) asked.now.call.now.objects.now
+            asked.now.call.now.letter.0 asked.now.call.now.binding.now self.old }
+        requires known { IsTrue asked.now.known ↔ Contains self.old.marks asked.now.call.now.binding.now }
+        ensures advances { Advances (M.meaning (M.definition asked.now.call.now.rules.now)) (M.StandsFor
+            asked.now.call.now.rules.now) asked.now.call.now.objects.now asked.now.call.now.letter.0
+            asked.now.call.now.binding.now self.old self.new result }
+        ensures listed { KeepListed (M.meaning (M.definition asked.now.call.now.rules.now)) (M.StandsFor
+            asked.now.call.now.rules.now) asked.now.call.now.objects.now self.old.monitors self.new.monitors awake.old
+            awake.new }
+        ensures steps { steps.new ≤ steps.old + count_by (λ s. is_compatible s.instance asked.now.call.now.binding.now)
             (stored_of self.old) }
     {
-        if known {
+        let call = asked.call;
+        if asked.known {
             if let Some(above) = self.only_slot_above(call.objects, call.binding, slots) {
                 return match above {
                     Some(slot) => self.advance_slot(call, awake, slot, steps),
@@ -111,7 +114,7 @@ impl<M: Monitor> Store<M> {
                 return None;
             }
         }
-        self.advance_only(call, awake, known, slots, steps)
+        self.advance_only(asked, awake, slots, steps)
     }
 
     /// The slot of the only monitor above a binding, or that there is none. Where several are or may be, since several
@@ -224,36 +227,38 @@ impl<M: Monitor> Store<M> {
     #[inline(never)]
     fn advance_only<L: Ledger>(
         &mut self,
-        call: &Call<'_, M>,
+        asked: &KnownCall<'_, M>,
         awake: &mut Awake,
-        known: bool,
         slots: &mut Vec<usize>,
         steps: &mut Steps<L>,
     ) -> Option<Done>
-        requires can { CanPlan (M.meaning (M.definition call.now.rules.now)) call.now.objects.now call.now.letter.0
-            call.now.binding.now self.old }
-        requires known { IsTrue known ↔ Contains self.old.marks call.now.binding.now }
-        ensures advances { Advances (M.meaning (M.definition call.now.rules.now)) (M.StandsFor call.now.rules.now)
-            call.now.objects.now call.now.letter.0 call.now.binding.now self.old self.new result }
-        ensures listed { KeepListed (M.meaning (M.definition call.now.rules.now)) (M.StandsFor call.now.rules.now)
-            call.now.objects.now self.old.monitors self.new.monitors awake.old awake.new }
-        ensures steps { steps.new ≤ steps.old + count_by (λ s. is_compatible s.instance call.now.binding.now)
+        requires can { CanPlan (M.meaning (M.definition asked.now.call.now.rules.now)) asked.now.call.now.objects.now
+            asked.now.call.now.letter.0 asked.now.call.now.binding.now self.old }
+        requires known { IsTrue asked.now.known ↔ Contains self.old.marks asked.now.call.now.binding.now }
+        ensures advances { Advances (M.meaning (M.definition asked.now.call.now.rules.now)) (M.StandsFor
+            asked.now.call.now.rules.now) asked.now.call.now.objects.now asked.now.call.now.letter.0
+            asked.now.call.now.binding.now self.old self.new result }
+        ensures listed { KeepListed (M.meaning (M.definition asked.now.call.now.rules.now)) (M.StandsFor
+            asked.now.call.now.rules.now) asked.now.call.now.objects.now self.old.monitors self.new.monitors awake.old
+            awake.new }
+        ensures steps { steps.new ≤ steps.old + count_by (λ s. is_compatible s.instance asked.now.call.now.binding.now)
             (stored_of self.old) }
     {
+        let call = asked.call;
         let event = Event {
             rules: call.rules,
             objects: call.objects,
             marks: &self.marks,
             letter: call.letter,
             binding: call.binding,
-            known,
+            known: asked.known,
         };
         match self.find_only(&event, slots, steps)? {
             Some(step) => {
                 self.room_for(&step, slots)?;
-                self.take_step(call, awake, step, known)
+                self.take_step(call, awake, step, asked.known)
             }
-            None => self.take_none(call.binding, known),
+            None => self.take_none(call.binding, asked.known),
         }
     }
 

@@ -6,13 +6,13 @@ ghost use Rattle.jm_index.specs.Index.{AreLive, IsFitting, flag_of};
 ghost use Rattle.jm_monitors.specs.declared.stored.Stored.{Stored as Kept};
 ghost use Rattle.jm_monitors.specs.Steps.{after_death};
 ghost use Rattle.jm_store.specs.Slots.{monitor_at};
-ghost use Rattle.jm_store.specs.Moves.{after_moves, AreGiven, IsReadAt, IsPushed, AreMovesRead, AreVisited, asks_by, has_all};
+ghost use Rattle.jm_store.specs.Moves.{after_moves, AreGiven, IsReadAt, AreMovesRead, AreVisited, asks_by, has_all};
 ghost use Rattle.jm_store.specs.Contents.{stored_of, monitors_after, AreReady, IsPlanFor};
 ghost use Rattle.jm_store.specs.Listed.{occupants_of, slots_listed, AreListed, AreListedBut, HasList, AreLeftOf, KeepEntries, KeepListed, IsInAll};
 ghost use Rattle.jm_store.specs.Plans.{CanPlan, PlansUnlessRests};
 
 use super::Store;
-use crate::event::{Call, Event};
+use crate::event::{Call, Event, ListedEvent};
 use crate::moves::{Move, Plan};
 use crate::waking::follow_all;
 use jm_awake::Awake;
@@ -55,7 +55,8 @@ impl<M: Monitor> Store<M> {
             binding: call.binding,
             known: true,
         };
-        let moves = self.reach_listed(&event, awake, place, moves, steps)?;
+        let listed = ListedEvent { event, place };
+        let moves = self.reach_listed(&listed, awake, moves, steps)?;
         if moves.as_slice().is_empty() {
             self.give_moves(moves);
             return Ok(None);
@@ -68,30 +69,30 @@ impl<M: Monitor> Store<M> {
     #[inline(always)]
     fn reach_listed<L: Ledger>(
         &self,
-        event: &Event<'_, M>,
+        listed: &ListedEvent<'_, M>,
         awake: &mut Awake,
-        place: usize,
         mut moves: Vec<Move<M::State>>,
         steps: &mut Steps<L>,
     ) -> Result<Vec<Move<M::State>>, NoMemory>
-        requires letter { event.now.letter.0 < (M.meaning (M.definition event.now.rules.now)).letters }
-        requires known { IsTrue event.now.known ↔ Contains event.now.marks.now.list event.now.binding.now }
-        requires list { HasList (M.meaning (M.definition event.now.rules.now)) (M.StandsFor event.now.rules.now)
-            event.now.objects.now event.now.letter.0 event.now.binding.now event.now.marks.now.list self.now.monitors
-            awake.old place }
+        requires letter { listed.now.event.letter.0 < (M.meaning (M.definition listed.now.event.rules.now)).letters }
+        requires known { IsTrue listed.now.event.known ↔ Contains listed.now.event.marks.now.list
+            listed.now.event.binding.now }
+        requires list { HasList (M.meaning (M.definition listed.now.event.rules.now)) (M.StandsFor
+            listed.now.event.rules.now) listed.now.event.objects.now listed.now.event.letter.0
+            listed.now.event.binding.now listed.now.event.marks.now.list self.now.monitors awake.old listed.now.place }
         requires none { moves.items ≡ [] }
-        ensures moves { IfOk result (λ moves. AreMovesRead (M.meaning (M.definition event.now.rules.now))
-            (M.StandsFor event.now.rules.now) event.now.letter.0 event.now.binding.now
-            event.now.objects.now event.now.marks.now.list
-            (asks_by event.now.known self.now.ending event.now.letter.0 event.now.binding.now)
+        ensures moves { IfOk result (λ moves. AreMovesRead (M.meaning (M.definition listed.now.event.rules.now))
+            (M.StandsFor listed.now.event.rules.now) listed.now.event.letter.0 listed.now.event.binding.now
+            listed.now.event.objects.now listed.now.event.marks.now.list
+            (asks_by listed.now.event.known self.now.ending listed.now.event.letter.0 listed.now.event.binding.now)
             self.now.monitors moves.items) }
-        ensures listed { AreListed (M.meaning (M.definition event.now.rules.now)) (M.StandsFor event.now.rules.now)
-            event.now.objects.now self.now.monitors awake.new }
-        ensures steps { steps.new ≤ steps.old + count_by (λ s. is_compatible s.instance event.now.binding.now)
+        ensures listed { AreListed (M.meaning (M.definition listed.now.event.rules.now)) (M.StandsFor
+            listed.now.event.rules.now) listed.now.event.objects.now self.now.monitors awake.new }
+        ensures steps { steps.new ≤ steps.old + count_by (λ s. is_compatible s.instance listed.now.event.binding.now)
             (stored_of self.now) }
     {
-        let read = self.read_listed(event, awake, place, &mut moves, steps);
-        awake.tidy(place);
+        let read = self.read_listed(listed, awake, &mut moves, steps);
+        awake.tidy(listed.place);
         read?;
         Ok(moves)
     }
@@ -100,30 +101,34 @@ impl<M: Monitor> Store<M> {
     /// letter, and are still among the entries of this one.
     fn read_listed<L: Ledger>(
         &self,
-        event: &Event<'_, M>,
+        listed: &ListedEvent<'_, M>,
         awake: &mut Awake,
-        place: usize,
         moves: &mut Vec<Move<M::State>>,
         steps: &mut Steps<L>,
     ) -> Result<(), NoMemory>
-        requires letter { event.now.letter.0 < (M.meaning (M.definition event.now.rules.now)).letters }
-        requires known { IsTrue event.now.known ↔ Contains event.now.marks.now.list event.now.binding.now }
-        requires list { HasList (M.meaning (M.definition event.now.rules.now)) (M.StandsFor event.now.rules.now)
-            event.now.objects.now event.now.letter.0 event.now.binding.now event.now.marks.now.list self.now.monitors
-            awake.old place }
+        requires letter { listed.now.event.letter.0 < (M.meaning (M.definition listed.now.event.rules.now)).letters }
+        requires known { IsTrue listed.now.event.known ↔ Contains listed.now.event.marks.now.list
+            listed.now.event.binding.now }
+        requires list { HasList (M.meaning (M.definition listed.now.event.rules.now)) (M.StandsFor
+            listed.now.event.rules.now) listed.now.event.objects.now listed.now.event.letter.0
+            listed.now.event.binding.now listed.now.event.marks.now.list self.now.monitors awake.old listed.now.place }
         requires none { moves.old.items ≡ [] }
-        ensures moves { OnOk result (AreGiven (IsReadAt (M.meaning (M.definition event.now.rules.now))
-            (M.StandsFor event.now.rules.now) event.now.letter.0 event.now.binding.now
-            event.now.objects.now event.now.marks.now.list self.now.monitors)
-            (slots_listed awake.old place) moves.new.items) }
-        ensures listed { AreListedBut (M.meaning (M.definition event.now.rules.now)) (M.StandsFor event.now.rules.now)
-            event.now.objects.now (Some place) self.now.monitors awake.new }
-        ensures steps { steps.new ≤ steps.old + length (slots_listed awake.old place) }
+        ensures moves { OnOk result (AreGiven (IsReadAt (M.meaning (M.definition listed.now.event.rules.now))
+            (M.StandsFor listed.now.event.rules.now) listed.now.event.letter.0 listed.now.event.binding.now
+            listed.now.event.objects.now listed.now.event.marks.now.list self.now.monitors)
+            (slots_listed awake.old listed.now.place) moves.new.items) }
+        ensures listed { AreListedBut (M.meaning (M.definition listed.now.event.rules.now)) (M.StandsFor
+            listed.now.event.rules.now) listed.now.event.objects.now (Some listed.now.place) self.now.monitors
+            awake.new }
+        ensures steps { steps.new ≤ steps.old + length (slots_listed awake.old listed.now.place) }
     {
-        for at in 0..awake.entries(place).len() {
-            let entry = awake.entries(place)[at];
+        for at in 0..awake.entries(listed.place).len() {
+            let entry = awake.entries(listed.place)[at];
             if awake.is_there(&entry) {
-                self.read_entry(event, awake, entry.slot(), moves, steps)?;
+                match self.read_entry(&listed.event, awake, entry.slot(), steps)? {
+                    Some(step) => moves.push(step)?,
+                    None => {}
+                }
             }
         }
         Ok(())
@@ -137,18 +142,16 @@ impl<M: Monitor> Store<M> {
         event: &Event<'_, M>,
         awake: &mut Awake,
         slot: usize,
-        moves: &mut Vec<Move<M::State>>,
         steps: &mut Steps<L>,
-    ) -> Result<(), NoMemory>
+    ) -> Result<Option<Move<M::State>>, NoMemory>
         requires letter { event.now.letter.0 < (M.meaning (M.definition event.now.rules.now)).letters }
         requires known { IsTrue event.now.known ↔ Contains event.now.marks.now.list event.now.binding.now }
         requires marked { Contains event.now.marks.now.list event.now.binding.now }
         requires above { (s : Kept M.State) → monitor_at self.now.monitors slot ≡ Some s
             → is_below event.now.binding.now s.instance ≡ true }
-        ensures moves { OnOk result (IsPushed
-            (IsReadAt (M.meaning (M.definition event.now.rules.now))
+        ensures moves { IfOk result (IsReadAt (M.meaning (M.definition event.now.rules.now))
             (M.StandsFor event.now.rules.now) event.now.letter.0 event.now.binding.now
-            event.now.objects.now event.now.marks.now.list self.now.monitors) slot moves.old.items moves.new.items) }
+            event.now.objects.now event.now.marks.now.list self.now.monitors slot) }
         ensures listed { (place : ℕ) → IsListOf (list_at awake.old place) event.now.letter.0 event.now.binding.now
             → AreListedBut (M.meaning (M.definition event.now.rules.now)) (M.StandsFor event.now.rules.now)
             event.now.objects.now (Some place) self.now.monitors awake.old
@@ -158,16 +161,16 @@ impl<M: Monitor> Store<M> {
         ensures steps { steps.new ≤ steps.old + 1 }
     {
         let Some(base) = self.monitors.lend(slot, steps) else {
-            return Ok(());
+            return Ok(None);
         };
         match event.outcome(slot, base)? {
-            Some(step) => moves.push(step)?,
+            Some(step) => Ok(Some(step)),
             None => {
                 let _letters = event.rules.letters();
                 awake.unlist(slot, event.letter);
+                Ok(None)
             }
         }
-        Ok(())
     }
 
     /// Takes in what a plan makes of the monitors, before it is carried out. It takes memory for lists alone; where it

@@ -9,7 +9,7 @@ ghost use Rattle.jm_store.specs.Plans.{CanPlan, Plans};
 
 use super::Store;
 use crate::ending::end_fewer_by;
-use crate::event::{Call, Event};
+use crate::event::{Call, Event, KnownCall};
 use crate::moves::{Move, Plan};
 use crate::report::report;
 use jm_model::{Binding, Letter, Monitor, NoMemory, Steps};
@@ -78,7 +78,8 @@ impl<M: Monitor> Store<M> {
     {
         let moves = self.take_moves();
         let mut slots = self.take_slots();
-        let plan = self.plan_in(call, known, steps, &mut slots, moves);
+        let asked = KnownCall { call, known };
+        let plan = self.plan_in(&asked, steps, &mut slots, moves);
         self.give_slots(slots);
         plan
     }
@@ -87,21 +88,22 @@ impl<M: Monitor> Store<M> {
     #[tactic(auto, using(crate::proofs::PlanLemmas::plans_untouched))]
     fn plan_in<L: Ledger>(
         &mut self,
-        call: &Call<'_, M>,
-        known: bool,
+        asked: &KnownCall<'_, M>,
         steps: &mut Steps<L>,
         slots: &mut Vec<usize>,
         moves: Vec<Move<M::State>>,
     ) -> Result<Plan<M::State>, NoMemory>
-        requires can { CanPlan (M.meaning (M.definition call.now.rules.now)) call.now.objects.now call.now.letter.0
-            call.now.binding.now self.old }
-        requires known { IsTrue known ↔ Contains self.old.marks call.now.binding.now }
+        requires can { CanPlan (M.meaning (M.definition asked.now.call.now.rules.now)) asked.now.call.now.objects.now
+            asked.now.call.now.letter.0 asked.now.call.now.binding.now self.old }
+        requires known { IsTrue asked.now.known ↔ Contains self.old.marks asked.now.call.now.binding.now }
         requires none { moves.items ≡ [] }
-        ensures plans { Plans (M.meaning (M.definition call.now.rules.now)) (M.StandsFor call.now.rules.now)
-            call.now.objects.now call.now.letter.0 call.now.binding.now self.old self.new result }
-        ensures steps { steps.new ≤ steps.old + count_by (λ s. is_compatible s.instance call.now.binding.now)
+        ensures plans { Plans (M.meaning (M.definition asked.now.call.now.rules.now)) (M.StandsFor
+            asked.now.call.now.rules.now) asked.now.call.now.objects.now asked.now.call.now.letter.0
+            asked.now.call.now.binding.now self.old self.new result }
+        ensures steps { steps.new ≤ steps.old + count_by (λ s. is_compatible s.instance asked.now.call.now.binding.now)
             (stored_of self.old) }
     {
+        let call = asked.call;
         slots.clear();
         make_room(slots, self.monitors.count_slots())?;
         let event = Event {
@@ -110,11 +112,10 @@ impl<M: Monitor> Store<M> {
             marks: &self.marks,
             letter: call.letter,
             binding: call.binding,
-            known,
+            known: asked.known,
         };
-        let mut met = 0;
-        let moves = self.reach(&event, slots, moves, &mut met, steps)?;
-        self.plan_of(call, known, moves, met)
+        let (moves, met) = self.reach(&event, slots, moves, steps)?;
+        self.plan_of(call, asked.known, moves, met)
     }
 
     /// Opens the plan of an event that makes these moves, and met so many monitors.
@@ -174,32 +175,32 @@ impl<M: Monitor> Store<M> {
         event: &Event<'_, M>,
         slots: &mut Vec<usize>,
         mut moves: Vec<Move<M::State>>,
-        met: &mut usize,
         steps: &mut Steps<L>,
-    ) -> Result<Vec<Move<M::State>>, NoMemory>
+    ) -> Result<(Vec<Move<M::State>>, usize), NoMemory>
         requires closed { self.now.is_open ≡ false }
         requires letter { event.now.letter.0 < (M.meaning (M.definition event.now.rules.now)).letters }
         requires known { IsTrue event.now.known ↔ Contains event.now.marks.now.list event.now.binding.now }
         requires fits { IsFitting self.now.index event.now.objects.now }
         requires live { AreLive event.now.objects.now event.now.binding.now }
         requires none { moves.items ≡ [] }
-        ensures moves { IfOk result (λ moves. AreMovesRead (M.meaning (M.definition event.now.rules.now))
+        ensures moves { IfOk result (λ reached. AreMovesRead (M.meaning (M.definition event.now.rules.now))
             (M.StandsFor event.now.rules.now) event.now.letter.0 event.now.binding.now
             event.now.objects.now event.now.marks.now.list
             (asks_by event.now.known self.now.ending event.now.letter.0 event.now.binding.now)
-            self.now.monitors moves.items) }
+            self.now.monitors reached.0.items) }
         ensures steps { steps.new ≤ steps.old + count_by (λ s. is_compatible s.instance event.now.binding.now)
             (stored_of self.now) }
     {
+        let mut met = 0_usize;
         for domain in &self.domains {
             if event.asks(self.ending[*domain as usize], *domain) {
                 self.index
                     .compatible_into(event.objects, *domain, event.binding, slots)?;
-                *met = met.saturating_add(slots.len());
+                met = met.saturating_add(slots.len());
                 self.reach_slots(event, slots.as_slice(), &mut moves, steps)?;
             }
         }
-        Ok(moves)
+        Ok((moves, met))
     }
 
     /// What it makes of those in some slots.

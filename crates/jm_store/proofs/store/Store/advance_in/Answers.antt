@@ -15,39 +15,39 @@ only_slot_above-requires-clause-live g c = λ o binds. c.requires.can.event.live
 
 pub returns-in-Some-above-clause-advances : goal.returns-in-Some-above-clause-advances
 returns-in-Some-above-clause-advances g c =
-    let m = g.M.Monitor.meaning (g.M.Monitor.definition c.args.call.now.rules.now) in
-    let Stands = g.M.Monitor.StandsFor c.args.call.now.rules.now in
-    let b = c.args.call.now.binding.now in
+    let m = g.M.Monitor.meaning (g.M.Monitor.definition c.args.asked.now.call.now.rules.now) in
+    let Stands = g.M.Monitor.StandsFor c.args.asked.now.call.now.rules.now in
+    let b = c.args.asked.now.call.now.binding.now in
     let old = c.args.self.now in
     let new = c.advance_slot.new.self in
     let slot = c.in-Some-above.slot in
     let only : IsOnlyAbove b old slot = subst (λ (o : Option ℕ). IsAbove b old o) c.in-Some-above.is c.in-Some.ensures in
     let did = c.advance_slot.ensures in
     let result = c.advance_slot.result in
-    let known = c.requires.known.0 c.if-known.true in
+    let known = c.requires.known.0 c.if-asked.true in
     let (base, at) = reached_one b old slot only in
-    let Moved : Done → Type 0 = λ (done : Done). IsSlotDone m Stands c.args.call.now.letter.0 c.args.call.now.objects.now slot old new done in
+    let Moved : Done → Type 0 = λ (done : Done). IsSlotDone m Stands c.args.asked.now.call.now.letter.0 c.args.asked.now.call.now.objects.now slot old new done in
     record {
       stored = if_none result (new ≡ old) (new ≡ old) (new ≡ old) (stored_of new ≡ stored_of old) (λ same x y. ap (λ (s : Contents g.row.M-State.Denot). stored_of s) same) did.same did.same did.same;
       unmarked = if_none result (new ≡ old) (new ≡ old) (new ≡ old) (new.marks ≡ old.marks) (λ same x y. ap (λ (s : Contents g.row.M-State.Denot). s.marks) same) did.same did.same did.same;
-      keeps = if_none result (new ≡ old) (new ≡ old) (new ≡ old) ((trace : List ParametricEvent) → IsStoreAfter m Stands trace c.args.call.now.objects.now old → IsStoreAfter m Stands trace c.args.call.now.objects.now new)
-          (λ same x y trace holds. subst (λ (s : Contents g.row.M-State.Denot). IsStoreAfter m Stands trace c.args.call.now.objects.now s) (sym same) holds) did.same did.same did.same;
-      fits = did.stays.fits c.args.call.now.objects.now c.requires.can.fits;
+      keeps = if_none result (new ≡ old) (new ≡ old) (new ≡ old) ((trace : List ParametricEvent) → IsStoreAfter m Stands trace c.args.asked.now.call.now.objects.now old → IsStoreAfter m Stands trace c.args.asked.now.call.now.objects.now new)
+          (λ same x y trace holds. subst (λ (s : Contents g.row.M-State.Denot). IsStoreAfter m Stands trace c.args.asked.now.call.now.objects.now s) (sym same) holds) did.same did.same did.same;
+      fits = did.stays.fits c.args.asked.now.call.now.objects.now c.requires.can.fits;
       spares = either_way result (IsSpared m Stands old → IsSpared m Stands new)
           (if_none result (new ≡ old) (new ≡ old) (new ≡ old) (IsSpared m Stands old → IsSpared m Stands new) (λ same x y spared. subst (λ (s : Contents g.row.M-State.Denot). IsSpared m Stands s) (sym same) spared) did.same did.same did.same)
           (option_map result (Unit {0}) Moved (λ (done : Done). IsSpared m Stands old → IsSpared m Stands new)
-          (λ done h. one_spared m Stands c.args.call.now.letter.0 b c.args.call.now.objects.now old new slot base done.answer only at known (h.moved base at) c.requires.can.fits.index.reached) did.done);
+          (λ done h. one_spared m Stands c.args.asked.now.call.now.letter.0 b c.args.asked.now.call.now.objects.now old new slot base done.answer only at known (h.moved base at) c.requires.can.fits.index.reached) did.done);
       closed = did.stays.closed;
       marks = in_some result (λ (done : Done). AreMarksAfter b old.marks new.marks) (λ done. rw did.stays.marks (still_known b old.marks known));
       twice = some_map result Moved (λ (done : Done). done.copy ≡ done.answer) (λ done h. h.twice) did.done;
       works = option_map result (Unit {0}) Moved
-          (λ (done : Done). (trace : List ParametricEvent) → IsStoreAfter m Stands trace c.args.call.now.objects.now old → IsEventDone m Stands trace c.args.call.now.objects.now c.args.call.now.letter.0 b new done.answer)
-          (λ done h trace holds. one_done m Stands c.args.call.now.letter.0 b c.args.call.now.objects.now old new slot base done.answer only at known (h.moved base at) trace c.requires.can.event c.requires.can.fits.index.reached holds) did.done;
+          (λ (done : Done). (trace : List ParametricEvent) → IsStoreAfter m Stands trace c.args.asked.now.call.now.objects.now old → IsEventDone m Stands trace c.args.asked.now.call.now.objects.now c.args.asked.now.call.now.letter.0 b new done.answer)
+          (λ done h trace holds. one_done m Stands c.args.asked.now.call.now.letter.0 b c.args.asked.now.call.now.objects.now old new slot base done.answer only at known (h.moved base at) trace c.requires.can.event c.requires.can.fits.index.reached holds) did.done;
     }
 
 pub returns-in-Some-above-clause-steps : goal.returns-in-Some-above-clause-steps
 returns-in-Some-above-clause-steps g c =
-    let b = c.args.call.now.binding.now in
+    let b = c.args.asked.now.call.now.binding.now in
     let old = c.args.self.now in
     let slot = c.in-Some-above.slot in
     let only : IsOnlyAbove b old slot = subst (λ (o : Option ℕ). IsAbove b old o) c.in-Some-above.is c.in-Some.ensures in
@@ -55,11 +55,11 @@ returns-in-Some-above-clause-steps g c =
 
 pub returns-in-None-clause-advances : goal.returns-in-None-clause-advances
 returns-in-None-clause-advances g c =
-    let m = g.M.Monitor.meaning (g.M.Monitor.definition c.args.call.now.rules.now) in
-    let Stands = g.M.Monitor.StandsFor c.args.call.now.rules.now in
-    let b = c.args.call.now.binding.now in
+    let m = g.M.Monitor.meaning (g.M.Monitor.definition c.args.asked.now.call.now.rules.now) in
+    let Stands = g.M.Monitor.StandsFor c.args.asked.now.call.now.rules.now in
+    let b = c.args.asked.now.call.now.binding.now in
     let old = c.args.self.now in
-    let known = c.requires.known.0 c.if-known.true in
+    let known = c.requires.known.0 c.if-asked.true in
     let none : IsNoneAbove b old = subst (λ (o : Option ℕ). IsAbove b old o) c.in-None.is c.in-Some.ensures in
     record {
       stored = tt;
@@ -71,5 +71,5 @@ returns-in-None-clause-advances g c =
       marks = still_known b old.marks known;
       twice = c.nothing.ensures.copy ∙ sym c.nothing.ensures.answer;
       works = λ trace holds. rw c.nothing.ensures.answer
-          (none_done m Stands c.args.call.now.letter.0 b c.args.call.now.objects.now old none known trace c.requires.can.event c.requires.can.fits.index.reached holds);
+          (none_done m Stands c.args.asked.now.call.now.letter.0 b c.args.asked.now.call.now.objects.now old none known trace c.requires.can.event c.requires.can.fits.index.reached holds);
     }
