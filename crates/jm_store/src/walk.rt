@@ -59,6 +59,15 @@ struct Asked {
     params: u8,
 }
 
+/// Room for what an event makes of the monitors of a list, sorted in three: shifts, which stand in front, moves, and
+/// the slots of those that rest.
+#[derive(Drop)]
+pub(crate) struct Sifted<S> {
+    pub(crate) shifts: Vec<Shift>,
+    pub(crate) moves: Vec<Move<S>>,
+    pub(crate) rests: Vec<usize>,
+}
+
 /// An event that reads the monitors of its list, and what it looks up.
 #[derive(Drop)]
 pub(crate) struct Walk<'a, M: Monitor> {
@@ -93,9 +102,7 @@ impl<M: Monitor> Walk<'_, M> {
     pub(crate) fn read_list<L: Ledger>(
         &self,
         place: usize,
-        shifts: &mut Vec<Shift>,
-        moves: &mut Vec<Move<M::State>>,
-        rests: &mut Vec<usize>,
+        sifted: &mut Sifted<M::State>,
         steps: &mut Steps<L>,
     ) -> Option<usize>
         requires can { CanWalk (M.meaning (M.definition self.now.event.now.rules.now)) (M.StandsFor
@@ -110,17 +117,17 @@ impl<M: Monitor> Walk<'_, M> {
         requires ends { (k : ℕ) (s : Kept M.State) → monitor_at (monitors_of self.now.slots.items.now) k ≡ Some s
             → is_below self.now.event.now.binding.now s.instance ≡ true
             → AreAmong self.now.ending.now (mask_of s.instance) self.now.ends }
-        requires room { length (list_at self.now.awake.now place).entries ≤ length shifts.old.items }
-        requires none { AreNone moves.old.items rests.old.items }
-        ensures sifted { IfSome result (λ count. (count ≤ length shifts.new.items) × AreSifted (IsShiftAt (M.meaning
-            (M.definition self.now.event.now.rules.now)) (M.StandsFor self.now.event.now.rules.now) (M.HasNumber
-            self.now.event.now.rules.now) self.now.event.now.letter.0 self.now.event.now.objects.now
+        requires room { length (list_at self.now.awake.now place).entries ≤ length sifted.old.shifts.items }
+        requires none { AreNone sifted.old.moves.items sifted.old.rests.items }
+        ensures sifted { IfSome result (λ count. (count ≤ length sifted.new.shifts.items) × AreSifted (IsShiftAt
+            (M.meaning (M.definition self.now.event.now.rules.now)) (M.StandsFor self.now.event.now.rules.now)
+            (M.HasNumber self.now.event.now.rules.now) self.now.event.now.letter.0 self.now.event.now.objects.now
             self.now.event.now.binding.now self.now.ending.now self.now.awake.now (monitors_of
             self.now.slots.items.now)) (IsReadAt (M.meaning (M.definition self.now.event.now.rules.now)) (M.StandsFor
             self.now.event.now.rules.now) self.now.event.now.letter.0 self.now.event.now.binding.now
             self.now.event.now.objects.now self.now.event.now.marks.now.list (monitors_of self.now.slots.items.now))
-            (slots_listed self.now.awake.now place) (take count shifts.new.items) moves.new.items
-            rests.new.items) }
+            (slots_listed self.now.awake.now place) (take count sifted.new.shifts.items) sifted.new.moves.items
+            sifted.new.rests.items) }
         ensures steps { steps.new ≤ steps.old + length (slots_listed self.now.awake.now place) }
     {
         let entries = self.awake.entries(place);
@@ -132,10 +139,10 @@ impl<M: Monitor> Walk<'_, M> {
                 letters: 0,
                 params: 0,
             };
-            return self.read_entries(entries, asked, shifts.as_mut_slice(), moves, rests, steps);
+            return self.read_entries(entries, asked, sifted, steps);
         }
         let asked = Asked { letters, params };
-        self.read_entries(entries, asked, shifts.as_mut_slice(), moves, rests, steps)
+        self.read_entries(entries, asked, sifted, steps)
     }
 
     /// Reads the entries of the list so. It is inlined, so that zeros which stand at the call make a loop that asks for
@@ -145,9 +152,7 @@ impl<M: Monitor> Walk<'_, M> {
         &self,
         entries: &[Listed],
         asked: Asked,
-        shifts: &mut [Shift],
-        moves: &mut Vec<Move<M::State>>,
-        rests: &mut Vec<usize>,
+        sifted: &mut Sifted<M::State>,
         steps: &mut Steps<L>,
     ) -> Option<usize>
         requires can { CanWalk (M.meaning (M.definition self.now.event.now.rules.now)) (M.StandsFor
@@ -158,18 +163,17 @@ impl<M: Monitor> Walk<'_, M> {
             self.now.event.now.letter.0 self.now.awake.now.letters asked }
         requires each { AreReadable self.now.event.now.binding.now self.now.event.now.letter.0 self.now.ending.now
             self.now.ends self.now.awake.now (monitors_of self.now.slots.items.now) entries.now }
-        requires room { length entries.now ≤ length shifts.old }
-        requires none { AreNone moves.old.items rests.old.items }
-        ensures sifted { IfSome result (λ count. (count ≤ length shifts.new) × AreSifted (IsShiftAt (M.meaning
-            (M.definition self.now.event.now.rules.now)) (M.StandsFor self.now.event.now.rules.now) (M.HasNumber
-            self.now.event.now.rules.now) self.now.event.now.letter.0 self.now.event.now.objects.now
+        requires room { length entries.now ≤ length sifted.old.shifts.items }
+        requires none { AreNone sifted.old.moves.items sifted.old.rests.items }
+        ensures sifted { IfSome result (λ count. (count ≤ length sifted.new.shifts.items) × AreSifted (IsShiftAt
+            (M.meaning (M.definition self.now.event.now.rules.now)) (M.StandsFor self.now.event.now.rules.now)
+            (M.HasNumber self.now.event.now.rules.now) self.now.event.now.letter.0 self.now.event.now.objects.now
             self.now.event.now.binding.now self.now.ending.now self.now.awake.now (monitors_of
             self.now.slots.items.now)) (IsReadAt (M.meaning (M.definition self.now.event.now.rules.now)) (M.StandsFor
             self.now.event.now.rules.now) self.now.event.now.letter.0 self.now.event.now.binding.now
             self.now.event.now.objects.now self.now.event.now.marks.now.list (monitors_of self.now.slots.items.now))
-            (slots_there self.now.awake.now.cards entries.now) (take count shifts.new) moves.new.items
-            rests.new.items) }
-        ensures length { length shifts.new ≡ length shifts.old }
+            (slots_there self.now.awake.now.cards entries.now) (take count sifted.new.shifts.items)
+            sifted.new.moves.items sifted.new.rests.items) }
         ensures steps { steps.new ≤ steps.old + length (slots_there self.now.awake.now.cards entries.now) }
     {
         let cards = self.awake.cards();
@@ -177,6 +181,7 @@ impl<M: Monitor> Walk<'_, M> {
             from: u32::MAX,
             to: NO_NUMBER as u32,
         }; 16];
+        let shifts = sifted.shifts.as_mut_slice();
         let mut count = 0;
         for entry in entries {
             let card = card_of(cards, entry.slot());
@@ -186,9 +191,9 @@ impl<M: Monitor> Walk<'_, M> {
                     Told::Shifts(number) => {
                         push_shift(shifts, &mut count, entry.slot_number(), number);
                     }
-                    Told::Rests => note_rest(rests, entry.slot()),
+                    Told::Rests => note_rest(&mut sifted.rests, entry.slot()),
                     Told::Nothing => {
-                        let Ok(()) = self.work_out(entry.slot(), base, moves) else {
+                        let Ok(()) = self.work_out(entry.slot(), base, &mut sifted.moves) else {
                             return None;
                         };
                     }

@@ -13,10 +13,10 @@ ghost use Rattle.jm_store.specs.Plans.{CanPlan, Advances, IsApplied, IsReading};
 
 use super::Store;
 use super::advance::Done;
-use crate::event::{Call, Event};
+use crate::event::{Call, Event, ListedEvent};
 use crate::moves::Move;
 use crate::report::report;
-use crate::walk::{Shift, Walk};
+use crate::walk::{Shift, Sifted, Walk};
 use jm_awake::Awake;
 use jm_model::{Binding, Firings, Letter, Monitor, Steps};
 use jm_objects::Objects;
@@ -56,42 +56,10 @@ impl<M: Monitor> Store<M> {
         ensures steps { steps.new ≤ steps.old + count_by (λ s. is_compatible s.instance call.now.binding.now)
             (stored_of self.old) }
     {
-        let mut rests = self.take_slots();
-        rests.clear();
-        let done = self.do_listed(call, awake, place, &mut rests, steps);
-        self.give_slots(rests);
-        done
-    }
-
-    /// Does an event as `advance_listed` does, in room that is lent for the slots of monitors that rest.
-    #[inline(always)]
-    fn do_listed<L: Ledger>(
-        &mut self,
-        call: &Call<'_, M>,
-        awake: &mut Awake,
-        place: usize,
-        rests: &mut Vec<usize>,
-        steps: &mut Steps<L>,
-    ) -> Option<Done>
-        requires can { CanPlan (M.meaning (M.definition call.now.rules.now)) call.now.objects.now call.now.letter.0
-            call.now.binding.now self.old }
-        requires list { HasList (M.meaning (M.definition call.now.rules.now)) (M.StandsFor call.now.rules.now)
-            call.now.objects.now call.now.letter.0 call.now.binding.now self.old.marks self.old.monitors awake.old place }
-        requires clear { rests.old.items ≡ [] }
-        ensures same { IfNone result ((self.new ≡ self.old) × (awake.new ≡ awake.old)) }
-        ensures marks { self.new.marks ≡ self.old.marks }
-        ensures advances { Advances (M.meaning (M.definition call.now.rules.now)) (M.StandsFor call.now.rules.now)
-            call.now.objects.now call.now.letter.0 call.now.binding.now self.old self.new result }
-        ensures listed { AreListed (M.meaning (M.definition call.now.rules.now)) (M.StandsFor call.now.rules.now)
-            call.now.objects.now self.new.monitors awake.new }
-        ensures steps { steps.new ≤ steps.old + count_by (λ s. is_compatible s.instance call.now.binding.now)
-            (stored_of self.old) }
-    {
         if awake.entries(place).is_empty() {
             return None;
         }
-        let mut shifts = self.take_shifts();
-        let mut moves = self.take_moves();
+        let mut sifted = self.take_room();
         let event = Event {
             rules: call.rules,
             objects: call.objects,
@@ -100,17 +68,9 @@ impl<M: Monitor> Store<M> {
             binding: call.binding,
             known: true,
         };
-        let Some(reading) = self.tell_listed(
-            &event,
-            awake,
-            place,
-            &mut shifts,
-            &mut moves,
-            rests,
-            steps,
-        ) else {
-            self.give_shifts(shifts);
-            self.give_moves(moves);
+        let listed = ListedEvent { event, place };
+        let Some(reading) = self.tell_listed(&listed, awake, &mut sifted, steps) else {
+            self.give_room(sifted);
             return None;
         };
         let Reading {
@@ -118,12 +78,18 @@ impl<M: Monitor> Store<M> {
             answer,
             copy,
         } = reading;
+        let Sifted {
+            shifts,
+            moves,
+            rests,
+        } = sifted;
         let few = count + moves.len() < awake.entries(place).len() / 2;
         self.monitors
             .shift_all(call.rules, &shifts.as_slice()[..count]);
         self.give_shifts(shifts);
         self.apply(call.rules, awake, moves);
         self.let_rest(call, awake, rests.as_slice(), few);
+        self.give_slots(rests);
         Some(Done { answer, copy })
     }
 
@@ -131,31 +97,31 @@ impl<M: Monitor> Store<M> {
     #[inline(always)]
     fn tell_listed<L: Ledger>(
         &self,
-        event: &Event<'_, M>,
+        listed: &ListedEvent<'_, M>,
         awake: &Awake,
-        place: usize,
-        shifts: &mut Vec<Shift>,
-        moves: &mut Vec<Move<M::State>>,
-        rests: &mut Vec<usize>,
+        sifted: &mut Sifted<M::State>,
         steps: &mut Steps<L>,
     ) -> Option<Reading>
         requires closed { self.now.is_open ≡ false }
-        requires letter { event.now.letter.0 < (M.meaning (M.definition event.now.rules.now)).letters }
-        requires known { IsTrue event.now.known ↔ Contains event.now.marks.now.list event.now.binding.now }
-        requires live { AreLive event.now.objects.now event.now.binding.now }
-        requires list { HasList (M.meaning (M.definition event.now.rules.now)) (M.StandsFor event.now.rules.now)
-            event.now.objects.now event.now.letter.0 event.now.binding.now event.now.marks.now.list self.now.monitors
-            awake.now place }
-        requires none { AreNone moves.old.items rests.old.items }
-        ensures reading { IfSome result (λ reading. IsReading (M.meaning (M.definition event.now.rules.now))
-            (M.StandsFor event.now.rules.now) (M.HasNumber event.now.rules.now) event.now.letter.0 event.now.objects.now
-            event.now.binding.now event.now.marks.now.list self.now awake.now (slots_listed awake.now place)
-            shifts.new.items moves.new.items rests.new.items reading) }
-        ensures steps { steps.new ≤ steps.old + length (slots_listed awake.now place) }
+        requires letter { listed.now.event.letter.0 < (M.meaning (M.definition listed.now.event.rules.now)).letters }
+        requires known { IsTrue listed.now.event.known ↔ Contains listed.now.event.marks.now.list
+            listed.now.event.binding.now }
+        requires live { AreLive listed.now.event.objects.now listed.now.event.binding.now }
+        requires list { HasList (M.meaning (M.definition listed.now.event.rules.now)) (M.StandsFor
+            listed.now.event.rules.now) listed.now.event.objects.now listed.now.event.letter.0
+            listed.now.event.binding.now listed.now.event.marks.now.list self.now.monitors awake.now listed.now.place }
+        requires none { AreNone sifted.old.moves.items sifted.old.rests.items }
+        ensures reading { IfSome result (λ reading. IsReading (M.meaning (M.definition listed.now.event.rules.now))
+            (M.StandsFor listed.now.event.rules.now) (M.HasNumber listed.now.event.rules.now) listed.now.event.letter.0
+            listed.now.event.objects.now listed.now.event.binding.now listed.now.event.marks.now.list self.now awake.now
+            (slots_listed awake.now listed.now.place) sifted.new.shifts.items sifted.new.moves.items
+            sifted.new.rests.items reading) }
+        ensures steps { steps.new ≤ steps.old + length (slots_listed awake.now listed.now.place) }
     {
-        if !has_room(shifts, awake.entries(place).len()) {
+        if !has_room(&mut sifted.shifts, awake.entries(listed.place).len()) {
             return None;
         }
+        let event = &listed.event;
         let rules = event.rules;
         let walk = Walk {
             slots: self.monitors.lend_all(),
@@ -166,8 +132,8 @@ impl<M: Monitor> Store<M> {
             ends: self.ends_above(event.binding),
             event,
         };
-        let count = walk.read_list(place, shifts, moves, rests, steps)?;
-        let Ok(answer) = report(*self.domains.allocator(), rules, moves.as_slice()) else {
+        let count = walk.read_list(listed.place, sifted, steps)?;
+        let Ok(answer) = report(*self.domains.allocator(), rules, sifted.moves.as_slice()) else {
             return None;
         };
         let Ok(copy) = answer.copy() else {
@@ -230,6 +196,36 @@ impl<M: Monitor> Store<M> {
             }
             awake.tidy(place);
         }
+    }
+
+    /// Takes the room for what an event makes of the monitors of a list.
+    fn take_room(&mut self) -> Sifted<M::State>
+        ensures same { self.new ≡ self.old }
+        ensures none { AreNone result.moves.items result.rests.items }
+    {
+        let mut rests = self.take_slots();
+        rests.clear();
+        let moves = self.take_moves();
+        let shifts = self.take_shifts();
+        Sifted {
+            shifts,
+            moves,
+            rests,
+        }
+    }
+
+    /// Gives the room back.
+    fn give_room(&mut self, sifted: Sifted<M::State>)
+        ensures { self.new ≡ self.old }
+    {
+        let Sifted {
+            shifts,
+            moves,
+            rests,
+        } = sifted;
+        self.give_shifts(shifts);
+        self.give_moves(moves);
+        self.give_slots(rests);
     }
 
     /// Takes the room for shifts.

@@ -10,15 +10,15 @@ use Rattle.jm_store.proofs.store.Store.tell_listed.Goals as goal
 pub returns-clause-reading : goal.returns-clause-reading
 returns-clause-reading g c =
     let S = g.row.M-State.Denot in
-    let event = c.args.event.now in
+    let event = c.args.listed.now.event in
     let m = g.M.Monitor.meaning (g.M.Monitor.definition event.rules.now) in
     let Stands = g.M.Monitor.StandsFor event.rules.now in
     let HasNumber = g.M.Monitor.HasNumber event.rules.now in
     let lists = c.args.awake.now in
-    let slots = slots_listed lists c.args.place in
-    let shifts = take c.in_ok-count.count c.read_list.new.shifts.items in
-    let moves = c.read_list.new.moves.items in
-    let rests = c.read_list.new.rests.items in
+    let slots = slots_listed lists c.args.listed.now.place in
+    let shifts = take c.in_ok-count.count c.read_list.new.sifted.shifts.items in
+    let moves = c.read_list.new.sifted.moves.items in
+    let rests = c.read_list.new.sifted.rests.items in
     let (within, sifted) = c.in_ok-count.ensures.sifted in
     let own = subst (λ (l : List (Slot S)). AreSifted (IsShiftAt m Stands HasNumber event.letter.0 event.objects.now event.binding.now c.self.inside.ending lists (monitors_of l))
     (IsReadAt m Stands event.letter.0 event.binding.now event.objects.now event.marks.now.list (monitors_of l)) slots shifts moves rests) c.lend_all.ensures sifted in

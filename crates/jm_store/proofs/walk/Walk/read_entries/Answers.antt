@@ -14,7 +14,7 @@ use Rattle.jm_store.specs.Walks.{AreAmong, IsShifting, IsShiftAt}
 use Rattle.jm_store.specs.Slots.{monitors_of, monitor_at}
 use Rattle.jm_store.proofs.ListedLemmas.{slots_at, slots_fewer}
 use Rattle.jm_store.proofs.PartedLemmas.{sifted_none, sifted_told, sifted_read, sifted_rest}
-use Rattle.jm_store.proofs.WalkLemmas.{there_by, no_turns, shifts_all}
+use Rattle.jm_store.proofs.WalkLemmas.{there_by, no_turns, shifts_all, written_back}
 use Rattle.jm_store.proofs.walk.Walk.read_entries.Goals as goal
 use Rattle.jm_store.proofs.walk.Walk.read_entries.Goals.{then-is_there+in-Shifts, then-is_there+in-Rests, then-is_there+in-Nothing+in-Ok, else-is_there}
 
@@ -123,12 +123,12 @@ loop-entry-preserved g c =
           subst (λ (y : Card). IsShifting m Stands HasNumber event.letter.0 event.objects.now event.binding.now walk.ending.now c.args.asked.letters y base shift.number) card w.in-Shifts.ensures.told in
           let is : IsShifting m Stands HasNumber event.letter.0 event.objects.now event.binding.now walk.ending.now lists.letters (card_at lists x.slot) base shift.number =
           shifts_all m Stands HasNumber event.letter.0 event.objects.now event.binding.now walk.ending.now lists.letters c.args.asked.letters (card_at lists x.slot) base shift.number c.requires.asks.others own told in
-          rw (w.turns-is, w.shifts-is, w.moves-is, w.rests-is, w.count-is, w.steps-is, more) (record {
-            sifted = sifted_told R Q slots x.slot (take c.loop-entry.count c.loop-entry.shifts) (take w.push_shift.new.count w.push_shift.new.shifts) c.loop-entry.moves.items c.loop-entry.rests.items inv.sifted
+          rw (w.turns-is, w.shifts-is, w.sifted-is, w.count-is, w.steps-is, more) (record {
+            sifted = sifted_told R Q slots x.slot (take c.loop-entry.count c.loop-entry.shifts) (take w.push_shift.new.count w.push_shift.new.shifts) c.loop-entry.sifted.1.1.0.items c.loop-entry.sifted.1.1.1.0.items inv.sifted
                 (Some shift, (base, here, w.slot_number.ensures, is), w.push_shift.ensures.added);
             turns = w.tell.ensures.turns;
             few = omega (arith, inv.few, w.push_shift.ensures.count);
-            room = omega (arith, inv.few, w.push_shift.ensures.count, w.push_shift.ensures.length, inv.size, c.requires.room, c.loop-entry-test.true);
+            room = omega (arith, inv.few, w.push_shift.ensures.count, w.push_shift.ensures.length, inv.size, c.requires.room, ap length c.as_mut_slice-shifts.ensures.value, c.loop-entry-test.true);
             size = w.push_shift.ensures.length ∙ inv.size;
             steps = omega (arith, length-append slots (x.slot ∷ []), inv.steps, w.monitor-base.ensures.steps);
           })
@@ -137,8 +137,8 @@ loop-entry-preserved g c =
           let base = w.monitor-base.result.now in
           let here : monitor_at monitors x.slot ≡ Some base = sym (ap (monitor_at monitors) w.slot-then-is_there.ensures) ∙ w.monitor-base.ensures.value in
           let shifts = take c.loop-entry.count c.loop-entry.shifts in
-          let moves = c.loop-entry.moves.items in
-          let rests = c.loop-entry.rests.items in
+          let moves = c.loop-entry.sifted.1.1.0.items in
+          let rests = c.loop-entry.sifted.1.1.1.0.items in
           let nothing : R x.slot None = (base, here, w.in-Rests.ensures.told) in
           let rested : AreSifted R Q (slots ++ x.slot ∷ []) shifts moves w.note_rest.new.rests.items = elim w.note_rest.ensures [
             | inl same ↦ subst (λ (l : List ℕ). AreSifted R Q (slots ++ x.slot ∷ []) shifts moves l) (sym same)
@@ -146,7 +146,7 @@ loop-entry-preserved g c =
             | inr more ↦ subst (λ (l : List ℕ). AreSifted R Q (slots ++ x.slot ∷ []) shifts moves l) (sym (more ∙ ap (λ (n : ℕ). rests ++ n ∷ []) w.slot-in-Rests.ensures))
                 (sifted_rest R Q slots x.slot shifts moves rests inv.sifted nothing)
           ] in
-          rw (w.turns-is, w.shifts-is, w.moves-is, w.rests-is, w.count-is, w.steps-is, more) (record {
+          rw (w.turns-is, w.shifts-is, w.sifted-is, w.count-is, w.steps-is, more) (record {
             sifted = rested;
             turns = w.tell.ensures.turns;
             few = omega (arith, inv.few);
@@ -156,8 +156,8 @@ loop-entry-preserved g c =
           })
       | then-is_there+in-Nothing+in-Ok w ↦
           let more = slots_at cards entries entries i none true refl c.loop-entry-test.true (same ∙ w.if-is_there.true) in
-          rw (w.turns-is, w.shifts-is, w.moves-is, w.rests-is, w.count-is, w.steps-is, more) (record {
-            sifted = sifted_read R Q slots x.slot (take c.loop-entry.count c.loop-entry.shifts) c.loop-entry.moves.items w.work_out.new.moves.items c.loop-entry.rests.items inv.sifted (rw w.slot-in-Nothing.ensures at w.in-Ok.ensures);
+          rw (w.turns-is, w.shifts-is, w.sifted-is, w.count-is, w.steps-is, more) (record {
+            sifted = sifted_read R Q slots x.slot (take c.loop-entry.count c.loop-entry.shifts) c.loop-entry.sifted.1.1.0.items w.work_out.new.moves.items c.loop-entry.sifted.1.1.1.0.items inv.sifted (rw w.slot-in-Nothing.ensures at w.in-Ok.ensures);
             turns = w.tell.ensures.turns;
             few = omega (arith, inv.few);
             room = inv.room;
@@ -166,7 +166,7 @@ loop-entry-preserved g c =
           })
       | else-is_there w ↦
           let more = slots_at cards entries entries i none false refl c.loop-entry-test.true (same ∙ w.if-is_there.false) in
-          rw (w.turns-is, w.shifts-is, w.moves-is, w.rests-is, w.count-is, w.steps-is, more, append-nil slots) (record {
+          rw (w.turns-is, w.shifts-is, w.sifted-is, w.count-is, w.steps-is, more, append-nil slots) (record {
             sifted = inv.sifted;
             turns = inv.turns;
             few = omega (arith, inv.few);
@@ -175,6 +175,9 @@ loop-entry-preserved g c =
             steps = inv.steps;
           })
     ]
+
+pub push_shift-requires : goal.push_shift-requires
+push_shift-requires g c = omega (arith, c.loop-entry.invariant.few, c.loop-entry.invariant.size, c.requires.room, ap length c.as_mut_slice-shifts.ensures.value, c.loop-entry-test.true)
 
 pub returns-clause-sifted : goal.returns-clause-sifted
 returns-clause-sifted g c =
@@ -185,9 +188,16 @@ returns-clause-sifted g c =
     let HasNumber = g.M.Monitor.HasNumber event.rules.now in
     let monitors = monitors_of walk.slots.items.now in
     let lists = walk.awake.now in
+    let inv = c.loop-entry.invariant in
+    let items : List Shift = c.args.sifted.now.shifts.items in
+    let new : List Shift = c.loop-entry.shifts in
+    let value = c.as_mut_slice-shifts.ensures.value in
+    let whole : length items ≡ c.args.sifted.now.shifts.len = sym (ap length value) ∙ c.as_mut_slice-shifts.ensures.len in
+    let size : length new ≡ length items = inv.size ∙ ap length value in
     let R = IsShiftAt m Stands HasNumber event.letter.0 event.objects.now event.binding.now walk.ending.now lists monitors in
-    let Q = IsReadAt m Stands event.letter.0 event.binding.now event.objects.now event.marks.now.list monitors in (
-      c.loop-entry.invariant.room,
-      subst (λ (l : List Listed). AreSifted R Q (slots_there lists.cards l) (take c.loop-entry.count c.loop-entry.shifts) c.loop-entry.moves.items c.loop-entry.rests.items)
-          (take_all c.loop-entry.entry-index c.args.entries.now c.loop-entry-test.false) c.loop-entry.invariant.sifted,
+    let Q = IsReadAt m Stands event.letter.0 event.binding.now event.objects.now event.marks.now.list monitors in
+    rw (written_back c.args.sifted.now.shifts.len items new whole size) (
+      inv.room,
+      subst (λ (l : List Listed). AreSifted R Q (slots_there lists.cards l) (take c.loop-entry.count new) c.loop-entry.sifted.1.1.0.items c.loop-entry.sifted.1.1.1.0.items)
+          (take_all c.loop-entry.entry-index c.args.entries.now c.loop-entry-test.false) inv.sifted,
     )

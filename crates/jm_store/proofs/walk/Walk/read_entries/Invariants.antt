@@ -14,7 +14,7 @@ invariant-loop-entry g l =
     let slots = slots_there l.self.awake.now.cards (take l.entry-index l.entries) in
     record {
       sifted : AreSifted (IsShiftAt m Stands HasNumber event.letter.0 event.objects.now event.binding.now l.self.ending.now l.self.awake.now (monitors_of l.self.slots.items.now))
-          (IsReadAt m Stands event.letter.0 event.binding.now event.objects.now event.marks.now.list (monitors_of l.self.slots.items.now)) slots (take l.count l.shifts) l.moves.items l.rests.items;
+          (IsReadAt m Stands event.letter.0 event.binding.now event.objects.now event.marks.now.list (monitors_of l.self.slots.items.now)) slots (take l.count l.shifts) l.sifted.1.1.0.items l.sifted.1.1.1.0.items;
       turns : AreTurns l.self.plain.now l.self.ends l.self.endings.now l.turns;
       few : l.count ≤ l.entry-index;
       room : l.count ≤ length l.shifts;

@@ -1,14 +1,12 @@
-use Rattle.std.proofs.Common.{◌≡◌, ℕ, ◌≤◌, List, length, take, refl, sym, ap, ◌∙◌, subst, arith}
+use Rattle.std.proofs.Common.{◌≡◌, ℕ, ◌≤◌, List, length, take, refl, ap, subst, arith}
 use Rattle.std.specs.Prelude.{IfSome, Contains, None}
 use Rattle.std.specs.Int.{bit_at}
 use Rattle.jm_awake.specs.declared.card.Listed.{Listed}
 use Rattle.jm_awake.specs.Awake.{list_at, slots_there}
-use Rattle.jm_store.specs.declared.walk.Shift.{Shift}
 use Rattle.jm_store.specs.Moves.{AreSifted, IsReadAt}
 use Rattle.jm_store.specs.Walks.{AreAliveBut, IsShiftAt}
 use Rattle.jm_store.specs.Slots.{monitors_of}
 use Rattle.jm_store.proofs.ListedLemmas.{listed_each, listed_on}
-use Rattle.jm_store.proofs.WalkLemmas.{written_back}
 use Rattle.jm_store.proofs.walk.Walk.read_list.Goals as goal
 
 pub read_entries-requires-clause-asks : goal.read_entries-requires-clause-asks
@@ -40,7 +38,7 @@ read_entries-requires-clause-each g c = λ x among.
     )
 
 pub read_entries-requires-clause-room : goal.read_entries-requires-clause-room
-read_entries-requires-clause-room g c = omega (arith, c.requires.room, ap length c.as_mut_slice.ensures.value, ap length c.entries-entries.ensures)
+read_entries-requires-clause-room g c = omega (arith, c.requires.room, ap length c.entries-entries.ensures)
 
 pub read_entries-requires-2-clause-each : goal.read_entries-requires-2-clause-each
 read_entries-requires-2-clause-each g c = λ x among.
@@ -60,7 +58,7 @@ read_entries-requires-2-clause-each g c = λ x among.
     )
 
 pub read_entries-requires-2-clause-room : goal.read_entries-requires-2-clause-room
-read_entries-requires-2-clause-room g c = omega (arith, c.requires.room, ap length c.as_mut_slice-2.ensures.value, ap length c.entries-entries.ensures)
+read_entries-requires-2-clause-room g c = omega (arith, c.requires.room, ap length c.entries-entries.ensures)
 
 pub returns-then-params-eq0-clause-sifted : goal.returns-then-params-eq0-clause-sifted
 returns-then-params-eq0-clause-sifted g c =
@@ -71,16 +69,11 @@ returns-then-params-eq0-clause-sifted g c =
     let Stands = g.M.Monitor.StandsFor event.rules.now in
     let HasNumber = g.M.Monitor.HasNumber event.rules.now in
     let monitors = monitors_of walk.slots.items.now in
-    let items : List Shift = c.args.shifts.now.items in
-    let new : List Shift = c.read_entries.new.shifts in
-    let value = c.as_mut_slice.ensures.value in
-    let whole : length items ≡ c.args.shifts.now.len = sym (ap length value) ∙ c.as_mut_slice.ensures.len in
-    let size : length new ≡ length items = c.read_entries.ensures.length ∙ ap length value in
+    let new = c.read_entries.new.sifted in
     let R = IsShiftAt m Stands HasNumber event.letter.0 event.objects.now event.binding.now walk.ending.now lists monitors in
     let Q = IsReadAt m Stands event.letter.0 event.binding.now event.objects.now event.marks.now.list monitors in
-    rw (written_back c.args.shifts.now.len items new whole size)
-    (subst (λ (l : List Listed). IfSome c.read_entries.result (λ (count : ℕ). (count ≤ length new) × AreSifted R Q (slots_there lists.cards l) (take count new) c.read_entries.new.moves.items c.read_entries.new.rests.items))
-    c.entries-entries.ensures c.read_entries.ensures.sifted)
+    subst (λ (l : List Listed). IfSome c.read_entries.result (λ (count : ℕ). (count ≤ length new.shifts.items) × AreSifted R Q (slots_there lists.cards l) (take count new.shifts.items) new.moves.items new.rests.items))
+    c.entries-entries.ensures c.read_entries.ensures.sifted
 
 pub returns-then-params-eq0-clause-steps : goal.returns-then-params-eq0-clause-steps
 returns-then-params-eq0-clause-steps g c =
@@ -96,16 +89,11 @@ returns-clause-sifted g c =
     let Stands = g.M.Monitor.StandsFor event.rules.now in
     let HasNumber = g.M.Monitor.HasNumber event.rules.now in
     let monitors = monitors_of walk.slots.items.now in
-    let items : List Shift = c.args.shifts.now.items in
-    let new : List Shift = c.read_entries-2.new.shifts in
-    let value = c.as_mut_slice-2.ensures.value in
-    let whole : length items ≡ c.args.shifts.now.len = sym (ap length value) ∙ c.as_mut_slice-2.ensures.len in
-    let size : length new ≡ length items = c.read_entries-2.ensures.length ∙ ap length value in
+    let new = c.read_entries-2.new.sifted in
     let R = IsShiftAt m Stands HasNumber event.letter.0 event.objects.now event.binding.now walk.ending.now lists monitors in
     let Q = IsReadAt m Stands event.letter.0 event.binding.now event.objects.now event.marks.now.list monitors in
-    rw (written_back c.args.shifts.now.len items new whole size)
-    (subst (λ (l : List Listed). IfSome c.read_entries-2.result (λ (count : ℕ). (count ≤ length new) × AreSifted R Q (slots_there lists.cards l) (take count new) c.read_entries-2.new.moves.items c.read_entries-2.new.rests.items))
-    c.entries-entries.ensures c.read_entries-2.ensures.sifted)
+    subst (λ (l : List Listed). IfSome c.read_entries-2.result (λ (count : ℕ). (count ≤ length new.shifts.items) × AreSifted R Q (slots_there lists.cards l) (take count new.shifts.items) new.moves.items new.rests.items))
+    c.entries-entries.ensures c.read_entries-2.ensures.sifted
 
 pub returns-clause-steps : goal.returns-clause-steps
 returns-clause-steps g c =

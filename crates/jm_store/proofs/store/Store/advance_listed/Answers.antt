@@ -16,7 +16,7 @@ use Rattle.jm_store.proofs.ListedLemmas.{listed_above, listed_apart, above_count
 use Rattle.jm_store.proofs.ShiftedLemmas.{kept_alike, parted_apart, parted_there, parted_listed, few_apart, few_lead, parted_spared, parted_marks, parted_done, still_at_rest}
 use Rattle.jm_store.proofs.PartedLemmas.{parted_of}
 use Rattle.jm_store.proofs.VisitLemmas.{settled_monitor}
-use Rattle.jm_store.proofs.store.Store.do_listed.Goals as goal
+use Rattle.jm_store.proofs.store.Store.advance_listed.Goals as goal
 
 pub tell_listed-requires-clause-live : goal.tell_listed-requires-clause-live
 tell_listed-requires-clause-live g c = λ o binds. c.requires.can.event.live o (object-among _ binds.0 o binds.1)
@@ -24,7 +24,7 @@ tell_listed-requires-clause-live g c = λ o binds. c.requires.can.event.live o (
 pub returns-in_default-clause-advances : goal.returns-in_default-clause-advances
 returns-in_default-clause-advances g c =
     let S = g.row.M-State.Denot in
-    let same : c.give_moves.new.self ≡ c.args.self.now = c.give_moves.ensures ∙ c.give_shifts.ensures ∙ c.take_moves-moves.ensures.same ∙ c.take_shifts-shifts.ensures in
+    let same : c.give_room.new.self ≡ c.args.self.now = c.give_room.ensures ∙ c.take_room-sifted.ensures.same in
     record {
       stored = ap stored_of same;
       unmarked = ap (λ (s : Contents S). s.marks) same;
@@ -62,14 +62,14 @@ shift_all-requires-clause-apart g c =
     let b = c.args.call.now.binding.now in
     let e = c.args.call.now.letter.0 in
     let dead = c.args.call.now.objects.now in
-    let whole = c.self.view_is ∙ c.take_moves-moves.ensures.same ∙ c.take_shifts-shifts.ensures in
-    let few = c.tell_listed.new.moves.items in
-    let shifts = take c.in-Some.reading.count c.tell_listed.new.shifts.items in
-    let rests = c.tell_listed.new.rests.items in
+    let whole = c.self.view_is ∙ c.take_room-sifted.ensures.same in
+    let few = c.tell_listed.new.sifted.moves.items in
+    let shifts = take c.in-Some.reading.count c.tell_listed.new.sifted.shifts.items in
+    let rests = c.tell_listed.new.sifted.rests.items in
     let reading =
-    subst (λ (l : List Binding). IsReading m Stands HasNumber e dead b l old lists (slots_listed lists place) c.tell_listed.new.shifts.items few rests c.in-Some.reading) (ap (λ (s : Contents S). s.marks) whole)
-    (subst (λ (s : Contents S). IsReading m Stands HasNumber e dead b c.self.inside.marks.list s lists (slots_listed lists place) c.tell_listed.new.shifts.items few rests c.in-Some.reading)
-    (c.take_moves-moves.ensures.same ∙ c.take_shifts-shifts.ensures) c.in-Some.ensures.reading) in
+    subst (λ (l : List Binding). IsReading m Stands HasNumber e dead b l old lists (slots_listed lists place) c.tell_listed.new.sifted.shifts.items few rests c.in-Some.reading) (ap (λ (s : Contents S). s.marks) whole)
+    (subst (λ (s : Contents S). IsReading m Stands HasNumber e dead b c.self.inside.marks.list s lists (slots_listed lists place) c.tell_listed.new.sifted.shifts.items few rests c.in-Some.reading)
+    (c.take_room-sifted.ensures.same) c.in-Some.ensures.reading) in
     let parted = parted_of (IsShiftAt m Stands HasNumber e dead b old.ending lists old.monitors) (IsReadAt m Stands e b dead old.marks old.monitors) (slots_listed lists place) shifts few rests reading.sifted in
     rw c.as_slice.ensures.value (parted_apart m Stands HasNumber e b dead old lists place shifts few c.requires.list.of_event c.requires.list.listed parted)
 
@@ -85,14 +85,14 @@ shift_all-requires-clause-there g c =
     let b = c.args.call.now.binding.now in
     let e = c.args.call.now.letter.0 in
     let dead = c.args.call.now.objects.now in
-    let whole = c.self.view_is ∙ c.take_moves-moves.ensures.same ∙ c.take_shifts-shifts.ensures in
-    let few = c.tell_listed.new.moves.items in
-    let shifts = take c.in-Some.reading.count c.tell_listed.new.shifts.items in
-    let rests = c.tell_listed.new.rests.items in
+    let whole = c.self.view_is ∙ c.take_room-sifted.ensures.same in
+    let few = c.tell_listed.new.sifted.moves.items in
+    let shifts = take c.in-Some.reading.count c.tell_listed.new.sifted.shifts.items in
+    let rests = c.tell_listed.new.sifted.rests.items in
     let reading =
-    subst (λ (l : List Binding). IsReading m Stands HasNumber e dead b l old lists (slots_listed lists place) c.tell_listed.new.shifts.items few rests c.in-Some.reading) (ap (λ (s : Contents S). s.marks) whole)
-    (subst (λ (s : Contents S). IsReading m Stands HasNumber e dead b c.self.inside.marks.list s lists (slots_listed lists place) c.tell_listed.new.shifts.items few rests c.in-Some.reading)
-    (c.take_moves-moves.ensures.same ∙ c.take_shifts-shifts.ensures) c.in-Some.ensures.reading) in
+    subst (λ (l : List Binding). IsReading m Stands HasNumber e dead b l old lists (slots_listed lists place) c.tell_listed.new.sifted.shifts.items few rests c.in-Some.reading) (ap (λ (s : Contents S). s.marks) whole)
+    (subst (λ (s : Contents S). IsReading m Stands HasNumber e dead b c.self.inside.marks.list s lists (slots_listed lists place) c.tell_listed.new.sifted.shifts.items few rests c.in-Some.reading)
+    (c.take_room-sifted.ensures.same) c.in-Some.ensures.reading) in
     let parted = parted_of (IsShiftAt m Stands HasNumber e dead b old.ending lists old.monitors) (IsReadAt m Stands e b dead old.marks old.monitors) (slots_listed lists place) shifts few rests reading.sifted in
     rw (c.as_slice.ensures.value, ap (λ (s : Contents S). s.monitors) whole) (parted_there m Stands HasNumber e b dead old lists place shifts few c.requires.list.of_event c.requires.list.listed parted)
 
@@ -112,20 +112,20 @@ apply-requires-clause-ready g c =
     let b = c.args.call.now.binding.now in
     let e = c.args.call.now.letter.0 in
     let dead = c.args.call.now.objects.now in
-    let whole = c.self.view_is ∙ c.take_moves-moves.ensures.same ∙ c.take_shifts-shifts.ensures in
-    let few = c.tell_listed.new.moves.items in
-    let shifts = take c.in-Some.reading.count c.tell_listed.new.shifts.items in
-    let rests = c.tell_listed.new.rests.items in
+    let whole = c.self.view_is ∙ c.take_room-sifted.ensures.same in
+    let few = c.tell_listed.new.sifted.moves.items in
+    let shifts = take c.in-Some.reading.count c.tell_listed.new.sifted.shifts.items in
+    let rests = c.tell_listed.new.sifted.rests.items in
     let reading =
-    subst (λ (l : List Binding). IsReading m Stands HasNumber e dead b l old lists (slots_listed lists place) c.tell_listed.new.shifts.items few rests c.in-Some.reading) (ap (λ (s : Contents S). s.marks) whole)
-    (subst (λ (s : Contents S). IsReading m Stands HasNumber e dead b c.self.inside.marks.list s lists (slots_listed lists place) c.tell_listed.new.shifts.items few rests c.in-Some.reading)
-    (c.take_moves-moves.ensures.same ∙ c.take_shifts-shifts.ensures) c.in-Some.ensures.reading) in
+    subst (λ (l : List Binding). IsReading m Stands HasNumber e dead b l old lists (slots_listed lists place) c.tell_listed.new.sifted.shifts.items few rests c.in-Some.reading) (ap (λ (s : Contents S). s.marks) whole)
+    (subst (λ (s : Contents S). IsReading m Stands HasNumber e dead b c.self.inside.marks.list s lists (slots_listed lists place) c.tell_listed.new.sifted.shifts.items few rests c.in-Some.reading)
+    (c.take_room-sifted.ensures.same) c.in-Some.ensures.reading) in
     let parted = parted_of (IsShiftAt m Stands HasNumber e dead b old.ending lists old.monitors) (IsReadAt m Stands e b dead old.marks old.monitors) (slots_listed lists place) shifts few rests reading.sifted in
     let slots = c.self.inside.monitors.slots in
     let new = c.shift_all.new.self.slots in
-    let mid = c.give_shifts-2.new.self in
+    let mid = c.give_shifts.new.self in
     let monitors : monitors_of slots ≡ old.monitors = ap (λ (s : Contents S). s.monitors) whole in
-    let after : mid.monitors ≡ monitors_of new = ap (λ (s : Contents S). s.monitors) c.give_shifts-2.ensures in
+    let after : mid.monitors ≡ monitors_of new = ap (λ (s : Contents S). s.monitors) c.give_shifts.ensures in
     let moved : AreShifted HasNumber shifts old.monitors mid.monitors =
     subst (λ (l : List (Option (Stored S))). AreShifted HasNumber shifts l mid.monitors) monitors
     (subst (λ (l : List (Option (Stored S))). AreShifted HasNumber shifts (monitors_of slots) l) (sym after)
@@ -135,7 +135,7 @@ apply-requires-clause-ready g c =
     let filled : (pair : Pair) → Contains old.index.list pair → IsFilled old pair =
     subst (λ (s : Contents S). (pair : Pair) → Contains s.index.list pair → IsFilled s pair) whole
     (settled_monitor slots c.self.inside.index.list c.self.invariant.housed (c.self.invariant.settled closed)) in
-    let index = ap (λ (s : Contents S). s.index) c.give_shifts-2.ensures ∙ ap (λ (s : Contents S). s.index) whole in
+    let index = ap (λ (s : Contents S). s.index) c.give_shifts.ensures ∙ ap (λ (s : Contents S). s.index) whole in
     let leads = few_lead m Stands HasNumber e b dead old lists place shifts few c.requires.list.of_event c.requires.list.listed parted mid moved c.requires.can c.requires.list.known paired filled in
     record {
       apart = few_apart m Stands HasNumber e b dead old lists place shifts few c.requires.list.of_event c.requires.list.listed parted mid moved c.requires.can c.requires.list.known paired filled;
@@ -154,20 +154,20 @@ returns-clause-advances g c =
     let b = c.args.call.now.binding.now in
     let e = c.args.call.now.letter.0 in
     let dead = c.args.call.now.objects.now in
-    let whole = c.self.view_is ∙ c.take_moves-moves.ensures.same ∙ c.take_shifts-shifts.ensures in
-    let few = c.tell_listed.new.moves.items in
-    let shifts = take c.in-Some.reading.count c.tell_listed.new.shifts.items in
-    let rests = c.tell_listed.new.rests.items in
+    let whole = c.self.view_is ∙ c.take_room-sifted.ensures.same in
+    let few = c.tell_listed.new.sifted.moves.items in
+    let shifts = take c.in-Some.reading.count c.tell_listed.new.sifted.shifts.items in
+    let rests = c.tell_listed.new.sifted.rests.items in
     let reading =
-    subst (λ (l : List Binding). IsReading m Stands HasNumber e dead b l old lists (slots_listed lists place) c.tell_listed.new.shifts.items few rests c.in-Some.reading) (ap (λ (s : Contents S). s.marks) whole)
-    (subst (λ (s : Contents S). IsReading m Stands HasNumber e dead b c.self.inside.marks.list s lists (slots_listed lists place) c.tell_listed.new.shifts.items few rests c.in-Some.reading)
-    (c.take_moves-moves.ensures.same ∙ c.take_shifts-shifts.ensures) c.in-Some.ensures.reading) in
+    subst (λ (l : List Binding). IsReading m Stands HasNumber e dead b l old lists (slots_listed lists place) c.tell_listed.new.sifted.shifts.items few rests c.in-Some.reading) (ap (λ (s : Contents S). s.marks) whole)
+    (subst (λ (s : Contents S). IsReading m Stands HasNumber e dead b c.self.inside.marks.list s lists (slots_listed lists place) c.tell_listed.new.sifted.shifts.items few rests c.in-Some.reading)
+    (c.take_room-sifted.ensures.same) c.in-Some.ensures.reading) in
     let parted = parted_of (IsShiftAt m Stands HasNumber e dead b old.ending lists old.monitors) (IsReadAt m Stands e b dead old.marks old.monitors) (slots_listed lists place) shifts few rests reading.sifted in
     let slots = c.self.inside.monitors.slots in
     let new = c.shift_all.new.self.slots in
-    let mid = c.give_shifts-2.new.self in
+    let mid = c.give_shifts.new.self in
     let monitors : monitors_of slots ≡ old.monitors = ap (λ (s : Contents S). s.monitors) whole in
-    let after : mid.monitors ≡ monitors_of new = ap (λ (s : Contents S). s.monitors) c.give_shifts-2.ensures in
+    let after : mid.monitors ≡ monitors_of new = ap (λ (s : Contents S). s.monitors) c.give_shifts.ensures in
     let moved : AreShifted HasNumber shifts old.monitors mid.monitors =
     subst (λ (l : List (Option (Stored S))). AreShifted HasNumber shifts l mid.monitors) monitors
     (subst (λ (l : List (Option (Stored S))). AreShifted HasNumber shifts (monitors_of slots) l) (sym after)
@@ -177,17 +177,18 @@ returns-clause-advances g c =
     let filled : (pair : Pair) → Contains old.index.list pair → IsFilled old pair =
     subst (λ (s : Contents S). (pair : Pair) → Contains s.index.list pair → IsFilled s pair) whole
     (settled_monitor slots c.self.inside.index.list c.self.invariant.housed (c.self.invariant.settled closed)) in
-    let index = ap (λ (s : Contents S). s.index) c.give_shifts-2.ensures ∙ ap (λ (s : Contents S). s.index) whole in
-    let marks = ap (λ (s : Contents S). s.marks) c.give_shifts-2.ensures ∙ ap (λ (s : Contents S). s.marks) whole in
-    let ending = ap (λ (s : Contents S). s.ending) c.give_shifts-2.ensures ∙ ap (λ (s : Contents S). s.ending) whole in
+    let index = ap (λ (s : Contents S). s.index) c.give_shifts.ensures ∙ ap (λ (s : Contents S). s.index) whole in
+    let marks = ap (λ (s : Contents S). s.marks) c.give_shifts.ensures ∙ ap (λ (s : Contents S). s.marks) whole in
+    let ending = ap (λ (s : Contents S). s.ending) c.give_shifts.ensures ∙ ap (λ (s : Contents S). s.ending) whole in
     let kept = kept_alike slots new c.shift_all.ensures.alike c.self.inside.index.list c.self.inside.domains.items c.self.inside.is_open c.self.inside.marks.spare c.self.invariant in
-    let fits : IsFit mid dead = rw c.give_shifts-2.ensures
+    let fits : IsFit mid dead = rw c.give_shifts.ensures
     (housed_fits new c.self.inside.marks.list c.self.inside.is_open c.self.inside.index c.self.inside.ending dead kept.housed
     (rw (ap (λ (s : Contents S). s.index) whole) c.requires.can.fits.index)
     (rw (ap (λ (s : Contents S). s.marks) whole) c.requires.can.fits.marks)) in
     let applied = c.apply.ensures.applied in
     let done = c.apply.new.self in
-    record {
+    rw c.give_slots.ensures
+    (record {
       stored = tt;
       unmarked = tt;
       keeps = tt;
@@ -197,7 +198,7 @@ returns-clause-advances g c =
       marks = parted_marks m Stands HasNumber e b dead old lists place shifts few c.requires.list.of_event c.requires.list.listed parted mid moved c.requires.can c.requires.list.known paired filled done applied index marks ending;
       twice = reading.twice;
       works = parted_done m Stands HasNumber e b dead old lists place shifts few c.requires.list.of_event c.requires.list.listed parted mid moved c.requires.can c.requires.list.known paired filled done applied index marks ending c.in-Some.reading.answer reading.report;
-    }
+    })
 
 pub returns-clause-listed : goal.returns-clause-listed
 returns-clause-listed g c =
@@ -211,27 +212,28 @@ returns-clause-listed g c =
     let b = c.args.call.now.binding.now in
     let e = c.args.call.now.letter.0 in
     let dead = c.args.call.now.objects.now in
-    let whole = c.self.view_is ∙ c.take_moves-moves.ensures.same ∙ c.take_shifts-shifts.ensures in
-    let few = c.tell_listed.new.moves.items in
-    let shifts = take c.in-Some.reading.count c.tell_listed.new.shifts.items in
-    let rests = c.tell_listed.new.rests.items in
+    let whole = c.self.view_is ∙ c.take_room-sifted.ensures.same in
+    let few = c.tell_listed.new.sifted.moves.items in
+    let shifts = take c.in-Some.reading.count c.tell_listed.new.sifted.shifts.items in
+    let rests = c.tell_listed.new.sifted.rests.items in
     let reading =
-    subst (λ (l : List Binding). IsReading m Stands HasNumber e dead b l old lists (slots_listed lists place) c.tell_listed.new.shifts.items few rests c.in-Some.reading) (ap (λ (s : Contents S). s.marks) whole)
-    (subst (λ (s : Contents S). IsReading m Stands HasNumber e dead b c.self.inside.marks.list s lists (slots_listed lists place) c.tell_listed.new.shifts.items few rests c.in-Some.reading)
-    (c.take_moves-moves.ensures.same ∙ c.take_shifts-shifts.ensures) c.in-Some.ensures.reading) in
+    subst (λ (l : List Binding). IsReading m Stands HasNumber e dead b l old lists (slots_listed lists place) c.tell_listed.new.sifted.shifts.items few rests c.in-Some.reading) (ap (λ (s : Contents S). s.marks) whole)
+    (subst (λ (s : Contents S). IsReading m Stands HasNumber e dead b c.self.inside.marks.list s lists (slots_listed lists place) c.tell_listed.new.sifted.shifts.items few rests c.in-Some.reading)
+    (c.take_room-sifted.ensures.same) c.in-Some.ensures.reading) in
     let parted = parted_of (IsShiftAt m Stands HasNumber e dead b old.ending lists old.monitors) (IsReadAt m Stands e b dead old.marks old.monitors) (slots_listed lists place) shifts few rests reading.sifted in
     let slots = c.self.inside.monitors.slots in
     let new = c.shift_all.new.self.slots in
-    let mid = c.give_shifts-2.new.self in
+    let mid = c.give_shifts.new.self in
     let monitors : monitors_of slots ≡ old.monitors = ap (λ (s : Contents S). s.monitors) whole in
-    let after : mid.monitors ≡ monitors_of new = ap (λ (s : Contents S). s.monitors) c.give_shifts-2.ensures in
+    let after : mid.monitors ≡ monitors_of new = ap (λ (s : Contents S). s.monitors) c.give_shifts.ensures in
     let moved : AreShifted HasNumber shifts old.monitors mid.monitors =
     subst (λ (l : List (Option (Stored S))). AreShifted HasNumber shifts l mid.monitors) monitors
     (subst (λ (l : List (Option (Stored S))). AreShifted HasNumber shifts (monitors_of slots) l) (sym after)
     (subst (λ (l : List Shift). AreShifted HasNumber (take c.in-Some.reading.count l) (monitors_of slots) (monitors_of new)) c.as_slice.ensures.value c.shift_all.ensures.moved)) in
     let resting = still_at_rest m Stands HasNumber e b dead old lists place shifts few rests c.requires.list.of_event c.requires.list.listed reading.sifted mid c.apply.new.self moved c.apply.ensures.applied in
-    c.let_rest.ensures dead (subst (λ (l : List ℕ). AreAtRest m Stands e b dead l c.apply.new.self.monitors) (sym c.as_slice-2.ensures.value) resting)
-    (c.apply.ensures.listed dead (parted_listed m Stands HasNumber e b dead old lists place shifts few c.requires.list.of_event c.requires.list.listed parted mid moved))
+    rw c.give_slots.ensures
+    (c.let_rest.ensures dead (subst (λ (l : List ℕ). AreAtRest m Stands e b dead l c.apply.new.self.monitors) (sym c.as_slice-2.ensures.value) resting)
+    (c.apply.ensures.listed dead (parted_listed m Stands HasNumber e b dead old lists place shifts few c.requires.list.of_event c.requires.list.listed parted mid moved)))
 
 pub returns-clause-steps : goal.returns-clause-steps
 returns-clause-steps g c =
@@ -251,7 +253,7 @@ tell_listed-requires-clause-list g c =
     let S = g.row.M-State.Denot in
     let m = g.M.Monitor.meaning (g.M.Monitor.definition c.args.call.now.rules.now) in
     let Stands = g.M.Monitor.StandsFor c.args.call.now.rules.now in
-    let same = c.take_moves-moves.ensures.same ∙ c.take_shifts-shifts.ensures in
+    let same = c.take_room-sifted.ensures.same in
     let marks = ap (λ (s : Contents S). s.marks) (c.self.view_is ∙ same) in
     record {
       known = subst (λ (l : List Binding). Contains l c.args.call.now.binding.now) (sym marks) c.requires.list.known;
