@@ -174,6 +174,7 @@ impl<M: Monitor> Walk<'_, M> {
             self.now.event.now.objects.now self.now.event.now.marks.now.list (monitors_of self.now.slots.items.now))
             (slots_there self.now.awake.now.cards entries.now) (take count sifted.new.shifts.items)
             sifted.new.moves.items sifted.new.rests.items) }
+        ensures length { length sifted.new.shifts.items ≡ length sifted.old.shifts.items }
         ensures steps { steps.new ≤ steps.old + length (slots_there self.now.awake.now.cards entries.now) }
     {
         let cards = self.awake.cards();

@@ -201,3 +201,21 @@ returns-clause-sifted g c =
       subst (λ (l : List Listed). AreSifted R Q (slots_there lists.cards l) (take c.loop-entry.count new) c.loop-entry.sifted.1.1.0.items c.loop-entry.sifted.1.1.1.0.items)
           (take_all c.loop-entry.entry-index c.args.entries.now c.loop-entry-test.false) inv.sifted,
     )
+
+pub returns-clause-length : goal.returns-clause-length
+returns-clause-length g c =
+    let items : List Shift = c.args.sifted.now.shifts.items in
+    let new : List Shift = c.loop-entry.shifts in
+    let value = c.as_mut_slice-shifts.ensures.value in
+    let whole : length items ≡ c.args.sifted.now.shifts.len = sym (ap length value) ∙ c.as_mut_slice-shifts.ensures.len in
+    let size : length new ≡ length items = c.loop-entry.invariant.size ∙ ap length value in
+    rw (written_back c.args.sifted.now.shifts.len items new whole size) size
+
+pub returns-in_default-clause-length : goal.returns-in_default-clause-length
+returns-in_default-clause-length g c =
+    let items : List Shift = c.args.sifted.now.shifts.items in
+    let new : List Shift = c.loop-entry.shifts in
+    let value = c.as_mut_slice-shifts.ensures.value in
+    let whole : length items ≡ c.args.sifted.now.shifts.len = sym (ap length value) ∙ c.as_mut_slice-shifts.ensures.len in
+    let size : length new ≡ length items = c.loop-entry.invariant.size ∙ ap length value in
+    rw (written_back c.args.sifted.now.shifts.len items new whole size) size
