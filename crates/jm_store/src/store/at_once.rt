@@ -1,6 +1,6 @@
 //! Events of which there is a list, done at once: monitors of the list get other states by their numbers, and what
 //! becomes of the others is worked out.
-ghost use Rattle.std.specs.Prelude.{◌≡◌, ℕ, ◌+◌, ◌<◌, ◌≤◌, ◌↔◌, [], List, Bool, Contains, IfNone, IfSome, IsTrue, Some, true, false, length, count_by};
+ghost use Rattle.std.specs.Prelude.{◌≡◌, ℕ, ◌+◌, ◌<◌, ◌≤◌, ◌↔◌, List, Bool, Contains, IfNone, IfSome, IsTrue, Some, true, false, length, count_by};
 ghost use Rattle.std.specs.Int.{bit_at};
 ghost use Rattle.jm_model.specs.Bindings.{is_below, is_compatible, mask_of};
 ghost use Rattle.jm_index.specs.Index.{AreLive};
