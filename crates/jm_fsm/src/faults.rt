@@ -156,7 +156,11 @@ fn part_transitions(alloc: Global, bytes: &[u8], part: &Part) -> Result<(), Spec
 }
 
 /// In no state is a transition on the event of an earlier one, or a second `default`.
-pub fn check_duplicate_transitions(alloc: Global, bytes: &[u8], parts: &[Part]) -> Result<(), SpecError>
+pub fn check_duplicate_transitions(
+    alloc: Global,
+    bytes: &[u8],
+    parts: &[Part],
+) -> Result<(), SpecError>
     ensures { Checks result (transitions_fault bytes.now parts.now) }
 {
     for part in parts {
